@@ -1,0 +1,4 @@
+pub mod Bytes
+pub mod Causes
+pub mod FileNames
+pub mod formers

@@ -1,0 +1,52 @@
+ghost use Rattle.std.specs.Prelude.{◌≡◌, IfOk};
+
+use crate::NoMemory;
+use crate::share::Share;
+use std::alloc::Global;
+use std::marker::Model;
+
+/// A box that contracts see as the value in it.
+#[derive(Debug, Drop)]
+pub struct Boxed<T> {
+    inner: Box<T>,
+}
+
+impl<T> Model for Boxed<T> {
+    ghost Value = { T };
+
+    ghost coded = { T.code };
+
+    ghost view = { λ b. b.inner.value };
+}
+
+impl<T> Boxed<T> {
+    pub fn as_ref(&self) -> &T
+        ensures { result.now ≡ self.now }
+    {
+        &self.inner
+    }
+
+    pub fn into_inner(self) -> T
+        ensures { result ≡ self }
+    {
+        let Boxed { inner } = self;
+        Box::into_inner(inner)
+    }
+}
+
+impl<T: Drop> Boxed<T> {
+    /// Where memory is wanting, the value is dropped.
+    pub fn new(alloc: Global, value: T) -> Result<Boxed<T>, NoMemory>
+        ensures { IfOk result (λ b. b ≡ value) }
+    {
+        Ok(Boxed {
+            inner: Box::new(alloc, value)?,
+        })
+    }
+}
+
+impl<T: Share + Drop> Share for Boxed<T> {
+    fn share(&self, alloc: Global) -> Result<Self, NoMemory> {
+        Boxed::new(alloc, self.as_ref().share(alloc)?)
+    }
+}

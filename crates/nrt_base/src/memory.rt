@@ -1,0 +1,2 @@
+/// Want of memory.
+pub type NoMemory = std::alloc::AllocError;
