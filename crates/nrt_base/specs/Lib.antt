@@ -1,4 +1,5 @@
 pub mod Bytes
 pub mod Causes
 pub mod FileNames
+pub mod Names
 pub mod formers
