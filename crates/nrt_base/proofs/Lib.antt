@@ -1,1 +1,6 @@
+pub mod Base36Lemmas
+pub mod NameLaws
 pub mod NameLemmas
+pub mod ReadingLemmas
+pub mod SpellingLemmas
+pub mod VIntLemmas
