@@ -1,0 +1,11 @@
+pub mod Documents
+pub mod Words
+pub mod Matching
+pub mod Nodes
+pub mod Lines
+pub mod Points
+pub mod Tickets
+pub mod Commits
+pub mod Faults
+pub mod Rules
+pub mod Legal

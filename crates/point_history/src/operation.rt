@@ -1,0 +1,20 @@
+use nrt_base::{Doc, Key, NoMemory, Share};
+use std::alloc::Global;
+
+/// An operation on the documents.
+#[derive(Debug, Drop)]
+pub enum Op {
+    /// The key gets this document in place of the one that it had.
+    Put(Doc),
+    /// The key has no document any more.
+    Delete(Key),
+}
+
+impl Share for Op {
+    fn share(&self, alloc: Global) -> Result<Self, NoMemory> {
+        match self {
+            Op::Put(doc) => Ok(Op::Put(doc.share(alloc)?)),
+            Op::Delete(key) => Ok(Op::Delete(key.share(alloc)?)),
+        }
+    }
+}
