@@ -36,3 +36,6 @@ pub use stream::{Failed, Sink, Source};
 pub use text::Text;
 pub use vint::{VIntFault, push_vint, read_vint, vint_len};
 pub use word::Word;
+
+#[cfg(test)]
+mod tests;
