@@ -1,6 +1,5 @@
 -- Each step of the lock keeps its rule.
 use Rattle.std.proofs.Math.Nat.{add-mod}
-use Rattle.std.specs.Prelude.{sum_by}
 use Rattle.std.proofs.lemmas.List.Sums.{sum_by-append}
 use Rattle.std.proofs.Common.{◌≡◌, ◌≢◌, ℕ, ◌+◌, ◌%◌, ◌^◌, ◌<◌, ◌≤◌, List, [], ◌∷◌, ◌++◌, set, get_or, cond, true, true≢false, eqb, eq-eqb, ne_eqb, Option, Some, refl, sym, ap, ◌∙◌, subst, inl, inr, ⊎_elim, arith, length, length-set, zero, suc}
 use mathlib.Core.Logic.{dite}

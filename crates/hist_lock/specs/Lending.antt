@@ -1,7 +1,6 @@
 -- What `Held::value` lends.
 use Rattle.std.specs.Borrow.{Lends, MutBor, Fml}
 use denote.RattleType.{RattleType}
-use Rattle.hist_lock.specs.declared.lock.Held.{Held}
 use Rattle.hist_lock.specs.contracts.lock.Held.{the_row}
 
 -- the lock's value ends as the last value behind the result
