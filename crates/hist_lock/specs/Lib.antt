@@ -1,0 +1,7 @@
+pub mod History
+pub mod Views
+pub mod Rule
+pub mod Steps
+pub mod Seats
+pub mod Lending
+pub mod Pairs

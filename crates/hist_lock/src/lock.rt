@@ -1,0 +1,201 @@
+//! The lock, its seats, and its value while a seat is inside.
+ghost use Rattle.std.specs.Prelude.{◌≡◌, ℕ, ◌+◌, ◌<◌, List, [], ◌∷◌, ◌++◌, true, IfOk};
+ghost use mathlib.Core.List.{IsPrefix};
+ghost use Rattle.hist_lock.specs.History.{longer_of, entries_by, entries_added, Extends};
+ghost use Rattle.hist_lock.specs.Rule.{RecallsOwn};
+
+use crate::grows::Grows;
+use crate::steps::{
+    Compare, DrawTicket, HearNote, Look, MakeNote, OneHistory, ServeNext, SplitOff, TakeIn,
+};
+use crate::view::View;
+use atomic_table::{Refused, Seat, Table};
+use std::alloc::{AllocError, Global};
+use std::marker::Model;
+use std::sync::Wait;
+
+/// The word that counts the tickets drawn, modulo 2^64.
+const TICKETS: usize = 0;
+
+/// The word that counts the tickets served, modulo 2^64.
+const SERVED: usize = 1;
+
+/// The slot in which the value lies while no seat is inside.
+const VALUE: usize = 0;
+
+/// A lock round a value with a history. Threads share it by reference, each with a seat of its own.
+#[derive(Drop)]
+pub struct HistLock<T: Grows> {
+    table: Table<Option<T>, View<T::Entry>, (), OneHistory<T>, Global>,
+    ghost sized: { (table.shared.table_id.words ≡ 2) × (table.shared.table_id.slots ≡ 1) },
+}
+
+/// What one thread knows of the history of a lock. It has no bytes: what it has seen, and which entries are its own, exists in proofs alone.
+///
+/// The seat that `HistLock::new` gives is the first seat, with number 0. The k-th seat that it splits off has number k.
+#[derive(Drop)]
+pub struct LaneSeat<T: Grows> {
+    seat: Seat<Option<T>, View<T::Entry>>,
+    ghost recalls: { RecallsOwn T.names seat.me.0 },
+}
+
+/// The lock's value, while a seat is inside. It has no `Drop`, so it can only end in `HistLock::unlock`.
+pub struct Held<T> {
+    value: T,
+}
+
+impl<T> Model for Held<T> {
+    ghost Value = { T };
+
+    ghost view = { λ h. h.value };
+}
+
+impl<T: Grows + Drop> HistLock<T> {
+    ghost use Rattle.hist_lock.specs.Seats.{history_seen, number_of, split_count, joined_seats, IsFirst, IsLast, IsSeatOf};
+
+    /// A lock round a value with no history yet, and the first seat.
+    ///
+    /// Only want of memory is an error, and the value is then dropped.
+    pub fn new(alloc: Global, value: T) -> Result<(HistLock<T>, LaneSeat<T>), AllocError>
+        requires { T.history value ≡ [] }
+        ensures seat { IfOk result (λ r. IsSeatOf r.0 r.1 × IsFirst r.1 × IsLast r.1) }
+        ensures begins { IfOk result (λ r. (number_of r.1 ≡ 0) × (split_count r.1 ≡ 0) × (history_seen r.1 ≡ []) × (joined_seats r.1 ≡ [])) }
+    {
+        let mut slots = Vec::with_capacity(alloc, 1)?;
+        slots.push_reserved(Some(value));
+        match Table::new(alloc, &[0, 0], slots, &()) {
+            Ok((table, seat)) => Ok((HistLock { table }, LaneSeat { seat })),
+            Err(Refused { slots: _ }) => Err(AllocError),
+        }
+    }
+}
+
+impl<T: Grows> HistLock<T> {
+    ghost use Rattle.hist_lock.specs.History.{Continues};
+    ghost use Rattle.hist_lock.specs.Seats.{history_seen, number_of, own_entries, joined_seats, split_count, room_of, view_of, left_by, IsFirst, IsFree, IsInside, IsLast, IsSeatOf, IsSame};
+
+    /// Splits off a seat with the next number. It has seen what the first seat has seen, and has no entries yet.
+    pub fn split(&self, seat: &mut LaneSeat<T>) -> LaneSeat<T>
+        requires of { IsSeatOf self.now seat.old }
+        requires free { IsFree seat.old }
+        requires first { IsFirst seat.old × (1 < room_of seat.old) }
+
+        // the first seat
+        ensures kept { IsSeatOf self.now seat.new × IsFree seat.new × IsFirst seat.new }
+        ensures same { (history_seen seat.new ≡ history_seen seat.old) × (number_of seat.new ≡ number_of seat.old) × (own_entries seat.new ≡ own_entries seat.old) × (joined_seats seat.new ≡ joined_seats seat.old) }
+        ensures counted { (split_count seat.new ≡ split_count seat.old + 1) × (room_of seat.new + 1 ≡ room_of seat.old) }
+
+        // the new one
+        ensures given { IsSeatOf self.now result × IsFree result × (number_of result ≡ split_count seat.new) × (room_of result ≡ 1) }
+        ensures begins { (history_seen result ≡ history_seen seat.old) × (own_entries result ≡ []) × (joined_seats result ≡ []) }
+    {
+        let table = &self.table.shared;
+        let mut new = table.split_seat::<SplitOff>(&mut seat.seat);
+        table.load::<Compare>(&mut new, TICKETS);
+        LaneSeat { seat: new }
+    }
+
+    /// Takes in a seat that is done. The first of the two has then seen what either had seen, and answers for the entries of both.
+    pub fn join(&self, seat: &mut LaneSeat<T>, other: LaneSeat<T>)
+        requires of { IsSeatOf self.now seat.old × IsSeatOf self.now other }
+        requires free { IsFree seat.old × IsFree other }
+        ensures kept { IsSeatOf self.now seat.new × IsFree seat.new × (IsFirst seat.old → IsFirst seat.new) }
+        ensures same { (number_of seat.new ≡ number_of seat.old) × (own_entries seat.new ≡ own_entries seat.old) × (split_count seat.new ≡ split_count seat.old) }
+        ensures taken { (joined_seats seat.new ≡ joined_seats seat.old ++ left_by other) × (room_of seat.new ≡ room_of seat.old + room_of other) }
+        ensures seen { (history_seen seat.new ≡ longer_of (history_seen seat.old) (history_seen other)) × IsPrefix (history_seen seat.old) (history_seen seat.new) × IsPrefix (history_seen other) (history_seen seat.new) }
+    {
+        let table = &self.table.shared;
+        let LaneSeat { seat: other } = other;
+        table.join_seat::<TakeIn>(&mut seat.seat, other);
+        table.load::<Compare>(&mut seat.seat, TICKETS);
+    }
+
+    /// Lets the second seat know all that the first has seen.
+    pub fn tell(&self, from: &mut LaneSeat<T>, to: &mut LaneSeat<T>)
+        requires of { IsSeatOf self.now from.old × IsSeatOf self.now to.old }
+        requires free { IsFree from.old × IsFree to.old }
+        ensures from { IsSame from.old from.new × IsFree from.new × (room_of from.new ≡ room_of from.old) × (history_seen from.new ≡ history_seen from.old) }
+        ensures to { IsSame to.old to.new × IsFree to.new × (room_of to.new ≡ room_of to.old) }
+        ensures seen { (history_seen to.new ≡ longer_of (history_seen to.old) (history_seen from.old)) × IsPrefix (history_seen to.old) (history_seen to.new) × IsPrefix (history_seen from.old) (history_seen to.new) }
+    {
+        let table = &self.table.shared;
+        let note = table.split_seat::<MakeNote>(&mut from.seat);
+        table.join_seat::<HearNote>(&mut to.seat, note);
+        table.load::<Compare>(&mut to.seat, TICKETS);
+    }
+
+    /// Waits for the seat's turn, and gives out the value. While it waits it yields its turn to other threads: it sleeps until a ticket is served.
+    ///
+    /// What is promised holds if it returns. Nothing is promised of how long it waits.
+    pub fn lock<R: Wait>(&self, rt: &R, seat: &mut LaneSeat<T>) -> Held<T>
+        requires of { IsSeatOf self.now seat.old }
+        requires free { IsFree seat.old }
+        ensures same { IsSame seat.old seat.new × (room_of seat.new + 1 ≡ room_of seat.old) }
+        ensures inside { IsInside seat.new }
+        ensures found { (history_seen seat.new ≡ T.history result) × Continues T.names (view_of seat.old) (T.history result) }
+    {
+        let table = &self.table.shared;
+        let ticket = table.fetch_add::<DrawTicket>(&mut seat.seat, TICKETS, 1);
+        for _ in rt.forever() {
+            let serving = table.load::<Look>(&mut seat.seat, SERVED);
+            if serving == ticket {
+                let value = table.exchange(&mut seat.seat, VALUE, None).unwrap();
+                return Held { value };
+            }
+            // The word counts on at each `unlock`, so its low half is enough to sleep by.
+            table.park(rt, SERVED, (serving & 0xFFFF_FFFF) as u32);
+        }
+        unreachable!()
+    }
+
+    /// Gives the value back. Its history must have gone on from what the seat found, by entries that name this seat or none.
+    pub fn unlock(&self, seat: &mut LaneSeat<T>, held: Held<T>)
+        requires of { IsSeatOf self.now seat.old }
+        requires inside { IsInside seat.old }
+        requires extends { Extends T.names (number_of seat.old) (history_seen seat.old) (T.history held) }
+        ensures kept { IsSeatOf self.now seat.new × IsFree seat.new × (IsFirst seat.old → IsFirst seat.new) }
+        ensures same { (number_of seat.new ≡ number_of seat.old) × (joined_seats seat.new ≡ joined_seats seat.old) × (split_count seat.new ≡ split_count seat.old) × (room_of seat.new ≡ room_of seat.old + 1) }
+        ensures seen { history_seen seat.new ≡ T.history held }
+        ensures own { own_entries seat.new ≡ entries_by T.names (number_of seat.old) (T.history held) }
+        ensures appended { 0 < number_of seat.old → own_entries seat.new ≡ own_entries seat.old ++ entries_by T.names (number_of seat.old) (entries_added (history_seen seat.old) (T.history held)) }
+    {
+        let table = &self.table.shared;
+        let Held { value } = held;
+        match table.exchange(&mut seat.seat, VALUE, Some(value)) {
+            None => {}
+            Some(_) => unreachable!(),
+        }
+        let served = table.fetch_add::<ServeNext>(&mut seat.seat, SERVED, 1);
+        // Where every ticket that was drawn is served, no thread sleeps. One that draws a ticket after this look finds it served.
+        if table.peek(TICKETS) != served.wrapping_add(1) {
+            table.wake_all(SERVED);
+        }
+    }
+
+    /// The value, once every other seat was joined to this one.
+    pub fn close(self, seat: LaneSeat<T>) -> T
+        requires of { IsSeatOf self seat }
+        requires last { IsLast seat }
+        ensures { Continues T.names (view_of seat) (T.history result) }
+    {
+        let HistLock { table } = self;
+        let LaneSeat { seat } = seat;
+        let mut closed = table.close_with(seat);
+        let value = closed.take(VALUE).unwrap();
+        closed.free();
+        value
+    }
+}
+
+impl<T> Held<T> {
+    ghost use Rattle.std.specs.Borrow.{sem};
+    ghost use Rattle.hist_lock.specs.Lending.{LendsValue};
+
+    /// The value, to be read and written in place.
+    pub fn value(&mut self) -> &mut T
+        ensures* writes_back { sem 𝓛 (LendsValue T.row self.entry result) }
+        ensures value { result.now ≡ self.old }
+    {
+        &mut self.value
+    }
+}

@@ -1,0 +1,164 @@
+//! A list of pairs under the lock, for the tests. It is the smallest caller: a value that grows, a section that appends, two threads, and a seat that is told.
+//!
+//! It stands outside the tests because an edit that the check must refuse is checked without them.
+ghost use Rattle.std.specs.Prelude.{◌≡◌, ◌+◌, ◌<◌, [], ◌∷◌, ◌++◌, ◌==◌, true, OnOk, OnErr, IfSome};
+ghost use Rattle.std.specs.List.{filter};
+ghost use Rattle.hist_lock.specs.Pairs.{pairs_below};
+ghost use Rattle.hist_lock.specs.Seats.{history_seen, number_of, own_entries, joined_seats, room_of, IsFree, IsInside, IsSeatOf};
+ghost use mathlib.Core.List.{IsPrefix};
+
+use crate::grows::Grows;
+use crate::lock::{Held, HistLock, LaneSeat};
+use std::alloc::{AllocError, Global};
+use std::marker::Model;
+use std::sync::Wait;
+use std::thread::{Threads, join};
+
+/// Pairs of a seat's number and a number.
+#[derive(Drop)]
+pub struct Pairs {
+    list: Vec<(u64, u64)>,
+}
+
+impl Model for Pairs {
+    ghost use Rattle.std.specs.Prelude.{ℕ, List};
+
+    ghost Value = { List (ℕ × ℕ) };
+
+    ghost view = { λ p. p.list.items };
+}
+
+impl Grows for Pairs {
+    type Entry = (u64, u64);
+
+    ghost history = { λ p. p };
+
+    ghost names = { λ e. e.0 };
+}
+
+impl Pairs {
+    pub fn new(alloc: Global) -> Pairs
+        ensures { result ≡ [] }
+    {
+        Pairs {
+            list: Vec::new(alloc),
+        }
+    }
+
+    pub fn as_slice(&self) -> &[(u64, u64)]
+        ensures { result.now ≡ self.now }
+    {
+        self.list.as_slice()
+    }
+
+    /// Appends a pair, and answers whether the list began with what was seen, which is then all of it.
+    pub fn push_after(
+        &mut self,
+        seen: &mut Vec<(u64, u64)>,
+        by: u64,
+        number: u64,
+    ) -> Result<bool, AllocError>
+        ensures ok { OnOk result (self.new ≡ self.old ++ (by, number) ∷ []) }
+        ensures err { OnErr result (self.new ≡ self.old) }
+    {
+        let began = self.list.starts_with(seen.as_slice());
+        let known = seen.len().min(self.list.len());
+        seen.extend_from_slice(&self.list[known..])?;
+        seen.push((by, number))?;
+        self.list.push((by, number))?;
+        Ok(began)
+    }
+}
+
+/// Appends a pair under the seat's number, and answers whether the list that the lock gave out began with what the seat had seen.
+pub fn append<R: Wait>(
+    rt: &R,
+    lock: &HistLock<Pairs>,
+    seat: &mut LaneSeat<Pairs>,
+    seen: &mut Vec<(u64, u64)>,
+    by: u64,
+    number: u64,
+) -> Result<bool, AllocError>
+    requires seat { IsSeatOf lock.now seat.old × IsFree seat.old }
+    requires number { (number_of seat.old ≡ by) × (0 < by) }
+    ensures seat { IsSeatOf lock.now seat.new × IsFree seat.new × (number_of seat.new ≡ by) × (room_of seat.new ≡ room_of seat.old) × (joined_seats seat.new ≡ joined_seats seat.old) }
+    ensures own { OnOk result (own_entries seat.new ≡ own_entries seat.old ++ (by, number) ∷ []) }
+{
+    let mut held = lock.lock(rt, seat);
+    let answer = held.value().push_after(seen, by, number);
+    lock.unlock(seat, held);
+    answer
+}
+
+/// Appends the numbers below `count`, and gives the seat back. True where there was memory, and each list that the lock gave out began with what the seat had seen.
+pub fn append_all<R: Wait>(
+    rt: &R,
+    alloc: Global,
+    lock: &HistLock<Pairs>,
+    mut seat: LaneSeat<Pairs>,
+    by: u64,
+    count: u64,
+) -> (LaneSeat<Pairs>, bool)
+    requires seat { IsSeatOf lock.now seat × IsFree seat }
+    requires number { (number_of seat ≡ by) × (0 < by) × (own_entries seat ≡ []) }
+    ensures seat { IsSeatOf lock.now result.0 × IsFree result.0 × (number_of result.0 ≡ by) × (room_of result.0 ≡ room_of seat) × (joined_seats result.0 ≡ joined_seats seat) }
+    ensures own { result.1 ≡ true → own_entries result.0 ≡ pairs_below by count }
+{
+    let mut seen = Vec::new(alloc);
+    for number in 0..count {
+        match append(rt, lock, &mut seat, &mut seen, by, number) {
+            Ok(true) => {}
+            _ => return (seat, false),
+        }
+    }
+    (seat, true)
+}
+
+/// Two threads append the numbers below `count` each, and the list has under each one's number just these, once and in order.
+pub fn append_in_two_threads<R: Threads + Wait + Sync>(
+    rt: &R,
+    alloc: Global,
+    count: u64,
+) -> Option<Pairs>
+    ensures { IfSome result (λ p. (filter (λ e. e.0 == 1) p ≡ pairs_below 1 count) × (filter (λ e. e.0 == 2) p ≡ pairs_below 2 count)) }
+{
+    let Ok((lock, mut first)) = HistLock::new(alloc, Pairs::new(alloc)) else {
+        return None;
+    };
+    let one = lock.split(&mut first);
+    let two = lock.split(&mut first);
+    let shared = &lock;
+    let (one, two) = join(
+        rt,
+        move || -> (LaneSeat<Pairs>, bool)
+            requires { IsSeatOf shared.now one × IsFree one × (number_of one ≡ 1) × (own_entries one ≡ []) }
+            ensures { IsSeatOf shared.entry.now result.0 × IsFree result.0 × (number_of result.0 ≡ 1) × (room_of result.0 ≡ room_of one) × (joined_seats result.0 ≡ joined_seats one) × (result.1 ≡ true → own_entries result.0 ≡ pairs_below 1 count) }
+        { append_all(rt, alloc, shared, one, 1, count) },
+        move || -> (LaneSeat<Pairs>, bool)
+            requires { IsSeatOf shared.now two × IsFree two × (number_of two ≡ 2) × (own_entries two ≡ []) }
+            ensures { IsSeatOf shared.entry.now result.0 × IsFree result.0 × (number_of result.0 ≡ 2) × (room_of result.0 ≡ room_of two) × (joined_seats result.0 ≡ joined_seats two) × (result.1 ≡ true → own_entries result.0 ≡ pairs_below 2 count) }
+        { append_all(rt, alloc, shared, two, 2, count) },
+    );
+    lock.join(&mut first, one.0);
+    lock.join(&mut first, two.0);
+    let pairs = lock.close(first);
+    if one.1 && two.1 { Some(pairs) } else { None }
+}
+
+/// The first seat tells the second, and the next list that the second finds has all pairs of both.
+pub fn lock_after_telling<R: Wait>(
+    rt: &R,
+    lock: &HistLock<Pairs>,
+    one: &mut LaneSeat<Pairs>,
+    two: &mut LaneSeat<Pairs>,
+) -> Held<Pairs>
+    requires seats { IsSeatOf lock.now one.old × IsSeatOf lock.now two.old × IsFree one.old × IsFree two.old }
+    requires numbers { (number_of one.old ≡ 1) × (number_of two.old ≡ 2) }
+    ensures one { IsPrefix (own_entries one.old) (filter (λ e. e.0 == 1) result) }
+    ensures two { filter (λ e. e.0 == 2) result ≡ own_entries two.old }
+    ensures seats { IsSeatOf lock.now one.new × IsSeatOf lock.now two.new × IsFree one.new × IsInside two.new × (history_seen two.new ≡ result) }
+    ensures same { (number_of one.new ≡ 1) × (number_of two.new ≡ 2) × (room_of one.new ≡ room_of one.old) × (room_of two.new + 1 ≡ room_of two.old) }
+{
+    lock.tell(one, two);
+    lock.lock(rt, two)
+}
