@@ -1,6 +1,5 @@
-ghost use Rattle.std.specs.Prelude.{◌≡◌, ℕ, ◌+◌, ◌-◌, ◌^◌, ◌<◌, ◌≤◌, ◌↔◌, List, Ok, Err, length, take, IsTrue, IfSome, IfOk, IfErr, OnOk, IsOkAnd, slice_range};
+ghost use Rattle.std.specs.Prelude.{◌≡◌, ℕ, ◌+◌, ◌^◌, ◌<◌, ◌≤◌, ◌↔◌, List, length, IsTrue, IfSome, IfOk, IfErr, OnOk, IsOkAnd, slice_range};
 ghost use Rattle.codec_frame.specs.Checking.{NoFaultBelow, IsFirstFault, HasHeader, HasFooter, u32_at, string_at};
-ghost use Rattle.codec_frame.specs.Division.{crc_of};
 ghost use Rattle.codec_frame.specs.Frame.{IsFrame, IsFramed, header_length, string, wanted};
 
 use crate::crc::crc32;
