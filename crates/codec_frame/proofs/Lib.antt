@@ -1,0 +1,10 @@
+pub mod Steps
+pub mod Remainder
+pub mod Slicing
+pub mod KnownSums
+pub mod ByteLaws
+pub mod Fields
+pub mod FrameLaws
+pub mod FaultLaws
+pub mod CheckLaws
+pub mod Altered

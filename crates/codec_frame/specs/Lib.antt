@@ -1,0 +1,5 @@
+pub mod Bytes
+pub mod Division
+pub mod Register
+pub mod Frame
+pub mod Checking

@@ -1,0 +1,106 @@
+ghost use Rattle.std.specs.Prelude.{◌≡◌, ◌+◌, ◌*◌, ◌%◌, ◌<◌, ℕ, bit_xor};
+ghost use Rattle.codec_frame.specs.Division.{IsCrc, crc_of};
+ghost use Rattle.codec_frame.specs.Register.{steps, taken_in};
+
+use crate::tables::TABLES;
+
+/// The CRC-32 of the bytes, as zlib computes it: the reflected polynomial edb88320, with ffffffff
+/// as the start and as the last exclusive or.
+pub fn crc32(bytes: &[u8]) -> u32
+    ensures value { result ≡ crc_of bytes.now }
+
+    // It is the inverted remainder of the division, and nothing else is.
+    ensures division { IsCrc bytes.now result }
+    ensures only { (c : ℕ) → IsCrc bytes.now c → c ≡ result }
+{
+    let mut register: u32 = 0xffff_ffff;
+    let mut left = bytes;
+    'words: while let Some((first, rest)) = left.split_first_chunk::<8>() {
+        match rest.split_first_chunk::<8>() {
+            Some((second, after)) => {
+                register = take_in_words(register, first, second);
+                left = after;
+            }
+            None => {
+                register = take_in_word(register, first);
+                left = rest;
+            }
+        }
+    }
+    take_in_rest(register, left) ^ 0xffff_ffff
+}
+
+// The register after two words.
+#[inline(always)]
+fn take_in_words(register: u32, first: &[u8; 8], second: &[u8; 8]) -> u32
+    ensures { result ≡ taken_in (taken_in register first.now) second.now }
+{
+    let front = u64::from_le_bytes(*first) ^ register as u64;
+    eight_before(front) ^ eight_last(u64::from_le_bytes(*second))
+}
+
+// The register after one word.
+#[inline(always)]
+fn take_in_word(register: u32, word: &[u8; 8]) -> u32
+    ensures { result ≡ taken_in register word.now }
+{
+    eight_last(u64::from_le_bytes(*word) ^ register as u64)
+}
+
+// The register after the bytes, one at a time.
+fn take_in_rest(register: u32, bytes: &[u8]) -> u32
+    ensures { result ≡ taken_in register bytes.now }
+{
+    let mut after = register;
+    for b in bytes {
+        after = take_in_byte(after, *b);
+    }
+    after
+}
+
+// The register after one byte.
+#[inline(always)]
+fn take_in_byte(register: u32, byte: u8) -> u32
+    ensures { result ≡ steps 8 (bit_xor register byte) }
+{
+    entry(0, (register ^ byte as u32) as u64) ^ (register >> 8)
+}
+
+// What a word gives that eight bytes follow. The low bytes are the last, since the register is in them.
+#[inline(always)]
+fn eight_before(word: u64) -> u32
+    ensures { result ≡ steps 128 word }
+{
+    entry(8, word >> 56)
+        ^ entry(9, word >> 48)
+        ^ entry(10, word >> 40)
+        ^ entry(11, word >> 32)
+        ^ entry(12, word >> 24)
+        ^ entry(13, word >> 16)
+        ^ entry(14, word >> 8)
+        ^ entry(15, word)
+}
+
+// What a word gives that nothing follows.
+#[inline(always)]
+fn eight_last(word: u64) -> u32
+    ensures { result ≡ steps 64 word }
+{
+    entry(0, word >> 56)
+        ^ entry(1, word >> 48)
+        ^ entry(2, word >> 40)
+        ^ entry(3, word >> 32)
+        ^ entry(4, word >> 24)
+        ^ entry(5, word >> 16)
+        ^ entry(6, word >> 8)
+        ^ entry(7, word)
+}
+
+// What the lowest byte of a word gives where k more bytes follow it.
+#[inline(always)]
+fn entry(k: usize, word: u64) -> u32
+    requires { k < 16 }
+    ensures { result ≡ steps (8 * (k + 1)) (word % 256) }
+{
+    TABLES[k][(word & 0xff) as usize]
+}
