@@ -1,2 +1,4 @@
 pub mod DocumentLemmas
 pub mod MatchingLemmas
+pub mod WalkLemmas
+pub mod PastLemmas

@@ -7,6 +7,7 @@ pub mod entry;
 pub mod matching;
 pub mod operation;
 pub mod point;
+mod published;
 pub mod query;
 pub mod text_words;
 
@@ -16,5 +17,6 @@ pub use entry::{Answer, Entry, Event, History};
 pub use matching::{matches, scan};
 pub use operation::Op;
 pub use point::{Point, Verdict};
+pub use published::points;
 pub use query::Query;
 pub use text_words::words;
