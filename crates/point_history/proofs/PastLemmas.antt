@@ -1,5 +1,5 @@
 -- What holds of every past, and of every legal one.
-use Rattle.std.proofs.Common.{◌≡◌, ◌≢◌, ◌≤◌, ◌<◌, ◌+◌, ◌==◌, ◌||◌, ◌&&◌, ◌⊎◌, ⊎_elim, inl, inr, ℕ, suc, List, [], ◌∷◌, ◌++◌, Bool, true, false, Option, Some, None, if◌then◌else◌, length, take, drop, get_or, reverse, max, refl, sym, ap, ◌∙◌, subst, arith, add-one}
+use Rattle.std.proofs.Common.{◌≡◌, ◌≢◌, ◌≤◌, ◌<◌, ◌+◌, ◌==◌, ◌||◌, ◌&&◌, ◌⊎◌, ⊎_elim, inl, inr, ℕ, suc, List, [], ◌∷◌, ◌++◌, Bool, true, false, true≢false, Option, Some, None, if◌then◌else◌, length, take, drop, get_or, reverse, max, refl, sym, ap, ◌∙◌, subst, arith, add-one}
 use Rattle.std.proofs.Math.Seq.{take-suc}
 use Rattle.std.proofs.lemmas.Bool.{or_cases}
 use Rattle.std.proofs.lemmas.Bool.Decides.{nat_tests}
@@ -44,12 +44,9 @@ equal_from_test m n e = grind (arith, nat_tests)
 pub test_same : (n : ℕ) → (n == n) ≡ true
 test_same n = grind (arith, nat_tests)
 
-true_not_false : true ≡ false → ⊥
-true_not_false e = cc
-
 -- where the primary is one node, another is another
 at_other : (p : Option NodeNo) (m n : ℕ) → is_at p m ≡ false → is_at p n ≡ true → (m == n) ≡ false
-at_other None m n other here = absurd (true_not_false (sym here))
+at_other None m n other here = absurd (true≢false (sym here))
 at_other (Some q) m n other here = grind (arith, nat_tests)
 
 primary_runs_step : (size : ℕ) (past : Past) (at : At) (e : Event) (n : ℕ) → Keeps size past at e
@@ -59,7 +56,7 @@ primary_runs_step size past at (Crashed m) n keeps runs here = crash (is_at (pri
   where
     crash : (b : Bool) → is_at (primary_of past) m.0 ≡ b → is_at (if b then None else primary_of past) n ≡ true
         → (if m.0 == n then false else is_running n past) ≡ true
-    crash true is none = absurd (true_not_false (sym none))
+    crash true is none = absurd (true≢false (sym none))
     crash false is here = rw (at_other (primary_of past) m.0 n is here) (runs here)
 primary_runs_step size past at (Promoted m g f w) n keeps runs here =
     subst (λ (k : ℕ). is_running k past ≡ true) (equal_from_test m.0 n here) keeps.running
@@ -91,12 +88,12 @@ version_primary_step size past at (Reopened m w) n legal keeps same here = reope
   where
     reopen : (b : Bool) → (m.0 == n) ≡ b → (if b then w.0 else version_of n past) ≡ newest_version past
     reopen true is =
-        absurd (true_not_false (sym (subst (λ (k : ℕ). is_running k past ≡ true) (sym (equal_from_test m.0 n is)) (primary_runs size past n legal here)) ∙ keeps.down))
+        absurd (true≢false (sym (subst (λ (k : ℕ). is_running k past ≡ true) (sym (equal_from_test m.0 n is)) (primary_runs size past n legal here)) ∙ keeps.down))
     reopen false is = same here
 version_primary_step size past at (Crashed m) n legal keeps same here = crash (is_at (primary_of past) m.0) here
   where
     crash : (b : Bool) → is_at (if b then None else primary_of past) n ≡ true → version_of n past ≡ newest_version past
-    crash true none = absurd (true_not_false (sym none))
+    crash true none = absurd (true≢false (sym none))
     crash false here = same here
 version_primary_step size past at e n legal keeps same here = same here
 
@@ -167,5 +164,5 @@ made_step past e v point made = point made
 
 -- what was made in the present generation is a point
 pub made_point : (past : Past) (v : ℕ) → is_made_in_generation v past ≡ true → is_point v past ≡ true
-made_point [] v made = absurd (true_not_false (sym made))
+made_point [] v made = absurd (true≢false (sym made))
 made_point (e ∷ past) v made = made_step past e.event v (made_point past v) made

@@ -10,3 +10,4 @@ pub mod Faults
 pub mod Rules
 pub mod Legal
 pub mod Walks
+pub mod Laws

@@ -7,6 +7,7 @@ pub mod entry;
 pub mod matching;
 pub mod operation;
 pub mod point;
+pub mod laws;
 mod published;
 pub mod query;
 pub mod text_words;
