@@ -3,17 +3,16 @@ use Rattle.std.proofs.Common.{◌≡◌, ◌≤◌, ◌<◌, ◌+◌, ◌==◌, 
 use Rattle.std.proofs.lemmas.Bool.{or_cases}
 use Rattle.std.specs.List.{list_any}
 use Rattle.nrt_base.specs.declared.numbers.At.{At}
-use Rattle.point_history.specs.declared.entry.Entry.{Entry}
 use Rattle.point_history.specs.declared.entry.Event.{Event}
 use Rattle.point_history.specs.declared.entry.Event.TheVariants.{Published, Switched, Committing, Committed, Crashed, Reopened, Promoted}
-use Rattle.point_history.specs.Nodes.{Past, is_at, primary_of, is_running, is_running_by, crashes, version_of, version_by, newest_version, is_point}
+use Rattle.point_history.specs.Nodes.{Past, is_at, primary_of, is_running, is_running_by, crashes, version_of, version_by, newest_version}
 use Rattle.point_history.specs.Lines.{same_at, is_start, start_entry, before_start, commit_in_flight}
 use Rattle.point_history.specs.Commits.{base_by, base_version, more_by, reopenable_by, reopenable_versions, was_searched_since}
 use Rattle.point_history.specs.Rules.{StartedCommit}
 use Rattle.point_history.specs.Legal.{Keeps, IsLegalPast}
-use Rattle.point_history.specs.Laws.{is_some_line, is_base_of, was_searched_in_commit, IsLeftByCommits}
+use Rattle.point_history.specs.Laws.{is_some_line, was_searched_in_commit, IsLeftByCommits}
 use Rattle.point_history.proofs.PastLemmas.{equal_from_test, test_same, point_low}
-use Rattle.point_history.proofs.NodeLemmas.{known, version_low, in_one, in_more, crashes_rise, runs_on, rises_step}
+use Rattle.point_history.proofs.NodeLemmas.{known, in_one, in_more, crashes_rise, runs_on, rises_step}
 
 started_running : (size : ℕ) (past : Past) (at : At) (e : Event) (n : ℕ) → Keeps size past at e → StartedCommit n (Some e) → is_running_by n e (is_running n past) ≡ true
 started_running size past at (Committing m w) n keeps started = subst (λ (k : ℕ). is_running k past ≡ true) started keeps.running
@@ -44,8 +43,9 @@ commit_runs size at n (e ∷ past) legal started same =
         → (version_of n (e ∷ past) ≡ v) ⊎ ((if b then false else was_searched_since at n v past) ≡ true)
     now_or v b is found =
         let found' : ((version_of n (e ∷ past) == v) || (if b then false else was_searched_since at n v past)) ≡ true =
-            ap (λ (c : Bool). (version_of n (e ∷ past) == v) || (if c then false else was_searched_since at n v past)) (sym is) ∙ found in
+        ap (λ (c : Bool). (version_of n (e ∷ past) == v) || (if c then false else was_searched_since at n v past)) (sym is) ∙ found in
         ⊎_elim (λ same. inl (equal_from_test (version_of n (e ∷ past)) v same)) (λ old. inr old) (or_cases (version_of n (e ∷ past) == v) _ found')
+
     since : (b : Bool) → (is_start e.event && same_at e.at at) ≡ b → StartedCommit n (if b then Some e.event else start_entry at past)
         → crashes n (e ∷ past) ≡ crashes n (if b then past else before_start at past)
         → (StartedCommit n (start_entry at past) → crashes n past ≡ crashes n (before_start at past) → CommitRuns at n past)

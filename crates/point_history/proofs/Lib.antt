@@ -4,3 +4,6 @@ pub mod WalkLemmas
 pub mod PastLemmas
 pub mod NodeLemmas
 pub mod CommitLemmas
+pub mod PointLemmas
+pub mod AnswerLemmas
+pub mod LawLemmas

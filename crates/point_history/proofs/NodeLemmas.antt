@@ -1,15 +1,13 @@
 -- What a node of a legal history searches, and at which versions it may reopen.
-use Rattle.std.proofs.Common.{◌≡◌, ◌≢◌, ◌≤◌, ◌<◌, ◌+◌, ◌==◌, ◌||◌, ◌&&◌, ◌⊎◌, ⊎_elim, inl, inr, ℕ, suc, List, [], ◌∷◌, ◌++◌, Bool, true, false, true≢false, Option, Some, None, if◌then◌else◌, max, refl, sym, ap, ◌∙◌, subst, arith}
+use Rattle.std.proofs.Common.{◌≡◌, ◌≤◌, ◌<◌, ◌+◌, ◌==◌, ◌&&◌, ◌⊎◌, ⊎_elim, inr, ℕ, List, [], ◌∷◌, ◌++◌, Bool, true, false, true≢false, Option, Some, None, if◌then◌else◌, refl, sym, ◌∙◌, subst, arith}
 use Rattle.std.proofs.lemmas.Bool.{or_cases}
-use Rattle.std.proofs.lemmas.Bool.Decides.{nat_tests}
 use Rattle.std.specs.List.{list_any}
 use Rattle.nrt_base.specs.declared.numbers.At.{At}
 use Rattle.nrt_base.specs.declared.numbers.NodeNo.{NodeNo}
-use Rattle.nrt_base.specs.declared.numbers.Version.{Version}
 use Rattle.point_history.specs.declared.entry.Entry.{Entry}
 use Rattle.point_history.specs.declared.entry.Event.{Event}
 use Rattle.point_history.specs.declared.entry.Event.TheVariants.{Published, Switched, Committing, Committed, Crashed, Reopened, Promoted}
-use Rattle.point_history.specs.Nodes.{Past, is_at, primary_of, is_running, is_running_by, crashes, crashes_by, version_of, version_by, newest_version, newest_by, is_made_in_generation, is_point, is_point_by}
+use Rattle.point_history.specs.Nodes.{Past, is_at, primary_of, is_running, is_running_by, crashes, crashes_by, version_of, version_by, newest_version, is_point, is_point_by}
 use Rattle.point_history.specs.Lines.{same_at, is_start, commit_in_flight}
 use Rattle.point_history.specs.Commits.{more_by, reopenable_by, reopenable_versions, was_searched_since}
 use Rattle.point_history.specs.Legal.{Keeps, IsLegalPast}

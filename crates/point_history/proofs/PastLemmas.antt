@@ -1,18 +1,14 @@
 -- What holds of every past, and of every legal one.
-use Rattle.std.proofs.Common.{◌≡◌, ◌≢◌, ◌≤◌, ◌<◌, ◌+◌, ◌==◌, ◌||◌, ◌&&◌, ◌⊎◌, ⊎_elim, inl, inr, ℕ, suc, List, [], ◌∷◌, ◌++◌, Bool, true, false, true≢false, Option, Some, None, if◌then◌else◌, length, take, drop, get_or, reverse, max, refl, sym, ap, ◌∙◌, subst, arith, add-one}
+use Rattle.std.proofs.Common.{◌≡◌, ◌≤◌, ◌<◌, ◌+◌, ◌==◌, ℕ, List, [], ◌∷◌, ◌++◌, Bool, true, false, true≢false, Option, Some, None, if◌then◌else◌, length, take, drop, get_or, reverse, max, refl, sym, ap, ◌∙◌, subst, arith, add-one}
 use Rattle.std.proofs.Math.Seq.{take-suc}
-use Rattle.std.proofs.lemmas.Bool.{or_cases}
 use Rattle.std.proofs.lemmas.Bool.Decides.{nat_tests}
 use Rattle.std.proofs.lemmas.List.{take-append-drop, reverse-append}
-use Rattle.std.specs.List.{list_any}
 use Rattle.nrt_base.specs.declared.numbers.At.{At}
 use Rattle.nrt_base.specs.declared.numbers.NodeNo.{NodeNo}
 use Rattle.point_history.specs.declared.entry.Entry.{Entry}
 use Rattle.point_history.specs.declared.entry.Event.{Event}
-use Rattle.point_history.specs.declared.entry.Event.TheVariants.{Published, Switched, Committing, Committed, Crashed, Reopened, Promoted}
-use Rattle.point_history.specs.Nodes.{Past, is_at, primary_of, primary_by, is_running, is_running_by, crashes, crashes_by, version_of, version_by, newest_version, newest_by, is_made_in_generation, is_made_by, is_point, is_point_by}
-use Rattle.point_history.specs.Lines.{same_at, is_start, commit_in_flight}
-use Rattle.point_history.specs.Commits.{more_by, reopenable_by, reopenable_versions, was_searched_since}
+use Rattle.point_history.specs.declared.entry.Event.TheVariants.{Published, Switched, Crashed, Reopened, Promoted}
+use Rattle.point_history.specs.Nodes.{Past, is_at, primary_of, primary_by, is_running, is_running_by, version_of, version_by, newest_version, newest_by, is_made_in_generation, is_made_by, is_point, is_point_by}
 use Rattle.point_history.specs.Legal.{Keeps, IsLegalPast}
 
 -- what stood before an entry of a legal past was legal

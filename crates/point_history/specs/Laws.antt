@@ -31,6 +31,10 @@ VersionsAscend points = IsStrictlySortedBy nat_cmp (map (λ p. p.version.0) poin
 abbrev pub OnePointPerVersion : List Point → Type 0
 OnePointPerVersion points = (i j : ℕ) (p q : Point) → slice_get points i ≡ Some p → slice_get points j ≡ Some q → p.version ≡ q.version → i ≡ j
 
+-- each point has the documents of its version
+abbrev pub HaveTheirDocuments : Past → List Point → Type 0
+HaveTheirDocuments past points = (i : ℕ) (p : Point) → slice_get points i ≡ Some p → p.docs ≡ documents_at past p.version.0
+
 -- the documents of a version that is not above the newest are the same at every later place
 abbrev pub DocumentsStay : History → Type 0
 DocumentsStay h = (i j v : ℕ) → i ≤ j → v ≤ newest_version (past_at h i) → documents_at (past_at h j) v ≡ documents_at (past_at h i) v

@@ -4,10 +4,10 @@
 pub mod cause;
 pub mod documents;
 pub mod entry;
+pub mod laws;
 pub mod matching;
 pub mod operation;
 pub mod point;
-pub mod laws;
 mod published;
 pub mod query;
 pub mod text_words;
