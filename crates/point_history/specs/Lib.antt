@@ -9,3 +9,5 @@ pub mod Commits
 pub mod Faults
 pub mod Rules
 pub mod Legal
+pub mod Walks
+pub mod Laws
