@@ -8,4 +8,5 @@ pub mod Tickets
 pub mod Commits
 pub mod Faults
 pub mod Rules
+pub mod Generations
 pub mod Legal
