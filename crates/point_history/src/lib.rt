@@ -3,19 +3,25 @@
 
 pub mod cause;
 mod commits;
+pub mod documents;
 pub mod entry;
 mod faults;
 mod generation;
 mod lines;
+pub mod matching;
 mod nodes;
 pub mod operation;
 pub mod point;
 pub mod query;
 mod rules;
+pub mod text_words;
 mod tickets;
 
 pub use cause::{Cause, FaultKind, FaultPlan};
+pub use documents::apply;
 pub use entry::{Answer, Entry, Event, History};
+pub use matching::{matches, scan};
 pub use operation::Op;
 pub use point::{Point, Verdict};
 pub use query::Query;
+pub use text_words::words;
