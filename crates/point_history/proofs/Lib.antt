@@ -1,2 +1,3 @@
 pub mod DocumentLemmas
 pub mod MatchingLemmas
+pub mod WrittenLemmas

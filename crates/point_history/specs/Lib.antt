@@ -9,4 +9,5 @@ pub mod Commits
 pub mod Faults
 pub mod Rules
 pub mod Generations
+pub mod Origins
 pub mod Legal

@@ -1,8 +1,6 @@
-ghost use Rattle.std.specs.Prelude.{◌≡◌, ◌<◌, ◌+◌, ◌^◌, ◌*◌, ◌↔◌, ◌∷◌, [], IsTrue, if◌then◌else◌, reverse, length};
-ghost use Rattle.point_history.specs.Points.{accepted_in_generation, published_in_generation, is_put, adds_none, idle_by, idle_publishes};
+ghost use Rattle.std.specs.Prelude.{◌≡◌, ◌≤◌, ◌<◌, ◌+◌, ◌^◌, ◌*◌, ◌↔◌, ◌∷◌, [], IsTrue, if◌then◌else◌, reverse, length};
+ghost use Rattle.point_history.specs.Points.{accepted_in_generation, published_in_generation, is_put, adds_none, idle_publishes, merges_started};
 ghost use Rattle.point_history.specs.Lines.{before_start};
-ghost use Rattle.nrt_base.specs.declared.numbers.Gen.{Gen};
-ghost use Rattle.nrt_base.specs.declared.numbers.Version.{Version};
 ghost use Rattle.point_history.specs.Generations.{ShowsGeneration};
 
 use crate::entry::{Entry, Event};
@@ -90,17 +88,17 @@ impl Generation {
         }
     }
 
-    /// How many publishes have added no operation, with the one of this line that ends now.
-    pub(crate) fn idle_after_publish(&self, at: At, entries: &[Entry]) -> usize
+    /// Whether there are merges enough for the publishes that added no operation, with the one of this line that ends now.
+    pub(crate) fn has_merges_for_publish(&self, at: At, entries: &[Entry]) -> bool
         requires shown { ShowsGeneration (reverse entries.now) self.now }
         requires few { length entries.now + 1 < 2 ^ 64 }
-        ensures { (g : Gen) (v : Version) → result ≡ idle_by (Event.Published g v) (adds_none (accepted_in_generation (before_start at (reverse entries.now))) (published_in_generation (reverse entries.now))) (idle_publishes (reverse entries.now)) }
+        ensures { IsTrue result ↔ ((if adds_none (accepted_in_generation (before_start at (reverse entries.now))) (published_in_generation (reverse entries.now)) then idle_publishes (reverse entries.now) + 1 else idle_publishes (reverse entries.now)) ≤ merges_started (reverse entries.now)) }
     {
         let started = accepted_in_generation(before_start(at, entries));
         if started <= self.published {
-            self.idle + 1
+            self.idle < self.merges
         } else {
-            self.idle
+            self.idle <= self.merges
         }
     }
 

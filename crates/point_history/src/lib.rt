@@ -13,9 +13,11 @@ mod nodes;
 pub mod operation;
 pub mod point;
 pub mod query;
+mod refusals;
 mod rules;
 pub mod text_words;
 mod tickets;
+mod written;
 
 pub use cause::{Cause, FaultKind, FaultPlan};
 pub use documents::apply;

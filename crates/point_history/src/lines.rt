@@ -1,4 +1,4 @@
-ghost use Rattle.std.specs.Prelude.{◌≡◌, ◌↔◌, reverse, IsTrue};
+ghost use Rattle.std.specs.Prelude.{◌≡◌, ◌↔◌, ◌≤◌, reverse, length, IsTrue};
 ghost use Rattle.std.specs.Option.{option_copied};
 ghost use Rattle.point_history.specs.Lines.{same_at, is_start, is_reply, is_answered, start_entry, before_start, without_at, publish_in_flight, commit_by, commit_in_flight, is_free_for, NodeSurvives, SourceSurvives};
 
@@ -66,7 +66,8 @@ pub(crate) fn start_entry<'a>(at: At, entries: &'a [Entry]) -> Option<&'a Event>
 
 /// The entries before the start entry of a line.
 pub(crate) fn before_start<'a>(at: At, entries: &'a [Entry]) -> &'a [Entry]
-    ensures { reverse result.now ≡ before_start at (reverse entries.now) }
+    ensures before { reverse result.now ≡ before_start at (reverse entries.now) }
+    ensures within { length result.now ≤ length entries.now }
 {
     let mut before = &entries[..0];
     for (i, entry) in entries.iter().enumerate() {

@@ -57,7 +57,7 @@ pub(crate) fn may_publish(
         && number.0 == generation.number
         && v.0 != 0
         && v.0 - 1 == newest_version(entries)
-        && generation.idle_after_publish(at, entries) <= generation.merges
+        && generation.has_merges_for_publish(at, entries)
 }
 
 pub(crate) fn may_start_copy(nodes: u8, entries: &[Entry], n: NodeNo, v: Version) -> bool
