@@ -10,4 +10,5 @@ pub mod Faults
 pub mod Rules
 pub mod Generations
 pub mod Origins
+pub mod Openings
 pub mod Legal

@@ -1,5 +1,5 @@
 ghost use Rattle.std.specs.Prelude.{◌≡◌, ◌≤◌, ◌<◌, ◌+◌, ◌^◌, ◌↔◌, ℕ, reverse, length, IsTrue};
-ghost use Rattle.point_history.specs.Nodes.{IsNode, IsReplica, version_of};
+ghost use Rattle.point_history.specs.Nodes.{IsNode, IsReplica, version_of, accepted_count};
 ghost use Rattle.point_history.specs.Lines.{start_entry, before_start, NodeSurvives};
 ghost use Rattle.point_history.specs.Generations.{ShowsGeneration};
 ghost use Rattle.point_history.specs.Rules.{MayAccept, MayStartPublish, MayPublish, MayStartCopy, MaySwitch, MayFinishCopy, MayStartSettle, MaySettle, MayOpen, MayAsk, MayClose, MayStartCommit, MayCommit, MayCrash, MayReopen, MayPromote, MayStartMerge, MayFault, StartedCopy, StartedCopyOf, StartedCommit};
@@ -21,7 +21,8 @@ use crate::tickets::{has_ticket, is_ticket_at, is_ticket_of};
 use nrt_base::{At, Gen, NodeNo, SegNo, TicketNo, Version};
 
 pub(crate) fn may_accept(entries: &[Entry], seq: u32) -> bool
-    ensures { IsTrue result ↔ MayAccept (reverse entries.now) seq }
+    ensures rule { IsTrue result ↔ MayAccept (reverse entries.now) seq }
+    ensures few { IsTrue result → accepted_count (reverse entries.now) + 1 < 2 ^ 32 }
 {
     primary_of(entries).node.is_some() && seq != 0 && seq as usize - 1 == accepted_count(entries)
 }
