@@ -67,7 +67,9 @@ pub(crate) fn may_answer(
     requires { accepted_count (reverse entries.now) < 2 ^ 32 }
     ensures { IfOk result (λ may. IsTrue may ↔ MayAnswer nodes (reverse entries.now) at n t v query.now answer.now) }
 {
-    if !is_node(nodes, n) || !started_search(n, t, v, at, entries) || !node_survives(n, at, entries)
+    if !is_node(nodes, n)
+        || !started_search(n, t, v, at, entries)
+        || !node_survives(n, at, entries)
     {
         return Ok(false);
     }

@@ -42,10 +42,7 @@ fn found_after(
             v.0 == version.0 || found
         }
         Event::Switched { n: m, v } | Event::Promoted { n: m, v, .. }
-            if m.0 == n.0 && line.is_some() =>
-        {
-            v.0 == version.0 || found
-        }
+            if m.0 == n.0 && line.is_some() => { v.0 == version.0 || found }
         _ => found,
     }
 }

@@ -8,6 +8,8 @@ pub mod documents;
 pub mod entry;
 mod faults;
 mod generation;
+#[cfg(test)]
+mod legal_cases;
 mod legality;
 mod lines;
 mod listings;

@@ -17,10 +17,7 @@ fn is_node_of(nodes: u8, start: &[Entry], begun: &Event, n: NodeNo) -> bool
     match begun {
         Event::Publishing => is_at(primary_of(start).node, n),
         Event::Settling { .. } => {
-            1 <= n.0
-                && n.0 <= nodes
-                && is_running(n, start)
-                && !is_at(primary_of(start).node, n)
+            1 <= n.0 && n.0 <= nodes && is_running(n, start) && !is_at(primary_of(start).node, n)
         }
         Event::Copying { n: m, .. }
         | Event::Opened { n: m, .. }
@@ -162,8 +159,7 @@ fn has_disk_fault(nodes: u8, start: &[Entry], begun: &Event, at: At, entries: &[
     for entry in entries {
         if let Event::Fault { n, kind } = &entry.event {
             let is_near = is_node_of(nodes, start, begun, *n) || is_source_of(start, begun, *n);
-            let is_of_disk =
-                same_kind(FaultKind::Disk, *kind) || same_kind(FaultKind::Stop, *kind);
+            let is_of_disk = same_kind(FaultKind::Disk, *kind) || same_kind(FaultKind::Stop, *kind);
             if is_near && is_of_disk && same_at(entry.at, at) {
                 met = true;
             }

@@ -49,7 +49,11 @@ fn last_opened<'a>(lane: LaneNo, t: TicketNo, entries: &'a [Entry]) -> Option<Op
 }
 
 /// The opening of an open ticket of a lane: neither was it closed nor has its node crashed since.
-pub(crate) fn open_ticket<'a>(lane: LaneNo, t: TicketNo, entries: &'a [Entry]) -> Option<Opening<'a>>
+pub(crate) fn open_ticket<'a>(
+    lane: LaneNo,
+    t: TicketNo,
+    entries: &'a [Entry],
+) -> Option<Opening<'a>>
     ensures { MatchOption result (open_ticket lane.0 t.0 (reverse entries.now) ≡ None) (λ k. open_ticket lane.0 t.0 (reverse entries.now) ≡ Some (record { node = k.n.0; version = k.v.0; life = crashes k.n.0 (reverse k.before.now) })) }
 {
     if t.0 == 0 {

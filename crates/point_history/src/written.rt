@@ -105,7 +105,11 @@ fn operations_from(alloc: Global, origin: Origin) -> Result<Vec<Op>, NoMemory>
 
 /// The documents of the point of a version.
 #[tactic(auto, using(crate::proofs::WrittenLemmas::few_documents))]
-pub(crate) fn documents_at(alloc: Global, entries: &[Entry], v: Version) -> Result<Vec<Doc>, NoMemory>
+pub(crate) fn documents_at(
+    alloc: Global,
+    entries: &[Entry],
+    v: Version,
+) -> Result<Vec<Doc>, NoMemory>
     ensures documents { IfOk result (λ docs. docs.items ≡ documents_at (reverse entries.now) v.0) }
     ensures few { IfOk result (λ docs. length docs.items ≤ accepted_count (reverse entries.now)) }
 {

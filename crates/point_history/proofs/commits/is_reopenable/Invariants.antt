@@ -8,6 +8,6 @@ use Rattle.std.specs.List.{list_any}
 use Rattle.point_history.proofs.commits.is_reopenable.Given as goal
 
 abbrev pub invariant-loop-entry : goal.invariant-loop-entry
-invariant-loop-entry l = 
+invariant-loop-entry l =
     (l.found ≡ list_any (λ w. w == l.version.0) (reopenable_versions l.n.0 (reverse (take l.entry-index l.entries)))) × (l.searched.primary ≡ primary_of (reverse (take l.entry-index l.entries)))
     × (l.line ≡ commit_in_flight l.n.0 (reverse (take l.entry-index l.entries)))
