@@ -8,6 +8,9 @@ pub mod Tickets
 pub mod Commits
 pub mod Faults
 pub mod Rules
+pub mod Generations
+pub mod Origins
+pub mod Openings
 pub mod Legal
 pub mod Walks
 pub mod Laws

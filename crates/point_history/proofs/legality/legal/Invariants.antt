@@ -1,0 +1,13 @@
+use Rattle.std.proofs.Common.{◌<◌, ◌^◌, take}
+use Rattle.std.specs.Prelude.{reverse}
+use Rattle.point_history.specs.Nodes.{accepted_count}
+use Rattle.point_history.specs.Generations.{ShowsGeneration}
+use Rattle.point_history.specs.Legal.{IsLegalPast}
+use Rattle.point_history.proofs.legality.legal.Given as goal
+
+abbrev pub invariant-loop-at : goal.invariant-loop-at
+invariant-loop-at l = record {
+  legal : IsLegalPast l.h.nodes (reverse (take l.at l.entries));
+  shown : ShowsGeneration (reverse (take l.at l.entries)) l.generation;
+  few : accepted_count (reverse (take l.at l.entries)) < 2 ^ 32;
+}

@@ -1,0 +1,21 @@
+-- What a walk over a history knows of the present generation.
+use Rattle.std.specs.Prelude.{ℕ, ◌≡◌, ◌≤◌, length, drop, nat_lt}
+use Rattle.std.specs.List.{list_any}
+use Rattle.point_history.specs.declared.generation.Generation.{Generation}
+use Rattle.point_history.specs.Nodes.{Past, generation_of}
+use Rattle.point_history.specs.Points.{accepted_in_generation, published_in_generation, operations_of_generation, is_put, names_drawn, merges_started, idle_publishes}
+
+-- the numbers are those of the present generation, and none is above the number of entries
+pub record ShowsGeneration (past : Past) (g : Generation) : Type 0 where
+  pub number : g.number ≡ generation_of past
+  pub accepted : g.accepted ≡ length (operations_of_generation past)
+  pub published : g.published ≡ published_in_generation past
+  pub put : (k : ℕ) → list_any is_put (drop k (operations_of_generation past)) ≡ nat_lt k g.last_put
+  pub put_low : g.last_put ≤ g.accepted
+  pub names : g.names ≡ names_drawn past
+  pub merges : g.merges ≡ merges_started past
+  pub idle : g.idle ≡ idle_publishes past
+  pub accepted_low : g.accepted ≤ length past
+  pub names_low : g.names ≤ length past
+  pub merges_low : g.merges ≤ length past
+  pub idle_low : g.idle ≤ length past

@@ -1,0 +1,23 @@
+-- Which tickets the entries before a place opened, and what the open ones hold.
+use Rattle.std.specs.Prelude.{ℕ, ◌≡◌, List, [], ◌∷◌, Bool, true, false, ◌||◌}
+use Rattle.nrt_base.specs.declared.numbers.At.{At}
+use Rattle.point_history.specs.declared.entry.Entry.{Entry}
+use Rattle.point_history.specs.declared.entry.Event.{Event}
+use Rattle.point_history.specs.declared.entry.Event.TheVariants.{Opened}
+use Rattle.point_history.specs.Nodes.{Past}
+use Rattle.point_history.specs.Tickets.{is_ticket, open_ticket, IsTicketOf}
+use Rattle.point_history.specs.Rules.{has_documents}
+
+abbrev pub opens_by : ℕ → ℕ → At → Event → Bool
+opens_by lane t at (Opened n u v) = is_ticket at u.0 lane t
+opens_by lane t at e = false
+
+-- the lane has opened such a ticket, which may be closed since
+abbrev pub was_opened : ℕ → ℕ → Past → Bool
+was_opened lane t [] = false
+was_opened lane t (e ∷ past) = opens_by lane t e.at e.event || was_opened lane t past
+
+-- no such ticket is at this node and at a version that has documents
+abbrev pub HoldsNone : Past → ℕ → (ℕ → ℕ → Bool) → Type 0
+HoldsNone past n such =
+    (lane t v : ℕ) → such lane t ≡ true → IsTicketOf n v (open_ticket lane t past) → has_documents past v ≡ true → ⊥

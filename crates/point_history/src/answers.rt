@@ -1,0 +1,77 @@
+ghost use Rattle.std.specs.Prelude.{◌≡◌, ◌<◌, ◌^◌, ◌↔◌, reverse, IfOk, IsTrue};
+ghost use Rattle.point_history.specs.Matching.{scan_of};
+ghost use Rattle.point_history.specs.Nodes.{accepted_count};
+ghost use Rattle.point_history.specs.Lines.{start_entry};
+ghost use Rattle.point_history.specs.Points.{documents_at};
+ghost use Rattle.point_history.specs.Rules.{StartedSearch, MayAnswer};
+
+use crate::entry::{Answer, Entry, Event};
+use crate::lines::{node_survives, start_entry};
+use crate::matching::scan;
+use crate::nodes::is_node;
+use crate::query::Query;
+use crate::written::documents_at;
+use nrt_base::{At, Key, NoMemory, NodeNo, TicketNo, Version};
+use std::alloc::Global;
+
+fn same_keys(a: &[Key], b: &[Key]) -> bool
+    ensures { IsTrue result ↔ (a.now ≡ b.now) }
+{
+    a == b
+}
+
+fn same_answer(a: &Answer, b: &Answer) -> bool
+    ensures { IsTrue result ↔ (a.now ≡ b.now) }
+{
+    a.total == b.total && same_keys(a.keys.as_slice(), b.keys.as_slice())
+}
+
+fn started_search(n: NodeNo, t: TicketNo, v: Version, at: At, entries: &[Entry]) -> bool
+    ensures { IsTrue result ↔ StartedSearch n t v (start_entry at (reverse entries.now)) }
+{
+    match start_entry(at, entries) {
+        Some(Event::Opened { n: m, t: u, v: w }) | Some(Event::Asking { n: m, t: u, v: w }) => {
+            m.0 == n.0 && u.0 == t.0 && w.0 == v.0
+        }
+        _ => false,
+    }
+}
+
+/// Whether the answer is the scan of the documents of the point of this version.
+fn is_right(
+    alloc: Global,
+    entries: &[Entry],
+    v: Version,
+    query: &Query,
+    answer: &Answer,
+) -> Result<bool, NoMemory>
+    requires { accepted_count (reverse entries.now) < 2 ^ 32 }
+    ensures { IfOk result (λ right. IsTrue right ↔ (answer.now ≡ scan_of (documents_at (reverse entries.now) v.0) query.now)) }
+{
+    let docs = documents_at(alloc, entries, v)?;
+    let right = scan(alloc, docs.as_slice(), query)?;
+    Ok(same_answer(answer, &right))
+}
+
+pub(crate) fn may_answer(
+    alloc: Global,
+    nodes: u8,
+    entries: &[Entry],
+    at: At,
+    n: NodeNo,
+    t: TicketNo,
+    v: Version,
+    query: &Query,
+    answer: &Answer,
+) -> Result<bool, NoMemory>
+    requires { accepted_count (reverse entries.now) < 2 ^ 32 }
+    ensures { IfOk result (λ may. IsTrue may ↔ MayAnswer nodes (reverse entries.now) at n t v query.now answer.now) }
+{
+    if !is_node(nodes, n)
+        || !started_search(n, t, v, at, entries)
+        || !node_survives(n, at, entries)
+    {
+        return Ok(false);
+    }
+    is_right(alloc, entries, v, query, answer)
+}

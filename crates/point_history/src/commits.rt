@@ -1,0 +1,81 @@
+ghost use Rattle.std.specs.Prelude.{◌≡◌, ◌==◌, ℕ, List, reverse};
+ghost use Rattle.std.specs.List.{list_any};
+ghost use Rattle.point_history.specs.Lines.{commit_by};
+ghost use Rattle.point_history.specs.Commits.{has_committed, reopenable_by, reopenable_versions, was_searched_since};
+
+use crate::entry::{Entry, Event};
+use crate::lines::{commit_after, is_start, same_at};
+use crate::nodes::{Searched, is_at};
+use nrt_base::{At, NodeNo, Version};
+
+/// Whether a commit of the node was acknowledged.
+pub(crate) fn has_committed(n: NodeNo, entries: &[Entry]) -> bool
+    ensures { result ≡ has_committed n.0 (reverse entries.now) }
+{
+    let mut committed = false;
+    for entry in entries {
+        match &entry.event {
+            Event::Committed { n: m, .. } if m.0 == n.0 => committed = true,
+            _ => {}
+        }
+    }
+    committed
+}
+
+/// Whether a node may reopen at a version after one more event, `found` saying whether it might before, and `line` being its commit in flight.
+fn found_after(
+    n: NodeNo,
+    version: Version,
+    event: &Event,
+    primary: Option<NodeNo>,
+    line: Option<At>,
+    found: bool,
+) -> bool
+    ensures { (old : List ℕ) → found ≡ list_any (λ w. w == version.0) old → result ≡ list_any (λ w. w == version.0) (reopenable_by n.0 event.now primary line old) }
+{
+    match event {
+        Event::Committed { n: m, v } | Event::Reopened { n: m, v } if m.0 == n.0 => {
+            v.0 == version.0
+        }
+        Event::Committing { n: m, v } if m.0 == n.0 => v.0 == version.0 || found,
+        Event::Published { v, .. } if is_at(primary, n) && line.is_some() => {
+            v.0 == version.0 || found
+        }
+        Event::Switched { n: m, v } | Event::Promoted { n: m, v, .. }
+            if m.0 == n.0 && line.is_some() => { v.0 == version.0 || found }
+        _ => found,
+    }
+}
+
+/// Whether a node may reopen at a version: its base version, or one that it searched since while a commit of it was in flight.
+pub(crate) fn is_reopenable(n: NodeNo, version: Version, entries: &[Entry]) -> bool
+    ensures { result ≡ list_any (λ w. w == version.0) (reopenable_versions n.0 (reverse entries.now)) }
+{
+    let mut searched = Searched::new();
+    let mut line = None;
+    let mut found = version.0 == 1;
+    for entry in entries {
+        found = found_after(n, version, &entry.event, searched.primary, line, found);
+        searched = searched.after(n, &entry.event);
+        line = commit_after(n, entry, line);
+    }
+    found
+}
+
+/// Whether a node searched the version at the start entry of a line, or later.
+pub(crate) fn was_searched_since(at: At, n: NodeNo, version: Version, entries: &[Entry]) -> bool
+    ensures { result ≡ was_searched_since at n.0 version.0 (reverse entries.now) }
+{
+    let mut searched = Searched::new();
+    let mut was = false;
+    for entry in entries {
+        searched = searched.after(n, &entry.event);
+        if is_start(&entry.event) && same_at(entry.at, at) {
+            was = false;
+        }
+        if searched.version == version.0 {
+            was = true;
+        }
+    }
+    was
+}

@@ -1,0 +1,250 @@
+ghost use Rattle.std.specs.Prelude.{◌≡◌, ◌↔◌, ◌||◌, reverse, IsTrue};
+ghost use Rattle.point_history.specs.Faults.{same_kind, has_fault};
+ghost use Rattle.point_history.specs.Lines.{start_entry};
+ghost use Rattle.point_history.specs.Rules.{is_node_of, is_source_of, is_lost, version_in, is_above, is_copied_beside, is_settled_beside, has_switched, is_copy, is_loss, MayCancel, MayBreakOff, MayRefuse, MayRefuseStarted};
+
+use crate::cause::{Cause, FaultKind};
+use crate::entry::{Entry, Event};
+use crate::faults::same_kind;
+use crate::lines::{before_start, is_answered, is_start, same_at, start_entry};
+use crate::nodes::{crashes, is_at, is_point, is_running, primary_of};
+use nrt_base::{At, NodeNo, Version};
+
+/// Whether a node is one of a line that started with this event after these entries.
+fn is_node_of(nodes: u8, start: &[Entry], begun: &Event, n: NodeNo) -> bool
+    ensures { result ≡ is_node_of nodes (reverse start.now) begun.now n.0 }
+{
+    match begun {
+        Event::Publishing => is_at(primary_of(start).node, n),
+        Event::Settling { .. } => {
+            1 <= n.0 && n.0 <= nodes && is_running(n, start) && !is_at(primary_of(start).node, n)
+        }
+        Event::Copying { n: m, .. }
+        | Event::Opened { n: m, .. }
+        | Event::Asking { n: m, .. }
+        | Event::Committing { n: m, .. } => m.0 == n.0,
+        _ => false,
+    }
+}
+
+/// Whether a node is the source of such a line.
+fn is_source_of(start: &[Entry], begun: &Event, n: NodeNo) -> bool
+    ensures { result ≡ is_source_of (reverse start.now) begun.now n.0 }
+{
+    match begun {
+        Event::Copying { .. } | Event::Settling { .. } => is_at(primary_of(start).node, n),
+        _ => false,
+    }
+}
+
+/// Whether the node of such a line, or its source, has crashed since.
+fn is_lost(entries: &[Entry], start: &[Entry], begun: &Event) -> bool
+    ensures { result ≡ is_lost (reverse entries.now) (reverse start.now) begun.now }
+{
+    match begun {
+        Event::Publishing | Event::Settling { .. } => {
+            primary_of(entries).crashes != primary_of(start).crashes
+        }
+        Event::Copying { n, .. } => {
+            crashes(*n, entries) != crashes(*n, start)
+                || primary_of(entries).crashes != primary_of(start).crashes
+        }
+        Event::Opened { n, .. } | Event::Asking { n, .. } | Event::Committing { n, .. } => {
+            crashes(*n, entries) != crashes(*n, start)
+        }
+        _ => false,
+    }
+}
+
+/// Whether the version is above the one in a start entry.
+fn is_above(v: Version, begun: &Event) -> bool
+    ensures { result ≡ is_above v.0 (version_in begun.now) }
+{
+    match begun {
+        Event::Copying { v: w, .. }
+        | Event::Settling { v: w }
+        | Event::Opened { v: w, .. }
+        | Event::Asking { v: w, .. }
+        | Event::Committing { v: w, .. } => w.0 < v.0,
+        _ => false,
+    }
+}
+
+/// Whether another line started a copy at this version to a node of a line since its start.
+fn is_copied_beside(
+    nodes: u8,
+    start: &[Entry],
+    begun: &Event,
+    v: Version,
+    at: At,
+    entries: &[Entry],
+) -> bool
+    ensures { result ≡ is_copied_beside (is_node_of nodes (reverse start.now) begun.now) v.0 at (reverse entries.now) }
+{
+    let mut copied = false;
+    for entry in entries {
+        if is_start(&entry.event) && same_at(entry.at, at) {
+            copied = false;
+        } else if let Event::Copying { n, v: w } = &entry.event {
+            if is_node_of(nodes, start, begun, *n) && w.0 == v.0 && !same_at(entry.at, at) {
+                copied = true;
+            }
+        }
+    }
+    copied
+}
+
+/// Whether another line started a settle, and had no reply before a line's start.
+fn is_settled_beside(start: &[Entry], at: At, entries: &[Entry]) -> bool
+    ensures { result ≡ is_settled_beside (reverse start.now) at (reverse entries.now) }
+{
+    let mut settled = false;
+    for entry in entries {
+        if let Event::Settling { .. } = &entry.event {
+            if !same_at(entry.at, at) && !is_answered(entry.at, start) {
+                settled = true;
+            }
+        }
+    }
+    settled
+}
+
+/// Whether a line has switched a replica since its start entry.
+fn has_switched(at: At, entries: &[Entry]) -> bool
+    ensures { result ≡ has_switched at (reverse entries.now) }
+{
+    let mut switched = false;
+    for entry in entries {
+        if is_start(&entry.event) && same_at(entry.at, at) {
+            switched = false;
+        } else if let Event::Switched { .. } = &entry.event {
+            if same_at(entry.at, at) {
+                switched = true;
+            }
+        }
+    }
+    switched
+}
+
+/// Whether a line has met a fault of this kind at a node of its own.
+fn has_fault_at_node(
+    nodes: u8,
+    start: &[Entry],
+    begun: &Event,
+    kind: FaultKind,
+    at: At,
+    entries: &[Entry],
+) -> bool
+    ensures { result ≡ has_fault (is_node_of nodes (reverse start.now) begun.now) (same_kind kind) at (reverse entries.now) }
+{
+    let mut met = false;
+    for entry in entries {
+        if let Event::Fault { n, kind: found } = &entry.event {
+            if is_node_of(nodes, start, begun, *n)
+                && same_kind(kind, *found)
+                && same_at(entry.at, at)
+            {
+                met = true;
+            }
+        }
+    }
+    met
+}
+
+/// Whether a line has met a fault of a disk at a node of its own or at its source.
+fn has_disk_fault(nodes: u8, start: &[Entry], begun: &Event, at: At, entries: &[Entry]) -> bool
+    ensures { result ≡ has_fault (λ n. is_node_of nodes (reverse start.now) begun.now n || is_source_of (reverse start.now) begun.now n) (λ kind. same_kind FaultKind.Disk kind || same_kind FaultKind.Stop kind) at (reverse entries.now) }
+{
+    let mut met = false;
+    for entry in entries {
+        if let Event::Fault { n, kind } = &entry.event {
+            let is_near = is_node_of(nodes, start, begun, *n) || is_source_of(start, begun, *n);
+            let is_of_disk = same_kind(FaultKind::Disk, *kind) || same_kind(FaultKind::Stop, *kind);
+            if is_near && is_of_disk && same_at(entry.at, at) {
+                met = true;
+            }
+        }
+    }
+    met
+}
+
+fn may_cancel(
+    nodes: u8,
+    entries: &[Entry],
+    at: At,
+    start: &[Entry],
+    begun: &Event,
+    v: Version,
+) -> bool
+    ensures { IsTrue result ↔ MayCancel nodes (reverse entries.now) at (reverse start.now) begun.now v }
+{
+    is_point(v, entries)
+        && is_above(v, begun)
+        && (is_copied_beside(nodes, start, begun, v, at, entries)
+            || is_settled_beside(start, at, entries))
+}
+
+fn may_break_off(
+    nodes: u8,
+    entries: &[Entry],
+    at: At,
+    start: &[Entry],
+    begun: &Event,
+    cause: &Cause,
+) -> bool
+    ensures { IsTrue result ↔ MayBreakOff nodes (reverse entries.now) at (reverse start.now) begun.now cause.now }
+{
+    match cause {
+        Cause::Cancelled(v) => may_cancel(nodes, entries, at, start, begun, *v),
+        Cause::LinkFault => has_fault_at_node(nodes, start, begun, FaultKind::Link, at, entries),
+        Cause::Damaged(_) => has_fault_at_node(nodes, start, begun, FaultKind::Damage, at, entries),
+        Cause::DiskFault => has_disk_fault(nodes, start, begun, at, entries),
+        _ => false,
+    }
+}
+
+fn is_loss(cause: &Cause) -> bool
+    ensures { result ≡ is_loss cause.now }
+{
+    match cause {
+        Cause::Lost => true,
+        _ => false,
+    }
+}
+
+fn is_copy(begun: &Event) -> bool
+    ensures { result ≡ is_copy begun.now }
+{
+    match begun {
+        Event::Copying { .. } => true,
+        _ => false,
+    }
+}
+
+fn may_refuse(
+    nodes: u8,
+    entries: &[Entry],
+    at: At,
+    start: &[Entry],
+    begun: &Event,
+    cause: &Cause,
+) -> bool
+    ensures { IsTrue result ↔ MayRefuse nodes (reverse entries.now) at (reverse start.now) begun.now cause.now }
+{
+    if is_loss(cause) != is_lost(entries, start, begun) {
+        return false;
+    }
+    if is_copy(begun) && has_switched(at, entries) {
+        return false;
+    }
+    is_loss(cause) || may_break_off(nodes, entries, at, start, begun, cause)
+}
+
+pub(crate) fn may_refuse_started(nodes: u8, entries: &[Entry], at: At, cause: &Cause) -> bool
+    ensures { IsTrue result ↔ MayRefuseStarted nodes (reverse entries.now) at (start_entry at (reverse entries.now)) cause.now }
+{
+    match start_entry(at, entries) {
+        Some(begun) => may_refuse(nodes, entries, at, before_start(at, entries), begun, cause),
+        None => true,
+    }
+}

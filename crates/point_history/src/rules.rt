@@ -1,0 +1,264 @@
+ghost use Rattle.std.specs.Prelude.{◌≡◌, ◌≤◌, ◌<◌, ◌+◌, ◌^◌, ◌↔◌, ℕ, reverse, length, IsTrue};
+ghost use Rattle.point_history.specs.Nodes.{IsNode, IsReplica, version_of, accepted_count};
+ghost use Rattle.point_history.specs.Lines.{start_entry, before_start, NodeSurvives};
+ghost use Rattle.point_history.specs.Generations.{ShowsGeneration};
+ghost use Rattle.point_history.specs.Rules.{MayAccept, MayStartPublish, MayPublish, MayStartCopy, MaySwitch, MayFinishCopy, MayStartSettle, MaySettle, MayOpen, MayAsk, MayClose, MayStartCommit, MayCommit, MayCrash, MayReopen, MayPromote, MayStartMerge, MayFault, StartedCopy, StartedCopyOf, StartedCommit};
+
+use crate::cause::FaultKind;
+use crate::commits::{is_reopenable, was_searched_since};
+use crate::entry::{Entry, Event};
+use crate::faults::is_planned;
+use crate::generation::Generation;
+use crate::lines::{
+    before_start, commit_in_flight, is_free_for, node_survives, publish_in_flight, source_survives,
+    start_entry,
+};
+use crate::nodes::{
+    accepted_count, is_made_in_generation, is_node, is_replica, is_running, newest_version,
+    primary_of, version_of,
+};
+use crate::tickets::{has_ticket, is_ticket_at, is_ticket_of};
+use nrt_base::{At, Gen, NodeNo, SegNo, TicketNo, Version};
+
+pub(crate) fn may_accept(entries: &[Entry], seq: u32) -> bool
+    ensures rule { IsTrue result ↔ MayAccept (reverse entries.now) seq }
+    ensures few { IsTrue result → accepted_count (reverse entries.now) + 1 < 2 ^ 32 }
+{
+    primary_of(entries).node.is_some() && seq != 0 && seq as usize - 1 == accepted_count(entries)
+}
+
+pub(crate) fn may_start_publish(entries: &[Entry], at: At) -> bool
+    ensures { IsTrue result ↔ MayStartPublish (reverse entries.now) at }
+{
+    primary_of(entries).node.is_some() && is_free_for(at, publish_in_flight(entries))
+}
+
+fn started_publish(at: At, entries: &[Entry]) -> bool
+    ensures { IsTrue result ↔ (start_entry at (reverse entries.now) ≡ Some Event.Publishing) }
+{
+    match start_entry(at, entries) {
+        Some(Event::Publishing) => true,
+        _ => false,
+    }
+}
+
+pub(crate) fn may_publish(
+    entries: &[Entry],
+    generation: &Generation,
+    at: At,
+    number: Gen,
+    v: Version,
+) -> bool
+    requires shown { ShowsGeneration (reverse entries.now) generation.now }
+    requires few { length entries.now + 1 < 2 ^ 64 }
+    ensures { IsTrue result ↔ MayPublish (reverse entries.now) at number v }
+{
+    started_publish(at, entries)
+        && source_survives(at, entries)
+        && number.0 == generation.number
+        && v.0 != 0
+        && v.0 - 1 == newest_version(entries)
+        && generation.has_merges_for_publish(at, entries)
+}
+
+pub(crate) fn may_start_copy(nodes: u8, entries: &[Entry], n: NodeNo, v: Version) -> bool
+    ensures { IsTrue result ↔ MayStartCopy nodes (reverse entries.now) n v }
+{
+    is_node(nodes, n)
+        && is_replica(n, entries)
+        && primary_of(entries).node.is_some()
+        && v.0 == newest_version(entries)
+}
+
+fn started_copy(n: NodeNo, v: Version, at: At, entries: &[Entry]) -> bool
+    ensures { IsTrue result ↔ StartedCopy n.0 v.0 (start_entry at (reverse entries.now)) }
+{
+    match start_entry(at, entries) {
+        Some(Event::Copying { n: m, v: w }) => m.0 == n.0 && w.0 <= v.0,
+        Some(Event::Settling { v: w }) => w.0 <= v.0,
+        _ => false,
+    }
+}
+
+pub(crate) fn may_switch(nodes: u8, entries: &[Entry], at: At, n: NodeNo, v: Version) -> bool
+    ensures { IsTrue result ↔ MaySwitch nodes (reverse entries.now) at n v }
+{
+    is_node(nodes, n)
+        && is_replica(n, entries)
+        && is_made_in_generation(v, entries)
+        && version_of(n, entries) < v.0
+        && started_copy(n, v, at, entries)
+        && node_survives(n, at, entries)
+        && source_survives(at, entries)
+}
+
+fn started_copy_of(n: NodeNo, v: Version, at: At, entries: &[Entry]) -> bool
+    ensures { IsTrue result ↔ StartedCopyOf n.0 v.0 (start_entry at (reverse entries.now)) }
+{
+    match start_entry(at, entries) {
+        Some(Event::Copying { n: m, v: w }) => m.0 == n.0 && w.0 <= v.0,
+        _ => false,
+    }
+}
+
+pub(crate) fn may_finish_copy(nodes: u8, entries: &[Entry], at: At, n: NodeNo, v: Version) -> bool
+    ensures { IsTrue result ↔ MayFinishCopy nodes (reverse entries.now) at n v }
+{
+    is_node(nodes, n)
+        && started_copy_of(n, v, at, entries)
+        && v.0 == version_of(n, entries)
+        && node_survives(n, at, entries)
+        && source_survives(at, entries)
+}
+
+pub(crate) fn may_start_settle(entries: &[Entry], v: Version) -> bool
+    ensures { IsTrue result ↔ MayStartSettle (reverse entries.now) v }
+{
+    primary_of(entries).node.is_some() && v.0 == newest_version(entries)
+}
+
+fn started_settle(v: Version, at: At, entries: &[Entry]) -> bool
+    ensures { IsTrue result ↔ (start_entry at (reverse entries.now) ≡ Some (Event.Settling v)) }
+{
+    match start_entry(at, entries) {
+        Some(Event::Settling { v: w }) => w.0 == v.0,
+        _ => false,
+    }
+}
+
+/// Whether a node has no part in a settle any more, or is at its version.
+fn is_settled(n: NodeNo, v: Version, at: At, entries: &[Entry]) -> bool
+    ensures { IsTrue result ↔ (IsReplica (before_start at (reverse entries.now)) n.0 → NodeSurvives (reverse entries.now) at n.0 → v.0 ≤ version_of n.0 (reverse entries.now)) }
+{
+    !is_replica(n, before_start(at, entries))
+        || !node_survives(n, at, entries)
+        || v.0 <= version_of(n, entries)
+}
+
+fn all_settled(nodes: u8, v: Version, at: At, entries: &[Entry]) -> bool
+    ensures { IsTrue result ↔ ((n : ℕ) → IsNode nodes n → IsReplica (before_start at (reverse entries.now)) n → NodeSurvives (reverse entries.now) at n → v.0 ≤ version_of n (reverse entries.now)) }
+{
+    for below in 0..nodes {
+        if !is_settled(NodeNo(below + 1), v, at, entries) {
+            return false;
+        }
+    }
+    true
+}
+
+pub(crate) fn may_settle(nodes: u8, entries: &[Entry], at: At, v: Version) -> bool
+    ensures { IsTrue result ↔ MaySettle nodes (reverse entries.now) at v }
+{
+    started_settle(v, at, entries)
+        && source_survives(at, entries)
+        && all_settled(nodes, v, at, entries)
+}
+
+pub(crate) fn may_open(
+    nodes: u8,
+    entries: &[Entry],
+    at: At,
+    n: NodeNo,
+    t: TicketNo,
+    v: Version,
+) -> bool
+    ensures { IsTrue result ↔ MayOpen nodes (reverse entries.now) at n t v }
+{
+    is_node(nodes, n)
+        && is_running(n, entries)
+        && v.0 == version_of(n, entries)
+        && !has_ticket(at.lane, t, entries)
+}
+
+pub(crate) fn may_ask(
+    nodes: u8,
+    entries: &[Entry],
+    at: At,
+    n: NodeNo,
+    t: TicketNo,
+    v: Version,
+) -> bool
+    ensures { IsTrue result ↔ MayAsk nodes (reverse entries.now) at n t v }
+{
+    is_node(nodes, n) && is_ticket_of(n, v, at.lane, t, entries)
+}
+
+pub(crate) fn may_close(nodes: u8, entries: &[Entry], at: At, n: NodeNo, t: TicketNo) -> bool
+    ensures { IsTrue result ↔ MayClose nodes (reverse entries.now) at n t }
+{
+    is_node(nodes, n) && is_ticket_at(n, at.lane, t, entries)
+}
+
+pub(crate) fn may_start_commit(nodes: u8, entries: &[Entry], at: At, n: NodeNo, v: Version) -> bool
+    ensures { IsTrue result ↔ MayStartCommit nodes (reverse entries.now) at n v }
+{
+    is_node(nodes, n)
+        && is_running(n, entries)
+        && v.0 == version_of(n, entries)
+        && is_free_for(at, commit_in_flight(n, entries))
+}
+
+fn started_commit(n: NodeNo, at: At, entries: &[Entry]) -> bool
+    ensures { IsTrue result ↔ StartedCommit n.0 (start_entry at (reverse entries.now)) }
+{
+    match start_entry(at, entries) {
+        Some(Event::Committing { n: m, .. }) => m.0 == n.0,
+        _ => false,
+    }
+}
+
+pub(crate) fn may_commit(nodes: u8, entries: &[Entry], at: At, n: NodeNo, v: Version) -> bool
+    ensures { IsTrue result ↔ MayCommit nodes (reverse entries.now) at n v }
+{
+    is_node(nodes, n)
+        && started_commit(n, at, entries)
+        && node_survives(n, at, entries)
+        && was_searched_since(at, n, v, entries)
+}
+
+pub(crate) fn may_crash(nodes: u8, entries: &[Entry], n: NodeNo) -> bool
+    ensures { IsTrue result ↔ MayCrash nodes (reverse entries.now) n }
+{
+    is_node(nodes, n) && is_running(n, entries)
+}
+
+pub(crate) fn may_reopen(nodes: u8, entries: &[Entry], n: NodeNo, v: Version) -> bool
+    ensures { IsTrue result ↔ MayReopen nodes (reverse entries.now) n v }
+{
+    is_node(nodes, n) && !is_running(n, entries) && is_reopenable(n, v, entries)
+}
+
+pub(crate) fn may_promote(
+    nodes: u8,
+    entries: &[Entry],
+    generation: &Generation,
+    n: NodeNo,
+    number: Gen,
+    forced: Version,
+    v: Version,
+) -> bool
+    requires { ShowsGeneration (reverse entries.now) generation.now }
+    ensures { IsTrue result ↔ MayPromote nodes (reverse entries.now) n number forced v }
+{
+    is_node(nodes, n)
+        && is_running(n, entries)
+        && primary_of(entries).node.is_none()
+        && number.0 != 0
+        && number.0 - 1 == generation.number
+        && newest_version(entries) <= forced.0
+        && forced.0 < 1 << 62
+        && v.0 == forced.0 + 1
+}
+
+pub(crate) fn may_start_merge(entries: &[Entry], generation: &Generation, seg: SegNo) -> bool
+    requires { ShowsGeneration (reverse entries.now) generation.now }
+    ensures { IsTrue result ↔ MayStartMerge (reverse entries.now) seg }
+{
+    primary_of(entries).node.is_some() && generation.is_next_segment(seg)
+}
+
+pub(crate) fn may_fault(nodes: u8, entries: &[Entry], n: NodeNo, kind: FaultKind) -> bool
+    ensures { IsTrue result ↔ MayFault nodes (reverse entries.now) n kind }
+{
+    is_node(nodes, n) && is_planned(n, kind, entries)
+}
