@@ -2,7 +2,8 @@ ghost use Rattle.std.specs.Prelude.{◌≡◌, ◌↔◌, ◌<◌, reverse, true
 ghost use Rattle.std.specs.List.{list_any, list_all};
 ghost use Rattle.std.specs.Ordering.{nat_cmp};
 ghost use Rattle.std.specs.Cmp.Lexicographic.{slice_cmp};
-ghost use Rattle.nrt_base.specs.Names.{is_base36_digit, digit_value, is_commit_number, is_commit_name, is_documents_name, is_less, is_ascending};
+ghost use Rattle.nrt_base.specs.Base36.{is_base36_digit, digit_value};
+ghost use Rattle.nrt_base.specs.Names.{is_commit_number, is_commit_name, is_documents_name, is_less, is_ascending};
 ghost use Rattle.point_history.specs.Rules.{has_documents, MayListFiles};
 ghost use Rattle.point_history.specs.Openings.{opens_by, HoldsNone};
 
