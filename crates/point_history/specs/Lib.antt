@@ -14,3 +14,4 @@ pub mod Openings
 pub mod Legal
 pub mod Walks
 pub mod Laws
+pub mod Texts
