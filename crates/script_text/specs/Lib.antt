@@ -2,3 +2,4 @@ pub mod Lines
 pub mod Form
 pub mod Refusals
 pub mod Serves
+pub mod PlainGrammar

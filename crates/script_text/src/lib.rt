@@ -2,7 +2,9 @@
 #![tactic(auto)]
 
 mod fault;
+mod plain;
 mod script;
+mod splitting;
 
 pub use fault::{LineFault, ScriptFault};
 pub use script::{Force, Line, LineCommand, Phase, Script};

@@ -1,0 +1,2 @@
+pub mod SplittingLemmas
+pub mod PlainLemmas
