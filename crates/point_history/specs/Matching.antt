@@ -1,6 +1,6 @@
 -- Which documents a query matches, and what a search answers.
 use Rattle.std.specs.Prelude.{ℕ, ◌+◌, max, nat_le, length, List, [], ◌∷◌, Bool, true, false, ◌||◌, ◌&&◌, not, nat_eq, take, map, filter, count_by}
-use Rattle.std.specs.List.{list_any, starts_with}
+use Rattle.std.specs.List.{list_any}
 use Rattle.nrt_base.specs.declared.doc.Doc.{Doc}
 use Rattle.point_history.specs.declared.query.Query.{Query, Word, Phrase, All', Any', Not', Row_of-Query, end_of-Query, more_of-Query}
 use Rattle.point_history.specs.declared.entry.Answer.{Answer}
