@@ -1,2 +1,3 @@
 pub mod SplittingLemmas
 pub mod PlainLemmas
+pub mod RefusalLemmas

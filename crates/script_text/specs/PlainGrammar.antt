@@ -84,6 +84,18 @@ abbrev pub HasNext : Place → List (List ℕ) → Type 0
 HasNext place [] = ⊥
 HasNext place (line ∷ lines) = HasForm place line
 
+-- the first of these lines puts the document, and the others follow it
+pub record PutsFirst (lines : List (List ℕ)) (doc : Doc) (rest : List (List ℕ)) : Type 0 where
+  pub line : List ℕ
+  pub split : lines ≡ line ∷ rest
+  pub puts : SpellsPut line doc
+
+-- the first of these lines searches for the word, and the others follow it
+pub record SearchesFirst (lines : List (List ℕ)) (small : List ℕ) (rest : List (List ℕ)) : Type 0 where
+  pub line : List ℕ
+  pub split : lines ≡ line ∷ rest
+  pub searches : SearchesFor line small
+
 -- line n is the first that has not the form of its place, or is missing, or is past the last place; the first of these lines has the number k
 abbrev pub RefusesFrom : ℕ → List Place → List (List ℕ) → ℕ → Type 0
 RefusesFrom k [] lines n = (lines ≢ []) × (n ≡ k)

@@ -1,4 +1,7 @@
-use nrt_base::LineNo;
+ghost use Rattle.std.specs.Prelude.{◌≡◌};
+ghost use Rattle.script_text.specs.declared.fault.ScriptFault.TheVariants.{Memory};
+
+use nrt_base::{LineNo, NoMemory};
 use text_query::QueryFault;
 
 /// Why a line is refused.
@@ -29,4 +32,12 @@ pub enum ScriptFault {
     BadScript(LineNo, LineFault),
     /// There are more than 16,777,216 bytes.
     TooLarge,
+}
+
+impl From<NoMemory> for ScriptFault {
+    ghost from_gives = { λ _ e. e ≡ Memory };
+
+    fn from(_fault: NoMemory) -> ScriptFault {
+        ScriptFault::Memory
+    }
 }
