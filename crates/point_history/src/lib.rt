@@ -11,7 +11,7 @@ pub mod query;
 pub mod text_words;
 
 pub use cause::{Cause, FaultKind, FaultPlan};
-pub use documents::apply;
+pub use documents::{Texts, apply, change, listed};
 pub use entry::{Answer, Entry, Event, History};
 pub use matching::{matches, scan};
 pub use operation::Op;
