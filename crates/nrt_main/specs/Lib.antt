@@ -1,0 +1,3 @@
+pub mod PlainRun
+pub mod Run
+pub mod Kept

@@ -1,0 +1,6 @@
+//! The program: it runs a script and writes its report.
+#![tactic(auto)]
+
+mod node;
+
+fn main() {}
