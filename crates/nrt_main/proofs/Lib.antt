@@ -1,0 +1,3 @@
+pub mod FreshLines
+pub mod DocumentCounts
+pub mod Steps

@@ -50,3 +50,4 @@ pub record Shows (past : Past) (ops : List Op) (primary replica : Searched) : Ty
   pub first : Searches past ops (newest_version past) primary
   pub second : Searches past ops (version_of 2 past) replica
   pub behind : replica.operations ≤ primary.operations
+  pub numbered : primary.version ≤ primary.operations + 1
