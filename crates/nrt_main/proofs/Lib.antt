@@ -1,3 +1,5 @@
 pub mod FreshLines
 pub mod DocumentCounts
 pub mod Steps
+pub mod Serving
+pub mod Writes

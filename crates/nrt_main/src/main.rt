@@ -3,5 +3,8 @@
 
 mod engine;
 mod node;
+mod reading;
+mod running;
+mod writing;
 
 fn main() {}

@@ -58,7 +58,7 @@ serves_phase lines (e ∷ past) walks =
     let earlier : earlier_phases_answered (first_lane lines ∷ []) e.at past ≡ true = rw known refl in
     (ap (λ (b : Bool). is_merge_fault (command_at lines e.at) e.event || b) earlier ∙ or-true (is_merge_fault (command_at lines e.at) e.event), serves_phase lines past walks.3)
 
-lines_whole : (script : Script) (lines : List Line) → script.phases ≡ first_lane lines ∷ [] → lines_of script ≡ lines
+pub lines_whole : (script : Script) (lines : List Line) → script.phases ≡ first_lane lines ∷ [] → lines_of script ≡ lines
 lines_whole script lines e =
     let twice : (lines ++ []) ++ [] ≡ lines = append-nil (lines ++ []) ∙ append-nil lines in
     ap (flat_map lines_of_phase) e ∙ twice
