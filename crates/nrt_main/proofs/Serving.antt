@@ -29,7 +29,7 @@ use Rattle.script_text.specs.Lines.{lines_of, command_at, has_line, all_answered
 use Rattle.script_text.specs.Refusals.{refusal, when, names_are_spent}
 use Rattle.script_text.specs.Serves.{Serves}
 use Rattle.script_text.specs.Form.{IsInForm, is_phase, are_distinct}
-use Rattle.script_text.proofs.OneLane.{Walks, first_lane, lines_whole, serves_one_lane}
+use Rattle.script_text.proofs.OneLane.{Walks, serves_one_lane}
 use Rattle.nrt_main.specs.PlainRun.{accepted_entry, publishing_entry, published_entry, published_next, refused_entry, copying_entry, switched_entry, copied_entry, copied_same, copied_newer, opened_entry, answered_entry, after_publish, after_copy, after_search, after_command, after_lines, is_plain, IsPlainScript}
 use Rattle.nrt_main.proofs.FreshLines.{fresh_last, fresh_unanswered}
 use Rattle.nrt_main.proofs.Steps.{same_at_self}
@@ -318,19 +318,35 @@ runnable_lines (line ∷ lines) distinct lanes plain =
     let p1 : list_all (λ line. is_plain line.command) lines ≡ true = grind arith in
     (distinct_all line lines d0, grind (arith, nat_tests, l0), p0, runnable_lines lines d1 l1 p1)
 
+-- the lines that are left can be run: they have no entry yet
+pub record AreLeft (lines : List Line) (past : Past) : Type 0 where
+  pub fresh : AllByRecursion (IsFresh past) lines
+  pub runnable : AreRunnable lines
+
+pub left_next : (line : Line) (rest : List Line) (past next : Past) → AreLeft (line ∷ rest) past → next ≡ after_command line.command line.at past → AreLeft rest next
+left_next line rest past next left e =
+    let fresh : AllByRecursion (IsFresh (after_command line.command line.at past)) rest =
+        all_two (λ l. same_at line.at l.at ≡ false) (IsFresh past) (IsFresh (after_command line.command line.at past)) rest
+        (λ l other was. others_keep line.at l.at other past line.command ∙ was) left.runnable.0 left.fresh.1 in
+    record { fresh = subst (λ (p : Past). AllByRecursion (IsFresh p) rest) (sym e) fresh; runnable = left.runnable.3 }
+
 -- the lines of a plain script in form are runnable
-pub runnable_script : (script : Script) (lines : List Line) → IsInForm script → IsPlainScript script lines → AreRunnable lines
-runnable_script script lines form plain =
-    let distinct : are_distinct lines ≡ true = ap are_distinct (sym (lines_whole script lines plain.phase)) ∙ form.distinct in
+runnable_script : (script : Script) → IsInForm script → IsPlainScript script → AreRunnable (lines_of script)
+runnable_script script form plain =
     let phases = subst (λ (ps : List Phase). IsTrue (list_all is_phase ps)) plain.phase form.phases in
-    let lanes : list_all (λ line. line.at.lane.0 == 1) lines ≡ true = grind (arith, phases) in
-    runnable_lines lines distinct lanes plain.plain
+    let lanes : list_all (λ line. line.at.lane.0 == 1) (lines_of script) ≡ true = grind (arith, phases) in
+    runnable_lines (lines_of script) form.distinct lanes plain.plain
+
+pub left_first : (script : Script) → IsInForm script → IsPlainScript script → AreLeft (lines_of script) []
+left_first script form plain =
+    record { fresh = all_anyway (IsFresh []) (lines_of script) (λ l. refl); runnable = runnable_script script form plain }
 
 -- the history of the engine's entries serves the script
-pub served_history : (script : Script) (lines : List Line) (h : History) → IsInForm script → IsPlainScript script lines → h.nodes ≡ 2 → reverse h.entries ≡ after_lines lines [] → Serves script h
-served_history script lines h form plain nodes entries =
-    let served : IsServed lines (reverse h.entries) = subst (IsServed lines) (sym entries) (served_lines lines (runnable_script script lines form plain) plain.few) in
-    serves_one_lane script lines h plain.phase (nodes ∙ sym plain.nodes) served.0 (done_all lines (reverse h.entries) served.1)
+pub served_history : (script : Script) (h : History) → IsInForm script → IsPlainScript script → h.nodes ≡ 2 → reverse h.entries ≡ after_lines (lines_of script) [] → Serves script h
+served_history script h form plain nodes entries =
+    let served : IsServed (lines_of script) (reverse h.entries) =
+        subst (IsServed (lines_of script)) (sym entries) (served_lines (lines_of script) (runnable_script script form plain) plain.few) in
+    serves_one_lane script (lines_of script) h plain.phase (nodes ∙ sym plain.nodes) served.0 (done_all (lines_of script) (reverse h.entries) served.1)
 
 pub one_or_two : (n : ℕ) → is_between 1 2 n ≡ true → (n ≡ 1) ⊎ (n ≡ 2)
 one_or_two n h = grind (arith, nat_tests)

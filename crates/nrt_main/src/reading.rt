@@ -25,6 +25,7 @@ pub fn read_all<S: Source>(alloc: Global, source: &mut S) -> Result<Vec<u8>, Rea
     ensures read { IfOk result (λ bytes. Consumes (S.left source.old) (S.left source.new) bytes.items × IsAtEnd (S.left source.new) × (length bytes.items ≤ LONGEST)) }
     ensures later { S.fault_count source.old ≤ S.fault_count source.new }
     ensures fault { result ≡ Err ReadEnd.Fault → Rose (S.fault_count source.old) (S.fault_count source.new) }
+    ensures within { result ≡ Err ReadEnd.Fault → (taken : List ℕ) × Consumes (S.left source.old) (S.left source.new) taken × (length taken ≤ LONGEST) }
     ensures large { result ≡ Err ReadEnd.TooLarge → (taken : List ℕ) × Consumes (S.left source.old) (S.left source.new) taken × (LONGEST < length taken) }
 {
     let mut bytes = Vec::new(alloc);

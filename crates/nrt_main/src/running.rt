@@ -1,8 +1,8 @@
-ghost use Rattle.std.specs.Prelude.{◌≡◌, ◌+◌, ◌<◌, ◌^◌, [], true, false, IfOk, OnOk, length, List};
+ghost use Rattle.std.specs.Prelude.{◌≡◌, ◌+◌, ◌<◌, ◌^◌, [], true, false, IfOk, OnOk, length};
 ghost use Rattle.point_history.specs.Nodes.{accepted_count};
 ghost use Rattle.point_history.specs.Lines.{entries_of_line};
 ghost use Rattle.point_history.specs.Legal.{IsLegal};
-ghost use Rattle.script_text.specs.declared.script.Line.{Line};
+ghost use Rattle.script_text.specs.Lines.{lines_of as lines_of_lem};
 ghost use Rattle.script_text.specs.Form.{IsInForm};
 ghost use Rattle.script_text.specs.Serves.{Serves};
 ghost use Rattle.nrt_main.specs.PlainRun.{is_plain, after_command, IsPlainScript};
@@ -40,9 +40,8 @@ fn run_line(alloc: Global, engine: &mut Engine, line: &Line) -> Result<(), NoMem
 
 /// The lines of a script's one lane.
 fn lines_of(script: &Script) -> &[Line]
-    ghost lines: { List Line }
-    requires { IsPlainScript script.now lines }
-    ensures { result.now ≡ lines }
+    requires { IsPlainScript script.now }
+    ensures { result.now ≡ lines_of_lem script.now }
 {
     match script.phases.as_slice() {
         [phase] => match phase.lanes.as_slice() {
@@ -51,4 +50,20 @@ fn lines_of(script: &Script) -> &[Line]
         },
         _ => unreachable!(),
     }
+}
+
+/// Runs a script of one lane, on two nodes.
+pub fn run_script(alloc: Global, script: &Script) -> Result<History, NoMemory>
+    requires form { IsInForm script.now }
+    requires plain { IsPlainScript script.now }
+    ensures legal { IfOk result IsLegal }
+    ensures serves { IfOk result (Serves script.now) }
+{
+    let mut engine = Engine::new(alloc);
+    let lines = lines_of(script);
+    for line in lines {
+        run_line(alloc, &mut engine, line)?;
+    }
+    let history = engine.into_history();
+    Ok(history)
 }
