@@ -2,4 +2,5 @@ pub mod Bytes
 pub mod Causes
 pub mod FileNames
 pub mod Names
+pub mod MemoryStreams
 pub mod formers
