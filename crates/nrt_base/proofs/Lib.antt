@@ -1,2 +1,7 @@
+pub mod Base36Lemmas
+pub mod NameLaws
 pub mod NameLemmas
 pub mod StreamLemmas
+pub mod ReadingLemmas
+pub mod SpellingLemmas
+pub mod VIntLemmas

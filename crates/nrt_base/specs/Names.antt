@@ -1,26 +1,39 @@
--- Which names are those of commits and of stored documents.
-use Rattle.std.specs.Prelude.{ℕ, ◌≡◌, ◌+◌, ◌-◌, ◌*◌, ◌^◌, List, [], ◌∷◌, Bool, true, false, ◌&&◌, ◌||◌, not, ◌==◌, nat_eq, nat_lt, nat_le, codes, drop, length, if◌then◌else◌, ⊤}
+-- The names of files: which there are, and which names are those of commits and of stored documents.
+use Rattle.std.specs.Prelude.{ℕ, ◌^◌, List, [], ◌∷◌, ◌++◌, Bool, true, false, ◌&&◌, not, ◌==◌, nat_eq, nat_lt, codes, drop}
 use Rattle.std.specs.List.{list_all, starts_with, ends_with}
 use Rattle.std.specs.Ordering.{nat_cmp}
 use Rattle.std.specs.Cmp.Lexicographic.{slice_cmp}
 use Rattle.std.specs.declared.cmp.Ordering.{Ordering}
 use Rattle.std.specs.declared.cmp.Ordering.TheVariants.{Less, Equal, Greater}
-use Rattle.nrt_base.specs.Bytes.{is_between}
+use Rattle.nrt_base.specs.Base36.{is_base36_digit, base36_value, base36_of}
+use Rattle.nrt_base.specs.declared.composed.SegPart.{SegPart}
+use Rattle.nrt_base.specs.declared.composed.SegPart.TheVariants.{Docs, Post, Info}
 
--- a digit of base 36: 0 to 9, then a to z
-abbrev pub is_base36_digit : ℕ → Bool
-is_base36_digit b = is_between 48 57 b || is_between 97 122 b
+-- the ending of a part's name
+abbrev pub part_ending : SegPart → List ℕ
+part_ending Docs = codes ".docs"
+part_ending Post = codes ".post"
+part_ending Info = codes ".si"
 
-abbrev pub digit_value : ℕ → ℕ
-digit_value b = if nat_le b 57 then b - 48 else b - 87
+-- the name of a part of a segment: `_S.docs`, `_S.post` or `_S.si`
+abbrev pub part_name_of : ℕ → SegPart → List ℕ
+part_name_of seg part = codes "_" ++ base36_of seg ++ part_ending part
 
-abbrev pub value_after : ℕ → List ℕ → ℕ
-value_after n [] = n
-value_after n (b ∷ digits) = value_after (n * 36 + digit_value b) digits
+-- the name of a segment's live rows: `_S_G.liv`
+abbrev pub live_name_of : ℕ → ℕ → List ℕ
+live_name_of seg live_gen = codes "_" ++ base36_of seg ++ codes "_" ++ base36_of live_gen ++ codes ".liv"
 
--- the number that base 36 digits spell
-abbrev pub base36_value : List ℕ → ℕ
-base36_value digits = value_after 0 digits
+-- the name of a commit: `segments_N`
+abbrev pub commit_name_of : ℕ → List ℕ
+commit_name_of n = codes "segments_" ++ base36_of n
+
+-- the name of a commit in preparation: `pending_segments_N`
+abbrev pub pending_name_of : ℕ → List ℕ
+pending_name_of n = codes "pending_segments_" ++ base36_of n
+
+-- the temporary name of a file in a job: `NAME_J.tmp`
+abbrev pub temp_name_of : List ℕ → ℕ → List ℕ
+temp_name_of name job = name ++ codes "_" ++ base36_of job ++ codes ".tmp"
 
 -- the digits spell a number from 1 to below 2^62, without leading zeros
 abbrev pub is_commit_number : List ℕ → Bool
@@ -30,6 +43,18 @@ is_commit_number (b ∷ digits) = not (b == 48) && list_all is_base36_digit (b �
 -- the name of an acknowledged commit: `segments_N`, N in base 36
 abbrev pub is_commit_name : List ℕ → Bool
 is_commit_name name = starts_with nat_eq name (codes "segments_") && is_commit_number (drop 9 name)
+
+-- the number in the name of a commit
+abbrev pub commit_number : List ℕ → ℕ
+commit_number name = base36_value (drop 9 name)
+
+-- the name of a commit in preparation: `pending_segments_N`, N in base 36
+abbrev pub is_pending_name : List ℕ → Bool
+is_pending_name name = starts_with nat_eq name (codes "pending_segments_") && is_commit_number (drop 17 name)
+
+-- the number in the name of a commit in preparation
+abbrev pub pending_number : List ℕ → ℕ
+pending_number name = base36_value (drop 17 name)
 
 -- the name of stored documents: it ends in `.docs`
 abbrev pub is_documents_name : List ℕ → Bool

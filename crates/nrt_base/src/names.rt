@@ -82,7 +82,7 @@ fn first_refused(bytes: &[u8]) -> Option<usize>
     bytes.iter().position(|b| !is_name_byte(*b))
 }
 
-fn padded(bytes: &[u8]) -> FileName
+pub(crate) fn padded(bytes: &[u8]) -> FileName
     requires { IsTrue (is_file_name bytes.now) }
     ensures { result ≡ bytes.now }
 {
