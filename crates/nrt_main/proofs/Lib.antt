@@ -3,3 +3,4 @@ pub mod DocumentCounts
 pub mod Steps
 pub mod Serving
 pub mod Writes
+pub mod PlainScripts

@@ -5,6 +5,8 @@ mod engine;
 mod node;
 mod reading;
 mod running;
+mod status;
+mod top;
 mod writing;
 
 fn main() {}

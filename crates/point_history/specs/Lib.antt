@@ -9,3 +9,4 @@ pub mod Commits
 pub mod Faults
 pub mod Rules
 pub mod Legal
+pub mod Texts
