@@ -1,0 +1,11 @@
+//! The report: one line of text for each entry of a history.
+#![tactic(auto)]
+
+mod causes;
+mod events;
+mod lines;
+#[cfg(test)]
+mod tests;
+mod words;
+
+pub use lines::{line, report};
