@@ -86,9 +86,10 @@ above_at key (d ∷ docs) (suc i) x all within = above_at key docs i x all.1 (om
 below_at : (docs : List Doc) (i : ℕ) (x : Doc) → IsAscending docs → i < length docs → AreBelow (take i docs) (get_or docs i x).key
 below_at [] i x ascending within = absurd (omega arith)
 below_at (d ∷ docs) zero x ascending within = tt
-below_at (d ∷ docs) (suc i) x ascending within =
-    (above_at d.key docs i x (sorted_head key_cmp d.key (map (λ d. d.key) docs) ascending) (omega arith),
-    below_at docs i x (sorted_tail key_cmp d.key (map (λ d. d.key) docs) ascending) (omega arith))
+below_at (d ∷ docs) (suc i) x ascending within = (
+  above_at d.key docs i x (sorted_head key_cmp d.key (map (λ d. d.key) docs) ascending) (omega arith),
+  below_at docs i x (sorted_tail key_cmp d.key (map (λ d. d.key) docs) ascending) (omega arith),
+)
 
 -- the next document of an ascending list goes to the end
 pub with_doc_next : (docs : List Doc) (i : ℕ) (x : Doc) → IsAscending docs → i < length docs

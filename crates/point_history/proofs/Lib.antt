@@ -1,2 +1,9 @@
 pub mod DocumentLemmas
 pub mod MatchingLemmas
+pub mod WalkLemmas
+pub mod PastLemmas
+pub mod NodeLemmas
+pub mod CommitLemmas
+pub mod PointLemmas
+pub mod AnswerLemmas
+pub mod LawLemmas

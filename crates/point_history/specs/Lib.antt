@@ -10,3 +10,5 @@ pub mod Faults
 pub mod Rules
 pub mod Legal
 pub mod Texts
+pub mod Walks
+pub mod Laws

@@ -68,7 +68,7 @@ pub fn apply(alloc: Global, ops: &[Op]) -> Result<Vec<Doc>, NoMemory>
 }
 
 /// Documents that are a list in ascending order of key.
-pub fn texts_of(alloc: Global, docs: &[Doc]) -> Result<Texts, NoMemory>
+pub(crate) fn texts_of(alloc: Global, docs: &[Doc]) -> Result<Texts, NoMemory>
     requires { IsAscending docs.now }
     ensures same { IfOk result (λ texts. map document_of texts.entries ≡ docs.now) }
     ensures ordered { IfOk result (λ texts. IsOrdered key_cmp texts) }

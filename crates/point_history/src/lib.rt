@@ -4,9 +4,11 @@
 pub mod cause;
 pub mod documents;
 pub mod entry;
+pub mod laws;
 pub mod matching;
 pub mod operation;
 pub mod point;
+mod published;
 pub mod query;
 pub mod text_words;
 
@@ -16,5 +18,6 @@ pub use entry::{Answer, Entry, Event, History};
 pub use matching::{matches, scan};
 pub use operation::Op;
 pub use point::{Point, Verdict};
+pub use published::points;
 pub use query::Query;
 pub use text_words::words;
