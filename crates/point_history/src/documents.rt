@@ -8,7 +8,7 @@ use std::alloc::Global;
 use std::collections::BTreeMap;
 
 /// Documents, as the text of each key.
-pub(crate) type Texts = BTreeMap<Key, Text>;
+pub type Texts = BTreeMap<Key, Text>;
 
 #[tactic(auto, using(crate::proofs::DocumentLemmas::with_doc_from_insert))]
 fn put(alloc: Global, texts: &mut Texts, doc: &Doc) -> Result<(), NoMemory>
@@ -28,7 +28,7 @@ fn delete(texts: &mut Texts, key: &Key)
 }
 
 /// Changes documents as an operation says.
-pub(crate) fn change(alloc: Global, texts: &mut Texts, op: &Op) -> Result<(), NoMemory>
+pub fn change(alloc: Global, texts: &mut Texts, op: &Op) -> Result<(), NoMemory>
     requires { IsOrdered key_cmp texts.old }
     ensures after { OnOk result (map document_of texts.new.entries ≡ after_op (map document_of texts.old.entries) op.now) }
     ensures ordered { OnOk result (IsOrdered key_cmp texts.new) }
@@ -43,7 +43,7 @@ pub(crate) fn change(alloc: Global, texts: &mut Texts, op: &Op) -> Result<(), No
 }
 
 /// Documents in ascending order of key, as a list.
-pub(crate) fn listed(alloc: Global, texts: &Texts) -> Result<Vec<Doc>, NoMemory>
+pub fn listed(alloc: Global, texts: &Texts) -> Result<Vec<Doc>, NoMemory>
     ensures { IfOk result (λ docs. docs.items ≡ map document_of texts.now.entries) }
 {
     let mut docs = Vec::with_capacity(alloc, texts.len())?;

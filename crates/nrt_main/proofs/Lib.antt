@@ -1,0 +1,6 @@
+pub mod FreshLines
+pub mod DocumentCounts
+pub mod Steps
+pub mod Serving
+pub mod Writes
+pub mod PlainScripts

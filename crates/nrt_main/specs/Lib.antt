@@ -1,0 +1,5 @@
+pub mod PlainRun
+pub mod Run
+pub mod Kept
+pub mod Headline
+pub mod Statuses

@@ -1,0 +1,4 @@
+pub mod SplittingLemmas
+pub mod PlainLemmas
+pub mod RefusalLemmas
+pub mod OneLane

@@ -1,0 +1,5 @@
+pub mod Lines
+pub mod Form
+pub mod Refusals
+pub mod Serves
+pub mod PlainGrammar
