@@ -1,17 +1,12 @@
-//! A stand-in for the parser of queries: the type of its refusals.
+//! The text of a query: its words, its tokens, and the query that it spells.
 #![tactic(auto)]
 
-/// Why a text is no query.
-#[derive(Clone, Copy, Debug, PartialEq, Eq)]
-pub enum QueryFault {
-    /// Want of memory.
-    Memory,
-    /// The text is empty or only spaces.
-    Empty,
-    /// The text is not in the grammar: the token at this byte, from 0, is the first with which no query goes on.
-    Syntax(usize),
-    /// The text nests too deep.
-    TooDeep,
-    /// The text has too many leaves.
-    TooMany,
-}
+mod build;
+mod fault;
+mod parse;
+mod syntax;
+mod token;
+
+pub use fault::QueryFault;
+pub use parse::{one_tree, parse_query};
+pub use point_history::words;
