@@ -2,15 +2,17 @@
 #![tactic(auto)]
 
 pub mod cause;
-pub mod documents;
+mod documents;
 pub mod entry;
 pub mod laws;
-pub mod matching;
+mod matching;
 pub mod operation;
 pub mod point;
 mod published;
 pub mod query;
-pub mod text_words;
+#[cfg(test)]
+mod tests;
+mod text_words;
 
 pub use cause::{Cause, FaultKind, FaultPlan};
 pub use documents::apply;
