@@ -27,6 +27,7 @@ abbrev pub after_op : List Doc → Op → List Doc
 after_op docs (Put doc) = with_doc docs doc
 after_op docs (Delete key) = without_key docs key
 
+-- the documents after some more operations, in order
 abbrev pub after_ops : List Doc → List Op → List Doc
 after_ops docs [] = docs
 after_ops docs (op ∷ ops) = after_ops (after_op docs op) ops

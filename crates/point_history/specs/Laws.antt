@@ -52,6 +52,7 @@ AnswersAreScans h =
     → slice_get h.entries i ≡ Some (record { at = at; event = Answered n t v query answer })
     → answer ≡ scan_of (documents_at (reverse h.entries) v.0) query
 
+-- a line is in flight
 abbrev pub is_some_line : Option At → Bool
 is_some_line None = false
 is_some_line (Some at) = true

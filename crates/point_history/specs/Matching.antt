@@ -6,6 +6,7 @@ use Rattle.point_history.specs.declared.query.Query.{Query, Word, Phrase, All', 
 use Rattle.point_history.specs.declared.entry.Answer.{Answer}
 use Rattle.point_history.specs.Words.{words_of}
 
+-- two words are the same bytes
 abbrev pub same_bytes : List ℕ → List ℕ → Bool
 same_bytes [] [] = true
 same_bytes (a ∷ as') (b ∷ bs) = nat_eq a b && same_bytes as' bs
@@ -24,6 +25,7 @@ stands_in phrase [] = begins_with phrase []
 stands_in phrase (w ∷ words) = begins_with phrase (w ∷ words) || stands_in phrase words
 
 abbrev mutual
+  -- a query matches the words of a text: its word is among them, its phrase stands in them, all or some of its parts match, its part does not
   pub matches : Query → List (List ℕ) → Bool
   matches (Word w) words = list_any (same_bytes w) words
   matches (Phrase phrase) words = stands_in phrase words
@@ -81,7 +83,7 @@ abbrev mutual
   all_leaves end_of-Query = 0
   all_leaves (more_of-Query part parts) = leaves_of part + all_leaves parts
 
--- how many parts a query has
+-- how many parts there are
 abbrev pub count_parts : {n : _} → Row_of-Query n → ℕ
 count_parts end_of-Query = 0
 count_parts (more_of-Query part parts) = 1 + count_parts parts

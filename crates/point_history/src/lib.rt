@@ -27,7 +27,7 @@ mod tickets;
 mod written;
 
 pub use cause::{Cause, FaultKind, FaultPlan};
-pub use documents::{Texts, apply, change, listed};
+pub use documents::apply;
 pub use entry::{Answer, Entry, Event, History};
 pub use legality::legal;
 pub use matching::{matches, scan};

@@ -103,7 +103,7 @@ fn matching_keys(alloc: Global, docs: &[Doc], query: &Query) -> Result<Vec<Key>,
     Ok(keys)
 }
 
-/// How many documents match, and the first 20 of their keys.
+/// How many documents match, and the first 20 of their keys. The documents are fewer than 2^32.
 #[tactic(auto, using(crate::proofs::MatchingLemmas::lengths))]
 pub fn scan(alloc: Global, docs: &[Doc], query: &Query) -> Result<Answer, NoMemory>
     requires { length docs.now < 2 ^ 32 }
