@@ -1,6 +1,13 @@
 pub mod DocumentLemmas
 pub mod MatchingLemmas
+pub mod WalkLemmas
+pub mod PastLemmas
+pub mod NodeLemmas
+pub mod CommitLemmas
+pub mod PointLemmas
+pub mod AnswerLemmas
+pub mod LawLemmas
 pub mod WrittenLemmas
 pub mod TicketLemmas
-pub mod AnswerLemmas
+pub mod KeyLemmas
 pub mod ListingLemmas

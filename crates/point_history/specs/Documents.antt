@@ -1,5 +1,6 @@
 -- The documents that a list of operations leaves.
-use Rattle.std.specs.Prelude.{ℕ, List, [], ◌∷◌}
+use Rattle.std.specs.Prelude.{ℕ, List, [], ◌∷◌, map}
+use Rattle.std.specs.List.Sorted.{IsStrictlySortedBy}
 use Rattle.std.specs.Ordering.{nat_cmp, match_ordering}
 use Rattle.std.specs.Cmp.Lexicographic.{slice_cmp}
 use Rattle.std.specs.declared.cmp.Ordering.{Ordering}
@@ -9,7 +10,7 @@ use Rattle.point_history.specs.declared.operation.Op.TheVariants.{Put, Delete}
 
 -- keys are in the order of their bytes
 abbrev pub key_cmp : List ℕ → List ℕ → Ordering
-key_cmp a b = slice_cmp nat_cmp a b
+key_cmp = slice_cmp nat_cmp
 
 -- documents in ascending order of key, with this one in place of the one of its key
 abbrev pub with_doc : List Doc → Doc → List Doc
@@ -33,6 +34,10 @@ after_ops docs (op ∷ ops) = after_ops (after_op docs op) ops
 -- the documents that these operations leave, in ascending order of key
 abbrev pub documents_after : List Op → List Doc
 documents_after ops = after_ops [] ops
+
+-- the keys ascend, so no two documents have one key
+abbrev pub IsAscending : List Doc → Type 0
+IsAscending docs = IsStrictlySortedBy key_cmp (map (λ d. d.key) docs)
 
 -- an entry of a map from keys to texts, as a document
 abbrev pub document_of : List ℕ × List ℕ → Doc

@@ -12,3 +12,5 @@ pub mod Generations
 pub mod Origins
 pub mod Openings
 pub mod Legal
+pub mod Walks
+pub mod Laws

@@ -1,4 +1,4 @@
-use Rattle.point_history.proofs.AnswerLemmas.{keys_same}
+use Rattle.point_history.proofs.KeyLemmas.{keys_same}
 use Rattle.point_history.proofs.answers.same_keys.Goals as goal
 
 pub returns : goal.returns
