@@ -10,3 +10,4 @@ pub mod Faults
 pub mod Rules
 pub mod Legal
 pub mod Texts
+pub mod Printed
