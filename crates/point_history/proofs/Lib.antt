@@ -11,3 +11,5 @@ pub mod ListingLemmas
 pub mod PointLemmas
 pub mod TicketLemmas
 pub mod WrittenLemmas
+pub mod TextCuts
+pub mod TextLaws

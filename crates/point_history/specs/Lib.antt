@@ -15,3 +15,4 @@ pub mod Legal
 pub mod Walks
 pub mod Laws
 pub mod Texts
+pub mod Printed
