@@ -1,0 +1,41 @@
+-- What is answered to the text of a query.
+use Rattle.std.specs.Prelude.{◌≡◌, ℕ, ◌+◌, ◌-◌, ◌<◌, ◌≤◌, max, List, [], ◌∷◌, Bool, IsTrue, not, Result, Ok, Err}
+use Rattle.std.specs.List.{list_all}
+use Rattle.point_history.specs.declared.query.Query.{Query}
+use Rattle.point_history.specs.Matching.{depth_of, leaves_of}
+use Rattle.text_query.specs.declared.fault.QueryFault.{QueryFault}
+use Rattle.text_query.specs.declared.fault.QueryFault.TheVariants.{Memory, Empty, Syntax, TooDeep, TooMany}
+use Rattle.text_query.specs.declared.token.Token.{Token}
+use Rattle.text_query.specs.declared.token.Token.TheVariants.{Word, Phrase, Open, Close, And, Or, Not, Stray}
+use Rattle.text_query.specs.Tokens.{is_space, tokens_of, kinds_of}
+use Rattle.text_query.specs.Grammar.{SpellsQuery}
+use Rattle.text_query.specs.Syntax.{IsFirstBadToken}
+
+-- nothing but spaces
+abbrev pub is_blank : List ℕ → Bool
+is_blank text = list_all is_space text
+
+-- how many parentheses are open behind a token, where so many are open before it
+abbrev pub open_behind : ℕ → Token → ℕ
+open_behind level Open = level + 1
+open_behind level Close = level - 1
+open_behind level token = level
+
+-- the most parentheses that are open at once, where so many are open before the tokens
+abbrev pub most_open : ℕ → List Token → ℕ
+most_open level [] = level
+most_open level (token ∷ tokens) = max level (most_open (open_behind level token) tokens)
+
+-- how deep a text with this tree goes: by its parentheses or by its tree, whichever is more
+abbrev pub depth_with : List ℕ → Query → ℕ
+depth_with text query = max (most_open 0 (kinds_of (tokens_of text))) (depth_of query)
+
+-- the answer that is due to a text, want of memory apart
+abbrev pub IsDue : List ℕ → Result Query QueryFault → Type 0
+IsDue text (Ok query) = SpellsQuery text query × (depth_with text query ≤ 32) × (leaves_of query ≤ 64)
+IsDue text (Err Empty) = IsTrue (is_blank text)
+IsDue text (Err (Syntax at)) = IsTrue (not (is_blank text)) × IsFirstBadToken text at
+IsDue text (Err TooDeep) = (query : Query) × SpellsQuery text query × (32 < depth_with text query)
+IsDue text (Err TooMany) =
+    (query : Query) × SpellsQuery text query × (depth_with text query ≤ 32) × (64 < leaves_of query)
+IsDue text (Err Memory) = ⊥

@@ -1,0 +1,5 @@
+pub mod Tokens
+pub mod Grammar
+pub mod Syntax
+pub mod States
+pub mod Answers

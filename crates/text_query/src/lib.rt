@@ -1,0 +1,8 @@
+//! The text of a query: its words, its tokens, and the query that it spells.
+#![tactic(auto)]
+
+mod fault;
+mod syntax;
+mod token;
+
+pub use fault::QueryFault;
