@@ -1,11 +1,13 @@
 -- The states tell from which tokens a query goes on.
 use Rattle.std.proofs.Common.{◌≡◌, ℕ, zero, suc, List, [], ◌∷◌, ◌++◌, Bool, true, false, Option, Some, None, refl, ap, sym, ◌∙◌, subst, append_assoc, length, arith}
 use Rattle.std.specs.Prelude.{option_and_then}
+use Rattle.std.proofs.lemmas.List.{append-nil}
 use Rattle.text_query.specs.declared.syntax.State.{State}
 use Rattle.text_query.specs.declared.token.Token.{Token}
 use Rattle.text_query.specs.declared.token.Token.TheVariants.{Word, Phrase, Open, Close, And, Or, Not, Stray}
 use Rattle.text_query.specs.Grammar.{QueryReading, ConjReading, UnaryReading, last_conj, conj_or, last_unary, unary_and, not_unary, word, phrase, parenthesised, query_tokens, conj_tokens, unary_tokens}
 use Rattle.text_query.specs.Syntax.{IsQuery, GoesOn}
+use Rattle.text_query.proofs.Suffixes.{query_from_state}
 use Rattle.text_query.specs.States.{state, closed, state_behind, state_after}
 
 -- Behind an operand an operator is expected, and as many parentheses are open as before it.
@@ -23,3 +25,51 @@ mutual
   unary_state (word w) n rest = refl
   unary_state (phrase words) n rest = refl
   unary_state (parenthesised q) n rest = rw (append_assoc (query_tokens q) (Close ∷ []) rest) (query_state q (suc n) (Close ∷ rest))
+
+state_after-append : (s : State) (tokens more : List Token) → state_after s (tokens ++ more) ≡ option_and_then (λ r. state_after r more) (state_after s tokens)
+state_after-append s [] more = refl
+state_after-append s (token ∷ tokens) more = append_step (state_behind s token) tokens more (λ r. state_after-append r tokens more)
+  where
+    append_step : (o : Option State) (tokens more : List Token) → ((r : State) → state_after r (tokens ++ more) ≡ option_and_then (λ q. state_after q more) (state_after r tokens))
+        → option_and_then (λ r. state_after r (tokens ++ more)) o ≡ option_and_then (λ r. state_after r more) (option_and_then (λ r. state_after r tokens) o)
+    append_step None tokens more each = refl
+    append_step (Some r) tokens more each = each r
+
+-- what closes so many parentheses
+closing : ℕ → List Token
+closing zero = []
+closing (suc n) = Close ∷ closing n
+
+state-closing : (n : ℕ) → state_after (state false n) (closing n) ≡ Some (state false zero)
+unfolding closing
+state-closing zero = refl
+state-closing (suc n) = state-closing n
+
+-- a text that ends a query from a state
+ending : Bool → ℕ → List Token
+ending true n = Word (97 ∷ []) ∷ closing n
+ending false n = closing n
+
+state-ending : (expects : Bool) (n : ℕ) → state_after (state expects n) (ending expects n) ≡ Some (state false zero)
+unfolding ending
+state-ending true n = state-closing n
+state-ending false n = state-closing n
+
+-- where there is a state, a query goes on
+pub goes_on_from_state : (tokens : List Token) (s : State) → state_after (state true zero) tokens ≡ Some s → GoesOn tokens
+goes_on_from_state tokens s e =
+    let more = ending s.expects_operand s.opened in
+    (more, query_from_state (tokens ++ more)
+        (state_after-append (state true zero) tokens more ∙ (ap (option_and_then (λ r. state_after r more)) e ∙ state-ending s.expects_operand s.opened)))
+
+-- a query is read to its end
+pub state_from_query : (tokens : List Token) → IsQuery tokens → state_after (state true zero) tokens ≡ Some (state false zero)
+state_from_query tokens (q, e) = ap (state_after (state true zero)) (sym e ∙ sym (append-nil (query_tokens q))) ∙ query_state q zero []
+
+no_state : (s : State) → None ≡ Some s → ⊥
+no_state s e = cc
+
+-- where there is no state, no query goes on
+pub stops_from_state : (tokens : List Token) → state_after (state true zero) tokens ≡ None → GoesOn tokens → ⊥
+stops_from_state tokens e (more, q) =
+    no_state (state false zero) (ap (option_and_then (λ r. state_after r more)) (sym e) ∙ (sym (state_after-append (state true zero) tokens more) ∙ state_from_query (tokens ++ more) q))
