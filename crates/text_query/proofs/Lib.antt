@@ -1,2 +1,3 @@
 pub mod Suffixes
 pub mod SyntaxLemmas
+pub mod TokenLemmas

@@ -44,22 +44,24 @@ token_of_quote text =
 abbrev pub token_of_byte : ℕ → Token
 token_of_byte b = if b == 40 then Open else if b == 41 then Close else Stray
 
--- the token that begins with a byte, before this text
-abbrev pub token_at : ℕ → List ℕ → Token
-token_at b text =
+-- the token that a text begins with
+abbrev pub token_at : List ℕ → Token
+token_at [] = Stray
+token_at (b ∷ text) =
     if is_alphanumeric b then token_of_run (run_of (b ∷ text)) else if is_quote b then token_of_quote text else token_of_byte b
 
--- how many bytes of the text behind its first byte that token takes
-abbrev pub bytes_behind : ℕ → List ℕ → ℕ
-bytes_behind b text =
+-- how many bytes that token takes behind its first
+abbrev pub bytes_behind : List ℕ → ℕ
+bytes_behind [] = 0
+bytes_behind (b ∷ text) =
     if is_alphanumeric b then length (run_of text) else if is_quote b then length (quoted_of text) + 1 else 0
 
--- the tokens of what follows the place `at`, without the bytes that a token before it takes
+-- the tokens of what stands from the place `at` on, without the bytes that a token before it takes
 abbrev pub tokens_from : ℕ → ℕ → List ℕ → List Placed
 tokens_from taken at [] = []
 tokens_from zero at (b ∷ text) =
     if is_space b then tokens_from zero (at + 1) text
-    else record { at = at; token = token_at b text } ∷ tokens_from (bytes_behind b text) (at + 1) text
+    else record { at = at; token = token_at (b ∷ text) } ∷ tokens_from (bytes_behind (b ∷ text)) (at + 1) text
 tokens_from (suc taken) at (b ∷ text) = tokens_from taken (at + 1) text
 
 -- the tokens of a text, each with the place of its first byte

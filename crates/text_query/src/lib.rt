@@ -6,3 +6,4 @@ mod syntax;
 mod token;
 
 pub use fault::QueryFault;
+pub use point_history::words;
