@@ -1,5 +1,5 @@
 -- The tokens of a text.
-use Rattle.std.specs.Prelude.{ℕ, ◌+◌, ◌-◌, zero, suc, List, [], ◌∷◌, length, map, take_while, codes, Bool, not, ◌==◌, nat_eq, nat_lt, if◌then◌else◌}
+use Rattle.std.specs.Prelude.{ℕ, ◌+◌, ◌-◌, zero, suc, List, [], ◌∷◌, length, map, take_while, codes, Bool, true, false, not, ◌==◌, nat_eq, nat_lt, if◌then◌else◌}
 use Rattle.std.specs.Cmp.Lexicographic.{pointwise}
 use Rattle.point_history.specs.Words.{is_alphanumeric, lower, words_of}
 use Rattle.text_query.specs.declared.token.Token.{Token}
@@ -71,3 +71,9 @@ tokens_of text = tokens_from 0 0 text
 -- the tokens without their places
 abbrev pub kinds_of : List Placed → List Token
 kinds_of tokens = map (λ placed. placed.token) tokens
+
+-- a word or a phrase, which is a leaf of the tree
+abbrev pub is_leaf : Token → Bool
+is_leaf (Word w) = true
+is_leaf (Phrase words) = true
+is_leaf token = false
