@@ -1,12 +1,10 @@
 -- The faults that the entries before a place show.
-use Rattle.std.specs.Prelude.{ℕ, ◌≡◌, List, [], ◌∷◌, Bool, true, false, ◌&&◌, ◌||◌, ◌==◌, not, if◌then◌else◌, Option, Some, None}
+use Rattle.std.specs.Prelude.{ℕ, [], ◌∷◌, Bool, true, false, ◌&&◌, ◌||◌, ◌==◌, if◌then◌else◌}
 use Rattle.nrt_base.specs.declared.numbers.At.{At}
-use Rattle.nrt_base.specs.declared.numbers.NodeNo.{NodeNo}
 use Rattle.point_history.specs.declared.cause.FaultKind.{FaultKind}
 use Rattle.point_history.specs.declared.cause.FaultKind.TheVariants.{Link, Damage, Disk, Stop}
 use Rattle.point_history.specs.declared.cause.FaultPlan.{FaultPlan}
 use Rattle.point_history.specs.declared.cause.FaultPlan.TheVariants.{Link as LinkPlan, Damage as DamagePlan, Disk as DiskPlan, Stop as StopPlan}
-use Rattle.point_history.specs.declared.entry.Entry.{Entry}
 use Rattle.point_history.specs.declared.entry.Event.{Event}
 use Rattle.point_history.specs.declared.entry.Event.TheVariants.{Planned, Fault, Crashed}
 use Rattle.point_history.specs.Nodes.{Past}

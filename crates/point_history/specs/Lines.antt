@@ -1,11 +1,10 @@
 -- What the entries before a place show of one line of the script: how far it has come, and what happened since it began.
-use Rattle.std.specs.Prelude.{ℕ, ◌≡◌, List, [], ◌∷◌, Bool, true, false, ◌&&◌, ◌||◌, not, ◌==◌, if◌then◌else◌, Option, Some, None}
+use Rattle.std.specs.Prelude.{ℕ, ◌≡◌, [], ◌∷◌, Bool, true, false, ◌&&◌, ◌||◌, not, ◌==◌, if◌then◌else◌, Option, Some, None}
 use Rattle.nrt_base.specs.declared.numbers.At.{At}
 use Rattle.nrt_base.specs.declared.numbers.NodeNo.{NodeNo}
-use Rattle.point_history.specs.declared.entry.Entry.{Entry}
 use Rattle.point_history.specs.declared.entry.Event.{Event}
-use Rattle.point_history.specs.declared.entry.Event.TheVariants.{Publishing, Published, Copying, Switched, Settling, Opened, Asking, Committing, Committed, Crashed, Fault}
-use Rattle.point_history.specs.Nodes.{Past, primary_of, is_at, crashes, primary_crashes, is_running}
+use Rattle.point_history.specs.declared.entry.Event.TheVariants.{Publishing, Copying, Switched, Settling, Opened, Asking, Committing, Crashed, Fault}
+use Rattle.point_history.specs.Nodes.{Past, primary_of, is_at, crashes, primary_crashes}
 
 -- the two are one line of the script
 abbrev pub same_at : At → At → Bool

@@ -1,6 +1,6 @@
 -- Which documents a query matches, and what a search answers.
-use Rattle.std.specs.Prelude.{ℕ, List, [], ◌∷◌, Bool, true, false, ◌||◌, ◌&&◌, not, nat_eq, take, map, filter, count_by}
-use Rattle.std.specs.List.{list_any, starts_with}
+use Rattle.std.specs.Prelude.{ℕ, ◌+◌, max, nat_le, length, List, [], ◌∷◌, Bool, true, false, ◌||◌, ◌&&◌, not, nat_eq, take, map, filter, count_by}
+use Rattle.std.specs.List.{list_any}
 use Rattle.nrt_base.specs.declared.doc.Doc.{Doc}
 use Rattle.point_history.specs.declared.query.Query.{Query, Word, Phrase, All', Any', Not', Row_of-Query, end_of-Query, more_of-Query}
 use Rattle.point_history.specs.declared.entry.Answer.{Answer}
@@ -55,7 +55,50 @@ scan_of docs query =
       keys = take 20 (map (λ d. d.key) (filter (matches_doc query) docs));
     }
 
--- the query is a single word
-abbrev pub is_word_query : Query → Bool
-is_word_query (Word w) = true
-is_word_query q = false
+abbrev mutual
+  -- a leaf has depth 1; every other query is one deeper than its deepest part
+  pub depth_of : Query → ℕ
+  depth_of (Word w) = 1
+  depth_of (Phrase phrase) = 1
+  depth_of (All' shape parts) = 1 + deepest parts
+  depth_of (Any' shape parts) = 1 + deepest parts
+  depth_of (Not' shape parts) = 1 + deepest parts
+
+  pub deepest : {n : _} → Row_of-Query n → ℕ
+  deepest end_of-Query = 0
+  deepest (more_of-Query part parts) = max (depth_of part) (deepest parts)
+
+abbrev mutual
+  -- words and phrases are leaves
+  pub leaves_of : Query → ℕ
+  leaves_of (Word w) = 1
+  leaves_of (Phrase phrase) = 1
+  leaves_of (All' shape parts) = all_leaves parts
+  leaves_of (Any' shape parts) = all_leaves parts
+  leaves_of (Not' shape parts) = all_leaves parts
+
+  pub all_leaves : {n : _} → Row_of-Query n → ℕ
+  all_leaves end_of-Query = 0
+  all_leaves (more_of-Query part parts) = leaves_of part + all_leaves parts
+
+-- how many parts a query has
+abbrev pub count_parts : {n : _} → Row_of-Query n → ℕ
+count_parts end_of-Query = 0
+count_parts (more_of-Query part parts) = 1 + count_parts parts
+
+abbrev mutual
+  -- a phrase has at least two words, an `All` and an `Any` at least two parts
+  pub has_form : Query → Bool
+  has_form (Word w) = true
+  has_form (Phrase phrase) = nat_le 2 (length phrase)
+  has_form (All' shape parts) = nat_le 2 (count_parts parts) && all_have_form parts
+  has_form (Any' shape parts) = nat_le 2 (count_parts parts) && all_have_form parts
+  has_form (Not' shape parts) = all_have_form parts
+
+  pub all_have_form : {n : _} → Row_of-Query n → Bool
+  all_have_form end_of-Query = true
+  all_have_form (more_of-Query part parts) = has_form part && all_have_form parts
+
+-- a query is well-formed where its phrases and parts are no fewer than two, its depth is at most 32, and it has at most 64 leaves
+abbrev pub is_well_formed : Query → Bool
+is_well_formed query = has_form query && nat_le (depth_of query) 32 && nat_le (leaves_of query) 64

@@ -1,18 +1,15 @@
 -- The points that the entries before a place show: which operations each has, and so which documents.
-use Rattle.std.specs.Prelude.{ℕ, ◌≡◌, ◌≤◌, ◌+◌, List, [], ◌∷◌, ◌++◌, Bool, true, false, ◌&&◌, ◌||◌, ◌==◌, length, drop, nat_le, if◌then◌else◌, Option, Some, None}
+use Rattle.std.specs.Prelude.{ℕ, ◌+◌, List, [], ◌∷◌, ◌++◌, Bool, true, false, ◌&&◌, ◌==◌, drop, nat_le, if◌then◌else◌}
 use Rattle.std.specs.List.{list_any}
 use Rattle.nrt_base.specs.declared.doc.Doc.{Doc}
 use Rattle.nrt_base.specs.declared.numbers.At.{At}
-use Rattle.nrt_base.specs.declared.numbers.Gen.{Gen}
-use Rattle.nrt_base.specs.declared.numbers.Version.{Version}
 use Rattle.point_history.specs.declared.operation.Op.{Op}
 use Rattle.point_history.specs.declared.operation.Op.TheVariants.{Put, Delete}
-use Rattle.point_history.specs.declared.entry.Entry.{Entry}
 use Rattle.point_history.specs.declared.entry.Event.{Event}
 use Rattle.point_history.specs.declared.entry.Event.TheVariants.{Accepted, Publishing, Published, Promoted, Merging}
 use Rattle.point_history.specs.declared.point.Point.{Point}
 use Rattle.point_history.specs.Documents.{documents_after}
-use Rattle.point_history.specs.Nodes.{Past, version_of, newest_version, generation_of}
+use Rattle.point_history.specs.Nodes.{Past, version_of}
 use Rattle.point_history.specs.Lines.{same_at, is_start, before_start}
 
 abbrev pub written_by : Event → Past → (ℕ → List Op) → List Op → List Op

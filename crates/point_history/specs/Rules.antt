@@ -14,7 +14,6 @@ use Rattle.point_history.specs.declared.cause.Cause.{Cause}
 use Rattle.point_history.specs.declared.cause.Cause.TheVariants.{Lost, Cancelled, LinkFault, Damaged, DiskFault}
 use Rattle.point_history.specs.declared.cause.FaultKind.{FaultKind}
 use Rattle.point_history.specs.declared.cause.FaultKind.TheVariants.{Link, Damage, Disk, Stop}
-use Rattle.point_history.specs.declared.entry.Entry.{Entry}
 use Rattle.point_history.specs.declared.entry.Event.{Event}
 use Rattle.point_history.specs.declared.entry.Event.TheVariants.{Publishing, Published, Copying, Switched, Settling, Opened, Asking, Committing}
 use Rattle.point_history.specs.Matching.{scan_of}

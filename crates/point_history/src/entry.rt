@@ -16,25 +16,52 @@ pub struct Answer {
 #[derive(Debug, Drop)]
 pub enum Event {
     /// The primary accepted an operation; `seq` counts them over the whole run, from 1.
-    Accepted { seq: u32, op: Op },
+    Accepted {
+        seq: u32,
+        op: Op,
+    },
     /// A publish began.
     Publishing,
     /// A publish made the point of this version.
-    Published { generation: Gen, v: Version },
+    Published {
+        generation: Gen,
+        v: Version,
+    },
     /// A copy to the node began, when this version was the newest.
-    Copying { n: NodeNo, v: Version },
+    Copying {
+        n: NodeNo,
+        v: Version,
+    },
     /// The node searches this version from now on.
-    Switched { n: NodeNo, v: Version },
+    Switched {
+        n: NodeNo,
+        v: Version,
+    },
     /// A copy to the node ended, and this is the version that the node searches.
-    Copied { n: NodeNo, v: Version },
+    Copied {
+        n: NodeNo,
+        v: Version,
+    },
     /// A copy to every running replica began, when this version was the newest.
-    Settling { v: Version },
+    Settling {
+        v: Version,
+    },
     /// Every replica that ran when it began, and has not crashed since, is at this version or above.
-    Settled { v: Version },
+    Settled {
+        v: Version,
+    },
     /// A ticket of the lane was opened, or, with ticket 0, a search began.
-    Opened { n: NodeNo, t: TicketNo, v: Version },
+    Opened {
+        n: NodeNo,
+        t: TicketNo,
+        v: Version,
+    },
     /// A search at a ticket of the lane began.
-    Asking { n: NodeNo, t: TicketNo, v: Version },
+    Asking {
+        n: NodeNo,
+        t: TicketNo,
+        v: Version,
+    },
     /// A search was answered.
     Answered {
         n: NodeNo,
@@ -44,15 +71,29 @@ pub enum Event {
         answer: Answer,
     },
     /// A ticket of the lane was closed.
-    Closed { n: NodeNo, t: TicketNo },
+    Closed {
+        n: NodeNo,
+        t: TicketNo,
+    },
     /// A commit of the version that the node searches began.
-    Committing { n: NodeNo, v: Version },
+    Committing {
+        n: NodeNo,
+        v: Version,
+    },
     /// A commit was acknowledged.
-    Committed { n: NodeNo, v: Version },
+    Committed {
+        n: NodeNo,
+        v: Version,
+    },
     /// The node crashed.
-    Crashed { n: NodeNo },
+    Crashed {
+        n: NodeNo,
+    },
     /// The node runs again, as a replica, at this version.
-    Reopened { n: NodeNo, v: Version },
+    Reopened {
+        n: NodeNo,
+        v: Version,
+    },
     /// The node is the primary of a new generation, whose first point has version `v`, one above `forced`.
     Promoted {
         n: NodeNo,
@@ -61,17 +102,33 @@ pub enum Event {
         v: Version,
     },
     /// A merge into this segment began.
-    Merging { seg: SegNo },
+    Merging {
+        seg: SegNo,
+    },
     /// The line did this many tasks, of at most so many.
-    Drained { done: u32, most: u32 },
+    Drained {
+        done: u32,
+        most: u32,
+    },
     /// The names in the node's directory, in ascending order.
-    Files { n: NodeNo, names: List<FileName> },
+    Files {
+        n: NodeNo,
+        names: List<FileName>,
+    },
     /// A fault was planned at the node.
-    Planned { n: NodeNo, plan: FaultPlan },
+    Planned {
+        n: NodeNo,
+        plan: FaultPlan,
+    },
     /// A planned fault was met at the node.
-    Fault { n: NodeNo, kind: FaultKind },
+    Fault {
+        n: NodeNo,
+        kind: FaultKind,
+    },
     /// The line was refused.
-    Refused { cause: Cause },
+    Refused {
+        cause: Cause,
+    },
 }
 
 /// What happened, and the line of the script that it belongs to.

@@ -1,4 +1,7 @@
-use nrt_base::{Boxed, List, Word};
+ghost use Rattle.std.specs.Prelude.{◌≡◌, IfOk};
+
+use nrt_base::{Boxed, List, NoMemory, Share, Word};
+use std::alloc::Global;
 
 /// What a search looks for.
 ///
@@ -16,4 +19,37 @@ pub enum Query {
     Any(List<Query>),
     /// The part does not match.
     Not(Boxed<Query>),
+}
+
+impl Share for Query {
+    fn share(&self, alloc: Global) -> Result<Self, NoMemory> {
+        share_query(alloc, self)
+    }
+}
+
+#[cycle(share)]
+fn share_query(alloc: Global, query: &Query) -> Result<Query, NoMemory>
+    ensures { IfOk result (λ copy. copy ≡ query.now) }
+{
+    match query {
+        Query::Word(word) => Ok(Query::Word(word.share(alloc)?)),
+        Query::Phrase(words) => Ok(Query::Phrase(words.share(alloc)?)),
+        Query::All(parts) => Ok(Query::All(share_queries(alloc, parts)?)),
+        Query::Any(parts) => Ok(Query::Any(share_queries(alloc, parts)?)),
+        Query::Not(part) => {
+            let copy = share_query(alloc, part.as_ref())?;
+            Ok(Query::Not(Boxed::new(alloc, copy)?))
+        }
+    }
+}
+
+#[cycle(share)]
+fn share_queries(alloc: Global, queries: &List<Query>) -> Result<List<Query>, NoMemory>
+    ensures { IfOk result (λ copy. copy ≡ queries.now) }
+{
+    let mut copies = Vec::with_capacity(alloc, queries.as_slice().len())?;
+    for query in queries.as_slice() {
+        copies.push(share_query(alloc, query)?)?;
+    }
+    Ok(List::from_vec(copies))
 }
