@@ -1,7 +1,9 @@
 -- The states tell from which tokens a query goes on.
-use Rattle.std.proofs.Common.{◌≡◌, ℕ, zero, suc, List, [], ◌∷◌, ◌++◌, Bool, true, false, Option, Some, None, refl, ap, sym, ◌∙◌, subst, append_assoc, length, arith}
+use Rattle.std.proofs.Common.{◌≡◌, ℕ, zero, suc, List, [], ◌∷◌, ◌++◌, Bool, true, false, Option, Some, None, refl, ap, sym, ◌∙◌, subst, append_assoc, length, take, drop, get_or, ◌+◌, ◌≤◌, ◌<◌, arith}
 use Rattle.std.specs.Prelude.{option_and_then}
-use Rattle.std.proofs.lemmas.List.{append-nil}
+use Rattle.std.proofs.lemmas.List.{append-nil, take_more, map-append}
+use Rattle.text_query.specs.declared.token.Placed.{Placed}
+use Rattle.text_query.specs.Tokens.{kinds_of}
 use Rattle.text_query.specs.declared.syntax.State.{State}
 use Rattle.text_query.specs.declared.token.Token.{Token}
 use Rattle.text_query.specs.declared.token.Token.TheVariants.{Word, Phrase, Open, Close, And, Or, Not, Stray}
@@ -73,3 +75,50 @@ no_state s e = cc
 pub stops_from_state : (tokens : List Token) → state_after (state true zero) tokens ≡ None → GoesOn tokens → ⊥
 stops_from_state tokens e (more, q) =
     no_state (state false zero) (ap (option_and_then (λ r. state_after r more)) (sym e) ∙ (sym (state_after-append (state true zero) tokens more) ∙ state_from_query (tokens ++ more) q))
+
+-- one token more
+state_after-last : (s : State) (tokens : List Token) (token : Token) → state_after s (tokens ++ token ∷ []) ≡ option_and_then (λ r. state_behind r token) (state_after s tokens)
+state_after-last s tokens token = state_after-append s tokens (token ∷ []) ∙ last_step (state_after s tokens) token
+  where
+    one_step : (o : Option State) → option_and_then Some o ≡ o
+    one_step None = refl
+    one_step (Some r) = refl
+
+    last_step : (o : Option State) (token : Token) → option_and_then (λ r. option_and_then Some (state_behind r token)) o ≡ option_and_then (λ r. state_behind r token) o
+    last_step None token = refl
+    last_step (Some r) token = one_step (state_behind r token)
+
+-- the state behind one token more of a text
+pub state_after-more : (s : State) (tokens : List Placed) (i : ℕ) (placed : Placed) → i < length tokens → placed ≡ get_or tokens i placed
+    → state_after s (kinds_of (take (i + 1) tokens)) ≡ option_and_then (λ r. state_behind r placed.token) (state_after s (kinds_of (take i tokens)))
+state_after-more s tokens i placed some here =
+    ap (λ (ts : List Placed). state_after s (kinds_of ts)) (take_more tokens i placed some ∙ ap (λ (p : Placed). take i tokens ++ p ∷ []) (sym here))
+    ∙ (ap (state_after s) (map-append (λ (p : Placed). p.token) (take i tokens) (placed ∷ []))
+    ∙ state_after-last s (kinds_of (take i tokens)) placed.token)
+
+-- how many parentheses are open in a state
+abbrev opened_in : Option State → ℕ
+opened_in None = zero
+opened_in (Some s) = s.opened
+
+opened_step : (expects : Bool) (n : ℕ) (token : Token) → opened_in (state_behind (state expects n) token) ≤ suc n
+opened_step true n (Word w) = omega arith
+opened_step false n (Word w) = omega arith
+opened_step true n (Phrase words) = omega arith
+opened_step false n (Phrase words) = omega arith
+opened_step true n Open = omega arith
+opened_step false n Open = omega arith
+opened_step true n Close = omega arith
+opened_step false zero Close = omega arith
+opened_step false (suc n) Close = omega arith
+opened_step true n And = omega arith
+opened_step false n And = omega arith
+opened_step true n Or = omega arith
+opened_step false n Or = omega arith
+opened_step true n Not = omega arith
+opened_step false n Not = omega arith
+opened_step expects n Stray = omega arith
+
+-- a token opens one parenthesis at most
+pub opened_behind : (s r : State) (token : Token) → state_behind s token ≡ Some r → r.opened ≤ s.opened + 1
+opened_behind s r token e = omega (arith, opened_step s.expects_operand s.opened token, ap opened_in e)
