@@ -1,3 +1,5 @@
+pub mod LevelLemmas
 pub mod Suffixes
 pub mod SyntaxLemmas
 pub mod TokenLemmas
+pub mod TreeLemmas

@@ -1,6 +1,7 @@
 //! The text of a query: its words, its tokens, and the query that it spells.
 #![tactic(auto)]
 
+mod build;
 mod fault;
 mod syntax;
 mod token;
