@@ -1,4 +1,5 @@
 pub mod LevelLemmas
+pub mod ReadingLemmas
 pub mod Suffixes
 pub mod SyntaxLemmas
 pub mod TokenLemmas

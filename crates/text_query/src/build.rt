@@ -1,9 +1,14 @@
-ghost use Rattle.std.specs.Prelude.{◌≡◌, ◌≢◌, ◌<◌, ◌++◌, ◌∷◌, [], length, IfOk, OnOk, MatchOption};
+ghost use Rattle.std.specs.Prelude.{◌≡◌, ◌≢◌, ◌+◌, ◌<◌, ◌≤◌, ◌++◌, ◌∷◌, [], length, IfOk, OnOk, MatchOption};
+ghost use Rattle.point_history.specs.declared.query.Query.{Query};
 ghost use Rattle.point_history.specs.Matching.{depth_of};
 ghost use Rattle.text_query.specs.Depths.{deepest_in};
 ghost use Rattle.text_query.specs.Grammar.{all_of, any_of};
-ghost use Rattle.text_query.specs.Levels.{negated_of, joined_of};
+ghost use Rattle.text_query.specs.Levels.{negated_of, joined_of, empty_level, with_operand as with_operand_lem, with_or as with_or_lem, level_tree, level_depth, closed_level, levels_of, levels_behind, levels_depth};
+ghost use Rattle.text_query.specs.Grammar.{ReadsAs};
+ghost use Rattle.text_query.specs.Syntax.{IsQuery};
+ghost use Rattle.text_query.specs.Tokens.{kinds_of};
 
+use crate::token::{Placed, Token};
 use nrt_base::{Boxed, List, NoMemory};
 use point_history::Query;
 use std::alloc::Global;
@@ -150,4 +155,203 @@ impl Parts {
             depth: deepest + 1,
         })
     }
+}
+
+/// What was read within a parenthesis that is open, or of the whole text.
+#[derive(Debug, Drop)]
+struct Level {
+    /// The parts before the last `OR`.
+    any: Parts,
+    /// The operands behind it.
+    all: Parts,
+    /// How many `NOT` the next operand has.
+    nots: u8,
+}
+
+impl Level {
+    fn new(alloc: Global) -> Level
+        ensures { result ≡ empty_level }
+    {
+        Level {
+            any: Parts::new(alloc),
+            all: Parts::new(alloc),
+            nots: 0,
+        }
+    }
+
+    /// An operand more, unless that is too deep.
+    fn with_operand(self, alloc: Global, part: Part) -> Result<Option<Level>, NoMemory>
+        ensures { IfOk result (λ found. MatchOption found
+            (32 < level_depth (with_operand_lem self part)) (λ level. level ≡ with_operand_lem self part)) }
+    {
+        let Level { any, all, nots } = self;
+        let Some(part) = part.negated(alloc, nots)? else {
+            return Ok(None);
+        };
+        Ok(Some(Level {
+            any,
+            all: all.with(part)?,
+            nots: 0,
+        }))
+    }
+
+    /// The level behind `OR`, unless its parts are too deep.
+    fn with_or(self, alloc: Global) -> Result<Option<Level>, NoMemory>
+        ensures { IfOk result (λ found. MatchOption found
+            (32 < level_depth (with_or_lem self)) (λ level. level ≡ with_or_lem self)) }
+    {
+        let Level { any, all, nots } = self;
+        let Some(part) = all.joined(Join::And) else {
+            return Ok(None);
+        };
+        Ok(Some(Level {
+            any: any.with(part)?,
+            all: Parts::new(alloc),
+            nots,
+        }))
+    }
+
+    /// The level behind `NOT`, unless that is too deep.
+    fn with_not(self) -> Option<Level>
+        ensures { MatchOption result (32 < self.nots + 1)
+            (λ level. level ≡ record { any = self.any; all = self.all; nots = self.nots + 1 }) }
+    {
+        let Level { any, all, nots } = self;
+        if nots >= 32 {
+            return None;
+        }
+        Some(Level {
+            any,
+            all,
+            nots: nots + 1,
+        })
+    }
+
+    /// The tree of the level, unless it is too deep.
+    fn tree(self) -> Result<Option<Part>, NoMemory>
+        ensures { IfOk result (λ found. MatchOption found
+            (32 < depth_of (level_tree self)) (λ part. part ≡ level_tree self)) }
+    {
+        let Level { any, all, .. } = self;
+        let Some(part) = all.joined(Join::And) else {
+            return Ok(None);
+        };
+        Ok(any.with(part)?.joined(Join::Or))
+    }
+}
+
+/// A tree that is put together token by token.
+#[derive(Debug, Drop)]
+struct Builder {
+    /// The level of the innermost parenthesis that is open.
+    inner: Level,
+    /// The levels around it, the nearest last.
+    outer: Vec<Level>,
+}
+
+impl Builder {
+    fn new(alloc: Global) -> Builder
+        ensures { levels_of result ≡ (empty_level, []) }
+    {
+        Builder {
+            inner: Level::new(alloc),
+            outer: Vec::new(alloc),
+        }
+    }
+
+    /// A leaf more, unless it is too deep.
+    fn with_leaf(self, alloc: Global, leaf: Query) -> Result<Option<Builder>, NoMemory>
+        requires { depth_of leaf ≡ 1 }
+        ensures { IfOk result (λ found. MatchOption found
+            (32 < level_depth (with_operand_lem self.inner leaf))
+            (λ builder. levels_of builder ≡ (with_operand_lem self.inner leaf, (levels_of self).1))) }
+    {
+        let Builder { inner, outer } = self;
+        let Some(inner) = inner.with_operand(alloc, Part::leaf(leaf))? else {
+            return Ok(None);
+        };
+        Ok(Some(Builder { inner, outer }))
+    }
+
+    fn opened(self, alloc: Global) -> Result<Builder, NoMemory>
+        ensures { IfOk result (λ builder. levels_of builder ≡ (empty_level, self.inner ∷ (levels_of self).1)) }
+    {
+        let Builder { inner, mut outer } = self;
+        outer.push(inner)?;
+        Ok(Builder {
+            inner: Level::new(alloc),
+            outer,
+        })
+    }
+
+    /// The innermost parenthesis closed, unless its tree is too deep.
+    fn closed(self, alloc: Global) -> Result<Option<Builder>, NoMemory>
+        ensures { IfOk result (λ found. MatchOption found
+            (32 < levels_depth (closed_level self.inner (levels_of self).1))
+            (λ builder. levels_of builder ≡ closed_level self.inner (levels_of self).1)) }
+    {
+        let Builder { inner, mut outer } = self;
+        let Some(around) = outer.pop() else {
+            return Ok(Some(Builder { inner, outer }));
+        };
+        let Some(part) = inner.tree()? else {
+            return Ok(None);
+        };
+        let Some(inner) = around.with_operand(alloc, part)? else {
+            return Ok(None);
+        };
+        Ok(Some(Builder { inner, outer }))
+    }
+
+    /// The tree behind a token, unless it is too deep.
+    fn with(self, alloc: Global, token: Token) -> Result<Option<Builder>, NoMemory>
+        ensures { IfOk result (λ found. MatchOption found
+            (32 < levels_depth (levels_behind (levels_of self) token))
+            (λ builder. levels_of builder ≡ levels_behind (levels_of self) token)) }
+    {
+        match token {
+            Token::Word(word) => self.with_leaf(alloc, Query::Word(word)),
+            Token::Phrase(words) => self.with_leaf(alloc, Query::Phrase(words)),
+            Token::Open => Ok(Some(self.opened(alloc)?)),
+            Token::Close => self.closed(alloc),
+            Token::Or => {
+                let Builder { inner, outer } = self;
+                let Some(inner) = inner.with_or(alloc)? else {
+                    return Ok(None);
+                };
+                Ok(Some(Builder { inner, outer }))
+            }
+            Token::Not => {
+                let Builder { inner, outer } = self;
+                let Some(inner) = inner.with_not() else {
+                    return Ok(None);
+                };
+                Ok(Some(Builder { inner, outer }))
+            }
+            Token::And | Token::Stray => Ok(Some(self)),
+        }
+    }
+}
+
+/// The tree of the tokens of a query, unless it is too deep.
+pub fn build(alloc: Global, tokens: Vec<Placed>) -> Result<Option<Query>, NoMemory>
+    requires { IsQuery (kinds_of tokens.items) }
+    ensures { IfOk result (λ found. MatchOption found
+        ((query : Query) × ReadsAs (kinds_of tokens.items) query × (32 < depth_of query))
+        (λ query. ReadsAs (kinds_of tokens.items) query × (depth_of query ≤ 32))) }
+{
+    let mut builder = Builder::new(alloc);
+    for placed in tokens {
+        let Placed { token, .. } = placed;
+        let Some(behind) = builder.with(alloc, token)? else {
+            return Ok(None);
+        };
+        builder = behind;
+    }
+    let Builder { inner, .. } = builder;
+    let Some(part) = inner.tree()? else {
+        return Ok(None);
+    };
+    let Part { query, .. } = part;
+    Ok(Some(query))
 }
