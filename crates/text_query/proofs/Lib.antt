@@ -1,3 +1,5 @@
+pub mod AnswerLemmas
+pub mod FaultLemmas
 pub mod LevelLemmas
 pub mod ReadingLemmas
 pub mod Suffixes

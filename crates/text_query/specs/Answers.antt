@@ -1,5 +1,5 @@
 -- What is answered to the text of a query.
-use Rattle.std.specs.Prelude.{◌≡◌, ℕ, ◌+◌, ◌-◌, ◌<◌, ◌≤◌, max, List, [], ◌∷◌, Bool, IsTrue, not, Result, Ok, Err}
+use Rattle.std.specs.Prelude.{ℕ, ◌+◌, ◌-◌, ◌<◌, ◌≤◌, max, List, [], ◌∷◌, Bool, IsTrue, not, Result, Ok, Err}
 use Rattle.std.specs.List.{list_all}
 use Rattle.point_history.specs.declared.query.Query.{Query}
 use Rattle.point_history.specs.Matching.{depth_of, leaves_of}
@@ -30,12 +30,24 @@ most_open level (token ∷ tokens) = max level (most_open (open_behind level tok
 abbrev pub depth_with : List ℕ → Query → ℕ
 depth_with text query = max (most_open 0 (kinds_of (tokens_of text))) (depth_of query)
 
--- the answer that is due to a text, want of memory apart
-abbrev pub IsDue : List ℕ → Result Query QueryFault → Type 0
-IsDue text (Ok query) = SpellsQuery text query × (depth_with text query ≤ 32) × (leaves_of query ≤ 64)
-IsDue text (Err Empty) = IsTrue (is_blank text)
-IsDue text (Err (Syntax at)) = IsTrue (not (is_blank text)) × IsFirstBadToken text at
-IsDue text (Err TooDeep) = (query : Query) × SpellsQuery text query × (32 < depth_with text query)
-IsDue text (Err TooMany) =
+-- the text spells the query, which is neither too deep nor has too many leaves
+abbrev pub Parses : List ℕ → Query → Type 0
+Parses text query = SpellsQuery text query × (depth_with text query ≤ 32) × (leaves_of query ≤ 64)
+
+-- the fault of a text, want of memory apart
+abbrev pub IsFault : List ℕ → QueryFault → Type 0
+IsFault text Empty = IsTrue (is_blank text)
+IsFault text (Syntax at) = IsTrue (not (is_blank text)) × IsFirstBadToken text at
+IsFault text TooDeep = (query : Query) × SpellsQuery text query × (32 < depth_with text query)
+IsFault text TooMany =
     (query : Query) × SpellsQuery text query × (depth_with text query ≤ 32) × (64 < leaves_of query)
-IsDue text (Err Memory) = ⊥
+IsFault text Memory = ⊥
+
+-- what is answered to a text; want of memory may always come
+abbrev pub IsAnswer : List ℕ → Result Query QueryFault → Type 0
+IsAnswer text (Ok query) = Parses text query
+IsAnswer text (Err Memory) = Unit {0}
+IsAnswer text (Err Empty) = IsFault text Empty
+IsAnswer text (Err (Syntax at)) = IsFault text (Syntax at)
+IsAnswer text (Err TooDeep) = IsFault text TooDeep
+IsAnswer text (Err TooMany) = IsFault text TooMany

@@ -3,8 +3,10 @@
 
 mod build;
 mod fault;
+mod parse;
 mod syntax;
 mod token;
 
 pub use fault::QueryFault;
+pub use parse::{one_tree, parse_query};
 pub use point_history::words;
