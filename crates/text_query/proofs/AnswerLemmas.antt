@@ -1,5 +1,5 @@
 -- Each text has one answer, and a query that is answered is well-formed.
-use Rattle.std.proofs.Common.{◌≡◌, ℕ, zero, suc, ◌+◌, ◌<◌, ◌≤◌, max, List, [], ◌∷◌, ◌++◌, length, Bool, true, false, cond, IsTrue, not, Option, Some, None, ◌⊎◌, inl, inr, refl, ap, ◌∙◌, sym, subst, append_assoc, arith}
+use Rattle.std.proofs.Common.{◌≡◌, ℕ, zero, suc, ◌+◌, ◌≤◌, List, [], ◌∷◌, ◌++◌, length, Bool, true, false, cond, IsTrue, refl, ap, ◌∙◌, sym, arith}
 use Rattle.std.specs.Prelude.{◌&&◌, ◌==◌, nat_le, nat_lt, nat_eq, codes, map}
 use Rattle.std.specs.List.{list_all, count_by}
 use Rattle.std.proofs.lemmas.List.Sums.{sum_by-cons}
@@ -108,7 +108,7 @@ at_case false false run quote mark e f g = g
 full_at : (b : ℕ) (text : List ℕ) → is_full (token_at (b ∷ text)) ≡ true
 full_at b text =
     at_case (is_alphanumeric b) (is_quote b) (token_of_run (run_of (b ∷ text))) (token_of_quote text) (token_of_byte b)
-        (full_run (run_of (b ∷ text))) (full_quote text) (byte_case (b == 40) (b == 41))
+    (full_run (run_of (b ∷ text))) (full_quote text) (byte_case (b == 40) (b == 41))
 
 both_hold : (a b : Bool) → a ≡ true → b ≡ true → (a && b) ≡ true
 both_hold true true e f = refl
@@ -119,7 +119,7 @@ full_tokens : (taken at : ℕ) (text : List ℕ) → list_all is_full (kinds_of 
 full_tokens taken at [] = refl
 full_tokens zero at (b ∷ text) =
     full_case (is_space b) (record { at = at; token = token_at (b ∷ text) }) (tokens_from zero (at + 1) text) (tokens_from (bytes_behind (b ∷ text)) (at + 1) text)
-        (full_at b text) (full_tokens zero (at + 1) text) (full_tokens (bytes_behind (b ∷ text)) (at + 1) text)
+    (full_at b text) (full_tokens zero (at + 1) text) (full_tokens (bytes_behind (b ∷ text)) (at + 1) text)
   where
     full_case : (c : Bool) (first : Placed) (more others : List Placed) → is_full first.token ≡ true → list_all is_full (kinds_of more) ≡ true → list_all is_full (kinds_of others) ≡ true
         → list_all is_full (kinds_of (cond c more (first ∷ others))) ≡ true

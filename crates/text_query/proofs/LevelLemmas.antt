@@ -1,12 +1,12 @@
 -- How deep a tree is while it is put together.
 use Rattle.std.proofs.Common.{◌≡◌, ◌≢◌, ℕ, zero, suc, ◌+◌, ◌<◌, ◌≤◌, max, List, [], ◌∷◌, ◌++◌, length, reverse, refl, ap, ◌∙◌, sym, subst, arith}
 use Rattle.std.proofs.lemmas.List.{reverse-append}
-use Rattle.point_history.specs.declared.query.Query.{Query, All, Any, Not}
+use Rattle.point_history.specs.declared.query.Query.{Query, All, Any}
 use Rattle.point_history.specs.Matching.{depth_of}
 use Rattle.text_query.specs.declared.build.Join.{Join}
 use Rattle.text_query.specs.declared.build.Join.TheVariants.{And, Or}
 use Rattle.text_query.specs.Depths.{deepest_in}
-use Rattle.text_query.specs.Grammar.{all_of, any_of}
+use Rattle.text_query.specs.Grammar.{all_of}
 use Rattle.text_query.specs.declared.build.Level.{Level}
 use Rattle.text_query.specs.Levels.{negated_of, joined_of, with_operand, with_or, level_tree, level_depth, levels_depth, closed_level}
 use Rattle.text_query.proofs.TreeLemmas.{depth_all, depth_any, depth_not}

@@ -12,10 +12,9 @@ use Rattle.text_query.specs.declared.syntax.State.{State}
 use Rattle.std.specs.Prelude.{option_and_then}
 use Rattle.text_query.proofs.SyntaxLemmas.{state_from_query}
 use Rattle.text_query.specs.declared.build.Join.TheVariants as join
-use Rattle.text_query.specs.Depths.{deepest_in}
 use Rattle.text_query.specs.States.{state, state_behind, state_after}
 use Rattle.text_query.proofs.LevelLemmas.{depth_negated, deepest_in-append, deepest_in-joined, operand_depth, negated_depth}
-use Rattle.text_query.specs.Levels.{Levels, negated_of, empty_level, with_operand, with_or, level_tree, closed_level, levels_behind, levels_after, level_depth, outer_depth, levels_depth}
+use Rattle.text_query.specs.Levels.{Levels, negated_of, empty_level, with_operand, with_or, level_tree, closed_level, levels_behind, levels_after, level_depth, levels_depth}
 
 not-negated : (times : ℕ) (query : Query) → Not (negated_of times query) ≡ negated_of times (Not query)
 not-negated zero query = refl
@@ -34,7 +33,7 @@ tree-level_behind any (conj_or c q) =
 operand_under_not : (level : Level) (query : Query) → with_operand (record { any = level.any; all = level.all; nots = level.nots + 1 }) query ≡ with_operand level (Not query)
 operand_under_not level query =
     ap (λ (one : Query). record { any = level.any; all = level.all ++ one ∷ []; nots = 0 })
-        (ap (λ (n : ℕ). negated_of n query) (add-one level.nots) ∙ not-negated level.nots query)
+    (ap (λ (n : ℕ). negated_of n query) (add-one level.nots) ∙ not-negated level.nots query)
 
 mutual
   query_levels : (q : QueryReading) (any : List Query) (outer : List Level) (rest : List Token)
@@ -184,7 +183,7 @@ grows_from (token ∷ before) rest s levels p e =
   where
     grows_step : (o : Option State) → IsPendingIn o (levels_behind levels token).0.nots → option_and_then (λ r. state_after r (before ++ rest)) o ≡ Some (state false zero)
         → ((r : State) → IsPending r.expects_operand (levels_behind levels token).0.nots → state_after r (before ++ rest) ≡ Some (state false zero)
-            → levels_depth (levels_after (levels_behind levels token) before) ≤ levels_depth (levels_after (levels_behind levels token) (before ++ rest)))
+        → levels_depth (levels_after (levels_behind levels token) before) ≤ levels_depth (levels_after (levels_behind levels token) (before ++ rest)))
         → levels_depth (levels_after (levels_behind levels token) before) ≤ levels_depth (levels_after (levels_behind levels token) (before ++ rest))
     grows_step None q h each = no_state zero h
     grows_step (Some r) q h each = each r q h
@@ -210,7 +209,7 @@ deep_tree tokens before rest (q, e) split deep =
     let levels : levels_after (empty_level, []) (before ++ rest) ≡ (level_behind [] q, []) = ap (levels_after (empty_level, [])) (sym whole) ∙ whole_levels q in
     let last = tree_grows (level_behind [] q) (level_nots [] q) in
     let tree : depth_of (level_tree (level_behind [] q)) ≡ depth_of (tree_of tokens) =
-        ap (λ (l : Levels). depth_of (level_tree l.0)) (sym (whole_levels q)) ∙ ap (λ (ts : List Token). depth_of (tree_of ts)) e in
+    ap (λ (l : Levels). depth_of (level_tree l.0)) (sym (whole_levels q)) ∙ ap (λ (ts : List Token). depth_of (tree_of ts)) e in
     deep_chain _ _ (level_depth (level_behind [] q)) _ _ deep grown (ap levels_depth levels) last tree
   where
     deep_chain : (a b c d t : ℕ) → 32 < a → a ≤ b → b ≡ max c 0 → c ≤ d → d ≡ t → 32 < t

@@ -1,14 +1,13 @@
 -- What a text that is read to its end from some state consists of.
 use Rattle.std.proofs.Common.{◌≡◌, ℕ, zero, suc, List, [], ◌∷◌, ◌++◌, Bool, true, false, Option, Some, None, refl, ap, sym, ◌∙◌, subst, append_assoc}
-use Rattle.std.specs.Prelude.{option_and_then}
 use Rattle.std.proofs.lemmas.List.{append-nil}
 use Rattle.std.proofs.lemmas.Bool.{false≢true}
 use Rattle.text_query.specs.declared.syntax.State.{State}
 use Rattle.text_query.specs.declared.token.Token.{Token}
 use Rattle.text_query.specs.declared.token.Token.TheVariants.{Word, Phrase, Open, Close, And, Or, Not, Stray}
 use Rattle.text_query.specs.Grammar.{QueryReading, ConjReading, UnaryReading, last_conj, conj_or, last_unary, unary_and, not_unary, word, phrase, parenthesised, query_tokens, conj_tokens, unary_tokens}
-use Rattle.text_query.specs.Syntax.{IsQuery, GoesOn}
-use Rattle.text_query.specs.States.{state, closed, state_behind, state_after}
+use Rattle.text_query.specs.Syntax.{IsQuery}
+use Rattle.text_query.specs.States.{state, state_after}
 
 mutual
   -- where an operand is expected and n parentheses are open: a query, and behind it what closes them

@@ -1,5 +1,5 @@
 -- The states tell from which tokens a query goes on.
-use Rattle.std.proofs.Common.{◌≡◌, ℕ, zero, suc, List, [], ◌∷◌, ◌++◌, Bool, true, false, Option, Some, None, refl, ap, sym, ◌∙◌, subst, append_assoc, length, take, drop, get_or, ◌+◌, ◌≤◌, ◌<◌, arith}
+use Rattle.std.proofs.Common.{◌≡◌, ℕ, zero, suc, List, [], ◌∷◌, ◌++◌, Bool, true, false, Option, Some, None, refl, ap, sym, ◌∙◌, append_assoc, length, take, get_or, ◌+◌, ◌≤◌, ◌<◌, arith}
 use Rattle.std.specs.Prelude.{option_and_then}
 use Rattle.std.proofs.lemmas.List.{append-nil, take_more, map-append}
 use Rattle.text_query.specs.declared.token.Placed.{Placed}
@@ -10,7 +10,7 @@ use Rattle.text_query.specs.declared.token.Token.TheVariants.{Word, Phrase, Open
 use Rattle.text_query.specs.Grammar.{QueryReading, ConjReading, UnaryReading, last_conj, conj_or, last_unary, unary_and, not_unary, word, phrase, parenthesised, query_tokens, conj_tokens, unary_tokens}
 use Rattle.text_query.specs.Syntax.{IsQuery, GoesOn}
 use Rattle.text_query.proofs.Suffixes.{query_from_state}
-use Rattle.text_query.specs.States.{state, closed, state_behind, state_after}
+use Rattle.text_query.specs.States.{state, state_behind, state_after}
 
 -- Behind an operand an operator is expected, and as many parentheses are open as before it.
 mutual
@@ -60,9 +60,11 @@ state-ending false n = state-closing n
 -- where there is a state, a query goes on
 pub goes_on_from_state : (tokens : List Token) (s : State) → state_after (state true zero) tokens ≡ Some s → GoesOn tokens
 goes_on_from_state tokens s e =
-    let more = ending s.expects_operand s.opened in
-    (more, query_from_state (tokens ++ more)
-        (state_after-append (state true zero) tokens more ∙ (ap (option_and_then (λ r. state_after r more)) e ∙ state-ending s.expects_operand s.opened)))
+    let more = ending s.expects_operand s.opened in (
+      more,
+      query_from_state (tokens ++ more)
+          (state_after-append (state true zero) tokens more ∙ (ap (option_and_then (λ r. state_after r more)) e ∙ state-ending s.expects_operand s.opened)),
+    )
 
 -- a query is read to its end
 pub state_from_query : (tokens : List Token) → IsQuery tokens → state_after (state true zero) tokens ≡ Some (state false zero)

@@ -1,14 +1,13 @@
 -- The depth, the leaves and the form of a tree, from those of its parts.
-use Rattle.std.proofs.Common.{◌≡◌, ℕ, zero, suc, ◌+◌, ◌<◌, ◌≤◌, max, List, [], ◌∷◌, ◌++◌, length, Bool, true, false, IsTrue, refl, ap, ◌∙◌, sym, arith}
+use Rattle.std.proofs.Common.{◌≡◌, ℕ, ◌+◌, max, List, [], ◌∷◌, length, Bool, true, false, refl, ap, ◌∙◌, arith}
 use Rattle.std.specs.Prelude.{◌&&◌, nat_le}
 use Rattle.std.specs.List.{list_all}
 use denote.Hole.Carrier.{hidden}
 use mathlib.Core.Former.{Count}
-use Rattle.point_history.specs.declared.query.Query.{Query, Word, Phrase, All, Any, Not, All', Any', Not', Row_of-Query, end_of-Query, more_of-Query, items-the_row-Query, items_hidden-the_row-Query-0}
+use Rattle.point_history.specs.declared.query.Query.{Query, All, Any, Not, All', Any', Not', Row_of-Query, end_of-Query, more_of-Query, items-the_row-Query, items_hidden-the_row-Query-0}
 use Rattle.point_history.specs.declared.query.Query.TheBlock.{hidden-the_row-Query-1}
 use Rattle.point_history.specs.Matching.{depth_of, deepest, leaves_of, all_leaves, count_parts, has_form, all_have_form}
 use Rattle.text_query.specs.Depths.{deepest_in}
-use Rattle.text_query.specs.Grammar.{all_of, any_of}
 
 -- the leaves of several queries
 abbrev pub leaves_in : List Query → ℕ

@@ -6,7 +6,7 @@ use Rattle.point_history.specs.Matching.{depth_of, leaves_of}
 use Rattle.text_query.specs.declared.fault.QueryFault.{QueryFault}
 use Rattle.text_query.specs.declared.fault.QueryFault.TheVariants.{Memory, Empty, Syntax, TooDeep, TooMany}
 use Rattle.text_query.specs.declared.token.Token.{Token}
-use Rattle.text_query.specs.declared.token.Token.TheVariants.{Word, Phrase, Open, Close, And, Or, Not, Stray}
+use Rattle.text_query.specs.declared.token.Token.TheVariants.{Open, Close}
 use Rattle.text_query.specs.Tokens.{is_space, tokens_of, kinds_of}
 use Rattle.text_query.specs.Grammar.{SpellsQuery}
 use Rattle.text_query.specs.Syntax.{IsFirstBadToken}

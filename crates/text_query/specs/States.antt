@@ -1,5 +1,5 @@
 -- From which tokens a query goes on, told by what is expected next and how many parentheses are open.
-use Rattle.std.specs.Prelude.{ℕ, zero, suc, List, [], ◌∷◌, Bool, true, false, Option, Some, None, option_and_then, if◌then◌else◌, not}
+use Rattle.std.specs.Prelude.{ℕ, zero, suc, List, [], ◌∷◌, Bool, true, false, Option, Some, None, option_and_then, if◌then◌else◌}
 use Rattle.text_query.specs.declared.syntax.State.{State}
 use Rattle.text_query.specs.declared.token.Token.{Token}
 use Rattle.text_query.specs.declared.token.Token.TheVariants.{Word, Phrase, Open, Close, And, Or, Not, Stray}

@@ -71,5 +71,4 @@ pub fn parse_query(alloc: Global, text: &[u8]) -> Result<Query, QueryFault>
 /// A text spells one query at most.
 pub fn one_tree()
     ensures { (text : List ℕ) (first second : Query) → SpellsQuery text first → SpellsQuery text second → first ≡ second }
-{
-}
+{}

@@ -1,4 +1,4 @@
-use Rattle.std.proofs.Common.{◌≡◌, ◌<◌, ℕ, List, [], ◌∷◌, ◌++◌, refl, ap, sym, ◌∙◌, subst, append_assoc, arith}
+use Rattle.std.proofs.Common.{◌≡◌, ◌<◌, List, [], ◌∷◌, ◌++◌, refl, ap, sym, ◌∙◌, subst, append_assoc, arith}
 use Rattle.std.proofs.IntoIterSteps.{All-taken}
 use Rattle.std.proofs.lemmas.List.{map-append}
 use Rattle.std.specs.Iterator.{Yields}
@@ -36,12 +36,12 @@ returns-in_default c =
     let placed = c.in-Some.placed in
     let rest = into_iter_items c.next.new.self in
     let front : tokens ≡ (done ++ placed ∷ []) ++ rest =
-        sym it.ensures.into_iter_gives.0 ∙ (taken_front it.result done c.loop-placed.placed-iterator c.loop-placed.yielded_by
-        ∙ (ap (λ (xs : List Placed). done ++ xs) c.in-Some.ensures.steps.0 ∙ sym (append_assoc done (placed ∷ []) rest))) in
+    sym it.ensures.into_iter_gives.0 ∙ (taken_front it.result done c.loop-placed.placed-iterator c.loop-placed.yielded_by
+    ∙ (ap (λ (xs : List Placed). done ++ xs) c.in-Some.ensures.steps.0 ∙ sym (append_assoc done (placed ∷ []) rest))) in
     let split : kinds_of tokens ≡ kinds_of (done ++ placed ∷ []) ++ kinds_of rest = ap kinds_of front ∙ map-append (λ (p : Placed). p.token) (done ++ placed ∷ []) rest in
     let deep = rw c.in_default.is at c.in_ok-behind.ensures in
     let here : 32 < levels_depth (levels_after (empty_level, []) (kinds_of (done ++ placed ∷ []))) =
-        subst (λ (l : Levels). 32 < levels_depth l) (ap (λ (l : Levels). levels_behind l placed.token) c.loop-placed.invariant ∙ levels_more done placed) deep in
+    subst (λ (l : Levels). 32 < levels_depth l) (ap (λ (l : Levels). levels_behind l placed.token) c.loop-placed.invariant ∙ levels_more done placed) deep in
     (tree_of (kinds_of tokens), reads_as_tree (kinds_of tokens) c.requires, deep_tree (kinds_of tokens) (kinds_of (done ++ placed ∷ [])) (kinds_of rest) c.requires split here)
 
 pub loop-placed-preserved : goal.loop-placed-preserved
@@ -59,8 +59,8 @@ returns-in_default-2 c =
     let tokens = c.args.tokens.items in
     let it = c.into_iter-placed-iterator in
     let all : c.loop-placed.yielded ≡ tokens =
-        All-taken it.result c.loop-placed.yielded (c.next.new.self, (c.loop-placed.placed-iterator, c.loop-placed.yielded_by, c.in-None.ensures.steps))
-        ∙ it.ensures.into_iter_gives.0 in
+    All-taken it.result c.loop-placed.yielded (c.next.new.self, (c.loop-placed.placed-iterator, c.loop-placed.yielded_by, c.in-None.ensures.steps))
+    ∙ it.ensures.into_iter_gives.0 in
     let same = last_tree c.loop-placed.yielded tokens (levels_of c.loop-placed.builder) c.loop-placed.invariant all in
     let deep = rw c.in_default-2.is at c.in_ok-part.ensures in
     (tree_of (kinds_of tokens), reads_as_tree (kinds_of tokens) c.requires, subst (λ (q : Query). 32 < depth_of q) same deep)
@@ -70,8 +70,8 @@ returns c =
     let tokens = c.args.tokens.items in
     let it = c.into_iter-placed-iterator in
     let all : c.loop-placed.yielded ≡ tokens =
-        All-taken it.result c.loop-placed.yielded (c.next.new.self, (c.loop-placed.placed-iterator, c.loop-placed.yielded_by, c.in-None.ensures.steps))
-        ∙ it.ensures.into_iter_gives.0 in
+    All-taken it.result c.loop-placed.yielded (c.next.new.self, (c.loop-placed.placed-iterator, c.loop-placed.yielded_by, c.in-None.ensures.steps))
+    ∙ it.ensures.into_iter_gives.0 in
     let same = last_tree c.loop-placed.yielded tokens (levels_of c.loop-placed.builder) c.loop-placed.invariant all in
     let part = rw c.in-Some-3.is at c.in_ok-part.ensures in
     let query : c.part.inside.query ≡ tree_of (kinds_of tokens) = c.part.view_is ∙ (part ∙ same) in

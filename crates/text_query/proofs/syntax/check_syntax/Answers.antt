@@ -17,8 +17,8 @@ bad_token : (tokens : List Placed) (i : ℕ) (placed : Placed) (s : State) → i
 bad_token tokens i placed s some here before stops =
     let more = state_after-more (state true zero) tokens i placed some here in
     let last : kinds_of (take (i + 1) tokens) ≡ kinds_of (take i tokens) ++ placed.token ∷ [] =
-        ap kinds_of (take_more tokens i placed some ∙ ap (λ (p : Placed). take i tokens ++ p ∷ []) (sym here))
-        ∙ map-append (λ (p : Placed). p.token) (take i tokens) (placed ∷ []) in
+    ap kinds_of (take_more tokens i placed some ∙ ap (λ (p : Placed). take i tokens ++ p ∷ []) (sym here))
+    ∙ map-append (λ (p : Placed). p.token) (take i tokens) (placed ∷ []) in
     record {
       before = take i tokens;
       bad = placed;
@@ -34,14 +34,15 @@ bad_token tokens i placed s some here before stops =
 pub returns-in_default-clause-fault : goal.returns-in_default-clause-fault
 returns-in_default-clause-fault c =
     inl (bad_token c.args.tokens.now c.loop-placed.placed-index c.placed-item.result c.loop-placed.state c.loop-placed-test.true c.placed-item.is
-        c.loop-placed.invariant.0 (sym c.in_default.ensures))
+    c.loop-placed.invariant.0 (sym c.in_default.ensures))
 
 pub loop-placed-preserved : goal.loop-placed-preserved
 loop-placed-preserved c =
     let token = c.placed-item.result.token in
-    let more = state_after-more (state true zero) c.args.tokens.now c.loop-placed.placed-index c.placed-item.result c.loop-placed-test.true c.placed-item.is in
-    (more ∙ (ap (option_and_then (λ (r : State). state_behind r token)) c.loop-placed.invariant.0 ∙ sym c.in-Some.ensures),
-        omega (arith, opened_behind c.loop-placed.state c.in-Some.behind token (sym c.in-Some.ensures), c.loop-placed.invariant.1))
+    let more = state_after-more (state true zero) c.args.tokens.now c.loop-placed.placed-index c.placed-item.result c.loop-placed-test.true c.placed-item.is in (
+      more ∙ (ap (option_and_then (λ (r : State). state_behind r token)) c.loop-placed.invariant.0 ∙ sym c.in-Some.ensures),
+      omega (arith, opened_behind c.loop-placed.state c.in-Some.behind token (sym c.in-Some.ensures), c.loop-placed.invariant.1),
+    )
 
 abbrev expects_in : Option State → Bool
 expects_in None = false
@@ -61,7 +62,7 @@ returns-then-state-clause-fault c =
     let tokens = c.args.tokens.now in
     let s = c.loop-placed.state in
     let ended = subst (λ (ts : List Placed). state_after (state true zero) (kinds_of ts) ≡ Some s)
-        (take_all c.loop-placed.placed-index tokens c.loop-placed-test.false) c.loop-placed.invariant.0 in
+    (take_all c.loop-placed.placed-index tokens c.loop-placed-test.false) c.loop-placed.invariant.0 in
     inr (record {
       goes_on = goes_on_from_state (kinds_of tokens) s ended;
       stops = λ q. not_ended s c.then-state.either (sym ended ∙ state_from_query (kinds_of tokens) q);
@@ -76,5 +77,5 @@ returns-clause-query c =
     let tokens = c.args.tokens.now in
     let s = c.loop-placed.state in
     let ended = subst (λ (ts : List Placed). state_after (state true zero) (kinds_of ts) ≡ Some s)
-        (take_all c.loop-placed.placed-index tokens c.loop-placed-test.false) c.loop-placed.invariant.0 in
+    (take_all c.loop-placed.placed-index tokens c.loop-placed-test.false) c.loop-placed.invariant.0 in
     query_from_state (kinds_of tokens) (ended ∙ ap Some (at_end s c.if-state.false c.if-state-gt0.false))

@@ -1,4 +1,4 @@
-use Rattle.std.proofs.Common.{◌≡◌, ◌≢◌, ◌<◌, ◌≤◌, ◌+◌, ◌-◌, ℕ, List, [], ◌∷◌, ◌++◌, Bool, true, false, length, take, drop, get_or, length-drop, append_assoc, IsTrue, ap, sym, ◌∙◌, subst, arith}
+use Rattle.std.proofs.Common.{◌≡◌, ◌≢◌, ◌<◌, ◌≤◌, ◌+◌, ◌-◌, ℕ, List, [], ◌∷◌, ◌++◌, false, length, take, drop, get_or, length-drop, append_assoc, ap, sym, ◌∙◌, arith}
 use Rattle.std.proofs.lemmas.List.{drop-drop}
 use Rattle.std.proofs.lemmas.Bool.Decides.{nat_tests}
 use Rattle.std.proofs.lemmas.Grind.{common_steps}
@@ -31,10 +31,12 @@ next_token before after all text at behind token some other pushed t b e =
     let space : is_space (get_or text at 0) ≡ false = grind (arith, nat_tests) in
     let over : drop (1 + behind) (drop at text) ≡ drop (at + (1 + behind)) text = drop-drop (1 + behind) at text in
     let same : behind ≡ bytes_behind (drop at text) = b ∙ ap bytes_behind rest in
-    let end : at + (1 + behind) ≤ length text + 1 = omega (arith, bytes-length (drop at text), length-drop at text) in
-    (ap (λ (ts : List Placed). ts ++ tokens_from 0 (at + (1 + behind)) (drop (at + (1 + behind)) text)) pushed
-        ∙ (append_assoc before (record { at = at; token = token } ∷ []) (tokens_from 0 (at + (1 + behind)) (drop (at + (1 + behind)) text))
-        ∙ (ap (λ (ts : List Placed). before ++ ts) (joined at behind token (drop at text) text there (ap is_space first ∙ space) (t ∙ ap token_at rest) same over) ∙ e)), end)
+    let end : at + (1 + behind) ≤ length text + 1 = omega (arith, bytes-length (drop at text), length-drop at text) in (
+      ap (λ (ts : List Placed). ts ++ tokens_from 0 (at + (1 + behind)) (drop (at + (1 + behind)) text)) pushed
+          ∙ (append_assoc before (record { at = at; token = token } ∷ []) (tokens_from 0 (at + (1 + behind)) (drop (at + (1 + behind)) text))
+          ∙ (ap (λ (ts : List Placed). before ++ ts) (joined at behind token (drop at text) text there (ap is_space first ∙ space) (t ∙ ap token_at rest) same over) ∙ e)),
+      end,
+    )
 
 pub loop-at-preserved : goal.loop-at-preserved
 loop-at-preserved c =

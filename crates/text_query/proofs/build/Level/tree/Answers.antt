@@ -1,4 +1,4 @@
-use Rattle.std.proofs.Common.{◌≡◌, arith}
+use Rattle.std.proofs.Common.{arith}
 use Rattle.text_query.proofs.LevelLemmas.{last_depth}
 use Rattle.text_query.proofs.build.Level.tree.Goals as goal
 

@@ -1,4 +1,4 @@
-use Rattle.std.proofs.Common.{◌≡◌, arith}
+use Rattle.std.proofs.Common.{arith}
 use Rattle.text_query.proofs.LevelLemmas.{or_depth}
 use Rattle.text_query.proofs.build.Level.with_or.Goals as goal
 
