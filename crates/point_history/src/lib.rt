@@ -4,7 +4,7 @@
 mod answers;
 pub mod cause;
 mod commits;
-pub mod documents;
+mod documents;
 pub mod entry;
 mod faults;
 mod generation;
@@ -14,7 +14,7 @@ mod legal_cases;
 mod legality;
 mod lines;
 mod listings;
-pub mod matching;
+mod matching;
 mod nodes;
 pub mod operation;
 pub mod point;
@@ -22,12 +22,14 @@ mod published;
 pub mod query;
 mod refusals;
 mod rules;
-pub mod text_words;
+#[cfg(test)]
+mod tests;
+mod text_words;
 mod tickets;
 mod written;
 
 pub use cause::{Cause, FaultKind, FaultPlan};
-pub use documents::apply;
+pub use documents::{Texts, apply, change, listed};
 pub use entry::{Answer, Entry, Event, History};
 pub use legality::legal;
 pub use matching::{matches, scan};

@@ -5,6 +5,8 @@ mod build;
 mod fault;
 mod parse;
 mod syntax;
+#[cfg(test)]
+mod tests;
 mod token;
 
 pub use fault::QueryFault;
