@@ -121,4 +121,4 @@ module _ {E : Type 0} (names : E → ℕ) where
       both_ways [] [] h k = refl
       both_ways [] (y ∷ ys) h k = absurd (cc (k.1))
       both_ways (x ∷ xs) [] h k = absurd (cc (h.1))
-      both_ways (x ∷ xs) (y ∷ ys) h k = let rest = both_ways xs ys (h.0, cc (h.1)) (k.0, cc (k.1)) in ap (λ l. x ∷ l) rest ∙ ap (λ z. z ∷ ys) (cc (h.1))
+      both_ways (x ∷ xs) (y ∷ ys) h k = let rest = both_ways xs ys (h.0, cc (h.1)) (k.0, cc (k.1)) in cc (h.1, rest)

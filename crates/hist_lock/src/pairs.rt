@@ -1,7 +1,7 @@
 //! A list of pairs under the lock, for the tests. It is the smallest caller: a value that grows, a section that appends, two threads, and a seat that is told.
 //!
 //! It stands outside the tests because an edit that the check must refuse is checked without them.
-ghost use Rattle.std.specs.Prelude.{◌≡◌, ◌+◌, ◌<◌, [], ◌∷◌, ◌++◌, ◌==◌, true, OnOk, OnErr, IfSome};
+ghost use Rattle.std.specs.Prelude.{◌≡◌, ◌+◌, ◌<◌, [], ◌∷◌, ◌++◌, ◌==◌, true, length, drop, OnOk, OnErr, IfOk};
 ghost use Rattle.std.specs.List.{filter};
 ghost use Rattle.hist_lock.specs.Pairs.{pairs_below};
 ghost use Rattle.hist_lock.specs.Seats.{history_seen, number_of, own_entries, joined_seats, room_of, IsFree, IsInside, IsSeatOf};
@@ -51,26 +51,26 @@ impl Pairs {
         self.list.as_slice()
     }
 
-    /// Appends a pair, and answers whether the list began with what was seen, which is then all of it.
+    /// Appends a pair, and adds to what was seen all that is new in the list.
     pub fn push_after(
         &mut self,
         seen: &mut Vec<(u64, u64)>,
         by: u64,
         number: u64,
-    ) -> Result<bool, AllocError>
+    ) -> Result<(), AllocError>
         ensures ok { OnOk result (self.new ≡ self.old ++ (by, number) ∷ []) }
+        ensures seen { OnOk result (seen.new.items ≡ (seen.old.items ++ drop (length seen.old.items) self.old) ++ (by, number) ∷ []) }
         ensures err { OnErr result (self.new ≡ self.old) }
     {
-        let began = self.list.starts_with(seen.as_slice());
         let known = seen.len().min(self.list.len());
         seen.extend_from_slice(&self.list[known..])?;
         seen.push((by, number))?;
         self.list.push((by, number))?;
-        Ok(began)
+        Ok(())
     }
 }
 
-/// Appends a pair under the seat's number, and answers whether the list that the lock gave out began with what the seat had seen.
+/// Appends a pair under the seat's number. `seen` is a copy of all that the seat has seen, to which only what is new is added.
 pub fn append<R: Wait>(
     rt: &R,
     lock: &HistLock<Pairs>,
@@ -78,11 +78,13 @@ pub fn append<R: Wait>(
     seen: &mut Vec<(u64, u64)>,
     by: u64,
     number: u64,
-) -> Result<bool, AllocError>
+) -> Result<(), AllocError>
     requires seat { IsSeatOf lock.now seat.old × IsFree seat.old }
     requires number { (number_of seat.old ≡ by) × (0 < by) }
+    requires seen { seen.old.items ≡ history_seen seat.old }
     ensures seat { IsSeatOf lock.now seat.new × IsFree seat.new × (number_of seat.new ≡ by) × (room_of seat.new ≡ room_of seat.old) × (joined_seats seat.new ≡ joined_seats seat.old) }
     ensures own { OnOk result (own_entries seat.new ≡ own_entries seat.old ++ (by, number) ∷ []) }
+    ensures seen { OnOk result (seen.new.items ≡ history_seen seat.new) }
 {
     let mut held = lock.lock(rt, seat);
     let answer = held.value().push_after(seen, by, number);
@@ -90,7 +92,7 @@ pub fn append<R: Wait>(
     answer
 }
 
-/// Appends the numbers below `count`, and gives the seat back. True where there was memory, and each list that the lock gave out began with what the seat had seen.
+/// Appends the numbers below `count`, and gives the seat back, with a copy of all that it has seen.
 pub fn append_all<R: Wait>(
     rt: &R,
     alloc: Global,
@@ -98,51 +100,65 @@ pub fn append_all<R: Wait>(
     mut seat: LaneSeat<Pairs>,
     by: u64,
     count: u64,
-) -> (LaneSeat<Pairs>, bool)
+) -> (LaneSeat<Pairs>, Result<Vec<(u64, u64)>, AllocError>)
     requires seat { IsSeatOf lock.now seat × IsFree seat }
-    requires number { (number_of seat ≡ by) × (0 < by) × (own_entries seat ≡ []) }
+    requires number { (number_of seat ≡ by) × (0 < by) × (own_entries seat ≡ []) × (history_seen seat ≡ []) }
     ensures seat { IsSeatOf lock.now result.0 × IsFree result.0 × (number_of result.0 ≡ by) × (room_of result.0 ≡ room_of seat) × (joined_seats result.0 ≡ joined_seats seat) }
-    ensures own { result.1 ≡ true → own_entries result.0 ≡ pairs_below by count }
+    ensures own { OnOk result.1 (own_entries result.0 ≡ pairs_below by count) }
+    ensures seen { IfOk result.1 (λ seen. seen.items ≡ history_seen result.0) }
 {
     let mut seen = Vec::new(alloc);
     for number in 0..count {
-        match append(rt, lock, &mut seat, &mut seen, by, number) {
-            Ok(true) => {}
-            _ => return (seat, false),
+        if append(rt, lock, &mut seat, &mut seen, by, number).is_err() {
+            return (seat, Err(AllocError));
         }
     }
-    (seat, true)
+    (seat, Ok(seen))
 }
 
-/// Two threads append the numbers below `count` each, and the list has under each one's number just these, once and in order.
+/// What two threads leave behind.
+#[derive(Drop)]
+pub struct Left {
+    pub pairs: Pairs,
+    /// What the first thread had seen at its end.
+    pub one: Vec<(u64, u64)>,
+    /// What the second had seen.
+    pub two: Vec<(u64, u64)>,
+}
+
+/// Two threads append the numbers below `count` each. The list has under each one's number just these, once and in order, and it begins with all that either thread had seen.
 pub fn append_in_two_threads<R: Threads + Wait + Sync>(
     rt: &R,
     alloc: Global,
     count: u64,
-) -> Option<Pairs>
-    ensures { IfSome result (λ p. (filter (λ e. e.0 == 1) p ≡ pairs_below 1 count) × (filter (λ e. e.0 == 2) p ≡ pairs_below 2 count)) }
+) -> Result<Left, AllocError>
+    ensures one { IfOk result (λ l. filter (λ e. e.0 == 1) l.pairs ≡ pairs_below 1 count) }
+    ensures two { IfOk result (λ l. filter (λ e. e.0 == 2) l.pairs ≡ pairs_below 2 count) }
+    ensures seen { IfOk result (λ l. IsPrefix l.one.items l.pairs × IsPrefix l.two.items l.pairs) }
 {
-    let Ok((lock, mut first)) = HistLock::new(alloc, Pairs::new(alloc)) else {
-        return None;
-    };
+    let (lock, mut first) = HistLock::new(alloc, Pairs::new(alloc))?;
     let one = lock.split(&mut first);
     let two = lock.split(&mut first);
     let shared = &lock;
     let (one, two) = join(
         rt,
-        move || -> (LaneSeat<Pairs>, bool)
-            requires { IsSeatOf shared.now one × IsFree one × (number_of one ≡ 1) × (own_entries one ≡ []) }
-            ensures { IsSeatOf shared.entry.now result.0 × IsFree result.0 × (number_of result.0 ≡ 1) × (room_of result.0 ≡ room_of one) × (joined_seats result.0 ≡ joined_seats one) × (result.1 ≡ true → own_entries result.0 ≡ pairs_below 1 count) }
+        move || -> (LaneSeat<Pairs>, Result<Vec<(u64, u64)>, AllocError>)
+            requires { IsSeatOf shared.now one × IsFree one × (number_of one ≡ 1) × (own_entries one ≡ []) × (history_seen one ≡ []) }
+            ensures { IsSeatOf shared.entry.now result.0 × IsFree result.0 × (number_of result.0 ≡ 1) × (room_of result.0 ≡ room_of one) × (joined_seats result.0 ≡ joined_seats one) × OnOk result.1 (own_entries result.0 ≡ pairs_below 1 count) × IfOk result.1 (λ seen. seen.items ≡ history_seen result.0) }
         { append_all(rt, alloc, shared, one, 1, count) },
-        move || -> (LaneSeat<Pairs>, bool)
-            requires { IsSeatOf shared.now two × IsFree two × (number_of two ≡ 2) × (own_entries two ≡ []) }
-            ensures { IsSeatOf shared.entry.now result.0 × IsFree result.0 × (number_of result.0 ≡ 2) × (room_of result.0 ≡ room_of two) × (joined_seats result.0 ≡ joined_seats two) × (result.1 ≡ true → own_entries result.0 ≡ pairs_below 2 count) }
+        move || -> (LaneSeat<Pairs>, Result<Vec<(u64, u64)>, AllocError>)
+            requires { IsSeatOf shared.now two × IsFree two × (number_of two ≡ 2) × (own_entries two ≡ []) × (history_seen two ≡ []) }
+            ensures { IsSeatOf shared.entry.now result.0 × IsFree result.0 × (number_of result.0 ≡ 2) × (room_of result.0 ≡ room_of two) × (joined_seats result.0 ≡ joined_seats two) × OnOk result.1 (own_entries result.0 ≡ pairs_below 2 count) × IfOk result.1 (λ seen. seen.items ≡ history_seen result.0) }
         { append_all(rt, alloc, shared, two, 2, count) },
     );
     lock.join(&mut first, one.0);
     lock.join(&mut first, two.0);
     let pairs = lock.close(first);
-    if one.1 && two.1 { Some(pairs) } else { None }
+    Ok(Left {
+        pairs,
+        one: one.1?,
+        two: two.1?,
+    })
 }
 
 /// The first seat tells the second, and the next list that the second finds has all pairs of both.
