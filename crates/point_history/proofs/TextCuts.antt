@@ -109,8 +109,9 @@ words_weaker p q w (x ∷ words) h =
 -- two numbers that are printed alike, before the same words, are one
 pub same_number : (a b : ℕ) (xs ys : List (List ℕ)) → IsNumber a → IsNumber b → decimal a ∷ xs ≡ decimal b ∷ ys → (a ≡ b) × (xs ≡ ys)
 same_number a b xs ys h k e = (decimal_injective a b h k (first_word (decimal a) (decimal b) xs ys e), other_words (decimal a) (decimal b) xs ys e)
-    where
-      first_word : (v w : List ℕ) (xs ys : List (List ℕ)) → v ∷ xs ≡ w ∷ ys → v ≡ w
-      first_word v w xs ys e = cc
-      other_words : (v w : List ℕ) (xs ys : List (List ℕ)) → v ∷ xs ≡ w ∷ ys → xs ≡ ys
-      other_words v w xs ys e = cc
+  where
+    first_word : (v w : List ℕ) (xs ys : List (List ℕ)) → v ∷ xs ≡ w ∷ ys → v ≡ w
+    first_word v w xs ys e = cc
+
+    other_words : (v w : List ℕ) (xs ys : List (List ℕ)) → v ∷ xs ≡ w ∷ ys → xs ≡ ys
+    other_words v w xs ys e = cc

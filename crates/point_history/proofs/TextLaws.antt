@@ -204,8 +204,8 @@ event_words_are (Asking n t v) h = three_are n.0 t.0 v.0 h.0 h.1 h.2
 event_words_are (Answered n t v query answer) h =
     more_words n.0 (decimal t.0 ∷ decimal v.0 ∷ decimal answer.total ∷ answer.keys) h.0
     (more_words t.0 (decimal v.0 ∷ decimal answer.total ∷ answer.keys) h.1
-      (more_words v.0 (decimal answer.total ∷ answer.keys) h.2
-        (more_words answer.total answer.keys h.3 (words_weaker is_key is_token key_is_token answer.keys h.4))))
+    (more_words v.0 (decimal answer.total ∷ answer.keys) h.2
+    (more_words answer.total answer.keys h.3 (words_weaker is_key is_token key_is_token answer.keys h.4))))
 event_words_are (Closed n t) h = two_are n.0 t.0 h.0 h.1
 event_words_are (Committing n v) h = two_are n.0 v.0 h.0 h.1
 event_words_are (Committed n v) h = two_are n.0 v.0 h.0 h.1
@@ -410,13 +410,13 @@ node_ticket_version C n m t u v w e = ap (λ (k : ℕ). C (node k) t v) e.0 ∙ 
 
 same_kind_from : (a b : FaultKind) → kind_text a ≡ kind_text b → a ≡ b
 same_kind_from a b e = by_number a b (sym (number_of_kind a) ∙ ap (place_of table_of_kinds) e ∙ number_of_kind b)
-    where
-      by_number : (a b : FaultKind) → kind_number a ≡ kind_number b → a ≡ b
-      by_number Link Link h = refl
-      by_number Damage Damage h = refl
-      by_number Disk Disk h = refl
-      by_number Stop Stop h = refl
-      by_number a b h = absurd (apart (kind_number a) (kind_number b) refl h)
+  where
+    by_number : (a b : FaultKind) → kind_number a ≡ kind_number b → a ≡ b
+    by_number Link Link h = refl
+    by_number Damage Damage h = refl
+    by_number Disk Disk h = refl
+    by_number Stop Stop h = refl
+    by_number a b h = absurd (apart (kind_number a) (kind_number b) refl h)
 
 plan_by_number : (n m : ℕ) (a b : FaultPlan) → IsNumber n → IsNumber m → PlanFits a → PlanFits b → plan_words n a ≡ plan_words m b → plan_number a ≡ plan_number b → (n ≡ m) × (a ≡ b)
 plan_by_number n m (LinkPlan k) (LinkPlan l) h i p q e f = let s = same_two (codes "link") n k m l (h, p) (i, q) e in (s.0, ap LinkPlan s.1)
@@ -464,9 +464,9 @@ same_answer n m t u v w a b p q e =
     let y = same_number v.0 w.0 (decimal a.total ∷ a.keys) (decimal b.total ∷ b.keys) p.2 q.2 x.1 in
     let z = same_number a.total b.total a.keys b.keys p.3 q.3 y.1 in
     (ap node s.0, ap ticket x.0, ap version y.0, ap (λ (k : ℕ). answer k a.keys) z.0 ∙ ap (answer b.total) z.1)
-    where
-      answer : ℕ → List (List ℕ) → Answer
-      answer total keys = record { total = total; keys = keys }
+  where
+    answer : ℕ → List (List ℕ) → Answer
+    answer total keys = record { total = total; keys = keys }
 
 same_promotion : (n m : NodeNo) (g h : Gen) (x y v w : Version) → IsNumber n.0 × IsNumber g.0 × IsNumber x.0 × IsNumber v.0 → IsNumber m.0 × IsNumber h.0 × IsNumber y.0 × IsNumber w.0
     → codes "promoted" ∷ decimal n.0 ∷ decimal g.0 ∷ decimal x.0 ∷ decimal v.0 ∷ [] ≡ codes "promoted" ∷ decimal m.0 ∷ decimal h.0 ∷ decimal y.0 ∷ decimal w.0 ∷ []
@@ -492,9 +492,9 @@ same_merging : (s t : SegNo) → IsNumber s.0 → IsNumber t.0 → codes "mergin
 same_merging s t h k e =
     let name : 95 ∷ base36_of s.0 ≡ 95 ∷ base36_of t.0 = head_of (95 ∷ base36_of s.0) (95 ∷ base36_of t.0) [] [] (rest_of (codes "merging") (codes "merging") ((95 ∷ base36_of s.0) ∷ []) ((95 ∷ base36_of t.0) ∷ []) e) in
     ap (λ (j : ℕ). Merging (segment j)) (base36_apart s.0 t.0 h k (cells_rest (base36_of s.0) (base36_of t.0) name))
-    where
-      cells_rest : (xs ys : List ℕ) → 95 ∷ xs ≡ 95 ∷ ys → xs ≡ ys
-      cells_rest xs ys e = cc
+  where
+    cells_rest : (xs ys : List ℕ) → 95 ∷ xs ≡ 95 ∷ ys → xs ≡ ys
+    cells_rest xs ys e = cc
 
 same_event : (e f : Event) → EventFits e → EventFits f → event_words e ≡ event_words f → event_number e ≡ event_number f → SamePrintedEvent e f
 same_event (Accepted seq op) (Accepted other_seq other_op) p q h k = same_one (codes "accepted") seq other_seq p q h
@@ -559,14 +559,16 @@ same_text_of_entry e f p q h = (same_line e f [] [] p q (no_more (text_of_entry 
 
 some_line : (e : Entry) (x : List ℕ) → text_of_entry e ++ x ≡ [] → ⊥
 some_line e x h = no_cell (all_spaced (event_words e.event)) x (sym (line_cut e x) ∙ ap (λ (t : List ℕ). 32 ∷ t) h)
-    where
-      no_tail : (a x : List ℕ) → a ++ 10 ∷ x ≡ [] → ⊥
-      no_tail [] x e = absurd cc
-      no_tail (b ∷ a) x e = absurd cc
-      one_left : (xs ys : List ℕ) → 32 ∷ xs ≡ 32 ∷ ys → xs ≡ ys
-      one_left xs ys e = cc
-      no_cell : (a x : List ℕ) → (32 ∷ decimal e.at.line.0) ++ a ++ 10 ∷ x ≡ 32 ∷ [] → ⊥
-      no_cell a x h = no_tail (decimal e.at.line.0 ++ a) x (one_left (decimal e.at.line.0 ++ a ++ 10 ∷ x) [] h)
+  where
+    no_tail : (a x : List ℕ) → a ++ 10 ∷ x ≡ [] → ⊥
+    no_tail [] x e = absurd cc
+    no_tail (b ∷ a) x e = absurd cc
+
+    one_left : (xs ys : List ℕ) → 32 ∷ xs ≡ 32 ∷ ys → xs ≡ ys
+    one_left xs ys e = cc
+
+    no_cell : (a x : List ℕ) → (32 ∷ decimal e.at.line.0) ++ a ++ 10 ∷ x ≡ 32 ∷ [] → ⊥
+    no_cell a x h = no_tail (decimal e.at.line.0 ++ a) x (one_left (decimal e.at.line.0 ++ a ++ 10 ∷ x) [] h)
 
 -- two lists of entries with one text are as long and printed alike, entry by entry
 pub same_texts : (es fs : List Entry) → AllFit es → AllFit fs → flat_map text_of_entry es ≡ flat_map text_of_entry fs → AllSamePrinted es fs
