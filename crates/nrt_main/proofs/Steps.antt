@@ -58,13 +58,30 @@ module _ (past : Past) (at : At) (ops : List Op) (p r : Searched) (s : Shows pas
 
     legal_newer : IsLegalPast 2 (copied_newer at past)
     legal_newer =
-        let q = s.quiet in
-        (record { node = (omega arith, omega arith); started = rw (same_at_self at) (refl, omega arith); searched = refl;
-            survives = record { node = rw (same_at_self at) refl }; source = record { source = rw (same_at_self at) refl } },
-        (record { node = (omega arith, omega arith); replica = record { running = q.second; other = rw q.primary refl }; made = s.versions.made below; above = below;
-            started = rw (same_at_self at) (refl, omega arith); survives = record { node = rw (same_at_self at) refl }; source = record { source = rw (same_at_self at) refl } },
-        (record { node = (omega arith, omega arith); replica = record { running = q.second; other = rw q.primary refl }; source = λ e. let n = sym q.primary ∙ e in cc; newest = refl },
-        s.legal)))
+        let q = s.quiet in (
+          record {
+            node = (omega arith, omega arith);
+            started = rw (same_at_self at) (refl, omega arith);
+            searched = refl;
+            survives = record { node = rw (same_at_self at) refl };
+            source = record { source = rw (same_at_self at) refl };
+          },
+          (
+            record {
+              node = (omega arith, omega arith);
+              replica = record { running = q.second; other = rw q.primary refl };
+              made = s.versions.made below;
+              above = below;
+              started = rw (same_at_self at) (refl, omega arith);
+              survives = record { node = rw (same_at_self at) refl };
+              source = record { source = rw (same_at_self at) refl };
+            },
+            (
+              record { node = (omega arith, omega arith); replica = record { running = q.second; other = rw q.primary refl }; source = λ e. let n = sym q.primary ∙ e in cc; newest = refl },
+              s.legal,
+            ),
+          ),
+        )
 
     shows_newer : Shows (copied_newer at past) ops p r'
     shows_newer =
@@ -110,10 +127,16 @@ module _ (past : Past) (at : At) (ops : List Op) (p r : Searched) (s : Shows pas
 
     legal_next : IsLegalPast 2 after
     legal_next =
-        let q = s.quiet in
-        (record { started = rw (same_at_self at) refl; survives = record { source = rw (same_at_self at) refl }; present = sym q.generation; next = refl;
-            merged = rw (same_at_self at, adds_some, q.busy) (omega arith) },
-        (record { running = λ e. let n = sym q.primary ∙ e in cc; alone = rw q.landed refl }, s.legal))
+        let q = s.quiet in (
+          record {
+            started = rw (same_at_self at) refl;
+            survives = record { source = rw (same_at_self at) refl };
+            present = sym q.generation;
+            next = refl;
+            merged = rw (same_at_self at, adds_some, q.busy) (omega arith);
+          },
+          (record { running = λ e. let n = sym q.primary ∙ e in cc; alone = rw q.landed refl }, s.legal),
+        )
 
     new_point : (v : ℕ) → v ≡ newest_version past + 1 → operations_at after v ≡ operations_written past
     new_point v e = grind (arith, nat_tests, same_at_self at, e)

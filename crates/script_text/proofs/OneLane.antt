@@ -83,8 +83,8 @@ pub serves_one_lane : (script : Script) (lines : List Line) (h : History) → sc
 serves_one_lane script lines h e nodes walks answered =
     let whole = lines_whole script lines e in
     let known : AllByRecursion (λ (entry : Entry). has_line lines entry.at ≡ true) h.entries =
-        subst (AllByRecursion (λ (entry : Entry). has_line lines entry.at ≡ true)) (reverse-reverse h.entries)
-        (all_reverse (λ (entry : Entry). has_line lines entry.at ≡ true) (reverse h.entries) (known_lines lines (reverse h.entries) walks)) in
+    subst (AllByRecursion (λ (entry : Entry). has_line lines entry.at ≡ true)) (reverse-reverse h.entries)
+    (all_reverse (λ (entry : Entry). has_line lines entry.at ≡ true) (reverse h.entries) (known_lines lines (reverse h.entries) walks)) in
     record {
       nodes = nodes;
       lines = subst (λ (ls : List Line). AllByRecursion (λ (entry : Entry). has_line ls entry.at ≡ true) h.entries) (sym whole) known;

@@ -22,7 +22,7 @@ loop-line-preserved c =
     let line : Line = c.line-item.result in
     let rest : List Line = drop (c.loop-line.line-index + 1) c.lines_of-lines.result.now in
     let split : drop c.loop-line.line-index c.lines_of-lines.result.now ≡ c.line-item.result ∷ drop (c.loop-line.line-index + 1) c.lines_of-lines.result.now =
-        rw add-one (drop-cons c.lines_of-lines.result.now c.loop-line.line-index c.line-item.result c.loop-line-test.true ∙ ap (λ (l : Line). l ∷ drop (suc c.loop-line.line-index) c.lines_of-lines.result.now) (sym c.line-item.is)) in
+    rw add-one (drop-cons c.lines_of-lines.result.now c.loop-line.line-index c.line-item.result c.loop-line-test.true ∙ ap (λ (l : Line). l ∷ drop (suc c.loop-line.line-index) c.lines_of-lines.result.now) (sym c.line-item.is)) in
     let next = c.in_ok-run_line.ensures.past in
     record {
       running = c.in_ok-run_line.ensures.running;
