@@ -1,0 +1,4 @@
+pub mod Crash
+pub mod Held
+pub mod Memory
+pub mod Table

@@ -1,0 +1,13 @@
+//! A directory in memory, with planned faults and crashes.
+#![tactic(auto)]
+
+mod memory;
+mod plans;
+mod slot;
+mod state;
+mod table;
+
+pub use memory::MemDir;
+
+#[cfg(test)]
+mod tests;

@@ -1,0 +1,253 @@
+ghost use Rattle.std.specs.Prelude.{◌≡◌, ◌<◌, ◌↔◌, ℕ, List, Some, None, is_some, IfOk, OnOk, OnErr, IsOk, IsErrOf, Any, IsSome, refl};
+ghost use Rattle.std.specs.Cmp.Lexicographic.{slice_cmp};
+ghost use Rattle.std.specs.Ordering.{nat_cmp};
+ghost use Rattle.std.specs.List.Sorted.{IsStrictlySortedBy};
+ghost use Rattle.disk_model.specs.Disk as model;
+ghost use Rattle.disk_model.specs.Disk.{Cells, Image, is_among, IsImage, restarted};
+ghost use Rattle.disk_model.specs.Faults.{CountsFaults, FailsByPlans, faults_met};
+ghost use Rattle.disk_memory.specs.Held.{untouched};
+ghost use Rattle.disk_memory.specs.Table.{cells_of, after_write, after_remove, after_rename, after_sync, after_sync_names};
+ghost use Rattle.disk_memory.specs.Crash.{image_picked, started};
+ghost use Rattle.disk_memory.specs.Memory.{entries_of, table_of, plans_of};
+
+use crate::plans::Planned;
+use crate::slot::Slot;
+use crate::state::State;
+use crate::table;
+use bytes::Bytes;
+use disk_model::{Dir, DirFault, FaultDir};
+use nrt_base::{FileName, NoMemory};
+use std::alloc::Global;
+use std::collections::BTreeMap;
+
+/// A directory in memory. It shares the contents that it is given and gives, and copies none.
+///
+/// Beside what a directory is, its contracts say which outcomes it holds under each name, in order, since the
+/// number of a crash picks among them.
+#[derive(Drop)]
+pub struct MemDir {
+    alloc: Global,
+    slots: BTreeMap<FileName, Slot>,
+    plans: Planned,
+}
+
+impl MemDir {
+    /// An empty directory, of which every image is empty, without a plan.
+    pub fn new(alloc: Global) -> Result<MemDir, NoMemory>
+        ensures table { IfOk result (λ dir. (q : List ℕ) → table_of dir q ≡ untouched) }
+        ensures plans { IfOk result (λ dir. plans_of dir ≡ record { once = 0; stop = 0; met_once = 0; met_stop = 0 }) }
+    {
+        Ok(MemDir {
+            alloc,
+            slots: BTreeMap::new(alloc),
+            plans: Planned::new(),
+        })
+    }
+}
+
+impl Dir for MemDir {
+    ghost cells = { λ m. cells_of (table_of m) };
+
+    ghost faults = { λ m. faults_met (plans_of m) };
+
+    ghost plans = { λ m. Some (plans_of m) };
+
+    fn has(&self, name: &FileName) -> bool {
+        table::has(&self.slots, name)
+    }
+
+    fn list(&mut self) -> Result<Vec<FileName>, DirFault>
+        ensures names { IfOk result (λ names. (q : List ℕ) → is_among names.items q ≡ is_some (cells_of (table_of self.old) q).now) }
+        ensures ascending { IfOk result (λ names. IsStrictlySortedBy (slice_cmp nat_cmp) names.items) }
+        ensures cells { cells_of (table_of self.new) ≡ cells_of (table_of self.old) }
+        ensures not_missing { IsErrOf result DirFault.Missing → ⊥ }
+        ensures not_exists { IsErrOf result DirFault.Exists → ⊥ }
+        ensures faults { CountsFaults (faults_met (plans_of self.old)) (faults_met (plans_of self.new)) result }
+        ensures plans { FailsByPlans (Some (plans_of self.old)) (Some (plans_of self.new)) result }
+        ensures entries { entries_of self.new ≡ entries_of self.old }
+    {
+        if self.plans.is_met() {
+            self.plans.count();
+            return Err(DirFault::Failed);
+        }
+        let names = table::names(self.alloc, &self.slots)?;
+        self.plans.count();
+        Ok(names)
+    }
+
+    fn load(&mut self, name: &FileName) -> Result<Bytes, DirFault>
+        ensures bytes { IfOk result (λ bytes. (cells_of (table_of self.old) name.now).now ≡ Some bytes) }
+        ensures cells { cells_of (table_of self.new) ≡ cells_of (table_of self.old) }
+        ensures missing { IsErrOf result DirFault.Missing ↔ ((cells_of (table_of self.old) name.now).now ≡ None) }
+        ensures not_exists { IsErrOf result DirFault.Exists → ⊥ }
+        ensures faults { CountsFaults (faults_met (plans_of self.old)) (faults_met (plans_of self.new)) result }
+        ensures plans { FailsByPlans (Some (plans_of self.old)) (Some (plans_of self.new)) result }
+        ensures entries { entries_of self.new ≡ entries_of self.old }
+    {
+        if !table::has(&self.slots, name) {
+            return Err(DirFault::Missing);
+        }
+        if self.plans.is_met() {
+            self.plans.count();
+            return Err(DirFault::Failed);
+        }
+        let bytes = table::load(&self.slots, name)?;
+        self.plans.count();
+        Ok(bytes)
+    }
+
+    fn write_new(&mut self, name: &FileName, bytes: Bytes) -> Result<(), DirFault>
+        ensures cells { cells_of (table_of self.new) ≡ model.after_write (cells_of (table_of self.old)) name.now bytes result }
+        ensures not_missing { IsErrOf result DirFault.Missing → ⊥ }
+        ensures exists { IsErrOf result DirFault.Exists ↔ IsSome (cells_of (table_of self.old) name.now).now }
+        ensures faults { CountsFaults (faults_met (plans_of self.old)) (faults_met (plans_of self.new)) result }
+        ensures plans { FailsByPlans (Some (plans_of self.old)) (Some (plans_of self.new)) result }
+        ensures table { table_of self.new ≡ after_write (table_of self.old) name.now bytes result }
+    {
+        if table::has(&self.slots, name) {
+            return Err(DirFault::Exists);
+        }
+        if self.plans.is_met() {
+            table::half_set(self.alloc, &mut self.slots, name, State::Loose(bytes))?;
+            self.plans.count();
+            return Err(DirFault::Failed);
+        }
+        table::set(self.alloc, &mut self.slots, name, State::Loose(bytes))?;
+        self.plans.count();
+        Ok(())
+    }
+
+    fn sync(&mut self, names: &[FileName]) -> Result<(), DirFault>
+        ensures cells { cells_of (table_of self.new) ≡ model.after_sync (cells_of (table_of self.old)) names.now result }
+        ensures missing { IsErrOf result DirFault.Missing ↔ Any (λ q. (cells_of (table_of self.old) q).now ≡ None) names.now }
+        ensures not_exists { IsErrOf result DirFault.Exists → ⊥ }
+        ensures memory { IsErrOf result DirFault.Memory → ⊥ }
+        ensures faults { CountsFaults (faults_met (plans_of self.old)) (faults_met (plans_of self.new)) result }
+        ensures plans { FailsByPlans (Some (plans_of self.old)) (Some (plans_of self.new)) result }
+        ensures table { table_of self.new ≡ after_sync (table_of self.old) names.now result }
+    {
+        if !table::has_all(&self.slots, names) {
+            return Err(DirFault::Missing);
+        }
+        if self.plans.is_met() {
+            self.plans.count();
+            return Err(DirFault::Failed);
+        }
+        table::flush_all(&mut self.slots, names);
+        self.plans.count();
+        Ok(())
+    }
+
+    fn sync_names(&mut self) -> Result<(), DirFault>
+        ensures cells { cells_of (table_of self.new) ≡ model.after_sync_names (cells_of (table_of self.old)) result }
+        ensures only_failed { OnErr result (IsErrOf result DirFault.Failed) }
+        ensures faults { CountsFaults (faults_met (plans_of self.old)) (faults_met (plans_of self.new)) result }
+        ensures plans { FailsByPlans (Some (plans_of self.old)) (Some (plans_of self.new)) result }
+        ensures table { table_of self.new ≡ after_sync_names (table_of self.old) result }
+    {
+        if self.plans.is_met() {
+            self.plans.count();
+            return Err(DirFault::Failed);
+        }
+        table::settle_all(&mut self.slots);
+        self.plans.count();
+        Ok(())
+    }
+
+    fn rename(&mut self, from: &FileName, to: &FileName) -> Result<(), DirFault>
+        ensures cells { cells_of (table_of self.new) ≡ model.after_rename (cells_of (table_of self.old)) from.now to.now result }
+        ensures missing { IsErrOf result DirFault.Missing ↔ ((cells_of (table_of self.old) from.now).now ≡ None) }
+        ensures exists { IsErrOf result DirFault.Exists ↔ (IsSome (cells_of (table_of self.old) from.now).now × IsSome (cells_of (table_of self.old) to.now).now) }
+        ensures faults { CountsFaults (faults_met (plans_of self.old)) (faults_met (plans_of self.new)) result }
+        ensures plans { FailsByPlans (Some (plans_of self.old)) (Some (plans_of self.new)) result }
+        ensures table { table_of self.new ≡ after_rename (table_of self.old) from.now to.now result }
+    {
+        if !table::has(&self.slots, from) {
+            return Err(DirFault::Missing);
+        }
+        if table::has(&self.slots, to) {
+            return Err(DirFault::Exists);
+        }
+        if self.plans.is_met() {
+            table::half_rename(self.alloc, &mut self.slots, from, to)?;
+            self.plans.count();
+            return Err(DirFault::Failed);
+        }
+        table::rename(self.alloc, &mut self.slots, from, to)?;
+        self.plans.count();
+        Ok(())
+    }
+
+    fn remove(&mut self, name: &FileName) -> Result<(), DirFault>
+        ensures cells { cells_of (table_of self.new) ≡ model.after_remove (cells_of (table_of self.old)) name.now result }
+        ensures missing { IsErrOf result DirFault.Missing ↔ ((cells_of (table_of self.old) name.now).now ≡ None) }
+        ensures not_exists { IsErrOf result DirFault.Exists → ⊥ }
+        ensures memory { IsErrOf result DirFault.Memory → ⊥ }
+        ensures faults { CountsFaults (faults_met (plans_of self.old)) (faults_met (plans_of self.new)) result }
+        ensures plans { FailsByPlans (Some (plans_of self.old)) (Some (plans_of self.new)) result }
+        ensures table { table_of self.new ≡ after_remove (table_of self.old) name.now result }
+    {
+        if !table::has(&self.slots, name) {
+            return Err(DirFault::Missing);
+        }
+        if self.plans.is_met() {
+            table::half_remove(&mut self.slots, name);
+            self.plans.count();
+            return Err(DirFault::Failed);
+        }
+        table::remove(&mut self.slots, name);
+        self.plans.count();
+        Ok(())
+    }
+
+    fn faults(&self) -> u64 {
+        self.plans.faults()
+    }
+}
+
+impl FaultDir for MemDir {
+    ghost planned = { plans_of };
+
+    ghost known = { λ m. refl };
+
+    ghost all_met = { λ m. refl };
+
+    fn plan(&mut self, k: u64)
+        requires { 0 < k }
+        ensures plans { plans_of self.new ≡ record (plans_of self.old) { once = k } }
+        ensures faults { faults_met (plans_of self.new) ≡ faults_met (plans_of self.old) }
+        ensures cells { cells_of (table_of self.new) ≡ cells_of (table_of self.old) }
+        ensures entries { entries_of self.new ≡ entries_of self.old }
+    {
+        self.plans.set_once(k);
+    }
+
+    fn stop_at(&mut self, k: u64)
+        requires { 0 < k }
+        ensures plans { plans_of self.new ≡ record (plans_of self.old) { stop = k } }
+        ensures faults { faults_met (plans_of self.new) ≡ faults_met (plans_of self.old) }
+        ensures cells { cells_of (table_of self.new) ≡ cells_of (table_of self.old) }
+        ensures entries { entries_of self.new ≡ entries_of self.old }
+    {
+        self.plans.set_stop(k);
+    }
+
+    fn kinds(&self) -> (u64, u64) {
+        self.plans.kinds()
+    }
+
+    /// This takes no memory.
+    fn crash(&mut self, pick: u64) -> Result<(), NoMemory>
+        ensures image { OnOk result ((image : Image) × IsImage (cells_of (table_of self.old)) image × (cells_of (table_of self.new) ≡ restarted image)) }
+        ensures plans { OnOk result (plans_of self.new ≡ record (plans_of self.old) { once = 0; stop = 0 }) }
+        ensures faults { faults_met (plans_of self.new) ≡ faults_met (plans_of self.old) }
+        ensures refused { OnErr result ((cells_of (table_of self.new) ≡ cells_of (table_of self.old)) × (plans_of self.new ≡ plans_of self.old)) }
+        ensures always { IsOk result }
+        ensures picked { (q : List ℕ) → table_of self.new q ≡ started (image_picked pick (entries_of self.old) q) }
+    {
+        table::crash_all(&mut self.slots, pick);
+        self.plans.set_once(0);
+        self.plans.set_stop(0);
+        Ok(())
+    }
+}

@@ -1,0 +1,6 @@
+//! A directory of files, by what reads now under each name and what a crash may leave there.
+#![tactic(auto)]
+
+mod dir;
+
+pub use dir::{Dir, DirFault, FaultDir};
