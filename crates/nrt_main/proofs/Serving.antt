@@ -1,7 +1,7 @@
 -- What the engine makes of lines serves them.
-use Rattle.std.proofs.Common.{◌≡◌, ◌≢◌, ◌+◌, ◌<◌, ◌≤◌, ◌&&◌, ◌||◌, ◌==◌, ℕ, Bool, true, false, List, [], ◌∷◌, ◌++◌, length, Some, None, Option, refl, ap, ◌∙◌, sym, subst, inl, inr, ◌⊎◌, arith, append_assoc, append-nil, reverse, not, if◌then◌else◌, nat_eq}
+use Rattle.std.proofs.Common.{◌≡◌, ◌+◌, ◌<◌, ◌≤◌, ◌&&◌, ◌||◌, ◌==◌, ℕ, Bool, true, false, List, [], ◌∷◌, ◌++◌, length, Some, None, refl, ap, ◌∙◌, sym, subst, inl, inr, ◌⊎◌, arith, append_assoc, append-nil, reverse, not, if◌then◌else◌}
 use Rattle.std.specs.Prelude.{nat_lt, IsTrue, ⊤}
-use Rattle.std.specs.List.{AllByRecursion, list_all, flat_map}
+use Rattle.std.specs.List.{AllByRecursion, list_all}
 use Rattle.std.proofs.Math.Bool.{or-true}
 use Rattle.std.proofs.lemmas.Bool.Decides.{nat_tests, eqb_tells}
 use Rattle.std.proofs.lemmas.Bool.{ltb-false}
@@ -11,7 +11,6 @@ use Rattle.nrt_base.specs.declared.numbers.NodeNo.{NodeNo}
 use Rattle.nrt_base.specs.Bytes.{is_between}
 use Rattle.point_history.specs.declared.operation.Op.TheVariants.{Put as PutOp}
 use Rattle.point_history.specs.declared.query.Query.{Query}
-use Rattle.point_history.specs.declared.cause.Cause.{Cause}
 use Rattle.point_history.specs.declared.cause.Cause.TheVariants.{NamesSpent}
 use Rattle.point_history.specs.declared.entry.Entry.{Entry}
 use Rattle.point_history.specs.declared.entry.Event.{Event}
@@ -22,7 +21,7 @@ use Rattle.point_history.specs.Points.{cut_of, cut_has_put, names_drawn, documen
 use Rattle.point_history.specs.Matching.{scan_of}
 use Rattle.script_text.specs.declared.script.Line.{Line}
 use Rattle.script_text.specs.declared.script.LineCommand.{LineCommand}
-use Rattle.script_text.specs.declared.script.LineCommand.TheVariants.{Put, Delete, Publish, Copy, Settle, Search, Open, Ask, Close, Commit, Crash, Reopen, Promote, Merge, Drain, Files, Fault}
+use Rattle.script_text.specs.declared.script.LineCommand.TheVariants.{Put, Publish, Copy, Search}
 use Rattle.script_text.specs.declared.script.Phase.{Phase}
 use Rattle.script_text.specs.declared.script.Script.{Script}
 use Rattle.script_text.specs.Lines.{lines_of, command_at, has_line, all_answered, earlier_answered}
@@ -131,8 +130,12 @@ module _ (lines : List Line) (past : Past) (at : At) (lane : at.lane.0 ≡ 1) (k
       let e1 = more (copying_entry at 2 (newest_version past)).event past earlier in
       by_test (version_of 2 past == newest_version past) (λ b. Walks lines (if b then copied_same at past else copied_newer at past))
       (λ e. (lane, known, rw (here, same_at_self at) ((open', refl), e1), copy_began here))
-      (λ e. (lane, known, rw (here, same_at_self at) ((open', refl), more (switched_entry at 2 (newest_version past)).event (copying_entry at 2 (newest_version past) ∷ past) e1),
-      (lane, known, rw (here, same_at_self at) ((open', refl), e1), copy_began here)))
+      (λ e. (
+        lane,
+        known,
+        rw (here, same_at_self at) ((open', refl), more (switched_entry at 2 (newest_version past)).event (copying_entry at 2 (newest_version past) ∷ past) e1),
+        (lane, known, rw (here, same_at_self at) ((open', refl), e1), copy_began here),
+      ))
 
   walks_search : (n : NodeNo) (query : Query) → is_between 1 2 n.0 ≡ true → command_at lines at ≡ Some (Search n query) → Walks lines (after_search at n.0 query past)
   walks_search n query node found =
@@ -273,15 +276,15 @@ served_rest before (line ∷ rest) past walks done fresh apart runnable up few =
     let next : Past = after_command line.command line.at past in
     let found = command_found before rest line apart.0 in
     let walks' : Walks (before ++ line ∷ rest) next =
-        walks_command (before ++ line ∷ rest) past line.at runnable.1 (line_found before rest line) (earlier_all past before rest line done)
-        (fresh_last line.at past fresh.0) (fresh_unanswered line.at past fresh.0) walks up line.command runnable.2 found (omega (arith, few)) in
+    walks_command (before ++ line ∷ rest) past line.at runnable.1 (line_found before rest line) (earlier_all past before rest line done)
+    (fresh_last line.at past fresh.0) (fresh_unanswered line.at past fresh.0) walks up line.command runnable.2 found (omega (arith, few)) in
     let kept : AllByRecursion (IsDone next) before = all_map (IsDone past) (IsDone next) before (λ l was. answered_still line.command line.at l.at past was) done in
     let here : IsDone next line = answered_command line.command line.at past runnable.2 in
     let fresh' : AllByRecursion (IsFresh next) rest =
-        all_two (λ l. same_at line.at l.at ≡ false) (IsFresh past) (IsFresh next) rest (λ l other was. others_keep line.at l.at other past line.command ∙ was) runnable.0 fresh.1 in
+    all_two (λ l. same_at line.at l.at ≡ false) (IsFresh past) (IsFresh next) rest (λ l other was. others_keep line.at l.at other past line.command ∙ was) runnable.0 fresh.1 in
     let apart' : AllByRecursion (λ l. IsOther l.at (before ++ line ∷ [])) rest =
-        all_two (λ l. same_at line.at l.at ≡ false) (λ l. IsOther l.at before) (λ l. IsOther l.at (before ++ line ∷ [])) rest
-        (λ l other was. all_push (λ m. same_at m.at l.at ≡ false) before line was other) runnable.0 apart.1 in
+    all_two (λ l. same_at line.at l.at ≡ false) (λ l. IsOther l.at before) (λ l. IsOther l.at (before ++ line ∷ [])) rest
+    (λ l other was. all_push (λ m. same_at m.at l.at ≡ false) before line was other) runnable.0 apart.1 in
     let split : (before ++ line ∷ []) ++ rest ≡ before ++ line ∷ rest = append_assoc before (line ∷ []) rest in
     subst (λ (ls : List Line). IsServed ls (after_lines rest next)) split
     (served_rest (before ++ line ∷ []) rest next (subst (λ (ls : List Line). Walks ls next) (sym split) walks')
@@ -326,8 +329,8 @@ pub record AreLeft (lines : List Line) (past : Past) : Type 0 where
 pub left_next : (line : Line) (rest : List Line) (past next : Past) → AreLeft (line ∷ rest) past → next ≡ after_command line.command line.at past → AreLeft rest next
 left_next line rest past next left e =
     let fresh : AllByRecursion (IsFresh (after_command line.command line.at past)) rest =
-        all_two (λ l. same_at line.at l.at ≡ false) (IsFresh past) (IsFresh (after_command line.command line.at past)) rest
-        (λ l other was. others_keep line.at l.at other past line.command ∙ was) left.runnable.0 left.fresh.1 in
+    all_two (λ l. same_at line.at l.at ≡ false) (IsFresh past) (IsFresh (after_command line.command line.at past)) rest
+    (λ l other was. others_keep line.at l.at other past line.command ∙ was) left.runnable.0 left.fresh.1 in
     record { fresh = subst (λ (p : Past). AllByRecursion (IsFresh p) rest) (sym e) fresh; runnable = left.runnable.3 }
 
 -- the lines of a plain script in form are runnable
@@ -345,7 +348,7 @@ left_first script form plain =
 pub served_history : (script : Script) (h : History) → IsInForm script → IsPlainScript script → h.nodes ≡ 2 → reverse h.entries ≡ after_lines (lines_of script) [] → Serves script h
 served_history script h form plain nodes entries =
     let served : IsServed (lines_of script) (reverse h.entries) =
-        subst (IsServed (lines_of script)) (sym entries) (served_lines (lines_of script) (runnable_script script form plain) plain.few) in
+    subst (IsServed (lines_of script)) (sym entries) (served_lines (lines_of script) (runnable_script script form plain) plain.few) in
     serves_one_lane script (lines_of script) h plain.phase (nodes ∙ sym plain.nodes) served.0 (done_all (lines_of script) (reverse h.entries) served.1)
 
 pub one_or_two : (n : ℕ) → is_between 1 2 n ≡ true → (n ≡ 1) ⊎ (n ≡ 2)

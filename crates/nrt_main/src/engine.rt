@@ -195,14 +195,23 @@ impl Engine {
 
     /// What a search of a node answers.
     #[tactic(auto, using(crate::proofs::DocumentCounts::few_documents))]
-    fn answer_at(&self, alloc: Global, n: NodeNo, query: &Query) -> Result<(Version, Answer), NoMemory>
+    fn answer_at(
+        &self,
+        alloc: Global,
+        n: NodeNo,
+        query: &Query,
+    ) -> Result<(Version, Answer), NoMemory>
         requires running { self.now.ended ≡ false }
         requires node { (n.0 ≡ 1) ⊎ (n.0 ≡ 2) }
         requires few { accepted_count self.now.past < 2 ^ 32 }
         ensures version { IfOk result (λ found. found.0.0 ≡ version_of n.0 self.now.past) }
         ensures answer { IfOk result (λ found. found.1 ≡ scan_of (documents_at self.now.past (version_of n.0 self.now.past)) query.now) }
     {
-        let node = if n.0 == 1 { &self.primary } else { &self.replica };
+        let node = if n.0 == 1 {
+            &self.primary
+        } else {
+            &self.replica
+        };
         let docs = node.documents(alloc)?;
         let answer = scan(alloc, docs.as_slice(), query)?;
         Ok((Version(node.version), answer))

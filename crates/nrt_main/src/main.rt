@@ -17,9 +17,8 @@ use crate::status::Status;
 use crate::top::run_nrt;
 use nrt_base::Arg;
 use script_text::LineFault;
-use std::env;
-use std::io;
 use std::process::ExitCode;
+use std::{env, io};
 
 /// The words after the program's name.
 fn words(rt: &HostRuntime) -> io::Result<Vec<Arg>> {

@@ -7,7 +7,8 @@ use std::test::Fail;
 
 const PLAIN: &[u8] = b"nodes 2\n1 put a Quick fox\n1 publish\n1 copy 2\n1 search 2 fox\n";
 
-const REPORT: &[u8] = b"2 accepted 1\n3 publishing\n3 published 1 2\n4 copying 2 2\n4 switched 2 2\n4 copied 2 2\n5 opened 2 0 2\n5 answer 2 0 2 1 a\n";
+const REPORT: &[u8] =
+    b"2 accepted 1\n3 publishing\n3 published 1 2\n4 copying 2 2\n4 switched 2 2\n4 copied 2 2\n5 opened 2 0 2\n5 answer 2 0 2 1 a\n";
 
 fn words(alloc: Global, texts: &[&[u8]]) -> Result<Vec<Arg>, Fail> {
     let mut words = Vec::new(alloc);
@@ -44,8 +45,20 @@ fn plain_path(rt: HostRuntime) -> Result<(), Fail> {
 fn statuses(rt: HostRuntime) -> Result<(), Fail> {
     let alloc = rt.alloc();
     let rows: &[(&[&[u8]], &[u8], &[u64], &[u64], Status)] = &[
-        (&[b"run"], b"", &[], &[], Status::BadScript(LineNo(1), LineFault::NotBuilt)),
-        (&[b"run"], b"nodes 2\n", &[], &[], Status::BadScript(LineNo(2), LineFault::NotBuilt)),
+        (
+            &[b"run"],
+            b"",
+            &[],
+            &[],
+            Status::BadScript(LineNo(1), LineFault::NotBuilt),
+        ),
+        (
+            &[b"run"],
+            b"nodes 2\n",
+            &[],
+            &[],
+            Status::BadScript(LineNo(2), LineFault::NotBuilt),
+        ),
         (&[b"run"], PLAIN, &[2], &[], Status::ReadFault),
         (&[b"run"], PLAIN, &[], &[1], Status::WriteFault),
         (&[b"run", b"x"], PLAIN, &[], &[], Status::Usage),

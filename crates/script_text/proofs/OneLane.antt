@@ -1,15 +1,14 @@
 -- When a history serves a script of one phase whose only lane is the first: each entry is one that its line asks for, and every line has its reply.
-use Rattle.std.proofs.Common.{◌≡◌, ◌≢◌, ◌==◌, ◌||◌, ◌++◌, ℕ, Bool, true, false, List, [], ◌∷◌, Option, refl, ap, ◌∙◌, sym, subst, inl, inr, arith, reverse, if◌then◌else◌}
+use Rattle.std.proofs.Common.{◌≡◌, ◌==◌, ◌||◌, ◌++◌, ℕ, Bool, true, false, List, [], ◌∷◌, refl, ap, ◌∙◌, sym, subst, inl, inr, reverse}
 use Rattle.std.specs.Prelude.{⊤}
 use Rattle.std.specs.List.{AllByRecursion, flat_map}
 use Rattle.std.proofs.lemmas.List.{append-nil, reverse-append, reverse-reverse}
 use Rattle.std.proofs.Math.Bool.{or-true}
-use Rattle.std.proofs.lemmas.Bool.Decides.{nat_tests, eqb_tells}
+use Rattle.std.proofs.lemmas.Bool.Decides.{eqb_tells}
 use Rattle.point_history.specs.declared.entry.Entry.{Entry}
 use Rattle.point_history.specs.declared.entry.History.{History}
 use Rattle.point_history.specs.Nodes.{Past}
 use Rattle.script_text.specs.declared.script.Line.{Line}
-use Rattle.script_text.specs.declared.script.LineCommand.{LineCommand}
 use Rattle.script_text.specs.declared.script.Phase.{Phase}
 use Rattle.script_text.specs.declared.script.Script.{Script}
 use Rattle.script_text.specs.Lines.{lines_of, lines_of_phase, lines_under, lines_of_lane, command_at, has_line, all_answered, earlier_phases_answered}
@@ -83,8 +82,8 @@ pub serves_one_lane : (script : Script) (lines : List Line) (h : History) → sc
 serves_one_lane script lines h e nodes walks answered =
     let whole = lines_whole script lines e in
     let known : AllByRecursion (λ (entry : Entry). has_line lines entry.at ≡ true) h.entries =
-        subst (AllByRecursion (λ (entry : Entry). has_line lines entry.at ≡ true)) (reverse-reverse h.entries)
-        (all_reverse (λ (entry : Entry). has_line lines entry.at ≡ true) (reverse h.entries) (known_lines lines (reverse h.entries) walks)) in
+    subst (AllByRecursion (λ (entry : Entry). has_line lines entry.at ≡ true)) (reverse-reverse h.entries)
+    (all_reverse (λ (entry : Entry). has_line lines entry.at ≡ true) (reverse h.entries) (known_lines lines (reverse h.entries) walks)) in
     record {
       nodes = nodes;
       lines = subst (λ (ls : List Line). AllByRecursion (λ (entry : Entry). has_line ls entry.at ≡ true) h.entries) (sym whole) known;

@@ -6,6 +6,6 @@ mod plain;
 mod script;
 mod splitting;
 
-pub use plain::{LONGEST, is_read_or_refused, parse_script};
 pub use fault::{LineFault, ScriptFault};
+pub use plain::{LONGEST, is_read_or_refused, parse_script};
 pub use script::{Force, Line, LineCommand, Phase, Script};

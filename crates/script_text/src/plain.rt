@@ -253,5 +253,4 @@ pub fn parse_script(alloc: Global, bytes: &[u8]) -> Result<Script, ScriptFault>
 /// The law that no bytes are both a script and refused.
 pub fn is_read_or_refused()
     ensures { NeverBoth }
-{
-}
+{}

@@ -1,9 +1,9 @@
-use Rattle.std.proofs.Common.{◌≡◌, ◌≤◌, ◌<◌, ◌+◌, ◌∷◌, List, [], length, drop, drop-cons, add-one, sym, subst, ap, ◌∙◌, arith, suc, refl}
+use Rattle.std.proofs.Common.{◌≡◌, ◌+◌, ◌∷◌, List, [], drop, drop-cons, add-one, sym, subst, ap, ◌∙◌, arith, suc, refl}
 use Rattle.std.proofs.lemmas.Grind.{common_steps}
-use Rattle.point_history.specs.Nodes.{Past, accepted_count}
+use Rattle.point_history.specs.Nodes.{accepted_count}
 use Rattle.script_text.specs.declared.script.Line.{Line}
 use Rattle.script_text.specs.Lines.{lines_of}
-use Rattle.nrt_main.specs.PlainRun.{after_lines, after_command}
+use Rattle.nrt_main.specs.PlainRun.{after_lines}
 use Rattle.nrt_main.proofs.Serving.{AreLeft, left_first, left_next, accepted_command, served_history}
 use Rattle.nrt_main.proofs.running.run_script.Goals as goal
 
@@ -22,7 +22,7 @@ loop-line-preserved c =
     let line : Line = c.line-item.result in
     let rest : List Line = drop (c.loop-line.line-index + 1) c.lines_of-lines.result.now in
     let split : drop c.loop-line.line-index c.lines_of-lines.result.now ≡ c.line-item.result ∷ drop (c.loop-line.line-index + 1) c.lines_of-lines.result.now =
-        rw add-one (drop-cons c.lines_of-lines.result.now c.loop-line.line-index c.line-item.result c.loop-line-test.true ∙ ap (λ (l : Line). l ∷ drop (suc c.loop-line.line-index) c.lines_of-lines.result.now) (sym c.line-item.is)) in
+    rw add-one (drop-cons c.lines_of-lines.result.now c.loop-line.line-index c.line-item.result c.loop-line-test.true ∙ ap (λ (l : Line). l ∷ drop (suc c.loop-line.line-index) c.lines_of-lines.result.now) (sym c.line-item.is)) in
     let next = c.in_ok-run_line.ensures.past in
     record {
       running = c.in_ok-run_line.ensures.running;

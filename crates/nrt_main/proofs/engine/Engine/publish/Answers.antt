@@ -11,7 +11,7 @@ pub overflow_add-v : goal.overflow_add-v
 overflow_add-v c =
     let kept = c.self.invariant (ap (λ (r : Run). r.ended) c.self.view_is ∙ c.requires.running) in
     let few : accepted_count (reverse c.self.inside.entries.items) < 2 ^ 32 =
-        subst (λ (past : Past). accepted_count past < 2 ^ 32) (sym (ap (λ (r : Run). r.past) c.self.view_is)) c.requires.few in
+    subst (λ (past : Past). accepted_count past < 2 ^ 32) (sym (ap (λ (r : Run). r.past) c.self.view_is)) c.requires.few in
     omega (arith, few, kept.numbered, kept.first.within, kept.operations.count)
 
 pub invariant_of-self-2 : goal.invariant_of-self-2
