@@ -1,7 +1,6 @@
 -- A line without an entry has neither started nor been answered.
-use Rattle.std.proofs.Common.{◌≡◌, Bool, true, false, ◌&&◌, ◌||◌, List, [], ◌∷◌, Some, None, Option, refl, if◌then◌else◌}
+use Rattle.std.proofs.Common.{◌≡◌, true, false, ◌&&◌, ◌||◌, [], ◌∷◌, Some, None, refl, if◌then◌else◌}
 use Rattle.nrt_base.specs.declared.numbers.At.{At}
-use Rattle.point_history.specs.declared.entry.Event.{Event}
 use Rattle.point_history.specs.Nodes.{Past}
 use Rattle.point_history.specs.Lines.{same_at, is_start, is_reply, entries_of_line, start_entry, last_of_line, last_by, is_answered}
 

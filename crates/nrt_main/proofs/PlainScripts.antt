@@ -1,5 +1,5 @@
 -- What the grammar of the first path takes, the engine runs.
-use Rattle.std.proofs.Common.{◌≡◌, List, ℕ, refl, sym, subst, arith}
+use Rattle.std.proofs.Common.{List, ℕ, refl, sym, subst, arith}
 use Rattle.script_text.specs.declared.script.Script.{Script}
 use Rattle.script_text.specs.PlainGrammar.{SpellsScript, plain_script}
 use Rattle.nrt_base.specs.declared.doc.Doc.{Doc}

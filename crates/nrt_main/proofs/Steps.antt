@@ -1,22 +1,21 @@
 -- What the engine keeps is kept by each step.
-use Rattle.std.proofs.Common.{◌≡◌, ◌≢◌, ℕ, ◌+◌, ◌<◌, ◌≤◌, ◌&&◌, ◌==◌, max, Bool, List, [], ◌∷◌, ◌++◌, length, take, drop, map, true, false, Some, None, refl, ap, ◌∙◌, sym, arith, length-append, length-drop, reverse, if◌then◌else◌, subst, take-append-drop}
-use Rattle.std.specs.Prelude.{nat_le}
+use Rattle.std.proofs.Common.{◌≡◌, ◌≢◌, ℕ, ◌+◌, ◌<◌, ◌≤◌, List, [], ◌∷◌, ◌++◌, length, take, drop, map, true, false, refl, ap, ◌∙◌, sym, arith, length-drop, reverse, subst, take-append-drop}
 use Rattle.std.specs.BTreeMap.{IsOrdered}
 use Rattle.std.proofs.lemmas.List.{reverse-append, take-take}
 use Rattle.std.proofs.Math.Seq.{take-length}
-use Rattle.std.proofs.lemmas.Bool.Decides.{nat_tests, eqb_tells}
+use Rattle.std.proofs.lemmas.Bool.Decides.{nat_tests}
 use Rattle.std.proofs.lemmas.Grind.{common_steps}
 use Rattle.nrt_base.specs.declared.doc.Doc.{Doc}
 use Rattle.nrt_base.specs.declared.numbers.At.{At}
 use Rattle.point_history.specs.declared.operation.Op.{Op}
 use Rattle.point_history.specs.declared.entry.Entry.{Entry}
 use Rattle.point_history.specs.Documents.{key_cmp, document_of, after_op, after_ops, documents_after}
-use Rattle.point_history.specs.Nodes.{Past, primary_of, version_of, newest_version, is_made_in_generation, accepted_count}
-use Rattle.point_history.specs.Lines.{same_at, entries_of_line, start_entry}
-use Rattle.point_history.specs.Points.{operations_written, operations_at, operations_of_generation, published_in_generation, accepted_in_generation, idle_publishes, adds_none, cut_of}
+use Rattle.point_history.specs.Nodes.{Past, version_of, newest_version}
+use Rattle.point_history.specs.Lines.{same_at, entries_of_line}
+use Rattle.point_history.specs.Points.{operations_written, operations_at, published_in_generation, accepted_in_generation, adds_none, cut_of}
 use Rattle.point_history.specs.Legal.{IsLegalPast}
 use Rattle.nrt_main.specs.declared.node.Searched.{Searched}
-use Rattle.nrt_main.specs.Kept.{IsQuiet, AreVersions, AreOperations, Searches, Shows}
+use Rattle.nrt_main.specs.Kept.{Shows}
 use Rattle.nrt_main.specs.PlainRun.{refused_entry, publishing_entry, published_entry, published_next, copying_entry, switched_entry, copied_entry, copied_newer}
 use Rattle.nrt_main.proofs.FreshLines.{fresh_start}
 

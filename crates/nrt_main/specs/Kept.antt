@@ -1,5 +1,5 @@
 -- What the engine keeps: its plain values are those that the entries so far show.
-use Rattle.std.specs.Prelude.{ℕ, ◌≡◌, ◌<◌, ◌≤◌, ◌+◌, List, length, take, map, Bool, true, Some, None}
+use Rattle.std.specs.Prelude.{ℕ, ◌≡◌, ◌<◌, ◌≤◌, ◌+◌, List, length, take, map, true, Some, None}
 use Rattle.std.specs.BTreeMap.{IsOrdered}
 use Rattle.point_history.specs.declared.operation.Op.{Op}
 use Rattle.point_history.specs.Documents.{key_cmp, document_of, documents_after}

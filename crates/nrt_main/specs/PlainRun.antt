@@ -2,7 +2,6 @@
 use Rattle.std.specs.Prelude.{ℕ, ◌+◌, ◌≡◌, ◌≤◌, ◌==◌, List, [], ◌∷◌, Bool, true, false, length, nat_lt, if◌then◌else◌}
 use Rattle.std.specs.List.{list_all}
 use Rattle.nrt_base.specs.declared.numbers.At.{At}
-use Rattle.nrt_base.specs.declared.numbers.LaneNo.{LaneNo}
 use Rattle.nrt_base.specs.Bytes.{is_between}
 use Rattle.point_history.specs.declared.operation.Op.{Op}
 use Rattle.point_history.specs.declared.operation.Op.TheVariants.{Put as PutOp}

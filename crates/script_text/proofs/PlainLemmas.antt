@@ -1,13 +1,13 @@
 -- A line is read as what it spells.
-use Rattle.std.proofs.Common.{◌≡◌, ◌≤◌, ◌<◌, ◌+◌, ℕ, Bool, true, false, List, [], ◌∷◌, ◌++◌, ◌&&◌, ◌||◌, ◌==◌, not, length, map, refl, ap, ◌∙◌, sym, subst, arith, if◌then◌else◌}
+use Rattle.std.proofs.Common.{◌≡◌, ℕ, true, false, List, [], ◌∷◌, ◌++◌, ◌&&◌, ◌==◌, not, length, map, refl, ap, ◌∙◌, sym, arith}
 use Rattle.std.specs.List.{list_all}
-use Rattle.std.specs.Prelude.{IsTrue, nat_le, codes}
-use Rattle.std.proofs.lemmas.Bool.Decides.{nat_tests, eqb_tells}
+use Rattle.std.specs.Prelude.{nat_le, codes}
+use Rattle.std.proofs.lemmas.Bool.Decides.{nat_tests}
 use Rattle.std.proofs.lemmas.List.{length-map}
 use Rattle.nrt_base.specs.declared.doc.Doc.{Doc}
-use Rattle.nrt_base.specs.Bytes.{is_key, is_key_byte, is_word, is_word_byte, is_text}
+use Rattle.nrt_base.specs.Bytes.{is_key, is_key_byte, is_word, is_word_byte}
 use Rattle.point_history.specs.Words.{is_alphanumeric, lower}
-use Rattle.script_text.specs.PlainGrammar.{is_free_of, is_put_text, is_search_word, is_keyword, SpellsPut, SpellsSearch}
+use Rattle.script_text.specs.PlainGrammar.{is_free_of, is_put_text, is_search_word, SpellsPut}
 
 -- the bytes of a key are no spaces
 key_is_free : (key : List ℕ) → list_all is_key_byte key ≡ true → is_free_of 32 key ≡ true

@@ -1,6 +1,6 @@
 -- Which line is the first that is refused, when the lines before it have the forms of their places.
-use Rattle.std.proofs.Common.{◌≡◌, ◌≢◌, ◌<◌, ◌+◌, ℕ, List, [], ◌∷◌, length, refl, ap, ◌∙◌, sym, subst, arith, inl, inr, Result, Ok, Err, true, false, ◌==◌, if◌then◌else◌}
-use Rattle.std.specs.Prelude.{codes, drop, IsErrOf}
+use Rattle.std.proofs.Common.{◌≡◌, ◌≢◌, ◌<◌, ◌+◌, ℕ, List, [], ◌∷◌, length, refl, ap, ◌∙◌, sym, subst, arith, inl, inr, Result, Err, true, false, ◌==◌, if◌then◌else◌}
+use Rattle.std.specs.Prelude.{codes}
 use Rattle.nrt_base.specs.declared.doc.Doc.{Doc}
 use Rattle.nrt_base.specs.declared.numbers.LineNo.{LineNo}
 use Rattle.script_text.specs.declared.fault.LineFault.{LineFault}

@@ -1,6 +1,6 @@
 -- Which scripts are in form: every number is in its range, and each line stands where it says.
-use Rattle.std.specs.Prelude.{ℕ, ◌≡◌, ◌≤◌, ◌<◌, ◌^◌, List, [], ◌∷◌, ◌++◌, Bool, true, false, ◌&&◌, ◌||◌, not, ◌==◌, nat_lt, nat_le, length, IsTrue}
-use Rattle.std.specs.List.{list_all, list_any}
+use Rattle.std.specs.Prelude.{ℕ, ◌≤◌, List, [], ◌∷◌, Bool, true, ◌&&◌, not, ◌==◌, nat_lt, IsTrue}
+use Rattle.std.specs.List.{list_all}
 use Rattle.nrt_base.specs.declared.numbers.LaneNo.{LaneNo}
 use Rattle.nrt_base.specs.Bytes.{is_between}
 use Rattle.point_history.specs.declared.cause.FaultPlan.{FaultPlan}
@@ -8,7 +8,7 @@ use Rattle.point_history.specs.declared.cause.FaultPlan.TheVariants.{Link, Damag
 use Rattle.point_history.specs.Matching.{is_well_formed}
 use Rattle.script_text.specs.declared.script.Line.{Line}
 use Rattle.script_text.specs.declared.script.LineCommand.{LineCommand}
-use Rattle.script_text.specs.declared.script.LineCommand.TheVariants.{Put, Delete, Publish, Copy, Settle, Search, Open, Ask, Close, Commit, Crash, Reopen, Promote, Merge, Drain, Files, Fault}
+use Rattle.script_text.specs.declared.script.LineCommand.TheVariants.{Copy, Search, Open, Ask, Close, Commit, Crash, Reopen, Promote, Merge, Drain, Files, Fault}
 use Rattle.script_text.specs.declared.script.Phase.{Phase}
 use Rattle.script_text.specs.declared.script.Script.{Script}
 use Rattle.script_text.specs.Lines.{lines_of, lines_of_lane}

@@ -1,9 +1,8 @@
 -- The grammar of the first path, for now: which bytes are a script of exactly five lines, and which line is the first without the form of its place. The grammar of whole scripts takes its place.
-use Rattle.std.specs.Prelude.{ℕ, ◌≡◌, ◌≢◌, ◌+◌, ◌<◌, List, [], ◌∷◌, ◌++◌, length, map, Bool, true, false, ◌&&◌, ◌||◌, not, ◌==◌, nat_eq, nat_le, codes, drop, if◌then◌else◌, IsTrue, ◌⊎◌}
+use Rattle.std.specs.Prelude.{ℕ, ◌≡◌, ◌≢◌, ◌+◌, List, [], ◌∷◌, ◌++◌, length, map, Bool, ◌&&◌, ◌||◌, not, ◌==◌, nat_eq, nat_le, codes, drop, if◌then◌else◌, IsTrue, ◌⊎◌}
 use Rattle.std.specs.List.{list_all, starts_with, ends_with}
 use Rattle.std.specs.Cmp.Lexicographic.{pointwise}
 use Rattle.nrt_base.specs.declared.doc.Doc.{Doc}
-use Rattle.nrt_base.specs.declared.numbers.At.{At}
 use Rattle.nrt_base.specs.Bytes.{is_key, is_text}
 use Rattle.point_history.specs.declared.query.Query.{Word as WordQuery}
 use Rattle.point_history.specs.Words.{is_alphanumeric, lower}

@@ -1,15 +1,14 @@
 -- Which histories serve a script: they answer each line once, in order, with what it asks for.
-use Rattle.std.specs.Prelude.{ℕ, ◌≡◌, ◌≤◌, List, [], ◌∷◌, reverse, Bool, true, false, ◌&&◌, ◌||◌, not, ◌==◌, ⊤, Option, Some, None}
+use Rattle.std.specs.Prelude.{ℕ, ◌≡◌, ◌≤◌, List, [], ◌∷◌, reverse, Bool, true, false, ◌||◌, ◌==◌, ⊤, Option, Some, None}
 use Rattle.std.specs.List.{AllByRecursion}
 use Rattle.nrt_base.specs.declared.numbers.At.{At}
 use Rattle.point_history.specs.declared.operation.Op.TheVariants.{Put as PutOp, Delete as DeleteOp}
 use Rattle.point_history.specs.declared.cause.Cause.{Cause}
-use Rattle.point_history.specs.declared.entry.Entry.{Entry}
 use Rattle.point_history.specs.declared.entry.Event.{Event}
 use Rattle.point_history.specs.declared.entry.Event.TheVariants.{Accepted, Publishing, Published, Copying, Switched, Copied, Settling, Settled, Opened, Asking, Answered, Closed, Committing, Committed, Crashed, Reopened, Promoted, Merging, Drained, Files as Listed, Planned, Fault as Met, Refused}
 use Rattle.point_history.specs.declared.entry.History.{History}
 use Rattle.point_history.specs.Nodes.{Past}
-use Rattle.point_history.specs.Lines.{is_start, is_answered, last_of_line}
+use Rattle.point_history.specs.Lines.{is_answered, last_of_line}
 use Rattle.script_text.specs.declared.script.Line.{Line}
 use Rattle.script_text.specs.declared.script.LineCommand.{LineCommand}
 use Rattle.script_text.specs.declared.script.LineCommand.TheVariants.{Put, Delete, Publish, Copy, Settle, Search, Open, Ask, Close, Commit, Crash, Reopen, Promote, Merge, Drain, Files, Fault}

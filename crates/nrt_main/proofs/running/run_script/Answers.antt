@@ -1,9 +1,9 @@
-use Rattle.std.proofs.Common.{◌≡◌, ◌≤◌, ◌<◌, ◌+◌, ◌∷◌, List, [], length, drop, drop-cons, add-one, sym, subst, ap, ◌∙◌, arith, suc, refl}
+use Rattle.std.proofs.Common.{◌≡◌, ◌+◌, ◌∷◌, List, [], drop, drop-cons, add-one, sym, subst, ap, ◌∙◌, arith, suc, refl}
 use Rattle.std.proofs.lemmas.Grind.{common_steps}
-use Rattle.point_history.specs.Nodes.{Past, accepted_count}
+use Rattle.point_history.specs.Nodes.{accepted_count}
 use Rattle.script_text.specs.declared.script.Line.{Line}
 use Rattle.script_text.specs.Lines.{lines_of}
-use Rattle.nrt_main.specs.PlainRun.{after_lines, after_command}
+use Rattle.nrt_main.specs.PlainRun.{after_lines}
 use Rattle.nrt_main.proofs.Serving.{AreLeft, left_first, left_next, accepted_command, served_history}
 use Rattle.nrt_main.proofs.running.run_script.Goals as goal
 

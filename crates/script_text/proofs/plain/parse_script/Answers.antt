@@ -1,4 +1,4 @@
-use Rattle.std.proofs.Common.{◌≡◌, ◌<◌, [], length, arith, sym, ap, ◌∙◌}
+use Rattle.std.proofs.Common.{[], arith}
 use Rattle.std.proofs.lemmas.Grind.{common_steps}
 use Rattle.script_text.specs.PlainGrammar.{lines_in}
 use Rattle.script_text.proofs.RefusalLemmas.{third_refused, fourth_refused, fifth_refused, sixth_refused, script_spelled, some_line, no_line}
