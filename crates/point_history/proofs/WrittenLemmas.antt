@@ -37,4 +37,4 @@ started at (e ∷ past) =
     started_step (is_start e.event && same_at e.at at) (operations_written past) (operations_at_start at past) past (before_start at past) refl (started at past)
 
 -- a point has no more documents than operations were accepted
-ruleset pub few_documents = (length-documents_at-le)
+pub ruleset few_documents = (length-documents_at-le)
