@@ -217,7 +217,7 @@ impl Level {
             (λ level. level ≡ record { any = self.any; all = self.all; nots = self.nots + 1 }) }
     {
         let Level { any, all, nots } = self;
-        if nots >= 32 {
+        if usize::from(nots) >= DEEPEST {
             return None;
         }
         Some(Level {

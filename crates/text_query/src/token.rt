@@ -35,7 +35,7 @@ pub struct Placed {
 fn is_alphanumeric(b: u8) -> bool
     ensures { result ≡ is_alphanumeric_lem b }
 {
-    matches!(b, b'A'..=b'Z') || matches!(b, b'a'..=b'z') || matches!(b, b'0'..=b'9')
+    b.is_ascii_alphanumeric()
 }
 
 /// How many letters and digits the text begins with.
