@@ -116,6 +116,40 @@ pub fn append_all<R: Wait>(
     (seat, Ok(seen))
 }
 
+/// A seat whose thread has ended, and a copy of all that it has seen.
+pub type Ended = (LaneSeat<Pairs>, Result<Vec<(u64, u64)>, AllocError>);
+
+/// Two threads append the numbers below `count` each, and give their seats back.
+pub fn append_in_two_threads<R: Threads + Wait + Sync>(
+    rt: &R,
+    alloc: Global,
+    lock: &HistLock<Pairs>,
+    one: LaneSeat<Pairs>,
+    two: LaneSeat<Pairs>,
+    count: u64,
+) -> (Ended, Ended)
+    requires one { IsSeatOf lock.now one × IsFree one × (number_of one ≡ 1) × (own_entries one ≡ []) × (history_seen one ≡ []) }
+    requires two { IsSeatOf lock.now two × IsFree two × (number_of two ≡ 2) × (own_entries two ≡ []) × (history_seen two ≡ []) }
+    ensures one { IsSeatOf lock.now result.0.0 × IsFree result.0.0 × (number_of result.0.0 ≡ 1) × (room_of result.0.0 ≡ room_of one) × (joined_seats result.0.0 ≡ joined_seats one) }
+    ensures own_of_one { OnOk result.0.1 (own_entries result.0.0 ≡ pairs_below 1 count) }
+    ensures seen_by_one { IfOk result.0.1 (λ seen. seen.items ≡ history_seen result.0.0) }
+    ensures two { IsSeatOf lock.now result.1.0 × IsFree result.1.0 × (number_of result.1.0 ≡ 2) × (room_of result.1.0 ≡ room_of two) × (joined_seats result.1.0 ≡ joined_seats two) }
+    ensures own_of_two { OnOk result.1.1 (own_entries result.1.0 ≡ pairs_below 2 count) }
+    ensures seen_by_two { IfOk result.1.1 (λ seen. seen.items ≡ history_seen result.1.0) }
+{
+    join(
+        rt,
+        move || -> Ended
+            requires { IsSeatOf lock.now one × IsFree one × (number_of one ≡ 1) × (own_entries one ≡ []) × (history_seen one ≡ []) }
+            ensures { IsSeatOf lock.entry.now result.0 × IsFree result.0 × (number_of result.0 ≡ 1) × (room_of result.0 ≡ room_of one) × (joined_seats result.0 ≡ joined_seats one) × OnOk result.1 (own_entries result.0 ≡ pairs_below 1 count) × IfOk result.1 (λ seen. seen.items ≡ history_seen result.0) }
+        { append_all(rt, alloc, lock, one, 1, count) },
+        move || -> Ended
+            requires { IsSeatOf lock.now two × IsFree two × (number_of two ≡ 2) × (own_entries two ≡ []) × (history_seen two ≡ []) }
+            ensures { IsSeatOf lock.entry.now result.0 × IsFree result.0 × (number_of result.0 ≡ 2) × (room_of result.0 ≡ room_of two) × (joined_seats result.0 ≡ joined_seats two) × OnOk result.1 (own_entries result.0 ≡ pairs_below 2 count) × IfOk result.1 (λ seen. seen.items ≡ history_seen result.0) }
+        { append_all(rt, alloc, lock, two, 2, count) },
+    )
+}
+
 /// What two threads leave behind.
 #[derive(Drop)]
 pub struct Left {
@@ -126,8 +160,8 @@ pub struct Left {
     pub two: Vec<(u64, u64)>,
 }
 
-/// Two threads append the numbers below `count` each. The list has under each one's number just these, once and in order, and it begins with all that either thread had seen.
-pub fn append_in_two_threads<R: Threads + Wait + Sync>(
+/// The list after two threads have appended the numbers below `count` each. It has under each one's number just these, once and in order, and it begins with all that either thread had seen.
+pub fn list_of_two_threads<R: Threads + Wait + Sync>(
     rt: &R,
     alloc: Global,
     count: u64,
@@ -139,18 +173,7 @@ pub fn append_in_two_threads<R: Threads + Wait + Sync>(
     let (lock, mut first) = HistLock::new(alloc, Pairs::new(alloc))?;
     let one = lock.split(&mut first);
     let two = lock.split(&mut first);
-    let shared = &lock;
-    let (one, two) = join(
-        rt,
-        move || -> (LaneSeat<Pairs>, Result<Vec<(u64, u64)>, AllocError>)
-            requires { IsSeatOf shared.now one × IsFree one × (number_of one ≡ 1) × (own_entries one ≡ []) × (history_seen one ≡ []) }
-            ensures { IsSeatOf shared.entry.now result.0 × IsFree result.0 × (number_of result.0 ≡ 1) × (room_of result.0 ≡ room_of one) × (joined_seats result.0 ≡ joined_seats one) × OnOk result.1 (own_entries result.0 ≡ pairs_below 1 count) × IfOk result.1 (λ seen. seen.items ≡ history_seen result.0) }
-        { append_all(rt, alloc, shared, one, 1, count) },
-        move || -> (LaneSeat<Pairs>, Result<Vec<(u64, u64)>, AllocError>)
-            requires { IsSeatOf shared.now two × IsFree two × (number_of two ≡ 2) × (own_entries two ≡ []) × (history_seen two ≡ []) }
-            ensures { IsSeatOf shared.entry.now result.0 × IsFree result.0 × (number_of result.0 ≡ 2) × (room_of result.0 ≡ room_of two) × (joined_seats result.0 ≡ joined_seats two) × OnOk result.1 (own_entries result.0 ≡ pairs_below 2 count) × IfOk result.1 (λ seen. seen.items ≡ history_seen result.0) }
-        { append_all(rt, alloc, shared, two, 2, count) },
-    );
+    let (one, two) = append_in_two_threads(rt, alloc, &lock, one, two, count);
     lock.join(&mut first, one.0);
     lock.join(&mut first, two.0);
     let pairs = lock.close(first);

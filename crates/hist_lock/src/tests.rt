@@ -1,10 +1,10 @@
 use crate::lock::HistLock;
-use crate::pairs::{Left, Pairs, append_all, append_in_two_threads, lock_after_telling};
+use crate::pairs::{Left, Pairs, append_in_two_threads, list_of_two_threads, lock_after_telling};
 use std::test::Fail;
 
 #[test]
 fn two_threads_append_a_thousand_each(rt: HostRuntime) -> Result<(), Fail> {
-    let Left { pairs, one, two } = append_in_two_threads(&rt, rt.alloc(), 1000)?;
+    let Left { pairs, one, two } = list_of_two_threads(&rt, rt.alloc(), 1000)?;
     let mut next = [0u64, 0];
     let mut ordered = true;
     for &(by, number) in pairs.as_slice() {
@@ -26,14 +26,17 @@ fn a_seat_that_is_told_finds_all_entries_of_both(rt: HostRuntime) -> Result<(), 
     let (lock, mut first) = HistLock::new(alloc, Pairs::new(alloc))?;
     let one = lock.split(&mut first);
     let two = lock.split(&mut first);
-    let (mut one, one_seen) = append_all(&rt, alloc, &lock, one, 1, 3);
-    let (mut two, two_seen) = append_all(&rt, alloc, &lock, two, 2, 4);
+    let (one, two) = append_in_two_threads(&rt, alloc, &lock, one, two, 1000);
+    let (mut one, one_seen) = one;
+    let (mut two, two_seen) = two;
     let mut held = lock_after_telling(&rt, &lock, &mut one, &mut two);
     let found = held.value().as_slice().len();
     lock.unlock(&mut two, held);
     lock.join(&mut first, one);
     lock.join(&mut first, two);
     let pairs = lock.close(first);
-    assert!(rt; one_seen.is_ok() && two_seen.is_ok() && found == 7 && pairs.as_slice().len() == 7);
+    assert!(rt;
+        one_seen.is_ok() && two_seen.is_ok() && found == 2000 && pairs.as_slice().len() == 2000
+    );
     Ok(())
 }
