@@ -20,7 +20,7 @@ pub enum ReadEnd {
 
 const PIECE: usize = 4096;
 
-/// Reads a source to its end, in at most one turn more than a script may have bytes, since each turn takes one.
+/// Reads a source to its end, in at most as many turns as a script has bytes, and two more.
 pub fn read_all<S: Source>(alloc: Global, source: &mut S) -> Result<Vec<u8>, ReadEnd>
     ensures read { IfOk result (λ bytes. Consumes (S.left source.old) (S.left source.new) bytes.items × IsAtEnd (S.left source.new) × (length bytes.items ≤ LONGEST)) }
     ensures later { S.fault_count source.old ≤ S.fault_count source.new }

@@ -34,7 +34,7 @@ is_trimmed text = nat_le 1 (length text) && not (starts_with nat_eq text (codes 
 abbrev pub is_put_text : List ℕ → Bool
 is_put_text text = is_text text && is_trimmed text
 
--- exactly `AND`, `OR` or `NOT`, which are words of the query grammar and none to search for
+-- a word of the query grammar that is none of a search
 abbrev pub is_keyword : List ℕ → Bool
 is_keyword word = pointwise nat_eq word (codes "AND") || pointwise nat_eq word (codes "OR") || pointwise nat_eq word (codes "NOT")
 
