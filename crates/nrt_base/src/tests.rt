@@ -8,7 +8,7 @@ use std::test::Fail;
 fn small_types_keep_their_bytes(rt: HostRuntime) -> Result<(), Fail> {
     let alloc = rt.alloc();
     let key = Key::new(alloc, b"art-1")?;
-    let text = Text::new(alloc, b"Storm closes harbour road, ferries wait")?;
+    let text = Text::new(alloc, b"red fox")?;
     let word = Word::new(alloc, b"storm")?;
     let header = NameBytes::new(alloc, &[0x3f, 0xd7, 0x6c, 0x17])?;
     let arg = Arg::new(alloc, b"run")?;
@@ -20,7 +20,7 @@ fn small_types_keep_their_bytes(rt: HostRuntime) -> Result<(), Fail> {
     assert!(rt; key < Key::new(alloc, b"art-2")?);
     assert!(rt; Word::new(alloc, b"a")? < Word::new(alloc, b"ab")?);
     let doc = Doc { key, text }.share(alloc)?;
-    assert_eq!(rt; doc.text.as_slice().len(), 39);
+    assert_eq!(rt; doc.text.as_slice().len(), 7);
     Ok(())
 }
 
