@@ -1,0 +1,5 @@
+pub mod Format
+pub mod Numbers
+pub mod ItemTable
+pub mod File
+pub mod TableParts

@@ -1,0 +1,148 @@
+ghost use Rattle.std.specs.Prelude.{◌≡◌, ◌<◌, ◌≤◌, ◌^◌, ◌++◌, Option, Some, None, IfSome, OnOk, OnErr};
+ghost use Rattle.std.specs.Option.{option_map};
+ghost use Rattle.body_forms.specs.Format.{Skips, chain_at};
+ghost use Rattle.nrt_base.specs.VInts.{vint_limit};
+ghost use Rattle.body_forms.specs.Numbers.{u32_bytes, u32_at, u64_bytes, u64_at, vint_at, vint_at_within, positive_at, difference, difference_at, above, ascending_at};
+
+use nrt_base::{NoMemory, push_vint};
+
+/// The number in the first four bytes, the highest first, and the bytes after it.
+#[tactic(auto, unfolding(crate::specs::Numbers::u32_at))]
+pub fn u32_of(bytes: &[u8]) -> Option<(u32, &[u8])>
+    ensures { option_map (λ x. (x.0, x.1.now)) result ≡ u32_at bytes.now }
+{
+    match bytes.split_first_chunk::<4>() {
+        Some((number, rest)) => Some((u32::from_be_bytes(*number), rest)),
+        None => None,
+    }
+}
+
+/// The number in the first eight bytes, the highest first, and the bytes after it.
+#[tactic(auto, unfolding(crate::specs::Numbers::u64_at))]
+pub fn u64_of(bytes: &[u8]) -> Option<(u64, &[u8])>
+    ensures { option_map (λ x. (x.0, x.1.now)) result ≡ u64_at bytes.now }
+{
+    match bytes.split_first_chunk::<8>() {
+        Some((number, rest)) => Some((u64::from_be_bytes(*number), rest)),
+        None => None,
+    }
+}
+
+/// Puts a number at the end in four bytes, the highest first.
+pub fn push_u32(out: &mut Vec<u8>, n: u32) -> Result<(), NoMemory>
+    ensures ok { OnOk result (out.new.items ≡ out.old.items ++ u32_bytes n) }
+    ensures err { OnErr result (out.new.items ≡ out.old.items) }
+{
+    out.extend_from_slice(&n.to_be_bytes())
+}
+
+/// Puts a number at the end in eight bytes, the highest first.
+pub fn push_u64(out: &mut Vec<u8>, n: u64) -> Result<(), NoMemory>
+    ensures ok { OnOk result (out.new.items ≡ out.old.items ++ u64_bytes n) }
+    ensures err { OnErr result (out.new.items ≡ out.old.items) }
+{
+    out.extend_from_slice(&n.to_be_bytes())
+}
+
+/// The vInt at the front, and the bytes after it. It is in its shortest form: a longer one is none.
+pub fn vint_of(bytes: &[u8]) -> Option<(u32, &[u8])>
+    ensures { option_map (λ x. (x.0, x.1.now)) result ≡ vint_at bytes.now }
+{
+    vint_within_of(4, bytes)
+}
+
+// The last of five bytes is below this.
+const LAST_LIMIT: u8 = 16;
+
+// What the bytes after the first stand for is at least this: else they could be left out.
+const LEAST_HIGH: u32 = 1;
+
+// At most so many bytes may follow the first.
+fn vint_within_of(more: u8, bytes: &[u8]) -> Option<(u32, &[u8])>
+    requires { more ≤ 4 }
+    ensures value { option_map (λ x. (x.0, x.1.now)) result ≡ vint_at_within more bytes.now }
+    ensures below { IfSome result (λ x. x.0 < vint_limit more) }
+{
+    match bytes {
+        [] => None,
+        [b, rest @ ..] => {
+            let first = *b;
+            if more == 0 {
+                if first < LAST_LIMIT {
+                    Some((u32::from(first), rest))
+                } else {
+                    None
+                }
+            } else if first < 128 {
+                Some((u32::from(first), rest))
+            } else {
+                let (high, after) = vint_within_of(more - 1, rest)?;
+                if high < LEAST_HIGH {
+                    None
+                } else {
+                    Some((u32::from(first - 128) + 128 * high, after))
+                }
+            }
+        }
+    }
+}
+
+/// The vInt at the front where it is not 0, and the bytes after it.
+#[tactic(auto, unfolding(crate::specs::Numbers::positive_at))]
+pub fn positive_of(bytes: &[u8]) -> Option<(u32, &[u8])>
+    ensures { option_map (λ x. (x.0, x.1.now)) result ≡ positive_at bytes.now }
+{
+    let (n, rest) = vint_of(bytes)?;
+    if n == 0 { None } else { Some((n, rest)) }
+}
+
+/// The next of ascending numbers, and the bytes after it. `least` is the least that may come: 0 for the first, and
+/// one above the number before for each other. The difference is counted from `least - 1`, or from 0.
+#[tactic(auto, unfolding(crate::specs::Numbers::difference_at))]
+pub fn difference_of(least: u64, bytes: &[u8]) -> Option<(u32, &[u8])>
+    requires { least ≤ 2 ^ 32 }
+    ensures value { option_map (λ x. (x.0, x.1.now)) result ≡ difference_at least bytes.now }
+    ensures below { IfSome result (λ x. x.0 < 2 ^ 32) }
+{
+    let (d, rest) = vint_of(bytes)?;
+    let base = if least == 0 { 0 } else { least - 1 };
+    let next = base + u64::from(d);
+    if next < least {
+        return None;
+    }
+    match u32::try_from(next) {
+        Ok(x) => Some((x, rest)),
+        Err(_) => None,
+    }
+}
+
+/// Puts the next of ascending numbers at the end.
+pub fn push_difference(out: &mut Vec<u8>, least: u64, n: u32) -> Result<(), NoMemory>
+    requires { least ≤ n }
+    ensures ok { OnOk result (out.new.items ≡ out.old.items ++ difference least n) }
+    ensures err { OnErr result (out.new.items ≡ out.old.items) }
+{
+    let base = least.saturating_sub(1) as u32;
+    push_vint(out, n - base)
+}
+
+/// The bytes after at least one ascending number: how many they are, then each.
+pub fn skip_ascending(bytes: &[u8]) -> Option<&[u8]>
+    ensures { Skips (option_map (λ r. r.now) result) (ascending_at bytes.now) }
+{
+    let (count, rest) = positive_of(bytes)?;
+    skip_differences(count, rest)
+}
+
+fn skip_differences(count: u32, bytes: &[u8]) -> Option<&[u8]>
+    ensures { Skips (option_map (λ r. r.now) result) (chain_at difference_at above count 0 bytes.now) }
+{
+    let mut rest = bytes;
+    let mut least: u64 = 0;
+    for _ in 0..count {
+        let (x, after) = difference_of(least, rest)?;
+        least = u64::from(x) + 1;
+        rest = after;
+    }
+    Some(rest)
+}

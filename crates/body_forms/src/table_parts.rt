@@ -1,0 +1,87 @@
+ghost use Rattle.std.specs.Prelude.{◌≡◌, ◌++◌, ◌<◌, ◌^◌, ℕ, List, length, take, OnOk, OnErr};
+ghost use Rattle.body_forms.specs.Numbers.{u32_bytes};
+ghost use Rattle.body_forms.specs.ItemTable.{IsItemTable};
+ghost use Rattle.body_forms.specs.TableParts.{ArePartsOf};
+
+use crate::numbers::push_u32;
+use nrt_base::NoMemory;
+use std::alloc::AllocError;
+
+// The most items, and the most bytes of an area and of a table.
+const MOST: usize = 0xffff_ffff;
+
+/// Puts where the area ends now at the end of the offsets: first for an empty area, and then after each item. An area of
+/// 2^32 bytes or more is want of memory.
+pub fn push_end(offsets: &mut Vec<u8>, area: &[u8]) -> Result<(), NoMemory>
+    ensures small { OnOk result (length area.now < 2 ^ 32) }
+    ensures end { OnOk result (offsets.new.items ≡ offsets.old.items ++ u32_bytes (length area.now)) }
+    ensures err { OnErr result (offsets.new.items ≡ offsets.old.items) }
+{
+    if area.len() > MOST {
+        return Err(AllocError);
+    }
+    push_u32(offsets, area.len() as u32)
+}
+
+/// Puts the table of so many items at the end, from its offsets and its area. A table of 2^32 bytes or more, and 2^32
+/// items or more, are want of memory.
+pub fn push_table(
+    out: &mut Vec<u8>,
+    count: usize,
+    offsets: &[u8],
+    area: &[u8],
+) -> Result<(), NoMemory>
+    ensures ok { OnOk result ((items : List (List ℕ)) → length items ≡ count → ArePartsOf items offsets.now area.now
+        → (table : List ℕ) × (out.new.items ≡ out.old.items ++ table) × IsItemTable table items × (length table < 2 ^ 32)) }
+    ensures err { OnErr result (out.new.items ≡ out.old.items) }
+{
+    let start = out.len();
+    match push_parts(out, count, offsets, area) {
+        Ok(()) => Ok(()),
+        Err(wanting) => {
+            out.truncate(start);
+            Err(wanting)
+        }
+    }
+}
+
+// Puts the parts of a table at the end. Where memory is wanting, some of them may stand there.
+fn push_parts(out: &mut Vec<u8>, count: usize, offsets: &[u8], area: &[u8]) -> Result<(), NoMemory>
+    ensures front { take (length out.old.items) out.new.items ≡ out.old.items }
+    ensures table { OnOk result ((items : List (List ℕ)) → length items ≡ count → ArePartsOf items offsets.now area.now
+        → (table : List ℕ) × (out.new.items ≡ out.old.items ++ table) × IsItemTable table items × (length table < 2 ^ 32)) }
+{
+    let start = out.len();
+    if count > MOST {
+        return Err(AllocError);
+    }
+    push_u32(out, count as u32)?;
+    out.extend_from_slice(offsets)?;
+    out.extend_from_slice(area)?;
+    if out.len() - start > MOST {
+        return Err(AllocError);
+    }
+    Ok(())
+}
+
+#[cfg(test)]
+mod tests {
+    use super::*;
+    use std::test::Fail;
+
+    #[test]
+    fn table_of_one_item(rt: HostRuntime) -> Result<(), Fail> {
+        let mut offsets = Vec::new(rt.alloc());
+        let mut area = Vec::new(rt.alloc());
+        push_end(&mut offsets, &area)?;
+        area.push(7)?;
+        push_end(&mut offsets, &area)?;
+        let mut table = Vec::new(rt.alloc());
+        push_table(&mut table, 1, &offsets, &area)?;
+        assert_eq!(rt;
+            table.as_slice(),
+            b"\0\0\0\x01\0\0\0\0\0\0\0\x01\x07".as_slice()
+        );
+        Ok(())
+    }
+}

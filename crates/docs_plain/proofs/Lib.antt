@@ -1,0 +1,4 @@
+pub mod RowLaws
+pub mod BodyLaws
+pub mod FileLaws
+pub mod WritingLaws
