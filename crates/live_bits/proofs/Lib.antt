@@ -1,0 +1,5 @@
+pub mod BitLaws
+pub mod Packing
+pub mod Editing
+pub mod Bodies
+pub mod FileLaws
