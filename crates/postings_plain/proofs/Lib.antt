@@ -1,0 +1,13 @@
+pub mod EntryLaws
+pub mod Passing
+pub mod PlaceLaws
+pub mod Finding
+pub mod BodyLaws
+pub mod CountedHits
+pub mod FileLaws
+pub mod Judging
+pub mod RowCounts
+pub mod Gaining
+pub mod GatheringLaws
+pub mod ChainWriting
+pub mod FoundEntries

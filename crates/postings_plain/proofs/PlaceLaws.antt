@@ -1,0 +1,79 @@
+-- The positions in the first row that is left.
+use Rattle.std.proofs.Common.{◌≡◌, ℕ, zero, suc, ◌<◌, ◌≤◌, List, [], ◌∷◌, length, Some, None, refl, sym, ap, subst, ◌∙◌, arith}
+use Rattle.body_forms.specs.Format.{Read, ◌>>=◌, chain_at}
+use Rattle.body_forms.specs.Numbers.{difference_at, above, positive_at, ascending_at}
+use Rattle.body_forms.proofs.Formats.{bind_some, read_is}
+use Rattle.postings_plain.specs.Postings.{Hit}
+use Rattle.postings_plain.specs.Rows.{first_positions}
+use Rattle.postings_plain.specs.Reading.{positions_at, numbers_or_none, AreNumbers}
+use Rattle.postings_plain.proofs.Passing.{rows_at, head_of, none_left}
+
+pub counted_places : (bytes xs tail : List ℕ) (count : ℕ) (rest : List ℕ) → ascending_at bytes ≡ Some (xs, tail) → ◌≡◌ {A = Read ℕ} (Some (count, rest)) (positive_at bytes) → chain_at difference_at above count 0 rest ≡ Some (xs, tail)
+counted_places bytes xs tail count rest e r =
+    let f = bind_some (positive_at bytes) (λ n. chain_at difference_at above n.0 0 n.1) (xs, tail) e in
+    let q = read_is count f.0.0 rest f.0.1 (r ∙ f.1) in
+    ap (λ (n : ℕ). chain_at difference_at above n 0 rest) q.0 ∙ ap (λ (b : List ℕ). chain_at difference_at above f.0.0 0 b) q.1 ∙ f.2
+
+pub count_is_there : (bytes xs tail : List ℕ) → ascending_at bytes ≡ Some (xs, tail) → ◌≡◌ {A = Read ℕ} None (positive_at bytes) → ⊥
+count_is_there bytes xs tail e r =
+    let f = bind_some (positive_at bytes) (λ n. chain_at difference_at above n.0 0 n.1) (xs, tail) e in
+    let bad = r ∙ f.1 in cc
+
+pub are_read : (r : Read (List ℕ)) (xs tail : List ℕ) → r ≡ Some (xs, tail) → AreNumbers r
+are_read r xs tail e = subst AreNumbers (sym e) tt
+
+second : (a b : ℕ) (xs ys : List ℕ) → ◌≡◌ {A = Hit} (a, xs) (b, ys) → xs ≡ ys
+second a b xs ys e = ap (λ (h : Hit). h.1) e
+
+-- the places of the first row, where its difference was read
+pub record FirstPlaces (field : ℕ) (after : List ℕ) (hs : List Hit) : Type 0 where
+  pub left : List ℕ
+  pub read : positions_at field after ≡ Some (first_positions hs, left)
+
+pub first_row_places : (field count least : ℕ) (rest : List ℕ) (hs : List Hit) (tail : List ℕ) (x : ℕ) (after : List ℕ) → 0 < count → rows_at field count least rest ≡ Some (hs, tail)
+    → ◌≡◌ {A = Read ℕ} (Some (x, after)) (difference_at least rest) → FirstPlaces field after hs
+first_row_places field count least rest hs tail x after pos e r =
+    let h = head_of field count least rest hs tail pos e in
+    let f = bind_some (difference_at least rest) (λ d. positions_at field d.1 >>= λ y. Some ((d.0, y.0), y.1)) (h.head, h.after) h.first in
+    let g = bind_some (positions_at field f.0.1) (λ y. Some ((f.0.0, y.0), y.1)) (h.head, h.after) f.2 in
+    let q = read_is (f.0.0, g.0.0) h.head g.0.1 h.after g.2 in
+    let m = read_is x f.0.0 after f.0.1 (r ∙ f.1) in
+    let same : g.0.0 ≡ first_positions hs = second f.0.0 h.head.0 g.0.0 h.head.1 q.0 ∙ ap first_positions (sym h.whole) in
+    record { left = g.0.1; read = ap (positions_at field) m.1 ∙ g.1 ∙ ap (λ (p : List ℕ). Some (p, g.0.1)) same }
+
+pub word_places : (field : ℕ) (after : List ℕ) (hs : List Hit) → 0 < field → (p : FirstPlaces field after hs) → ascending_at after ≡ Some (first_positions hs, p.left)
+word_places zero after hs pos p = absurd (omega arith)
+word_places (suc field) after hs pos p = p.read
+
+pub empty_places : (field count least : ℕ) (rest : List ℕ) (hs : List Hit) (tail : List ℕ) → count ≡ 0 → rows_at field count least rest ≡ Some (hs, tail) → first_positions hs ≡ []
+empty_places field count least rest hs tail z e = ap first_positions (none_left field count least rest hs tail z e)
+
+pub key_places : (field count least : ℕ) (rest : List ℕ) (hs : List Hit) (tail : List ℕ) → field ≡ 0 → rows_at field count least rest ≡ Some (hs, tail) → first_positions hs ≡ []
+key_places (suc field) count least rest hs tail z e = absurd (omega arith)
+key_places zero zero least rest hs tail z e = empty_places zero zero least rest hs tail refl e
+key_places zero (suc n) least rest hs tail z e =
+    let h = head_of zero (suc n) least rest hs tail (omega arith) e in
+    let f = bind_some (difference_at least rest) (λ d. Some ((d.0, []), d.1)) (h.head, h.after) h.first in
+    let q = read_is (f.0.0, []) h.head f.0.1 h.after f.2 in
+    ap first_positions h.whole ∙ sym (second f.0.0 h.head.0 [] h.head.1 q.0)
+
+pub difference_is_there : (field count least : ℕ) (rest : List ℕ) (hs : List Hit) (tail : List ℕ) → 0 < count → rows_at field count least rest ≡ Some (hs, tail) → ◌≡◌ {A = Read ℕ} None (difference_at least rest) → ⊥
+difference_is_there field count least rest hs tail pos e r =
+    let h = head_of field count least rest hs tail pos e in
+    let f = bind_some (difference_at least rest) (λ d. positions_at field d.1 >>= λ y. Some ((d.0, y.0), y.1)) (h.head, h.after) h.first in
+    let bad = r ∙ f.1 in cc
+
+-- ---- how many there are
+
+one_more : (n x : ℕ) (r : Read (List ℕ)) → length (numbers_or_none r) ≤ n → length (numbers_or_none (r >>= λ xs. Some (x ∷ xs.0, xs.1))) ≤ suc n
+one_more n x None h = omega arith
+one_more n x (Some xs) h = omega (arith, h)
+
+after_first : (n : ℕ) → ((k : ℕ) (bytes : List ℕ) → length (numbers_or_none (chain_at difference_at above n k bytes)) ≤ n) → (r : Read ℕ)
+    → length (numbers_or_none (r >>= λ x. chain_at difference_at above n (above x.0) x.1 >>= λ xs. Some (x.0 ∷ xs.0, xs.1))) ≤ suc n
+after_first n others None = omega arith
+after_first n others (Some x) = one_more n x.0 (chain_at difference_at above n (above x.0) x.1) (others (above x.0) x.1)
+
+pub length-numbers : (n k : ℕ) (bytes : List ℕ) → length (numbers_or_none (chain_at difference_at above n k bytes)) ≤ n
+length-numbers zero k bytes = omega arith
+length-numbers (suc n) k bytes = after_first n (length-numbers n) (difference_at k bytes)

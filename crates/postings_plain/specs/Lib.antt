@@ -1,0 +1,6 @@
+pub mod Postings
+pub mod Body
+pub mod Rows
+pub mod Reading
+pub mod Inverting
+pub mod Gathering

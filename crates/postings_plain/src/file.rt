@@ -1,0 +1,114 @@
+ghost use Rattle.std.specs.Prelude.{◌≡◌, ◌↔◌, List, Ok, Err, MatchOption, IfSome};
+ghost use Rattle.codec_frame.specs.Frame.{wanted, IsFramedAs};
+ghost use Rattle.codec_frame.specs.Checking.{IsFirstFault};
+ghost use Rattle.postings_plain.specs.Postings.{Entry, HitsFit};
+ghost use Rattle.postings_plain.specs.Body.{SpellsPostings, HasEntry, HasNoEntry, IsRowCount, postings_wanted, IsPostingsFile};
+
+use crate::body::row_count;
+use crate::find::find;
+use crate::postings::Postings;
+use body_forms::item_at;
+use bytes::Bytes;
+use codec_frame::{FileFault, FrameFault, Want, check};
+use nrt_base::{NoMemory, Share};
+use std::alloc::Global;
+use std::marker::Model;
+
+/// The name of the format in the header.
+pub const NAME: &[u8; 11] = b"NrtPostings";
+
+/// The version of the format.
+pub const VERSION: u32 = 1;
+
+// What is wanted of a file with this id.
+fn want(id: &[u8; 16]) -> Want<'static>
+    ensures { wanted result ≡ postings_wanted id.now }
+{
+    Want {
+        name: NAME,
+        min: VERSION,
+        max: VERSION,
+        id: Some(*id),
+        suffix: b"",
+    }
+}
+
+/// The postings of a segment, seen as the list of their entries: each has a field, a term and its hits. Nothing is copied
+/// to be read: all is lent from the shared bytes.
+#[derive(Debug, Drop)]
+pub struct PostFile {
+    // The whole file; its body is the bytes from `start` to before `end`.
+    bytes: Bytes,
+    start: usize,
+    end: usize,
+    rows: u64,
+}
+
+impl Model for PostFile {
+    ghost use Rattle.std.specs.Prelude.{List, length, ◌≤◌, slice_range};
+    ghost use Rattle.postings_plain.specs.Postings.{Entry};
+    ghost use Rattle.postings_plain.specs.Body.{SpellsPostings, IsRowCount};
+    ghost use Rattle.postings_plain.specs.Reading.{entries_in};
+
+    ghost Value = { List Entry };
+
+    ghost view = { λ a. entries_in (slice_range a.bytes a.start a.end) };
+
+    ghost invariant = { λ a. (a.start ≤ a.end) × (a.end ≤ length a.bytes)
+        × SpellsPostings (slice_range a.bytes a.start a.end) (entries_in (slice_range a.bytes a.start a.end))
+        × IsRowCount (entries_in (slice_range a.bytes a.start a.end)) a.rows };
+}
+
+impl PostFile {
+    fn body(&self) -> &[u8]
+        ensures { SpellsPostings result.now self.now }
+    {
+        &self.bytes.as_slice()[self.start..self.end]
+    }
+
+    /// How many rows the postings speak of: one above the greatest row in them.
+    pub fn rows(&self) -> u64
+        ensures { IsRowCount self.now result }
+    {
+        self.rows
+    }
+
+    /// The hits of a term: of a key where the field is 0, of a word where it is 1. None comes exactly where no row has it.
+    pub fn find(&self, field: u8, term: &[u8]) -> Option<Postings<'_>>
+        ensures found { MatchOption result (HasNoEntry self.now field term.now) (HasEntry self.now field term.now) }
+        ensures fit { IfSome result (HitsFit field) }
+    {
+        let body = self.body();
+        let place = find(body, field, term)?;
+        Some(Postings::of_entry(item_at(body, place)))
+    }
+}
+
+impl Share for PostFile {
+    fn share(&self, alloc: Global) -> Result<Self, NoMemory> {
+        Ok(PostFile {
+            bytes: self.bytes.share(alloc)?,
+            start: self.start,
+            end: self.end,
+            rows: self.rows,
+        })
+    }
+}
+
+/// The postings of a file with this id, which is looked at whole.
+pub fn read_postings(bytes: Bytes, id: &[u8; 16]) -> Result<PostFile, FileFault>
+    ensures value { (es : List Entry) → (result ≡ Ok es) ↔ IsPostingsFile id.now es bytes }
+    ensures frame { (fault : FrameFault) → (result ≡ Err (FileFault.Frame fault)) ↔ IsFirstFault (postings_wanted id.now) bytes fault }
+    ensures body { (result ≡ Err FileFault.Body) ↔ (IsFramedAs (postings_wanted id.now) bytes × ((es : List Entry) → IsPostingsFile id.now es bytes → ⊥)) }
+{
+    let frame = check(bytes.as_slice(), &want(id))?;
+    match row_count(&bytes.as_slice()[frame.start..frame.end]) {
+        Some(rows) => Ok(PostFile {
+            bytes,
+            start: frame.start,
+            end: frame.end,
+            rows,
+        }),
+        None => Err(FileFault::Body),
+    }
+}

@@ -1,0 +1,24 @@
+//! The file of a segment's postings: for each key and each word, the rows that have it.
+#![tactic(auto)]
+
+mod body;
+mod encoding;
+mod entries;
+mod file;
+mod find;
+mod hits;
+mod inverting;
+pub mod laws;
+mod positions;
+mod postings;
+mod row;
+mod term;
+
+pub use encoding::encode;
+pub use file::{PostFile, read_postings};
+pub use positions::Positions;
+pub use postings::Postings;
+pub use row::TermRow;
+
+#[cfg(test)]
+mod tests;

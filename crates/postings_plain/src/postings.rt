@@ -1,0 +1,94 @@
+ghost use Rattle.std.specs.Prelude.{◌≡◌, ◌<◌, ◌^◌, length, IfSome, IfNone, All};
+ghost use Rattle.postings_plain.specs.Postings.{row_of, Entry, EntryFits, entry, hits_of};
+ghost use Rattle.postings_plain.specs.Rows.{from_row, first_row, first_positions, IsLeastFrom};
+ghost use Rattle.postings_plain.specs.Reading.{IsEntry};
+
+use crate::entries::{field_of, skip_hit, term_of};
+use crate::positions::Positions;
+use body_forms::{difference_of, positive_of};
+use std::marker::Model;
+
+/// The hits of a term that were not passed yet, seen as the list of them: each is a row and the positions in it. They are
+/// lent from the file's bytes.
+#[derive(Drop)]
+pub struct Postings<'a> {
+    field: u8,
+    // The least row that may come next, how many hits are left, and the bytes that begin with them.
+    least: u64,
+    count: u32,
+    rest: &'a [u8],
+}
+
+impl<'a> Model for Postings<'a> {
+    ghost use Rattle.std.specs.Prelude.{List, ◌≤◌, ◌^◌};
+    ghost use Rattle.postings_plain.specs.Postings.{Hit};
+    ghost use Rattle.postings_plain.specs.Reading.{counted_from_at, hits_or_none, AreHits};
+
+    ghost Value = { List Hit };
+
+    ghost view = { λ a. hits_or_none (counted_from_at a.field a.count a.least a.rest.now) };
+
+    ghost invariant = { λ a. (a.least ≤ 2 ^ 32) × AreHits (counted_from_at a.field a.count a.least a.rest.now) };
+}
+
+impl Postings<'_> {
+    /// The hits of an entry.
+    pub(crate) fn of_entry(item: &[u8]) -> Postings<'_>
+        requires { IsEntry item.now }
+        ensures { (e : Entry) → EntryFits e → item.now ≡ entry e → result ≡ hits_of e }
+    {
+        match field_of(item) {
+            Some((field, rest)) => match term_of(rest) {
+                Some((_, rest)) => match positive_of(rest) {
+                    Some((count, rest)) => Postings {
+                        field,
+                        least: 0,
+                        count,
+                        rest,
+                    },
+                    None => unreachable!(),
+                },
+                None => unreachable!(),
+            },
+            None => unreachable!(),
+        }
+    }
+
+    /// Moves to the first row at or above this one, and says which it is. Rows that were passed do not come again: the rows
+    /// below this one are passed, and the row that is found stays the first.
+    pub fn next_from(&mut self, row: u32) -> Option<u32>
+        ensures left { self.new ≡ from_row row self.old }
+        ensures answer { result ≡ first_row (from_row row self.old) }
+        ensures found { IfSome result (IsLeastFrom row self.old) }
+        ensures none { IfNone result (All (λ h. row_of h < row) self.old) }
+    {
+        while self.count > 0 {
+            match skip_hit(self.field, self.least, self.rest) {
+                Some((found, after)) => {
+                    if found >= row {
+                        return Some(found);
+                    }
+                    self.least = u64::from(found) + 1;
+                    self.count -= 1;
+                    self.rest = after;
+                }
+                None => unreachable!(),
+            }
+        }
+        None
+    }
+
+    /// The positions of the word in the first row that is left: none where no row is left, and none for a key.
+    pub fn positions(&self) -> Positions<'_>
+        ensures value { result ≡ first_positions self.now }
+        ensures few { length result < 2 ^ 32 }
+    {
+        if self.count == 0 || self.field == 0 {
+            return Positions::none(self.rest);
+        }
+        match difference_of(self.least, self.rest) {
+            Some((_, after)) => Positions::counted(after),
+            None => unreachable!(),
+        }
+    }
+}
