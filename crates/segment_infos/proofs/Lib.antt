@@ -1,0 +1,11 @@
+pub mod Appends
+pub mod FormatLaws
+pub mod RecordLaws
+pub mod WritingLaws
+pub mod InfoLaws
+pub mod BodyLaws
+pub mod FileLaws
+pub mod NumberLaws
+pub mod SetLaws
+pub mod CommitLaws
+pub mod TestLaws

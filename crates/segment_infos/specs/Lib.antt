@@ -1,0 +1,5 @@
+pub mod SegmentInfo
+pub mod Infos
+pub mod Files
+pub mod Commits
+pub mod Reading
