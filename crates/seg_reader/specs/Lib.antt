@@ -1,0 +1,6 @@
+pub mod Shown
+pub mod Files
+pub mod Faults
+pub mod Reading
+pub mod Sound
+pub mod Stands

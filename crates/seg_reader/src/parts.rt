@@ -1,0 +1,49 @@
+ghost use Rattle.std.specs.Prelude.{◌≡◌};
+ghost use Rattle.seg_reader.specs.declared.parts.SegFault.TheVariants.{Memory};
+
+use bytes::Bytes;
+use codec_frame::FileFault;
+use nrt_base::NoMemory;
+
+/// The bytes of a segment's files.
+#[derive(Debug, Drop)]
+pub struct SegParts {
+    pub docs: Bytes,
+    pub post: Bytes,
+    pub info: Bytes,
+    /// Its live rows, where it has a file of them.
+    pub live: Option<Bytes>,
+}
+
+/// A file of a segment. They are looked at in this order.
+#[derive(Clone, Copy, Debug, PartialEq, Eq)]
+pub enum SegFile {
+    Docs,
+    Post,
+    Info,
+    Live,
+}
+
+/// Why files are not those of a segment.
+#[derive(Clone, Copy, Debug, PartialEq, Eq)]
+pub enum SegFault {
+    /// Memory was wanting.
+    Memory,
+    /// This file is the first outside its grammar.
+    File(SegFile, FileFault),
+    /// Every file is in its grammar, and this file is the first in which the segment's number, the number of rows or that
+    /// of live rows is not the one that infos want.
+    Disagrees {
+        part: SegFile,
+        want: u64,
+        found: u64,
+    },
+}
+
+impl From<NoMemory> for SegFault {
+    ghost from_gives = { λ _ fault. fault ≡ Memory };
+
+    fn from(_none: NoMemory) -> SegFault {
+        SegFault::Memory
+    }
+}
