@@ -1,0 +1,5 @@
+pub mod LiveMarks
+pub mod EntryRows
+pub mod NameOrder
+pub mod Records
+pub mod ReadBack

@@ -1,0 +1,103 @@
+ghost use Rattle.std.specs.Prelude.{◌≡◌, ◌↔◌, ◌<◌, ◌^◌, ℕ, List, length, map, IfOk, IsSome};
+ghost use Rattle.std.specs.List.{All};
+ghost use Rattle.codec_frame.specs.Frame.{IsFramed};
+ghost use Rattle.docs_plain.specs.Documents.{documents_wanted, IsDocumentsFile};
+ghost use Rattle.postings_plain.specs.Postings.{Entry};
+ghost use Rattle.postings_plain.specs.Body.{postings_wanted, IsPostingsFile};
+ghost use Rattle.postings_plain.specs.Inverting.{AreEntriesOf};
+ghost use Rattle.segment_infos.specs.SegmentInfo.{IsInfoFile};
+ghost use Rattle.seg_reader.specs.Files.{id_of, info_of, AreLiveRowsOf};
+ghost use Rattle.seg_reader.specs.Sound.{term_row};
+ghost use Rattle.seg_build.specs.Rows.{IsPrepared, docs_of};
+ghost use Rattle.seg_build.specs.Built.{IsRecordOf, IsReadAs, HaveSmallBodies};
+
+use crate::rows::{Prepared, documents, term_rows};
+use bytes::Bytes;
+use live_bits::LiveBits;
+use nrt_base::NoMemory;
+use seg_reader::{SegParts, segment_id};
+use segment_infos::{SegInfo, SegRecord, encode_info};
+use std::alloc::Global;
+
+/// The number of the format that a segment's files have.
+const FORMAT: u8 = 1;
+
+// The file of the documents.
+fn docs_file(alloc: Global, id: &[u8; 16], rows: &[Prepared]) -> Result<Bytes, NoMemory>
+    requires { 0 < length rows.now }
+    ensures file { IfOk result (IsDocumentsFile id.now (docs_of rows.now)) }
+    ensures small { IfOk result (λ bytes. (body : List ℕ) → IsFramed (documents_wanted id.now) 1 id.now body bytes → length body < 2 ^ 32) }
+{
+    let docs = documents(alloc, rows)?;
+    docs_plain::encode(alloc, id, docs.as_slice())
+}
+
+// The file of the postings.
+fn post_file(alloc: Global, id: &[u8; 16], rows: &[Prepared]) -> Result<Bytes, NoMemory>
+    requires some { 0 < length rows.now }
+    requires words { All IsPrepared rows.now }
+    ensures file { IfOk result (λ bytes. (es : List Entry) × AreEntriesOf (map term_row (docs_of rows.now)) es × IsPostingsFile id.now es bytes) }
+    ensures small { IfOk result (λ bytes. (body : List ℕ) → IsFramed (postings_wanted id.now) 1 id.now body bytes → length body < 2 ^ 32) }
+{
+    let terms = term_rows(alloc, rows)?;
+    postings_plain::encode(alloc, id, terms.as_slice())
+}
+
+// The info file.
+fn info_file(alloc: Global, id: &[u8; 16], segment: &SegRecord) -> Result<Bytes, NoMemory>
+    requires { 0 < segment.now.rows }
+    ensures { IfOk result (IsInfoFile id.now (info_of segment.now)) }
+{
+    let info = SegInfo {
+        seg: segment.seg,
+        rows: segment.rows,
+        format: FORMAT,
+    };
+    encode_info(alloc, id, &info)
+}
+
+// The live file, where the segment's record has a live generation.
+fn live_file(
+    alloc: Global,
+    id: &[u8; 16],
+    segment: &SegRecord,
+    live: &LiveBits,
+) -> Result<Option<Bytes>, NoMemory>
+    requires id { id.now ≡ id_of segment.now }
+    requires live { IsRecordOf live.now segment.now }
+    ensures given { IfOk result (λ file. IsSome file ↔ (0 < segment.now.live_gen)) }
+    ensures rows { IfOk result (λ file. AreLiveRowsOf file segment.now live.now) }
+{
+    if segment.live_gen == 0 {
+        return Ok(None);
+    }
+    let file = live_bits::encode(alloc, id, segment.live_gen, live)?;
+    Ok(Some(file))
+}
+
+/// The parts of a segment with this record: of all rows, also of dead ones.
+pub fn parts_of(
+    alloc: Global,
+    segment: &SegRecord,
+    rows: &[Prepared],
+    live: &LiveBits,
+) -> Result<SegParts, NoMemory>
+    requires some { 0 < length rows.now }
+    requires words { All IsPrepared rows.now }
+    requires count { length live.now ≡ length rows.now }
+    requires live { IsRecordOf live.now segment.now }
+    ensures read { IfOk result (λ parts. IsReadAs segment.now parts (docs_of rows.now) live.now) }
+    ensures small { IfOk result (HaveSmallBodies segment.now) }
+{
+    let id = segment_id(segment.seg);
+    let docs = docs_file(alloc, &id, rows)?;
+    let post = post_file(alloc, &id, rows)?;
+    let info = info_file(alloc, &id, segment)?;
+    let live = live_file(alloc, &id, segment, live)?;
+    Ok(SegParts {
+        docs,
+        post,
+        info,
+        live,
+    })
+}

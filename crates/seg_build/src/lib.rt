@@ -1,0 +1,16 @@
+//! A segment that is built: its files, from rows and the marks of those that are dead.
+#![tactic(auto)]
+
+mod building;
+mod contents;
+mod files;
+mod reading;
+mod rows;
+
+pub use building::build;
+pub use files::{SegFiles, first_record};
+pub use reading::read_back;
+pub use rows::Prepared;
+
+#[cfg(test)]
+mod tests;
