@@ -1,0 +1,4 @@
+pub mod Holdings
+pub mod Removals
+pub mod Moves
+pub mod Tally
