@@ -4,3 +4,4 @@ pub mod Steps
 pub mod Serving
 pub mod Writes
 pub mod PlainScripts
+pub mod AnswerLaws

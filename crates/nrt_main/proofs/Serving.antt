@@ -2,6 +2,7 @@
 use Rattle.std.proofs.Common.{◌≡◌, ◌+◌, ◌<◌, ◌≤◌, ◌&&◌, ◌||◌, ◌==◌, ℕ, Bool, true, false, List, [], ◌∷◌, ◌++◌, length, Some, None, refl, ap, ◌∙◌, sym, subst, inl, inr, ◌⊎◌, arith, append_assoc, append-nil, reverse, not, if◌then◌else◌}
 use Rattle.std.specs.Prelude.{nat_lt, IsTrue, ⊤}
 use Rattle.std.specs.List.{AllByRecursion, list_all}
+use Rattle.std.proofs.lemmas.List.{reverse-reverse}
 use Rattle.std.proofs.Math.Bool.{or-true}
 use Rattle.std.proofs.lemmas.Bool.Decides.{nat_tests, eqb_tells}
 use Rattle.std.proofs.lemmas.Bool.{ltb-false}
@@ -24,9 +25,10 @@ use Rattle.script_text.specs.declared.script.LineCommand.{LineCommand}
 use Rattle.script_text.specs.declared.script.LineCommand.TheVariants.{Put, Publish, Copy, Search}
 use Rattle.script_text.specs.declared.script.Phase.{Phase}
 use Rattle.script_text.specs.declared.script.Script.{Script}
-use Rattle.script_text.specs.Lines.{lines_of, command_at, has_line, all_answered, earlier_answered}
+use Rattle.script_text.specs.Lines.{lines_of, lines_of_lane, command_at, has_line, all_answered, earlier_answered}
+use Rattle.script_text.specs.Grammar.{lane_entry}
 use Rattle.script_text.specs.Refusals.{refusal, when, names_are_spent}
-use Rattle.script_text.specs.Serves.{Serves}
+use Rattle.script_text.specs.Serves.{ServesLane, ServesPhases, Serves}
 use Rattle.script_text.specs.Form.{IsInForm, is_phase, are_distinct}
 use Rattle.script_text.proofs.OneLane.{Walks, serves_one_lane}
 use Rattle.nrt_main.specs.PlainRun.{accepted_entry, publishing_entry, published_entry, published_next, refused_entry, copying_entry, switched_entry, copied_entry, copied_same, copied_newer, opened_entry, answered_entry, after_publish, after_copy, after_search, after_command, after_lines, is_plain, IsPlainScript}
@@ -333,23 +335,47 @@ left_next line rest past next left e =
     (λ l other was. others_keep line.at l.at other past line.command ∙ was) left.runnable.0 left.fresh.1 in
     record { fresh = subst (λ (p : Past). AllByRecursion (IsFresh p) rest) (sym e) fresh; runnable = left.runnable.3 }
 
+lane_is_first : (lines : List Line) → list_all is_phase (record { lanes = lane_entry 1 lines } ∷ []) ≡ true → list_all (λ line. line.at.lane.0 == 1) lines ≡ true
+lane_is_first [] phases = refl
+lane_is_first (line ∷ lines) phases = grind (arith, phases)
+
 -- the lines of a plain script in form are runnable
 runnable_script : (script : Script) → IsInForm script → IsPlainScript script → AreRunnable (lines_of script)
 runnable_script script form plain =
     let phases = subst (λ (ps : List Phase). IsTrue (list_all is_phase ps)) plain.phase form.phases in
-    let lanes : list_all (λ line. line.at.lane.0 == 1) (lines_of script) ≡ true = grind (arith, phases) in
-    runnable_lines (lines_of script) form.distinct lanes plain.plain
+    runnable_lines (lines_of script) form.distinct (lane_is_first (lines_of script) phases) plain.plain
 
 pub left_first : (script : Script) → IsInForm script → IsPlainScript script → AreLeft (lines_of script) []
 left_first script form plain =
     record { fresh = all_anyway (IsFresh []) (lines_of script) (λ l. refl); runnable = runnable_script script form plain }
+
+no_walk : (past : Past) → Walks [] past → past ≡ []
+no_walk [] walks = refl
+no_walk (e ∷ past) walks = let known : false ≡ true = walks.1 in cc
+
+-- a script without lines is served by a history without entries
+serves_none : (script : Script) (h : History) → lines_of script ≡ [] → h.nodes ≡ script.nodes → reverse h.entries ≡ [] → Serves script h
+serves_none script h none nodes past =
+    let entries : h.entries ≡ [] = sym (reverse-reverse h.entries) ∙ ap reverse past in
+    record {
+      nodes = nodes;
+      lines = subst (AllByRecursion (λ (entry : Entry). has_line (lines_of script) entry.at ≡ true)) (sym entries) tt;
+      lanes = λ lane. subst (ServesLane lane (lines_of_lane lane script)) (sym past) tt;
+      phases = subst (ServesPhases (lines_of script) script.phases) (sym past) tt;
+      answered = ap (λ (ls : List Line). all_answered ls (reverse h.entries)) none;
+    }
+
+serves_first : (script : Script) (lines : List Line) (h : History) → lines_of script ≡ lines → script.phases ≡ record { lanes = lane_entry 1 lines } ∷ [] → h.nodes ≡ script.nodes
+    → Walks lines (reverse h.entries) → all_answered lines (reverse h.entries) ≡ true → Serves script h
+serves_first script [] h is phases nodes walks answered = serves_none script h is nodes (no_walk (reverse h.entries) walks)
+serves_first script (line ∷ lines) h is phases nodes walks answered = serves_one_lane script (line ∷ lines) h phases nodes walks answered
 
 -- the history of the engine's entries serves the script
 pub served_history : (script : Script) (h : History) → IsInForm script → IsPlainScript script → h.nodes ≡ 2 → reverse h.entries ≡ after_lines (lines_of script) [] → Serves script h
 served_history script h form plain nodes entries =
     let served : IsServed (lines_of script) (reverse h.entries) =
     subst (IsServed (lines_of script)) (sym entries) (served_lines (lines_of script) (runnable_script script form plain) plain.few) in
-    serves_one_lane script (lines_of script) h plain.phase (nodes ∙ sym plain.nodes) served.0 (done_all (lines_of script) (reverse h.entries) served.1)
+    serves_first script (lines_of script) h refl plain.phase (nodes ∙ sym plain.nodes) served.0 (done_all (lines_of script) (reverse h.entries) served.1)
 
 pub one_or_two : (n : ℕ) → is_between 1 2 n ≡ true → (n ≡ 1) ⊎ (n ≡ 2)
 one_or_two n h = grind (arith, nat_tests)

@@ -1,13 +1,19 @@
 -- What the program promises for what it reads.
-use Rattle.std.specs.Prelude.{ℕ, ◌≡◌, ◌≤◌, ◌<◌, List, [], ◌∷◌, length, codes, Option}
+use Rattle.std.specs.Prelude.{ℕ, ◌≡◌, ◌≤◌, ◌<◌, ◌⊎◌, List, [], ◌∷◌, length, codes, Option}
 use Rattle.std.specs.Io.KnownBytes.{Consumes, IsAtEnd, Appends}
+use Rattle.nrt_base.specs.declared.numbers.LineNo.{LineNo}
 use Rattle.point_history.specs.declared.entry.History.{History}
 use Rattle.point_history.specs.Legal.{IsLegal}
 use Rattle.point_history.specs.Texts.{text_of}
 use Rattle.script_text.specs.declared.fault.LineFault.{LineFault}
+use Rattle.script_text.specs.declared.fault.LineFault.TheVariants.{NotBuilt}
 use Rattle.script_text.specs.declared.script.Script.{Script}
 use Rattle.script_text.specs.Serves.{Serves}
-use Rattle.script_text.specs.PlainGrammar.{SpellsScript, IsFirstRefused}
+use Rattle.script_text.specs.Grammar.{SpellsScript}
+use Rattle.script_text.specs.Refused.{IsFirstRefused}
+use Rattle.script_text.specs.Built.{IsFirstUnbuilt, IsBuilt}
+use Rattle.nrt_main.specs.declared.status.Status.{Status}
+use Rattle.nrt_main.specs.declared.status.Status.TheVariants.{Done, BadScript, WriteFault}
 
 -- the one row of words: `run`
 abbrev pub IsRun : List (List ℕ) → Type 0
@@ -17,11 +23,16 @@ IsRun words = words ≡ codes "run" ∷ []
 abbrev pub longest : ℕ
 longest = 16777216
 
--- the bytes are a script, and the sink gained the text of a legal history that serves it
+-- the bytes spell this script, and the program runs its every statement
+pub record IsRunnable (bytes : List ℕ) (script : Script) : Type 0 where
+  pub grammar : SpellsScript bytes script
+  pub built : IsBuilt bytes
+
+-- the bytes are a script that the program runs, and the sink gained the text of a legal history that serves it
 pub record Answers (bytes : List ℕ) (before after : Option (List ℕ)) : Type 0 where
   pub script : Script
+  pub runnable : IsRunnable bytes script
   pub history : History
-  pub grammar : SpellsScript bytes script
   pub legal : IsLegal history
   pub serves : Serves script history
   pub written : Appends before after (text_of history)
@@ -38,11 +49,27 @@ pub record Ran (left_before left_after held_before held_after : Option (List ℕ
   pub read : ReadWhole left_before left_after bytes
   pub answers : Answers bytes held_before held_after
 
--- the source was read to its end, and this line of what it gave is the first that is refused, for this cause
+-- line n of the bytes is refused for this cause: as the grammar says; or, of a script, as the first that the program does not run yet
+abbrev pub RefusesLine : List ℕ → ℕ → LineFault → Type 0
+RefusesLine bytes n NotBuilt = (script : Script) × SpellsScript bytes script × IsFirstUnbuilt bytes n
+RefusesLine bytes n cause = IsFirstRefused bytes n cause
+
+-- the source was read to its end, and this line of what it gave is refused for this cause
 pub record Refuses (before after : Option (List ℕ)) (n : ℕ) (cause : LineFault) : Type 0 where
   pub bytes : List ℕ
   pub read : ReadWhole before after bytes
-  pub refused : IsFirstRefused bytes n cause
+  pub refused : RefusesLine bytes n cause
+
+-- the answer to these bytes: the line of them that is refused and why, or that the script which they are was run
+pub record IsAnswer (bytes : List ℕ) (answer : Status) : Type 0 where
+  pub refusals : (n : LineNo) (cause : LineFault) → RefusesLine bytes n.0 cause → answer ≡ BadScript n cause
+  pub runs : (script : Script) → IsRunnable bytes script → (answer ≡ Done) ⊎ (answer ≡ WriteFault)
+
+-- the source was read to its end, and this is the answer to what it gave
+pub record AnswersWhole (before after : Option (List ℕ)) (answer : Status) : Type 0 where
+  pub bytes : List ℕ
+  pub read : ReadWhole before after bytes
+  pub given : IsAnswer bytes answer
 
 -- so many bytes were taken from the source as a script may have, or fewer
 pub record TakesWithin (before after : Option (List ℕ)) : Type 0 where

@@ -3,3 +3,4 @@ pub mod Run
 pub mod Kept
 pub mod Headline
 pub mod Statuses
+pub mod TopCalls

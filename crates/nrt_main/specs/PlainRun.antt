@@ -18,6 +18,7 @@ use Rattle.script_text.specs.declared.script.LineCommand.{LineCommand}
 use Rattle.script_text.specs.declared.script.LineCommand.TheVariants.{Put, Publish, Copy, Search}
 use Rattle.script_text.specs.declared.script.Script.{Script}
 use Rattle.script_text.specs.Lines.{lines_of}
+use Rattle.script_text.specs.Grammar.{lane_entry}
 
 abbrev pub accepted_entry : At → ℕ → Op → Entry
 accepted_entry at seq op = record { at = at; event = Accepted seq op }
@@ -93,9 +94,10 @@ is_plain (Copy n) = n.0 == 2
 is_plain (Search n query) = is_between 1 2 n.0
 is_plain command = false
 
--- two nodes and one phase, whose only lane is the first, of lines that the engine runs, 200,000 of them at most
+-- two nodes, no workers, and one phase, in which no lane but the first has lines: lines that the engine runs, 200,000 of them at most
 pub record IsPlainScript (script : Script) : Type 0 where
   pub nodes : script.nodes ≡ 2
-  pub phase : script.phases ≡ record { lanes = (record { 0 = 1 }, lines_of script) ∷ [] } ∷ []
+  pub workers : script.workers ≡ 0
+  pub phase : script.phases ≡ record { lanes = lane_entry 1 (lines_of script) } ∷ []
   pub plain : list_all (λ line. is_plain line.command) (lines_of script) ≡ true
   pub few : length (lines_of script) ≤ 200000

@@ -1,7 +1,7 @@
 ghost use Rattle.std.specs.Prelude.{◌≡◌, ◌≤◌, ◌<◌, IfOk, Err, List, ℕ, length};
 ghost use Rattle.std.specs.Io.KnownBytes.{Consumes, IsAtEnd};
 ghost use Rattle.nrt_base.specs.Causes.{Rose};
-ghost use Rattle.script_text.specs.declared.plain.TheConstants.{LONGEST};
+ghost use Rattle.script_text.specs.declared.parse.TheConstants.{LONGEST};
 
 use nrt_base::Source;
 use script_text::LONGEST;

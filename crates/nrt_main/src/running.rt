@@ -38,13 +38,14 @@ fn run_line(alloc: Global, engine: &mut Engine, line: &Line) -> Result<(), NoMem
     }
 }
 
-/// The lines of a script's one lane.
+/// The lines of a script's one lane, if it has any.
 fn lines_of(script: &Script) -> &[Line]
     requires { IsPlainScript script.now }
     ensures { result.now ≡ lines_of_lem script.now }
 {
     match script.phases.as_slice() {
         [phase] => match phase.lanes.as_slice() {
+            [] => &[],
             [(_, lines)] => lines.as_slice(),
             _ => unreachable!(),
         },

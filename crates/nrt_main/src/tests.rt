@@ -1,9 +1,10 @@
 use crate::status::Status;
 use crate::top::run_nrt;
 use nrt_base::{Arg, LineNo, MemSink, MemSource};
-use script_text::LineFault;
+use script_text::{LONGEST, LineFault};
 use std::alloc::Global;
 use std::test::Fail;
+use text_query::QueryFault;
 
 const PLAIN: &[u8] = b"nodes 2\n1 put a Quick fox\n1 publish\n1 copy 2\n1 search 2 fox\n";
 
@@ -44,30 +45,129 @@ fn plain_path(rt: HostRuntime) -> Result<(), Fail> {
 #[test]
 fn statuses(rt: HostRuntime) -> Result<(), Fail> {
     let alloc = rt.alloc();
-    let rows: &[(&[&[u8]], &[u8], &[u64], &[u64], Status)] = &[
-        (
-            &[b"run"],
-            b"",
-            &[],
-            &[],
-            Status::BadScript(LineNo(1), LineFault::NotBuilt),
-        ),
-        (
-            &[b"run"],
-            b"nodes 2\n",
-            &[],
-            &[],
-            Status::BadScript(LineNo(2), LineFault::NotBuilt),
-        ),
-        (&[b"run"], PLAIN, &[2], &[], Status::ReadFault),
-        (&[b"run"], PLAIN, &[], &[1], Status::WriteFault),
-        (&[b"run", b"x"], PLAIN, &[], &[], Status::Usage),
-        (&[], PLAIN, &[], &[], Status::Usage),
+    let rows: &[(&[&[u8]], &[u64], &[u64], Status)] = &[
+        (&[b"run"], &[2], &[], Status::ReadFault),
+        (&[b"run"], &[], &[1], Status::WriteFault),
+        (&[b"run", b"x"], &[], &[], Status::Usage),
+        (&[], &[], &[], Status::Usage),
     ];
-    for (texts, script, reads, writes, wanted) in rows {
-        let (status, text) = run(alloc, texts, script, reads, writes)?;
+    for (texts, reads, writes, wanted) in rows {
+        let (status, text) = run(alloc, texts, PLAIN, reads, writes)?;
         assert_eq!(rt; status, *wanted);
         assert!(rt; text.is_empty());
+    }
+    Ok(())
+}
+
+#[test]
+fn replica_never_copied(rt: HostRuntime) -> Result<(), Fail> {
+    let script = b"nodes 2\n1 put a x\n1 publish\n1 search 2 x";
+    let (status, text) = run(rt.alloc(), &[b"run"], script, &[], &[])?;
+    assert_eq!(rt; status, Status::Done);
+    assert!(rt; text.ends_with(b"4 opened 2 0 1\n4 answer 2 0 1 0\n"));
+    Ok(())
+}
+
+#[test]
+fn nothing_to_publish(rt: HostRuntime) -> Result<(), Fail> {
+    let script = b"nodes 2\n1 put a x\n1 publish\n1 publish\n1 put b y\n1 publish\n";
+    let (status, text) = run(rt.alloc(), &[b"run"], script, &[], &[])?;
+    assert_eq!(rt; status, Status::Done);
+    assert!(rt; text.ends_with(b"4 refused none\n5 accepted 2\n6 publishing\n6 published 1 3\n"));
+    Ok(())
+}
+
+#[test]
+fn comments_are_skipped(rt: HostRuntime) -> Result<(), Fail> {
+    let script = b"# two\n nodes  2 \n\n   \n1 publish\n\t";
+    let (status, text) = run(rt.alloc(), &[b"run"], script, &[], &[])?;
+    assert_eq!(rt; status, Status::BadScript(LineNo(6), LineFault::Text));
+    assert!(rt; text.is_empty());
+    Ok(())
+}
+
+#[test]
+fn refused_lines(rt: HostRuntime) -> Result<(), Fail> {
+    let rows: &[(&[u8], u32, LineFault)] = &[
+        (b"", 1, LineFault::NoNodes),
+        (b"nodes 1", 1, LineFault::Range),
+        (b"nodes 2\n1 jump", 2, LineFault::Word),
+        (b"nodes 2\n1 publish now", 2, LineFault::Count),
+        (b"nodes 2\n9 publish", 2, LineFault::Range),
+        (
+            b"nodes 2\n1 search 2 fox AND",
+            2,
+            LineFault::Query(QueryFault::Syntax(7)),
+        ),
+        (b"nodes 2\n1 put a\t", 2, LineFault::Text),
+    ];
+    for (script, line, cause) in rows {
+        let (status, text) = run(rt.alloc(), &[b"run"], script, &[], &[])?;
+        assert_eq!(rt; status, Status::BadScript(LineNo(*line), *cause));
+        assert!(rt; text.is_empty());
+    }
+    Ok(())
+}
+
+#[test]
+fn lines_not_built(rt: HostRuntime) -> Result<(), Fail> {
+    let rows: &[(&[u8], u32)] = &[
+        (b"nodes 3", 1),
+        (b"nodes 2\nworkers 0", 2),
+        (b"nodes 2\n1 put a x\njoin", 3),
+        (b"nodes 2\n# x\n2 publish", 3),
+        (b"nodes 2\n1 copy 1", 2),
+    ];
+    for (script, line) in rows {
+        let (status, text) = run(rt.alloc(), &[b"run"], script, &[], &[])?;
+        assert_eq!(rt;
+            status,
+            Status::BadScript(LineNo(*line), LineFault::NotBuilt)
+        );
+        assert!(rt; text.is_empty());
+    }
+    Ok(())
+}
+
+/// The answer to so many line feeds.
+fn line_feeds(alloc: Global, count: usize) -> Result<Status, Fail> {
+    let words = words(alloc, &[b"run"])?;
+    let mut source = MemSource::new(vec![in alloc; b'\n'; count]?, 4096, Vec::new(alloc));
+    let mut sink = MemSink::new(alloc, 0, 1, Vec::new(alloc))?;
+    Ok(run_nrt(alloc, words.as_slice(), &mut source, &mut sink))
+}
+
+#[test]
+fn longest_script(rt: HostRuntime) -> Result<(), Fail> {
+    let full = line_feeds(rt.alloc(), LONGEST)?;
+    assert_eq!(rt;
+        full,
+        Status::BadScript(LineNo(16_777_217), LineFault::NoNodes)
+    );
+    let over = line_feeds(rt.alloc(), LONGEST + 1)?;
+    assert_eq!(rt; over, Status::TooLarge);
+    Ok(())
+}
+
+/// A script of 40 lines.
+fn forty_lines(alloc: Global) -> Result<Vec<u8>, Fail> {
+    let mut script = b"nodes 2\n".to_vec(alloc)?;
+    for _ in 0..13 {
+        script.extend_from_slice(b"1 put a x\n1 publish\n1 search 1 x\n")?;
+    }
+    Ok(script)
+}
+
+#[test]
+fn each_prefix(rt: HostRuntime) -> Result<(), Fail> {
+    let script = forty_lines(rt.alloc())?;
+    for count in 0..script.len() {
+        let (status, text) = run(rt.alloc(), &[b"run"], &script[..count], &[], &[])?;
+        match status {
+            Status::Done => {}
+            Status::BadScript(..) => assert!(rt; text.is_empty()),
+            _ => assert!(rt; false),
+        }
     }
     Ok(())
 }

@@ -1,11 +1,13 @@
 -- Which scripts are in form: every number is in its range, and each line stands where it says.
-use Rattle.std.specs.Prelude.{ℕ, ◌≤◌, List, [], ◌∷◌, Bool, true, ◌&&◌, not, ◌==◌, nat_lt, IsTrue}
+use Rattle.std.specs.Prelude.{ℕ, ◌≤◌, List, [], ◌∷◌, Bool, true, ◌-◌, ◌^◌, ◌&&◌, not, ◌==◌, nat_lt, IsTrue}
 use Rattle.std.specs.List.{list_all}
 use Rattle.nrt_base.specs.declared.numbers.LaneNo.{LaneNo}
 use Rattle.nrt_base.specs.Bytes.{is_between}
 use Rattle.point_history.specs.declared.cause.FaultPlan.{FaultPlan}
 use Rattle.point_history.specs.declared.cause.FaultPlan.TheVariants.{Link, Damage, Disk, Stop}
 use Rattle.point_history.specs.Matching.{is_well_formed}
+use Rattle.script_text.specs.declared.script.Force.{Force}
+use Rattle.script_text.specs.declared.script.Force.TheVariants.{Auto, Exactly}
 use Rattle.script_text.specs.declared.script.Line.{Line}
 use Rattle.script_text.specs.declared.script.LineCommand.{LineCommand}
 use Rattle.script_text.specs.declared.script.LineCommand.TheVariants.{Copy, Search, Open, Ask, Close, Commit, Crash, Reopen, Promote, Merge, Drain, Files, Fault}
@@ -13,12 +15,17 @@ use Rattle.script_text.specs.declared.script.Phase.{Phase}
 use Rattle.script_text.specs.declared.script.Script.{Script}
 use Rattle.script_text.specs.Lines.{lines_of, lines_of_lane}
 
--- the K of a plan is 1 to 1,000,000
+-- the K of a plan is 1 to 1,000,000, and the byte of a damage is below 2^32
 abbrev pub is_plan : FaultPlan → Bool
 is_plan (Link k) = is_between 1 1000000 k
-is_plan (Damage k at) = is_between 1 1000000 k
+is_plan (Damage k at) = is_between 1 1000000 k && is_between 0 (2 ^ 32 - 1) at
 is_plan (Disk k) = is_between 1 1000000 k
 is_plan (Stop k) = is_between 1 1000000 k
+
+-- a forced version is below 2^64
+abbrev pub is_force : Force → Bool
+is_force Auto = true
+is_force (Exactly version) = is_between 0 (2 ^ 64 - 1) version
 
 -- the numbers of a command are in their ranges, where the nodes are 1 to the size, and its query is well-formed
 abbrev pub is_command : ℕ → LineCommand → Bool
@@ -28,9 +35,9 @@ is_command size (Open n t) = is_between 1 size n.0 && is_between 1 9999 t.0
 is_command size (Ask t query) = is_between 1 9999 t.0 && is_well_formed query
 is_command size (Close t) = is_between 1 9999 t.0
 is_command size (Commit n) = is_between 1 size n.0
-is_command size (Crash n pick) = is_between 1 size n.0
+is_command size (Crash n pick) = is_between 1 size n.0 && is_between 0 (2 ^ 64 - 1) pick
 is_command size (Reopen n) = is_between 1 size n.0
-is_command size (Promote n force) = is_between 1 size n.0
+is_command size (Promote n force) = is_between 1 size n.0 && is_force force
 is_command size (Merge factor) = is_between 2 16 factor
 is_command size (Drain most) = is_between 1 1000 most
 is_command size (Files n) = is_between 1 size n.0

@@ -1,5 +1,7 @@
 ghost use Rattle.std.specs.Prelude.{◌≡◌};
 ghost use Rattle.script_text.specs.declared.fault.ScriptFault.TheVariants.{Memory};
+ghost use Rattle.script_text.specs.declared.fault.Refusal.TheVariants.{Memory as NotRead};
+ghost use Rattle.script_text.specs.Reading.{fault_on};
 
 use nrt_base::{LineNo, NoMemory};
 use text_query::QueryFault;
@@ -39,5 +41,34 @@ impl From<NoMemory> for ScriptFault {
 
     fn from(_fault: NoMemory) -> ScriptFault {
         ScriptFault::Memory
+    }
+}
+
+/// Why a statement is not read.
+#[derive(Clone, Copy)]
+pub enum Refusal {
+    /// Want of memory.
+    Memory,
+    /// The statement is refused for this cause.
+    Cause(LineFault),
+}
+
+impl From<NoMemory> for Refusal {
+    ghost from_gives = { λ _ e. e ≡ NotRead };
+
+    fn from(_fault: NoMemory) -> Refusal {
+        Refusal::Memory
+    }
+}
+
+impl Refusal {
+    /// The fault of a script whose line of this number is refused so.
+    pub fn on_line(self, number: u32) -> ScriptFault
+        ensures { result ≡ fault_on number self }
+    {
+        match self {
+            Refusal::Memory => ScriptFault::Memory,
+            Refusal::Cause(cause) => ScriptFault::BadScript(LineNo(number), cause),
+        }
     }
 }

@@ -1,0 +1,135 @@
+-- Which cause of a statement is the first, and when a statement is right.
+use Rattle.std.proofs.Common.{◌≡◌, ◌<◌, ◌≤◌, ◌+◌, ℕ, Bool, true, false, List, ◌∷◌, refl, ap, ◌∙◌, sym, arith}
+use Rattle.std.specs.Prelude.{◌&&◌, nat_lt, codes}
+use Rattle.std.proofs.lemmas.Bool.{false≢true}
+use Rattle.std.proofs.lemmas.Bool.Decides.{nat_tests}
+use Rattle.text_query.specs.declared.fault.QueryFault.{QueryFault}
+use Rattle.text_query.specs.Answers.{IsFault}
+use Rattle.script_text.specs.declared.fault.LineFault.{LineFault}
+use Rattle.script_text.specs.declared.fault.LineFault.TheVariants.{NoNodes, Word, Count, Range, Query as RefusedQuery, Text, NotBuilt}
+use Rattle.script_text.specs.Grammar.{Statement, words_in, rest_behind, is_printable}
+use Rattle.script_text.specs.Refused.{Place, later, Form, no_nodes, join, lane_line, no_form, form_of, form_at, is_word, is_digits, has_wrong_word, has_wrong_count, is_in_range, has_query, HasCause, order_of, IsFirstCause, IsRight}
+
+-- no cause before the k-th holds
+no_earlier : (place : Place) (before : ℕ) (statement : Statement) (k : ℕ)
+    → (1 < k → is_printable statement.line ≡ true)
+    → (2 < k → form_at place statement ≡ no_nodes → ⊥)
+    → (3 < k → has_wrong_word (form_at place statement) ≡ false)
+    → (4 < k → has_wrong_count (form_at place statement) ≡ false)
+    → (5 < k → (is_in_range (form_at place statement) statement.line && nat_lt before 200000) ≡ true)
+    → (6 < k → (fault : QueryFault) → has_query (form_at place statement) ≡ true → IsFault (rest_behind 3 statement.line) fault → ⊥)
+    → (other : LineFault) → order_of other < k → HasCause place before statement other → ⊥
+no_earlier place before statement k printable nodes word count range query Text h c = false≢true (sym c ∙ printable h)
+no_earlier place before statement k printable nodes word count range query NoNodes h c = nodes h c
+no_earlier place before statement k printable nodes word count range query Word h c = false≢true (sym (word h) ∙ c)
+no_earlier place before statement k printable nodes word count range query Count h c = false≢true (sym (count h) ∙ c)
+no_earlier place before statement k printable nodes word count range query Range h c = false≢true (sym c ∙ range h)
+no_earlier place before statement k printable nodes word count range query (RefusedQuery fault) h c = query h fault c.0 c.1
+no_earlier place before statement k printable nodes word count range query NotBuilt h c = c
+
+-- a byte that is not printable is the first cause
+pub text_first : (place : Place) (before : ℕ) (statement : Statement) → is_printable statement.line ≡ false → IsFirstCause place before statement Text
+text_first place before statement e = record {
+  holds = e;
+  first_one =
+      no_earlier place before statement 1 (λ h. absurd (omega arith)) (λ h. absurd (omega arith)) (λ h. absurd (omega arith)) (λ h. absurd (omega arith))
+      (λ h. absurd (omega arith)) (λ h. absurd (omega arith));
+}
+
+abbrev is_no_nodes : Form → Bool
+is_no_nodes no_nodes = true
+is_no_nodes form = false
+
+-- without a first word `nodes`, a first statement is refused
+pub nodes_first : (place : Place) (before : ℕ) (statement : Statement) → is_printable statement.line ≡ true → form_at place statement ≡ no_nodes
+    → IsFirstCause place before statement NoNodes
+nodes_first place before statement printable e = record {
+  holds = e;
+  first_one =
+      no_earlier place before statement 2 (λ h. printable) (λ h. absurd (omega arith)) (λ h. absurd (omega arith)) (λ h. absurd (omega arith))
+      (λ h. absurd (omega arith)) (λ h. absurd (omega arith));
+}
+
+module _ (place : Place) (before : ℕ) (statement : Statement) (form : Form) (at : form_at place statement ≡ form) (printable : is_printable statement.line ≡ true)
+    (named : is_no_nodes form ≡ false) where
+  has_nodes : form_at place statement ≡ no_nodes → ⊥
+  has_nodes e = false≢true (sym named ∙ ap is_no_nodes (sym at ∙ e))
+
+  pub word_first : has_wrong_word form ≡ true → IsFirstCause place before statement Word
+  word_first e = record {
+    holds = ap has_wrong_word at ∙ e;
+    first_one =
+        no_earlier place before statement 3 (λ h. printable) (λ h. has_nodes) (λ h. absurd (omega arith)) (λ h. absurd (omega arith))
+        (λ h. absurd (omega arith)) (λ h. absurd (omega arith));
+  }
+
+  pub count_first : has_wrong_word form ≡ false → has_wrong_count form ≡ true → IsFirstCause place before statement Count
+  count_first word e = record {
+    holds = ap has_wrong_count at ∙ e;
+    first_one =
+        no_earlier place before statement 4 (λ h. printable) (λ h. has_nodes) (λ h. ap has_wrong_word at ∙ word) (λ h. absurd (omega arith))
+        (λ h. absurd (omega arith)) (λ h. absurd (omega arith));
+  }
+
+  in_range_at : (t : Bool) → (is_in_range form statement.line && nat_lt before 200000) ≡ t → (is_in_range (form_at place statement) statement.line && nat_lt before 200000) ≡ t
+  in_range_at t e = ap (λ (f : Form). is_in_range f statement.line && nat_lt before 200000) at ∙ e
+
+  pub range_first : has_wrong_word form ≡ false → has_wrong_count form ≡ false → (is_in_range form statement.line && nat_lt before 200000) ≡ false
+      → IsFirstCause place before statement Range
+  range_first word count e = record {
+    holds = in_range_at false e;
+    first_one =
+        no_earlier place before statement 5 (λ h. printable) (λ h. has_nodes) (λ h. ap has_wrong_word at ∙ word) (λ h. ap has_wrong_count at ∙ count)
+        (λ h. absurd (omega arith)) (λ h. absurd (omega arith));
+  }
+
+  pub query_first : has_wrong_word form ≡ false → has_wrong_count form ≡ false → (is_in_range form statement.line && nat_lt before 200000) ≡ true
+      → (fault : QueryFault) → has_query form ≡ true → IsFault (rest_behind 3 statement.line) fault → IsFirstCause place before statement (RefusedQuery fault)
+  query_first word count range fault asks is = record {
+    holds = (ap has_query at ∙ asks, is);
+    first_one =
+        no_earlier place before statement 6 (λ h. printable) (λ h. has_nodes) (λ h. ap has_wrong_word at ∙ word) (λ h. ap has_wrong_count at ∙ count)
+        (λ h. in_range_at true range) (λ h. absurd (omega arith));
+  }
+
+  pub no_cause : has_wrong_word form ≡ false → has_wrong_count form ≡ false → (is_in_range form statement.line && nat_lt before 200000) ≡ true
+      → ((fault : QueryFault) → has_query form ≡ true → IsFault (rest_behind 3 statement.line) fault → ⊥) → IsRight place before statement
+  no_cause word count range query cause =
+      no_earlier place before statement 8 (λ h. printable) (λ h. has_nodes) (λ h. ap has_wrong_word at ∙ word) (λ h. ap has_wrong_count at ∙ count)
+      (λ h. in_range_at true range) (λ h fault asks. query fault (sym (ap has_query at) ∙ asks)) cause (below cause)
+    where
+      below : (cause : LineFault) → order_of cause < 8
+      below Text = omega arith
+      below NoNodes = omega arith
+      below Word = omega arith
+      below Count = omega arith
+      below Range = omega arith
+      below (RefusedQuery fault) = omega arith
+      below NotBuilt = omega arith
+
+-- a right statement is among the first 200,000
+pub right_is_early : (place : Place) (before : ℕ) (statement : Statement) → IsRight place before statement → before + 1 ≤ 200000
+right_is_early place before statement right = by_test (nat_lt before 200000) refl
+  where
+    by_test : (t : Bool) → nat_lt before 200000 ≡ t → before + 1 ≤ 200000
+    by_test true e = grind (arith, nat_tests)
+    by_test false e = absurd (right Range (late (is_in_range (form_at place statement) statement.line) e))
+      where
+        late : (b : Bool) → nat_lt before 200000 ≡ false → (b && nat_lt before 200000) ≡ false
+        late true h = h
+        late false h = refl
+
+-- a statement whose first word is `join` is one
+pub join_form : (size : ℕ) (statement : Statement) (word : List ℕ) (words : List (List ℕ)) → words_in statement.line ≡ word ∷ words → is_word (codes "join") word ≡ true
+    → form_at (later size) statement ≡ join words
+join_form size statement word words e is = ap (form_of (later size)) e ∙ (rw is refl)
+
+-- a statement whose first word has digits alone is a line of a lane
+pub lane_form : (size : ℕ) (statement : Statement) (word : List ℕ) (words : List (List ℕ)) → words_in statement.line ≡ word ∷ words → is_word (codes "join") word ≡ false
+    → is_digits word ≡ true → form_at (later size) statement ≡ lane_line size word words
+lane_form size statement word words e other digits = ap (form_of (later size)) e ∙ (rw (other, digits) refl)
+
+-- any other first word has no form
+pub other_form : (size : ℕ) (statement : Statement) (word : List ℕ) (words : List (List ℕ)) → words_in statement.line ≡ word ∷ words → is_word (codes "join") word ≡ false
+    → is_digits word ≡ false → form_at (later size) statement ≡ no_form
+other_form size statement word words e other digits = ap (form_of (later size)) e ∙ (rw (other, digits) refl)

@@ -1,0 +1,156 @@
+-- When a statement is right at its place: by its form, and for a line of a lane by what its words ask for.
+use Rattle.std.proofs.Common.{◌≡◌, ℕ, ◌<◌, ◌≤◌, List, [], ◌∷◌, length, true, false, refl, ap, ◌∙◌, sym, arith, inl, inr, Ok}
+use Rattle.std.specs.Prelude.{◌&&◌, ◌^◌, nat_lt, nat_le, codes}
+use Rattle.std.specs.List.{list_all}
+use Rattle.std.specs.Fmt.{decimal}
+use Rattle.std.proofs.lemmas.Bool.{false≢true, both_ways, lt-ltb, le-leb, and_from}
+use Rattle.nrt_base.specs.Bytes.{is_between}
+use Rattle.point_history.specs.declared.query.Query.{Query}
+use Rattle.text_query.specs.declared.fault.QueryFault.{QueryFault}
+use Rattle.text_query.specs.Answers.{Parses, IsFault}
+use Rattle.text_query.proofs.FaultLemmas.{fault_answered}
+use Rattle.script_text.specs.declared.fault.LineFault.TheVariants.{NoNodes, Word, Count, Range, Query as RefusedQuery, Text, NotBuilt}
+use Rattle.script_text.specs.Grammar.{Statement, words_in, rest_behind, is_printable, IsNodesHeader, IsWorkersHeader, IsJoin}
+use Rattle.script_text.specs.Refused.{is_word, is_digits, is_digit, is_number_in, Shape, command, asked, is_unknown, is_too_few_or_many, is_miscounted, are_kinds, is_short, is_asked_in_range, asks_query, Place, first as first_place, second as second_place, later as later_place, Form, no_nodes, nodes_header, workers_header, join, lane_line, later_form, form_of, form_at, has_wrong_word, has_wrong_count, is_in_range, has_query, IsRight}
+use Rattle.script_text.proofs.NumberLaws.{number_in, digits_of-decimal, other_word, printable_digits}
+use Rattle.script_text.proofs.WordLaws.{printable_line}
+
+-- a text that is parsed has no fault
+pub never_faulty : (text : List ℕ) (query : Query) (fault : QueryFault) → Parses text query → IsFault text fault → ⊥
+never_faulty text query fault parses faulty =
+    elim (fault_answered text (Ok query) fault parses faulty) [ inl e ↦ cc | inr e ↦ cc ]
+
+-- a query is searched for in the text
+pub record IsSearched (text : List ℕ) : Type 0 where
+  pub query : Query
+  pub parses : Parses text query
+
+-- nothing is wrong with the form of a statement of this line
+pub record IsRightForm (form : Form) (line : List ℕ) : Type 0 where
+  pub known : form ≡ no_nodes → ⊥
+  pub words : has_wrong_word form ≡ false
+  pub counted : has_wrong_count form ≡ false
+  pub ranges : is_in_range form line ≡ true
+  pub searched : has_query form ≡ true → IsSearched (rest_behind 3 line)
+
+-- a statement of such a form is right
+pub right_by_form : (place : Place) (before : ℕ) (statement : Statement) (form : Form) → form_at place statement ≡ form → IsRightForm form statement.line
+    → is_printable statement.line ≡ true → before < 200000 → IsRight place before statement
+right_by_form place before statement form e right printable few Text h = both_ways (is_printable statement.line) h printable
+right_by_form place before statement form e right printable few NoNodes h = right.known (sym e ∙ h)
+right_by_form place before statement form e right printable few Word h =
+    both_ways (has_wrong_word (form_at place statement)) (ap has_wrong_word e ∙ right.words) h
+right_by_form place before statement form e right printable few Count h =
+    both_ways (has_wrong_count (form_at place statement)) (ap has_wrong_count e ∙ right.counted) h
+right_by_form place before statement form e right printable few Range h =
+    let ranges : is_in_range (form_at place statement) statement.line ≡ true = ap (λ (f : Form). is_in_range f statement.line) e ∙ right.ranges in
+    both_ways (is_in_range (form_at place statement) statement.line && nat_lt before 200000) h
+    (and_from (is_in_range (form_at place statement) statement.line) (nat_lt before 200000) ranges (lt-ltb before 200000 few))
+right_by_form place before statement form e right printable few (RefusedQuery fault) h =
+    let searched = right.searched (sym (ap has_query e) ∙ h.0) in
+    never_faulty (rest_behind 3 statement.line) searched.query fault searched.parses h.1
+right_by_form place before statement form e right printable few NotBuilt h = h
+
+-- the words behind a lane ask for a command, with the words that it is to have and what is to follow
+pub record AreRight (size : ℕ) (words : List (List ℕ)) (rest : List ℕ) : Type 0 where
+  pub shape : Shape
+  pub behind : List (List ℕ)
+  pub asks : asked words ≡ command shape behind
+  pub counted : is_too_few_or_many shape.tail (length shape.words) (length behind) ≡ false
+  pub kinds : are_kinds size shape.words behind ≡ true
+  pub short : is_short shape.tail rest ≡ true
+  pub searched : asks_query (command shape behind) ≡ true → IsSearched rest
+
+-- the form of a line of a lane is right where its words are
+pub right_lane : (size : ℕ) (lane : List ℕ) (words : List (List ℕ)) (line : List ℕ) → is_number_in 1 8 lane ≡ true → AreRight size words (rest_behind 3 line)
+    → IsRightForm (lane_line size lane words) line
+right_lane size lane words line ranged right =
+    let found : is_asked_in_range size (rest_behind 3 line) (command right.shape right.behind) ≡ true =
+    and_from (are_kinds size right.shape.words right.behind) (is_short right.shape.tail (rest_behind 3 line)) right.kinds right.short in
+    record {
+      known = λ e. cc;
+      words = ap is_unknown right.asks;
+      counted = ap is_miscounted right.asks ∙ right.counted;
+      ranges = and_from (is_number_in 1 8 lane) (is_asked_in_range size (rest_behind 3 line) (asked words)) ranged (ap (is_asked_in_range size (rest_behind 3 line)) right.asks ∙ found);
+      searched = λ asks. right.searched (sym (ap asks_query right.asks) ∙ asks);
+    }
+
+-- a place behind the first statement, where there are so many nodes
+abbrev pub IsBehind : Place → ℕ → Type 0
+IsBehind first_place size = ⊥
+IsBehind (second_place nodes) size = nodes ≡ size
+IsBehind (later_place nodes) size = nodes ≡ size
+
+later_lane : (size : ℕ) (lane : List ℕ) (words : List (List ℕ)) → list_all is_digit lane ≡ true → is_digits lane ≡ true → later_form size lane words ≡ lane_line size lane words
+later_lane size lane words all digits =
+    let other : is_word (codes "join") lane ≡ false = other_word 106 (codes "oin") lane refl all in
+    rw (other, digits) refl
+
+-- a statement that begins with digits is a line of a lane
+pub lane_form : (place : Place) (size : ℕ) (statement : Statement) (lane : List ℕ) (words : List (List ℕ)) → IsBehind place size → words_in statement.line ≡ lane ∷ words
+    → list_all is_digit lane ≡ true → is_digits lane ≡ true → form_at place statement ≡ lane_line size lane words
+lane_form first_place size statement lane words behind e all digits = absurd behind
+lane_form (second_place nodes) size statement lane words behind e all digits =
+    let other : is_word (codes "workers") lane ≡ false = other_word 119 (codes "orkers") lane refl all in
+    let here : form_of (second_place nodes) (lane ∷ words) ≡ later_form nodes lane words = rw other refl in
+    ap (form_of (second_place nodes)) e ∙ (here ∙ (later_lane nodes lane words all digits ∙ ap (λ (n : ℕ). lane_line n lane words) behind))
+lane_form (later_place nodes) size statement lane words behind e all digits =
+    ap (form_of (later_place nodes)) e ∙ (later_lane nodes lane words all digits ∙ ap (λ (n : ℕ). lane_line n lane words) behind)
+
+-- a line of these words is printable
+printable_of : (line : List ℕ) (words : List (List ℕ)) → words_in line ≡ words → list_all is_printable words ≡ true → is_printable line ≡ true
+printable_of line words e all = printable_line line (ap (list_all is_printable) e ∙ all)
+
+-- a word of letters and a number are printable
+printable_header : (line name digits : List ℕ) → words_in line ≡ name ∷ digits ∷ [] → is_printable name ≡ true → list_all is_digit digits ≡ true → is_printable line ≡ true
+printable_header line name digits e named all =
+    printable_of line (name ∷ digits ∷ []) e
+    (and_from (is_printable name) (list_all is_printable (digits ∷ [])) named
+    (and_from (is_printable digits) (list_all is_printable []) (printable_digits digits all) refl))
+
+-- the header that says how many nodes there are is right in first place
+pub right_nodes : (before nodes : ℕ) (statement : Statement) → IsNodesHeader statement nodes → nodes ≤ 16 → before < 200000 → IsRight first_place before statement
+right_nodes before nodes statement header small few =
+    let narrow : nodes < 2 ^ 64 = omega arith in
+    right_by_form first_place before statement (nodes_header (decimal nodes ∷ [])) (ap (form_of first_place) header.0)
+    (record {
+      known = λ e. cc;
+      words = refl;
+      counted = refl;
+      ranges = and_from (is_number_in 2 16 (decimal nodes)) true (number_in 2 16 nodes narrow header.1) refl;
+      searched = λ asks. absurd (false≢true asks);
+    })
+    (printable_header statement.line (codes "nodes") (decimal nodes) header.0 refl (digits_of-decimal nodes narrow)) few
+
+-- the header that says how many workers there are is right in second place
+pub right_workers : (size before workers : ℕ) (statement : Statement) → IsWorkersHeader statement workers → before < 200000 → IsRight (second_place size) before statement
+right_workers size before workers statement header few =
+    let narrow : workers < 2 ^ 64 = omega (arith, header.1) in
+    let between : is_between 0 8 workers ≡ true = and_from (nat_le 0 workers) (nat_le workers 8) (le-leb 0 workers (omega arith)) (le-leb workers 8 header.1) in
+    right_by_form (second_place size) before statement (workers_header (decimal workers ∷ [])) (ap (form_of (second_place size)) header.0)
+    (record {
+      known = λ e. cc;
+      words = refl;
+      counted = refl;
+      ranges = and_from (is_number_in 0 8 (decimal workers)) true (number_in 0 8 workers narrow between) refl;
+      searched = λ asks. absurd (false≢true asks);
+    })
+    (printable_header statement.line (codes "workers") (decimal workers) header.0 refl (digits_of-decimal workers narrow)) few
+
+join_form : (place : Place) (size : ℕ) (statement : Statement) → IsBehind place size → IsJoin statement → form_at place statement ≡ join []
+join_form first_place size statement behind is = absurd behind
+join_form (second_place nodes) size statement behind is = ap (form_of (second_place nodes)) is
+join_form (later_place nodes) size statement behind is = ap (form_of (later_place nodes)) is
+
+-- a join is right behind the first statement
+pub right_join : (place : Place) (size before : ℕ) (statement : Statement) → IsBehind place size → IsJoin statement → before < 200000 → IsRight place before statement
+right_join place size before statement behind is few =
+    right_by_form place before statement (join []) (join_form place size statement behind is)
+    (record {
+      known = λ e. cc;
+      words = refl;
+      counted = refl;
+      ranges = refl;
+      searched = λ asks. absurd (false≢true asks);
+    })
+    (printable_of statement.line (codes "join" ∷ []) is refl) few

@@ -1,0 +1,288 @@
+-- Which line of a text is the first that is refused, and why.
+use Rattle.std.specs.Prelude.{ℕ, ◌≡◌, ◌+◌, ◌-◌, ◌*◌, ◌≤◌, ◌<◌, ◌^◌, ◌⊎◌, List, [], ◌∷◌, length, codes, nat_eq, nat_lt, nat_le, Bool, true, false, ◌&&◌, ◌||◌, not, ◌==◌, if◌then◌else◌, Option, Some, None}
+use Rattle.std.specs.List.{list_all}
+use Rattle.std.specs.Cmp.Lexicographic.{pointwise}
+use Rattle.nrt_base.specs.Bytes.{is_between}
+use Rattle.text_query.specs.Answers.{IsFault}
+use Rattle.script_text.specs.declared.fault.LineFault.{LineFault}
+use Rattle.script_text.specs.declared.fault.LineFault.TheVariants.{NoNodes, Word, Count, Range, Query as RefusedQuery, Text, NotBuilt}
+use Rattle.script_text.specs.Grammar.{Statement, statements_of, lines_of_text, words_in, rest_behind, is_printable}
+
+-- the two are one word
+abbrev pub is_word : List ℕ → List ℕ → Bool
+is_word name word = pointwise nat_eq name word
+
+-- the byte is a decimal digit
+abbrev pub is_digit : ℕ → Bool
+is_digit b = is_between 48 57 b
+
+-- the word has digits alone
+abbrev pub is_digits : List ℕ → Bool
+is_digits word = nat_lt 0 (length word) && list_all is_digit word
+
+-- a number of the text: decimal digits without a leading zero
+abbrev pub is_number : List ℕ → Bool
+is_number [] = false
+is_number (b ∷ []) = is_digit b
+is_number (b ∷ c ∷ digits) = not (b == 48) && list_all is_digit (b ∷ c ∷ digits)
+
+-- the number that goes on with these digits
+abbrev pub value_from : ℕ → List ℕ → ℕ
+value_from n [] = n
+value_from n (b ∷ digits) = value_from (n * 10 + (b - 48)) digits
+
+-- the number that decimal digits spell
+abbrev pub value_of : List ℕ → ℕ
+value_of digits = value_from 0 digits
+
+-- the word is a number from the one to the other
+abbrev pub is_number_in : ℕ → ℕ → List ℕ → Bool
+is_number_in low high word = is_number word && is_between low high (value_of word)
+
+-- what a word of a command is to be: a number in a range, a node, a forced version, or a key
+pub data Kind : Type 0 where
+  number : ℕ → ℕ → Kind
+  node : Kind
+  force : Kind
+  key : Kind
+
+-- what may follow the words of a command
+pub data Tail : Type 0 where
+  nothing : Tail
+  text : Tail
+  query : Tail
+
+-- the form of a command: its name, what each word behind it is to be, and what follows
+pub record Shape : Type 0 where
+  pub name : List ℕ
+  pub words : List Kind
+  pub tail : Tail
+
+-- the shape of this name, with these words behind it and this tail
+abbrev pub shape : List ℕ → List Kind → Tail → Shape
+shape name words tail = record { name = name; words = words; tail = tail }
+
+-- the commands of a lane, but for faults
+abbrev pub command_shapes : List Shape
+command_shapes =
+    shape (codes "put") (key ∷ []) text
+    ∷ shape (codes "delete") (key ∷ []) nothing
+    ∷ shape (codes "publish") [] nothing
+    ∷ shape (codes "copy") (node ∷ []) nothing
+    ∷ shape (codes "settle") [] nothing
+    ∷ shape (codes "search") (node ∷ []) query
+    ∷ shape (codes "open") (node ∷ number 1 9999 ∷ []) nothing
+    ∷ shape (codes "ask") (number 1 9999 ∷ []) query
+    ∷ shape (codes "close") (number 1 9999 ∷ []) nothing
+    ∷ shape (codes "commit") (node ∷ []) nothing
+    ∷ shape (codes "crash") (node ∷ number 0 (2 ^ 64 - 1) ∷ []) nothing
+    ∷ shape (codes "reopen") (node ∷ []) nothing
+    ∷ shape (codes "promote") (node ∷ force ∷ []) nothing
+    ∷ shape (codes "merge") (number 2 16 ∷ []) nothing
+    ∷ shape (codes "drain") (number 1 1000 ∷ []) nothing
+    ∷ shape (codes "files") (node ∷ []) nothing
+    ∷ []
+
+-- the kinds of planned faults, whose word stands behind `fault`
+abbrev pub fault_shapes : List Shape
+fault_shapes =
+    shape (codes "link") (node ∷ number 1 1000000 ∷ []) nothing
+    ∷ shape (codes "damage") (node ∷ number 1 1000000 ∷ number 0 (2 ^ 32 - 1) ∷ []) nothing
+    ∷ shape (codes "disk") (node ∷ number 1 1000000 ∷ []) nothing
+    ∷ shape (codes "stop") (node ∷ number 1 1000000 ∷ []) nothing
+    ∷ []
+
+-- the shape of this name
+abbrev pub shape_named : List ℕ → List Shape → Option Shape
+shape_named name [] = None
+shape_named name (s ∷ shapes) = if is_word s.name name then Some s else shape_named name shapes
+
+-- what the words behind a lane ask for
+pub data Asked : Type 0 where
+  -- the word that names it is missing
+  missing : Asked
+  -- the word that names it is none of the table's
+  unknown : Asked
+  -- a command of this shape, with these words behind its name
+  command : Shape → List (List ℕ) → Asked
+
+-- the command of a shape that was found, or none of the table
+abbrev pub asked_by : Option Shape → List (List ℕ) → Asked
+asked_by None words = unknown
+asked_by (Some s) words = command s words
+
+-- what the words behind `fault` ask for
+abbrev pub fault_asked : List (List ℕ) → Asked
+fault_asked [] = missing
+fault_asked (kind ∷ words) = asked_by (shape_named kind fault_shapes) words
+
+-- what the words behind a lane ask for
+abbrev pub asked : List (List ℕ) → Asked
+asked [] = missing
+asked (name ∷ words) = if is_word (codes "fault") name then fault_asked words else asked_by (shape_named name command_shapes) words
+
+-- the place of a statement: the first, the second, or a later one; the nodes are 1 to the size
+pub data Place : Type 0 where
+  first : Place
+  second : ℕ → Place
+  later : ℕ → Place
+
+-- what a statement is by its first word: a header, a join, a line of a lane, or nothing that is allowed at its place
+pub data Form : Type 0 where
+  no_nodes : Form
+  nodes_header : List (List ℕ) → Form
+  workers_header : List (List ℕ) → Form
+  join : List (List ℕ) → Form
+  lane_line : ℕ → List ℕ → List (List ℕ) → Form
+  no_form : Form
+
+-- what a statement behind the headers is, by its first word
+abbrev pub later_form : ℕ → List ℕ → List (List ℕ) → Form
+later_form size word words =
+    if is_word (codes "join") word then join words
+    else if is_digits word then lane_line size word words else no_form
+
+-- what a statement is at a place, by its words
+abbrev pub form_of : Place → List (List ℕ) → Form
+form_of place [] = no_form
+form_of first (word ∷ words) = if is_word (codes "nodes") word then nodes_header words else no_nodes
+form_of (second size) (word ∷ words) = if is_word (codes "workers") word then workers_header words else later_form size word words
+form_of (later size) (word ∷ words) = later_form size word words
+
+-- the form of a statement at a place
+abbrev pub form_at : Place → Statement → Form
+form_at place statement = form_of place (words_in statement.line)
+
+-- the word that names the command is none of the table
+abbrev pub is_unknown : Asked → Bool
+is_unknown unknown = true
+is_unknown asked = false
+
+-- the first word is not allowed at its place, or the word that names the command is none of the table's
+abbrev pub has_wrong_word : Form → Bool
+has_wrong_word no_form = true
+has_wrong_word (lane_line size lane words) = is_unknown (asked words)
+has_wrong_word form = false
+
+-- too few words are found, or too many: a text may be empty, and a query is a word at least
+abbrev pub is_too_few_or_many : Tail → ℕ → ℕ → Bool
+is_too_few_or_many nothing wanted found = not (wanted == found)
+is_too_few_or_many text wanted found = nat_lt found wanted
+is_too_few_or_many query wanted found = nat_le found wanted
+
+-- a word of the command is missing, or there are too many
+abbrev pub is_miscounted : Asked → Bool
+is_miscounted missing = true
+is_miscounted unknown = false
+is_miscounted (command s words) = is_too_few_or_many s.tail (length s.words) (length words)
+
+-- a word is missing, or there are too many
+abbrev pub has_wrong_count : Form → Bool
+has_wrong_count (nodes_header words) = not (length words == 1)
+has_wrong_count (workers_header words) = not (length words == 1)
+has_wrong_count (join words) = not (length words == 0)
+has_wrong_count (lane_line size lane words) = is_miscounted (asked words)
+has_wrong_count form = false
+
+-- the word is what it is to be
+abbrev pub is_kind : ℕ → Kind → List ℕ → Bool
+is_kind size (number low high) word = is_number_in low high word
+is_kind size node word = is_number_in 1 size word
+is_kind size force word = is_word (codes "auto") word || is_number_in 0 (2 ^ 64 - 1) word
+is_kind size key word = nat_le (length word) 64
+
+-- each of the words that there are is what it is to be
+abbrev pub are_kinds : ℕ → List Kind → List (List ℕ) → Bool
+are_kinds size [] words = true
+are_kinds size (kind ∷ kinds) [] = true
+are_kinds size (kind ∷ kinds) (word ∷ words) = is_kind size kind word && are_kinds size kinds words
+
+-- what follows the words of a command is no longer than it may be
+abbrev pub is_short : Tail → List ℕ → Bool
+is_short nothing rest = true
+is_short tail rest = nat_le (length rest) 4096
+
+-- the words of the command are what they are to be, and what follows is short enough
+abbrev pub is_asked_in_range : ℕ → List ℕ → Asked → Bool
+is_asked_in_range size rest (command s words) = are_kinds size s.words words && is_short s.tail rest
+is_asked_in_range size rest asked = true
+
+-- every number is in its form and range, and no key, text or query is too long; a text and a query stand behind three words
+abbrev pub is_in_range : Form → List ℕ → Bool
+is_in_range (nodes_header words) line = list_all (is_number_in 2 16) words
+is_in_range (workers_header words) line = list_all (is_number_in 0 8) words
+is_in_range (lane_line size lane words) line = is_number_in 1 8 lane && is_asked_in_range size (rest_behind 3 line) (asked words)
+is_in_range form line = true
+
+-- the command ends with a query
+abbrev pub asks_query : Asked → Bool
+asks_query (command s words) = is_query s.tail
+  where
+    is_query : Tail → Bool
+    is_query query = true
+    is_query tail = false
+asks_query asked = false
+
+-- the statement is a line that ends with a query
+abbrev pub has_query : Form → Bool
+has_query (lane_line size lane words) = asks_query (asked words)
+has_query form = false
+
+-- where each cause holds of a statement that has so many before it, whatever else is wrong
+abbrev pub HasCause : Place → ℕ → Statement → LineFault → Type 0
+HasCause place before statement Text = is_printable statement.line ≡ false
+HasCause place before statement NoNodes = form_at place statement ≡ no_nodes
+HasCause place before statement Word = has_wrong_word (form_at place statement) ≡ true
+HasCause place before statement Count = has_wrong_count (form_at place statement) ≡ true
+HasCause place before statement Range =
+    (is_in_range (form_at place statement) statement.line && nat_lt before 200000) ≡ false
+HasCause place before statement (RefusedQuery fault) =
+    (has_query (form_at place statement) ≡ true) × IsFault (rest_behind 3 statement.line) fault
+HasCause place before statement NotBuilt = ⊥
+
+-- the order in which causes are looked for
+abbrev pub order_of : LineFault → ℕ
+order_of Text = 1
+order_of NoNodes = 2
+order_of Word = 3
+order_of Count = 4
+order_of Range = 5
+order_of (RefusedQuery fault) = 6
+order_of NotBuilt = 7
+
+-- the cause holds of the statement, and none before it does
+pub record IsFirstCause (place : Place) (before : ℕ) (statement : Statement) (cause : LineFault) : Type 0 where
+  pub holds : HasCause place before statement cause
+  pub first_one : (other : LineFault) → order_of other < order_of cause → HasCause place before statement other → ⊥
+
+-- no cause holds of the statement
+abbrev pub IsRight : Place → ℕ → Statement → Type 0
+IsRight place before statement = (cause : LineFault) → HasCause place before statement cause → ⊥
+
+-- how many nodes a right first statement says that there are
+abbrev pub nodes_said : List (List ℕ) → ℕ
+nodes_said (name ∷ word ∷ words) = value_of word
+nodes_said words = 0
+
+-- the place behind a right statement
+abbrev pub next_place : Place → Statement → Place
+next_place first statement = second (nodes_said (words_in statement.line))
+next_place (second size) statement = later size
+next_place (later size) statement = later size
+
+-- of these statements, which have so many before them, the first that is refused has this line number and this cause
+abbrev pub RefusesAmong : Place → ℕ → List Statement → ℕ → LineFault → Type 0
+RefusesAmong place before [] n cause = ⊥
+RefusesAmong place before (statement ∷ statements) n cause =
+    ((n ≡ statement.number) × IsFirstCause place before statement cause)
+    ⊎ (IsRight place before statement × RefusesAmong (next_place place statement) (before + 1) statements n cause)
+
+-- where there is no statement, the line after the last is refused, since the number of nodes is not said
+abbrev pub RefusesStatements : ℕ → List Statement → ℕ → LineFault → Type 0
+RefusesStatements lines [] n cause = (n ≡ lines + 1) × (cause ≡ NoNodes)
+RefusesStatements lines (statement ∷ statements) n cause = RefusesAmong first 0 (statement ∷ statements) n cause
+
+-- line n of the text is the first that is refused, for this cause
+pub record IsFirstRefused (bytes : List ℕ) (n : ℕ) (cause : LineFault) : Type 0 where
+  pub short : length bytes ≤ 16777216
+  pub refused : RefusesStatements (length (lines_of_text bytes)) (statements_of bytes) n cause
