@@ -45,10 +45,14 @@ pub fn push_u64(out: &mut Vec<u8>, n: u64) -> Result<(), NoMemory>
 }
 
 /// The vInt at the front, and the bytes after it. It is in its shortest form: a longer one is none.
+#[tactic(auto, unfolding(crate::specs::Numbers::vint_at_within))]
 pub fn vint_of(bytes: &[u8]) -> Option<(u32, &[u8])>
     ensures { option_map (λ x. (x.0, x.1.now)) result ≡ vint_at bytes.now }
 {
-    vint_within_of(4, bytes)
+    match bytes {
+        [b, rest @ ..] if *b < 128 => Some((u32::from(*b), rest)),
+        _ => vint_within_of(4, bytes),
+    }
 }
 
 // The last of five bytes is below this.

@@ -1,4 +1,5 @@
 ghost use Rattle.std.specs.Prelude.{◌≡◌, ◌↔◌, ◌<◌, IsTrue, IfSome, List, length, slice_get, Ok, Err};
+ghost use Rattle.nrt_base.specs.Bytes.{is_key};
 ghost use Rattle.nrt_base.specs.declared.doc.Doc.{Doc};
 ghost use Rattle.codec_frame.specs.Frame.{wanted, IsFramedAs};
 ghost use Rattle.codec_frame.specs.Checking.{IsFirstFault};
@@ -69,7 +70,8 @@ impl DocsFile {
     /// The key of the document in a row.
     pub fn key(&self, row: u32) -> &[u8]
         requires { row < length self.now }
-        ensures { IfSome (slice_get self.now row) (λ doc. result.now ≡ doc.key) }
+        ensures value { IfSome (slice_get self.now row) (λ doc. result.now ≡ doc.key) }
+        ensures kind { IfSome (slice_get self.now row) (λ doc. IsTrue (is_key doc.key)) }
     {
         parts_of(item_at(self.body(), row)).0
     }

@@ -1,8 +1,14 @@
 -- The positions in the first row that is left.
-use Rattle.std.proofs.Common.{◌≡◌, ℕ, zero, suc, ◌<◌, ◌≤◌, List, [], ◌∷◌, length, Some, None, refl, sym, ap, subst, ◌∙◌, arith}
-use Rattle.body_forms.specs.Format.{Read, ◌>>=◌, chain_at}
-use Rattle.body_forms.specs.Numbers.{difference_at, above, positive_at, ascending_at}
+use Rattle.std.proofs.Common.{◌≡◌, ℕ, zero, suc, ◌+◌, ◌<◌, ◌≤◌, List, [], ◌∷◌, length, Some, None, refl, sym, ap, subst, ◌∙◌, arith}
+use Rattle.std.specs.List.{AllByRecursion}
+use Rattle.std.specs.List.Sorted.{IsStrictlySortedBy}
+use Rattle.std.specs.Ordering.{nat_cmp}
+use Rattle.std.specs.declared.cmp.Ordering.TheVariants.{Less}
+use Rattle.std.proofs.lemmas.Bool.Decides.{nat_tests}
+use Rattle.body_forms.specs.Format.{Read, ◌>>=◌, chain_at, ChainFits, AreBytes}
+use Rattle.body_forms.specs.Numbers.{MayCome, difference_at, above, positive_at, ascending_at}
 use Rattle.body_forms.proofs.Formats.{bind_some, read_is}
+use Rattle.body_forms.proofs.NumberLaws.{ascending_format}
 use Rattle.postings_plain.specs.Postings.{Hit}
 use Rattle.postings_plain.specs.Rows.{first_positions}
 use Rattle.postings_plain.specs.Reading.{positions_at, numbers_or_none, AreNumbers}
@@ -77,3 +83,25 @@ after_first n others (Some x) = one_more n x.0 (chain_at difference_at above n (
 pub length-numbers : (n k : ℕ) (bytes : List ℕ) → length (numbers_or_none (chain_at difference_at above n k bytes)) ≤ n
 length-numbers zero k bytes = omega arith
 length-numbers (suc n) k bytes = after_first n (length-numbers n) (difference_at k bytes)
+
+-- ---- they ascend
+
+all_above : (x k : ℕ) (xs : List ℕ) → x < k → ChainFits MayCome above k xs → AllByRecursion (λ y. nat_cmp x y ≡ Less) xs
+all_above x k [] lt fits = tt
+all_above x k (y ∷ xs) lt fits = (less, all_above x (y + 1) xs (omega (arith, lt, fits.0.0)) fits.1)
+  where
+    less : nat_cmp x y ≡ Less
+    less = let up : x < y = omega (arith, lt, fits.0.0) in grind (arith, nat_tests)
+
+strictly : (k : ℕ) (xs : List ℕ) → ChainFits MayCome above k xs → IsStrictlySortedBy nat_cmp xs
+unfolding IsStrictlySortedBy
+strictly k [] fits = tt
+strictly k (x ∷ xs) fits = (all_above x (x + 1) xs (omega arith) fits.1, strictly (x + 1) xs fits.1)
+
+pub none_ascend : (xs : List ℕ) → xs ≡ [] → IsStrictlySortedBy nat_cmp xs
+none_ascend xs e = subst (IsStrictlySortedBy nat_cmp) (sym e) (strictly 0 [] tt)
+
+pub counted_ascend : (bytes xs tail : List ℕ) (count : ℕ) (rest : List ℕ) → AreBytes bytes → ascending_at bytes ≡ Some (xs, tail) → ◌≡◌ {A = Read ℕ} (Some (count, rest)) (positive_at bytes)
+    → IsStrictlySortedBy nat_cmp (numbers_or_none (chain_at difference_at above count 0 rest))
+counted_ascend bytes xs tail count rest fits e r =
+    subst (IsStrictlySortedBy nat_cmp) (sym (ap numbers_or_none (counted_places bytes xs tail count rest e r))) (strictly 0 xs (ascending_format.takes bytes xs tail fits e).1.1)

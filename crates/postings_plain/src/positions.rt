@@ -1,4 +1,6 @@
 ghost use Rattle.std.specs.Prelude.{◌≡◌, ◌<◌, ◌^◌, ℕ, List, [], length, Some};
+ghost use Rattle.std.specs.Ordering.{nat_cmp};
+ghost use Rattle.std.specs.List.Sorted.{IsStrictlySortedBy};
 ghost use Rattle.body_forms.specs.Numbers.{ascending_at};
 
 use body_forms::{difference_of, positive_of};
@@ -43,6 +45,7 @@ impl Positions<'_> {
         requires { (xs : List ℕ) × (tail : List ℕ) × (ascending_at bytes.now ≡ Some (xs, tail)) }
         ensures value { (xs : List ℕ) (tail : List ℕ) → ascending_at bytes.now ≡ Some (xs, tail) → result ≡ xs }
         ensures few { length result < 2 ^ 32 }
+        ensures ascend { IsStrictlySortedBy nat_cmp result }
     {
         match positive_of(bytes) {
             Some((count, rest)) => Positions {

@@ -1,4 +1,6 @@
 ghost use Rattle.std.specs.Prelude.{◌≡◌, ◌<◌, ◌^◌, length, IfSome, IfNone, All};
+ghost use Rattle.std.specs.Ordering.{nat_cmp};
+ghost use Rattle.std.specs.List.Sorted.{IsStrictlySortedBy};
 ghost use Rattle.postings_plain.specs.Postings.{row_of, Entry, EntryFits, entry, hits_of};
 ghost use Rattle.postings_plain.specs.Rows.{from_row, first_row, first_positions, IsLeastFrom};
 ghost use Rattle.postings_plain.specs.Reading.{IsEntry};
@@ -31,9 +33,9 @@ impl<'a> Model for Postings<'a> {
     ghost invariant = { λ a. (a.least ≤ 2 ^ 32) × AreHits (counted_from_at a.field a.count a.least a.rest.now) };
 }
 
-impl Postings<'_> {
+impl<'a> Postings<'a> {
     /// The hits of an entry.
-    pub(crate) fn of_entry(item: &[u8]) -> Postings<'_>
+    pub(crate) fn of_entry(item: &'a [u8]) -> Postings<'a>
         requires { IsEntry item.now }
         ensures { (e : Entry) → EntryFits e → item.now ≡ entry e → result ≡ hits_of e }
     {
@@ -78,10 +80,12 @@ impl Postings<'_> {
         None
     }
 
-    /// The positions of the word in the first row that is left: none where no row is left, and none for a key.
-    pub fn positions(&self) -> Positions<'_>
+    /// The positions of the word in the first row that is left: none where no row is left, and none for a key. They are lent
+    /// from the file's bytes, and stay as the rows are passed.
+    pub fn positions(&self) -> Positions<'a>
         ensures value { result ≡ first_positions self.now }
         ensures few { length result < 2 ^ 32 }
+        ensures ascend { IsStrictlySortedBy nat_cmp result }
     {
         if self.count == 0 || self.field == 0 {
             return Positions::none(self.rest);

@@ -6,7 +6,7 @@ use std::test::Fail;
 
 const ID: [u8; 16] = [0, 0, 0, 0, 0, 0, 0, 1, 0, 0, 0, 0, 0, 0, 0, 0];
 
-// The key `a` and the word `x`, both in row 0.
+// The key `a` and the word `x`, both in the first row.
 const BODY: &[u8; 28] = b"\0\0\0\x02\0\0\0\0\0\0\0\x05\0\0\0\x0c\0\x01a\x01\0\x01\x01x\x01\0\x01\0";
 
 fn file_of(alloc: Global, body: &[u8]) -> Result<Vec<u8>, Fail> {
@@ -45,7 +45,7 @@ fn postings_of_one_row(rt: HostRuntime) -> Result<(), Fail> {
 
 #[test]
 fn rows_are_passed(rt: HostRuntime) -> Result<(), Fail> {
-    // The word `x` in row 2 at 0 and 3, and in row 5 at 1.
+    // The word `x` in the third row at 0 and 3, and in the sixth at 1.
     let body = b"\0\0\0\x01\0\0\0\0\0\0\0\x0b\x01\x01x\x02\x02\x02\0\x03\x03\x01\x01";
     let bytes = file_of(rt.alloc(), body)?;
     let file = read_postings(Bytes::from_vec(bytes)?, &ID)

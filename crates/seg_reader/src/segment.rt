@@ -1,5 +1,6 @@
-ghost use Rattle.std.specs.Prelude.{◌≡◌, ◌↔◌, ◌<◌, ◌⊎◌, ℕ, length, slice_get, slice_index_or, false, IsSome, IfSome, IfOk, IfErr, MatchOption, Ok, Err};
+ghost use Rattle.std.specs.Prelude.{◌≡◌, ◌↔◌, ◌<◌, ◌⊎◌, ℕ, length, slice_get, slice_index_or, false, IsTrue, IsSome, IfSome, IfOk, IfErr, MatchOption, Ok, Err};
 ghost use Rattle.std.specs.List.{All};
+ghost use Rattle.nrt_base.specs.Bytes.{is_key};
 ghost use Rattle.postings_plain.specs.Postings.{row_of, HitsFit};
 ghost use Rattle.postings_plain.specs.Body.{HasEntry, HasNoEntry};
 ghost use Rattle.seg_reader.specs.Shown.{Shown, key_field, word_field};
@@ -87,7 +88,8 @@ impl Segment {
     /// The key of the document in a row.
     pub fn key(&self, row: u32) -> &[u8]
         requires { row < length self.now.docs }
-        ensures { IfSome (slice_get self.now.docs row) (λ doc. result.now ≡ doc.key) }
+        ensures value { IfSome (slice_get self.now.docs row) (λ doc. result.now ≡ doc.key) }
+        ensures kind { IfSome (slice_get self.now.docs row) (λ doc. IsTrue (is_key doc.key)) }
     {
         self.docs.key(row)
     }
