@@ -1,0 +1,113 @@
+-- What is answered by a cursor that is put together of those of parts.
+use Rattle.std.proofs.Common.{◌≡◌, ℕ, zero, suc, ◌+◌, ◌<◌, ◌≤◌, List, [], ◌∷◌, length, drop, get_or, Bool, true, false, Result, Ok, Err, Option, Some, None, refl, sym, ap, ◌∙◌, arith, drop-cons}
+use Rattle.std.specs.Prelude.{◌&&◌, ◌||◌, not, nat_le, nat_lt, slice_get, IfOk}
+use Rattle.std.specs.List.{list_any, list_all}
+use Rattle.std.specs.Option.{unwrap_or}
+use Rattle.std.proofs.lemmas.Bool.{lt-ltb, le-ltb, le-leb}
+use Rattle.std.proofs.lemmas.Option.{slice_get_within}
+use Rattle.nrt_base.specs.declared.doc.Doc.{Doc}
+use Rattle.point_history.specs.Words.{words_of}
+use Rattle.point_history.specs.declared.query.Query.{Query, All, Any, Not}
+use Rattle.point_history.specs.Matching.{matches, matches_doc}
+use Rattle.point_history.proofs.MatchingLemmas.{matches_all, matches_any, matches_not}
+use Rattle.query_eval.specs.declared.cursor.Cursor.{Cursor}
+use Rattle.query_eval.specs.declared.cursor.Cursor.TheVariants.{Nothing, Every}
+use Rattle.query_eval.specs.Moves.{rest_of}
+use Rattle.query_eval.specs.Cursor.{answers, all_answer, any_answers}
+use Rattle.query_eval.specs.Matching.{AnswersQuery, AnswersAll, AnswersAny}
+
+pub all_query : {E : Type 0} (docs : List Doc) (query : Query) (parts : List Query) → query ≡ All parts → (r : Result Cursor E) → IfOk r (AnswersAll docs parts) → IfOk r (AnswersQuery docs query)
+all_query docs query parts e (Ok cursor) h = λ row doc is. h row doc is ∙ sym (matches_all parts (words_of doc.text)) ∙ ap (λ (q : Query). matches q (words_of doc.text)) (sym e)
+all_query docs query parts e (Err none) h = tt
+
+pub any_query : {E : Type 0} (docs : List Doc) (query : Query) (parts : List Query) → query ≡ Any parts → (r : Result Cursor E) → IfOk r (AnswersAny docs parts) → IfOk r (AnswersQuery docs query)
+any_query docs query parts e (Ok cursor) h = λ row doc is. h row doc is ∙ sym (matches_any parts (words_of doc.text)) ∙ ap (λ (q : Query). matches q (words_of doc.text)) (sym e)
+any_query docs query parts e (Err none) h = tt
+
+pub not_query : (docs : List Doc) (query part same : Query) (cursor boxed : Cursor) (rows : ℕ) → query ≡ Not part → same ≡ part → rows ≡ length docs → boxed ≡ cursor → AnswersQuery docs same cursor
+    → (row : ℕ) (doc : Doc) → slice_get docs row ≡ Some doc → rest_of 0 0 rows (answers boxed) row ≡ matches_doc query doc
+not_query docs query part same cursor boxed rows e s n b h row doc is =
+    let within = slice_get_within docs row doc is in
+    inside (answers boxed row) row rows (omega (arith, within, n))
+    ∙ ap not (ap (λ (k : Cursor). answers k row) b ∙ h row doc is ∙ ap (λ (q : Query). matches q (words_of doc.text)) s)
+    ∙ sym (matches_not part (words_of doc.text))
+    ∙ ap (λ (q : Query). matches q (words_of doc.text)) (sym e)
+  where
+    inside : (answered : Bool) (row rows : ℕ) → row < rows → (nat_le 0 row && (nat_lt row rows && (nat_lt row 0 || not answered))) ≡ not answered
+    inside answered row rows lt = rw (le-leb 0 row (omega arith), lt-ltb row rows lt, le-ltb row 0 (omega arith)) refl
+
+split : (items : List Query) (i j : ℕ) (part : Query) → i < length items → part ≡ get_or items i part → j ≡ i + 1 → drop i items ≡ part ∷ drop j items
+split items i j part lt item next =
+    let up : suc i ≡ j = omega (arith, next) in
+    drop-cons items i part lt ∙ ap (λ (p : Query). p ∷ drop (suc i) items) (sym item) ∙ ap (λ (n : ℕ). part ∷ drop n items) up
+
+past : (items : List Query) (i : ℕ) → length items ≤ i → drop i items ≡ []
+past [] zero le = refl
+past [] (suc i) le = refl
+past (q ∷ items) zero le = absurd (omega (arith, le))
+past (q ∷ items) (suc i) le = past items i (omega (arith, le))
+
+and_and : (a b c : Bool) → ((a && b) && c) ≡ (a && (b && c))
+and_and true b c = refl
+and_and false b c = refl
+
+or_or : (a b c : Bool) → ((a || b) || c) ≡ (a || (b || c))
+or_or true b c = refl
+or_or false b c = refl
+
+and_true : (a : Bool) → a ≡ (a && true)
+and_true true = refl
+and_true false = refl
+
+or_false : (a : Bool) → a ≡ (a || false)
+or_false true = refl
+or_false false = refl
+
+-- what the cursor so far and the parts that are left answer together
+abbrev pub AllSoFar : List Doc → List Query → List Query → (ℕ → Bool) → Type 0
+AllSoFar docs parts left all = (row : ℕ) (doc : Doc) → slice_get docs row ≡ Some doc → (all row && list_all (λ part. matches_doc part doc) left) ≡ list_all (λ part. matches_doc part doc) parts
+
+abbrev pub AnySoFar : List Doc → List Query → List Query → (ℕ → Bool) → Type 0
+AnySoFar docs parts left any = (row : ℕ) (doc : Doc) → slice_get docs row ≡ Some doc → (any row || list_any (λ part. matches_doc part doc) left) ≡ list_any (λ part. matches_doc part doc) parts
+
+-- one more part
+pub all_more : (docs : List Doc) (items parts : List Query) (i j : ℕ) (part : Query) (all next joined : ℕ → Bool) → i < length items → part ≡ get_or items i part → j ≡ i + 1
+    → ((row : ℕ) → joined row ≡ (all row && next row)) → ((row : ℕ) (doc : Doc) → slice_get docs row ≡ Some doc → next row ≡ matches_doc part doc)
+    → AllSoFar docs parts (drop i items) all → AllSoFar docs parts (drop j items) joined
+all_more docs items parts i j part all next joined lt item up both one so_far row doc is =
+    ap (λ (b : Bool). b && list_all (λ q. matches_doc q doc) (drop j items)) (both row ∙ ap (λ (b : Bool). all row && b) (one row doc is))
+    ∙ and_and (all row) (matches_doc part doc) (list_all (λ q. matches_doc q doc) (drop j items))
+    ∙ ap (λ (qs : List Query). all row && list_all (λ q. matches_doc q doc) qs) (sym (split items i j part lt item up))
+    ∙ so_far row doc is
+
+pub any_more : (docs : List Doc) (items parts : List Query) (i j : ℕ) (part : Query) (any next joined : ℕ → Bool) → i < length items → part ≡ get_or items i part → j ≡ i + 1
+    → ((row : ℕ) → joined row ≡ (any row || next row)) → ((row : ℕ) (doc : Doc) → slice_get docs row ≡ Some doc → next row ≡ matches_doc part doc)
+    → AnySoFar docs parts (drop i items) any → AnySoFar docs parts (drop j items) joined
+any_more docs items parts i j part any next joined lt item up either one so_far row doc is =
+    ap (λ (b : Bool). b || list_any (λ q. matches_doc q doc) (drop j items)) (either row ∙ ap (λ (b : Bool). any row || b) (one row doc is))
+    ∙ or_or (any row) (matches_doc part doc) (list_any (λ q. matches_doc q doc) (drop j items))
+    ∙ ap (λ (qs : List Query). any row || list_any (λ q. matches_doc q doc) qs) (sym (split items i j part lt item up))
+    ∙ so_far row doc is
+
+-- no part is left
+pub all_end : (docs : List Doc) (items parts : List Query) (i : ℕ) (all : Option Cursor) → length items ≤ i → AllSoFar docs parts (drop i items) (all_answer all) → AnswersAll docs parts (unwrap_or all Every)
+all_end docs items parts i all le so_far row doc is =
+    same all row
+    ∙ and_true (all_answer all row)
+    ∙ ap (λ (qs : List Query). all_answer all row && list_all (λ q. matches_doc q doc) qs) (sym (past items i le))
+    ∙ so_far row doc is
+  where
+    same : (all : Option Cursor) (row : ℕ) → answers (unwrap_or all Every) row ≡ all_answer all row
+    same None row = refl
+    same (Some cursor) row = refl
+
+pub any_end : (docs : List Doc) (items parts : List Query) (i : ℕ) (any : Option Cursor) → length items ≤ i → AnySoFar docs parts (drop i items) (any_answers any) → AnswersAny docs parts (unwrap_or any Nothing)
+any_end docs items parts i any le so_far row doc is =
+    same any row
+    ∙ or_false (any_answers any row)
+    ∙ ap (λ (qs : List Query). any_answers any row || list_any (λ q. matches_doc q doc) qs) (sym (past items i le))
+    ∙ so_far row doc is
+  where
+    same : (any : Option Cursor) (row : ℕ) → answers (unwrap_or any Nothing) row ≡ any_answers any row
+    same None row = refl
+    same (Some cursor) row = refl

@@ -1,0 +1,17 @@
+pub mod HitLemmas
+pub mod MoveLemmas
+pub mod RestLemmas
+pub mod KeyLemmas
+pub mod RowLemmas
+pub mod SearchLemmas
+pub mod OrderLemmas
+pub mod BehindLemmas
+pub mod BuildLemmas
+pub mod FinalLemmas
+pub mod PhraseLemmas
+pub mod PassLemmas
+pub mod PlaceLemmas
+pub mod ReaderLemmas
+pub mod CountLemmas
+pub mod AnswerLemmas
+pub mod TestLaws

@@ -1,0 +1,13 @@
+//! What a search answers, found over the postings of segments. It is the scan of the documents of their live rows.
+#![tactic(auto)]
+
+mod building;
+mod cursor;
+mod phrase;
+mod search;
+mod tally;
+
+pub use search::answer;
+
+#[cfg(test)]
+mod tests;
