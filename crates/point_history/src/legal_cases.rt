@@ -100,6 +100,16 @@ const CASES: &str = "\
 20 published: 1 4 copying 2 2; 1 4 switched 2 2; 2 5 crashed 2; 1 4 refused lost
 20 published: 1 4 copying 2 2; 1 4 refused cancelled 3
 20 two: 1 7 copying 2 3; 2 8 copying 2 3; 1 7 refused cancelled 3
+20 copied: 1 5 copying 3 2; 2 6 accepted 2 put_b; 2 7 publishing; 2 7 published 1 3; 2 8 copying 2 3; 1 5 refused cancelled 3
+20 published: 1 4 copying 2 2; 2 5 crashed 3; 1 4 refused lost
+20 published: 1 4 planned damage 2 1 36; 1 5 copying 2 2; 1 5 fault 2 damage; 1 5 refused link-fault
+20 published: 1 4 planned link 3 1; 1 5 copying 2 2; 1 5 fault 3 link; 1 5 refused link-fault
+20 published: 1 4 copying 2 2; 1 4 refused damaged _10000.docs
+20 published: 1 4 planned link 2 1; 1 5 copying 2 2; 1 5 fault 2 link; 1 5 refused damaged _10000.docs
+20 published: 1 4 planned damage 2 1 36; 1 5 copying 2 2; 2 6 fault 2 damage; 1 5 refused damaged _10000.docs
+20 published: 1 4 copying 2 2; 1 4 refused disk-fault
+20 published: 1 4 planned link 2 1; 1 5 copying 2 2; 1 5 fault 2 link; 1 5 refused disk-fault
+20 published: 1 4 planned disk 3 1; 1 5 copying 2 2; 1 5 fault 3 disk; 1 5 refused disk-fault
 0 copied: 1 5 opened 2 0 2; 1 5 answer 2 0 2 1 a
 0 two: 1 7 opened 2 0 2; 1 7 answer 2 0 2 1 a; 1 8 opened 1 0 3; 1 8 answer 1 0 3 2 a b; 1 9 opened 3 0 1; 1 9 answer 3 0 1 0
 0 down: 1 6 refused down; 1 7 reopened 2 1; 1 8 opened 2 0 1; 1 8 answer 2 0 1 0; 1 9 files 2
