@@ -33,8 +33,8 @@ not_query docs query part same cursor boxed rows e s n b h row doc is =
     ∙ sym (matches_not part (words_of doc.text))
     ∙ ap (λ (q : Query). matches q (words_of doc.text)) (sym e)
   where
-    inside : (answered : Bool) (row rows : ℕ) → row < rows → (nat_le 0 row && (nat_lt row rows && (nat_lt row 0 || not answered))) ≡ not answered
-    inside answered row rows lt = rw (le-leb 0 row (omega arith), lt-ltb row rows lt, le-ltb row 0 (omega arith)) refl
+    inside : (answered : Bool) (place rows : ℕ) → place < rows → (nat_le 0 place && (nat_lt place rows && (nat_lt place 0 || not answered))) ≡ not answered
+    inside answered place rows lt = rw (le-leb 0 place (omega arith), lt-ltb place rows lt, le-ltb place 0 (omega arith)) refl
 
 split : (items : List Query) (i j : ℕ) (part : Query) → i < length items → part ≡ get_or items i part → j ≡ i + 1 → drop i items ≡ part ∷ drop j items
 split items i j part lt item next =

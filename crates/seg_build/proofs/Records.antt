@@ -21,7 +21,7 @@ use Rattle.seg_build.proofs.EntryRows.{row_count_of}
 -- ---- the record
 
 counted : (b : Bool) (rows : List Bool) → live_rows (b ∷ rows) ≡ cond b 1 0 + live_rows rows
-counted b rows = sum_by-cons (λ (row : Bool). cond row 1 0) b rows
+counted b rows = sum_by-cons (λ (live : Bool). cond live 1 0) b rows
 
 -- as many live rows as rows: all are live
 all_live : (rows : List Bool) → live_rows rows ≡ length rows → rows ≡ replicate (length rows) true

@@ -67,7 +67,7 @@ fn answers(rt: HostRuntime) -> Result<(), Fail> {
         ("AND", "Syntax(0)"),
         ("ANDa", "anda"),
         ("\"The Fox\" or", "Syntax(10)"),
-        ("a AND b OR c AND NOT D4", "((a AND b) OR (c AND (NOT d4)))"),
+        ("a AND b OR c AND NOT Z4", "((a AND b) OR (c AND (NOT z4)))"),
         ("(a OR b) AND \"X\"", "((a OR b) AND x)"),
         ("(a AND b) AND c", "((a AND b) AND c)"),
         (
@@ -156,7 +156,7 @@ fn fronts_of_queries(rt: HostRuntime) -> Result<(), Fail> {
             734,
         ),
         (
-            "A0 AND b1 AND c2 OR D3 AND e4 OR F5",
+            "A0 AND b1 AND c2 OR Z3 AND e4 OR y5",
             "ekkksssskkksssskkkssskkksssskkkssskk",
             316,
         ),
