@@ -6,6 +6,7 @@ pub mod InfoLaws
 pub mod BodyLaws
 pub mod FileLaws
 pub mod NumberLaws
+pub mod SortedLists
 pub mod SetLaws
 pub mod CommitLaws
 pub mod TestLaws
