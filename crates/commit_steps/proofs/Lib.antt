@@ -1,0 +1,9 @@
+pub mod Answers
+pub mod Safe
+pub mod Advancing
+pub mod Books
+pub mod Beginning
+pub mod Recovering
+pub mod Recovered
+pub mod Beside
+pub mod TestLaws

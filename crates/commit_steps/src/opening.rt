@@ -1,0 +1,101 @@
+// How a book is opened, and how a commit begins.
+ghost use Rattle.std.specs.Prelude.{◌≡◌, ◌+◌, ◌<◌, ◌^◌, ℕ, List, [], None, Some, IsSome, IfSome, Ok, Err, IfOk, OnOk, OnErr, Contains};
+ghost use Rattle.std.specs.List.{flat_map};
+ghost use Rattle.nrt_base.specs.Names.{commit_name_of, pending_name_of};
+ghost use Rattle.file_deleter.specs.Holdings.{IsThere};
+ghost use Rattle.file_deleter.specs.Moves.{Holds, Moves};
+ghost use Rattle.segment_infos.specs.Infos.{CanSpell};
+ghost use Rattle.segment_infos.specs.Files.{files_of_segment};
+ghost use Rattle.commit_steps.specs.Found.{reads_of, Shows};
+ghost use Rattle.commit_steps.specs.Flights.{IsCommit};
+ghost use Rattle.commit_steps.specs.Commits.{ImagesShow};
+ghost use Rattle.commit_steps.specs.Calls.{IsFree};
+ghost use Rattle.commit_steps.specs.Book.{book_names, IsSound, IsOpened, HasBegun};
+
+use crate::stage::{CommitBook, Stage};
+use crate::states::{Begun, Commit, Flight};
+use disk_model::Dir;
+use file_deleter::FileDeleter;
+use nrt_base::{List, NoMemory, Share, commit_name};
+use segment_infos::{Infos, encode, files_of};
+use std::alloc::Global;
+
+// The commit of these infos with this number.
+fn commit_with(alloc: Global, number: u64, infos: &Infos) -> Result<Commit, NoMemory>
+    requires some { 0 < number }
+    requires below { number < 2 ^ 62 }
+    ensures commit { IfOk result IsCommit }
+    ensures number { IfOk result (λ commit. commit.number ≡ number) }
+    ensures infos { IfOk result (λ commit. commit.infos ≡ infos.now) }
+{
+    let files = List::from_vec(files_of(alloc, infos)?);
+    let mut names = files.share(alloc)?;
+    names.push(commit_name(number))?;
+    let infos = infos.share(alloc)?;
+    Ok(Commit {
+        number,
+        infos,
+        files,
+        names,
+    })
+}
+
+impl CommitBook {
+    /// The book of a directory whose last commit is `segments_N` with these infos. It holds that file and those that the
+    /// infos name, which must exist; the next commit's number must be above N.
+    #[tactic(auto, using(crate::proofs::Beginning::names_there))]
+    pub fn opened<D: Dir>(
+        alloc: Global,
+        number: u64,
+        infos: &Infos,
+        next: u64,
+        files: &mut FileDeleter,
+        dir: &D,
+    ) -> Result<CommitBook, NoMemory>
+        requires shown { Shows (reads_of (D.cells dir.now)) number infos.now }
+        requires there { (q : List ℕ) → Contains (flat_map files_of_segment infos.now.segs) q → IsThere (D.cells dir.now) q }
+        requires next { number < next }
+        ensures book { IfOk result (IsOpened number infos.now next) }
+        ensures holds { IfOk result (λ book. Holds (book_names book) files.old files.new (D.cells dir.now)) }
+        ensures sound { ImagesShow (D.cells dir.now) number infos.now → IfOk result (IsSound (D.cells dir.now) files.new) }
+        ensures err { OnErr result (files.new ≡ files.old) }
+    {
+        let commit = commit_with(alloc, number, infos)?;
+        files.hold_there(commit.names.as_slice(), dir)?;
+        Ok(CommitBook {
+            last: Some(commit),
+            stage: None,
+            next,
+        })
+    }
+
+    /// Begins a commit of these infos with the next number. It holds the files that they name, which must exist. Nothing may
+    /// be in flight, and no file may have a name of that number.
+    #[tactic(auto, using(crate::proofs::Beginning::files_there, crate::proofs::Beginning::begun_sound, crate::proofs::Beginning::begun_moves))]
+    pub fn begin<D: Dir>(
+        &mut self,
+        alloc: Global,
+        infos: &Infos,
+        files: &mut FileDeleter,
+        dir: &D,
+    ) -> Result<(), NoMemory>
+        requires none { self.old.stage ≡ None }
+        requires spelled { CanSpell infos.now }
+        requires there { (q : List ℕ) → Contains (flat_map files_of_segment infos.now.segs) q → IsThere (D.cells dir.now) q }
+        requires below { self.old.next < 2 ^ 62 }
+        requires early { IsFree (D.cells dir.now) files.old (pending_name_of self.old.next) }
+        requires own { IsFree (D.cells dir.now) files.old (commit_name_of self.old.next) }
+        requires sound { IsSound (D.cells dir.now) files.old self.old }
+        ensures book { OnOk result (HasBegun infos.now self.old self.new) }
+        ensures moves { OnOk result (Moves [] (book_names self.old) (book_names self.new) files.old files.new (D.cells dir.now) (D.cells dir.now)) }
+        ensures sound { IsSound (D.cells dir.now) files.new self.new }
+        ensures err { OnErr result ((self.new ≡ self.old) × (files.new ≡ files.old)) }
+    {
+        let bytes = encode(alloc, infos)?;
+        let commit = commit_with(alloc, self.next, infos)?;
+        files.hold_there(commit.files.as_slice(), dir)?;
+        self.stage = Some(Stage::Begun(Begun(Flight { commit, bytes })));
+        self.next += 1;
+        Ok(())
+    }
+}

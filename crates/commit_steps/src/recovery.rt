@@ -1,0 +1,129 @@
+// What an opening finds.
+ghost use Rattle.std.specs.Prelude.{◌≡◌, ◌≤◌, ◌⊎◌, ℕ, List, Ok, Err, Some, None, IfOk, IfErr, IsErrOf, find, not, is_some};
+ghost use Rattle.nrt_base.specs.Causes.{Rose};
+ghost use Rattle.file_deleter.specs.Moves.{IsMemoryOrFailed};
+ghost use Rattle.commit_steps.specs.Found.{reads_of, ShowsNothing, IsNewestAnswer, IsNewestNumber, Shows};
+ghost use Rattle.commit_steps.specs.Recovery.{IsCutOff, IsUnlessCutOff, IsWholeCommit, IsBroken, IsGone, Refuses, Recovers, IsLoaded, IsAnswer, is_there};
+
+use body_forms::ReadFault;
+use codec_frame::FileFault;
+use disk_model::{Dir, DirFault};
+use nrt_base::{FileName, NoMemory, commit_name};
+use segment_infos::{Infos, decode, files_of, last_commit};
+use std::alloc::Global;
+
+/// Why no commit is recovered.
+#[derive(Clone, Copy, Debug, PartialEq, Eq)]
+pub enum RecoverFault {
+    /// Memory was wanting.
+    Memory,
+    /// The disk failed.
+    Failed,
+    /// The `segments_N` with the greatest N has this name, and its bytes are refused.
+    Broken(FileName, FileFault),
+    /// The last commit's infos name this file, which does not exist, the first such in ascending order.
+    Gone(FileName),
+}
+
+impl From<NoMemory> for RecoverFault {
+    ghost use Rattle.commit_steps.specs.declared.recovery.RecoverFault.TheVariants.{Memory};
+
+    ghost from_gives = { λ _ e. e ≡ Memory };
+
+    fn from(_: NoMemory) -> Self {
+        RecoverFault::Memory
+    }
+}
+
+// A fault of the directory.
+fn refusal(fault: DirFault) -> RecoverFault
+    requires { IsMemoryOrFailed fault }
+    ensures either { (result ≡ RecoverFault.Memory) ⊎ (result ≡ RecoverFault.Failed) }
+    ensures failed { result ≡ RecoverFault.Failed → fault ≡ DirFault.Failed }
+{
+    match fault {
+        DirFault::Memory => RecoverFault::Memory,
+        DirFault::Failed => RecoverFault::Failed,
+        DirFault::Missing | DirFault::Exists => unreachable!(),
+    }
+}
+
+// The greatest N of a `segments_N` in the directory.
+fn newest<D: Dir>(dir: &mut D) -> Result<Option<u64>, RecoverFault>
+    ensures found { IfOk result (IsNewestAnswer (reads_of (D.cells dir.old))) }
+    ensures err { IfErr result IsCutOff }
+    ensures cells { D.cells dir.new ≡ D.cells dir.old }
+    ensures failed { IsErrOf result RecoverFault.Failed → Rose (D.faults dir.old) (D.faults dir.new) }
+    ensures later { D.faults dir.old ≤ D.faults dir.new }
+{
+    match dir.list() {
+        Ok(names) => Ok(last_commit(names.as_slice())),
+        Err(fault) => Err(refusal(fault)),
+    }
+}
+
+// The infos that the newest `segments_N` spells.
+fn load_infos<D: Dir>(alloc: Global, number: u64, dir: &mut D) -> Result<Infos, RecoverFault>
+    requires { IsNewestNumber (reads_of (D.cells dir.old)) number }
+    ensures found { IfOk result (Shows (reads_of (D.cells dir.old)) number) }
+    ensures err { IfErr result (Refuses (reads_of (D.cells dir.old))) }
+    ensures loaded { IsLoaded (reads_of (D.cells dir.old)) number result }
+    ensures cells { D.cells dir.new ≡ D.cells dir.old }
+    ensures failed { IsErrOf result RecoverFault.Failed → Rose (D.faults dir.old) (D.faults dir.new) }
+    ensures later { D.faults dir.old ≤ D.faults dir.new }
+{
+    let name = commit_name(number);
+    match dir.load(&name) {
+        Ok(bytes) => match decode(alloc, &bytes) {
+            Ok(infos) => Ok(infos),
+            Err(ReadFault::File(fault)) => Err(RecoverFault::Broken(name, fault)),
+            Err(ReadFault::Memory) => Err(RecoverFault::Memory),
+        },
+        Err(fault) => Err(refusal(fault)),
+    }
+}
+
+// The first name that the directory lacks.
+fn first_missing<D: Dir>(names: &[FileName], dir: &D) -> Option<FileName>
+    ensures { result ≡ find (λ q. not (is_there (reads_of (D.cells dir.now)) q)) names.now }
+{
+    names.iter().copied().find(|name| !dir.has(name))
+}
+
+// The answer of an opening, with all that is said of it as one.
+fn answer<D: Dir>(alloc: Global, dir: &mut D) -> Result<Option<(u64, Infos)>, RecoverFault>
+    ensures answer { IsAnswer (reads_of (D.cells dir.old)) result }
+    ensures cells { D.cells dir.new ≡ D.cells dir.old }
+    ensures failed { IsErrOf result RecoverFault.Failed → Rose (D.faults dir.old) (D.faults dir.new) }
+    ensures later { D.faults dir.old ≤ D.faults dir.new }
+{
+    let Some(number) = newest(dir)? else {
+        return Ok(None);
+    };
+    let infos = load_infos(alloc, number, dir)?;
+    let files = files_of(alloc, &infos)?;
+    match first_missing(files.as_slice(), dir) {
+        None => Ok(Some((number, infos))),
+        Some(name) => Err(RecoverFault::Gone(name)),
+    }
+}
+
+/// The commit that the directory shows: the greatest N of a `segments_N`, with the infos that it spells, or nothing where
+/// there is no `segments_N`. Each file that the infos name exists. It changes nothing.
+pub fn recover<D: Dir>(alloc: Global, dir: &mut D) -> Result<Option<(u64, Infos)>, RecoverFault>
+    // What is answered.
+    ensures recovers { Recovers (reads_of (D.cells dir.old)) result }
+
+    // Each of these is answered, unless memory is wanting or the disk fails.
+    ensures none { ShowsNothing (reads_of (D.cells dir.old)) → IsUnlessCutOff result (Ok None) }
+    ensures whole { (n : ℕ) (infos : Infos) → IsWholeCommit (reads_of (D.cells dir.old)) n infos → IsUnlessCutOff result (Ok (Some (n, infos))) }
+    ensures broken { (name : List ℕ) (fault : FileFault) → IsBroken (reads_of (D.cells dir.old)) name fault → IsUnlessCutOff result (Err (RecoverFault.Broken name fault)) }
+    ensures gone { (name : List ℕ) → IsGone (reads_of (D.cells dir.old)) name → IsUnlessCutOff result (Err (RecoverFault.Gone name)) }
+
+    // What stays, and when the disk failed.
+    ensures cells { D.cells dir.new ≡ D.cells dir.old }
+    ensures failed { IsErrOf result RecoverFault.Failed → Rose (D.faults dir.old) (D.faults dir.new) }
+    ensures later { D.faults dir.old ≤ D.faults dir.new }
+{
+    answer(alloc, dir)
+}

@@ -1,0 +1,185 @@
+ghost use Rattle.std.specs.Prelude.{◌≡◌, ◌<◌, true, [], Ok, IfOk, OnOk};
+ghost use Rattle.nrt_base.specs.Names.{commit_name_of, pending_name_of};
+ghost use Rattle.segment_infos.specs.Infos.{CanSpell};
+ghost use Rattle.disk_memory.specs.Table.{cells_of};
+ghost use Rattle.disk_memory.specs.Memory.{table_of};
+ghost use Rattle.file_deleter.specs.Holdings.{AreCounted};
+ghost use Rattle.commit_steps.specs.Found.{reads_of};
+ghost use Rattle.commit_steps.specs.Commits.{ImagesShowNothing};
+ghost use Rattle.commit_steps.specs.Recovery.{IsWholeCommit};
+ghost use Rattle.commit_steps.specs.Calls.{IsFree};
+ghost use Rattle.commit_steps.specs.Book.{book_names, IsSound};
+
+use crate::{CommitBook, CommitFault, recover};
+use disk_memory::MemDir;
+use disk_model::{Dir, FaultDir};
+use file_deleter::FileDeleter;
+use nrt_base::{FileName, Gen, List, NoMemory, Version, commit_name, pending_name};
+use segment_infos::Infos;
+use std::alloc::Global;
+use std::mem::replace;
+use std::test::Fail;
+
+mod calls;
+mod counts;
+mod openings;
+mod table;
+
+// Infos without a segment.
+fn infos_at(alloc: Global, version: u64) -> Infos
+    requires { 0 < version }
+    ensures spelled { CanSpell result }
+    ensures none { result.segs ≡ [] }
+{
+    Infos {
+        generation: Gen(1),
+        version: Version(version),
+        counter: 0,
+        segs: List::from_vec(Vec::new(alloc)),
+    }
+}
+
+// The commit that is found, which must be there.
+fn found<D: Dir>(alloc: Global, dir: &mut D) -> Result<(u64, Infos), Fail>
+    ensures whole { IfOk result (λ x. IsWholeCommit (reads_of (D.cells dir.new)) x.0 x.1) }
+    ensures cells { D.cells dir.new ≡ D.cells dir.old }
+{
+    match recover(alloc, dir)? {
+        Some(found) => Ok(found),
+        None => Err(Fail::new("no commit is found")),
+    }
+}
+
+// A directory in memory without a file.
+fn empty_dir(alloc: Global) -> Result<MemDir, NoMemory>
+    ensures { IfOk result (λ dir. ImagesShowNothing (cells_of (table_of dir))) }
+{
+    let dir = MemDir::new(alloc)?;
+    Ok(dir)
+}
+
+// A directory, with its deleter and its book.
+#[derive(Drop)]
+struct Site<D> {
+    dir: D,
+    files: FileDeleter,
+    book: CommitBook,
+}
+
+impl<D: FaultDir + Drop> Site<D> {
+    // A site on a directory without a commit.
+    fn new(alloc: Global, dir: D) -> Result<Site<D>, NoMemory>
+        requires { ImagesShowNothing (D.cells dir) }
+        ensures sound { IfOk result (λ site. IsSound (D.cells site.dir) site.files site.book) }
+        ensures counted { IfOk result (λ site. AreCounted (book_names site.book) site.files) }
+    {
+        let files = FileDeleter::new(alloc)?;
+        let book = CommitBook::new(1);
+        Ok(Site { dir, files, book })
+    }
+
+    // Whether neither the directory nor the deleter knows the name.
+    fn is_free(&self, alloc: Global, name: &FileName) -> Result<bool, NoMemory>
+        ensures { result ≡ Ok true → IsFree (D.cells self.now.dir) self.now.files name.now }
+    {
+        let pending = self.files.pending(alloc)?;
+        Ok(pending.is_empty() && self.files.count(name) == 0 && !self.dir.has(name))
+    }
+
+    // Refuses a number whose names are not free.
+    fn free_names(&self, alloc: Global, number: u64) -> Result<(), Fail>
+        ensures early { OnOk result (IsFree (D.cells self.now.dir) self.now.files (pending_name_of number)) }
+        ensures own { OnOk result (IsFree (D.cells self.now.dir) self.now.files (commit_name_of number)) }
+    {
+        let early = self.is_free(alloc, &pending_name(number))?;
+        let own = self.is_free(alloc, &commit_name(number))?;
+        if !early || !own {
+            return Err(Fail::new("a name is not free"));
+        }
+        Ok(())
+    }
+
+    // Begins a commit of infos without a segment.
+    fn begin(&mut self, alloc: Global, version: u64) -> Result<(), Fail>
+        requires some { 0 < version }
+        requires sound { IsSound (D.cells self.old.dir) self.old.files self.old.book }
+        requires counted { AreCounted (book_names self.old.book) self.old.files }
+        ensures sound { IsSound (D.cells self.new.dir) self.new.files self.new.book }
+        ensures counted { AreCounted (book_names self.new.book) self.new.files }
+    {
+        let number = self.book.next;
+        if number >= 1 << 62 || self.book.in_flight() {
+            return Err(Fail::new("no commit can begin"));
+        }
+        self.free_names(alloc, number)?;
+        let infos = infos_at(alloc, version);
+        self.book.begin(alloc, &infos, &mut self.files, &self.dir)?;
+        Ok(())
+    }
+
+    // A step of the commit in flight.
+    fn step(&mut self, alloc: Global) -> Result<bool, CommitFault>
+        requires sound { IsSound (D.cells self.old.dir) self.old.files self.old.book }
+        requires counted { AreCounted (book_names self.old.book) self.old.files }
+        ensures sound { IsSound (D.cells self.new.dir) self.new.files self.new.book }
+        ensures counted { AreCounted (book_names self.new.book) self.new.files }
+    {
+        if !self.book.in_flight() {
+            return Ok(false);
+        }
+        self.book.step(alloc, &mut self.files, &mut self.dir)
+    }
+
+    // How many steps make the commit in flight, or 0 where six do not.
+    fn commit(&mut self, alloc: Global) -> Result<u32, CommitFault>
+        requires sound { IsSound (D.cells self.old.dir) self.old.files self.old.book }
+        requires counted { AreCounted (book_names self.old.book) self.old.files }
+        ensures sound { IsSound (D.cells self.new.dir) self.new.files self.new.book }
+        ensures counted { AreCounted (book_names self.new.book) self.new.files }
+    {
+        for count in 1..=6 {
+            if self.step(alloc)? {
+                return Ok(count);
+            }
+        }
+        Ok(0)
+    }
+
+    // Plans that the k-th call of the directory and each later one fail.
+    fn stop_at(&mut self, k: u64)
+        requires some { 0 < k }
+        requires sound { IsSound (D.cells self.old.dir) self.old.files self.old.book }
+        requires counted { AreCounted (book_names self.old.book) self.old.files }
+        ensures sound { IsSound (D.cells self.new.dir) self.new.files self.new.book }
+        ensures counted { AreCounted (book_names self.new.book) self.new.files }
+    {
+        self.dir.stop_at(k);
+    }
+
+    // Plans that the k-th call of the directory fails.
+    fn plan(&mut self, k: u64)
+        requires some { 0 < k }
+        requires sound { IsSound (D.cells self.old.dir) self.old.files self.old.book }
+        requires counted { AreCounted (book_names self.old.book) self.old.files }
+        ensures sound { IsSound (D.cells self.new.dir) self.new.files self.new.book }
+        ensures counted { AreCounted (book_names self.new.book) self.new.files }
+    {
+        self.dir.plan(k);
+    }
+    // Crashes, and opens the book on what the directory shows then.
+    fn reopen(&mut self, alloc: Global, pick: u64) -> Result<(), Fail>
+        ensures sound { OnOk result (IsSound (D.cells self.new.dir) self.new.files self.new.book) }
+        ensures counted { OnOk result (AreCounted (book_names self.new.book) self.new.files) }
+    {
+        self.dir.crash(pick)?;
+        let (number, infos) = found(alloc, &mut self.dir)?;
+        let Some(next) = number.checked_add(1) else {
+            return Err(Fail::new("no number is left"));
+        };
+        let mut files = FileDeleter::new(alloc)?;
+        let book = CommitBook::opened(alloc, number, &infos, next, &mut files, &self.dir)?;
+        drop(replace(&mut self.files, files));
+        drop(replace(&mut self.book, book));
+        Ok(())
+    }
+}
