@@ -1,5 +1,7 @@
--- The numbers that the program ends with.
+-- The numbers that the program ends with, and those of the causes that it names.
 use Rattle.std.specs.Prelude.{ℕ}
+use Rattle.script_text.specs.declared.fault.LineFault.{LineFault}
+use Rattle.script_text.specs.declared.fault.LineFault.TheVariants.{NoNodes, Word, Count, Range, Query, Text, NotBuilt}
 use Rattle.nrt_main.specs.declared.status.Status.{Status}
 use Rattle.nrt_main.specs.declared.status.Status.TheVariants.{Done, Usage, BadScript, ReadFault, WriteFault, Memory, TooLarge}
 
@@ -12,3 +14,13 @@ exit_status ReadFault = 4
 exit_status WriteFault = 5
 exit_status Memory = 6
 exit_status TooLarge = 7
+
+-- the number of the cause for which a line is refused
+abbrev pub cause_number : LineFault → ℕ
+cause_number NoNodes = 1
+cause_number Word = 2
+cause_number Count = 3
+cause_number Range = 4
+cause_number (Query fault) = 5
+cause_number Text = 6
+cause_number NotBuilt = 7

@@ -1,6 +1,9 @@
 //! The program: it runs a script and writes its report.
 #![tactic(auto)]
 
+ghost use Rattle.std.specs.Prelude.{◌≡◌};
+ghost use Rattle.nrt_main.specs.Statuses.{cause_number};
+
 mod engine;
 mod node;
 mod reading;
@@ -30,7 +33,9 @@ fn words(rt: &HostRuntime) -> io::Result<Vec<Arg>> {
 }
 
 /// The number of a cause, as the program names it.
-fn cause_number(cause: LineFault) -> u8 {
+fn cause_number(cause: LineFault) -> u8
+    ensures { result ≡ cause_number cause }
+{
     match cause {
         LineFault::NoNodes => 1,
         LineFault::Word => 2,
