@@ -6,3 +6,4 @@ pub mod ItemTables
 pub mod TableTests
 pub mod FileLaws
 pub mod WritingTables
+pub mod VIntLemmas

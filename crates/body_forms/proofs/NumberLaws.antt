@@ -7,7 +7,7 @@ use Rattle.std.proofs.lemmas.Nat.{be_bytes_4, be_bytes_8, from_be_bytes-to_be_by
 use Rattle.std.proofs.lemmas.List.{length-append, length-take, take_at, drop_at, take-append-drop}
 use Rattle.std.proofs.lemmas.Option.{some_pair_parts}
 use borrow.Author.Tests.{ltb-true}
-use Rattle.nrt_base.specs.VInts.{vint}
+use Rattle.body_forms.specs.VInts.{vint}
 use Rattle.body_forms.specs.Format.{AreBytes, Read, ◌>>=◌, IsFormat, chain, chain_at}
 use Rattle.body_forms.specs.Numbers.{u32_bytes, u32_at, u64_bytes, u64_at, vint_at, difference, MayCome, above, difference_at, positive_at, ascending, Ascend, ascending_at}
 use Rattle.body_forms.proofs.Formats.{AreBytes-drop, AreBytes-take, bind_some, passed, not_stopped, counted_format, chain_format, tested_format}

@@ -7,7 +7,7 @@ use Rattle.std.proofs.lemmas.Option.{some_pair_parts}
 use borrow.Author.Tests.{ltb-true}
 use Rattle.std.proofs.lemmas.List.{length-append, length-take, take_at, drop_at, take-append-drop, take_all}
 use Rattle.body_forms.specs.Format.{AreBytes, Read, ◌>>=◌, Takes, IsFormat}
-use Rattle.nrt_base.specs.VInts.{vint_within, vint, vint_limit}
+use Rattle.body_forms.specs.VInts.{vint_within, vint, vint_limit}
 use Rattle.body_forms.specs.Numbers.{vint_at_within, vint_at, string, string_at}
 use Rattle.body_forms.proofs.Formats.{AreBytes-drop, AreBytes-rest, bind_some, passed, not_stopped, chosen}
 

@@ -1,7 +1,7 @@
 -- Fixed numbers, vInts in their shortest form, strings, and ascending numbers by their differences.
 use Rattle.std.specs.Prelude.{ℕ, zero, suc, ◌+◌, ◌-◌, ◌*◌, ◌^◌, ◌<◌, ◌≤◌, List, [], ◌∷◌, ◌++◌, length, take, drop, Some, None, nat_lt, if◌then◌else◌}
 use Rattle.std.specs.Int.{w32, w64, to_be_bytes, from_be_bytes}
-use Rattle.nrt_base.specs.VInts.{vint}
+use Rattle.body_forms.specs.VInts.{vint}
 use Rattle.body_forms.specs.Format.{Read, ◌>>=◌, chain, ChainFits, chain_at, counted_at}
 
 -- a number of 32 bits in four bytes, the highest first

@@ -6,7 +6,7 @@ use Rattle.disk_model.specs.declared.dir.DirFault.{DirFault}
 use Rattle.disk_model.specs.declared.dir.DirFault.TheVariants.{Memory, Missing, Exists, Failed}
 use Rattle.disk_model.proofs.CellLemmas.{left_synced, settled_kept, put_here, put_apart, rename_others, rename_target, same_apart}
 use Rattle.disk_model.proofs.DirectoryLaw.{write_others}
-use Rattle.nrt_base.specs.Names.{is_commit_name, commit_number}
+use Rattle.file_names.specs.Names.{is_commit_name, commit_number}
 use Rattle.file_deleter.specs.Holdings.{Holdings, count_of, is_pending, times}
 use Rattle.file_deleter.specs.Moves.{Shifts, MovesCount}
 use Rattle.file_deleter.proofs.NameLemmas.{times-cons, times_one, same_self, all_there}

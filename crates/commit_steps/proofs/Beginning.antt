@@ -5,7 +5,7 @@ use Rattle.std.specs.List.{flat_map}
 use Rattle.std.proofs.lemmas.List.Elements.{All-append, All-cons, All-nil, Contains-get_or}
 use Rattle.disk_model.specs.Disk.{Name, Content, Cells, Image, IsImage, may_leave, same, is_among, put}
 use Rattle.disk_model.proofs.CellLemmas.{same_true, put_here, leaves_now}
-use Rattle.nrt_base.specs.Names.{commit_name_of, pending_name_of}
+use Rattle.file_names.specs.Names.{commit_name_of, pending_name_of}
 use Rattle.segment_infos.specs.Files.{files_of_segment}
 use Rattle.segment_infos.specs.declared.infos.Infos.{Infos}
 use Rattle.file_deleter.specs.Holdings.{Holdings, is_pending, times, AreThere, IsThere}

@@ -4,7 +4,7 @@ use Rattle.std.specs.Prelude.{IfSome}
 use Rattle.std.proofs.Math.Bool.{or-true}
 use Rattle.std.proofs.lemmas.List.Elements.{Contains-get_or}
 use Rattle.disk_model.specs.Disk.{Name, Content, Cell, Cells, may_leave, same, is_among}
-use Rattle.nrt_base.specs.Names.{is_commit_name, is_pending_name}
+use Rattle.file_names.specs.Names.{is_commit_name, is_pending_name}
 use Rattle.file_deleter.specs.Holdings.{Holdings, count_of, is_known, times, IsWhole, AreThere, AreCounted}
 use Rattle.file_deleter.specs.Moves.{Shifts}
 use Rattle.file_deleter.proofs.NameLemmas.{same_self, among_times, among-append}

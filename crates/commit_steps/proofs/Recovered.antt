@@ -3,8 +3,8 @@ use Rattle.std.proofs.Common.{◌≡◌, ◌⊎◌, ◌↔◌, ℕ, ◌<◌, not
 use Rattle.std.specs.Prelude.{find}
 use Rattle.std.proofs.lemmas.Option.{same_Some}
 use Rattle.disk_model.specs.Disk.{Name, Cells, Image}
-use Rattle.nrt_base.specs.Names.{commit_name_of, commit_number}
-use Rattle.nrt_base.proofs.NameLaws.{commit_name_is_one, commit_number-commit_name}
+use Rattle.file_names.specs.Names.{commit_name_of, commit_number}
+use Rattle.file_names.proofs.NameLaws.{commit_name_is_one, commit_number-commit_name}
 use Rattle.codec_frame.specs.Checking.{IsFirstFault}
 use Rattle.codec_frame.specs.declared.frame.FrameFault.{FrameFault}
 use Rattle.codec_frame.specs.declared.frame.FileFault.{FileFault}

@@ -7,8 +7,8 @@ use Rattle.disk_model.specs.Disk.{Name, Content, Cells, Image, is_among}
 use Rattle.disk_model.specs.declared.dir.DirFault.{DirFault}
 use Rattle.disk_model.specs.declared.dir.DirFault.TheVariants.{Memory as DirMemory, Missing, Exists, Failed as DirFailed}
 use Rattle.file_deleter.specs.Moves.{IsMemoryOrFailed}
-use Rattle.nrt_base.specs.Names.{commit_name_of, is_commit_name, commit_number}
-use Rattle.nrt_base.proofs.NameLaws.{commit_name_only}
+use Rattle.file_names.specs.Names.{commit_name_of, is_commit_name, commit_number}
+use Rattle.file_names.proofs.NameLaws.{commit_name_only}
 use Rattle.codec_frame.specs.declared.frame.FileFault.{FileFault}
 use Rattle.segment_infos.specs.Commits.{commit_numbers, IsGreatest}
 use Rattle.segment_infos.specs.Infos.{IsInfosFile}

@@ -7,8 +7,8 @@ use Rattle.std.proofs.lemmas.List.Elements.{All-contains}
 use Rattle.disk_model.specs.Disk.{Name, Content, Cell, Cells, Image, IsImage, IsKept, may_leave, left_by, same, is_among, flushed, after_sync}
 use Rattle.disk_model.specs.declared.dir.DirFault.{DirFault}
 use Rattle.disk_model.proofs.CellLemmas.{same_true}
-use Rattle.nrt_base.specs.Names.{is_commit_name, is_pending_name, commit_number}
-use Rattle.nrt_base.proofs.NameLaws.{commit_name_is_one, commit_number-commit_name, pending_name_is_one, pending_name_not_commit}
+use Rattle.file_names.specs.Names.{is_commit_name, is_pending_name, commit_number}
+use Rattle.file_names.proofs.NameLaws.{commit_name_is_one, commit_number-commit_name, pending_name_is_one, pending_name_not_commit}
 use Rattle.segment_infos.specs.Files.{files_of_segment}
 use Rattle.segment_infos.proofs.SetLaws.{files_plain}
 use Rattle.file_deleter.proofs.NameLemmas.{same_self}

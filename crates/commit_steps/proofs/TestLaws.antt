@@ -3,7 +3,7 @@ use Rattle.std.proofs.Common.{◌≡◌, ℕ, ◌+◌, ◌<◌, ◌≤◌, Bool,
 use Rattle.std.specs.Prelude.{Contains}
 use Rattle.std.specs.List.{flat_map}
 use Rattle.disk_model.specs.Disk.{Name, Content, Cells, Image, may_leave, same, restarted}
-use Rattle.nrt_base.specs.Names.{commit_name_of}
+use Rattle.file_names.specs.Names.{commit_name_of}
 use Rattle.disk_model.proofs.CellLemmas.{same_true, left_synced}
 use Rattle.disk_memory.specs.Held.{Held, untouched, cell}
 use Rattle.disk_memory.specs.Table.{Table, cells_of}

@@ -1,7 +1,7 @@
 -- Calls beside the book, that are lent the same directory and the same deleter.
 use Rattle.std.specs.Prelude.{◌≡◌, ◌≤◌, true, false, List}
 use Rattle.disk_model.specs.Disk.{Name, Cells, is_among}
-use Rattle.nrt_base.specs.Names.{is_commit_name, is_pending_name}
+use Rattle.file_names.specs.Names.{is_commit_name, is_pending_name}
 use Rattle.file_deleter.specs.Holdings.{Holdings, count_of, AreCounted}
 use Rattle.file_deleter.specs.Moves.{Keeps}
 use Rattle.commit_steps.specs.declared.stage.CommitBook.{CommitBook}

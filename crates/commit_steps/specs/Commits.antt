@@ -2,7 +2,7 @@
 use Rattle.std.specs.Prelude.{◌≡◌, ◌≢◌, ◌⊎◌, ◌<◌, ℕ, true, List, Option, None, IfSome, IsSomeAnd, Contains}
 use Rattle.std.specs.List.{flat_map}
 use Rattle.disk_model.specs.Disk.{Name, Content, Cell, Cells, Image, IsImage, may_leave, is_among}
-use Rattle.nrt_base.specs.Names.{is_commit_name, commit_number}
+use Rattle.file_names.specs.Names.{is_commit_name, commit_number}
 use Rattle.segment_infos.specs.Files.{files_of_segment}
 use Rattle.segment_infos.specs.declared.infos.Infos.{Infos}
 use Rattle.commit_steps.specs.declared.states.Commit.{Commit}

@@ -2,7 +2,7 @@
 use Rattle.std.specs.Prelude.{◌≡◌, ℕ, ◌<◌, ◌^◌, List, [], ◌∷◌, ◌++◌, Some, Result, Ok, Err}
 use Rattle.disk_model.specs.Disk.{Name, Content}
 use Rattle.disk_model.specs.declared.dir.DirFault.{DirFault}
-use Rattle.nrt_base.specs.Names.{commit_name_of, pending_name_of}
+use Rattle.file_names.specs.Names.{commit_name_of, pending_name_of}
 use Rattle.segment_infos.specs.Files.{AreFilesOf}
 use Rattle.segment_infos.specs.Infos.{IsInfosFile}
 use Rattle.commit_steps.specs.declared.states.Commit.{Commit}

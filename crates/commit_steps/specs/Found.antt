@@ -1,7 +1,7 @@
 -- The commit that a directory shows, by what stands under each name.
 use Rattle.std.specs.Prelude.{◌≡◌, ℕ, ◌<◌, ◌^◌, true, List, Option, Some, None, is_some}
 use Rattle.disk_model.specs.Disk.{Name, Image, Cells}
-use Rattle.nrt_base.specs.Names.{commit_name_of, is_commit_name, commit_number}
+use Rattle.file_names.specs.Names.{commit_name_of, is_commit_name, commit_number}
 use Rattle.segment_infos.specs.Infos.{IsInfosFile}
 use Rattle.segment_infos.specs.declared.infos.Infos.{Infos}
 

@@ -1,7 +1,7 @@
 -- What an opening finds.
 use Rattle.std.specs.Prelude.{◌≡◌, ◌⊎◌, ℕ, Bool, not, List, Option, Some, None, is_some, find, Result, Ok, Err}
 use Rattle.disk_model.specs.Disk.{Name, Image}
-use Rattle.nrt_base.specs.Names.{commit_name_of}
+use Rattle.file_names.specs.Names.{commit_name_of}
 use Rattle.codec_frame.specs.Checking.{IsFirstFault}
 use Rattle.codec_frame.specs.declared.frame.FileFault.{FileFault}
 use Rattle.codec_frame.specs.declared.frame.FileFault.TheVariants.{Frame, Body}

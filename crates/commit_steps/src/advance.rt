@@ -10,7 +10,7 @@ use crate::stage::{Progress, Stage};
 use crate::states::{Begun, Named, Pending, Renamed, Stopped, Synced, Written};
 use disk_model::Dir;
 use file_deleter::FileDeleter;
-use nrt_base::{commit_name, pending_name};
+use file_names::{commit_name, pending_name};
 use std::alloc::Global;
 
 #[tactic(auto, using(crate::proofs::Advancing::begun_stops))]

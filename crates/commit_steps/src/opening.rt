@@ -1,7 +1,7 @@
 // How a book is opened, and how a commit begins.
 ghost use Rattle.std.specs.Prelude.{◌≡◌, ◌+◌, ◌<◌, ◌^◌, ℕ, List, [], None, Some, IsSome, IfSome, Ok, Err, IfOk, OnOk, OnErr, Contains};
 ghost use Rattle.std.specs.List.{flat_map};
-ghost use Rattle.nrt_base.specs.Names.{commit_name_of, pending_name_of};
+ghost use Rattle.file_names.specs.Names.{commit_name_of, pending_name_of};
 ghost use Rattle.file_deleter.specs.Holdings.{IsThere};
 ghost use Rattle.file_deleter.specs.Moves.{Holds, Moves};
 ghost use Rattle.segment_infos.specs.Infos.{CanSpell};
@@ -16,7 +16,8 @@ use crate::stage::{CommitBook, Stage};
 use crate::states::{Begun, Commit, Flight};
 use disk_model::Dir;
 use file_deleter::FileDeleter;
-use nrt_base::{List, NoMemory, Share, commit_name};
+use file_names::commit_name;
+use nrt_base::{List, NoMemory, Share};
 use segment_infos::{Infos, encode, files_of};
 use std::alloc::Global;
 

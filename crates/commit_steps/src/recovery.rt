@@ -8,7 +8,8 @@ ghost use Rattle.commit_steps.specs.Recovery.{IsCutOff, IsUnlessCutOff, IsWholeC
 use body_forms::ReadFault;
 use codec_frame::FileFault;
 use disk_model::{Dir, DirFault};
-use nrt_base::{FileName, NoMemory, commit_name};
+use file_names::{FileName, commit_name};
+use nrt_base::NoMemory;
 use segment_infos::{Infos, decode, files_of, last_commit};
 use std::alloc::Global;
 

@@ -2,7 +2,8 @@
 ghost use Rattle.std.specs.Prelude.{◌≡◌};
 
 use bytes::Bytes;
-use nrt_base::{FileName, List, NoMemory};
+use file_names::FileName;
+use nrt_base::{List, NoMemory};
 use segment_infos::Infos;
 
 /// What is committed.

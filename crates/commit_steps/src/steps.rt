@@ -8,7 +8,8 @@ ghost use Rattle.commit_steps.specs.Flights.{own_name, early_name, fault_of, ans
 
 use crate::states::{Begun, CommitFault, Done, Named, Pending, Renamed, Stopped, Synced, Written};
 use disk_model::{Dir, DirFault};
-use nrt_base::{FileName, Share, commit_name, pending_name};
+use file_names::{FileName, commit_name, pending_name};
+use nrt_base::Share;
 use std::alloc::Global;
 
 // The fault of a commit that a fault of the directory is.

@@ -1,5 +1,5 @@
 ghost use Rattle.std.specs.Prelude.{◌≡◌, ◌<◌, true, [], Ok, IfOk, OnOk};
-ghost use Rattle.nrt_base.specs.Names.{commit_name_of, pending_name_of};
+ghost use Rattle.file_names.specs.Names.{commit_name_of, pending_name_of};
 ghost use Rattle.segment_infos.specs.Infos.{CanSpell};
 ghost use Rattle.disk_memory.specs.Table.{cells_of};
 ghost use Rattle.disk_memory.specs.Memory.{table_of};
@@ -14,7 +14,8 @@ use crate::{CommitBook, CommitFault, recover};
 use disk_memory::MemDir;
 use disk_model::{Dir, FaultDir};
 use file_deleter::FileDeleter;
-use nrt_base::{FileName, Gen, List, NoMemory, Version, commit_name, pending_name};
+use file_names::{FileName, commit_name, pending_name};
+use nrt_base::{Gen, List, NoMemory, Version};
 use segment_infos::Infos;
 use std::alloc::Global;
 use std::mem::replace;

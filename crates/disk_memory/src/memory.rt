@@ -16,7 +16,8 @@ use crate::state::State;
 use crate::table;
 use bytes::Bytes;
 use disk_model::{Dir, DirFault, FaultDir};
-use nrt_base::{FileName, NoMemory};
+use file_names::FileName;
+use nrt_base::NoMemory;
 use std::alloc::Global;
 use std::collections::BTreeMap;
 

@@ -15,7 +15,8 @@ use crate::slot::Slot;
 use crate::state::{Outcome, State, next_number};
 use bytes::Bytes;
 use disk_model::DirFault;
-use nrt_base::{FileName, NoMemory};
+use file_names::FileName;
+use nrt_base::NoMemory;
 use std::alloc::Global;
 use std::collections::BTreeMap;
 

@@ -1,7 +1,7 @@
 use crate::MemDir;
 use bytes::Bytes;
 use disk_model::{Dir, DirFault, FaultDir};
-use nrt_base::{FileName, file_name};
+use file_names::{FileName, file_name};
 use std::alloc::Global;
 use std::test::Fail;
 

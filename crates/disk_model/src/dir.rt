@@ -6,7 +6,8 @@ ghost use Rattle.disk_model.specs.Disk.{Cell, Cells, Content, Image, is_among, a
 ghost use Rattle.disk_model.specs.Faults.{Plans, CountsFaults, FailsByPlans, faults_met};
 
 use bytes::Bytes;
-use nrt_base::{FileName, NoMemory};
+use file_names::FileName;
+use nrt_base::NoMemory;
 
 /// Why a call of a directory is refused. Missing is looked at before Exists, and both before Failed.
 #[derive(Clone, Copy, Debug, PartialEq, Eq)]

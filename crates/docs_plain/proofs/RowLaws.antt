@@ -4,8 +4,8 @@ use Rattle.std.specs.Prelude.{IsTrue, ◌&&◌, nat_le}
 use Rattle.std.proofs.lemmas.Bool.Decides.{nat_tests}
 use Rattle.std.proofs.lemmas.List.{length-append}
 use Rattle.nrt_base.specs.Bytes.{is_key, is_text}
-use Rattle.nrt_base.specs.VInts.{vint}
-use Rattle.nrt_base.proofs.VIntLemmas.{length_one}
+use Rattle.body_forms.specs.VInts.{vint}
+use Rattle.body_forms.proofs.VIntLemmas.{length_one}
 use Rattle.nrt_base.specs.declared.doc.Doc.{Doc}
 use Rattle.body_forms.specs.Format.{AreBytes, Read, IsFormat}
 use Rattle.body_forms.specs.Numbers.{string, string_at}

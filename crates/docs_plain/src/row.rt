@@ -6,7 +6,8 @@ ghost use Rattle.docs_plain.specs.Documents.{row, IsRow};
 ghost use Rattle.docs_plain.specs.Rows.{IsRowOfSome};
 
 use body_forms::{push_string, string_of};
-use nrt_base::{Doc, NoMemory, vint_len};
+use body_forms::vint_len;
+use nrt_base::{Doc, NoMemory};
 
 const LONGEST_KEY: usize = 64;
 

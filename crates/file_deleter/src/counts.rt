@@ -9,7 +9,8 @@ ghost use Rattle.file_deleter.specs.Holdings.{count_in, times};
 ghost use Rattle.file_deleter.specs.Tally.{IsPositive};
 
 use indexmap::IndexMap;
-use nrt_base::{FileName, NoMemory};
+use file_names::FileName;
+use nrt_base::NoMemory;
 use std::alloc::Global;
 
 pub(crate) type Counts = IndexMap<FileName, u64>;

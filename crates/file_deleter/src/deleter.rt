@@ -13,7 +13,8 @@ ghost use Rattle.file_deleter.specs.Moves.{Holds, Releases, LetsGo, Creates, Mov
 use crate::tally::Tally;
 use bytes::Bytes;
 use disk_model::{Dir, DirFault};
-use nrt_base::{FileName, NoMemory};
+use file_names::FileName;
+use nrt_base::NoMemory;
 use std::alloc::Global;
 use std::marker::Model;
 

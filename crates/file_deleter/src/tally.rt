@@ -16,7 +16,8 @@ use crate::removals::{drop_counted, merge, stays, try_each};
 use bytes::Bytes;
 use disk_model::{Dir, DirFault};
 use indexmap::IndexMap;
-use nrt_base::{FileName, NoMemory};
+use file_names::FileName;
+use nrt_base::NoMemory;
 use std::alloc::{AllocError, Global};
 
 /// The counted names with their counts; the names whose removal is pending, ascending; within a release those whose

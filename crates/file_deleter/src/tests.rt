@@ -3,7 +3,7 @@ ghost use Rattle.std.specs.Prelude.{◌≡◌, None, false};
 use crate::{FileDeleter, HoldFault};
 use bytes::Bytes;
 use disk_model::{Dir, DirFault};
-use nrt_base::{FileName, file_name};
+use file_names::{FileName, file_name};
 use std::test::Fail;
 
 // A directory without a file, whose memory is always wanting.

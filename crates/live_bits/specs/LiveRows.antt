@@ -2,7 +2,7 @@
 use Rattle.std.specs.Prelude.{◌≡◌, ℕ, ◌+◌, ◌/◌, ◌%◌, ◌<◌, ◌^◌, ◌==◌, List, ◌++◌, length, slice_index, slice_index_or, Bool, false, codes, Some}
 use Rattle.std.specs.List.{count_by}
 use Rattle.std.specs.Int.{bit_at}
-use Rattle.nrt_base.specs.Base36.{base36_of}
+use Rattle.file_names.specs.Base36.{base36_of}
 use Rattle.body_forms.specs.Format.{AreBytes}
 use Rattle.body_forms.specs.Numbers.{u32_bytes}
 use Rattle.body_forms.specs.File.{IsFile}

@@ -1,5 +1,5 @@
 ghost use Rattle.std.specs.Prelude.{◌≡◌, ◌↔◌, ◌<◌, ◌++◌, ℕ, List, length, Bool, Ok, Err, OnOk, IfOk, IfSome, IfNone};
-ghost use Rattle.nrt_base.specs.Base36.{base36_of};
+ghost use Rattle.file_names.specs.Base36.{base36_of};
 ghost use Rattle.codec_frame.specs.Frame.{wanted, IsFramedAs};
 ghost use Rattle.codec_frame.specs.Checking.{IsFirstFault};
 ghost use Rattle.body_forms.specs.Numbers.{u32_bytes};
@@ -11,7 +11,8 @@ use crate::live::LiveBits;
 use body_forms::{ReadFault, push_u32, u32_of};
 use bytes::Bytes;
 use codec_frame::{FileFault, FrameFault, Want, check, write_footer, write_index_header};
-use nrt_base::{Base36, NoMemory, base36};
+use file_names::{Base36, base36};
+use nrt_base::NoMemory;
 use std::alloc::Global;
 
 /// The name of the format in the header.

@@ -1,4 +1,4 @@
--- Which bytes a key, a text, a word, the bytes of a header and a file's name may have.
+-- Which bytes a key, a text, a word and the bytes of a header may have.
 use Rattle.std.specs.Prelude.{ℕ, List, length, Bool, nat_eq, nat_le, ◌&&◌, ◌||◌}
 use Rattle.std.specs.List.{list_all}
 
@@ -18,10 +18,6 @@ is_text_byte b = is_between 32 126 b
 abbrev pub is_word_byte : ℕ → Bool
 is_word_byte b = is_between 97 122 b || is_between 48 57 b
 
--- a byte that a file's name may have: a small letter, a digit, `_` or `.`
-abbrev pub is_name_byte : ℕ → Bool
-is_name_byte b = is_word_byte b || (nat_eq b 95 || nat_eq b 46)
-
 -- 1 to 64 printable bytes without a space
 abbrev pub is_key : List ℕ → Bool
 is_key bytes = is_between 1 64 (length bytes) && list_all is_key_byte bytes
@@ -37,7 +33,3 @@ is_word bytes = nat_le 1 (length bytes) && list_all is_word_byte bytes
 -- at most 408 bytes, of any kind
 abbrev pub is_header : List ℕ → Bool
 is_header bytes = nat_le (length bytes) 408
-
--- 1 to 64 bytes that a file's name may have
-abbrev pub is_file_name : List ℕ → Bool
-is_file_name bytes = is_between 1 64 (length bytes) && list_all is_name_byte bytes

@@ -4,10 +4,10 @@ use Rattle.std.specs.Prelude.{◌⊎◌}
 use Rattle.nrt_base.specs.declared.numbers.LineNo.{LineNo}
 use Rattle.script_text.specs.declared.fault.LineFault.{LineFault}
 use Rattle.script_text.specs.declared.fault.LineFault.TheVariants.{NoNodes, NotBuilt}
-use Rattle.script_text.specs.declared.script.Script.{Script}
+use Rattle.script_serving.specs.declared.script.Script.{Script}
 use Rattle.script_text.specs.Grammar.{Statement, lines_of_text, statements_of, SpellsScript}
 use Rattle.script_text.specs.Refused.{Place, first as first_place, next_place, RefusesAmong, RefusesStatements, IsFirstRefused}
-use Rattle.script_text.specs.Built.{IsFirstUnbuilt}
+use Rattle.plain_run.specs.Built.{IsFirstUnbuilt}
 use Rattle.script_text.proofs.RefusalLaws.{never_both, one_refusal}
 use Rattle.nrt_main.specs.declared.status.Status.{Status}
 use Rattle.nrt_main.specs.declared.status.Status.TheVariants.{Done, BadScript, WriteFault, Memory}

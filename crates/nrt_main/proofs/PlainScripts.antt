@@ -7,21 +7,21 @@ use Rattle.std.specs.Fmt.{decimal}
 use Rattle.std.proofs.lemmas.Bool.{false≢true, cases_Bool, eqb-true, eq-eqb, and_from, and_parts}
 use Rattle.nrt_base.specs.declared.numbers.LaneNo.{LaneNo}
 use Rattle.nrt_base.specs.Bytes.{is_between}
-use Rattle.point_history.specs.Matching.{is_well_formed}
-use Rattle.script_text.specs.declared.script.Line.{Line}
-use Rattle.script_text.specs.declared.script.LineCommand.{LineCommand}
-use Rattle.script_text.specs.declared.script.LineCommand.TheVariants.{Put, Publish, Copy, Search, Ask}
-use Rattle.script_text.specs.declared.script.Phase.{Phase}
-use Rattle.script_text.specs.declared.script.Script.{Script}
-use Rattle.script_text.specs.Lines.{lines_of, lines_of_phase}
-use Rattle.script_text.specs.Form.{is_command}
+use Rattle.documents.specs.Matching.{is_well_formed}
+use Rattle.script_serving.specs.declared.script.Line.{Line}
+use Rattle.script_serving.specs.declared.script.LineCommand.{LineCommand}
+use Rattle.script_serving.specs.declared.script.LineCommand.TheVariants.{Put, Publish, Copy, Search, Ask}
+use Rattle.script_serving.specs.declared.script.Phase.{Phase}
+use Rattle.script_serving.specs.declared.script.Script.{Script}
+use Rattle.script_serving.specs.Lines.{lines_of, lines_of_phase}
+use Rattle.script_serving.specs.Form.{is_command}
 use Rattle.script_text.specs.Grammar.{Statement, statements_of, words_in, command_words, Ends, IsNodesHeader, SpellsPhases, SpellsBody, SpellsStatements, of_lane, lane_entry, lanes_from, phase_of}
 use Rattle.script_text.specs.Refused.{is_word, is_digit, value_of}
-use Rattle.script_text.specs.Built.{begins_with, is_built, first_unbuilt}
+use Rattle.plain_run.specs.Built.{begins_with, is_built, first_unbuilt}
 use Rattle.script_text.proofs.NumberLaws.{value_of-decimal, digits_of-decimal, other_word}
 use Rattle.script_text.proofs.WordLaws.{words_after}
 use Rattle.script_text.proofs.RightLines.{between_high, three_words}
-use Rattle.nrt_main.specs.PlainRun.{is_plain, IsPlainScript}
+use Rattle.plain_run.specs.PlainRun.{is_plain, IsPlainScript}
 use Rattle.nrt_main.specs.Headline.{IsRunnable}
 
 -- how the words behind the first lane begin in statements that the program runs

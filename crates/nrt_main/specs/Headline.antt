@@ -2,16 +2,16 @@
 use Rattle.std.specs.Prelude.{ℕ, ◌≡◌, ◌≤◌, ◌<◌, ◌⊎◌, List, [], ◌∷◌, length, codes, Option}
 use Rattle.std.specs.Io.KnownBytes.{Consumes, IsAtEnd, Appends}
 use Rattle.nrt_base.specs.declared.numbers.LineNo.{LineNo}
-use Rattle.point_history.specs.declared.entry.History.{History}
-use Rattle.point_history.specs.Legal.{IsLegal}
-use Rattle.point_history.specs.Texts.{text_of}
+use Rattle.history_entries.specs.declared.entry.History.{History}
+use Rattle.history_entries.specs.Legal.{IsLegal}
+use Rattle.report_text.specs.Texts.{text_of}
 use Rattle.script_text.specs.declared.fault.LineFault.{LineFault}
 use Rattle.script_text.specs.declared.fault.LineFault.TheVariants.{NotBuilt}
-use Rattle.script_text.specs.declared.script.Script.{Script}
-use Rattle.script_text.specs.Serves.{Serves}
+use Rattle.script_serving.specs.declared.script.Script.{Script}
+use Rattle.script_serving.specs.Serves.{Serves}
 use Rattle.script_text.specs.Grammar.{SpellsScript}
 use Rattle.script_text.specs.Refused.{IsFirstRefused}
-use Rattle.script_text.specs.Built.{IsFirstUnbuilt, IsBuilt}
+use Rattle.plain_run.specs.Built.{IsFirstUnbuilt, IsBuilt}
 use Rattle.nrt_main.specs.declared.status.Status.{Status}
 use Rattle.nrt_main.specs.declared.status.Status.TheVariants.{Done, BadScript, WriteFault}
 

@@ -1,10 +1,10 @@
 -- What the private calls below the top call give: the report of a run, and the answer where nothing is run.
 use Rattle.std.specs.Prelude.{ℕ, ◌≡◌, List, ⊤}
-use Rattle.point_history.specs.declared.entry.History.{History}
-use Rattle.point_history.specs.Legal.{IsLegal}
-use Rattle.point_history.specs.Texts.{text_of}
-use Rattle.script_text.specs.declared.script.Script.{Script}
-use Rattle.script_text.specs.Serves.{Serves}
+use Rattle.history_entries.specs.declared.entry.History.{History}
+use Rattle.history_entries.specs.Legal.{IsLegal}
+use Rattle.report_text.specs.Texts.{text_of}
+use Rattle.script_serving.specs.declared.script.Script.{Script}
+use Rattle.script_serving.specs.Serves.{Serves}
 use Rattle.nrt_main.specs.declared.status.Status.{Status}
 use Rattle.nrt_main.specs.declared.status.Status.TheVariants.{BadScript, Memory}
 use Rattle.nrt_main.specs.Headline.{RefusesLine}

@@ -4,10 +4,7 @@
 ghost use Rattle.std.specs.Prelude.{◌≡◌};
 ghost use Rattle.nrt_main.specs.Statuses.{cause_number};
 
-mod engine;
-mod node;
 mod reading;
-mod running;
 mod standard;
 mod status;
 #[cfg(test)]
@@ -18,7 +15,7 @@ mod writing;
 use crate::standard::{StdSink, StdSource};
 use crate::status::Status;
 use crate::top::run_nrt;
-use nrt_base::Arg;
+use nrt_streams::Arg;
 use script_text::LineFault;
 use std::process::ExitCode;
 use std::{env, io};

@@ -3,7 +3,7 @@ ghost use Rattle.std.specs.Io.KnownBytes.{Consumes, IsAtEnd};
 ghost use Rattle.nrt_base.specs.Causes.{Rose};
 ghost use Rattle.script_text.specs.declared.parse.TheConstants.{LONGEST};
 
-use nrt_base::Source;
+use nrt_streams::Source;
 use script_text::LONGEST;
 use std::alloc::Global;
 

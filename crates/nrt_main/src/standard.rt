@@ -1,6 +1,6 @@
 ghost use Rattle.std.specs.Prelude.{◌≡◌, None};
 
-use nrt_base::{Failed, Sink, Source};
+use nrt_streams::{Failed, Sink, Source};
 use std::io::{Read, Write};
 
 /// A reader of the system as a source. It tells nothing of its bytes.

@@ -1,6 +1,7 @@
 use crate::status::Status;
 use crate::top::run_nrt;
-use nrt_base::{Arg, LineNo, MemSink, MemSource};
+use nrt_base::LineNo;
+use nrt_streams::{Arg, MemSink, MemSource};
 use script_text::{LONGEST, LineFault};
 use std::alloc::Global;
 use std::test::Fail;

@@ -1,17 +1,20 @@
 ghost use Rattle.std.specs.Prelude.{◌≡◌, ◌≤◌, length, ◌<◌, ◌-◌, ◌^◌, ◌↔◌, ◌≢◌, ℕ, IsTrue, IfOk, IfErr, codes};
 ghost use Rattle.nrt_base.specs.Causes.{Rose};
-ghost use Rattle.script_text.specs.Form.{IsInForm};
-ghost use Rattle.nrt_main.specs.PlainRun.{IsPlainScript};
+ghost use Rattle.script_serving.specs.Form.{IsInForm};
+ghost use Rattle.plain_run.specs.PlainRun.{IsPlainScript};
 ghost use Rattle.nrt_main.specs.Headline.{Ran, Answers, IsRunnable, RefusesLine, IsAnswer, AnswersWhole, Refuses, IsRun, TakesWithin, TakesMore, longest};
 ghost use Rattle.nrt_main.specs.TopCalls.{IsRefusal, IsReport};
 
 use crate::reading::{ReadEnd, read_all};
-use crate::running::run_script;
+use plain_run::run_script;
 use crate::status::Status;
 use crate::writing::write_all;
-use nrt_base::{Arg, LineNo, NoMemory, Sink, Source};
+use nrt_base::{LineNo, NoMemory};
+use nrt_streams::{Arg, Sink, Source};
 use report_text::report;
-use script_text::{LineFault, Script, ScriptFault, first_not_built, parse_script};
+use plain_run::first_not_built;
+use script_serving::Script;
+use script_text::{LineFault, ScriptFault, parse_script};
 use std::alloc::Global;
 
 /// The script that the bytes are, where the program runs its every statement; else the answer to them.

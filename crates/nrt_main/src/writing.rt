@@ -2,7 +2,7 @@ ghost use Rattle.std.specs.Prelude.{◌≡◌, ◌≤◌, OnOk, OnErr, ℕ, leng
 ghost use Rattle.std.specs.Io.KnownBytes.{Appends};
 ghost use Rattle.nrt_base.specs.Causes.{HasCause};
 
-use nrt_base::{Failed, Sink};
+use nrt_streams::{Failed, Sink};
 
 /// Writes all bytes, or a part from their front where the sink fails.
 #[tactic(auto, using(crate::proofs::Writes::appends_more))]

@@ -1,15 +1,5 @@
-pub mod AnswerLemmas
-pub mod DocumentLemmas
-pub mod MatchingLemmas
 pub mod WalkLemmas
-pub mod PastLemmas
-pub mod NodeLemmas
-pub mod CommitLemmas
 pub mod KeyLemmas
-pub mod LawLemmas
 pub mod ListingLemmas
-pub mod PointLemmas
 pub mod TicketLemmas
 pub mod WrittenLemmas
-pub mod TextCuts
-pub mod TextLaws

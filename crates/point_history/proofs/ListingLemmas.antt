@@ -4,9 +4,9 @@ use Rattle.std.specs.Prelude.{Bool, true, false, not, ◌&&◌, ◌==◌, nat_lt
 use Rattle.std.specs.List.{list_all}
 use Rattle.std.proofs.lemmas.List.{take_all}
 use Rattle.std.proofs.lemmas.Bool.Decides.{nat_tests}
-use Rattle.nrt_base.specs.Base36.{is_base36_digit, digit_value, value_after}
-use Rattle.nrt_base.specs.Names.{is_commit_number, is_ascending}
-use Rattle.point_history.specs.Nodes.{Past}
+use Rattle.file_names.specs.Base36.{is_base36_digit, digit_value, value_after}
+use Rattle.file_names.specs.Names.{is_commit_number, is_ascending}
+use Rattle.history_entries.specs.Nodes.{Past}
 use Rattle.point_history.specs.Openings.{was_opened, HoldsNone}
 use Rattle.point_history.proofs.TicketLemmas.{held_was_opened}
 

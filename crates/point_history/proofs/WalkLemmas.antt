@@ -8,20 +8,20 @@ use Rattle.nrt_base.specs.declared.numbers.At.{At}
 use Rattle.nrt_base.specs.declared.numbers.Gen.{Gen}
 use Rattle.nrt_base.specs.declared.numbers.NodeNo.{NodeNo}
 use Rattle.nrt_base.specs.declared.numbers.Version.{Version}
-use Rattle.point_history.specs.declared.operation.Op.{Op}
-use Rattle.point_history.specs.declared.entry.Entry.{Entry}
-use Rattle.point_history.specs.declared.entry.Event.{Event}
-use Rattle.point_history.specs.declared.entry.Event.TheVariants.{Accepted, Published, Promoted}
-use Rattle.point_history.specs.declared.point.Point.{Point}
+use Rattle.documents.specs.declared.operation.Op.{Op}
+use Rattle.history_entries.specs.declared.entry.Entry.{Entry}
+use Rattle.history_entries.specs.declared.entry.Event.{Event}
+use Rattle.history_entries.specs.declared.entry.Event.TheVariants.{Accepted, Published, Promoted}
+use Rattle.history_entries.specs.declared.point.Point.{Point}
 use Rattle.point_history.specs.declared.published.Walk.{Walk}
-use Rattle.point_history.specs.Documents.{IsAscending, key_cmp, document_of, documents_after, after_op}
-use Rattle.point_history.specs.Nodes.{Past, version_of}
-use Rattle.point_history.specs.Lines.{same_at}
-use Rattle.point_history.specs.Points.{operations_written, operations_at, documents_at, points_of}
-use Rattle.point_history.specs.Legal.{Keeps, IsLegalPast}
+use Rattle.documents.specs.Documents.{IsAscending, key_cmp, document_of, documents_after, after_op}
+use Rattle.history_entries.specs.Nodes.{Past, version_of}
+use Rattle.history_entries.specs.Lines.{same_at}
+use Rattle.history_entries.specs.Points.{operations_written, operations_at, documents_at, points_of}
+use Rattle.history_entries.specs.Legal.{Keeps, IsLegalPast}
 use Rattle.point_history.specs.Walks.{Shows, Promotes, IsStarted, line_cmp, begun_at, made_at, searched_by}
-use Rattle.point_history.proofs.PastLemmas.{keeps_at}
-use Rattle.point_history.proofs.DocumentLemmas.{documents_ascend, documents_after_last}
+use Rattle.history_laws.proofs.PastLemmas.{keeps_at}
+use Rattle.documents.proofs.DocumentLemmas.{documents_ascend, documents_after_last}
 
 pub is_eq-line_cmp : (a b : At) → is_eq (line_cmp (a.lane.0, a.line.0) (b.lane.0, b.line.0)) ≡ same_at a b
 is_eq-line_cmp a b = grind (arith, nat_tests)

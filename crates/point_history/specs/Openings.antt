@@ -1,12 +1,12 @@
 -- Which tickets the entries before a place opened, and what the open ones hold.
 use Rattle.std.specs.Prelude.{ℕ, ◌≡◌, List, [], ◌∷◌, Bool, true, false, ◌||◌}
 use Rattle.nrt_base.specs.declared.numbers.At.{At}
-use Rattle.point_history.specs.declared.entry.Entry.{Entry}
-use Rattle.point_history.specs.declared.entry.Event.{Event}
-use Rattle.point_history.specs.declared.entry.Event.TheVariants.{Opened}
-use Rattle.point_history.specs.Nodes.{Past}
-use Rattle.point_history.specs.Tickets.{is_ticket, open_ticket, IsTicketOf}
-use Rattle.point_history.specs.Rules.{has_documents}
+use Rattle.history_entries.specs.declared.entry.Entry.{Entry}
+use Rattle.history_entries.specs.declared.entry.Event.{Event}
+use Rattle.history_entries.specs.declared.entry.Event.TheVariants.{Opened}
+use Rattle.history_entries.specs.Nodes.{Past}
+use Rattle.history_entries.specs.Tickets.{is_ticket, open_ticket, IsTicketOf}
+use Rattle.history_entries.specs.Rules.{has_documents}
 
 abbrev pub opens_by : ℕ → ℕ → At → Event → Bool
 opens_by lane t at (Opened n u v) = is_ticket at u.0 lane t

@@ -1,12 +1,12 @@
 -- Where the operations of a point come from.
 use Rattle.std.specs.Prelude.{ℕ, ◌+◌, List, [], ◌∷◌, length, reverse}
-use Rattle.point_history.specs.declared.operation.Op.{Op}
-use Rattle.point_history.specs.declared.entry.Event.{Event}
-use Rattle.point_history.specs.declared.entry.Event.TheVariants.{Promoted}
+use Rattle.documents.specs.declared.operation.Op.{Op}
+use Rattle.history_entries.specs.declared.entry.Event.{Event}
+use Rattle.history_entries.specs.declared.entry.Event.TheVariants.{Promoted}
 use Rattle.point_history.specs.declared.written.Origin.{Origin}
 use Rattle.point_history.specs.declared.written.Origin.TheVariants.{Nothing, Written, Searched}
-use Rattle.point_history.specs.Nodes.{Past, version_of}
-use Rattle.point_history.specs.Points.{operations_at, operations_written}
+use Rattle.history_entries.specs.Nodes.{Past, version_of}
+use Rattle.history_entries.specs.Points.{operations_at, operations_written}
 
 -- none, those written after some entries, or those of the version that a node searched after some entries
 abbrev pub operations_from : Origin → List Op

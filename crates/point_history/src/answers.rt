@@ -1,15 +1,16 @@
 ghost use Rattle.std.specs.Prelude.{◌≡◌, ◌<◌, ◌^◌, ◌↔◌, reverse, IfOk, IsTrue};
-ghost use Rattle.point_history.specs.Matching.{scan_of};
-ghost use Rattle.point_history.specs.Nodes.{accepted_count};
-ghost use Rattle.point_history.specs.Lines.{start_entry};
-ghost use Rattle.point_history.specs.Points.{documents_at};
-ghost use Rattle.point_history.specs.Rules.{StartedSearch, MayAnswer};
+ghost use Rattle.documents.specs.Matching.{scan_of};
+ghost use Rattle.history_entries.specs.Nodes.{accepted_count};
+ghost use Rattle.history_entries.specs.Lines.{start_entry};
+ghost use Rattle.history_entries.specs.Points.{documents_at};
+ghost use Rattle.history_entries.specs.Rules.{StartedSearch, MayAnswer};
 
-use crate::entry::{Answer, Entry, Event};
+use documents::Answer;
+use history_entries::{Entry, Event};
 use crate::lines::{node_survives, start_entry};
-use crate::matching::scan;
+use documents::scan;
 use crate::nodes::is_node;
-use crate::query::Query;
+use documents::Query;
 use crate::written::documents_at;
 use nrt_base::{At, Key, NoMemory, NodeNo, TicketNo, Version};
 use std::alloc::Global;

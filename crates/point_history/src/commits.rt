@@ -1,9 +1,9 @@
 ghost use Rattle.std.specs.Prelude.{◌≡◌, ◌==◌, ℕ, List, reverse};
 ghost use Rattle.std.specs.List.{list_any};
-ghost use Rattle.point_history.specs.Lines.{commit_by};
-ghost use Rattle.point_history.specs.Commits.{has_committed, reopenable_by, reopenable_versions, was_searched_since};
+ghost use Rattle.history_entries.specs.Lines.{commit_by};
+ghost use Rattle.history_entries.specs.Commits.{has_committed, reopenable_by, reopenable_versions, was_searched_since};
 
-use crate::entry::{Entry, Event};
+use history_entries::{Entry, Event};
 use crate::lines::{commit_after, is_start, same_at};
 use crate::nodes::{Searched, is_at};
 use nrt_base::{At, NodeNo, Version};

@@ -1,8 +1,8 @@
 ghost use Rattle.std.specs.Prelude.{◌≡◌, reverse};
-ghost use Rattle.point_history.specs.Faults.{kind_of, same_kind, is_lasting, is_planned};
+ghost use Rattle.history_entries.specs.Faults.{kind_of, same_kind, is_lasting, is_planned};
 
-use crate::cause::{FaultKind, FaultPlan};
-use crate::entry::{Entry, Event};
+use history_entries::{FaultKind, FaultPlan};
+use history_entries::{Entry, Event};
 use nrt_base::NodeNo;
 
 fn kind_of(plan: FaultPlan) -> FaultKind

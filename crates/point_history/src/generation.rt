@@ -1,11 +1,11 @@
 ghost use Rattle.std.specs.Prelude.{◌≡◌, ◌≤◌, ◌<◌, ◌+◌, ◌^◌, ◌*◌, ◌↔◌, ◌∷◌, [], IsTrue, if◌then◌else◌, reverse, length};
-ghost use Rattle.point_history.specs.Points.{accepted_in_generation, published_in_generation, is_put, adds_none, idle_publishes, merges_started};
-ghost use Rattle.point_history.specs.Lines.{before_start};
+ghost use Rattle.history_entries.specs.Points.{accepted_in_generation, published_in_generation, is_put, adds_none, idle_publishes, merges_started};
+ghost use Rattle.history_entries.specs.Lines.{before_start};
 ghost use Rattle.point_history.specs.Generations.{ShowsGeneration};
 
-use crate::entry::{Entry, Event};
+use history_entries::{Entry, Event};
 use crate::lines::before_start;
-use crate::operation::Op;
+use documents::Op;
 use nrt_base::{At, SegNo};
 
 /// How many segment numbers each generation has.

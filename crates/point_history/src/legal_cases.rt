@@ -1,13 +1,12 @@
-use crate::cause::{Cause, FaultKind, FaultPlan};
-use crate::entry::{Answer, Entry, Event, History};
+use history_entries::{Cause, FaultKind, FaultPlan};
+use documents::Answer;
+use history_entries::{Entry, Event, History};
 use crate::legality::legal;
-use crate::operation::Op;
-use crate::point::Verdict;
-use crate::query::Query;
-use nrt_base::{
-    At, Doc, Gen, Key, LaneNo, LineNo, List, NoMemory, NodeNo, SegNo, Text, TicketNo, Version,
-    Word, file_name,
-};
+use documents::Op;
+use history_entries::Verdict;
+use documents::Query;
+use file_names::file_name;
+use nrt_base::{At, Doc, Gen, Key, LaneNo, LineNo, List, NoMemory, NodeNo, SegNo, Text, TicketNo, Version, Word};
 use std::alloc::Global;
 use std::test::Fail;
 

@@ -1,13 +1,13 @@
 ghost use Rattle.std.specs.Prelude.{◌≡◌, ◌<◌, ◌+◌, ◌^◌, ◌∷◌, ◌↔◌, reverse, length, IfOk, IsTrue};
-ghost use Rattle.point_history.specs.Nodes.{accepted_count};
+ghost use Rattle.history_entries.specs.Nodes.{accepted_count};
 ghost use Rattle.point_history.specs.Generations.{ShowsGeneration};
-ghost use Rattle.point_history.specs.Legal.{Keeps, rule_number, IsVerdict};
+ghost use Rattle.history_entries.specs.Legal.{Keeps, rule_number, IsVerdict};
 
 use crate::answers::may_answer;
-use crate::entry::{Entry, Event, History};
+use history_entries::{Entry, Event, History};
 use crate::generation::Generation;
 use crate::listings::may_list_files;
-use crate::point::Verdict;
+use history_entries::Verdict;
 use crate::refusals::may_refuse_started;
 use crate::rules::{
     may_accept, may_ask, may_close, may_commit, may_crash, may_fault, may_finish_copy, may_open,

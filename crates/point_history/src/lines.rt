@@ -1,8 +1,8 @@
 ghost use Rattle.std.specs.Prelude.{◌≡◌, ◌↔◌, ◌≤◌, reverse, length, IsTrue};
 ghost use Rattle.std.specs.Option.{option_copied};
-ghost use Rattle.point_history.specs.Lines.{same_at, is_start, is_reply, is_answered, start_entry, before_start, without_at, publish_in_flight, commit_by, commit_in_flight, is_free_for, NodeSurvives, SourceSurvives};
+ghost use Rattle.history_entries.specs.Lines.{same_at, is_start, is_reply, is_answered, start_entry, before_start, without_at, publish_in_flight, commit_by, commit_in_flight, is_free_for, NodeSurvives, SourceSurvives};
 
-use crate::entry::{Entry, Event};
+use history_entries::{Entry, Event};
 use crate::nodes::{crashes, is_at, primary_of};
 use nrt_base::{At, NodeNo};
 

@@ -2,17 +2,18 @@ ghost use Rattle.std.specs.Prelude.{◌≡◌, ◌↔◌, ◌<◌, reverse, true
 ghost use Rattle.std.specs.List.{list_any, list_all};
 ghost use Rattle.std.specs.Ordering.{nat_cmp};
 ghost use Rattle.std.specs.Cmp.Lexicographic.{slice_cmp};
-ghost use Rattle.nrt_base.specs.Base36.{is_base36_digit, digit_value};
-ghost use Rattle.nrt_base.specs.Names.{is_commit_number, is_commit_name, is_documents_name, is_less, is_ascending};
-ghost use Rattle.point_history.specs.Rules.{has_documents, MayListFiles};
+ghost use Rattle.file_names.specs.Base36.{is_base36_digit, digit_value};
+ghost use Rattle.file_names.specs.Names.{is_commit_number, is_commit_name, is_documents_name, is_less, is_ascending};
+ghost use Rattle.history_entries.specs.Rules.{has_documents, MayListFiles};
 ghost use Rattle.point_history.specs.Openings.{opens_by, HoldsNone};
 
 use crate::commits::has_committed;
-use crate::entry::{Entry, Event};
+use history_entries::{Entry, Event};
 use crate::nodes::{is_node, is_running, version_of};
 use crate::tickets::open_ticket;
 use crate::written::documents_at;
-use nrt_base::{FileName, NoMemory, NodeNo, Version};
+use file_names::FileName;
+use nrt_base::{NoMemory, NodeNo, Version};
 use std::alloc::Global;
 use std::cmp::Ordering;
 

@@ -1,16 +1,16 @@
 ghost use Rattle.std.specs.Prelude.{◌≡◌, ◌==◌, ◌<◌, ◌+◌, ◌∷◌, ◌++◌, ℕ, [], if◌then◌else◌, map, IfOk, OnOk, Some, None, length, reverse, take};
 ghost use Rattle.std.specs.BTreeMap.{IsOrdered};
 ghost use Rattle.nrt_base.specs.declared.numbers.At.{At};
-ghost use Rattle.point_history.specs.Documents.{IsAscending, document_of, key_cmp};
-ghost use Rattle.point_history.specs.Nodes.{Past, is_at};
-ghost use Rattle.point_history.specs.Lines.{same_at};
-ghost use Rattle.point_history.specs.Points.{points_of};
-ghost use Rattle.point_history.specs.Legal.{IsLegal};
+ghost use Rattle.documents.specs.Documents.{IsAscending, document_of, key_cmp};
+ghost use Rattle.history_entries.specs.Nodes.{Past, is_at};
+ghost use Rattle.history_entries.specs.Lines.{same_at};
+ghost use Rattle.history_entries.specs.Points.{points_of};
+ghost use Rattle.history_entries.specs.Legal.{IsLegal};
 ghost use Rattle.point_history.specs.Walks.{Shows, Promotes, IsStarted, begun_at, made_at, searched_by};
 
-use crate::documents::{Texts, change, listed, texts_of};
-use crate::entry::{Entry, Event, History};
-use crate::point::Point;
+use documents::{Texts, change, listed, texts_of};
+use history_entries::{Entry, Event, History};
+use history_entries::Point;
 use nrt_base::{At, Doc, Gen, List, NoMemory, NodeNo, Share, Version};
 use std::alloc::Global;
 use std::collections::BTreeMap;

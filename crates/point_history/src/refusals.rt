@@ -1,10 +1,10 @@
 ghost use Rattle.std.specs.Prelude.{◌≡◌, ◌↔◌, ◌||◌, reverse, IsTrue};
-ghost use Rattle.point_history.specs.Faults.{same_kind, has_fault};
-ghost use Rattle.point_history.specs.Lines.{start_entry};
-ghost use Rattle.point_history.specs.Rules.{is_node_of, is_source_of, is_lost, version_in, is_above, is_copied_beside, is_settled_beside, has_switched, is_copy, is_loss, MayCancel, MayBreakOff, MayRefuse, MayRefuseStarted};
+ghost use Rattle.history_entries.specs.Faults.{same_kind, has_fault};
+ghost use Rattle.history_entries.specs.Lines.{start_entry};
+ghost use Rattle.history_entries.specs.Rules.{is_node_of, is_source_of, is_lost, version_in, is_above, is_copied_beside, is_settled_beside, has_switched, is_copy, is_loss, MayCancel, MayBreakOff, MayRefuse, MayRefuseStarted};
 
-use crate::cause::{Cause, FaultKind};
-use crate::entry::{Entry, Event};
+use history_entries::{Cause, FaultKind};
+use history_entries::{Entry, Event};
 use crate::faults::same_kind;
 use crate::lines::{before_start, is_answered, is_start, same_at, start_entry};
 use crate::nodes::{crashes, is_at, is_point, is_running, primary_of};

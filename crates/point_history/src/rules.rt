@@ -1,12 +1,12 @@
 ghost use Rattle.std.specs.Prelude.{◌≡◌, ◌≤◌, ◌<◌, ◌+◌, ◌^◌, ◌↔◌, ℕ, reverse, length, IsTrue};
-ghost use Rattle.point_history.specs.Nodes.{IsNode, IsReplica, version_of, accepted_count};
-ghost use Rattle.point_history.specs.Lines.{start_entry, before_start, NodeSurvives};
+ghost use Rattle.history_entries.specs.Nodes.{IsNode, IsReplica, version_of, accepted_count};
+ghost use Rattle.history_entries.specs.Lines.{start_entry, before_start, NodeSurvives};
 ghost use Rattle.point_history.specs.Generations.{ShowsGeneration};
-ghost use Rattle.point_history.specs.Rules.{MayAccept, MayStartPublish, MayPublish, MayStartCopy, MaySwitch, MayFinishCopy, MayStartSettle, MaySettle, MayOpen, MayAsk, MayClose, MayStartCommit, MayCommit, MayCrash, MayReopen, MayPromote, MayStartMerge, MayFault, StartedCopy, StartedCopyOf, StartedCommit};
+ghost use Rattle.history_entries.specs.Rules.{MayAccept, MayStartPublish, MayPublish, MayStartCopy, MaySwitch, MayFinishCopy, MayStartSettle, MaySettle, MayOpen, MayAsk, MayClose, MayStartCommit, MayCommit, MayCrash, MayReopen, MayPromote, MayStartMerge, MayFault, StartedCopy, StartedCopyOf, StartedCommit};
 
-use crate::cause::FaultKind;
+use history_entries::FaultKind;
 use crate::commits::{is_reopenable, was_searched_since};
-use crate::entry::{Entry, Event};
+use history_entries::{Entry, Event};
 use crate::faults::is_planned;
 use crate::generation::Generation;
 use crate::lines::{

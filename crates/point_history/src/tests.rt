@@ -1,10 +1,11 @@
 ghost use Rattle.std.specs.Prelude.{IsTrue};
 ghost use Rattle.nrt_base.specs.Bytes.{is_key, is_text, is_word};
 
-use crate::{Entry, Event, History, Op, Query, apply, laws, matches, points, scan, words};
-use nrt_base::{
-    At, Boxed, Doc, Gen, Key, LaneNo, LineNo, List, NoMemory, Share, Text, Version, Word,
-};
+use crate::points;
+use documents::{Op, Query, apply, matches, scan, words};
+use history_entries::{Entry, Event, History};
+use history_laws::laws;
+use nrt_base::{At, Boxed, Doc, Gen, Key, LaneNo, LineNo, List, NoMemory, Share, Text, Version, Word};
 use std::alloc::Global;
 use std::test::Fail;
 

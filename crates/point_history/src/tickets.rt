@@ -1,8 +1,8 @@
 ghost use Rattle.std.specs.Prelude.{◌≡◌, ◌↔◌, reverse, IsTrue, MatchOption};
-ghost use Rattle.point_history.specs.Nodes.{crashes};
-ghost use Rattle.point_history.specs.Tickets.{last_opened, open_ticket, has_ticket, IsTicketAt, IsTicketOf};
+ghost use Rattle.history_entries.specs.Nodes.{crashes};
+ghost use Rattle.history_entries.specs.Tickets.{last_opened, open_ticket, has_ticket, IsTicketAt, IsTicketOf};
 
-use crate::entry::{Entry, Event};
+use history_entries::{Entry, Event};
 use crate::nodes::crashes;
 use nrt_base::{At, LaneNo, NodeNo, TicketNo, Version};
 

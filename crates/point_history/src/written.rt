@@ -1,13 +1,13 @@
 ghost use Rattle.std.specs.Prelude.{◌≡◌, ◌≤◌, ◌+◌, ◌∷◌, ◌++◌, reverse, length, IfOk, OnOk};
-ghost use Rattle.point_history.specs.Nodes.{accepted_count};
-ghost use Rattle.point_history.specs.Points.{operations_at, operations_of_generation, documents_at};
+ghost use Rattle.history_entries.specs.Nodes.{accepted_count};
+ghost use Rattle.history_entries.specs.Points.{operations_at, operations_of_generation, documents_at};
 ghost use Rattle.point_history.specs.Origins.{operations_from, operations_before_generation, size_of};
 
-use crate::documents::apply;
-use crate::entry::{Entry, Event};
+use documents::apply;
+use history_entries::{Entry, Event};
 use crate::lines::before_start;
 use crate::nodes::version_of;
-use crate::operation::Op;
+use documents::Op;
 use nrt_base::{Doc, NoMemory, NodeNo, Share, Version};
 use std::alloc::Global;
 

@@ -5,7 +5,7 @@ use Rattle.std.proofs.lemmas.Bool.{lt-ltb}
 use Rattle.std.proofs.lemmas.Option.{some_pair_parts}
 use borrow.Author.Tests.{ltb-true}
 use Rattle.body_forms.specs.Format.{AreBytes, Takes, IsFormat, chain, ChainFits, chain_at, then_at}
-use Rattle.nrt_base.specs.VInts.{vint}
+use Rattle.body_forms.specs.VInts.{vint}
 use Rattle.body_forms.specs.Numbers.{string, string_at, difference, MayCome, difference_at, positive_at}
 use Rattle.postings_plain.specs.Postings.{Entry, positions, PositionsFit, hit, HitFits, above_hit, hits, HitsFit, entry, EntryFits}
 use Rattle.postings_plain.specs.Reading.{positions_at, hit_at, hits_at, field_at, term_at, entry_at}

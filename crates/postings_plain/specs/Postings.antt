@@ -1,7 +1,7 @@
 -- Postings: for each key and each word, the rows that have it; and the one spelling of each part.
 use Rattle.std.specs.Prelude.{◌≡◌, ℕ, zero, suc, ◌+◌, ◌^◌, ◌<◌, List, [], ◌∷◌, ◌++◌, length}
 use Rattle.body_forms.specs.Format.{chain, ChainFits}
-use Rattle.nrt_base.specs.VInts.{vint}
+use Rattle.body_forms.specs.VInts.{vint}
 use Rattle.body_forms.specs.Numbers.{string, difference, MayCome, ascending, Ascend}
 
 -- a hit: a row that has a term, and the positions of the term in it; a key has no positions

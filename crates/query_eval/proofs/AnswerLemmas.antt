@@ -3,9 +3,9 @@ use Rattle.std.proofs.Common.{◌≡◌, ℕ, zero, suc, ◌+◌, ◌^◌, ◌<�
 use Rattle.std.specs.List.{All}
 use Rattle.std.proofs.lemmas.List.Sums.{sum_by-cons}
 use Rattle.nrt_base.specs.declared.doc.Doc.{Doc}
-use Rattle.point_history.specs.declared.query.Query.{Query}
-use Rattle.point_history.specs.declared.entry.Answer.{Answer}
-use Rattle.point_history.specs.Matching.{scan_of}
+use Rattle.documents.specs.declared.query.Query.{Query}
+use Rattle.documents.specs.declared.answer.Answer.{Answer}
+use Rattle.documents.specs.Matching.{scan_of}
 use Rattle.seg_reader.specs.Shown.{Shown, live_documents, live_documents_of, AreLiveDocuments}
 use Rattle.seg_reader.specs.Sound.{IsSound}
 use Rattle.query_eval.specs.Keys.{Tally, tally_of}

@@ -6,10 +6,10 @@ use Rattle.std.specs.Option.{unwrap_or}
 use Rattle.std.proofs.lemmas.Bool.{lt-ltb, le-ltb, le-leb}
 use Rattle.std.proofs.lemmas.Option.{slice_get_within}
 use Rattle.nrt_base.specs.declared.doc.Doc.{Doc}
-use Rattle.point_history.specs.Words.{words_of}
-use Rattle.point_history.specs.declared.query.Query.{Query, All, Any, Not}
-use Rattle.point_history.specs.Matching.{matches, matches_doc}
-use Rattle.point_history.proofs.MatchingLemmas.{matches_all, matches_any, matches_not}
+use Rattle.documents.specs.Words.{words_of}
+use Rattle.documents.specs.declared.query.Query.{Query, All, Any, Not}
+use Rattle.documents.specs.Matching.{matches, matches_doc}
+use Rattle.documents.proofs.MatchingLemmas.{matches_all, matches_any, matches_not}
 use Rattle.query_eval.specs.declared.cursor.Cursor.{Cursor}
 use Rattle.query_eval.specs.declared.cursor.Cursor.TheVariants.{Nothing, Every}
 use Rattle.query_eval.specs.Moves.{rest_of}

@@ -5,8 +5,8 @@ use Rattle.std.proofs.lemmas.List.{reverse-append}
 use Rattle.std.proofs.lemmas.Option.{slice_get_cases}
 use Rattle.nrt_base.specs.Bytes.{is_key}
 use Rattle.nrt_base.specs.declared.doc.Doc.{Doc}
-use Rattle.point_history.specs.declared.query.Query.{Query}
-use Rattle.point_history.specs.Matching.{matches_doc}
+use Rattle.documents.specs.declared.query.Query.{Query}
+use Rattle.documents.specs.Matching.{matches_doc}
 use Rattle.seg_reader.specs.Shown.{Shown}
 use Rattle.query_eval.specs.Moves.{StaysFrom, Moves}
 use Rattle.query_eval.specs.Keys.{Tally, tally_of, CountsOne}

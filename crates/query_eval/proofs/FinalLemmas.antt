@@ -9,9 +9,9 @@ use Rattle.std.proofs.lemmas.List.Sums.{length-filter, sum_by-append, sum_by-con
 use Rattle.std.proofs.lemmas.Grind.{flat_map-append}
 use Rattle.std.proofs.lemmas.List.Sorted.{sum_by-IsPermutation, IsPermutation-reverse}
 use Rattle.nrt_base.specs.declared.doc.Doc.{Doc}
-use Rattle.point_history.specs.Documents.{key_cmp}
-use Rattle.point_history.specs.declared.query.Query.{Query}
-use Rattle.point_history.specs.Matching.{matches_doc}
+use Rattle.documents.specs.Documents.{key_cmp}
+use Rattle.documents.specs.declared.query.Query.{Query}
+use Rattle.documents.specs.Matching.{matches_doc}
 use Rattle.seg_reader.specs.Shown.{Shown, live_documents, live_documents_of, IsInKeyOrder, AreLiveDocuments}
 use Rattle.query_eval.specs.Keys.{in_order, tally_of}
 use Rattle.query_eval.specs.Matching.{matching_keys}

@@ -2,7 +2,7 @@
 use Rattle.std.proofs.Common.{◌≡◌, ℕ, zero, suc, ◌+◌, ◌≤◌, List, [], ◌∷◌, length, take, Bool, true, false, refl, sym, ap, ◌∙◌, arith, add-one}
 use Rattle.std.specs.List.{insert}
 use Rattle.std.specs.Ordering.{is_lt}
-use Rattle.point_history.specs.Documents.{key_cmp}
+use Rattle.documents.specs.Documents.{key_cmp}
 use Rattle.query_eval.specs.Keys.{with_key, place_of, in_order, AreFirst, Tally, tally, tally_of, CountsOne}
 
 take_fewer : (m : ℕ) (xs : List (List ℕ)) → take m (take (suc m) xs) ≡ take m xs

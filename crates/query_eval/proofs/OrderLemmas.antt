@@ -10,7 +10,7 @@ use Rattle.std.specs.declared.cmp.Ordering.TheVariants.{Less, Equal, Greater}
 use Rattle.std.proofs.lemmas.Cmp.{nat_list_cmp_total}
 use Rattle.std.proofs.lemmas.List.Sums.{sum_by-cons}
 use Rattle.std.proofs.lemmas.Slice.Eq.{bytes_eq-Decides}
-use Rattle.point_history.specs.Documents.{key_cmp}
+use Rattle.documents.specs.Documents.{key_cmp}
 use Rattle.query_eval.specs.Keys.{with_key, in_order}
 
 -- a is not above b

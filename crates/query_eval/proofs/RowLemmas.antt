@@ -5,8 +5,8 @@ use Rattle.std.specs.List.{list_any, filter, enumerate_from}
 use Rattle.std.specs.Str.{bytes_eq}
 use Rattle.std.proofs.lemmas.Bool.{ne_eqb, eq-eqb}
 use Rattle.nrt_base.specs.declared.doc.Doc.{Doc}
-use Rattle.point_history.specs.Words.{words_of}
-use Rattle.point_history.specs.Matching.{same_bytes}
+use Rattle.documents.specs.Words.{words_of}
+use Rattle.documents.specs.Matching.{same_bytes}
 use Rattle.postings_plain.specs.declared.row.TermRow.{TermRow}
 use Rattle.postings_plain.specs.Postings.{Hit}
 use Rattle.postings_plain.specs.Body.{HasEntry, HasNoEntry}

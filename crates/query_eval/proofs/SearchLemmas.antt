@@ -3,8 +3,8 @@ use Rattle.std.proofs.Common.{◌≡◌, ℕ, zero, suc, ◌+◌, ◌<◌, ◌�
 use Rattle.std.specs.Prelude.{◌&&◌, slice_get, slice_index_or, if◌then◌else◌}
 use Rattle.std.specs.List.{filter, zip}
 use Rattle.nrt_base.specs.declared.doc.Doc.{Doc}
-use Rattle.point_history.specs.declared.query.Query.{Query}
-use Rattle.point_history.specs.Matching.{matches_doc}
+use Rattle.documents.specs.declared.query.Query.{Query}
+use Rattle.documents.specs.Matching.{matches_doc}
 use Rattle.query_eval.specs.Keys.{Tally, tally_of}
 use Rattle.query_eval.specs.Matching.{matching_keys}
 

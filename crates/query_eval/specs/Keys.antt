@@ -1,7 +1,7 @@
 -- Keys in ascending order, of which the first 20 are kept.
 use Rattle.std.specs.Prelude.{◌≡◌, ℕ, ◌+◌, List, [], ◌∷◌, take, length, if◌then◌else◌}
 use Rattle.std.specs.Ordering.{is_lt}
-use Rattle.point_history.specs.Documents.{key_cmp}
+use Rattle.documents.specs.Documents.{key_cmp}
 
 -- keys in ascending order, with one more
 abbrev pub with_key : List (List ℕ) → List ℕ → List (List ℕ)

@@ -2,9 +2,9 @@
 use Rattle.std.specs.Prelude.{◌≡◌, ℕ, ◌+◌, ◌≤◌, Bool, List, ◌++◌, map, reverse, filter, length, Some, slice_get}
 use Rattle.std.specs.List.{sum_by, list_any, list_all}
 use Rattle.nrt_base.specs.declared.doc.Doc.{Doc}
-use Rattle.point_history.specs.declared.query.Query.{Query}
-use Rattle.point_history.specs.Matching.{matches_doc, same_bytes, stands_in}
-use Rattle.point_history.specs.Words.{words_of}
+use Rattle.documents.specs.declared.query.Query.{Query}
+use Rattle.documents.specs.Matching.{matches_doc, same_bytes, stands_in}
+use Rattle.documents.specs.Words.{words_of}
 use Rattle.seg_reader.specs.Shown.{Shown, live_documents_of}
 use Rattle.query_eval.specs.declared.cursor.Cursor.{Cursor}
 use Rattle.query_eval.specs.Cursor.{answers}

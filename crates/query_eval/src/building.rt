@@ -1,7 +1,7 @@
 ghost use Rattle.std.specs.Prelude.{◌≡◌, ◌&&◌, ◌||◌, ℕ, IfOk, Some, slice_get};
 ghost use Rattle.std.specs.List.{list_any, list_all};
 ghost use Rattle.nrt_base.specs.declared.doc.Doc.{Doc};
-ghost use Rattle.point_history.specs.Matching.{matches_doc};
+ghost use Rattle.documents.specs.Matching.{matches_doc};
 ghost use Rattle.seg_reader.specs.Sound.{IsSound};
 ghost use Rattle.query_eval.specs.Cursor.{answers, all_answer, any_answers};
 ghost use Rattle.query_eval.specs.Matching.{AnswersWord, AnswersPhrase, AnswersAll, AnswersAny, AnswersQuery};
@@ -9,7 +9,7 @@ ghost use Rattle.query_eval.specs.Matching.{AnswersWord, AnswersPhrase, AnswersA
 use crate::cursor::Cursor;
 use crate::phrase::PhraseWord;
 use nrt_base::{List, NoMemory, Word};
-use point_history::Query;
+use documents::Query;
 use seg_reader::Segment;
 use std::alloc::Global;
 

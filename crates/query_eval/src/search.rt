@@ -1,7 +1,7 @@
 ghost use Rattle.std.specs.Prelude.{◌≡◌, ◌+◌, ◌<◌, ◌^◌, List, length, IfOk, OnOk};
 ghost use Rattle.std.specs.List.{All};
 ghost use Rattle.nrt_base.specs.declared.doc.Doc.{Doc};
-ghost use Rattle.point_history.specs.Matching.{scan_of};
+ghost use Rattle.documents.specs.Matching.{scan_of};
 ghost use Rattle.seg_reader.specs.Shown.{AreLiveDocuments};
 ghost use Rattle.seg_reader.specs.Sound.{IsSound};
 ghost use Rattle.query_eval.specs.Matching.{Counts, rows_of};
@@ -10,7 +10,7 @@ use crate::building::cursor_of;
 use crate::cursor::next_from;
 use crate::tally::Found;
 use nrt_base::NoMemory;
-use point_history::{Answer, Query};
+use documents::{Answer, Query};
 use seg_reader::Segment;
 use std::alloc::Global;
 

@@ -1,11 +1,11 @@
 ghost use Rattle.std.specs.Prelude.{◌≡◌, ◌+◌, ◌<◌, ◌≤◌, ◌^◌, [], length, IsTrue, OnOk};
 ghost use Rattle.std.specs.Ordering.{is_lt};
 ghost use Rattle.nrt_base.specs.Bytes.{is_key};
-ghost use Rattle.point_history.specs.Documents.{key_cmp};
+ghost use Rattle.documents.specs.Documents.{key_cmp};
 ghost use Rattle.query_eval.specs.Keys.{place_of as place_of_lem, tally_of, AreFirst, CountsOne};
 
 use nrt_base::{Key, NoMemory};
-use point_history::Answer;
+use documents::Answer;
 use std::alloc::Global;
 use std::marker::Model;
 

@@ -6,7 +6,7 @@ ghost use Rattle.query_eval.specs.Matching.{rows_of};
 
 use crate::answer;
 use nrt_base::{Doc, Key, NoMemory, SegNo, Text};
-use point_history::scan;
+use documents::scan;
 use seg_build::{Prepared, build, read_back};
 use seg_reader::Segment;
 use std::alloc::Global;

@@ -1,9 +1,10 @@
 ghost use Rattle.std.specs.Prelude.{◌≡◌, ◌++◌, ◌∷◌, OnOk, codes};
-ghost use Rattle.point_history.specs.Texts.{kind_text, plan_text, cause_text};
+ghost use Rattle.report_text.specs.Texts.{kind_text, plan_text, cause_text};
 
 use crate::words::push_worded;
-use nrt_base::{FileName, NoMemory, NodeNo};
-use point_history::{Cause, FaultKind, FaultPlan};
+use file_names::FileName;
+use nrt_base::{NoMemory, NodeNo};
+use history_entries::{Cause, FaultKind, FaultPlan};
 use std::alloc::Global;
 
 pub fn push_cause(out: &mut Vec<u8>, alloc: Global, cause: &Cause) -> Result<(), NoMemory>

@@ -1,11 +1,13 @@
 ghost use Rattle.std.specs.Prelude.{◌≡◌, [], ◌∷◌, ◌++◌, OnOk, codes};
-ghost use Rattle.nrt_base.specs.Base36.{base36_of};
-ghost use Rattle.point_history.specs.Texts.{worded, all_spaced, event_text, plan_text, cause_text, kind_text};
+ghost use Rattle.file_names.specs.Base36.{base36_of};
+ghost use Rattle.report_text.specs.Texts.{worded, all_spaced, event_text, plan_text, cause_text, kind_text};
 
 use crate::causes::{push_cause, push_kind, push_plan};
 use crate::words::{push_keys, push_names, push_worded};
-use nrt_base::{FileName, NoMemory, NodeNo, SegNo, TicketNo, Version, base36};
-use point_history::{Answer, Cause, Event, FaultKind, FaultPlan};
+use file_names::{FileName, base36};
+use nrt_base::{NoMemory, NodeNo, SegNo, TicketNo, Version};
+use documents::Answer;
+use history_entries::{Cause, Event, FaultKind, FaultPlan};
 use std::alloc::Global;
 
 pub fn push_event(out: &mut Vec<u8>, alloc: Global, event: &Event) -> Result<(), NoMemory>

@@ -1,10 +1,10 @@
 ghost use Rattle.std.specs.Prelude.{◌≡◌, ◌++◌, OnOk, IfOk};
-ghost use Rattle.point_history.specs.Texts.{text_of_entry, text_of};
+ghost use Rattle.report_text.specs.Texts.{text_of_entry, text_of};
 
 use crate::events::push_event;
 use crate::words::push_number;
 use nrt_base::NoMemory;
-use point_history::{Entry, History};
+use history_entries::{Entry, History};
 use std::alloc::Global;
 
 fn push_line(out: &mut Vec<u8>, alloc: Global, entry: &Entry) -> Result<(), NoMemory>

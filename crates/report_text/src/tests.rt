@@ -1,9 +1,8 @@
 use crate::{line, report};
-use nrt_base::{
-    At, Doc, Gen, Key, LaneNo, LineNo, List, NoMemory, NodeNo, SegNo, SegPart, Text, TicketNo,
-    Version, Word, commit_name, part_name,
-};
-use point_history::{Answer, Cause, Entry, Event, FaultKind, FaultPlan, History, Op, Query};
+use file_names::{SegPart, commit_name, part_name};
+use nrt_base::{At, Doc, Gen, Key, LaneNo, LineNo, List, NoMemory, NodeNo, SegNo, Text, TicketNo, Version, Word};
+use documents::{Answer, Op, Query};
+use history_entries::{Cause, Entry, Event, FaultKind, FaultPlan, History};
 use std::alloc::Global;
 use std::process::Abort;
 use std::test::Fail;

@@ -1,9 +1,10 @@
 ghost use Rattle.std.specs.Prelude.{◌≡◌, ◌++◌, OnOk, IfOk};
 ghost use Rattle.std.specs.List.{flat_map};
 ghost use Rattle.std.specs.Fmt.{decimal};
-ghost use Rattle.point_history.specs.Texts.{spaced, worded, all_spaced};
+ghost use Rattle.report_text.specs.Texts.{spaced, worded, all_spaced};
 
-use nrt_base::{FileName, Key, NoMemory};
+use file_names::FileName;
+use nrt_base::{Key, NoMemory};
 use std::alloc::Global;
 
 pub fn push_number(out: &mut Vec<u8>, alloc: Global, number: u64) -> Result<(), NoMemory>

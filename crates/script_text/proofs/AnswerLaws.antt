@@ -5,7 +5,7 @@ use Rattle.nrt_base.specs.declared.numbers.LineNo.{LineNo}
 use Rattle.script_text.specs.declared.fault.LineFault.{LineFault}
 use Rattle.script_text.specs.declared.fault.ScriptFault.{ScriptFault}
 use Rattle.script_text.specs.declared.fault.ScriptFault.TheVariants.{Memory, BadScript, TooLarge}
-use Rattle.script_text.specs.declared.script.Script.{Script}
+use Rattle.script_serving.specs.declared.script.Script.{Script}
 use Rattle.script_text.specs.Grammar.{SpellsScript}
 use Rattle.script_text.specs.Refused.{IsFirstRefused}
 use Rattle.script_text.proofs.RefusalLaws.{never_both, one_refusal}

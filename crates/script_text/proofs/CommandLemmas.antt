@@ -13,22 +13,22 @@ use Rattle.nrt_base.specs.Bytes.{is_between, is_key, is_key_byte, is_text, is_te
 use Rattle.nrt_base.specs.declared.doc.Doc.{Doc}
 use Rattle.nrt_base.specs.declared.numbers.NodeNo.{NodeNo}
 use Rattle.nrt_base.specs.declared.numbers.TicketNo.{TicketNo}
-use Rattle.point_history.specs.declared.cause.FaultKind.{FaultKind}
-use Rattle.point_history.specs.declared.cause.FaultKind.TheVariants as kind
-use Rattle.point_history.specs.declared.cause.FaultPlan.TheVariants as plan
-use Rattle.point_history.specs.Matching.{is_well_formed}
+use Rattle.history_entries.specs.declared.cause.FaultKind.{FaultKind}
+use Rattle.history_entries.specs.declared.cause.FaultKind.TheVariants as kind
+use Rattle.history_entries.specs.declared.cause.FaultPlan.TheVariants as plan
+use Rattle.documents.specs.Matching.{is_well_formed}
 use Rattle.script_text.specs.declared.fault.LineFault.TheVariants.{NoNodes, Word, Count, Range, Query as RefusedQuery, Text, NotBuilt}
 use Rattle.script_text.specs.declared.fault.Refusal.{Refusal}
 use Rattle.script_text.specs.declared.fault.Refusal.TheVariants as refusal
-use Rattle.script_text.specs.declared.script.Force.{Force}
-use Rattle.script_text.specs.declared.script.Force.TheVariants.{Auto, Exactly}
-use Rattle.script_text.specs.declared.script.LineCommand.{LineCommand}
-use Rattle.script_text.specs.declared.script.LineCommand.TheVariants as asks
+use Rattle.script_serving.specs.declared.script.Force.{Force}
+use Rattle.script_serving.specs.declared.script.Force.TheVariants.{Auto, Exactly}
+use Rattle.script_serving.specs.declared.script.LineCommand.{LineCommand}
+use Rattle.script_serving.specs.declared.script.LineCommand.TheVariants as asks
 use Rattle.script_text.specs.declared.shapes.Plain.{Plain}
 use Rattle.script_text.specs.declared.shapes.Plain.TheVariants as plain
 use Rattle.script_text.specs.declared.shapes.Name.{Name}
 use Rattle.script_text.specs.declared.shapes.Name.TheVariants as named
-use Rattle.script_text.specs.Form.{is_command, is_force}
+use Rattle.script_serving.specs.Form.{is_command, is_force}
 use Rattle.script_text.specs.Grammar.{words_in, rest_behind, command_words, force_word, Ends, has_bytes}
 use Rattle.script_text.specs.Refused.{Kind, number, node, force, Tail, nothing, text, query, command, is_number_in, is_word, is_kind, are_kinds, is_short, is_too_few_or_many, is_asked_in_range, asks_query}
 use Rattle.script_text.specs.Reading.{word_at, number_of, node_of, ticket_of, force_of, plain_shape, fault_shape, shape_of, front_of, plain_command, plan_of, fault_command, in_range, has_short_rest, IsDocRead, IsKeyRead, IsSearchRead, IsAskRead, IsCommandOf, IsCommandRead}

@@ -9,10 +9,10 @@ use Rattle.std.proofs.lemmas.Bool.{false≢true}
 use Rattle.std.proofs.lemmas.Bool.Decides.{nat_tests}
 use Rattle.nrt_base.specs.Bytes.{is_between}
 use Rattle.nrt_base.specs.declared.numbers.LaneNo.{LaneNo}
-use Rattle.script_text.specs.declared.script.Line.{Line}
-use Rattle.script_text.specs.declared.script.Script.{Script}
-use Rattle.script_text.specs.Lines.{lines_of_phase, lines_under}
-use Rattle.script_text.specs.Form.{is_command, is_under, are_apart, is_phase, are_ascending, are_distinct, IsInForm}
+use Rattle.script_serving.specs.declared.script.Line.{Line}
+use Rattle.script_serving.specs.declared.script.Script.{Script}
+use Rattle.script_serving.specs.Lines.{lines_of_phase, lines_under}
+use Rattle.script_serving.specs.Form.{is_command, is_under, are_apart, is_phase, are_ascending, are_distinct, IsInForm}
 use Rattle.script_text.specs.Grammar.{Statement, statements_from, statements_of, lines_of_text, is_statement, SpellsPhases, SpellsBody, SpellsStatements, SpellsScript, of_lane, lane_entry, lanes_from, phase_of}
 
 both : (a b : Bool) → a ≡ true → b ≡ true → (a && b) ≡ true

@@ -10,8 +10,8 @@ use Rattle.script_text.specs.declared.fault.LineFault.{LineFault}
 use Rattle.script_text.specs.declared.fault.LineFault.TheVariants.{NoNodes, Word, Count, Range, Query as RefusedQuery, Text, NotBuilt}
 use Rattle.script_text.specs.declared.fault.ScriptFault.{ScriptFault}
 use Rattle.script_text.specs.declared.fault.ScriptFault.TheVariants as script_fault
-use Rattle.script_text.specs.declared.script.Script.{Script}
-use Rattle.script_text.specs.Form.{IsInForm}
+use Rattle.script_serving.specs.declared.script.Script.{Script}
+use Rattle.script_serving.specs.Form.{IsInForm}
 use Rattle.script_text.specs.Grammar.{Statement, words_in, SpellsScript}
 use Rattle.script_text.specs.Refused.{Place, second, later, Form, has_wrong_word, has_wrong_count, is_in_range, has_query, form_of, form_at, is_number_in, value_of, HasCause, RefusesAmong, IsFirstRefused}
 use Rattle.script_text.specs.Reading.{word_at, number_of, is_workers_line, SaysNoWorkers, ArePhasesRead, IsBodyRead, IsAnswer}

@@ -7,7 +7,7 @@ use Rattle.std.proofs.lemmas.Option.{none-some, same_Some}
 use Rattle.std.proofs.lemmas.Bool.Decides.{nat_tests}
 use Rattle.nrt_base.specs.Bytes.{is_between}
 use Rattle.nrt_base.specs.declared.numbers.LaneNo.{LaneNo}
-use Rattle.script_text.specs.declared.script.LineCommand.{LineCommand}
+use Rattle.script_serving.specs.declared.script.LineCommand.{LineCommand}
 use Rattle.script_text.specs.declared.shapes.Name.{Name}
 use Rattle.script_text.specs.Grammar.{Statement, words_in, rest_behind, is_printable, SpellsLine}
 use Rattle.script_text.specs.Refused.{command, lane_line, later, is_word, is_digits, asked, is_unknown, is_miscounted, is_number_in, is_asked_in_range, asks_query, IsRight}

@@ -1,15 +1,12 @@
 pub mod AnswerLaws
-pub mod BuiltLemmas
 pub mod CauseLemmas
 pub mod CommandLemmas
-pub mod FitLemmas
 pub mod FormLemmas
 pub mod HeaderLemmas
 pub mod LaneLineLemmas
 pub mod LineLemmas
 pub mod NumberLaws
 pub mod NumberLemmas
-pub mod OneLane
 pub mod OneLine
 pub mod PhaseLemmas
 pub mod RefusalLaws
@@ -17,6 +14,5 @@ pub mod RightForms
 pub mod RightLines
 pub mod ScriptLaws
 pub mod ShapeLemmas
-pub mod Unprinted
 pub mod WordLaws
 pub mod WordLemmas

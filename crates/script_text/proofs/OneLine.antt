@@ -7,19 +7,19 @@ use Rattle.nrt_base.specs.declared.doc.Doc.{Doc}
 use Rattle.nrt_base.specs.declared.numbers.NodeNo.{NodeNo}
 use Rattle.nrt_base.specs.declared.numbers.TicketNo.{TicketNo}
 use Rattle.nrt_base.specs.Bytes.{is_between}
-use Rattle.point_history.specs.declared.query.Query.{Query}
-use Rattle.point_history.specs.declared.query.Query.TheVariants.{All}
-use Rattle.point_history.specs.declared.cause.FaultPlan.{FaultPlan}
-use Rattle.point_history.specs.declared.cause.FaultPlan.TheVariants.{Link, Damage, Disk, Stop}
-use Rattle.point_history.specs.Matching.{is_well_formed}
+use Rattle.documents.specs.declared.query.Query.{Query}
+use Rattle.documents.specs.declared.query.Query.TheVariants.{All}
+use Rattle.history_entries.specs.declared.cause.FaultPlan.{FaultPlan}
+use Rattle.history_entries.specs.declared.cause.FaultPlan.TheVariants.{Link, Damage, Disk, Stop}
+use Rattle.documents.specs.Matching.{is_well_formed}
 use Rattle.text_query.specs.Answers.{Parses}
 use Rattle.text_query.proofs.FaultLemmas.{query_answered}
-use Rattle.script_text.specs.declared.script.Force.{Force}
-use Rattle.script_text.specs.declared.script.Force.TheVariants.{Auto, Exactly}
-use Rattle.script_text.specs.declared.script.Line.{Line}
-use Rattle.script_text.specs.declared.script.LineCommand.{LineCommand}
-use Rattle.script_text.specs.declared.script.LineCommand.TheVariants.{Put, Delete, Publish, Copy, Settle, Search, Open, Ask, Close, Commit, Crash, Reopen, Promote, Merge, Drain, Files, Fault}
-use Rattle.script_text.specs.Form.{is_plan, is_force, is_command}
+use Rattle.script_serving.specs.declared.script.Force.{Force}
+use Rattle.script_serving.specs.declared.script.Force.TheVariants.{Auto, Exactly}
+use Rattle.script_serving.specs.declared.script.Line.{Line}
+use Rattle.script_serving.specs.declared.script.LineCommand.{LineCommand}
+use Rattle.script_serving.specs.declared.script.LineCommand.TheVariants.{Put, Delete, Publish, Copy, Settle, Search, Open, Ask, Close, Commit, Crash, Reopen, Promote, Merge, Drain, Files, Fault}
+use Rattle.script_serving.specs.Form.{is_plan, is_force, is_command}
 use Rattle.script_text.specs.Grammar.{Statement, words_in, rest_behind, force_word, plan_words, command_words, Ends, SpellsLine}
 use Rattle.script_text.specs.Refused.{is_word, value_of}
 use Rattle.script_text.proofs.NumberLaws.{value_of-decimal, digits_of-decimal, other_word}

@@ -5,8 +5,8 @@ use Rattle.std.proofs.lemmas.List.{append-nil, map-append}
 use Rattle.std.proofs.lemmas.Bool.Decides.{nat_tests}
 use Rattle.nrt_base.specs.declared.numbers.LaneNo.{LaneNo}
 use Rattle.script_text.specs.declared.fault.LineFault.{LineFault}
-use Rattle.script_text.specs.declared.script.Line.{Line}
-use Rattle.script_text.specs.declared.script.Phase.{Phase}
+use Rattle.script_serving.specs.declared.script.Line.{Line}
+use Rattle.script_serving.specs.declared.script.Phase.{Phase}
 use Rattle.script_text.specs.declared.lane_lines.Later.{Later}
 use Rattle.script_text.specs.declared.lane_lines.Later.TheVariants as later_read
 use Rattle.script_text.specs.Grammar.{Statement, SpellsLine, SpellsPhases, IsJoin, of_lane, lane_entry, lanes_from, phase_of}

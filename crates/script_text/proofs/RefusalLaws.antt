@@ -7,8 +7,8 @@ use Rattle.text_query.specs.Answers.{IsFault, IsAnswer}
 use Rattle.text_query.proofs.FaultLemmas.{fault_answered}
 use Rattle.script_text.specs.declared.fault.LineFault.{LineFault}
 use Rattle.script_text.specs.declared.fault.LineFault.TheVariants.{NoNodes, Word, Count, Range, Query as RefusedQuery, Text, NotBuilt}
-use Rattle.script_text.specs.declared.script.Line.{Line}
-use Rattle.script_text.specs.declared.script.Script.{Script}
+use Rattle.script_serving.specs.declared.script.Line.{Line}
+use Rattle.script_serving.specs.declared.script.Script.{Script}
 use Rattle.script_text.specs.Grammar.{Statement, lines_of_text, statements_of, words_in, rest_behind, IsNodesHeader, SpellsPhases, SpellsBody, SpellsStatements}
 use Rattle.script_text.specs.Refused.{Place, first as first_place, second as second_place, later as later_place, HasCause, order_of, IsFirstCause, nodes_said, next_place, RefusesAmong, RefusesStatements}
 use Rattle.script_text.specs.Exact.{NeverBoth, OneRefusal}

@@ -5,7 +5,7 @@ use Rattle.std.specs.List.{list_all}
 use Rattle.std.specs.Fmt.{decimal}
 use Rattle.std.proofs.lemmas.Bool.{false≢true, both_ways, lt-ltb, le-leb, and_from}
 use Rattle.nrt_base.specs.Bytes.{is_between}
-use Rattle.point_history.specs.declared.query.Query.{Query}
+use Rattle.documents.specs.declared.query.Query.{Query}
 use Rattle.text_query.specs.declared.fault.QueryFault.{QueryFault}
 use Rattle.text_query.specs.Answers.{Parses, IsFault}
 use Rattle.text_query.proofs.FaultLemmas.{fault_answered}

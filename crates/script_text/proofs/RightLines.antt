@@ -5,18 +5,18 @@ use Rattle.std.specs.List.{list_all}
 use Rattle.std.specs.Fmt.{decimal}
 use Rattle.std.proofs.lemmas.Bool.{false≢true, leb-true, le-leb, le-ltb, lt-leb, eq-eqb, and_from, and_parts, or_right}
 use Rattle.nrt_base.specs.Bytes.{is_between, is_key, is_key_byte, is_text, is_text_byte}
-use Rattle.point_history.specs.declared.query.Query.{Query}
-use Rattle.point_history.specs.declared.cause.FaultPlan.{FaultPlan}
-use Rattle.point_history.specs.declared.cause.FaultPlan.TheVariants.{Link, Damage, Disk, Stop}
-use Rattle.point_history.specs.Matching.{is_well_formed}
+use Rattle.documents.specs.declared.query.Query.{Query}
+use Rattle.history_entries.specs.declared.cause.FaultPlan.{FaultPlan}
+use Rattle.history_entries.specs.declared.cause.FaultPlan.TheVariants.{Link, Damage, Disk, Stop}
+use Rattle.documents.specs.Matching.{is_well_formed}
 use Rattle.text_query.specs.declared.fault.QueryFault.TheVariants.{Empty}
 use Rattle.text_query.specs.Answers.{Parses}
-use Rattle.script_text.specs.declared.script.Force.{Force}
-use Rattle.script_text.specs.declared.script.Force.TheVariants.{Auto, Exactly}
-use Rattle.script_text.specs.declared.script.Line.{Line}
-use Rattle.script_text.specs.declared.script.LineCommand.{LineCommand}
-use Rattle.script_text.specs.declared.script.LineCommand.TheVariants.{Put, Delete, Publish, Copy, Settle, Search, Open, Ask, Close, Commit, Crash, Reopen, Promote, Merge, Drain, Files, Fault}
-use Rattle.script_text.specs.Form.{is_plan, is_force, is_command}
+use Rattle.script_serving.specs.declared.script.Force.{Force}
+use Rattle.script_serving.specs.declared.script.Force.TheVariants.{Auto, Exactly}
+use Rattle.script_serving.specs.declared.script.Line.{Line}
+use Rattle.script_serving.specs.declared.script.LineCommand.{LineCommand}
+use Rattle.script_serving.specs.declared.script.LineCommand.TheVariants.{Put, Delete, Publish, Copy, Settle, Search, Open, Ask, Close, Commit, Crash, Reopen, Promote, Merge, Drain, Files, Fault}
+use Rattle.script_serving.specs.Form.{is_plan, is_force, is_command}
 use Rattle.script_text.specs.Grammar.{Statement, words_in, rest_behind, force_word, plan_words, command_words, IsQueryText, Ends, has_bytes, SpellsLine}
 use Rattle.script_text.specs.Refused.{is_word, is_number_in, Kind, number as number_kind, node as node_kind, force as force_kind, key as key_kind, nothing, text as text_tail, query as query_tail, Shape, shape as shape_with, command, asked, is_kind, are_kinds, is_short, is_too_few_or_many, lane_line, Place, IsRight}
 use Rattle.script_text.proofs.NumberLaws.{number_in, digits_of-decimal, is_digits-decimal}

@@ -3,9 +3,9 @@ use Rattle.std.proofs.Common.{◌≡◌, ℕ, ◌<◌, ◌≤◌, List, [], ◌�
 use Rattle.std.specs.Prelude.{◌^◌, codes}
 use Rattle.std.specs.Fmt.{decimal}
 use Rattle.std.proofs.lemmas.Bool.{false≢true, both_ways}
-use Rattle.script_text.specs.declared.script.Line.{Line}
-use Rattle.script_text.specs.declared.script.Phase.{Phase}
-use Rattle.script_text.specs.declared.script.Script.{Script}
+use Rattle.script_serving.specs.declared.script.Line.{Line}
+use Rattle.script_serving.specs.declared.script.Phase.{Phase}
+use Rattle.script_serving.specs.declared.script.Script.{Script}
 use Rattle.script_text.specs.Grammar.{Statement, statements_of, words_in, IsJoin, IsNodesHeader, IsWorkersHeader, SpellsLine, SpellsPhases, SpellsBody, SpellsStatements, phase_of}
 use Rattle.script_text.specs.Refused.{is_word, value_of}
 use Rattle.script_text.specs.Exact.{OneScript}

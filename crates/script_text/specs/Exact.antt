@@ -1,7 +1,7 @@
 -- The grammar of scripts and the first refused line are exact: each text has one of them at most, and one only.
 use Rattle.std.specs.Prelude.{ℕ, ◌≡◌, List}
 use Rattle.script_text.specs.declared.fault.LineFault.{LineFault}
-use Rattle.script_text.specs.declared.script.Script.{Script}
+use Rattle.script_serving.specs.declared.script.Script.{Script}
 use Rattle.script_text.specs.Grammar.{SpellsScript}
 use Rattle.script_text.specs.Refused.{IsFirstRefused}
 

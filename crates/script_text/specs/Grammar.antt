@@ -5,17 +5,17 @@ use Rattle.std.specs.Fmt.{decimal}
 use Rattle.nrt_base.specs.Bytes.{is_between, is_key, is_text, is_text_byte}
 use Rattle.nrt_base.specs.declared.numbers.LaneNo.{LaneNo}
 use Rattle.text_query.specs.Answers.{Parses}
-use Rattle.point_history.specs.declared.query.Query.{Query}
-use Rattle.point_history.specs.declared.cause.FaultPlan.{FaultPlan}
-use Rattle.point_history.specs.declared.cause.FaultPlan.TheVariants.{Link, Damage, Disk, Stop}
-use Rattle.script_text.specs.declared.script.Force.{Force}
-use Rattle.script_text.specs.declared.script.Force.TheVariants.{Auto, Exactly}
-use Rattle.script_text.specs.declared.script.Line.{Line}
-use Rattle.script_text.specs.declared.script.LineCommand.{LineCommand}
-use Rattle.script_text.specs.declared.script.LineCommand.TheVariants.{Put, Delete, Publish, Copy, Settle, Search, Open, Ask, Close, Commit, Crash, Reopen, Promote, Merge, Drain, Files, Fault}
-use Rattle.script_text.specs.declared.script.Phase.{Phase}
-use Rattle.script_text.specs.declared.script.Script.{Script}
-use Rattle.script_text.specs.Form.{is_command}
+use Rattle.documents.specs.declared.query.Query.{Query}
+use Rattle.history_entries.specs.declared.cause.FaultPlan.{FaultPlan}
+use Rattle.history_entries.specs.declared.cause.FaultPlan.TheVariants.{Link, Damage, Disk, Stop}
+use Rattle.script_serving.specs.declared.script.Force.{Force}
+use Rattle.script_serving.specs.declared.script.Force.TheVariants.{Auto, Exactly}
+use Rattle.script_serving.specs.declared.script.Line.{Line}
+use Rattle.script_serving.specs.declared.script.LineCommand.{LineCommand}
+use Rattle.script_serving.specs.declared.script.LineCommand.TheVariants.{Put, Delete, Publish, Copy, Settle, Search, Open, Ask, Close, Commit, Crash, Reopen, Promote, Merge, Drain, Files, Fault}
+use Rattle.script_serving.specs.declared.script.Phase.{Phase}
+use Rattle.script_serving.specs.declared.script.Script.{Script}
+use Rattle.script_serving.specs.Form.{is_command}
 
 -- the byte that ends a line
 abbrev pub is_line_feed : ℕ → Bool

@@ -1,10 +1,4 @@
-pub mod Lines
-pub mod Form
-pub mod Determined
-pub mod Refusals
-pub mod Serves
 pub mod Grammar
 pub mod Refused
-pub mod Built
 pub mod Exact
 pub mod Reading

@@ -8,12 +8,12 @@ use Rattle.nrt_base.specs.declared.doc.Doc.{Doc}
 use Rattle.nrt_base.specs.declared.numbers.LaneNo.{LaneNo}
 use Rattle.nrt_base.specs.declared.numbers.NodeNo.{NodeNo}
 use Rattle.nrt_base.specs.declared.numbers.TicketNo.{TicketNo}
-use Rattle.point_history.specs.declared.query.Query.{Query}
-use Rattle.point_history.specs.Matching.{is_well_formed}
-use Rattle.point_history.specs.declared.cause.FaultKind.{FaultKind}
-use Rattle.point_history.specs.declared.cause.FaultKind.TheVariants as kind
-use Rattle.point_history.specs.declared.cause.FaultPlan.{FaultPlan}
-use Rattle.point_history.specs.declared.cause.FaultPlan.TheVariants as plan
+use Rattle.documents.specs.declared.query.Query.{Query}
+use Rattle.documents.specs.Matching.{is_well_formed}
+use Rattle.history_entries.specs.declared.cause.FaultKind.{FaultKind}
+use Rattle.history_entries.specs.declared.cause.FaultKind.TheVariants as kind
+use Rattle.history_entries.specs.declared.cause.FaultPlan.{FaultPlan}
+use Rattle.history_entries.specs.declared.cause.FaultPlan.TheVariants as plan
 use Rattle.text_query.specs.declared.fault.QueryFault.{QueryFault}
 use Rattle.text_query.specs.Answers.{IsFault, Parses}
 use Rattle.script_text.specs.declared.fault.LineFault.{LineFault}
@@ -22,13 +22,13 @@ use Rattle.script_text.specs.declared.fault.ScriptFault.{ScriptFault}
 use Rattle.script_text.specs.declared.fault.ScriptFault.TheVariants as script_fault
 use Rattle.script_text.specs.declared.fault.Refusal.{Refusal}
 use Rattle.script_text.specs.declared.fault.Refusal.TheVariants as refusal
-use Rattle.script_text.specs.declared.script.Force.{Force}
-use Rattle.script_text.specs.declared.script.Force.TheVariants.{Auto, Exactly}
-use Rattle.script_text.specs.declared.script.Line.{Line}
-use Rattle.script_text.specs.declared.script.LineCommand.{LineCommand}
-use Rattle.script_text.specs.declared.script.LineCommand.TheVariants as asks
-use Rattle.script_text.specs.declared.script.Phase.{Phase}
-use Rattle.script_text.specs.declared.script.Script.{Script}
+use Rattle.script_serving.specs.declared.script.Force.{Force}
+use Rattle.script_serving.specs.declared.script.Force.TheVariants.{Auto, Exactly}
+use Rattle.script_serving.specs.declared.script.Line.{Line}
+use Rattle.script_serving.specs.declared.script.LineCommand.{LineCommand}
+use Rattle.script_serving.specs.declared.script.LineCommand.TheVariants as asks
+use Rattle.script_serving.specs.declared.script.Phase.{Phase}
+use Rattle.script_serving.specs.declared.script.Script.{Script}
 use Rattle.script_text.specs.declared.shapes.Plain.{Plain}
 use Rattle.script_text.specs.declared.shapes.Plain.TheVariants as plain
 use Rattle.script_text.specs.declared.shapes.Name.{Name}
@@ -37,7 +37,7 @@ use Rattle.script_text.specs.declared.shapes.Asked.{Asked as Found}
 use Rattle.script_text.specs.declared.shapes.Asked.TheVariants as found
 use Rattle.script_text.specs.declared.lane_lines.Later.{Later}
 use Rattle.script_text.specs.declared.lane_lines.Later.TheVariants as later_read
-use Rattle.script_text.specs.Form.{is_command}
+use Rattle.script_serving.specs.Form.{is_command}
 use Rattle.script_text.specs.Grammar.{Statement, statements_from, lines_of_text, words_in, rest_behind, Ends, has_bytes, SpellsLine, SpellsPhases, SpellsBody, SpellsScript, IsNodesHeader, IsWorkersHeader, IsJoin, phase_of}
 use Rattle.script_text.specs.Refused.{number, node, force, key, nothing, text, query, Shape, shape, Asked, missing, unknown, command, first, second, later, is_number_in, value_of, is_word, command_shapes, fault_shapes, shape_named, is_asked_in_range, asks_query, IsFirstCause, IsRight, RefusesAmong, IsFirstRefused, nodes_said}
 

@@ -5,11 +5,12 @@ ghost use Rattle.script_text.specs.Reading.{shape_of, front_of, plain_command, p
 
 use crate::fault::{LineFault, Refusal};
 use crate::numbers::{force, node, number_u32, number_u64, ticket};
-use crate::script::LineCommand;
+use script_serving::LineCommand;
 use crate::shapes::{Name, Plain};
 use crate::words::{Words, first_words, rest_behind};
 use nrt_base::{Doc, Key, Text};
-use point_history::{FaultKind, FaultPlan, Query};
+use documents::Query;
+use history_entries::{FaultKind, FaultPlan};
 use std::alloc::Global;
 use text_query::{QueryFault, parse_query};
 

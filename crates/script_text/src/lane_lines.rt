@@ -7,7 +7,7 @@ use crate::command::read_command;
 use crate::fault::{LineFault, Refusal};
 use crate::lines::Statement;
 use crate::numbers::{is_digits, lane};
-use crate::script::Line;
+use script_serving::Line;
 use crate::shapes::{Asked, command_asked, is_miscounted};
 use crate::words::{is_printable, is_word, next_word, word_count};
 use nrt_base::{At, LineNo};

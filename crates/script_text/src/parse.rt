@@ -1,14 +1,14 @@
 ghost use Rattle.std.specs.Prelude.{◌≡◌, ◌<◌, ◌+◌, ◌^◌, ◌↔◌, ◌⊎◌, ◌∷◌, codes, length, IfOk, IsErrOf, MatchOption};
 ghost use Rattle.script_text.specs.Grammar.{SpellsScript, statements_from, lines_of_text, words_in};
 ghost use Rattle.script_text.specs.Refused.{IsFirstRefused};
-ghost use Rattle.script_text.specs.Form.{IsInForm};
+ghost use Rattle.script_serving.specs.Form.{IsInForm};
 ghost use Rattle.script_text.specs.Reading.{IsAnswer, IsHeaderRead, IsNodesRead, IsWorkersRead, IsBodyRead, SaysNoWorkers, SaysWorkers};
 
 use crate::fault::{LineFault, ScriptFault};
 use crate::lines::{Statement, line_count, next_statement};
 use crate::numbers::number_u8;
 use crate::phases::read_phases;
-use crate::script::Script;
+use script_serving::Script;
 use crate::words::{is_printable, is_word, next_word, word_count};
 use nrt_base::LineNo;
 use std::alloc::Global;

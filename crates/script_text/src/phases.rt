@@ -5,7 +5,7 @@ ghost use Rattle.script_text.specs.Reading.{ArePhasesRead, TakesLater};
 use crate::fault::ScriptFault;
 use crate::lane_lines::{Later, read_later};
 use crate::lines::next_statement;
-use crate::script::{Line, Phase};
+use script_serving::{Line, Phase};
 use nrt_base::{LaneNo, List, NoMemory};
 use std::alloc::Global;
 use std::mem;

@@ -4,7 +4,7 @@ ghost use Rattle.script_text.specs.Refused.{asked as asked_lem, fault_asked as f
 ghost use Rattle.script_text.specs.Reading.{plain_shape, shape_of, asked_of, NamesFront, IsNamed, IsFaultNamed, late_shapes};
 
 use crate::words::{is_word, next_word};
-use point_history::FaultKind;
+use history_entries::FaultKind;
 
 /// A command that is read without memory.
 #[derive(Clone, Copy)]

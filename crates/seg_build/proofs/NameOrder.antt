@@ -7,9 +7,9 @@ use Rattle.std.specs.List.Sorted.{IsStrictlySortedBy}
 use Rattle.std.specs.declared.cmp.Ordering.{Ordering}
 use Rattle.std.specs.declared.cmp.Ordering.TheVariants.{Less, Equal}
 use Rattle.std.proofs.lemmas.Bool.{cases_lt, eq-eqb}
-use Rattle.nrt_base.specs.Base36.{base36_of}
-use Rattle.nrt_base.specs.Names.{part_name_of, live_name_of}
-use Rattle.nrt_base.specs.declared.composed.SegPart.TheVariants.{Docs, Post, Info}
+use Rattle.file_names.specs.Base36.{base36_of}
+use Rattle.file_names.specs.Names.{part_name_of, live_name_of}
+use Rattle.file_names.specs.declared.composed.SegPart.TheVariants.{Docs, Post, Info}
 use Rattle.segment_infos.specs.declared.infos.SegRecord.{SegRecord}
 use Rattle.segment_infos.specs.Files.{live_files, files_of_segment}
 use Rattle.seg_reader.specs.declared.parts.SegParts.{SegParts}

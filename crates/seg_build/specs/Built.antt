@@ -1,8 +1,8 @@
 -- What a segment is that was built: its record, its files, and what they show.
 use Rattle.std.specs.Prelude.{◌≡◌, ℕ, ◌<◌, ◌^◌, ◌==◌, ◌↔◌, List, [], ◌∷◌, length, replicate, Bool, true, Option, Some, None, IsSome, if◌then◌else◌}
-use Rattle.nrt_base.specs.Names.{part_name_of, live_name_of}
+use Rattle.file_names.specs.Names.{part_name_of, live_name_of}
 use Rattle.nrt_base.specs.declared.doc.Doc.{Doc}
-use Rattle.nrt_base.specs.declared.composed.SegPart.TheVariants.{Docs, Post, Info}
+use Rattle.file_names.specs.declared.composed.SegPart.TheVariants.{Docs, Post, Info}
 use Rattle.nrt_base.specs.declared.numbers.SegNo.{SegNo}
 use Rattle.codec_frame.specs.Frame.{IsFramed}
 use Rattle.docs_plain.specs.Documents.{documents_wanted}

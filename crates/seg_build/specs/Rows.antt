@@ -1,7 +1,7 @@
 -- The rows that a segment is built from, and the marks of those that are dead.
 use Rattle.std.specs.Prelude.{◌≡◌, List, map, Bool, not}
 use Rattle.nrt_base.specs.declared.doc.Doc.{Doc}
-use Rattle.point_history.specs.Words.{words_of}
+use Rattle.documents.specs.Words.{words_of}
 use Rattle.seg_build.specs.declared.rows.Prepared.{Prepared}
 
 -- the words of a row are those of its text

@@ -7,7 +7,8 @@ ghost use Rattle.seg_build.specs.Built.{record_of, files_of, IsBuilt};
 
 use crate::files::{SegFiles, first_record};
 use bytes::Bytes;
-use nrt_base::{FileName, NoMemory, Share};
+use file_names::FileName;
+use nrt_base::{NoMemory, Share};
 use seg_reader::{SegParts, Segment};
 use std::alloc::{AllocError, Global};
 

@@ -5,7 +5,7 @@ ghost use Rattle.seg_build.specs.Rows.{IsPrepared, docs_of, live_of};
 
 use live_bits::LiveBits;
 use nrt_base::{Doc, List, NoMemory, Share, Word};
-use point_history::words;
+use documents::words;
 use postings_plain::TermRow;
 use std::alloc::{AllocError, Global};
 

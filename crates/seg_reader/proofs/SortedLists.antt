@@ -13,7 +13,7 @@ use Rattle.std.proofs.lemmas.Slice.Eq.{bytes_eq-Decides}
 use Rattle.std.proofs.lemmas.Map.Keys.{sorted_from_all_adjacent, IsDistinct-from_apart, IsDistinct-IsPermutation, apart_from_distinct}
 use Rattle.nrt_base.specs.declared.doc.Doc.{Doc}
 use Rattle.segment_infos.proofs.SortedLists.{one_sorted_list}
-use Rattle.point_history.specs.Documents.{key_cmp, IsAscending}
+use Rattle.documents.specs.Documents.{key_cmp, IsAscending}
 use Rattle.seg_reader.specs.Shown.{Shown, live_documents, IsInKeyOrder, AreLiveDocuments}
 
 abbrev by_key : Doc → Doc → Ordering

@@ -3,7 +3,7 @@ use Rattle.std.specs.Prelude.{◌≡◌, ℕ, List, Bool, map}
 use Rattle.std.specs.List.{filter, zip, flat_map}
 use Rattle.std.specs.List.Sorted.{IsPermutation, IsSortedByKey}
 use Rattle.nrt_base.specs.declared.doc.Doc.{Doc}
-use Rattle.point_history.specs.Documents.{key_cmp}
+use Rattle.documents.specs.Documents.{key_cmp}
 use Rattle.postings_plain.specs.Postings.{Entry}
 
 -- the document of each row, which rows are live, and the postings

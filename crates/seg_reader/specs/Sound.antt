@@ -1,7 +1,7 @@
 -- Sound segments: the postings are those of the documents.
 use Rattle.std.specs.Prelude.{List, map}
 use Rattle.nrt_base.specs.declared.doc.Doc.{Doc}
-use Rattle.point_history.specs.Words.{words_of}
+use Rattle.documents.specs.Words.{words_of}
 use Rattle.postings_plain.specs.declared.row.TermRow.{TermRow}
 use Rattle.postings_plain.specs.Inverting.{AreEntriesOf}
 use Rattle.seg_reader.specs.Shown.{Shown}

@@ -2,7 +2,7 @@
 
 ghost use Rattle.std.specs.Prelude.{◌≡◌, List};
 ghost use Rattle.nrt_base.specs.declared.doc.Doc.{Doc};
-ghost use Rattle.point_history.specs.Documents.{IsAscending};
+ghost use Rattle.documents.specs.Documents.{IsAscending};
 ghost use Rattle.disk_model.specs.Disk.{Name, Content};
 ghost use Rattle.segment_infos.specs.declared.infos.SegRecord.{SegRecord};
 ghost use Rattle.segment_infos.specs.declared.infos.Infos.{Infos};

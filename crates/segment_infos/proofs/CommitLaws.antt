@@ -8,11 +8,11 @@ use Rattle.std.proofs.lemmas.Bool.{cases_lt}
 use Rattle.std.proofs.lemmas.List.{append_cancel_left, append-nil}
 use Rattle.std.proofs.lemmas.List.Elements.{All-append, All-cons, Contains-append_left, Contains-append_right}
 use Rattle.std.proofs.lemmas.Option.{same_Some}
-use Rattle.nrt_base.specs.Base36.{base36_value, base36_of, SpellsBase36}
-use Rattle.nrt_base.specs.Names.{is_commit_number, is_commit_name, commit_number, commit_name_of, is_pending_name, pending_number, pending_name_of}
-use Rattle.nrt_base.specs.declared.radix.Base36Fault.{Base36Fault}
-use Rattle.nrt_base.proofs.Base36Lemmas.{base36_spells, only_spelling}
-use Rattle.nrt_base.proofs.NameLaws.{commit_name_only, commit_name_is_one, commit_number-commit_name, pending_name_only, pending_name_is_one, pending_number-pending_name}
+use Rattle.file_names.specs.Base36.{base36_value, base36_of, SpellsBase36}
+use Rattle.file_names.specs.Names.{is_commit_number, is_commit_name, commit_number, commit_name_of, is_pending_name, pending_number, pending_name_of}
+use Rattle.file_names.specs.declared.radix.Base36Fault.{Base36Fault}
+use Rattle.file_names.proofs.Base36Lemmas.{base36_spells, only_spelling}
+use Rattle.file_names.proofs.NameLaws.{commit_name_only, commit_name_is_one, commit_number-commit_name, pending_name_only, pending_name_is_one, pending_number-pending_name}
 use Rattle.segment_infos.specs.Commits.{number_of_commit, number_of_pending, commit_numbers, pending_numbers, IsGreatest, number_after, IsNext}
 
 -- ---- the digits of a commit's number

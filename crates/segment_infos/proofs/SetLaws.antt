@@ -12,10 +12,10 @@ use Rattle.std.specs.declared.cmp.Ordering.{Ordering}
 use Rattle.std.specs.Prelude.{◌==◌}
 use Rattle.std.specs.List.{All}
 use Rattle.std.proofs.lemmas.List.Elements.{All-append, All-cons, All-nil, All-contains, Contains-get_or}
-use Rattle.nrt_base.specs.Names.{part_name_of, live_name_of, is_commit_name, is_pending_name}
-use Rattle.nrt_base.specs.declared.composed.SegPart.{SegPart}
-use Rattle.nrt_base.specs.declared.composed.SegPart.TheVariants.{Docs, Post, Info}
-use Rattle.nrt_base.proofs.NameLaws.{part_name_not_commit, part_name_not_pending, live_name_not_commit, live_name_not_pending}
+use Rattle.file_names.specs.Names.{part_name_of, live_name_of, is_commit_name, is_pending_name}
+use Rattle.file_names.specs.declared.composed.SegPart.{SegPart}
+use Rattle.file_names.specs.declared.composed.SegPart.TheVariants.{Docs, Post, Info}
+use Rattle.file_names.proofs.NameLaws.{part_name_not_commit, part_name_not_pending, live_name_not_commit, live_name_not_pending}
 use Rattle.segment_infos.specs.declared.infos.SegRecord.{SegRecord}
 use Rattle.segment_infos.specs.declared.infos.Infos.{Infos}
 use Rattle.segment_infos.proofs.SortedLists.{one_sorted_list}

@@ -1,7 +1,7 @@
 -- The numbers of the commits that a directory's names show.
 use Rattle.std.specs.Prelude.{◌≡◌, ℕ, ◌+◌, ◌≤◌, List, [], Option, Some, None, if◌then◌else◌}
 use Rattle.std.specs.List.{All, Contains, filter_map}
-use Rattle.nrt_base.specs.Names.{is_commit_name, commit_number, is_pending_name, pending_number}
+use Rattle.file_names.specs.Names.{is_commit_name, commit_number, is_pending_name, pending_number}
 
 -- the number of a commit's name, and nothing for any other name
 abbrev pub number_of_commit : List ℕ → Option ℕ

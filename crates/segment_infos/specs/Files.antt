@@ -4,8 +4,8 @@ use Rattle.std.specs.List.{Contains, flat_map}
 use Rattle.std.specs.List.Sorted.{IsStrictlySortedBy}
 use Rattle.std.specs.Ordering.{nat_cmp}
 use Rattle.std.specs.Cmp.Lexicographic.{slice_cmp}
-use Rattle.nrt_base.specs.Names.{part_name_of, live_name_of}
-use Rattle.nrt_base.specs.declared.composed.SegPart.TheVariants.{Docs, Post, Info}
+use Rattle.file_names.specs.Names.{part_name_of, live_name_of}
+use Rattle.file_names.specs.declared.composed.SegPart.TheVariants.{Docs, Post, Info}
 use Rattle.segment_infos.specs.declared.infos.SegRecord.{SegRecord}
 use Rattle.segment_infos.specs.declared.infos.Infos.{Infos}
 

@@ -1,10 +1,10 @@
 ghost use Rattle.std.specs.Prelude.{◌≡◌, ◌<◌, ◌≤◌, ◌^◌, ◌++◌, ◌&&◌, length, drop, nat_eq, Some, None, IfSome, if◌then◌else◌};
 ghost use Rattle.std.specs.List.{starts_with};
-ghost use Rattle.nrt_base.specs.Base36.{base36_value};
-ghost use Rattle.nrt_base.specs.Names.{is_commit_number};
+ghost use Rattle.file_names.specs.Base36.{base36_value};
+ghost use Rattle.file_names.specs.Names.{is_commit_number};
 ghost use Rattle.segment_infos.specs.Commits.{number_of_commit, number_of_pending, commit_numbers, pending_numbers, IsGreatest, IsNext};
 
-use nrt_base::{FileName, read_base36};
+use file_names::{FileName, read_base36};
 
 /// Commit numbers are below this.
 const COMMIT_NUMBERS: u64 = 1 << 62;

@@ -3,7 +3,8 @@ ghost use Rattle.std.specs.List.{flat_map};
 ghost use Rattle.segment_infos.specs.Files.{files_of_segment, AreFilesOf};
 
 use crate::infos::{Infos, SegRecord};
-use nrt_base::{FileName, NoMemory, SegPart, live_name, part_name};
+use file_names::{FileName, SegPart, live_name, part_name};
+use nrt_base::NoMemory;
 use std::alloc::Global;
 
 // Puts the names of a segment's files at the end.

@@ -2,7 +2,7 @@
 
 ghost use Rattle.std.specs.Prelude.{◌≡◌, ◌↔◌, ℕ, ◌<◌, ◌^◌, List, false};
 ghost use Rattle.std.specs.List.{All, Contains};
-ghost use Rattle.nrt_base.specs.Names.{commit_name_of, pending_name_of, is_commit_name, is_pending_name};
+ghost use Rattle.file_names.specs.Names.{commit_name_of, pending_name_of, is_commit_name, is_pending_name};
 ghost use Rattle.segment_infos.specs.declared.info.SegInfo.{SegInfo};
 ghost use Rattle.segment_infos.specs.declared.infos.Infos.{Infos};
 ghost use Rattle.segment_infos.specs.SegmentInfo.{SpellsSegmentInfo, IsInfoFile};

@@ -5,9 +5,8 @@ use super::*;
 use crate::encoding::id_of;
 use body_forms::ReadFault;
 use codec_frame::{FileFault, FrameFault, write_footer, write_index_header};
-use nrt_base::{
-    Gen, List, NoMemory, SegNo, SegPart, Share, Version, commit_name, part_name, pending_name,
-};
+use file_names::{SegPart, commit_name, part_name, pending_name};
+use nrt_base::{Gen, List, NoMemory, SegNo, Share, Version};
 use std::alloc::Global;
 use std::test::Fail;
 

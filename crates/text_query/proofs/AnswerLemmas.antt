@@ -7,9 +7,9 @@ use Rattle.std.specs.Cmp.Lexicographic.{pointwise}
 use Rattle.std.proofs.lemmas.List.Folds.{list_all-append}
 use Rattle.std.proofs.lemmas.Bool.{false≢true}
 use Rattle.std.proofs.lemmas.Bool.Decides.{nat_tests}
-use Rattle.point_history.specs.declared.query.Query as tree
-use Rattle.point_history.specs.Matching.{depth_of, leaves_of, has_form, is_well_formed}
-use Rattle.point_history.specs.Words.{is_alphanumeric, lower, words_of}
+use Rattle.documents.specs.declared.query.Query as tree
+use Rattle.documents.specs.Matching.{depth_of, leaves_of, has_form, is_well_formed}
+use Rattle.documents.specs.Words.{is_alphanumeric, lower, words_of}
 use Rattle.text_query.specs.declared.token.Token.{Token}
 use Rattle.text_query.specs.declared.token.Token.TheVariants as token
 use Rattle.text_query.specs.declared.token.Placed.{Placed}

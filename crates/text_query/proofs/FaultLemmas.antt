@@ -5,8 +5,8 @@ use Rattle.std.specs.List.{list_all, count_by}
 use Rattle.std.proofs.lemmas.Bool.{false≢true}
 use Rattle.std.proofs.lemmas.List.{append-nil, map-append}
 use Rattle.text_query.specs.declared.syntax.State.{State}
-use Rattle.point_history.specs.declared.query.Query.{Query}
-use Rattle.point_history.specs.Matching.{depth_of, leaves_of, is_well_formed}
+use Rattle.documents.specs.declared.query.Query.{Query}
+use Rattle.documents.specs.Matching.{depth_of, leaves_of, is_well_formed}
 use Rattle.text_query.specs.declared.fault.QueryFault.{QueryFault}
 use Rattle.text_query.specs.declared.fault.QueryFault.TheVariants.{Memory, Empty, Syntax, TooDeep, TooMany}
 use Rattle.text_query.specs.declared.token.Token.{Token}

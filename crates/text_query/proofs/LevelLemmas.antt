@@ -1,8 +1,8 @@
 -- How deep a tree is while it is put together.
 use Rattle.std.proofs.Common.{◌≡◌, ◌≢◌, ℕ, zero, suc, ◌+◌, ◌<◌, ◌≤◌, max, List, [], ◌∷◌, ◌++◌, length, reverse, refl, ap, ◌∙◌, sym, subst, arith}
 use Rattle.std.proofs.lemmas.List.{reverse-append}
-use Rattle.point_history.specs.declared.query.Query.{Query, All, Any}
-use Rattle.point_history.specs.Matching.{depth_of}
+use Rattle.documents.specs.declared.query.Query.{Query, All, Any}
+use Rattle.documents.specs.Matching.{depth_of}
 use Rattle.text_query.specs.declared.build.Join.{Join}
 use Rattle.text_query.specs.declared.build.Join.TheVariants.{And, Or}
 use Rattle.text_query.specs.Depths.{deepest_in}

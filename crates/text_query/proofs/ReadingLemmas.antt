@@ -1,8 +1,8 @@
 -- What is put together from the tokens of a query is its tree.
 use Rattle.std.proofs.Common.{◌≡◌, ℕ, zero, suc, ◌+◌, ◌<◌, ◌≤◌, max, List, [], ◌∷◌, ◌++◌, Bool, true, false, Option, Some, None, refl, ap, ◌∙◌, sym, append_assoc, add-one, arith}
 use Rattle.std.proofs.lemmas.List.{append-nil}
-use Rattle.point_history.specs.declared.query.Query.{Query, Word, Phrase, Not}
-use Rattle.point_history.specs.Matching.{depth_of}
+use Rattle.documents.specs.declared.query.Query.{Query, Word, Phrase, Not}
+use Rattle.documents.specs.Matching.{depth_of}
 use Rattle.text_query.specs.declared.build.Level.{Level}
 use Rattle.text_query.specs.declared.token.Token.{Token}
 use Rattle.text_query.specs.declared.token.Token.TheVariants as token

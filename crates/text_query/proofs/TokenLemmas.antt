@@ -5,7 +5,7 @@ use Rattle.std.specs.List.{list_all, take_while}
 use Rattle.std.proofs.lemmas.Bool.{false≢true}
 use Rattle.std.proofs.lemmas.List.{append-nil}
 use Rattle.std.proofs.lemmas.List.Sums.{take_while-cons}
-use Rattle.point_history.specs.Words.{is_alphanumeric, lower, words_of, words_after, with_run}
+use Rattle.documents.specs.Words.{is_alphanumeric, lower, words_of, words_after, with_run}
 use Rattle.text_query.specs.declared.token.Token.TheVariants.{Word}
 use Rattle.text_query.specs.declared.token.Placed.{Placed}
 use Rattle.text_query.specs.Tokens.{is_space, is_quote, run_of, quoted_of, token_of_run, token_of_words, token_of_quote, token_of_byte, token_at, bytes_behind, tokens_from}

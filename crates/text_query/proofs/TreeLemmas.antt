@@ -4,9 +4,9 @@ use Rattle.std.specs.Prelude.{◌&&◌, nat_le}
 use Rattle.std.specs.List.{list_all}
 use denote.Hole.Carrier.{hidden}
 use mathlib.Core.Former.{Count}
-use Rattle.point_history.specs.declared.query.Query.{Query, All, Any, Not, All', Any', Not', Row_of-Query, end_of-Query, more_of-Query, items-the_row-Query, items_hidden-the_row-Query-0}
-use Rattle.point_history.specs.declared.query.Query.TheBlock.{hidden-the_row-Query-1}
-use Rattle.point_history.specs.Matching.{depth_of, deepest, leaves_of, all_leaves, count_parts, has_form, all_have_form}
+use Rattle.documents.specs.declared.query.Query.{Query, All, Any, Not, All', Any', Not', Row_of-Query, end_of-Query, more_of-Query, items-the_row-Query, items_hidden-the_row-Query-0}
+use Rattle.documents.specs.declared.query.Query.TheBlock.{hidden-the_row-Query-1}
+use Rattle.documents.specs.Matching.{depth_of, deepest, leaves_of, all_leaves, count_parts, has_form, all_have_form}
 use Rattle.text_query.specs.Depths.{deepest_in}
 
 -- the leaves of several queries

@@ -1,8 +1,8 @@
 -- What is answered to the text of a query.
 use Rattle.std.specs.Prelude.{ℕ, ◌+◌, ◌-◌, ◌<◌, ◌≤◌, max, List, [], ◌∷◌, Bool, IsTrue, not, Result, Ok, Err}
 use Rattle.std.specs.List.{list_all}
-use Rattle.point_history.specs.declared.query.Query.{Query}
-use Rattle.point_history.specs.Matching.{depth_of, leaves_of}
+use Rattle.documents.specs.declared.query.Query.{Query}
+use Rattle.documents.specs.Matching.{depth_of, leaves_of}
 use Rattle.text_query.specs.declared.fault.QueryFault.{QueryFault}
 use Rattle.text_query.specs.declared.fault.QueryFault.TheVariants.{Memory, Empty, Syntax, TooDeep, TooMany}
 use Rattle.text_query.specs.declared.token.Token.{Token}

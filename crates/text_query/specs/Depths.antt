@@ -1,7 +1,7 @@
 -- How deep several queries are.
 use Rattle.std.specs.Prelude.{ℕ, max, List, [], ◌∷◌}
-use Rattle.point_history.specs.declared.query.Query.{Query}
-use Rattle.point_history.specs.Matching.{depth_of}
+use Rattle.documents.specs.declared.query.Query.{Query}
+use Rattle.documents.specs.Matching.{depth_of}
 
 -- the depth of the deepest, or 0 where there is none
 abbrev pub deepest_in : List Query → ℕ

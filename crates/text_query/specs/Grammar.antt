@@ -1,6 +1,6 @@
 -- The grammar of queries: how tokens are read, and the tree that a reading gives.
 use Rattle.std.specs.Prelude.{◌≡◌, ℕ, List, [], ◌∷◌, ◌++◌}
-use Rattle.point_history.specs.declared.query.Query as tree
+use Rattle.documents.specs.declared.query.Query as tree
 use Rattle.text_query.specs.declared.token.Token.{Token}
 use Rattle.text_query.specs.declared.token.Token.TheVariants as token
 use Rattle.text_query.specs.Tokens.{tokens_of, kinds_of}

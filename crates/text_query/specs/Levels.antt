@@ -1,6 +1,6 @@
 -- The tree of a query that is put together token by token.
 use Rattle.std.specs.Prelude.{ℕ, zero, suc, ◌+◌, max, List, [], ◌∷◌, ◌++◌, reverse}
-use Rattle.point_history.specs.declared.query.Query.{Query, Word, Phrase, Not}
+use Rattle.documents.specs.declared.query.Query.{Query, Word, Phrase, Not}
 use Rattle.text_query.specs.declared.build.Join.{Join}
 use Rattle.text_query.specs.declared.build.Join.TheVariants.{And, Or}
 use Rattle.text_query.specs.declared.build.Level.{Level}

@@ -1,7 +1,7 @@
 -- The tokens of a text.
 use Rattle.std.specs.Prelude.{ℕ, ◌+◌, zero, suc, List, [], ◌∷◌, length, map, take_while, codes, Bool, true, false, not, ◌==◌, nat_eq, nat_lt, if◌then◌else◌}
 use Rattle.std.specs.Cmp.Lexicographic.{pointwise}
-use Rattle.point_history.specs.Words.{is_alphanumeric, lower, words_of}
+use Rattle.documents.specs.Words.{is_alphanumeric, lower, words_of}
 use Rattle.text_query.specs.declared.token.Token.{Token}
 use Rattle.text_query.specs.declared.token.Token.TheVariants.{Word, Phrase, Open, Close, And, Or, Not, Stray}
 use Rattle.text_query.specs.declared.token.Placed.{Placed}

@@ -1,6 +1,6 @@
 ghost use Rattle.std.specs.Prelude.{◌≡◌, ◌≢◌, ◌+◌, ◌<◌, ◌≤◌, ◌++◌, ◌∷◌, [], length, IfOk, OnOk, MatchOption};
-ghost use Rattle.point_history.specs.declared.query.Query.{Query};
-ghost use Rattle.point_history.specs.Matching.{depth_of};
+ghost use Rattle.documents.specs.declared.query.Query.{Query};
+ghost use Rattle.documents.specs.Matching.{depth_of};
 ghost use Rattle.text_query.specs.Depths.{deepest_in};
 ghost use Rattle.text_query.specs.Grammar.{all_of, any_of};
 ghost use Rattle.text_query.specs.Levels.{negated_of, joined_of, empty_level, with_operand as with_operand_lem, with_or as with_or_lem, level_tree, level_depth, closed_level, levels_of, levels_behind, levels_depth};
@@ -10,7 +10,7 @@ ghost use Rattle.text_query.specs.Tokens.{kinds_of};
 
 use crate::token::{Placed, Token};
 use nrt_base::{Boxed, List, NoMemory};
-use point_history::Query;
+use documents::Query;
 use std::alloc::Global;
 use std::marker::Model;
 
@@ -27,9 +27,9 @@ struct Part {
 impl Model for Part {
     ghost use Rattle.std.specs.Prelude.{◌≡◌, ◌≤◌};
     ghost use Rattle.std.specs.Coded.{codes};
-    ghost use Rattle.point_history.specs.contracts.query.Query as tree;
-    ghost use Rattle.point_history.specs.declared.query.Query.{Query};
-    ghost use Rattle.point_history.specs.Matching.{depth_of};
+    ghost use Rattle.documents.specs.contracts.query.Query as tree;
+    ghost use Rattle.documents.specs.declared.query.Query.{Query};
+    ghost use Rattle.documents.specs.Matching.{depth_of};
 
     ghost Value = { Query };
 
@@ -96,8 +96,8 @@ struct Parts {
 impl Model for Parts {
     ghost use Rattle.std.specs.Prelude.{◌≡◌, ◌≤◌, List as Items};
     ghost use Rattle.std.specs.Coded.{codes};
-    ghost use Rattle.point_history.specs.contracts.query.Query as tree;
-    ghost use Rattle.point_history.specs.declared.query.Query.{Query};
+    ghost use Rattle.documents.specs.contracts.query.Query as tree;
+    ghost use Rattle.documents.specs.declared.query.Query.{Query};
     ghost use Rattle.text_query.specs.Depths.{deepest_in};
 
     ghost Value = { Items Query };

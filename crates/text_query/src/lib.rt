@@ -11,4 +11,4 @@ mod token;
 
 pub use fault::QueryFault;
 pub use parse::{one_tree, parse_query};
-pub use point_history::words;
+pub use documents::words;

@@ -1,6 +1,6 @@
 ghost use Rattle.std.specs.Prelude.{◌≡◌, ◌⊎◌, ℕ, List, IfOk, IfErr, IsTrue};
-ghost use Rattle.point_history.specs.declared.query.Query.{Query};
-ghost use Rattle.point_history.specs.Matching.{is_well_formed};
+ghost use Rattle.documents.specs.declared.query.Query.{Query};
+ghost use Rattle.documents.specs.Matching.{is_well_formed};
 ghost use Rattle.text_query.specs.declared.fault.QueryFault.{QueryFault};
 ghost use Rattle.text_query.specs.Answers.{is_blank as is_blank_lem, Parses, IsFault, IsAnswer};
 ghost use Rattle.text_query.specs.Grammar.{SpellsQuery};
@@ -9,7 +9,7 @@ use crate::build::build;
 use crate::fault::QueryFault;
 use crate::syntax::{check_syntax, leaf_count, most_open};
 use crate::token::tokens;
-use point_history::Query;
+use documents::Query;
 use std::alloc::Global;
 
 /// The most parentheses that may be open at once.

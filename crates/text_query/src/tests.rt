@@ -1,6 +1,6 @@
 use crate::{QueryFault, one_tree, parse_query, words};
 use nrt_base::List;
-use point_history::Query;
+use documents::Query;
 use std::alloc::{AllocError, Global};
 use std::test::Fail;
 

@@ -3,7 +3,7 @@ use bytes::Bytes;
 use disk_memory::MemDir;
 use disk_model::{Dir, FaultDir};
 use file_deleter::{FileDeleter, HoldFault};
-use nrt_base::{FileName, commit_name};
+use file_names::{FileName, commit_name};
 use std::alloc::Global;
 use std::test::Fail;
 

@@ -8,9 +8,8 @@ use bytes::Bytes;
 use codec_frame::{FileFault, FrameFault};
 use disk_memory::MemDir;
 use disk_model::{Dir, FaultDir};
-use nrt_base::{
-    FileName, Gen, List, NoMemory, SegNo, SegPart, Version, commit_name, part_name, pending_name,
-};
+use file_names::{FileName, SegPart, commit_name, part_name, pending_name};
+use nrt_base::{Gen, List, NoMemory, SegNo, Version};
 use segment_infos::{Infos, SegRecord, encode};
 use std::alloc::Global;
 use std::test::Fail;

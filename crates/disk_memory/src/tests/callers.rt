@@ -5,7 +5,7 @@ ghost use Rattle.nrt_base.specs.Causes.{Rose};
 
 use bytes::Bytes;
 use disk_model::{Dir, DirFault};
-use nrt_base::FileName;
+use file_names::FileName;
 
 /// Writes a file under another name first, so that its own name never shows a part of it.
 pub fn save_whole<D: Dir>(

@@ -3,7 +3,7 @@ use super::model::{Kept, Row};
 use super::{bytes, named};
 use crate::MemDir;
 use disk_model::{Dir, DirFault, FaultDir};
-use nrt_base::FileName;
+use file_names::FileName;
 use std::alloc::Global;
 use std::test::Fail;
 

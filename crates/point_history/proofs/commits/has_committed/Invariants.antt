@@ -1,6 +1,6 @@
 use Rattle.std.proofs.Common.{◌≡◌, take}
 use Rattle.std.specs.Prelude.{reverse}
-use Rattle.point_history.specs.Commits.{has_committed}
+use Rattle.history_entries.specs.Commits.{has_committed}
 use Rattle.point_history.proofs.commits.has_committed.Given as goal
 
 abbrev pub invariant-loop-entry : goal.invariant-loop-entry

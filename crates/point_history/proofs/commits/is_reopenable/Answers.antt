@@ -1,7 +1,7 @@
 use Rattle.std.proofs.Common.{take, arith}
 use Rattle.std.specs.Prelude.{reverse}
 use Rattle.std.proofs.lemmas.Grind.{common_steps}
-use Rattle.point_history.specs.Commits.{reopenable_versions}
+use Rattle.history_entries.specs.Commits.{reopenable_versions}
 use Rattle.point_history.proofs.commits.is_reopenable.Goals as goal
 
 pub loop-entry-preserved : goal.loop-entry-preserved

@@ -1,8 +1,8 @@
 use Rattle.std.proofs.Common.{◌≡◌, take}
 use Rattle.std.specs.Prelude.{reverse}
-use Rattle.point_history.specs.Nodes.{primary_of}
-use Rattle.point_history.specs.Lines.{commit_in_flight}
-use Rattle.point_history.specs.Commits.{reopenable_versions}
+use Rattle.history_entries.specs.Nodes.{primary_of}
+use Rattle.history_entries.specs.Lines.{commit_in_flight}
+use Rattle.history_entries.specs.Commits.{reopenable_versions}
 use Rattle.std.specs.Prelude.{◌==◌}
 use Rattle.std.specs.List.{list_any}
 use Rattle.point_history.proofs.commits.is_reopenable.Given as goal

@@ -1,7 +1,7 @@
 use Rattle.std.proofs.Common.{◌≡◌, take}
 use Rattle.std.specs.Prelude.{reverse}
-use Rattle.point_history.specs.Nodes.{primary_of, version_of}
-use Rattle.point_history.specs.Commits.{was_searched_since}
+use Rattle.history_entries.specs.Nodes.{primary_of, version_of}
+use Rattle.history_entries.specs.Commits.{was_searched_since}
 use Rattle.point_history.proofs.commits.was_searched_since.Given as goal
 
 abbrev pub invariant-loop-entry : goal.invariant-loop-entry

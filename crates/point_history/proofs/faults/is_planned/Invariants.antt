@@ -1,6 +1,6 @@
 use Rattle.std.proofs.Common.{◌≡◌, take}
 use Rattle.std.specs.Prelude.{reverse}
-use Rattle.point_history.specs.Faults.{is_planned}
+use Rattle.history_entries.specs.Faults.{is_planned}
 use Rattle.point_history.proofs.faults.is_planned.Given as goal
 
 abbrev pub invariant-loop-entry : goal.invariant-loop-entry

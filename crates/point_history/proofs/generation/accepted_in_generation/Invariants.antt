@@ -1,6 +1,6 @@
 use Rattle.std.proofs.Common.{◌≡◌, ◌≤◌, take}
 use Rattle.std.specs.Prelude.{reverse}
-use Rattle.point_history.specs.Points.{accepted_in_generation}
+use Rattle.history_entries.specs.Points.{accepted_in_generation}
 use Rattle.point_history.proofs.generation.accepted_in_generation.Given as goal
 
 abbrev pub invariant-loop-entry : goal.invariant-loop-entry

@@ -1,6 +1,6 @@
 use Rattle.std.proofs.Common.{◌↔◌, IsTrue, reverse, subst, sym}
-use Rattle.point_history.specs.declared.entry.Event.{Event}
-use Rattle.point_history.specs.Legal.{Keeps}
+use Rattle.history_entries.specs.declared.entry.Event.{Event}
+use Rattle.history_entries.specs.Legal.{Keeps}
 use Rattle.point_history.proofs.legality.keeps.Goals as goal
 
 pub returns-in_ok-may_answer-in-Answered-clause-rule : goal.returns-in_ok-may_answer-in-Answered-clause-rule

@@ -1,6 +1,6 @@
 use Rattle.std.proofs.Common.{◌≡◌, ◌≤◌, length, take}
 use Rattle.std.specs.Prelude.{reverse}
-use Rattle.point_history.specs.Lines.{before_start}
+use Rattle.history_entries.specs.Lines.{before_start}
 use Rattle.point_history.proofs.lines.before_start.Given as goal
 
 abbrev pub invariant-loop-i : goal.invariant-loop-i

@@ -1,6 +1,6 @@
 use Rattle.std.proofs.Common.{◌≡◌, take}
 use Rattle.std.specs.Prelude.{reverse}
-use Rattle.point_history.specs.Lines.{commit_in_flight}
+use Rattle.history_entries.specs.Lines.{commit_in_flight}
 use Rattle.point_history.proofs.lines.commit_in_flight.Given as goal
 
 abbrev pub invariant-loop-entry : goal.invariant-loop-entry

@@ -1,6 +1,6 @@
 use Rattle.std.proofs.Common.{◌≡◌, take}
 use Rattle.std.specs.Prelude.{reverse}
-use Rattle.point_history.specs.Lines.{is_answered}
+use Rattle.history_entries.specs.Lines.{is_answered}
 use Rattle.point_history.proofs.lines.is_answered.Given as goal
 
 abbrev pub invariant-loop-entry : goal.invariant-loop-entry

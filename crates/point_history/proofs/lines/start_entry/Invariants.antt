@@ -1,6 +1,6 @@
 use Rattle.std.proofs.Common.{◌≡◌, take}
 use Rattle.std.specs.Prelude.{reverse}
-use Rattle.point_history.specs.Lines.{start_entry}
+use Rattle.history_entries.specs.Lines.{start_entry}
 use Rattle.std.specs.Option.{option_copied}
 use Rattle.point_history.proofs.lines.start_entry.Given as goal
 

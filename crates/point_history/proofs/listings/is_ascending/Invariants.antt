@@ -1,5 +1,5 @@
 use Rattle.std.proofs.Common.{◌≡◌, ◌-◌, drop}
-use Rattle.nrt_base.specs.Names.{is_ascending}
+use Rattle.file_names.specs.Names.{is_ascending}
 use Rattle.point_history.proofs.listings.is_ascending.Given as goal
 
 abbrev pub invariant-loop-i : goal.invariant-loop-i

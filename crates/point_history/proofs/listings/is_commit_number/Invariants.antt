@@ -1,7 +1,7 @@
 use Rattle.std.proofs.Common.{◌≡◌, ◌<◌, ◌^◌, drop}
 use Rattle.std.specs.Prelude.{nat_lt, ◌&&◌}
 use Rattle.std.specs.List.{list_all}
-use Rattle.nrt_base.specs.Base36.{is_base36_digit, value_after}
+use Rattle.file_names.specs.Base36.{is_base36_digit, value_after}
 use Rattle.point_history.proofs.listings.is_commit_number.Given as goal
 
 abbrev pub invariant-loop-b : goal.invariant-loop-b

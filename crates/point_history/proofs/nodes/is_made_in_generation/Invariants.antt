@@ -1,6 +1,6 @@
 use Rattle.std.proofs.Common.{◌≡◌, take}
 use Rattle.std.specs.Prelude.{reverse}
-use Rattle.point_history.specs.Nodes.{is_made_in_generation}
+use Rattle.history_entries.specs.Nodes.{is_made_in_generation}
 use Rattle.point_history.proofs.nodes.is_made_in_generation.Given as goal
 
 abbrev pub invariant-loop-entry : goal.invariant-loop-entry

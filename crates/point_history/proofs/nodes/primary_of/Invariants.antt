@@ -1,6 +1,6 @@
 use Rattle.std.proofs.Common.{◌≡◌, ◌≤◌, take}
 use Rattle.std.specs.Prelude.{reverse}
-use Rattle.point_history.specs.Nodes.{primary_of, primary_crashes}
+use Rattle.history_entries.specs.Nodes.{primary_of, primary_crashes}
 use Rattle.point_history.proofs.nodes.primary_of.Given as goal
 
 abbrev pub invariant-loop-entry : goal.invariant-loop-entry

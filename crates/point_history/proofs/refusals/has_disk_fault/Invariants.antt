@@ -1,8 +1,8 @@
 use Rattle.std.proofs.Common.{◌≡◌, take}
 use Rattle.std.specs.Prelude.{reverse}
-use Rattle.point_history.specs.declared.cause.FaultKind.TheVariants.{Disk, Stop}
-use Rattle.point_history.specs.Faults.{same_kind, has_fault}
-use Rattle.point_history.specs.Rules.{is_node_of, is_source_of}
+use Rattle.history_entries.specs.declared.cause.FaultKind.TheVariants.{Disk, Stop}
+use Rattle.history_entries.specs.Faults.{same_kind, has_fault}
+use Rattle.history_entries.specs.Rules.{is_node_of, is_source_of}
 use Rattle.std.specs.Prelude.{◌||◌}
 use Rattle.point_history.proofs.refusals.has_disk_fault.Given as goal
 

@@ -1,6 +1,6 @@
 use Rattle.std.proofs.Common.{◌≡◌, take}
 use Rattle.std.specs.Prelude.{reverse}
-use Rattle.point_history.specs.Rules.{has_switched}
+use Rattle.history_entries.specs.Rules.{has_switched}
 use Rattle.point_history.proofs.refusals.has_switched.Given as goal
 
 abbrev pub invariant-loop-entry : goal.invariant-loop-entry

@@ -1,7 +1,7 @@
 use Rattle.std.proofs.Common.{◌≡◌, take}
 use Rattle.std.specs.Prelude.{reverse}
-use Rattle.point_history.specs.Nodes.{crashes}
-use Rattle.point_history.specs.Tickets.{last_opened}
+use Rattle.history_entries.specs.Nodes.{crashes}
+use Rattle.history_entries.specs.Tickets.{last_opened}
 use Rattle.std.specs.Option.{MatchOption}
 use Rattle.std.specs.Prelude.{Some, None}
 use Rattle.point_history.proofs.tickets.last_opened.Given as goal

@@ -1,6 +1,6 @@
 use Rattle.std.proofs.Common.{◌≡◌, ◌≤◌, take}
 use Rattle.std.specs.Prelude.{reverse}
-use Rattle.point_history.specs.Points.{operations_at}
+use Rattle.history_entries.specs.Points.{operations_at}
 use Rattle.point_history.specs.Origins.{operations_from, size_of}
 use Rattle.point_history.proofs.written.origin_of.Given as goal
 

@@ -2,7 +2,7 @@ use Rattle.std.proofs.Common.{◌≡◌, ℕ, drop, Some}
 use Rattle.std.specs.Prelude.{◌&&◌, ◌||◌, slice_get}
 use Rattle.std.specs.List.{list_any, list_all}
 use Rattle.nrt_base.specs.declared.doc.Doc.{Doc}
-use Rattle.point_history.specs.Matching.{matches_doc}
+use Rattle.documents.specs.Matching.{matches_doc}
 use Rattle.query_eval.specs.Cursor.{all_answer, any_answers}
 use Rattle.query_eval.proofs.building.+building.Given as goal
 

@@ -1,8 +1,8 @@
 use Rattle.std.proofs.Common.{ℕ, ◌+◌, List, [], ◌∷◌, ◌++◌, take, refl, ap, ◌∙◌, arith}
 use Rattle.std.proofs.lemmas.Option.{slice_get_read}
 use Rattle.postings_plain.specs.Postings.{Hit}
-use Rattle.point_history.specs.Words.{words_of}
-use Rattle.point_history.specs.Matching.{stands_in}
+use Rattle.documents.specs.Words.{words_of}
+use Rattle.documents.specs.Matching.{stands_in}
 use Rattle.query_eval.proofs.PlaceLemmas.{placed_more, phrase_lacks, phrase_placed, whole}
 use Rattle.query_eval.proofs.building.phrase_cursor.Goals as goal
 

@@ -1,7 +1,7 @@
 use Rattle.std.proofs.Common.{List, ℕ, ap, sym, ◌∙◌}
 use Rattle.std.specs.List.{list_any}
-use Rattle.point_history.specs.Words.{words_of}
-use Rattle.point_history.specs.Matching.{same_bytes}
+use Rattle.documents.specs.Words.{words_of}
+use Rattle.documents.specs.Matching.{same_bytes}
 use Rattle.query_eval.proofs.RowLemmas.{entry_rows, no_entry_rows}
 use Rattle.query_eval.proofs.building.word_cursor.Goals as goal
 

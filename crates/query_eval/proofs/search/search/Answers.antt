@@ -1,5 +1,5 @@
 use Rattle.std.proofs.Common.{ℕ, ◌+◌, Option, refl, sym, subst, ◌∙◌, arith}
-use Rattle.point_history.specs.Matching.{matches_doc}
+use Rattle.documents.specs.Matching.{matches_doc}
 use Rattle.query_eval.specs.Moves.{Moves}
 use Rattle.query_eval.specs.Cursor.{answers}
 use Rattle.query_eval.specs.Keys.{Tally}

@@ -1,5 +1,5 @@
 use Rattle.std.proofs.Common.{◌≡◌, ◌-◌, ◌^◌, ◌≤◌, length}
-use Rattle.point_history.specs.Matching.{matches_doc}
+use Rattle.documents.specs.Matching.{matches_doc}
 use Rattle.query_eval.specs.Moves.{StaysFrom}
 use Rattle.query_eval.specs.Cursor.{answers}
 use Rattle.query_eval.proofs.SearchLemmas.{IsCounted}

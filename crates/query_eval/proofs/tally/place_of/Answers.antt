@@ -1,7 +1,7 @@
 use Rattle.std.proofs.Common.{◌≡◌, ◌-◌, ◌<◌, ◌≤◌, ℕ, List, length, true, false, sym, ap, ◌∙◌, arith, rules}
 use Rattle.std.proofs.lemmas.Grind.{common_steps}
 use Rattle.std.specs.Ordering.{is_lt}
-use Rattle.point_history.specs.Documents.{key_cmp}
+use Rattle.documents.specs.Documents.{key_cmp}
 use Rattle.query_eval.proofs.KeyLemmas.{place_of-le}
 use Rattle.query_eval.proofs.BehindLemmas.{place_stops, place_behind}
 use Rattle.query_eval.proofs.tally.place_of.Goals as goal

@@ -1,6 +1,6 @@
 use Rattle.std.proofs.Common.{◌≡◌, ◌++◌, drop}
 use Rattle.std.specs.List.{flat_map}
-use Rattle.point_history.specs.Texts.{text_of_entry, text_of}
+use Rattle.report_text.specs.Texts.{text_of_entry, text_of}
 use Rattle.report_text.proofs.lines.report.Given as goal
 
 abbrev pub invariant-loop-entry : goal.invariant-loop-entry

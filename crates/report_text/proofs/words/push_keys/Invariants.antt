@@ -1,5 +1,5 @@
 use Rattle.std.proofs.Common.{◌≡◌, ◌++◌, drop}
-use Rattle.point_history.specs.Texts.{all_spaced}
+use Rattle.report_text.specs.Texts.{all_spaced}
 use Rattle.report_text.proofs.words.push_keys.Given as goal
 
 abbrev pub invariant-loop-key : goal.invariant-loop-key

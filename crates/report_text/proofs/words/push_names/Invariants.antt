@@ -1,5 +1,5 @@
 use Rattle.std.proofs.Common.{◌≡◌, ◌++◌, drop}
-use Rattle.point_history.specs.Texts.{all_spaced}
+use Rattle.report_text.specs.Texts.{all_spaced}
 use Rattle.report_text.proofs.words.push_names.Given as goal
 
 abbrev pub invariant-loop-name : goal.invariant-loop-name

@@ -1,6 +1,6 @@
 use Rattle.std.proofs.Common.{◌≡◌, ◌++◌, drop}
 use Rattle.std.specs.List.{flat_map}
-use Rattle.point_history.specs.Texts.{spaced}
+use Rattle.report_text.specs.Texts.{spaced}
 use Rattle.report_text.proofs.words.push_numbers.Given as goal
 
 abbrev pub invariant-loop-number : goal.invariant-loop-number

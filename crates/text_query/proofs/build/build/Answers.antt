@@ -4,8 +4,8 @@ use Rattle.std.proofs.lemmas.List.{map-append}
 use Rattle.std.specs.Iterator.{Yields}
 use Rattle.std.specs.Vec.Iter.{into_iter_items, into_iter_steps}
 use Rattle.std.specs.declared.vec.IntoIter.{IntoIter}
-use Rattle.point_history.specs.declared.query.Query.{Query}
-use Rattle.point_history.specs.Matching.{depth_of}
+use Rattle.documents.specs.declared.query.Query.{Query}
+use Rattle.documents.specs.Matching.{depth_of}
 use Rattle.text_query.specs.declared.token.Token.{Token}
 use Rattle.text_query.specs.declared.token.Placed.{Placed}
 use Rattle.text_query.specs.Tokens.{kinds_of}

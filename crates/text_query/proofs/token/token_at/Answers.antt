@@ -1,7 +1,7 @@
 use Rattle.std.proofs.Common.{◌≡◌, ◌<◌, ◌+◌, ◌-◌, ℕ, List, true, length, take, drop, get_or, IsTrue, ap, sym, ◌∙◌, subst, arith}
 use Rattle.std.specs.List.{list_all}
 use Rattle.std.proofs.lemmas.Grind.{common_steps}
-use Rattle.point_history.specs.Words.{is_alphanumeric}
+use Rattle.documents.specs.Words.{is_alphanumeric}
 use Rattle.text_query.specs.Tokens.{run_of, token_of_run}
 use Rattle.text_query.proofs.TokenLemmas.{run_at_front, run_is_alphanumeric, token_at_run}
 use Rattle.text_query.proofs.token.token_at.Goals as goal

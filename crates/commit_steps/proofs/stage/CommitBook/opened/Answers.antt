@@ -2,7 +2,7 @@ use Rattle.std.proofs.Common.{◌≡◌, ℕ, List, sym, ap, subst, ◌∙◌, i
 use Rattle.std.specs.Prelude.{Contains}
 use Rattle.std.specs.List.{flat_map}
 use Rattle.disk_model.specs.Disk.{Name, Cells}
-use Rattle.nrt_base.specs.Names.{commit_name_of}
+use Rattle.file_names.specs.Names.{commit_name_of}
 use Rattle.segment_infos.specs.Files.{files_of_segment}
 use Rattle.segment_infos.specs.declared.infos.Infos.{Infos}
 use Rattle.file_deleter.specs.Holdings.{AreThere, IsThere}

@@ -1,0 +1,7 @@
+//! Tests of the small crates at the bottom, which need nothing private.
+#![tactic(auto)]
+
+#[cfg(test)]
+mod tests;
+
+

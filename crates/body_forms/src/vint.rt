@@ -1,0 +1,121 @@
+ghost use Rattle.std.specs.Prelude.{◌≡◌, ◌++◌, ◌↔◌, ◌≤◌, ◌<◌, ℕ, length, IsErrOf, OnOk, OnErr};
+ghost use Rattle.body_forms.specs.VInts.{BeginsWithVInt, EndsWithinVInt, PassesVInt, vint, vint_read};
+
+use nrt_base::NoMemory;
+
+/// Why bytes do not begin with a vInt.
+#[derive(Clone, Copy, Debug, PartialEq, Eq)]
+pub enum VIntFault {
+    /// They end before a byte below 128 within five bytes.
+    Short,
+    /// The fifth byte is above 15.
+    Long,
+}
+
+/// How many bytes the shortest form of a number takes.
+pub fn vint_len(n: u32) -> usize
+    ensures { result ≡ length (vint n) }
+{
+    match n {
+        0..=0x7f => 1,
+        0x80..=0x3fff => 2,
+        0x4000..=0x1f_ffff => 3,
+        0x20_0000..=0xfff_ffff => 4,
+        _ => 5,
+    }
+}
+
+/// The number at the front of the bytes, in its shortest form or a longer one, and how many bytes it takes.
+pub fn read_vint(bytes: &[u8]) -> Result<(u32, usize), VIntFault>
+    ensures number { (n taken : ℕ) → (result ≡ Ok (n, taken)) ↔ BeginsWithVInt bytes.now n taken }
+    ensures short { IsErrOf result VIntFault.Short ↔ EndsWithinVInt bytes.now }
+    ensures long { IsErrOf result VIntFault.Long ↔ PassesVInt bytes.now }
+{
+    read_within(4, bytes)
+}
+
+// At most so many bytes may follow the first.
+fn read_within(more: u8, bytes: &[u8]) -> Result<(u32, usize), VIntFault>
+    requires { more ≤ 4 }
+    ensures { result ≡ vint_read more bytes.now }
+{
+    match bytes {
+        [] => Err(VIntFault::Short),
+        [byte, rest @ ..] => {
+            let first = u32::from(*byte);
+            if more == 0 {
+                if first < 16 {
+                    Ok((first, 1))
+                } else {
+                    Err(VIntFault::Long)
+                }
+            } else if first < 128 {
+                Ok((first, 1))
+            } else {
+                let (high, taken) = read_within(more - 1, rest)?;
+                Ok((first - 128 + 128 * high, taken + 1))
+            }
+        }
+    }
+}
+
+/// Puts the shortest form of a number at the end.
+pub fn push_vint(out: &mut Vec<u8>, n: u32) -> Result<(), NoMemory>
+    ensures ok { OnOk result (out.new.items ≡ out.old.items ++ vint n) }
+    ensures err { OnErr result (out.new.items ≡ out.old.items) }
+{
+    let mut form = [0; 5];
+    let mut len = 0usize;
+    let mut high = n;
+    while high >= 128 {
+        form[len] = (high % 128) as u8 + 128;
+        len += 1;
+        high /= 128;
+    }
+    form[len] = high as u8;
+    out.extend_from_slice(&form[..=len])
+}
+
+#[cfg(test)]
+mod tests {
+    use super::*;
+    use std::test::Fail;
+
+    #[test]
+    fn shortest_forms(rt: HostRuntime) -> Result<(), Fail> {
+        let forms: [(u32, &[u8]); 6] = [
+            (0, b"\x00"),
+            (127, b"\x7f"),
+            (128, b"\x80\x01"),
+            (300, b"\xac\x02"),
+            (16384, b"\x80\x80\x01"),
+            (u32::MAX, b"\xff\xff\xff\xff\x0f"),
+        ];
+        for (n, form) in forms {
+            let mut out = Vec::new(rt.alloc());
+            push_vint(&mut out, n)?;
+            assert_eq!(rt; out.as_slice(), form, "at {n}");
+            assert_eq!(rt; vint_len(n), form.len(), "at {n}");
+            assert_eq!(rt; read_vint(form), Ok((n, form.len())), "at {n}");
+        }
+        Ok(())
+    }
+
+    #[test]
+    fn longer_forms_and_faults(rt: HostRuntime) {
+        let cases: [(&[u8], Result<(u32, usize), VIntFault>); 9] = [
+            (b"\x80\x00", Ok((0, 2))),
+            (b"\x81\x80\x80\x80\x00\x07", Ok((1, 5))),
+            (b"\x05\x80", Ok((5, 1))),
+            (b"", Err(VIntFault::Short)),
+            (b"\x80", Err(VIntFault::Short)),
+            (b"\xff\xff\xff\xff", Err(VIntFault::Short)),
+            (b"\x80\x80\x80\x80\x10", Err(VIntFault::Long)),
+            (b"\x80\x80\x80\x80\x80\x00", Err(VIntFault::Long)),
+            (b"\xff\xff\xff\xff\x0f", Ok((u32::MAX, 5))),
+        ];
+        for (bytes, answer) in cases {
+            assert_eq!(rt; read_vint(bytes), answer, "at {bytes:?}");
+        }
+    }
+}

@@ -1,0 +1,81 @@
+ghost use Rattle.std.specs.Prelude.{◌≡◌, IfOk, OnOk, map};
+ghost use Rattle.std.specs.BTreeMap.{IsOrdered};
+ghost use Rattle.documents.specs.Documents.{IsAscending, after_op, document_of, documents_after, key_cmp, with_doc, without_key};
+
+use crate::operation::Op;
+use nrt_base::{Doc, Key, NoMemory, Share, Text};
+use std::alloc::Global;
+use std::collections::BTreeMap;
+
+/// Documents, as the text of each key.
+pub type Texts = BTreeMap<Key, Text>;
+
+#[tactic(auto, using(crate::proofs::DocumentLemmas::with_doc_from_insert))]
+fn put(alloc: Global, texts: &mut Texts, doc: &Doc) -> Result<(), NoMemory>
+    ensures with { OnOk result (map document_of texts.new.entries ≡ with_doc (map document_of texts.old.entries) doc.now) }
+    ensures ordered { OnOk result (IsOrdered key_cmp texts.new) }
+{
+    texts.insert(doc.key.share(alloc)?, doc.text.share(alloc)?)?;
+    Ok(())
+}
+
+fn delete(texts: &mut Texts, key: &Key)
+    requires { IsOrdered key_cmp texts.old }
+    ensures without { map document_of texts.new.entries ≡ without_key (map document_of texts.old.entries) key.now }
+    ensures ordered { IsOrdered key_cmp texts.new }
+{
+    texts.remove(key);
+}
+
+/// Changes documents as an operation says.
+pub fn change(alloc: Global, texts: &mut Texts, op: &Op) -> Result<(), NoMemory>
+    requires { IsOrdered key_cmp texts.old }
+    ensures after { OnOk result (map document_of texts.new.entries ≡ after_op (map document_of texts.old.entries) op.now) }
+    ensures ordered { OnOk result (IsOrdered key_cmp texts.new) }
+{
+    match op {
+        Op::Put(doc) => put(alloc, texts, doc),
+        Op::Delete(key) => {
+            delete(texts, key);
+            Ok(())
+        }
+    }
+}
+
+/// Documents in ascending order of key, as a list.
+pub fn listed(alloc: Global, texts: &Texts) -> Result<Vec<Doc>, NoMemory>
+    ensures { IfOk result (λ docs. docs.items ≡ map document_of texts.now.entries) }
+{
+    let mut docs = Vec::with_capacity(alloc, texts.len())?;
+    for (key, text) in texts {
+        docs.push(Doc {
+            key: key.share(alloc)?,
+            text: text.share(alloc)?,
+        })?;
+    }
+    Ok(docs)
+}
+
+/// The documents that these operations leave, in ascending order of key.
+pub fn apply(alloc: Global, ops: &[Op]) -> Result<Vec<Doc>, NoMemory>
+    ensures { IfOk result (λ docs. docs.items ≡ documents_after ops.now) }
+{
+    let mut texts = Texts::new(alloc);
+    for op in ops {
+        change(alloc, &mut texts, op)?;
+    }
+    listed(alloc, &texts)
+}
+
+/// Documents that are a list in ascending order of key.
+pub fn texts_of(alloc: Global, docs: &[Doc]) -> Result<Texts, NoMemory>
+    requires { IsAscending docs.now }
+    ensures same { IfOk result (λ texts. map document_of texts.entries ≡ docs.now) }
+    ensures ordered { IfOk result (λ texts. IsOrdered key_cmp texts) }
+{
+    let mut texts = Texts::new(alloc);
+    for doc in docs {
+        put(alloc, &mut texts, doc)?;
+    }
+    Ok(texts)
+}

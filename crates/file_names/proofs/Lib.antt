@@ -1,0 +1,5 @@
+pub mod Base36Lemmas
+pub mod NameLaws
+pub mod NameLemmas
+pub mod ReadingLemmas
+pub mod SpellingLemmas

@@ -1,0 +1,81 @@
+-- The names of files: which there are, and which names are those of commits and of stored documents.
+use Rattle.std.specs.Prelude.{ℕ, ◌^◌, List, [], ◌∷◌, ◌++◌, Bool, true, false, ◌&&◌, ◌||◌, not, ◌==◌, nat_eq, nat_lt, codes, drop, length}
+use Rattle.std.specs.List.{list_all, starts_with, ends_with}
+use Rattle.std.specs.Ordering.{nat_cmp}
+use Rattle.std.specs.Cmp.Lexicographic.{slice_cmp}
+use Rattle.std.specs.declared.cmp.Ordering.{Ordering}
+use Rattle.std.specs.declared.cmp.Ordering.TheVariants.{Less, Equal, Greater}
+use Rattle.file_names.specs.Base36.{is_base36_digit, base36_value, base36_of}
+use Rattle.file_names.specs.declared.composed.SegPart.{SegPart}
+use Rattle.file_names.specs.declared.composed.SegPart.TheVariants.{Docs, Post, Info}
+use Rattle.nrt_base.specs.Bytes.{is_between, is_word_byte}
+
+-- a byte that a file's name may have: a small letter, a digit, `_` or `.`
+abbrev pub is_name_byte : ℕ → Bool
+is_name_byte b = is_word_byte b || (nat_eq b 95 || nat_eq b 46)
+
+-- 1 to 64 bytes that a file's name may have
+abbrev pub is_file_name : List ℕ → Bool
+is_file_name bytes = is_between 1 64 (length bytes) && list_all is_name_byte bytes
+
+-- the ending of a part's name
+abbrev pub part_ending : SegPart → List ℕ
+part_ending Docs = codes ".docs"
+part_ending Post = codes ".post"
+part_ending Info = codes ".si"
+
+-- the name of a part of a segment: `_S.docs`, `_S.post` or `_S.si`
+abbrev pub part_name_of : ℕ → SegPart → List ℕ
+part_name_of seg part = codes "_" ++ base36_of seg ++ part_ending part
+
+-- the name of a segment's live rows: `_S_G.liv`
+abbrev pub live_name_of : ℕ → ℕ → List ℕ
+live_name_of seg live_gen = codes "_" ++ base36_of seg ++ codes "_" ++ base36_of live_gen ++ codes ".liv"
+
+-- the name of a commit: `segments_N`
+abbrev pub commit_name_of : ℕ → List ℕ
+commit_name_of n = codes "segments_" ++ base36_of n
+
+-- the name of a commit in preparation: `pending_segments_N`
+abbrev pub pending_name_of : ℕ → List ℕ
+pending_name_of n = codes "pending_segments_" ++ base36_of n
+
+-- the temporary name of a file in a job: `NAME_J.tmp`
+abbrev pub temp_name_of : List ℕ → ℕ → List ℕ
+temp_name_of name job = name ++ codes "_" ++ base36_of job ++ codes ".tmp"
+
+-- the digits spell a number from 1 to below 2^62, without leading zeros
+abbrev pub is_commit_number : List ℕ → Bool
+is_commit_number [] = false
+is_commit_number (b ∷ digits) = not (b == 48) && list_all is_base36_digit (b ∷ digits) && nat_lt (base36_value (b ∷ digits)) (2 ^ 62)
+
+-- the name of an acknowledged commit: `segments_N`, N in base 36
+abbrev pub is_commit_name : List ℕ → Bool
+is_commit_name name = starts_with nat_eq name (codes "segments_") && is_commit_number (drop 9 name)
+
+-- the number in the name of a commit
+abbrev pub commit_number : List ℕ → ℕ
+commit_number name = base36_value (drop 9 name)
+
+-- the name of a commit in preparation: `pending_segments_N`, N in base 36
+abbrev pub is_pending_name : List ℕ → Bool
+is_pending_name name = starts_with nat_eq name (codes "pending_segments_") && is_commit_number (drop 17 name)
+
+-- the number in the name of a commit in preparation
+abbrev pub pending_number : List ℕ → ℕ
+pending_number name = base36_value (drop 17 name)
+
+-- the name of stored documents: it ends in `.docs`
+abbrev pub is_documents_name : List ℕ → Bool
+is_documents_name name = ends_with nat_eq name (codes ".docs")
+
+abbrev pub is_less : Ordering → Bool
+is_less Less = true
+is_less Equal = false
+is_less Greater = false
+
+-- each name is above the one before it, in the order of their bytes
+abbrev pub is_ascending : List (List ℕ) → Bool
+is_ascending [] = true
+is_ascending (a ∷ []) = true
+is_ascending (a ∷ b ∷ names) = is_less (slice_cmp nat_cmp a b) && is_ascending (b ∷ names)

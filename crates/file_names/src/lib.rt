@@ -1,0 +1,12 @@
+//! The names of files: how they are made, and how they are read.
+#![tactic(auto)]
+
+mod composed;
+mod names;
+mod numeral;
+mod radix;
+
+pub use composed::{SegPart, commit_name, live_name, part_name, pending_name, temp_name};
+pub use names::{FileName, NameFault, file_name};
+pub use numeral::Base36;
+pub use radix::{Base36Fault, base36, read_base36};

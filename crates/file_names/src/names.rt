@@ -1,0 +1,185 @@
+ghost use Rattle.std.specs.Prelude.{◌≡◌, ◌-◌, ◌≤◌, ◌<◌, ◌↔◌, ℕ, [], ◌++◌, length, replicate, position, not, IfOk, IsErrOf, IsTrue, nat_eq};
+ghost use Rattle.std.proofs.Common.{rules, refl, sym};
+ghost use Rattle.std.specs.Cmp.{partial_equiv_from_equiv, partial_order_from_total, partial_order_from_own_ties};
+ghost use Rattle.std.specs.Cmp.Lexicographic.{pointwise, slice_cmp, nat_list_eq_equiv, nat_list_cmp_total};
+ghost use Rattle.std.specs.Cmp.Rules.{comparing, hashing};
+ghost use Rattle.std.specs.Hash as fed;
+ghost use Rattle.std.specs.Ordering.{nat_cmp, as_partial_cmp};
+ghost use Rattle.std.proofs.lemmas.Map.Text.{is_eq-slice_cmp};
+ghost use Rattle.file_names.specs.Names.{is_name_byte, is_file_name};
+
+use nrt_base::NoMemory;
+use nrt_base::Share;
+use std::alloc::Global;
+use std::cmp::Ordering;
+use std::fmt;
+use std::hash::{Hash, Hasher};
+use std::marker::Model;
+
+const LONGEST: usize = 64;
+
+/// A file's name, seen as its bytes: 1 to 64 small letters, digits, `_` and `.`, ordered by its bytes.
+pub struct FileName {
+    bytes: [u8; 64],
+    len: u8,
+}
+
+impl Model for FileName {
+    ghost use Rattle.std.specs.Prelude.{◌≡◌, ℕ, ◌-◌, ◌≤◌, List, ◌++◌, length, take, replicate, IsTrue};
+    ghost use Rattle.file_names.specs.Names.{is_file_name};
+    ghost use Rattle.file_names.specs.FileNames.{inverse_of_view};
+
+    ghost Value = { List ℕ };
+
+    ghost view = { λ a. take a.len a.bytes };
+
+    ghost invariant = { λ a. (length a.bytes ≡ 64) × (a.len ≤ 64) × (a.bytes ≡ take a.len a.bytes ++ replicate (64 - a.len) 0) × IsTrue (is_file_name (take a.len a.bytes)) };
+
+    ghost inverse = { λ n. record { bytes = n ++ replicate (64 - length n) 0; len = length n } };
+
+    ghost inverse_ok = { λ a h. λ i. record { bytes = (inverse_of_view a.len a.bytes h.0 h.1 h.2 i).0; len = (inverse_of_view a.len a.bytes h.0 h.1 h.2 i).1 } };
+}
+
+/// Why bytes are no file's name.
+#[derive(Clone, Copy, Debug, PartialEq, Eq)]
+pub enum NameFault {
+    /// There are none.
+    Empty,
+    /// There are this many, more than 64.
+    Long(usize),
+    /// The first byte that no name may have stands at this place, from 0.
+    Byte(usize),
+}
+
+fn is_name_byte(byte: u8) -> bool
+    ensures { result ≡ is_name_byte byte }
+{
+    matches!(byte, b'a'..=b'z' | b'0'..=b'9' | b'_' | b'.')
+}
+
+/// The file's name that has these bytes.
+pub fn file_name(bytes: &[u8]) -> Result<FileName, NameFault>
+    ensures name { IfOk result (λ name. name ≡ bytes.now) }
+    ensures empty { IsErrOf result NameFault.Empty ↔ (bytes.now ≡ []) }
+    ensures long { (n : ℕ) → IsErrOf result (NameFault.Long n) ↔ ((64 < length bytes.now) × (n ≡ length bytes.now)) }
+    ensures byte { (at : ℕ) → IsErrOf result (NameFault.Byte at) ↔ ((length bytes.now ≤ 64) × (position (λ b. not (is_name_byte b)) bytes.now ≡ Some at)) }
+{
+    if bytes.is_empty() {
+        return Err(NameFault::Empty);
+    }
+    if bytes.len() > LONGEST {
+        return Err(NameFault::Long(bytes.len()));
+    }
+    match first_refused(bytes) {
+        Some(at) => Err(NameFault::Byte(at)),
+        None => Ok(padded(bytes)),
+    }
+}
+
+fn first_refused(bytes: &[u8]) -> Option<usize>
+    ensures { result ≡ position (λ b. not (is_name_byte b)) bytes.now }
+{
+    bytes.iter().position(|b| !is_name_byte(*b))
+}
+
+pub(crate) fn padded(bytes: &[u8]) -> FileName
+    requires { IsTrue (is_file_name bytes.now) }
+    ensures { result ≡ bytes.now }
+{
+    FileName {
+        bytes: with_zeros(bytes),
+        len: bytes.len() as u8,
+    }
+}
+
+fn with_zeros(bytes: &[u8]) -> [u8; 64]
+    requires { length bytes.now ≤ 64 }
+    ensures { result ≡ bytes.now ++ replicate (64 - length bytes.now) 0 }
+{
+    let mut filled = [0; 64];
+    filled[..bytes.len()].copy_from_slice(bytes);
+    filled
+}
+
+impl FileName {
+    pub fn as_slice(&self) -> &[u8]
+        ensures bytes { result.now ≡ self.now }
+        ensures kind { IsTrue (is_file_name self.now) }
+    {
+        &self.bytes[..self.len as usize]
+    }
+}
+
+/// The name as it is.
+impl fmt::Debug for FileName {
+    fn fmt<W: fmt::Write>(&self, f: &mut fmt::Formatter<W>) -> fmt::Result {
+        for byte in self.as_slice() {
+            write!(f, "{}", *byte as char)?;
+        }
+        Ok(())
+    }
+}
+
+impl Copy for FileName {}
+
+impl Clone for FileName {
+    ghost is_clone = { λ x y. y ≡ x };
+
+    fn clone(&self) -> Result<Self, NoMemory> {
+        Ok(*self)
+    }
+}
+
+impl Share for FileName {
+    fn share(&self, _alloc: Global) -> Result<Self, NoMemory> {
+        Ok(*self)
+    }
+}
+
+impl PartialEq for FileName {
+    ghost eq = { pointwise nat_eq };
+
+    ghost laws = { partial_equiv_from_equiv nat_list_eq_equiv };
+
+    fn eq(&self, other: &FileName) -> bool {
+        self.as_slice() == other.as_slice()
+    }
+}
+
+impl Eq for FileName {
+    ghost laws = { nat_list_eq_equiv };
+}
+
+impl Hash for FileName {
+    ghost hash_input = { fed.slice fed.u8 };
+
+    ghost respects_eq = { Prim.search (hashing, rules) };
+
+    fn hash<H: Hasher>(&self, state: &mut H) {
+        self.as_slice().hash(state);
+    }
+}
+
+impl PartialOrd for FileName {
+    ghost partial_cmp = { as_partial_cmp (slice_cmp nat_cmp) };
+
+    ghost laws = { partial_order_from_own_ties (partial_order_from_total nat_list_cmp_total) (λ a b. sym (is_eq-slice_cmp a b)) };
+
+    fn partial_cmp(&self, other: &FileName) -> Option<Ordering> {
+        Some(self.cmp(other))
+    }
+}
+
+impl Ord for FileName {
+    ghost cmp = { slice_cmp nat_cmp };
+
+    ghost total = { nat_list_cmp_total };
+
+    ghost matches_partial_cmp = { λ a b. refl };
+
+    ghost matches_eq = { λ a b. sym (is_eq-slice_cmp a b) };
+
+    fn cmp(&self, other: &FileName) -> Ordering {
+        self.as_slice().cmp(&other.as_slice())
+    }
+}

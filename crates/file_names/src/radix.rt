@@ -1,0 +1,128 @@
+ghost use Rattle.std.specs.Prelude.{◌≡◌, ◌^◌, ◌≤◌, ◌<◌, ◌↔◌, ℕ, [], position, not, IsErrOf, IsTrue, SomeIff};
+ghost use Rattle.std.specs.List.{list_all};
+ghost use Rattle.file_names.specs.Base36.{is_base36_digit, digit_value, base36_value, has_leading_zero, base36_of, SpellsBase36};
+
+use crate::numeral::Base36;
+
+/// Why bytes are no number in base 36.
+#[derive(Clone, Copy, Debug, PartialEq, Eq)]
+pub enum Base36Fault {
+    /// There are none.
+    Empty,
+    /// The first byte that is no digit stands at this place, from 0.
+    Digit(usize),
+    /// A zero stands before other digits.
+    LeadingZero,
+    /// The number is above 2^64 - 1.
+    TooLarge,
+}
+
+/// The digits of a number in base 36, without leading zeros.
+pub fn base36(n: u64) -> Base36
+    ensures digits { result ≡ base36_of n }
+    ensures spelled { SpellsBase36 result n }
+{
+    Base36::of(n)
+}
+
+/// The number that the bytes spell in base 36.
+pub fn read_base36(bytes: &[u8]) -> Result<u64, Base36Fault>
+    ensures number { (n : ℕ) → (result ≡ Ok n) ↔ (SpellsBase36 bytes.now n × (n < 2 ^ 64)) }
+    ensures empty { IsErrOf result Base36Fault.Empty ↔ (bytes.now ≡ []) }
+    ensures digit { (at : ℕ) → IsErrOf result (Base36Fault.Digit at) ↔ (position (λ b. not (is_base36_digit b)) bytes.now ≡ Some at) }
+    ensures leading { IsErrOf result Base36Fault.LeadingZero ↔ (IsTrue (list_all is_base36_digit bytes.now) × IsTrue (has_leading_zero bytes.now)) }
+    ensures large { IsErrOf result Base36Fault.TooLarge ↔ ((n : ℕ) × SpellsBase36 bytes.now n × (2 ^ 64 ≤ n)) }
+{
+    if bytes.is_empty() {
+        return Err(Base36Fault::Empty);
+    }
+    if let Some(at) = first_not_digit(bytes) {
+        return Err(Base36Fault::Digit(at));
+    }
+    if has_leading_zero(bytes) {
+        return Err(Base36Fault::LeadingZero);
+    }
+    match value_of(bytes) {
+        Some(n) => Ok(n),
+        None => Err(Base36Fault::TooLarge),
+    }
+}
+
+fn has_leading_zero(bytes: &[u8]) -> bool
+    ensures { result ≡ has_leading_zero bytes.now }
+{
+    bytes.len() > 1 && bytes[0] == b'0'
+}
+
+fn is_base36_digit(byte: u8) -> bool
+    ensures { result ≡ is_base36_digit byte }
+{
+    matches!(byte, b'0'..=b'9' | b'a'..=b'z')
+}
+
+fn first_not_digit(bytes: &[u8]) -> Option<usize>
+    ensures { result ≡ position (λ b. not (is_base36_digit b)) bytes.now }
+{
+    bytes.iter().position(|b| !is_base36_digit(*b))
+}
+
+fn digit_value(byte: u8) -> u8
+    requires { IsTrue (is_base36_digit byte) }
+    ensures value { result ≡ digit_value byte }
+    ensures below { result < 36 }
+{
+    if byte <= b'9' {
+        byte - b'0'
+    } else {
+        byte - b'a' + 10
+    }
+}
+
+fn value_of(digits: &[u8]) -> Option<u64>
+    requires { IsTrue (list_all is_base36_digit digits.now) }
+    ensures { SomeIff result (base36_value digits.now < 2 ^ 64) (base36_value digits.now) }
+{
+    let mut value = 0u64;
+    for byte in digits {
+        let digit = digit_value(*byte);
+        value = value.checked_mul(36)?.checked_add(u64::from(digit))?;
+    }
+    Some(value)
+}
+
+#[cfg(test)]
+mod tests {
+    use super::*;
+
+    #[test]
+    fn spellings(rt: HostRuntime) {
+        let spellings: [(u64, &[u8]); 6] = [
+            (0, b"0"),
+            (35, b"z"),
+            (36, b"10"),
+            (1679616, b"10000"),
+            (3359232, b"20000"),
+            (u64::MAX, b"3w5e11264sgsf"),
+        ];
+        for (n, digits) in spellings {
+            assert_eq!(rt; base36(n).as_slice(), digits, "at {n}");
+            assert_eq!(rt; read_base36(digits), Ok(n), "at {n}");
+        }
+    }
+
+    #[test]
+    fn faults(rt: HostRuntime) {
+        let cases: [(&[u8], Base36Fault); 7] = [
+            (b"", Base36Fault::Empty),
+            (b"10A", Base36Fault::Digit(2)),
+            (b"-1", Base36Fault::Digit(0)),
+            (b"00.", Base36Fault::Digit(2)),
+            (b"01", Base36Fault::LeadingZero),
+            (b"3w5e11264sgsg", Base36Fault::TooLarge),
+            (b"zzzzzzzzzzzzzzzz", Base36Fault::TooLarge),
+        ];
+        for (bytes, fault) in cases {
+            assert_eq!(rt; read_base36(bytes), Err(fault), "at {bytes:?}");
+        }
+    }
+}

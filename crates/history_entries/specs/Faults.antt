@@ -1,0 +1,50 @@
+-- The faults that the entries before a place show.
+use Rattle.std.specs.Prelude.{ℕ, [], ◌∷◌, Bool, true, false, ◌&&◌, ◌||◌, ◌==◌, if◌then◌else◌}
+use Rattle.nrt_base.specs.declared.numbers.At.{At}
+use Rattle.history_entries.specs.declared.cause.FaultKind.{FaultKind}
+use Rattle.history_entries.specs.declared.cause.FaultKind.TheVariants.{Link, Damage, Disk, Stop}
+use Rattle.history_entries.specs.declared.cause.FaultPlan.{FaultPlan}
+use Rattle.history_entries.specs.declared.cause.FaultPlan.TheVariants.{Link as LinkPlan, Damage as DamagePlan, Disk as DiskPlan, Stop as StopPlan}
+use Rattle.history_entries.specs.declared.entry.Event.{Event}
+use Rattle.history_entries.specs.declared.entry.Event.TheVariants.{Planned, Fault, Crashed}
+use Rattle.history_entries.specs.Nodes.{Past}
+use Rattle.history_entries.specs.Lines.{same_at}
+
+-- the kind of a planned fault
+abbrev pub kind_of : FaultPlan → FaultKind
+kind_of (LinkPlan k) = Link
+kind_of (DamagePlan k at) = Damage
+kind_of (DiskPlan k) = Disk
+kind_of (StopPlan k) = Stop
+
+abbrev pub same_kind : FaultKind → FaultKind → Bool
+same_kind Link Link = true
+same_kind Damage Damage = true
+same_kind Disk Disk = true
+same_kind Stop Stop = true
+same_kind a b = false
+
+-- a plan of this kind lasts when it is met
+abbrev pub is_lasting : FaultKind → Bool
+is_lasting Stop = true
+is_lasting kind = false
+
+abbrev pub is_planned_by : ℕ → FaultKind → Event → Bool → Bool
+is_planned_by n kind (Planned m plan) b = if (m.0 == n) && same_kind (kind_of plan) kind then true else b
+is_planned_by n kind (Crashed m) b = if m.0 == n then false else b
+is_planned_by n kind (Fault m met) b = if (m.0 == n) && same_kind met kind then is_lasting kind && b else b
+is_planned_by n kind e b = b
+
+-- a fault of this kind is planned at a node: neither has the node crashed since the plan, nor was it used up
+abbrev pub is_planned : ℕ → FaultKind → Past → Bool
+is_planned n kind [] = false
+is_planned n kind (e ∷ past) = is_planned_by n kind e.event (is_planned n kind past)
+
+abbrev pub is_fault_by : (ℕ → Bool) → (FaultKind → Bool) → Event → Bool
+is_fault_by node kind (Fault m met) = node m.0 && kind met
+is_fault_by node kind e = false
+
+-- the line has met a fault of such a kind at such a node
+abbrev pub has_fault : (ℕ → Bool) → (FaultKind → Bool) → At → Past → Bool
+has_fault node kind at [] = false
+has_fault node kind at (e ∷ past) = (is_fault_by node kind e.event && same_at e.at at) || has_fault node kind at past

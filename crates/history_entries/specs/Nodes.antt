@@ -1,0 +1,122 @@
+-- What the entries before a place show of the nodes. They stand newest first, so that one more entry is one more in front.
+use Rattle.std.specs.Prelude.{ℕ, ◌≡◌, ◌≤◌, ◌+◌, List, [], ◌∷◌, Bool, true, false, ◌==◌, max, if◌then◌else◌, Option, Some, None}
+use Rattle.nrt_base.specs.declared.numbers.NodeNo.{NodeNo}
+use Rattle.history_entries.specs.declared.entry.Entry.{Entry}
+use Rattle.history_entries.specs.declared.entry.Event.{Event}
+use Rattle.history_entries.specs.declared.entry.Event.TheVariants.{Accepted, Published, Switched, Promoted, Reopened, Crashed}
+
+-- the entries before a place, newest first
+abbrev pub Past : Type 0
+Past = List Entry
+
+-- the nodes are 1 to the size
+abbrev pub IsNode : ℕ → ℕ → Type 0
+IsNode size n = (1 ≤ n) × (n ≤ size)
+
+-- this node is the one
+abbrev pub is_at : Option NodeNo → ℕ → Bool
+is_at None n = false
+is_at (Some m) n = m.0 == n
+
+abbrev pub primary_by : Event → Option NodeNo → Option NodeNo
+primary_by (Crashed m) p = if is_at p m.0 then None else p
+primary_by (Promoted m g f w) p = Some m
+primary_by e p = p
+
+-- the running primary: node 1 at first, nobody after its crash, the promoted node after a promotion
+abbrev pub primary_of : Past → Option NodeNo
+primary_of [] = Some (record { 0 = 1 })
+primary_of (e ∷ past) = primary_by e.event (primary_of past)
+
+abbrev pub primary_crashes_by : Event → Option NodeNo → ℕ → ℕ
+primary_crashes_by (Crashed m) p k = if is_at p m.0 then k + 1 else k
+primary_crashes_by e p k = k
+
+-- how often a running primary has crashed
+abbrev pub primary_crashes : Past → ℕ
+primary_crashes [] = 0
+primary_crashes (e ∷ past) = primary_crashes_by e.event (primary_of past) (primary_crashes past)
+
+abbrev pub is_running_by : ℕ → Event → Bool → Bool
+is_running_by n (Crashed m) b = if m.0 == n then false else b
+is_running_by n (Reopened m v) b = if m.0 == n then true else b
+is_running_by n e b = b
+
+-- a node runs unless the last of its crashes and reopenings is a crash
+abbrev pub is_running : ℕ → Past → Bool
+is_running n [] = true
+is_running n (e ∷ past) = is_running_by n e.event (is_running n past)
+
+abbrev pub crashes_by : ℕ → Event → ℕ → ℕ
+crashes_by n (Crashed m) k = if m.0 == n then k + 1 else k
+crashes_by n e k = k
+
+-- how often a node has crashed
+abbrev pub crashes : ℕ → Past → ℕ
+crashes n [] = 0
+crashes n (e ∷ past) = crashes_by n e.event (crashes n past)
+
+-- the node runs, and is not the primary
+pub record IsReplica (past : Past) (n : ℕ) : Type 0 where
+  pub running : is_running n past ≡ true
+  pub other : is_at (primary_of past) n ≡ false
+
+abbrev pub generation_by : Event → ℕ → ℕ
+generation_by (Promoted m g f w) k = g.0
+generation_by e k = k
+
+-- the generation: that of the last promotion, or 1
+abbrev pub generation_of : Past → ℕ
+generation_of [] = 1
+generation_of (e ∷ past) = generation_by e.event (generation_of past)
+
+abbrev pub version_by : ℕ → Option NodeNo → Event → ℕ → ℕ
+version_by n p (Published g w) v = if is_at p n then w.0 else v
+version_by n p (Switched m w) v = if m.0 == n then w.0 else v
+version_by n p (Promoted m g f w) v = if m.0 == n then w.0 else v
+version_by n p (Reopened m w) v = if m.0 == n then w.0 else v
+version_by n p e v = v
+
+-- the version that a node searches: that of the last point that it published, switched to, was promoted to or reopened at, or 1
+abbrev pub version_of : ℕ → Past → ℕ
+version_of n [] = 1
+version_of n (e ∷ past) = version_by n (primary_of past) e.event (version_of n past)
+
+abbrev pub newest_by : Event → ℕ → ℕ
+newest_by (Published g w) v = max v w.0
+newest_by (Promoted m g f w) v = max v w.0
+newest_by e v = v
+
+-- the greatest version that was published or promoted, or 1
+abbrev pub newest_version : Past → ℕ
+newest_version [] = 1
+newest_version (e ∷ past) = newest_by e.event (newest_version past)
+
+abbrev pub is_made_by : ℕ → Event → Bool → Bool
+is_made_by v (Published g w) b = if w.0 == v then true else b
+is_made_by v (Promoted m g f w) b = w.0 == v
+is_made_by v e b = b
+
+-- the version was published or promoted in the present generation
+abbrev pub is_made_in_generation : ℕ → Past → Bool
+is_made_in_generation v [] = false
+is_made_in_generation v (e ∷ past) = is_made_by v e.event (is_made_in_generation v past)
+
+abbrev pub is_point_by : ℕ → Event → Bool → Bool
+is_point_by v (Published g w) b = if w.0 == v then true else b
+is_point_by v (Promoted m g f w) b = if w.0 == v then true else b
+is_point_by v e b = b
+
+-- there is a point of this version: the opening point, of version 1, or one that was published or promoted
+abbrev pub is_point : ℕ → Past → Bool
+is_point v [] = v == 1
+is_point v (e ∷ past) = is_point_by v e.event (is_point v past)
+
+abbrev pub accepted_by : Event → ℕ → ℕ
+accepted_by (Accepted seq op) n = n + 1
+accepted_by e n = n
+
+-- how many operations were accepted
+abbrev pub accepted_count : Past → ℕ
+accepted_count [] = 0
+accepted_count (e ∷ past) = accepted_by e.event (accepted_count past)

@@ -1,0 +1,6 @@
+//! What holds of every legal history.
+#![tactic(auto)]
+
+pub mod laws;
+
+

@@ -1,7 +1,0 @@
-pub mod Base36Lemmas
-pub mod NameLaws
-pub mod NameLemmas
-pub mod ReadingLemmas
-pub mod SpellingLemmas
-pub mod StreamLemmas
-pub mod VIntLemmas

@@ -1,5 +1,0 @@
-use Rattle.nrt_base.proofs.NameLemmas.{is_padded}
-use Rattle.nrt_base.proofs.names.padded.Goals as goal
-
-pub invariant_of-result : goal.invariant_of-result
-invariant_of-result c = is_padded c.args.bytes.now c.with_zeros.result c.requires c.with_zeros.ensures

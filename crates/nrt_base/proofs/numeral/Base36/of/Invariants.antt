@@ -1,8 +1,0 @@
-use Rattle.nrt_base.proofs.SpellingLemmas.{Spelled}
-use Rattle.nrt_base.proofs.numeral.Base36.of.Given as goal
-
-abbrev pub invariant-loop-rest : goal.invariant-loop-rest
-invariant-loop-rest l = Spelled l.n l.bytes l.start l.rest
-
-abbrev pub decreases-loop-rest : goal.decreases-loop-rest
-decreases-loop-rest l = l.rest

@@ -1,0 +1,4 @@
+pub mod Built
+pub mod PlainRun
+pub mod Run
+pub mod Kept

@@ -1,0 +1,47 @@
+ghost use Rattle.std.specs.Prelude.{◌≡◌, ◌≤◌, length, MatchOption};
+ghost use Rattle.script_text.specs.Grammar.{words_in};
+ghost use Rattle.plain_run.specs.Built.{IsFirstUnbuilt, IsBuilt, is_built as is_built_lem};
+ghost use Rattle.script_text.specs.Reading.{is_built_command as is_built_command_lem};
+
+use script_text::next_statement;
+use script_text::LONGEST;
+use script_text::{first_words, is_word};
+use nrt_base::LineNo;
+
+/// Whether the program runs a line of lane 1 with these words behind the lane.
+fn is_built_command(name: &[u8], next: &[u8]) -> bool
+    ensures { result ≡ is_built_command_lem name.now next.now }
+{
+    is_word(b"put", name)
+        || is_word(b"publish", name)
+        || (is_word(b"copy", name) && is_word(b"2", next))
+        || is_word(b"search", name)
+}
+
+/// Whether the program runs this statement so far.
+fn is_built(line: &[u8]) -> bool
+    ensures { result ≡ is_built_lem (words_in line.now) }
+{
+    let words = first_words(line);
+    if is_word(b"nodes", words.first) {
+        return is_word(b"2", words.second);
+    }
+    is_word(b"1", words.first) && is_built_command(words.second, words.third)
+}
+
+/// The line of the first statement that the program does not run yet.
+pub fn first_not_built(bytes: &[u8]) -> Option<LineNo>
+    requires { length bytes.now ≤ LONGEST }
+    ensures { MatchOption result (IsBuilt bytes.now) (λ line. IsFirstUnbuilt bytes.now line.0) }
+{
+    let mut left = bytes;
+    let mut number = 1;
+    while let Some((statement, rest)) = next_statement(left, number) {
+        if !is_built(statement.line) {
+            return Some(LineNo(statement.number));
+        }
+        left = rest;
+        number = statement.number + 1;
+    }
+    None
+}

@@ -1,8 +1,0 @@
-use Rattle.std.proofs.Common.{◌∙◌, sym}
-use Rattle.point_history.proofs.MatchingLemmas.{stands_behind}
-use Rattle.point_history.proofs.matching.stands_in.Goals as goal
-
-pub loop-i-preserved : goal.loop-i-preserved
-loop-i-preserved c =
-    stands_behind c.args.phrase.now c.args.words.now c.loop-i.i c.loop-i-test.true (sym c.begins_with.ensures ∙ c.if-begins_with.false)
-    ∙ c.loop-i.invariant

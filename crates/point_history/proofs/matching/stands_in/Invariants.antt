@@ -1,6 +1,0 @@
-use Rattle.std.proofs.Common.{◌≡◌, drop}
-use Rattle.point_history.specs.Matching.{stands_in}
-use Rattle.point_history.proofs.matching.stands_in.Given as goal
-
-abbrev pub invariant-loop-i : goal.invariant-loop-i
-invariant-loop-i l = stands_in l.phrase (drop l.i l.words) ≡ stands_in l.phrase l.words

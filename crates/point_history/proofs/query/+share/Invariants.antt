@@ -1,5 +1,0 @@
-use Rattle.std.proofs.Common.{◌≡◌, ◌++◌, drop}
-use Rattle.point_history.proofs.query.+share.Given as goal
-
-abbrev pub invariant-share_queries-loop-query : goal.invariant-share_queries-loop-query
-invariant-share_queries-loop-query l = l.copies.items ++ drop l.query-index l.query-items ≡ l.queries

@@ -1,0 +1,4 @@
+pub mod Lines
+pub mod Form
+pub mod Refusals
+pub mod Serves

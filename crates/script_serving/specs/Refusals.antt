@@ -1,0 +1,112 @@
+-- Why a line is refused before it has started, and why after.
+use Rattle.std.specs.Prelude.{ℕ, ◌+◌, ◌^◌, [], ◌∷◌, Bool, true, false, ◌&&◌, ◌||◌, not, ◌==◌, nat_lt, nat_le, length, Option, Some, None}
+use Rattle.nrt_base.specs.declared.numbers.At.{At}
+use Rattle.nrt_base.specs.declared.numbers.NodeNo.{NodeNo}
+use Rattle.history_entries.specs.declared.cause.Cause.{Cause}
+use Rattle.history_entries.specs.declared.cause.Cause.TheVariants.{Down, Primary, NoPrimary, PrimaryUp, ForceLow, NoTicket, Lost, Cancelled, LinkFault, Damaged, DiskFault, Nothing, Up, NameUsed, NamesSpent, TooManySegments, ForceHigh}
+use Rattle.history_entries.specs.declared.cause.FaultKind.TheVariants.{Disk, Stop}
+use Rattle.history_entries.specs.declared.entry.Event.{Event}
+use Rattle.history_entries.specs.declared.entry.Event.TheVariants.{Published}
+use Rattle.history_entries.specs.Nodes.{Past, primary_of, is_at, is_running, newest_version}
+use Rattle.history_entries.specs.Points.{cut_of, cut_has_put, names_drawn}
+use Rattle.history_entries.specs.Tickets.{has_ticket}
+use Rattle.history_entries.specs.Faults.{has_fault, same_kind}
+use Rattle.script_serving.specs.declared.script.Force.{Force}
+use Rattle.script_serving.specs.declared.script.Force.TheVariants.{Auto, Exactly}
+use Rattle.script_serving.specs.declared.script.LineCommand.{LineCommand}
+use Rattle.script_serving.specs.declared.script.LineCommand.TheVariants.{Put, Delete, Publish, Copy, Settle, Search, Open, Ask, Close, Commit, Crash, Reopen, Promote, Merge, Files}
+
+-- the first of two causes that holds
+abbrev pub or_else : Option Cause → Option Cause → Option Cause
+or_else None later = later
+or_else (Some cause) later = Some cause
+
+abbrev pub when : Bool → Cause → Option Cause
+when true cause = Some cause
+when false cause = None
+
+abbrev pub is_vacant : Option NodeNo → Bool
+is_vacant None = true
+is_vacant (Some n) = false
+
+-- no primary runs
+abbrev pub without_primary : Past → Option Cause
+without_primary past = when (is_vacant (primary_of past)) NoPrimary
+
+-- the node does not run
+abbrev pub without_node : ℕ → Past → Option Cause
+without_node n past = when (not (is_running n past)) Down
+
+-- the lane has no such ticket
+abbrev pub without_ticket : ℕ → ℕ → Past → Option Cause
+without_ticket lane t past = when (not (has_ticket lane t past)) NoTicket
+
+-- the forced version: the newest, or the one that is named
+abbrev pub forced_version : Force → Past → ℕ
+forced_version Auto past = newest_version past
+forced_version (Exactly f) past = f
+
+-- every name of the generation is drawn
+abbrev pub names_are_spent : Past → Bool
+names_are_spent past = names_drawn past == 1679616
+
+-- why a line is refused before it has started: the first cause of its row that holds
+abbrev pub refusal : LineCommand → ℕ → Past → Option Cause
+refusal (Put doc) lane past = without_primary past
+refusal (Delete key) lane past = without_primary past
+refusal Publish lane past = or_else (without_primary past) (when (cut_has_put past && names_are_spent past) NamesSpent)
+refusal (Copy n) lane past = or_else (without_node n.0 past) (or_else (without_primary past) (when (is_at (primary_of past) n.0) Primary))
+refusal Settle lane past = without_primary past
+refusal (Search n query) lane past = without_node n.0 past
+refusal (Open n t) lane past = or_else (when (has_ticket lane t.0 past) NameUsed) (without_node n.0 past)
+refusal (Ask t query) lane past = without_ticket lane t.0 past
+refusal (Close t) lane past = without_ticket lane t.0 past
+refusal (Commit n) lane past = without_node n.0 past
+refusal (Crash n pick) lane past = without_node n.0 past
+refusal (Reopen n) lane past = when (is_running n.0 past) Up
+refusal (Promote n force) lane past =
+    or_else (without_node n.0 past)
+    (or_else (when (not (is_vacant (primary_of past))) PrimaryUp)
+    (or_else (when (nat_le (2 ^ 62) (forced_version force past)) ForceHigh)
+    (when (nat_lt (forced_version force past) (newest_version past)) (ForceLow (record { 0 = newest_version past })))))
+refusal (Merge factor) lane past = without_primary past
+refusal (Files n) lane past = without_node n.0 past
+refusal command lane past = None
+
+abbrev pub publishes_by : Event → ℕ → ℕ
+publishes_by (Published g w) k = k + 1
+publishes_by e k = k
+
+-- how many publishes there were
+abbrev pub publish_count : Past → ℕ
+publish_count [] = 0
+publish_count (e ∷ past) = publishes_by e.event (publish_count past)
+
+-- what a line may be refused for that the history does not decide: segments, sizes and disks do
+abbrev pub may_be_refused : LineCommand → At → Past → Cause → Bool
+may_be_refused Publish at past Nothing = length (cut_of past) == 0
+may_be_refused Publish at past TooManySegments = cut_has_put past && nat_le 256 (publish_count past)
+may_be_refused (Merge factor) at past Nothing = true
+may_be_refused (Merge factor) at past NamesSpent = names_are_spent past
+may_be_refused (Reopen n) at past DiskFault = has_fault (λ m. m == n.0) (λ kind. same_kind Disk kind || same_kind Stop kind) at past
+may_be_refused command at past cause = false
+
+abbrev pub is_copy_cause : Cause → Bool
+is_copy_cause Lost = true
+is_copy_cause (Cancelled v) = true
+is_copy_cause LinkFault = true
+is_copy_cause (Damaged name) = true
+is_copy_cause DiskFault = true
+is_copy_cause cause = false
+
+-- what a line may be refused for after it has started
+abbrev pub is_late_cause : LineCommand → Cause → Bool
+is_late_cause Publish Lost = true
+is_late_cause Publish DiskFault = true
+is_late_cause (Copy n) cause = is_copy_cause cause
+is_late_cause Settle cause = is_copy_cause cause
+is_late_cause (Search n query) Lost = true
+is_late_cause (Ask t query) Lost = true
+is_late_cause (Commit n) Lost = true
+is_late_cause (Commit n) DiskFault = true
+is_late_cause command cause = false
