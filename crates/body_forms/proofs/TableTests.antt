@@ -6,10 +6,11 @@ use Rattle.std.specs.Int.{w32, from_be_bytes}
 use Rattle.std.proofs.lemmas.Nat.{be_bytes_4}
 use Rattle.std.proofs.lemmas.List.{length-append, length-drop, length-take, take-append-drop, drop_all, append-nil, take_all}
 use Rattle.std.proofs.lemmas.List.Concat.{flat_map-cons}
-use Rattle.body_forms.specs.Format.{AreBytes}
+use Rattle.codec_frame.specs.Bytes.{AreBytes}
 use Rattle.body_forms.specs.ItemTable.{concat, starts, IsItemTable, count_in, start_in, items_from, items_in}
 use Rattle.body_forms.specs.Numbers.{u32_bytes}
-use Rattle.body_forms.proofs.Formats.{AreBytes-drop, AreBytes-take}
+use Rattle.codec_frame.proofs.ByteLaws.{AreBytes-take}
+use Rattle.body_forms.proofs.Formats.{AreBytes-drop}
 use Rattle.body_forms.proofs.ItemTables.{concat-cons, table_count, table_start, table_length, next_front, item_slice}
 
 -- a front and the front of what comes after it

@@ -3,7 +3,7 @@ ghost use Rattle.std.specs.Option.{option_map};
 ghost use Rattle.body_forms.specs.Numbers.{string, string_at};
 
 use crate::numbers::vint_of;
-use crate::push_vint;
+use crate::vint::push_vint;
 use nrt_base::NoMemory;
 
 /// The string at the front, and the bytes after it: its length as a vInt, then its bytes.

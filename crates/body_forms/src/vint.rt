@@ -1,3 +1,5 @@
+//! vInts: numbers of seven bits a byte, the lowest first.
+
 ghost use Rattle.std.specs.Prelude.{◌≡◌, ◌++◌, ◌↔◌, ◌≤◌, ◌<◌, ℕ, length, IsErrOf, OnOk, OnErr};
 ghost use Rattle.body_forms.specs.VInts.{BeginsWithVInt, EndsWithinVInt, PassesVInt, vint, vint_read};
 

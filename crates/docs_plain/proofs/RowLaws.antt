@@ -7,7 +7,8 @@ use Rattle.nrt_base.specs.Bytes.{is_key, is_text}
 use Rattle.body_forms.specs.VInts.{vint}
 use Rattle.body_forms.proofs.VIntLemmas.{length_one}
 use Rattle.nrt_base.specs.declared.doc.Doc.{Doc}
-use Rattle.body_forms.specs.Format.{AreBytes, Read, IsFormat}
+use Rattle.codec_frame.specs.Bytes.{AreBytes}
+use Rattle.body_forms.specs.Format.{Read, IsFormat}
 use Rattle.body_forms.specs.Numbers.{string, string_at}
 use Rattle.body_forms.proofs.Formats.{read_is, tested_format}
 use Rattle.body_forms.proofs.Numerals.{string_format}

@@ -2,7 +2,8 @@
 use Rattle.std.proofs.Common.{◌≡◌, ℕ, ◌+◌, ◌*◌, ◌/◌, ◌<◌, ◌^◌, Bool, List, ◌++◌, length, Some, Option, None, sym, ap, subst, ◌∙◌, append_assoc, arith}
 use Rattle.std.specs.Prelude.{IfNone}
 use Rattle.std.proofs.lemmas.List.Sums.{count_by-le-length}
-use Rattle.body_forms.specs.Format.{AreBytes, Read}
+use Rattle.codec_frame.specs.Bytes.{AreBytes}
+use Rattle.body_forms.specs.Format.{Read}
 use Rattle.body_forms.specs.Numbers.{u32_bytes, u32_at}
 use Rattle.body_forms.proofs.Formats.{once, read_is}
 use Rattle.body_forms.proofs.NumberLaws.{u32_format}

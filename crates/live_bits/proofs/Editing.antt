@@ -7,7 +7,7 @@ use Rattle.std.proofs.lemmas.List.Sums.{sum_by-set, sum_by-cons}
 use Rattle.std.proofs.lemmas.Nat.{and_le_l, le-div, pow-add, pow_pos}
 use Rattle.std.proofs.lemmas.Nat.Bits.{bit_at-lt, bit_at-zero, bit_at_above, bit_at_ones, bit_at_ones_above, bit_at_clear_same, bit_at_clear_other, same_from_bits, ones_shr}
 use Rattle.std.proofs.Math.Nat.{div-div-eq-div-mul, div-le_self}
-use Rattle.body_forms.specs.Format.{AreBytes}
+use Rattle.codec_frame.specs.Bytes.{AreBytes}
 use Rattle.live_bits.specs.LiveRows.{has_bit, live_rows}
 use Rattle.live_bits.specs.Held.{rows_in, Holds, Clears}
 use Rattle.live_bits.proofs.BitLaws.{at_place}

@@ -1,7 +1,7 @@
 -- Live rows as they are held: their bits, how many they are, and how many are live.
 use Rattle.std.specs.Prelude.{◌≡◌, ℕ, ◌<◌, ◌^◌, List, length, map, Bool, false}
 use Rattle.std.specs.List.{range_with_len}
-use Rattle.body_forms.specs.Format.{AreBytes}
+use Rattle.codec_frame.specs.Bytes.{AreBytes}
 use Rattle.live_bits.specs.LiveRows.{has_bit, live_rows, IsPacked}
 
 -- the first n rows of the bits

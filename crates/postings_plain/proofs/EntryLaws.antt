@@ -4,7 +4,8 @@ use Rattle.std.specs.Prelude.{nat_lt}
 use Rattle.std.proofs.lemmas.Bool.{lt-ltb}
 use Rattle.std.proofs.lemmas.Option.{some_pair_parts}
 use borrow.Author.Tests.{ltb-true}
-use Rattle.body_forms.specs.Format.{AreBytes, Takes, IsFormat, chain, ChainFits, chain_at, then_at}
+use Rattle.codec_frame.specs.Bytes.{AreBytes}
+use Rattle.body_forms.specs.Format.{Takes, IsFormat, chain, ChainFits, chain_at, then_at}
 use Rattle.body_forms.specs.VInts.{vint}
 use Rattle.body_forms.specs.Numbers.{string, string_at, difference, MayCome, difference_at, positive_at}
 use Rattle.postings_plain.specs.Postings.{Entry, positions, PositionsFit, hit, HitFits, above_hit, hits, HitsFit, entry, EntryFits}

@@ -6,7 +6,8 @@ use Rattle.std.specs.declared.cmp.Ordering.TheVariants.{Less, Equal, Greater}
 use Rattle.std.proofs.lemmas.Bool.{cases_lt}
 use Rattle.std.proofs.lemmas.Cmp.{nat_list_cmp_total}
 use Rattle.std.proofs.lemmas.List.{append-nil, length-map, get_or_default}
-use Rattle.body_forms.specs.Format.{AreBytes, Read}
+use Rattle.codec_frame.specs.Bytes.{AreBytes}
+use Rattle.body_forms.specs.Format.{Read}
 use Rattle.postings_plain.specs.Postings.{Entry, hits_of, entry, EntryFits}
 use Rattle.postings_plain.specs.Body.{heading_of, heading_order, IsBefore, SpellsPostings}
 use Rattle.postings_plain.specs.Reading.{entry_at, end_after, IsEntry, IsEntryUpTo, AreEntries, no_entry, at_place, entry_in, entry_of}
