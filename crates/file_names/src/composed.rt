@@ -134,28 +134,3 @@ pub fn temp_name(name: &FileName, job: u64) -> FileName
     temp.push(b".tmp");
     temp.finish()
 }
-
-#[cfg(test)]
-mod tests {
-    use super::*;
-
-    #[test]
-    fn names_of_each_kind(rt: HostRuntime) {
-        let first = SegNo(1679616);
-        let docs = part_name(first, SegPart::Docs);
-        let cases: [(FileName, &[u8]); 9] = [
-            (docs, b"_10000.docs"),
-            (part_name(first, SegPart::Post), b"_10000.post"),
-            (part_name(SegNo(3359232), SegPart::Info), b"_20000.si"),
-            (live_name(first, 1), b"_10000_1.liv"),
-            (commit_name(1), b"segments_1"),
-            (commit_name(36), b"segments_10"),
-            (pending_name(1), b"pending_segments_1"),
-            (temp_name(&docs, 1), b"_10000.docs_1.tmp"),
-            (pending_name(u64::MAX), b"pending_segments_3w5e11264sgsf"),
-        ];
-        for (name, bytes) in cases {
-            assert_eq!(rt; name.as_slice(), bytes);
-        }
-    }
-}
