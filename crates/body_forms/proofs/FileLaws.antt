@@ -1,7 +1,7 @@
 -- What reading a framed file answers, and what writing one makes, for every kind of file.
 -- `ids` gives each value the id that its file has; where the id is passed it is `λ _. id`.
 -- `told` is how the reader's own error tells a fault of the file.
-use Rattle.std.proofs.Common.{◌≡◌, ℕ, ◌^◌, ◌<◌, ◌≤◌, ◌↔◌, List, [], ◌++◌, length, Option, Some, Result, Ok, Err, refl, sym, ap, subst, ◌∙◌, arith}
+use Rattle.std.proofs.Common.{◌≡◌, ℕ, ◌^◌, ◌<◌, ◌≤◌, List, [], ◌++◌, length, Option, Some, Result, Ok, Err, refl, sym, ap, subst, ◌∙◌, arith}
 use Rattle.std.specs.Prelude.{IfOk, IfSome, IsOkAnd, IsErrAnd, slice_range}
 use Rattle.nrt_base.proofs.Plain.{ok_never_err, same_ok, same_err}
 use Rattle.codec_frame.specs.Frame.{Wanted, IsFramed, IsFrame, IsFramedAs, index_header, with_footer}
@@ -169,6 +169,10 @@ module _ {X : Type 0} {Spells : List ℕ → X → Type 0} {want : Wanted} {id :
   -- a value has one file
   pub one_file_of : (a b : List ℕ) (x : X) → IsFile Spells want id x a → IsFile Spells want id x b → a ≡ b
   one_file_of a b x d e = one_file_bytes Spells want id a b x kind.one_to_one d e
+
+  -- of files as of bodies: bytes are the file of one value, and a value has one file
+  pub files_one_to_one : IsOneToOne (λ bytes x. IsFile Spells want id x bytes)
+  files_one_to_one = record { one_value = one_value_of; one_spelling = one_file_of }
 
   -- a value that the body spells stands in the frame
   pub stands_in : {bytes : List ℕ} {found : Result Framed FrameFault} (k : IsChecked want bytes found) (frame : Framed) (x : X) → found ≡ Ok frame → Spells (body_of bytes frame) x → StandsIn Spells (λ _. id) bytes frame x

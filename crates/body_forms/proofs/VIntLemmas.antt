@@ -8,8 +8,7 @@ use Rattle.std.proofs.lemmas.List.{append_assoc, take_all, length-take, length-s
 use Rattle.codec_frame.specs.Bytes.{AreBytes}
 use Rattle.body_forms.specs.declared.vint.VIntFault.{VIntFault}
 use Rattle.body_forms.specs.declared.vint.VIntFault.TheVariants.{Short, Long}
-use Rattle.codec_frame.proofs.ByteLaws.{AreBytes-take}
-use Rattle.body_forms.proofs.Formats.{AreBytes-rest}
+use Rattle.codec_frame.proofs.ByteLaws.{AreBytes-rest, AreBytes-take}
 use Rattle.body_forms.specs.VInts.{goes_on, is_vint, vint_value, SpellsVInt, BeginsWithVInt, EndsWithinVInt, PassesVInt, vint_within, vint, vint_limit, with_first_byte, vint_read}
 
 AreBytes-cons : (b : ℕ) (bytes : List ℕ) → b < 256 → AreBytes bytes → AreBytes (b ∷ bytes)

@@ -1,5 +1,5 @@
 -- Files: the body of a value, framed.
-use Rattle.std.specs.Prelude.{◌≡◌, ◌↔◌, ℕ, List, Result, Ok, Err, IfOk}
+use Rattle.std.specs.Prelude.{◌≡◌, ◌↔◌, ◌<◌, ◌^◌, ℕ, List, ◌++◌, length, Result, Ok, Err, IfOk}
 use Rattle.codec_frame.specs.Frame.{Wanted, IsFramed, IsFramedAs}
 use Rattle.codec_frame.specs.Checking.{IsFirstFault}
 use Rattle.codec_frame.specs.declared.frame.FrameFault.{FrameFault}
@@ -34,3 +34,13 @@ pub record IsFileRead {X : Type 0} (Spells : List ℕ → X → Type 0) (want : 
   pub value : (x : X) → (result ≡ Ok x) ↔ IsFile Spells want id x bytes
   pub frame : (fault : FrameFault) → (result ≡ Err (Frame fault)) ↔ IsFirstFault want bytes fault
   pub body : (result ≡ Err Body) ↔ IsOfNoValue Spells want (λ _. id) bytes
+
+-- the body of the file with this id has fewer than 2^32 bytes
+abbrev pub HasSmallBody : Wanted → List ℕ → List ℕ → Type 0
+HasSmallBody want id bytes = (body : List ℕ) → IsFramed want want.min id body bytes → length body < 2 ^ 32
+
+-- bytes that spell the value were added
+pub record AddsSpelling {X : Type 0} (Spells : List ℕ → X → Type 0) (x : X) (old new : List ℕ) : Type 0 where
+  pub body : List ℕ
+  pub added : new ≡ old ++ body
+  pub spelled : Spells body x

@@ -1,3 +1,5 @@
+//! Numbers at the front of bytes, and numbers put at the end.
+
 ghost use Rattle.std.specs.Prelude.{◌≡◌, ◌<◌, ◌≤◌, ◌^◌, ◌++◌, Option, Some, None, IfSome, OnOk, OnErr};
 ghost use Rattle.std.specs.Option.{option_map};
 ghost use Rattle.body_forms.specs.Format.{Skips, chain_at};

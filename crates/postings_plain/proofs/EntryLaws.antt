@@ -11,7 +11,8 @@ use Rattle.body_forms.specs.Numbers.{string, string_at, difference, MayCome, dif
 use Rattle.postings_plain.specs.Postings.{Entry, positions, PositionsFit, hit, HitFits, above_hit, hits, HitsFit, entry, EntryFits}
 use Rattle.postings_plain.specs.Reading.{positions_at, hit_at, hits_at, field_at, term_at, entry_at}
 use Rattle.body_forms.proofs.NumberLaws.{positive_format, difference_format, ascending_format}
-use Rattle.body_forms.proofs.Formats.{tested_format, once, AreBytes-rest, passed, read_is, then_format, counted_format, chain_format}
+use Rattle.codec_frame.proofs.ByteLaws.{AreBytes-rest}
+use Rattle.body_forms.proofs.Formats.{tested_format, once, passed, read_is, then_format, counted_format, chain_format}
 use Rattle.body_forms.proofs.Numerals.{string_format, cells}
 
 pub term_format : IsFormat string (λ t. (0 < length t) × (length t < 2 ^ 32)) term_at

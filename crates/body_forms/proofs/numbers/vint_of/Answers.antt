@@ -1,6 +1,5 @@
-use Rattle.std.proofs.Common.{◌≡◌, ◌∙◌, sym, ap, arith, Some, List, ℕ}
-use Rattle.body_forms.proofs.VIntLemmas.{read_is, ok_parts}
-use Rattle.body_forms.specs.VInts.{vint}
+use Rattle.std.proofs.Common.{◌∙◌, sym, ap, arith, Some, List, ℕ}
+use Rattle.body_forms.proofs.VIntLemmas.{read_is}
 use Rattle.body_forms.proofs.Numerals.{one_byte, shortest, not_shortest, longer}
 use Rattle.body_forms.proofs.numbers.vint_of.Goals as goal
 use Rattle.body_forms.proofs.numbers.vint_of.Goals.{in_default-read_vint-via-in-Ok+else-taken-vint_len, in_default-read_vint-via-in_default-read_vint}
