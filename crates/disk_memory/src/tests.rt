@@ -1,3 +1,5 @@
+//! What crashes leave by their picks, what plans count, and two callers.
+
 use crate::MemDir;
 use bytes::Bytes;
 use disk_model::{Dir, DirFault, FaultDir};

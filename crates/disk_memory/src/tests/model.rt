@@ -1,4 +1,5 @@
-// A disk as lists alone, to compare the memory disk with.
+//! A disk as lists alone, to compare the memory disk with.
+
 use bytes::Bytes;
 use disk_model::DirFault;
 use std::alloc::Global;

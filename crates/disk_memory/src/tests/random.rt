@@ -1,4 +1,5 @@
-// A thousand calls over a hundred names, beside the disk of lists.
+//! A thousand calls over a hundred names, beside the disk of lists.
+
 use super::model::{Kept, Row};
 use super::{bytes, named};
 use crate::MemDir;
