@@ -3,4 +3,3 @@ pub mod Numbers
 pub mod ItemTable
 pub mod File
 pub mod TableParts
-pub mod VInts

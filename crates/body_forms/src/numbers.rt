@@ -4,8 +4,7 @@ ghost use Rattle.body_forms.specs.Format.{Skips, chain_at};
 ghost use Rattle.body_forms.specs.VInts.{vint_limit};
 ghost use Rattle.body_forms.specs.Numbers.{u32_bytes, u32_at, u64_bytes, u64_at, vint_at, vint_at_within, positive_at, difference, difference_at, above, ascending_at};
 
-use crate::push_vint;
-use nrt_base::NoMemory;
+use nrt_base::{NoMemory, push_vint};
 
 /// The number in the first four bytes, the highest first, and the bytes after it.
 #[tactic(auto, unfolding(crate::specs::Numbers::u32_at))]

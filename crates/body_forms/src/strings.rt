@@ -3,8 +3,7 @@ ghost use Rattle.std.specs.Option.{option_map};
 ghost use Rattle.body_forms.specs.Numbers.{string, string_at};
 
 use crate::numbers::vint_of;
-use crate::push_vint;
-use nrt_base::NoMemory;
+use nrt_base::{NoMemory, push_vint};
 
 /// The string at the front, and the bytes after it: its length as a vInt, then its bytes.
 #[tactic(auto, unfolding(crate::specs::Numbers::string_at))]

@@ -1,7 +1,7 @@
 ghost use Rattle.std.specs.Prelude.{◌≡◌, ◌++◌, ◌↔◌, ◌≤◌, ◌<◌, ℕ, length, IsErrOf, OnOk, OnErr};
 ghost use Rattle.body_forms.specs.VInts.{BeginsWithVInt, EndsWithinVInt, PassesVInt, vint, vint_read};
 
-use nrt_base::NoMemory;
+use crate::NoMemory;
 
 /// Why bytes do not begin with a vInt.
 #[derive(Clone, Copy, Debug, PartialEq, Eq)]

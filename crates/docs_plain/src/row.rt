@@ -6,8 +6,7 @@ ghost use Rattle.docs_plain.specs.Documents.{row, IsRow};
 ghost use Rattle.docs_plain.specs.Rows.{IsRowOfSome};
 
 use body_forms::{push_string, string_of};
-use body_forms::vint_len;
-use nrt_base::{Doc, NoMemory};
+use nrt_base::{Doc, NoMemory, vint_len};
 
 const LONGEST_KEY: usize = 64;
 

@@ -14,8 +14,7 @@ use crate::row::TermRow;
 use body_forms::{push_difference, push_end, push_string, push_table};
 use bytes::Bytes;
 use codec_frame::{write_footer, write_index_header};
-use body_forms::push_vint;
-use nrt_base::NoMemory;
+use nrt_base::{NoMemory, push_vint};
 use std::alloc::Global;
 
 /// The file of the postings of these rows. Rows are numbered as they stand in the list, from 0, and positions are places
