@@ -30,7 +30,7 @@ use Rattle.commit_steps.specs.Flights.{own_name, early_name, IsCommit, IsFlight,
 use Rattle.commit_steps.specs.Commits.{IsSettled, AreSettled, IsAbove, Stays, IsSafe}
 use Rattle.commit_steps.specs.Calls.{IsFree, AreSynced, StandsBegun, StandsSynced, StandsWritten, StandsPending, StandsNamed, StandsRenamed}
 use Rattle.commit_steps.specs.Book.{progress_of, stage_names, Stands, Leads, Advances}
-use Rattle.commit_steps.proofs.Safe.{early_not_commit, own_is, number_of_own, early_not_own, early_no_file, own_no_file, own_apart, greater_apart, same_kept, safe_all_kept, safe_beside, sync_kept, settled_along}
+use Rattle.commit_steps.proofs.Safe.{early_not_commit, own_is, number_of_own, early_not_own, early_no_file, own_no_file, own_apart, greater_apart, same_kept, safe_all_kept, safe_beside, sync_kept, file_along}
 
 -- ---- answers
 module _ (before after : Cells) (old new : Holdings) (from : Stage) where
@@ -241,7 +241,7 @@ module _ (cells : Cells) (holdings : Holdings) (f : Flight) where
             commit = st.flight.commit;
             above = above;
             own = λ o may. inl (along.no_other (own_name f.commit) (own_is f.commit st.flight.commit) (subst (IsAbove last) (sym (number_of_own f.commit st.flight.commit)) above) tt o may);
-            files = λ q there. settles (cells q) (st.files.each q there).0 (st.files.each q there).1;
+            files = λ q there. (settles (cells q) (st.files.each q there).0 (st.files.each q there).1, (st.files.each q there).0);
           };
           no_other = λ q named higher apart. along.no_other q named higher tt;
         };
@@ -296,7 +296,7 @@ module _ (before after : Cells) (holdings : Holdings) (s : RenamedState) (st : S
 module _ (before after : Cells) (f : Flight) (is : IsFlight f) (others : (q : Name) → early_name f.commit ≢ q → own_name f.commit ≢ q → after q ≡ before q)
     (gains : (o : Content) → may_leave (after (own_name f.commit)) o ≡ true → (may_leave (before (own_name f.commit)) o ≡ true) ⊎ (o ≡ Some f.bytes)) where
   files_over : (c : Commit) → IsCommit c → AreSettled before c.files → AreSettled after c.files
-  files_over c of h q there = settled_along (before q) (after q)
+  files_over c of h q there = file_along (before q) (after q)
       (same_kept (before q) (after q) (others q (early_no_file f.commit c is.commit of q there) (own_no_file f.commit c is.commit of q there))) (h q there)
 
   last_over : (last : Option Commit) → IsAbove last f.commit.number → IfSome last (Stays before) → IfSome last (Stays after)

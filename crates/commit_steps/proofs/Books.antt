@@ -16,7 +16,7 @@ use Rattle.commit_steps.specs.Flights.{own_name}
 use Rattle.commit_steps.specs.Commits.{ImagesHave, IsAbove, IsSafe}
 use Rattle.commit_steps.specs.Calls.{IsFree}
 use Rattle.commit_steps.specs.Book.{commit_of, is_last_call, progress_of, commit_along, shown_in, shown_by, stage_names, flying_names, last_names, book_names, Stands, IsNumbered, IsSound, Leads, Step}
-use Rattle.commit_steps.proofs.Safe.{images_of_safe, images_have, settled_along, same_kept}
+use Rattle.commit_steps.proofs.Safe.{images_of_safe, images_have, file_along, same_kept}
 
 -- ---- a deleter that counts as before
 module _ (cells : Cells) (old : Holdings) (room : ℕ) where
@@ -132,7 +132,7 @@ module _ (before after : Cells) (old mid new : Holdings) (room : ℕ) (book : Co
       last_stays = record {
         commit = made_safe.last_stays.commit;
         own = λ o may. made_safe.last_stays.own o (ap (λ (k : Cell). may_leave k o) (sym (same_at (own_name c) own_some)) ∙ may);
-        files = λ q there. settled_along (after q) (end q) (same_kept (after q) (end q) (same_at q (file_some q there))) (made_safe.last_stays.files q there);
+        files = λ q there. file_along (after q) (end q) (same_kept (after q) (end q) (same_at q (file_some q there))) (made_safe.last_stays.files q there);
       };
       in_flight = tt;
       no_other = λ q named above apart o may. elim (lets.keeps.crash q o refl may) [ inl was ↦ made_safe.no_other q named above tt o was | inr none ↦ none ];

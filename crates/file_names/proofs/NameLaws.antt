@@ -93,7 +93,7 @@ temp_name_is name job h few k =
 abbrev lacks : ℕ → List ℕ → Bool
 lacks m bytes = list_all (λ b. not (nat_eq b m)) bytes
 
-lacks_not : (m : ℕ) (xs ys : List ℕ) → lacks m (xs ++ m ∷ ys) ≡ true → ⊥
+pub lacks_not : (m : ℕ) (xs ys : List ℕ) → lacks m (xs ++ m ∷ ys) ≡ true → ⊥
 lacks_not m [] ys h = grind (arith, nat_tests, (and_true (not (nat_eq m m)) (lacks m ys) h).0)
 lacks_not m (x ∷ xs) ys h = lacks_not m xs ys (and_true (not (nat_eq x m)) (lacks m (xs ++ m ∷ ys)) h).1
 
@@ -104,7 +104,7 @@ digits_lack m (b ∷ bytes) e h =
     let other : not (nat_eq b m) ≡ true = grind (arith, nat_tests, e, g.0) in
     both_true (not (nat_eq b m)) (lacks m bytes) other (digits_lack m bytes e g.1)
 
-spelling_lacks : (m n : ℕ) → is_base36_digit m ≡ false → n < 2 ^ 64 → lacks m (base36_of n) ≡ true
+pub spelling_lacks : (m n : ℕ) → is_base36_digit m ≡ false → n < 2 ^ 64 → lacks m (base36_of n) ≡ true
 spelling_lacks m n e h = digits_lack m (base36_of n) e (spelling_of n h).digits
 
 heads : (x y : ℕ) (xs ys : List ℕ) → x ∷ xs ≡ y ∷ ys → x ≡ y
@@ -126,7 +126,7 @@ cut_first m (c ∷ a) (d ∷ b) x y h k e =
     (cells c d a b (heads c d (a ++ m ∷ x) (b ++ m ∷ y) e) rest.0, rest.1)
 
 -- lists that are cut at the last such byte
-cut_last : (m : ℕ) (a b x y : List ℕ) → lacks m x ≡ true → lacks m y ≡ true → a ++ m ∷ x ≡ b ++ m ∷ y → (a ≡ b) × (x ≡ y)
+pub cut_last : (m : ℕ) (a b x y : List ℕ) → lacks m x ≡ true → lacks m y ≡ true → a ++ m ∷ x ≡ b ++ m ∷ y → (a ≡ b) × (x ≡ y)
 cut_last m [] [] x y h k e = (refl, tails m m x y e)
 cut_last m [] (c ∷ b) x y h k e = absurd (lacks_not m b y (sym (ap (lacks m) (tails m c x (b ++ m ∷ y) e)) ∙ h))
 cut_last m (c ∷ a) [] x y h k e = absurd (lacks_not m a x (ap (lacks m) (tails c m (a ++ m ∷ x) y e) ∙ k))

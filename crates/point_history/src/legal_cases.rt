@@ -22,7 +22,7 @@ const CASES: &str = "\
 3 start: 1 2 accepted 1 put_a; 1 3 published 1 2
 3 start: 1 2 accepted 1 put_a; 1 3 publishing; 1 3 published 1 3
 3 start: 1 2 accepted 1 put_a; 1 3 publishing; 1 3 published 2 2
-3 published: 1 4 publishing; 1 4 published 1 3
+2 published: 1 4 publishing
 3 start: 1 2 accepted 1 put_a; 1 3 publishing; 2 4 crashed 1; 1 3 published 1 2
 4 published: 1 4 copying 1 2
 4 published: 1 4 copying 2 1

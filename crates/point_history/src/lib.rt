@@ -3,6 +3,8 @@
 
 mod answers;
 mod commits;
+mod drawn;
+mod fault_rules;
 mod faults;
 mod generation;
 #[cfg(test)]
@@ -14,6 +16,7 @@ mod nodes;
 mod published;
 mod refusals;
 mod rules;
+mod tasks;
 #[cfg(test)]
 mod tests;
 mod tickets;

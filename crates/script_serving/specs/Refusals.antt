@@ -1,14 +1,17 @@
 -- Why a line is refused before it has started, and why after.
-use Rattle.std.specs.Prelude.{ℕ, ◌+◌, ◌^◌, [], ◌∷◌, Bool, true, false, ◌&&◌, ◌||◌, not, ◌==◌, nat_lt, nat_le, length, Option, Some, None}
+use Rattle.std.specs.Prelude.{ℕ, ◌+◌, ◌^◌, [], ◌∷◌, Bool, true, false, ◌&&◌, ◌||◌, not, ◌==◌, nat_lt, nat_le, length, if◌then◌else◌, Option, Some, None}
+use Rattle.std.specs.List.{list_any}
 use Rattle.nrt_base.specs.declared.numbers.At.{At}
 use Rattle.nrt_base.specs.declared.numbers.NodeNo.{NodeNo}
 use Rattle.history_entries.specs.declared.cause.Cause.{Cause}
 use Rattle.history_entries.specs.declared.cause.Cause.TheVariants.{Down, Primary, NoPrimary, PrimaryUp, ForceLow, NoTicket, Lost, Cancelled, LinkFault, Damaged, DiskFault, Nothing, Up, NameUsed, NamesSpent, TooManySegments, ForceHigh}
 use Rattle.history_entries.specs.declared.cause.FaultKind.TheVariants.{Disk, Stop}
 use Rattle.history_entries.specs.declared.entry.Event.{Event}
-use Rattle.history_entries.specs.declared.entry.Event.TheVariants.{Published}
+use Rattle.history_entries.specs.declared.entry.Event.TheVariants.{Published, Merging}
+use Rattle.history_entries.specs.declared.entry.Entry.{Entry}
+use Rattle.history_entries.specs.Lines.{before_start}
 use Rattle.history_entries.specs.Nodes.{Past, primary_of, is_at, is_running, newest_version}
-use Rattle.history_entries.specs.Points.{cut_of, cut_has_put, names_drawn}
+use Rattle.history_entries.specs.Points.{cut_of, cut_has_put, names_drawn, documents_at}
 use Rattle.history_entries.specs.Tickets.{has_ticket}
 use Rattle.history_entries.specs.Faults.{has_fault, same_kind}
 use Rattle.script_serving.specs.declared.script.Force.{Force}
@@ -73,19 +76,30 @@ refusal (Merge factor) lane past = without_primary past
 refusal (Files n) lane past = without_node n.0 past
 refusal command lane past = None
 
-abbrev pub publishes_by : Event → ℕ → ℕ
-publishes_by (Published g w) k = k + 1
-publishes_by e k = k
+abbrev pub publishes_by : Event → Bool → ℕ → ℕ
+publishes_by (Published g w) has_put k = if has_put then k + 1 else k
+publishes_by e has_put k = k
 
--- how many publishes there were
+-- how many publishes had a put, and so made a segment
 abbrev pub publish_count : Past → ℕ
 publish_count [] = 0
-publish_count (e ∷ past) = publishes_by e.event (publish_count past)
+publish_count (e ∷ past) = publishes_by e.event (cut_has_put (before_start e.at past)) (publish_count past)
+
+abbrev pub is_merge : Entry → Bool
+is_merge e = starts_merge e.event
+  where
+    starts_merge : Event → Bool
+    starts_merge (Merging seg) = true
+    starts_merge event = false
+
+-- there may be 256 segments: as many publishes made one, and, where no merge was started, each still has a document
+abbrev pub may_be_full : Past → Bool
+may_be_full past = nat_le 256 (publish_count past) && (list_any is_merge past || nat_le 256 (length (documents_at past (newest_version past))))
 
 -- what a line may be refused for that the history does not decide: segments, sizes and disks do
 abbrev pub may_be_refused : LineCommand → At → Past → Cause → Bool
 may_be_refused Publish at past Nothing = length (cut_of past) == 0
-may_be_refused Publish at past TooManySegments = cut_has_put past && nat_le 256 (publish_count past)
+may_be_refused Publish at past TooManySegments = cut_has_put past && may_be_full past
 may_be_refused (Merge factor) at past Nothing = true
 may_be_refused (Merge factor) at past NamesSpent = names_are_spent past
 may_be_refused (Reopen n) at past DiskFault = has_fault (λ m. m == n.0) (λ kind. same_kind Disk kind || same_kind Stop kind) at past

@@ -1,5 +1,5 @@
-use Rattle.segment_infos.proofs.CommitLaws.{number_found, none_large, none_small, none_spelled}
-use Rattle.segment_infos.proofs.commits.number_of.Goals as goal
+use Rattle.file_names.proofs.NameReading.{number_found, none_large, none_small, none_spelled}
+use Rattle.file_names.proofs.read_names.commit_number.Goals as goal
 
 pub returns-in-Ok-clause-number : goal.returns-in-Ok-clause-number
 returns-in-Ok-clause-number c = number_found c.args.digits.now c.read_base36.result c.in-Ok.n c.read_base36.ensures.number c.in-Ok.is c.if-n-gt0.true c.if-n-lt-COMMIT_NUMBERS.true
