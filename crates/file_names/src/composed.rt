@@ -3,8 +3,8 @@ ghost use Rattle.file_names.specs.Names.{is_file_name};
 ghost use Rattle.file_names.specs.Names.{part_ending, part_name_of, live_name_of, commit_name_of, commit_number, is_commit_name, pending_name_of, pending_number, is_pending_name, temp_name_of};
 
 use crate::names::{FileName, padded};
-use nrt_base::SegNo;
 use crate::radix::base36;
+use nrt_base::SegNo;
 use std::marker::Model;
 
 /// A part of a segment that has a file of its own and is written once.
