@@ -9,8 +9,7 @@ pub mod query;
 mod text_words;
 
 pub use answer::Answer;
-pub use documents::texts_of;
-pub use documents::{Texts, apply, change, listed};
+pub use documents::{Texts, apply, change, listed, texts_of};
 pub use matching::{matches, scan};
 pub use operation::Op;
 pub use query::Query;

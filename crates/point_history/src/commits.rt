@@ -4,10 +4,9 @@ ghost use Rattle.std.specs.List.{list_any};
 ghost use Rattle.history_entries.specs.Lines.{commit_by};
 ghost use Rattle.history_entries.specs.Commits.{has_committed, is_disk_fault, starts_commit, is_stuck_by, is_stuck, reopenable_by, reopenable_versions, was_searched_since};
 
-use history_entries::Cause;
-use history_entries::{Entry, Event};
 use crate::lines::{commit_after, is_start, same_at, start_entry};
 use crate::nodes::{Searched, is_at};
+use history_entries::{Cause, Entry, Event};
 use nrt_base::{At, NodeNo, Version};
 
 /// Whether a commit of the node was acknowledged, or found by a reopening.

@@ -7,10 +7,10 @@ use crate::command::read_command;
 use crate::fault::{LineFault, Refusal};
 use crate::lines::Statement;
 use crate::numbers::{is_digits, lane};
-use script_serving::Line;
 use crate::shapes::{Asked, command_asked, is_miscounted};
 use crate::words::{is_printable, is_word, next_word, word_count};
 use nrt_base::{At, LineNo};
+use script_serving::Line;
 use std::alloc::Global;
 
 /// The most statements of a script.
