@@ -1,4 +1,4 @@
-use Rattle.nrt_base.proofs.NameReading.{number_found, none_large, none_small, none_spelled}
+use Rattle.file_names.proofs.NameReading.{number_found, none_large, none_small, none_spelled}
 use Rattle.file_names.proofs.read_names.commit_number.Goals as goal
 
 pub returns-in-Ok-clause-number : goal.returns-in-Ok-clause-number

@@ -2,7 +2,7 @@ use Rattle.std.proofs.Common.{◌≡◌, ◌+◌, ◌++◌, codes, Option, Some,
 use Rattle.std.proofs.lemmas.Bool.Decides.{Decides-eqb}
 use Rattle.std.proofs.lemmas.Slice.Eq.{strip_suffix_is}
 use Rattle.file_names.specs.Base36.{base36_of}
-use Rattle.nrt_base.proofs.NameReading.{numbered_is, before_ending, cut_there, same_numbered, not_none, rest_is}
+use Rattle.file_names.proofs.NameReading.{numbered_is, before_ending, cut_there, same_numbered, not_none, rest_is}
 use Rattle.file_names.proofs.read_names.numbered.Goals as goal
 
 pub returns-in_err-front-clause-all : goal.returns-in_err-front-clause-all

@@ -1,5 +1,5 @@
 use Rattle.std.proofs.Common.{◌∙◌, ap}
-use Rattle.nrt_base.proofs.NameReading.{file_found}
+use Rattle.file_names.proofs.NameReading.{file_found}
 use Rattle.file_names.proofs.read_names.segment_in.Goals as goal
 
 pub returns-clause-all : goal.returns-clause-all

@@ -1,6 +1,6 @@
 use Rattle.std.proofs.Common.{List, ℕ, subst, sym, ◌∙◌}
 use Rattle.file_names.specs.Names.{IsFileOfSegment}
-use Rattle.nrt_base.proofs.NameReading.{same_segment, not_none}
+use Rattle.file_names.proofs.NameReading.{same_segment, not_none}
 use Rattle.file_names.proofs.read_names.segment_of_temporary.Goals as goal
 
 pub returns-in-Some-clause-all : goal.returns-in-Some-clause-all

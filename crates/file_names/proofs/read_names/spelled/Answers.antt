@@ -1,4 +1,4 @@
-use Rattle.nrt_base.proofs.NameReading.{spelled_is, spelled_found, spelled_not_refused}
+use Rattle.file_names.proofs.NameReading.{spelled_is, spelled_found, spelled_not_refused}
 use Rattle.file_names.proofs.read_names.spelled.Goals as goal
 
 pub returns-in-Ok-clause-some : goal.returns-in-Ok-clause-some
