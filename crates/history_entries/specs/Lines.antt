@@ -12,29 +12,13 @@ same_at a b = (a.lane.0 == b.lane.0) && (a.line.0 == b.line.0)
 
 -- the event starts a line: its reply is still to come
 abbrev pub is_start : Event → Bool
-is_start (Accepted seq op) = false
 is_start Publishing = true
-is_start (Published g v) = false
 is_start (Copying n v) = true
-is_start (Switched n v) = false
-is_start (Copied n v) = false
 is_start (Settling v) = true
-is_start (Settled v) = false
 is_start (Opened n t v) = t.0 == 0
 is_start (Asking n t v) = true
-is_start (Answered n t v query answer) = false
-is_start (Closed n t) = false
 is_start (Committing n v) = true
-is_start (Committed n v) = false
-is_start (Crashed n) = false
-is_start (Reopened n v) = false
-is_start (Promoted n g f v) = false
-is_start (Merging seg) = false
-is_start (Drained done most) = false
-is_start (Files n names) = false
-is_start (Planned n plan) = false
-is_start (Fault n kind) = false
-is_start (Refused cause) = false
+is_start e = false
 
 -- the event answers its line: it neither starts it, nor happens while it is done
 abbrev pub is_reply : Event → Bool

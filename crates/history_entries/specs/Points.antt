@@ -1,9 +1,10 @@
 -- The points that the entries before a place show: which operations each has, and so which documents.
-use Rattle.std.specs.Prelude.{ℕ, ◌+◌, List, [], ◌∷◌, ◌++◌, Bool, true, false, ◌&&◌, ◌==◌, drop, nat_lt, nat_le, if◌then◌else◌}
+use Rattle.std.specs.Prelude.{ℕ, ◌≡◌, ◌+◌, List, [], ◌∷◌, ◌++◌, Bool, true, false, ◌&&◌, ◌==◌, drop, nat_lt, nat_le, if◌then◌else◌}
 use Rattle.std.specs.List.{list_any}
 use Rattle.nrt_base.specs.declared.doc.Doc.{Doc}
 use Rattle.nrt_base.specs.declared.numbers.At.{At}
 use Rattle.nrt_base.specs.SegNumbers.{segment_generation, segment_place}
+use Rattle.file_names.specs.Names.{IsFileOfSegment, IsTemporaryOfSegment}
 use Rattle.documents.specs.declared.operation.Op.{Op}
 use Rattle.documents.specs.declared.operation.Op.TheVariants.{Put, Delete, Drop}
 use Rattle.history_entries.specs.declared.entry.Event.{Event}
@@ -117,6 +118,14 @@ names_drawn_in g (e ∷ past) = if generation_of (e ∷ past) == g then names_dr
 -- the segment's name was drawn: its place is below the number of names that its generation has drawn
 abbrev pub is_drawn : ℕ → Past → Bool
 is_drawn seg past = nat_lt (segment_place seg) (names_drawn_in (segment_generation seg) past)
+
+-- the name of a file of a segment whose name was drawn
+abbrev pub IsDrawnFile : Past → List ℕ → Type 0
+IsDrawnFile past name = (seg : ℕ) × (is_drawn seg past ≡ true) × IsFileOfSegment seg name
+
+-- the temporary name of such a file
+abbrev pub IsDrawnTemporary : Past → List ℕ → Type 0
+IsDrawnTemporary past name = (seg : ℕ) × (is_drawn seg past ≡ true) × IsTemporaryOfSegment seg name
 
 abbrev pub merges_by : Event → ℕ → ℕ
 merges_by (Merging seg) k = k + 1

@@ -8,7 +8,7 @@ use Rattle.nrt_base.specs.declared.numbers.NodeNo.{NodeNo}
 use Rattle.nrt_base.specs.declared.numbers.TicketNo.{TicketNo}
 use Rattle.nrt_base.specs.declared.numbers.SegNo.{SegNo}
 use Rattle.nrt_base.specs.SegNumbers.{segment_number}
-use Rattle.file_names.specs.Names.{is_commit_name, is_pending_name, is_documents_name, IsFileOfSegment, IsTemporaryOfSegment, is_ascending}
+use Rattle.file_names.specs.Names.{is_commit_name, is_pending_name, is_documents_name, is_ascending}
 use Rattle.documents.specs.declared.query.Query.{Query}
 use Rattle.documents.specs.declared.answer.Answer.{Answer}
 use Rattle.history_entries.specs.declared.cause.Cause.{Cause}
@@ -20,7 +20,7 @@ use Rattle.history_entries.specs.declared.entry.Event.TheVariants.{Publishing, P
 use Rattle.documents.specs.Ranking.{scan_of}
 use Rattle.history_entries.specs.Nodes.{Past, IsNode, IsReplica, is_at, primary_of, primary_crashes, is_running, crashes, generation_of, version_of, newest_version, is_made_in_generation, is_point, accepted_count}
 use Rattle.history_entries.specs.Lines.{same_at, is_start, start_entry, before_start, last_of_line, is_answered, NodeSurvives, SourceSurvives, publish_in_flight, commit_in_flight, copy_in_flight, is_free_for, highest_copy, has_switched, highest_switched}
-use Rattle.history_entries.specs.Points.{documents_at, names_drawn, is_drawn, merges_started, cut_of, idle_publishes}
+use Rattle.history_entries.specs.Points.{documents_at, names_drawn, IsDrawnFile, IsDrawnTemporary, merges_started, cut_of, idle_publishes}
 use Rattle.history_entries.specs.Tickets.{open_ticket, has_ticket, IsTicketAt, IsTicketOf}
 use Rattle.history_entries.specs.Commits.{has_committed, is_disk_fault, is_stuck, reopenable_versions, was_searched_since}
 use Rattle.history_entries.specs.Tasks.{merge_count, drained_count}
@@ -189,8 +189,7 @@ has_documents past v = nat_lt 0 (length (documents_at past v))
 -- a name that a file may have: a commit's, also in preparation, or a file's of a segment that was drawn, also its temporary name
 abbrev pub MayHaveName : Past → List ℕ → Type 0
 MayHaveName past name =
-    (is_commit_name name ≡ true) ⊎ (is_pending_name name ≡ true)
-    ⊎ ((seg : ℕ) × (is_drawn seg past ≡ true) × (IsFileOfSegment seg name ⊎ IsTemporaryOfSegment seg name))
+    (is_commit_name name ≡ true) ⊎ (is_pending_name name ≡ true) ⊎ IsDrawnFile past name ⊎ IsDrawnTemporary past name
 
 -- a running node's files: names that files have, in ascending order; a commit's where one was acknowledged; documents' where its version, or a ticket there, has documents
 pub record MayListFiles (size : ℕ) (past : Past) (at : At) (n : NodeNo) (names : List (List ℕ)) : Type 0 where
@@ -304,7 +303,7 @@ pub record MayCancel (size : ℕ) (past : Past) (at : At) (start : Past) (begun 
 -- the line has met damage at a node of its own, and this is the name of a file of a segment that was drawn
 pub record MayBeDamaged (size : ℕ) (past : Past) (at : At) (start : Past) (begun : Event) (name : List ℕ) : Type 0 where
   pub met : has_fault (is_node_of size start begun) (same_kind Damage) at past ≡ true
-  pub file : (seg : ℕ) × (is_drawn seg past ≡ true) × IsFileOfSegment seg name
+  pub file : IsDrawnFile past name
 
 -- the line has met a fault of a disk at a node of its own, or at its source
 abbrev pub has_disk_fault : ℕ → Past → Event → At → Past → Bool

@@ -36,7 +36,7 @@ pub(crate) fn is_disk_fault(cause: &Cause) -> bool
 
 /// Whether a line started as a commit at this node.
 fn starts_commit(n: NodeNo, start: Option<&Event>) -> bool
-    ensures { result ≡ starts_commit n.0 (option_copied start) }
+    ensures { result ≡ starts_commit n.0 (option_copied start.entry) }
 {
     match start {
         Some(Event::Committing { n: m, .. }) => m.0 == n.0,

@@ -14,7 +14,7 @@ use nrt_base::{At, NodeNo};
 
 /// Whether a line started as a copy or a settle after these entries, and this is a node of it.
 fn copies_to(nodes: u8, start: &[Entry], begun: Option<&Event>, n: NodeNo) -> bool
-    ensures { result ≡ copies_to nodes (reverse start.now) (option_copied begun) n.0 }
+    ensures { result ≡ copies_to nodes (reverse start.now) (option_copied begun.entry) n.0 }
 {
     match begun {
         Some(Event::Copying { n: m, v }) => m.0 == n.0,
@@ -26,7 +26,7 @@ fn copies_to(nodes: u8, start: &[Entry], begun: Option<&Event>, n: NodeNo) -> bo
 }
 
 fn is_merging(last: Option<&Event>) -> bool
-    ensures { result ≡ is_merging (option_copied last) }
+    ensures { result ≡ is_merging (option_copied last.entry) }
 {
     match last {
         Some(Event::Merging { .. }) => true,

@@ -1,23 +1,23 @@
 //! The rule of a listing of files.
 
-ghost use Rattle.std.specs.Prelude.{◌≡◌, ◌↔◌, ◌⊎◌, reverse, true, IfOk, IsTrue, MatchBool};
+ghost use Rattle.std.specs.Prelude.{◌≡◌, ◌↔◌, reverse, true, IfOk, IsTrue, MatchBool};
 ghost use Rattle.std.specs.List.{All, list_any};
 ghost use Rattle.std.specs.Ordering.{nat_cmp};
 ghost use Rattle.std.specs.Cmp.Lexicographic.{slice_cmp};
-ghost use Rattle.file_names.specs.Names.{is_commit_name, is_pending_name, is_documents_name, IsFileOfSegment, IsTemporaryOfSegment, is_less, is_ascending};
+ghost use Rattle.file_names.specs.Names.{is_commit_name, is_pending_name, is_documents_name, is_less, is_ascending};
 ghost use Rattle.point_history.specs.Generations.{ShowsDrawn};
 ghost use Rattle.history_entries.specs.Rules.{has_documents, MayHaveName, MayListFiles};
 ghost use Rattle.point_history.specs.Openings.{opens_by, HoldsNone};
 
 use crate::commits::has_committed;
-use crate::drawn::{Drawn, is_drawn};
+use crate::drawn::{Drawn, is_drawn_file, is_drawn_temporary};
 use crate::faults::has_met_fault;
 use crate::nodes::{is_node, is_running, version_of};
 use crate::tickets::open_ticket;
 use crate::written::documents_at;
-use file_names::{FileName, commit_of, pending_of, segment_of_file, segment_of_temporary};
+use file_names::{FileName, commit_of, pending_of};
 use history_entries::{Entry, Event};
-use nrt_base::{At, NoMemory, NodeNo, SegNo, Version};
+use nrt_base::{At, NoMemory, NodeNo, Version};
 use std::alloc::Global;
 use std::cmp::Ordering;
 
@@ -71,25 +71,15 @@ fn is_ascending(names: &[FileName]) -> bool
     true
 }
 
-/// The segment that has this file, also under its temporary name.
-fn segment_of_name(name: &FileName) -> Option<SegNo>
-    ensures { (seg : SegNo) → (result ≡ Some seg) ↔ (IsFileOfSegment seg.0 name.now ⊎ IsTemporaryOfSegment seg.0 name.now) }
-{
-    segment_of_file(name).or(segment_of_temporary(name))
-}
-
 /// Whether a file may have this name.
 fn may_have_name(entries: &[Entry], drawn: &Drawn, name: &FileName) -> bool
     requires shown { ShowsDrawn (reverse entries.now) drawn.now }
     ensures { IsTrue result ↔ MayHaveName (reverse entries.now) name.now }
 {
-    if is_commit_name(name) || is_pending_name(name) {
-        return true;
-    }
-    match segment_of_name(name) {
-        Some(seg) => is_drawn(drawn, seg),
-        None => false,
-    }
+    is_commit_name(name)
+        || is_pending_name(name)
+        || is_drawn_file(drawn, name)
+        || is_drawn_temporary(drawn, name)
 }
 
 /// Whether files may have these names.

@@ -1,19 +1,17 @@
 //! The rule of a refusal.
 
-ghost use Rattle.std.specs.Prelude.{◌≡◌, ◌↔◌, ℕ, reverse, true, IsTrue};
-ghost use Rattle.file_names.specs.Names.{IsFileOfSegment};
+ghost use Rattle.std.specs.Prelude.{◌≡◌, ◌↔◌, reverse, IsTrue};
 ghost use Rattle.history_entries.specs.Faults.{same_kind, has_fault};
 ghost use Rattle.point_history.specs.Generations.{ShowsDrawn};
-ghost use Rattle.history_entries.specs.Points.{is_drawn};
 ghost use Rattle.history_entries.specs.Lines.{start_entry};
 ghost use Rattle.history_entries.specs.Rules.{is_node_of, is_source_of, is_lost, version_in, is_above, is_copied_beside, is_settled_beside, is_copy, is_loss, has_disk_fault, MayCancel, MayBeDamaged, MayBreakOff, MayRefuse, MayRefuseAtOnce, MayRefuseLine};
 
 use crate::commits::is_disk_fault;
-use crate::drawn::{Drawn, is_drawn};
+use crate::drawn::{Drawn, is_drawn_file};
 use crate::faults::{has_met_fault, is_of_disk, same_kind};
 use crate::lines::{before_start, has_switched, is_answered, is_start, same_at, start_entry};
 use crate::nodes::{crashes, is_at, is_point, is_running, primary_of};
-use file_names::{FileName, segment_of_file};
+use file_names::FileName;
 use history_entries::{Cause, Entry, Event, FaultKind};
 use nrt_base::{At, NodeNo, Version};
 
@@ -173,17 +171,6 @@ fn may_cancel(
             || is_settled_beside(start, at, entries))
 }
 
-/// Whether the name is that of a file of a segment that was drawn.
-fn is_of_drawn(entries: &[Entry], drawn: &Drawn, name: &FileName) -> bool
-    requires shown { ShowsDrawn (reverse entries.now) drawn.now }
-    ensures { IsTrue result ↔ ((seg : ℕ) × (is_drawn seg (reverse entries.now) ≡ true) × IsFileOfSegment seg name.now) }
-{
-    match segment_of_file(name) {
-        Some(seg) => is_drawn(drawn, seg),
-        None => false,
-    }
-}
-
 fn may_be_damaged(
     nodes: u8,
     entries: &[Entry],
@@ -197,7 +184,7 @@ fn may_be_damaged(
     ensures { IsTrue result ↔ MayBeDamaged nodes (reverse entries.now) at (reverse start.now) begun.now name.now }
 {
     has_fault_at_node(nodes, start, begun, FaultKind::Damage, at, entries)
-        && is_of_drawn(entries, drawn, name)
+        && is_drawn_file(drawn, name)
 }
 
 fn may_break_off(
