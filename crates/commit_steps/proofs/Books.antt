@@ -94,6 +94,7 @@ module _ (before after : Cells) (old mid new : Holdings) (room : ℕ) (book : Co
               omega (arith, leads.shifts.balance q, count_roomy old mid room e q, was, now);
           whole = λ w. leads.shifts.whole (whole_mid before old mid room e w);
           reads = λ q had has. leads.shifts.reads q (let c : count_of mid q ≡ count_of old q = count_roomy old mid room e q in omega (arith, had, c)) has;
+          none = λ q out gone. leads.shifts.none q (omega (arith, out, times-append (last_names book.last) (stage_names t) q)) gone;
         };
       }
 
@@ -159,6 +160,10 @@ module _ (before after : Cells) (old mid new : Holdings) (room : ℕ) (book : Co
         reads = λ q had has.
             let m : 0 < count_of new q = in_between q has in
             lets.keeps.reads q m has ∙ leads.shifts.reads q (let k : count_of mid q ≡ count_of old q = count_roomy old mid room e q in omega (arith, had, k)) m;
+        none = λ q out gone.
+            let all : times (c.names ++ []) q ≡ times c.names q + times [] q = times-append c.names [] q in
+            let named : times c.names q ≡ times c.files q + times (own_name c ∷ []) q = ap (λ (ns : List Name). times ns q) made_safe.last_stays.commit.names ∙ times-append c.files (own_name c ∷ []) q in
+            lets.keeps.none q refl (leads.shifts.none q (omega (arith, out, all, named, times-cons (own_name c) c.files q, times_one (own_name c) q)) gone);
       };
     }
 
@@ -174,7 +179,7 @@ pub step_refused : (cells : Cells) (holdings : Holdings) (book : CommitBook) →
 step_refused cells holdings book sound = record {
   sound = sound;
   images = images_of_safe cells book.last (shown_by book.stage) sound.safe;
-  shifts = record { balance = λ q. refl; whole = λ w. w; reads = λ q had has. refl };
+  shifts = record { balance = λ q. refl; whole = λ w. w; reads = λ q had has. refl; none = λ q out gone. gone };
 }
 
 -- a commit that is still in flight did not make its last call

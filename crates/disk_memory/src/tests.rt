@@ -8,7 +8,6 @@ use std::alloc::Global;
 use std::test::Fail;
 
 mod callers;
-mod model;
 mod random;
 
 use callers::{remove_all, save_whole};
