@@ -13,7 +13,7 @@ use Rattle.std.proofs.lemmas.Map.Keys.{sorted_head, sorted_tail}
 use Rattle.std.proofs.lemmas.Map.Lookups.{exact_bytes}
 use Rattle.nrt_base.specs.declared.doc.Doc.{Doc}
 use Rattle.documents.specs.declared.operation.Op.{Op}
-use Rattle.documents.specs.declared.operation.Op.TheVariants.{Put, Delete}
+use Rattle.documents.specs.declared.operation.Op.TheVariants.{Put, Delete, Drop}
 use Rattle.documents.specs.Documents.{key_cmp, IsAscending, document_of, with_doc, without_key, after_op, after_ops, documents_after}
 
 abbrev Entries : Type 0
@@ -155,6 +155,7 @@ ascending_without (d ∷ docs) gone ascending =
 ascending_after : (docs : List Doc) (op : Op) → IsAscending docs → IsAscending (after_op docs op)
 ascending_after docs (Put doc) ascending = ascending_with docs doc ascending
 ascending_after docs (Delete key) ascending = ascending_without docs key ascending
+ascending_after docs (Drop word) ascending = ascending
 
 ascending_after_all : (docs : List Doc) (ops : List Op) → IsAscending docs → IsAscending (after_ops docs ops)
 ascending_after_all docs [] ascending = ascending

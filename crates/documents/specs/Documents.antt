@@ -6,7 +6,7 @@ use Rattle.std.specs.Cmp.Lexicographic.{slice_cmp}
 use Rattle.std.specs.declared.cmp.Ordering.{Ordering}
 use Rattle.nrt_base.specs.declared.doc.Doc.{Doc}
 use Rattle.documents.specs.declared.operation.Op.{Op}
-use Rattle.documents.specs.declared.operation.Op.TheVariants.{Put, Delete}
+use Rattle.documents.specs.declared.operation.Op.TheVariants.{Put, Delete, Drop}
 
 -- keys are in the order of their bytes
 abbrev pub key_cmp : List ℕ → List ℕ → Ordering
@@ -26,6 +26,7 @@ without_key (d ∷ docs) key = match_ordering (key_cmp key d.key) (d ∷ docs) d
 abbrev pub after_op : List Doc → Op → List Doc
 after_op docs (Put doc) = with_doc docs doc
 after_op docs (Delete key) = without_key docs key
+after_op docs (Drop word) = docs
 
 -- the documents after some more operations, in order
 abbrev pub after_ops : List Doc → List Op → List Doc

@@ -39,6 +39,7 @@ pub fn change(alloc: Global, texts: &mut Texts, op: &Op) -> Result<(), NoMemory>
             delete(texts, key);
             Ok(())
         }
+        Op::Drop(_) => Err(std::alloc::AllocError),
     }
 }
 

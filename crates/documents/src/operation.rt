@@ -1,4 +1,4 @@
-use nrt_base::{Doc, Key, NoMemory, Share};
+use nrt_base::{Doc, Key, NoMemory, Share, Word};
 use std::alloc::Global;
 
 /// An operation on the documents.
@@ -8,6 +8,8 @@ pub enum Op {
     Put(Doc),
     /// The key has no document any more.
     Delete(Key),
+    /// Every document that has the word goes.
+    Drop(Word),
 }
 
 impl Share for Op {
@@ -15,6 +17,7 @@ impl Share for Op {
         match self {
             Op::Put(doc) => Ok(Op::Put(doc.share(alloc)?)),
             Op::Delete(key) => Ok(Op::Delete(key.share(alloc)?)),
+            Op::Drop(word) => Ok(Op::Drop(word.share(alloc)?)),
         }
     }
 }

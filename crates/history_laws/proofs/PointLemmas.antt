@@ -9,7 +9,7 @@ use Rattle.std.specs.declared.cmp.Ordering.TheVariants.{Less, Equal, Greater}
 use Rattle.nrt_base.specs.declared.doc.Doc.{Doc}
 use Rattle.nrt_base.specs.declared.numbers.At.{At}
 use Rattle.documents.specs.declared.operation.Op.{Op}
-use Rattle.documents.specs.declared.operation.Op.TheVariants.{Put, Delete}
+use Rattle.documents.specs.declared.operation.Op.TheVariants.{Put, Delete, Drop}
 use Rattle.history_entries.specs.declared.point.Point.{Point}
 use Rattle.history_entries.specs.declared.entry.Entry.{Entry}
 use Rattle.history_entries.specs.declared.entry.Event.{Event}
@@ -232,6 +232,7 @@ length-without_key-le (d ∷ docs) key =
 length-after_op-le : (docs : List Doc) (op : Op) → length (after_op docs op) ≤ length docs + 1
 length-after_op-le docs (Put doc) = length-with_doc-le docs doc
 length-after_op-le docs (Delete key) = let rest = length-without_key-le docs key in omega (arith, rest)
+length-after_op-le docs (Drop word) = omega arith
 
 length-after_ops-le : (docs : List Doc) (ops : List Op) → length (after_ops docs ops) ≤ length docs + length ops
 length-after_ops-le docs [] = omega arith
