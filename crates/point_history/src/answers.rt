@@ -5,13 +5,11 @@ ghost use Rattle.history_entries.specs.Lines.{start_entry};
 ghost use Rattle.history_entries.specs.Points.{documents_at};
 ghost use Rattle.history_entries.specs.Rules.{StartedSearch, MayAnswer};
 
-use documents::{Answer, Hit};
-use history_entries::{Entry, Event};
 use crate::lines::{node_survives, start_entry};
 use crate::nodes::is_node;
-use documents::Query;
-use documents::scan_if_told;
 use crate::written::documents_at;
+use documents::{Answer, Hit, Query, scan_if_told};
+use history_entries::{Entry, Event};
 use nrt_base::{At, NoMemory, NodeNo, TicketNo, Version};
 use std::alloc::Global;
 
@@ -60,7 +58,8 @@ fn is_right(
     answer: &Answer,
 ) -> Result<bool, NoMemory>
     requires { accepted_count (reverse entries.now) < 2 ^ 32 }
-    ensures { IfOk result (λ right. IsTrue right ↔ (answer.now ≡ scan_of (documents_at (reverse entries.now) v.0) query.now)) }
+    ensures { IfOk result (λ right.
+        IsTrue right ↔ (answer.now ≡ scan_of (documents_at (reverse entries.now) v.0) query.now)) }
 {
     let docs = documents_at(alloc, entries, v)?;
     match scan_if_told(alloc, docs.as_slice(), query)? {
@@ -84,7 +83,8 @@ pub(crate) fn may_answer(
     answer: &Answer,
 ) -> Result<bool, NoMemory>
     requires { accepted_count (reverse entries.now) < 2 ^ 32 }
-    ensures { IfOk result (λ may. IsTrue may ↔ MayAnswer nodes (reverse entries.now) at n t v query.now answer.now) }
+    ensures { IfOk result (λ may.
+        IsTrue may ↔ MayAnswer nodes (reverse entries.now) at n t v query.now answer.now) }
 {
     if !is_node(nodes, n)
         || !started_search(n, t, v, at, entries)

@@ -68,7 +68,8 @@ EventFits (Settled v) = IsNumber v.0
 EventFits (Opened n t v) = IsNumber n.0 × IsNumber t.0 × IsNumber v.0
 EventFits (Asking n t v) = IsNumber n.0 × IsNumber t.0 × IsNumber v.0
 EventFits (Answered n t v query answer) =
-    IsNumber n.0 × IsNumber t.0 × IsNumber v.0 × IsNumber answer.total × (list_all hit_fits answer.hits ≡ true)
+    IsNumber n.0 × IsNumber t.0 × IsNumber v.0 × IsNumber answer.total
+    × (list_all hit_fits answer.hits ≡ true)
 EventFits (Closed n t) = IsNumber n.0 × IsNumber t.0
 EventFits (Committing n v) = IsNumber n.0 × IsNumber v.0
 EventFits (Committed n v) = IsNumber n.0 × IsNumber v.0

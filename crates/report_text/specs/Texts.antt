@@ -1,5 +1,5 @@
--- The text of an entry and of a history: one line of the report for each entry, words with a space between.
-use Rattle.std.specs.Prelude.{ℕ, List, [], ◌∷◌, ◌++◌, map, codes}
+-- The text of an entry and of a history: a line for each entry, words with a space between.
+use Rattle.std.specs.Prelude.{◌≡◌, ℕ, List, [], ◌∷◌, ◌++◌, map, codes}
 use Rattle.std.specs.List.{flat_map}
 use Rattle.std.specs.Fmt.{decimal}
 use Rattle.file_names.specs.Base36.{base36_of}
@@ -18,6 +18,10 @@ use Rattle.history_entries.specs.declared.entry.History.{History}
 -- each after a space
 abbrev pub all_spaced : List (List ℕ) → List ℕ
 all_spaced words = flat_map (λ word. 32 ∷ word) words
+
+-- the words were put behind what was there, each after a space
+abbrev pub AddsWords : (old new : List ℕ) → List (List ℕ) → Type 0
+AddsWords old new words = new ≡ old ++ all_spaced words
 
 -- a word, and numbers as words
 abbrev pub with_numbers : List ℕ → List ℕ → List (List ℕ)
@@ -80,7 +84,8 @@ event_words (Committing n v) = with_numbers (codes "committing") (n.0 ∷ v.0 �
 event_words (Committed n v) = with_numbers (codes "committed") (n.0 ∷ v.0 ∷ [])
 event_words (Crashed n) = with_numbers (codes "crashed") (n.0 ∷ [])
 event_words (Reopened n v) = with_numbers (codes "reopened") (n.0 ∷ v.0 ∷ [])
-event_words (Promoted n g forced v) = with_numbers (codes "promoted") (n.0 ∷ g.0 ∷ forced.0 ∷ v.0 ∷ [])
+event_words (Promoted n g forced v) =
+    with_numbers (codes "promoted") (n.0 ∷ g.0 ∷ forced.0 ∷ v.0 ∷ [])
 event_words (Merging seg) = codes "merging" ∷ (95 ∷ base36_of seg.0) ∷ []
 event_words (Drained done most) = with_numbers (codes "drained") (done ∷ [])
 event_words (Files n names) = with_numbers (codes "files") (n.0 ∷ []) ++ names

@@ -1,7 +1,7 @@
 //! Why a line is refused, and which faults are planned, as words.
 
 ghost use Rattle.std.specs.Prelude.{◌≡◌, ◌++◌, ◌∷◌, [], OnOk, codes};
-ghost use Rattle.report_text.specs.Texts.{all_spaced, kind_text, plan_words, cause_words};
+ghost use Rattle.report_text.specs.Texts.{AddsWords, kind_text, plan_words, cause_words};
 
 use crate::words::{push_with_numbers, push_word};
 use file_names::FileName;
@@ -10,7 +10,7 @@ use nrt_base::{NoMemory, NodeNo};
 use std::alloc::Global;
 
 pub fn push_cause(out: &mut Vec<u8>, alloc: Global, cause: &Cause) -> Result<(), NoMemory>
-    ensures { OnOk result (out.new.items ≡ out.old.items ++ all_spaced (cause_words cause.now)) }
+    ensures { OnOk result (AddsWords out.old.items out.new.items (cause_words cause.now)) }
 {
     match cause {
         Cause::Down => push_word(out, b"down"),
@@ -34,7 +34,8 @@ pub fn push_cause(out: &mut Vec<u8>, alloc: Global, cause: &Cause) -> Result<(),
 }
 
 fn push_damaged(out: &mut Vec<u8>, name: &FileName) -> Result<(), NoMemory>
-    ensures { OnOk result (out.new.items ≡ out.old.items ++ all_spaced (codes "damaged" ∷ name.now ∷ [])) }
+    ensures { OnOk result (AddsWords out.old.items out.new.items
+        (codes "damaged" ∷ name.now ∷ [])) }
 {
     push_word(out, b"damaged")?;
     push_word(out, name.as_slice())
@@ -63,7 +64,7 @@ pub fn push_plan(
     n: NodeNo,
     plan: FaultPlan,
 ) -> Result<(), NoMemory>
-    ensures { OnOk result (out.new.items ≡ out.old.items ++ all_spaced (plan_words n.0 plan)) }
+    ensures { OnOk result (AddsWords out.old.items out.new.items (plan_words n.0 plan)) }
 {
     let n = u64::from(n.0);
     match plan {

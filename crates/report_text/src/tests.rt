@@ -4,10 +4,12 @@ ghost use Rattle.std.specs.Prelude.{IsTrue};
 ghost use Rattle.nrt_base.specs.Bytes.{is_key};
 
 use crate::{line, report};
-use file_names::{SegPart, commit_name, part_name};
-use nrt_base::{At, Doc, Gen, Key, LaneNo, LineNo, List, NoMemory, NodeNo, SegNo, Text, TicketNo, Version, Word};
 use documents::{Answer, Hit, Op, Query};
+use file_names::{SegPart, commit_name, part_name};
 use history_entries::{Cause, Entry, Event, FaultKind, FaultPlan, History};
+use nrt_base::{
+    At, Doc, Gen, Key, LaneNo, LineNo, List, NoMemory, NodeNo, SegNo, Text, TicketNo, Version, Word,
+};
 use std::alloc::Global;
 use std::process::Abort;
 use std::test::Fail;

@@ -2,7 +2,7 @@
 
 ghost use Rattle.std.specs.Prelude.{◌≡◌, ◌++◌, ◌∷◌, OnOk, map};
 ghost use Rattle.std.specs.Fmt.{decimal};
-ghost use Rattle.report_text.specs.Texts.{all_spaced, with_numbers, hit_text};
+ghost use Rattle.report_text.specs.Texts.{AddsWords, with_numbers, hit_text};
 
 use documents::Hit;
 use file_names::FileName;
@@ -23,7 +23,7 @@ pub fn push_word(out: &mut Vec<u8>, word: &[u8]) -> Result<(), NoMemory>
 }
 
 fn push_numbers(out: &mut Vec<u8>, alloc: Global, numbers: &[u64]) -> Result<(), NoMemory>
-    ensures { OnOk result (out.new.items ≡ out.old.items ++ all_spaced (map decimal numbers.now)) }
+    ensures { OnOk result (AddsWords out.old.items out.new.items (map decimal numbers.now)) }
 {
     for number in numbers {
         out.push(b' ')?;
@@ -38,7 +38,8 @@ pub fn push_with_numbers(
     word: &[u8],
     numbers: &[u64],
 ) -> Result<(), NoMemory>
-    ensures { OnOk result (out.new.items ≡ out.old.items ++ all_spaced (with_numbers word.now numbers.now)) }
+    ensures { OnOk result (AddsWords out.old.items out.new.items
+        (with_numbers word.now numbers.now)) }
 {
     push_word(out, word)?;
     push_numbers(out, alloc, numbers)
@@ -54,7 +55,7 @@ fn push_hit(out: &mut Vec<u8>, alloc: Global, hit: &Hit) -> Result<(), NoMemory>
 }
 
 pub fn push_hits(out: &mut Vec<u8>, alloc: Global, hits: &[Hit]) -> Result<(), NoMemory>
-    ensures { OnOk result (out.new.items ≡ out.old.items ++ all_spaced (map hit_text hits.now)) }
+    ensures { OnOk result (AddsWords out.old.items out.new.items (map hit_text hits.now)) }
 {
     for hit in hits {
         push_hit(out, alloc, hit)?;
@@ -63,7 +64,7 @@ pub fn push_hits(out: &mut Vec<u8>, alloc: Global, hits: &[Hit]) -> Result<(), N
 }
 
 pub fn push_names(out: &mut Vec<u8>, names: &[FileName]) -> Result<(), NoMemory>
-    ensures { OnOk result (out.new.items ≡ out.old.items ++ all_spaced names.now) }
+    ensures { OnOk result (AddsWords out.old.items out.new.items names.now) }
 {
     for name in names {
         push_word(out, name.as_slice())?;
