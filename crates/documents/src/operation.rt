@@ -1,3 +1,5 @@
+//! The operations that change documents.
+
 use nrt_base::{Doc, Key, NoMemory, Share, Word};
 use std::alloc::Global;
 
@@ -8,7 +10,7 @@ pub enum Op {
     Put(Doc),
     /// The key has no document any more.
     Delete(Key),
-    /// Every document that has the word goes.
+    /// Every document that has the word in its text is taken away.
     Drop(Word),
 }
 

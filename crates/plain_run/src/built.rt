@@ -3,10 +3,8 @@ ghost use Rattle.script_text.specs.Grammar.{words_in};
 ghost use Rattle.plain_run.specs.Built.{IsFirstUnbuilt, RunsWhole, is_built as is_built_lem};
 ghost use Rattle.script_text.specs.Reading.{is_built_command as is_built_command_lem};
 
-use script_text::next_statement;
-use script_text::LONGEST;
-use script_text::{first_words, is_word};
 use nrt_base::LineNo;
+use script_text::{LONGEST, first_words, is_word, next_statement};
 
 /// Whether the program runs a line of lane 1 with these words behind the lane.
 fn is_built_command(name: &[u8], next: &[u8]) -> bool

@@ -1,6 +1,6 @@
-use nrt_base::{At, Doc, Key, LaneNo, List, NodeNo, TicketNo, Word};
 use documents::Query;
 use history_entries::FaultPlan;
+use nrt_base::{At, Doc, Key, LaneNo, List, NodeNo, TicketNo, Word};
 
 /// The version that a promotion is forced to be above.
 #[derive(Clone, Copy, Debug, PartialEq, Eq)]

@@ -58,8 +58,7 @@ taken_word written word words more is all split =
     let parts = and_parts (is_between 1 64 (length written)) (list_all is_alphanumeric written) is in
     let some : 1 ≤ length written = leb-true 1 (length written) (and_parts (nat_le 1 (length written)) (nat_le (length written) 64) parts.0).0 in
     let one : map lower written ∷ [] ≡ more ++ word ∷ [] = sym (one_word written some parts.1) ∙ (sym all ∙ split) in
-    let last : map lower written ≡ word = single more one in
-    (
+    let last : map lower written ≡ word = single more one in (
       is,
       one_word written some parts.1 ∙ ap (λ (w : List ℕ). w ∷ []) last,
       and_from (nat_le 1 (length word)) (list_all is_word_byte word)

@@ -7,12 +7,12 @@ ghost use Rattle.script_text.specs.Reading.{shape_of, front_of, plain_command, p
 
 use crate::fault::{LineFault, Refusal};
 use crate::numbers::{force, node, number_u32, number_u64, ticket};
-use script_serving::LineCommand;
 use crate::shapes::{Name, Plain};
 use crate::words::{Words, first_words, rest_behind};
-use nrt_base::{Doc, Key, Text, Word};
 use documents::{Query, words};
 use history_entries::{FaultKind, FaultPlan};
+use nrt_base::{Doc, Key, Text, Word};
+use script_serving::LineCommand;
 use std::alloc::Global;
 use text_query::{QueryFault, parse_query};
 

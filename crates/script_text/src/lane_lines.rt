@@ -8,10 +8,10 @@ use crate::counted::Counted;
 use crate::fault::{LineFault, Refusal};
 use crate::lines::Statement;
 use crate::numbers::{is_digits, lane};
-use script_serving::Line;
 use crate::shapes::{Asked, command_asked, is_miscounted};
 use crate::words::{is_printable, is_word, next_word, word_count};
 use nrt_base::{At, LineNo};
+use script_serving::Line;
 use std::alloc::Global;
 
 /// A statement that is no header.

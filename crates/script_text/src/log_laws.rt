@@ -4,8 +4,8 @@ ghost use Rattle.std.specs.Prelude.{◌≡◌, true};
 ghost use Rattle.script_text.specs.LogLaws.{PointsAreLogged, NothingIsLost};
 ghost use Rattle.script_serving.specs.Serves.{Serves};
 
-use script_serving::Script;
 use history_entries::History;
+use script_serving::Script;
 
 /// In a history that serves a script with a log, each point has the first of the logged operations, and none is lost.
 pub fn log_loses_nothing(script: &Script, h: &History)

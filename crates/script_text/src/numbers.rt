@@ -3,9 +3,9 @@ ghost use Rattle.std.specs.List.{list_all};
 ghost use Rattle.script_text.specs.Refused.{is_digit as is_digit_lem, is_digits as is_digits_lem, is_number as is_number_lem, value_of};
 ghost use Rattle.script_text.specs.Reading.{number_within, node_named, ticket_named, force_named, lane_named};
 
-use script_serving::Force;
 use crate::words::is_word;
 use nrt_base::{LaneNo, NodeNo, TicketNo};
+use script_serving::Force;
 
 fn is_digit(byte: u8) -> bool
     ensures { result ≡ is_digit_lem byte }

@@ -9,9 +9,9 @@ use crate::fault::{LineFault, ScriptFault};
 use crate::lines::{Statement, line_count, next_statement};
 use crate::numbers::number_u8;
 use crate::phases::read_phases;
-use script_serving::{Phase, Script};
 use crate::words::{is_printable, is_word, next_word, word_count};
 use nrt_base::{LineNo, List};
+use script_serving::{Phase, Script};
 use std::alloc::Global;
 
 /// The longest script, in bytes.

@@ -6,8 +6,8 @@ use crate::counted::Counted;
 use crate::fault::ScriptFault;
 use crate::lane_lines::{Later, read_later};
 use crate::lines::next_statement;
-use script_serving::{Line, Phase};
 use nrt_base::{LaneNo, List, NoMemory};
+use script_serving::{Line, Phase};
 use std::alloc::Global;
 use std::mem;
 
