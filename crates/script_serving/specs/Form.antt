@@ -1,8 +1,8 @@
 -- Which scripts are in form: every number is in its range, and each line stands where it says.
-use Rattle.std.specs.Prelude.{ℕ, ◌≤◌, List, [], ◌∷◌, Bool, true, ◌-◌, ◌^◌, ◌&&◌, not, ◌==◌, nat_lt, length, IsTrue}
+use Rattle.std.specs.Prelude.{ℕ, ◌≤◌, List, [], ◌∷◌, Bool, true, ◌-◌, ◌^◌, ◌&&◌, not, ◌==◌, nat_lt, nat_le, length, IsTrue}
 use Rattle.std.specs.List.{list_all}
 use Rattle.nrt_base.specs.declared.numbers.LaneNo.{LaneNo}
-use Rattle.nrt_base.specs.Bytes.{is_between}
+use Rattle.nrt_base.specs.Bytes.{is_between, is_key, is_text, is_word}
 use Rattle.history_entries.specs.declared.cause.FaultPlan.{FaultPlan}
 use Rattle.history_entries.specs.declared.cause.FaultPlan.TheVariants.{Link, Damage, Disk, Stop}
 use Rattle.documents.specs.Matching.{is_well_formed}
@@ -27,11 +27,11 @@ abbrev pub is_force : Force → Bool
 is_force Auto = true
 is_force (Exactly version) = is_between 0 (2 ^ 64 - 1) version
 
--- the numbers of a command are in their ranges, where the nodes are 1 to the size, its query is well-formed, and its word is short enough
+-- a command has a key, a text, a word and a query that are such, and numbers in their ranges, where the nodes are 1 to the size
 abbrev pub is_command : ℕ → LineCommand → Bool
-is_command size (Put doc) = true
-is_command size (Delete key) = true
-is_command size (Drop word) = is_between 1 64 (length word)
+is_command size (Put doc) = is_key doc.key && is_text doc.text
+is_command size (Delete key) = is_key key
+is_command size (Drop word) = is_word word && nat_le (length word) 64
 is_command size Publish = true
 is_command size (Copy n) = is_between 1 size n.0
 is_command size Settle = true

@@ -48,7 +48,6 @@ line_read size log before statement lane_word words lane n rest read printable s
     number = refl;
     lane = facts.within;
     words = is.ends lane.0 (split ∙ (ap (λ (w : List ℕ). w ∷ words) (sym facts.spelled) ∙ ap (λ (ws : List (List ℕ)). decimal lane.0 ∷ ws) front));
-    bytes = is.bytes;
     ranges = is.ranges;
   },
 )

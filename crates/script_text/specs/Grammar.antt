@@ -3,7 +3,7 @@ use Rattle.text_query.specs.Tokens.{is_space}
 use Rattle.std.specs.Prelude.{ℕ, zero, suc, ◌≡◌, ◌+◌, ◌≤◌, ◌⊎◌, List, [], ◌∷◌, ◌++◌, map, filter, length, take, codes, Bool, true, false, ◌&&◌, not, ◌==◌, if◌then◌else◌, IsTrue, bytes_eq}
 use Rattle.std.specs.List.{list_all}
 use Rattle.std.specs.Fmt.{decimal}
-use Rattle.nrt_base.specs.Bytes.{is_between, is_key, is_text, is_text_byte, is_word}
+use Rattle.nrt_base.specs.Bytes.{is_between, is_text_byte}
 use Rattle.nrt_base.specs.declared.numbers.LaneNo.{LaneNo}
 use Rattle.text_query.specs.Answers.{Parses}
 use Rattle.documents.specs.declared.query.Query.{Query}
@@ -159,34 +159,12 @@ Ends (Search n query) line lane = (take 3 (words_in line) ≡ decimal lane ∷ c
 Ends (Ask t query) line lane = (take 3 (words_in line) ≡ decimal lane ∷ command_words (Ask t query)) × IsQueryText (rest_behind 3 line) query
 Ends command line lane = words_in line ≡ decimal lane ∷ command_words command
 
--- the key, the text and the word of a command are such
-abbrev pub has_bytes : LineCommand → Bool
-has_bytes (Put doc) = is_key doc.key && is_text doc.text
-has_bytes (Delete key) = is_key key
-has_bytes (Drop word) = is_word word
-has_bytes Publish = true
-has_bytes (Copy n) = true
-has_bytes Settle = true
-has_bytes (Search n query) = true
-has_bytes (Open n t) = true
-has_bytes (Ask t query) = true
-has_bytes (Close t) = true
-has_bytes (Commit n) = true
-has_bytes (Crash n pick) = true
-has_bytes (Reopen n) = true
-has_bytes (Promote n force) = true
-has_bytes (Merge factor) = true
-has_bytes (Drain most) = true
-has_bytes (Files n) = true
-has_bytes (Fault n plan) = true
-
 -- the statement spells the line, where the nodes are 1 to the size
 pub record SpellsLine (size : ℕ) (statement : Statement) (line : Line) : Type 0 where
   pub printable : IsTrue (is_printable statement.line)
   pub number : line.at.line.0 ≡ statement.number
   pub lane : IsTrue (is_between 1 8 line.at.lane.0)
   pub words : Ends line.command statement.line line.at.lane.0
-  pub bytes : IsTrue (has_bytes line.command)
   pub ranges : IsTrue (is_command size line.command)
 
 -- the line goes in front of the first phase

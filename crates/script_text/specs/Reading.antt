@@ -40,7 +40,7 @@ use Rattle.script_text.specs.declared.shapes.Asked.TheVariants as found
 use Rattle.script_text.specs.declared.lane_lines.Later.{Later}
 use Rattle.script_text.specs.declared.lane_lines.Later.TheVariants as later_read
 use Rattle.script_serving.specs.Form.{is_command}
-use Rattle.script_text.specs.Grammar.{Statement, statements_from, lines_of_text, words_in, word_at, rest_behind, Ends, has_bytes, SpellsLine, SpellsPhases, SpellsLogged, SpellsBody, SpellsScript, IsNodesHeader, IsWorkersHeader, IsLogHeader, IsJoin, phase_of, promotions_among, AreFew}
+use Rattle.script_text.specs.Grammar.{Statement, statements_from, lines_of_text, words_in, word_at, rest_behind, Ends, SpellsLine, SpellsPhases, SpellsLogged, SpellsBody, SpellsScript, IsNodesHeader, IsWorkersHeader, IsLogHeader, IsJoin, phase_of, promotions_among, AreFew}
 use Rattle.script_text.specs.Refused.{number, node, force, key, letters, nothing, text, query, Shape, shape, Asked, missing, unknown, command, first, second, third, later, none_counted, is_headed, is_kind, is_number_in, value_of, command_shapes, fault_shapes, shape_named, is_asked_in_range, asks_query, IsFirstCause, IsRight, RefusesAmong, IsFirstRefused, nodes_said}
 
 -- the fault of a script whose line of this number is refused so
@@ -167,7 +167,6 @@ pub record IsCommandOf (size : ℕ) (n : Name) (line : List ℕ) (words : List (
   pub in_range : is_asked_in_range size (rest_behind 3 line) (command (shape_of n) words) ≡ true
   pub no_fault : (fault : QueryFault) → asks_query (command (shape_of n) words) ≡ true → IsFault (rest_behind 3 line) fault → ⊥
   pub ends : (lane : ℕ) → words_in line ≡ decimal lane ∷ (front_of n ++ words) → Ends read line lane
-  pub bytes : has_bytes read ≡ true
   pub ranges : is_command size read ≡ true
 
 -- a word of a line: not empty, and without spaces and unprintable bytes
