@@ -88,7 +88,7 @@ fn lower(counts: &mut Counts, name: &FileName)
     requires { 1 < count_in counts.old.entries name.now }
     ensures counts { (q : List ℕ) → lookup (same q) counts.new.entries
         ≡ (if same name.now q then Some (count_in counts.old.entries name.now - 1)
-            else lookup (same q) counts.old.entries) }
+        else lookup (same q) counts.old.entries) }
     ensures len { index_map_len counts.new ≡ index_map_len counts.old }
     ensures spare { spare counts.new ≡ spare counts.old }
 {

@@ -18,11 +18,11 @@ use file_names::FileName;
 pub(crate) fn stays<D: Dir>(name: &FileName, dir: &mut D) -> bool
     ensures { MatchBool result
         (Removes name.now (Err DirFault.Failed)
-            (directory_of D.cells D.plans D.faults dir.old)
-            (directory_of D.cells D.plans D.faults dir.new))
+        (directory_of D.cells D.plans D.faults dir.old)
+        (directory_of D.cells D.plans D.faults dir.new))
         (RemovesOrLacks name.now
-            (directory_of D.cells D.plans D.faults dir.old)
-            (directory_of D.cells D.plans D.faults dir.new)) }
+        (directory_of D.cells D.plans D.faults dir.old)
+        (directory_of D.cells D.plans D.faults dir.new)) }
 {
     match dir.remove(name) {
         Err(DirFault::Failed) => true,

@@ -122,7 +122,7 @@ impl Tally {
         requires { IsStrictlySortedBy (slice_cmp nat_cmp) self.now.due.items }
         ensures { MatchOption result (is_among self.now.due.items name.now ≡ false)
             (λ place. (place < length self.now.due.items)
-                × (name.now ≡ slice_index_or self.now.due.items place name.now)) }
+            × (name.now ≡ slice_index_or self.now.due.items place name.now)) }
     {
         match self.due.binary_search(name) {
             Ok(place) => Some(place),
