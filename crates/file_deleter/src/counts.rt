@@ -9,8 +9,8 @@ ghost use Rattle.disk_model.specs.Disk.{same, is_among};
 ghost use Rattle.file_deleter.specs.Holdings.{count_in, times};
 ghost use Rattle.file_deleter.specs.Tally.{IsPositive, CountsMore, CountsFewer};
 
-use indexmap::IndexMap;
 use file_names::FileName;
+use indexmap::IndexMap;
 use nrt_base::NoMemory;
 use std::alloc::Global;
 

@@ -16,8 +16,8 @@ use crate::counts::{self, Counts};
 use crate::removals::{drop_counted, merge, stays, try_each};
 use bytes::Bytes;
 use disk_model::{Dir, DirFault};
-use indexmap::IndexMap;
 use file_names::FileName;
+use indexmap::IndexMap;
 use nrt_base::NoMemory;
 use std::alloc::{AllocError, Global};
 

@@ -8,8 +8,8 @@ ghost use Rattle.query_eval.specs.Matching.{AnswersWord, AnswersPhrase, AnswersA
 
 use crate::cursor::Cursor;
 use crate::phrase::PhraseWord;
-use nrt_base::{List, NoMemory, Word};
 use documents::Query;
+use nrt_base::{List, NoMemory, Word};
 use seg_reader::Segment;
 use std::alloc::Global;
 

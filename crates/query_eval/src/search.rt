@@ -9,8 +9,8 @@ ghost use Rattle.query_eval.specs.Matching.{Counts, rows_of};
 use crate::building::cursor_of;
 use crate::cursor::next_from;
 use crate::tally::Found;
-use nrt_base::NoMemory;
 use documents::{Answer, Query};
+use nrt_base::NoMemory;
 use seg_reader::Segment;
 use std::alloc::Global;
 

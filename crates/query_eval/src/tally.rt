@@ -4,8 +4,8 @@ ghost use Rattle.nrt_base.specs.Bytes.{is_key};
 ghost use Rattle.documents.specs.Documents.{key_cmp};
 ghost use Rattle.query_eval.specs.Keys.{place_of as place_of_lem, tally_of, AreFirst, CountsOne};
 
-use nrt_base::{Key, NoMemory};
 use documents::Answer;
+use nrt_base::{Key, NoMemory};
 use std::alloc::Global;
 use std::marker::Model;
 

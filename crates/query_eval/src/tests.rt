@@ -5,8 +5,8 @@ ghost use Rattle.seg_reader.specs.Sound.{IsSound};
 ghost use Rattle.query_eval.specs.Matching.{rows_of};
 
 use crate::answer;
-use nrt_base::{Doc, Key, NoMemory, SegNo, Text};
 use documents::scan;
+use nrt_base::{Doc, Key, NoMemory, SegNo, Text};
 use seg_build::{Prepared, build, read_back};
 use seg_reader::Segment;
 use std::alloc::Global;
