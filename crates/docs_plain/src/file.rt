@@ -1,9 +1,10 @@
 ghost use Rattle.std.specs.Prelude.{◌≡◌, ◌↔◌, ◌<◌, IsTrue, IfSome, List, length, slice_get, Ok, Err};
+ghost use Rattle.std.specs.List.{All};
 ghost use Rattle.nrt_base.specs.Bytes.{is_key};
 ghost use Rattle.nrt_base.specs.declared.doc.Doc.{Doc};
 ghost use Rattle.codec_frame.specs.Frame.{wanted, IsFramedAs};
 ghost use Rattle.codec_frame.specs.Checking.{IsFirstFault};
-ghost use Rattle.docs_plain.specs.Documents.{SpellsDocuments, documents_wanted, IsDocumentsFile};
+ghost use Rattle.docs_plain.specs.Documents.{IsRow, SpellsDocuments, documents_wanted, IsDocumentsFile};
 
 use crate::row::{is_row, parts_of};
 use body_forms::{is_item_table, item_at, item_count};
@@ -62,7 +63,8 @@ impl DocsFile {
 
     /// How many documents there are.
     pub fn len(&self) -> u32
-        ensures { result ≡ length self.now }
+        ensures count { result ≡ length self.now }
+        ensures rows { All IsRow self.now }
     {
         item_count(self.body())
     }

@@ -1,18 +1,23 @@
+//! The documents that operations leave.
+
 ghost use Rattle.std.specs.Prelude.{◌≡◌, IfOk, OnOk, map};
 ghost use Rattle.std.specs.BTreeMap.{IsOrdered};
-ghost use Rattle.documents.specs.Documents.{IsAscending, after_op, document_of, documents_after, key_cmp, with_doc, without_key};
+ghost use Rattle.documents.specs.declared.operation.Op.TheVariants.{Put as PutOp, Delete as DeleteOp, Drop as DropOp};
+ghost use Rattle.documents.specs.Documents.{IsAscending, after_op, document_of, documents_after, key_cmp};
 
 use crate::operation::Op;
-use nrt_base::{Doc, Key, NoMemory, Share, Text};
+use crate::text_words::has_word;
+use nrt_base::{Doc, Key, NoMemory, Share, Text, Word};
 use std::alloc::Global;
 use std::collections::BTreeMap;
 
 /// Documents, as the text of each key.
 pub type Texts = BTreeMap<Key, Text>;
 
-#[tactic(auto, using(crate::proofs::DocumentLemmas::with_doc_from_insert))]
+#[tactic(auto, using(crate::proofs::DocumentLemmas::put_from_insert))]
 fn put(alloc: Global, texts: &mut Texts, doc: &Doc) -> Result<(), NoMemory>
-    ensures with { OnOk result (map document_of texts.new.entries ≡ with_doc (map document_of texts.old.entries) doc.now) }
+    requires { IsOrdered key_cmp texts.old }
+    ensures after { OnOk result (map document_of texts.new.entries ≡ after_op (map document_of texts.old.entries) (PutOp doc.now)) }
     ensures ordered { OnOk result (IsOrdered key_cmp texts.new) }
 {
     texts.insert(doc.key.share(alloc)?, doc.text.share(alloc)?)?;
@@ -21,10 +26,17 @@ fn put(alloc: Global, texts: &mut Texts, doc: &Doc) -> Result<(), NoMemory>
 
 fn delete(texts: &mut Texts, key: &Key)
     requires { IsOrdered key_cmp texts.old }
-    ensures without { map document_of texts.new.entries ≡ without_key (map document_of texts.old.entries) key.now }
+    ensures after { map document_of texts.new.entries ≡ after_op (map document_of texts.old.entries) (DeleteOp key.now) }
     ensures ordered { IsOrdered key_cmp texts.new }
 {
     texts.remove(key);
+}
+
+fn drop_word(texts: &mut Texts, word: &Word)
+    ensures after { map document_of texts.new.entries ≡ after_op (map document_of texts.old.entries) (DropOp word.now) }
+    ensures ordered { IsOrdered key_cmp texts.new }
+{
+    texts.retain(|_, text| !has_word(text.as_slice(), word));
 }
 
 /// Changes documents as an operation says.
@@ -37,6 +49,10 @@ pub fn change(alloc: Global, texts: &mut Texts, op: &Op) -> Result<(), NoMemory>
         Op::Put(doc) => put(alloc, texts, doc),
         Op::Delete(key) => {
             delete(texts, key);
+            Ok(())
+        }
+        Op::Drop(word) => {
+            drop_word(texts, word);
             Ok(())
         }
     }

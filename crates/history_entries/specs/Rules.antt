@@ -16,7 +16,7 @@ use Rattle.history_entries.specs.declared.cause.FaultKind.{FaultKind}
 use Rattle.history_entries.specs.declared.cause.FaultKind.TheVariants.{Link, Damage, Disk, Stop}
 use Rattle.history_entries.specs.declared.entry.Event.{Event}
 use Rattle.history_entries.specs.declared.entry.Event.TheVariants.{Publishing, Published, Copying, Switched, Settling, Opened, Asking, Committing}
-use Rattle.documents.specs.Matching.{scan_of}
+use Rattle.documents.specs.Ranking.{scan_of}
 use Rattle.history_entries.specs.Nodes.{Past, IsNode, IsReplica, is_at, primary_of, primary_crashes, is_running, crashes, generation_of, version_of, newest_version, is_made_in_generation, is_point, accepted_count}
 use Rattle.history_entries.specs.Lines.{same_at, is_start, start_entry, before_start, is_answered, NodeSurvives, SourceSurvives, publish_in_flight, commit_in_flight, is_free_for}
 use Rattle.history_entries.specs.Points.{documents_at, accepted_in_generation, published_in_generation, names_drawn, merges_started, adds_none, idle_by, idle_publishes}

@@ -1,6 +1,6 @@
+use documents::Answer;
 use crate::cause::{Cause, FaultKind, FaultPlan};
 use documents::Op;
-use documents::Answer;
 use documents::Query;
 use file_names::FileName;
 use nrt_base::{At, Gen, List, NodeNo, SegNo, TicketNo, Version};

@@ -1,8 +1,9 @@
 ghost use Rattle.std.specs.Prelude.{IsTrue};
 ghost use Rattle.nrt_base.specs.Bytes.{is_key, is_text, is_word};
 
+use documents::rank_of;
 use crate::points;
-use documents::{Op, Query, apply, matches, scan, words};
+use documents::{Op, Query, apply, has_word, matches, scan, words};
 use history_entries::{Entry, Event, History};
 use history_laws::laws;
 use nrt_base::{At, Boxed, Doc, Gen, Key, LaneNo, LineNo, List, NoMemory, Share, Text, Version, Word};
@@ -62,9 +63,29 @@ fn documents_follow_the_operations(rt: HostRuntime) -> Result<(), Fail> {
 }
 
 #[test]
+fn a_drop_takes_away_what_has_its_word(rt: HostRuntime) -> Result<(), Fail> {
+    let alloc = rt.alloc();
+    let mut ops = Vec::new(alloc);
+    ops.push(Op::Put(doc(alloc, b"a", b"x")?))?;
+    ops.push(Op::Put(doc(alloc, b"b", b"y, X")?))?;
+    ops.push(Op::Put(doc(alloc, b"x", b"xy")?))?;
+    ops.push(Op::Put(doc(alloc, b"a", b"y")?))?;
+    ops.push(Op::Drop(Word::new(alloc, b"x")?))?;
+    let docs = apply(alloc, ops.as_slice())?;
+    assert_eq!(rt; docs.len(), 2);
+    assert_eq!(rt; docs[0].key.as_slice(), b"a".as_slice());
+    assert_eq!(rt; docs[0].text.as_slice(), b"y".as_slice());
+    assert_eq!(rt; docs[1].key.as_slice(), b"x".as_slice());
+    Ok(())
+}
+
+#[test]
 fn words_are_runs_of_letters_and_digits(rt: HostRuntime) -> Result<(), Fail> {
     let alloc = rt.alloc();
     assert_eq!(rt; words(alloc, b" -- ")?.len(), 0);
+    let chapter = Word::new(alloc, b"chapter")?;
+    assert!(rt; has_word(b"Re-read: Chapter 12b", &chapter));
+    assert!(rt; !has_word(b"chapters, chap ter", &chapter));
     let found = words(alloc, b"Re-read: Chapter 12b, twice")?;
     assert_eq!(rt; found.len(), 5);
     assert_eq!(rt; found[0].as_slice(), b"re".as_slice());
@@ -96,19 +117,38 @@ fn queries_of_each_kind_match(rt: HostRuntime) -> Result<(), Fail> {
 }
 
 #[test]
-fn a_scan_counts_all_and_lists_twenty(rt: HostRuntime) -> Result<(), Fail> {
+fn a_scan_counts_all_and_lists_the_best_twenty(rt: HostRuntime) -> Result<(), Fail> {
     let alloc = rt.alloc();
     let mut docs = Vec::new(alloc);
     for i in 0..25 {
         docs.push(doc(alloc, &[b'a' + i], b"red fox")?)?;
     }
-    assert_eq!(rt; docs.len(), 25);
-    let answer = scan(alloc, docs.as_slice(), &word(alloc, b"fox")?)?;
-    let keys = answer.keys.into_vec();
-    assert_eq!(rt; answer.total, 25);
-    assert_eq!(rt; keys.len(), 20);
-    assert_eq!(rt; keys[0].as_slice(), b"a".as_slice());
-    assert_eq!(rt; keys[19].as_slice(), b"t".as_slice());
+    docs.push(doc(alloc, b"z", b"fox fox")?)?;
+    assert_eq!(rt; docs.len(), 26);
+    let fox = Query::Word(Word::new(alloc, b"fox")?);
+    let answer = scan(alloc, docs.as_slice(), &fox)?;
+    let hits = answer.hits.into_vec();
+    assert_eq!(rt; answer.total, 26);
+    assert_eq!(rt; hits.len(), 20);
+    assert_eq!(rt; hits[0].key.as_slice(), b"z".as_slice());
+    assert_eq!(rt; hits[0].rank, 2);
+    assert_eq!(rt; hits[1].key.as_slice(), b"a".as_slice());
+    assert_eq!(rt; hits[19].key.as_slice(), b"s".as_slice());
+    assert_eq!(rt; hits[19].rank, 1);
+    Ok(())
+}
+
+#[test]
+fn a_rank_counts_places(rt: HostRuntime) -> Result<(), Fail> {
+    let alloc = rt.alloc();
+    let found = words(alloc, b"a a a b")?;
+    let pair_of_a = phrase(alloc, b"a", b"a")?;
+    assert_eq!(rt; rank_of(&pair_of_a, found.as_slice()), Some(2));
+    let any = Query::Any(pair(alloc, word(alloc, b"a")?, word(alloc, b"c")?)?);
+    assert_eq!(rt; rank_of(&any, found.as_slice()), Some(3));
+    let not = Query::Not(Boxed::new(alloc, word(alloc, b"c")?)?);
+    let all = Query::All(pair(alloc, not, pair_of_a)?);
+    assert_eq!(rt; rank_of(&all, found.as_slice()), Some(2));
     Ok(())
 }
 
