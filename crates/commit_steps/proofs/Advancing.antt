@@ -1,16 +1,16 @@
 -- Where the six calls of a commit lead.
 use Rattle.std.proofs.Common.{◌≡◌, ◌≢◌, ◌⊎◌, ℕ, ◌+◌, ◌<◌, ◌||◌, Bool, true, false, List, [], ◌∷◌, Option, Some, None, Result, Ok, Err, refl, sym, ap, subst, ◌∙◌, arith, inl, inr, true≢false, is_some, cond}
 use Rattle.std.specs.Prelude.{IfSome}
-use Rattle.disk_model.specs.Disk.{Name, Content, Cell, Cells, IsKept, may_leave, is_among, put, flushed, settled, written, removed, replaced, half_removed, half_replaced, after_write, after_sync, after_sync_names, after_rename}
+use Rattle.disk_model.specs.Disk.{Name, Content, Cell, Cells, IsKept, may_leave, same, is_among, put, flushed, settled, written, removed, replaced, half_removed, half_replaced, after_write, after_sync, after_sync_names, after_rename}
 use Rattle.disk_model.specs.declared.dir.DirFault.{DirFault}
 use Rattle.disk_model.specs.declared.dir.DirFault.TheVariants.{Memory, Missing, Exists, Failed}
-use Rattle.disk_model.proofs.CellLemmas.{left_synced, settled_kept, put_here, put_apart, rename_others, rename_target, same_apart}
+use Rattle.disk_model.proofs.CellLemmas.{same_true, left_synced, settled_kept, put_here, put_apart, rename_others, rename_target, same_apart}
 use Rattle.disk_model.proofs.DirectoryLaw.{write_others}
 use Rattle.file_names.specs.Names.{is_commit_name, commit_number}
 use Rattle.file_deleter.specs.Holdings.{Holdings, count_of, is_pending, times}
 use Rattle.file_deleter.specs.Moves.{Shifts, MovesCount}
 use Rattle.file_deleter.proofs.NameLemmas.{times-cons, times_one, same_self, all_there}
-use Rattle.file_deleter.proofs.Keeping.{renamed_once}
+use Rattle.file_deleter.proofs.Keeping.{renamed_once, unlike}
 use Rattle.file_deleter.proofs.Writing.{write_failed_now, keeps_written, rename_failed_now, keeps_renamed}
 use Rattle.commit_steps.specs.declared.states.Commit.{Commit}
 use Rattle.commit_steps.specs.declared.states.Flight.{Flight}
@@ -30,7 +30,7 @@ use Rattle.commit_steps.specs.Flights.{own_name, early_name, IsCommit, IsFlight,
 use Rattle.commit_steps.specs.Commits.{IsSettled, AreSettled, IsAbove, Stays, IsSafe}
 use Rattle.commit_steps.specs.Calls.{IsFree, AreSynced, StandsBegun, StandsSynced, StandsWritten, StandsPending, StandsNamed, StandsRenamed}
 use Rattle.commit_steps.specs.Book.{progress_of, stage_names, Stands, Leads, Advances}
-use Rattle.commit_steps.proofs.Safe.{early_not_commit, own_is, number_of_own, early_not_own, early_no_file, own_no_file, own_apart, greater_apart, same_kept, safe_all_kept, safe_beside, sync_kept, settled_along}
+use Rattle.commit_steps.proofs.Safe.{early_not_commit, own_is, number_of_own, early_not_own, early_no_file, own_no_file, own_apart, greater_apart, same_kept, safe_all_kept, safe_beside, sync_kept, file_along}
 
 -- ---- answers
 module _ (before after : Cells) (old new : Holdings) (from : Stage) where
@@ -46,7 +46,14 @@ shifts_still holdings names before after now = record {
   balance = λ q. refl;
   whole = λ w. record { names = λ q. ap is_some (now q) ∙ w.names q; apart = w.apart };
   reads = λ q a b. now q;
+  none = λ q out gone. now q ∙ gone;
 }
+
+-- a name that does not stand in a list is none of it
+apart_first : (x : Name) (xs : List Name) (q : Name) → times (x ∷ xs) q ≡ 0 → x ≢ q
+apart_first x xs q out i =
+    let c : times (x ∷ xs) q ≡ 1 + times xs q = times-cons x xs q ∙ ap (λ b. cond b 1 0 + times xs q) (ap (λ (n : Name). same n q) i ∙ same_self q) in
+    absurd (omega (arith, out, c))
 
 free_still : (holdings : Holdings) (before after : Cells) → ((q : Name) → (after q).now ≡ (before q).now) → (q : Name) → IsFree before holdings q → IsFree after holdings q
 free_still holdings before after now q h = record { none = now q ∙ h.none; unheld = h.unheld; clear = h.clear }
@@ -143,6 +150,7 @@ module _ (cells : Cells) (old : Holdings) (f : Flight) (st : StandsSynced cells 
             balance = λ q. omega (arith, counts q, times-cons (early_name f.commit) f.commit.files q, times_one (early_name f.commit) q);
             whole = keeps.whole;
             reads = keeps.reads;
+            none = λ q out gone. ap (λ (k : Cell). k.now) (with_others q (apart_first (early_name f.commit) f.commit.files q out)) ∙ gone;
           };
         }
 
@@ -241,7 +249,7 @@ module _ (cells : Cells) (holdings : Holdings) (f : Flight) where
             commit = st.flight.commit;
             above = above;
             own = λ o may. inl (along.no_other (own_name f.commit) (own_is f.commit st.flight.commit) (subst (IsAbove last) (sym (number_of_own f.commit st.flight.commit)) above) tt o may);
-            files = λ q there. settles (cells q) (st.files.each q there).0 (st.files.each q there).1;
+            files = λ q there. (settles (cells q) (st.files.each q there).0 (st.files.each q there).1, (st.files.each q there).0);
           };
           no_other = λ q named higher apart. along.no_other q named higher tt;
         };
@@ -296,7 +304,7 @@ module _ (before after : Cells) (holdings : Holdings) (s : RenamedState) (st : S
 module _ (before after : Cells) (f : Flight) (is : IsFlight f) (others : (q : Name) → early_name f.commit ≢ q → own_name f.commit ≢ q → after q ≡ before q)
     (gains : (o : Content) → may_leave (after (own_name f.commit)) o ≡ true → (may_leave (before (own_name f.commit)) o ≡ true) ⊎ (o ≡ Some f.bytes)) where
   files_over : (c : Commit) → IsCommit c → AreSettled before c.files → AreSettled after c.files
-  files_over c of h q there = settled_along (before q) (after q)
+  files_over c of h q there = file_along (before q) (after q)
       (same_kept (before q) (after q) (others q (early_no_file f.commit c is.commit of q there) (own_no_file f.commit c is.commit of q there))) (h q there)
 
   last_over : (last : Option Commit) → IsAbove last f.commit.number → IfSome last (Stays before) → IfSome last (Stays after)
@@ -339,6 +347,16 @@ module _ (cells : Cells) (old : Holdings) (f : Flight) (st : StandsNamed cells o
       put_apart (put cells (own_name f.commit) (replaced (cells (early_name f.commit)) (cells (own_name f.commit)))) (early_name f.commit) (removed (cells (early_name f.commit))) (own_name f.commit) two
       ∙ put_here cells (own_name f.commit) (replaced (cells (early_name f.commit)) (cells (own_name f.commit)))
 
+  named_none : (q : Name) → times (own_name f.commit ∷ f.commit.files) q ≡ 0 → (cells q).now ≡ None → (with_own q).now ≡ None
+  named_none q out gone = by (same (early_name f.commit) q) refl
+    where
+      by : (b : Bool) → same (early_name f.commit) q ≡ b → (with_own q).now ≡ None
+      by true e =
+          let none : (cells (early_name f.commit)).now ≡ None = ap (λ (n : Name). (cells n).now) (same_true (early_name f.commit) q e) ∙ gone in
+          absurd (true≢false (sym (ap is_some st.early.now) ∙ ap is_some none))
+      by false e = ap (λ (k : Cell). k.now) (rename_others {T = Unit {0}} cells (early_name f.commit) (own_name f.commit) (Ok tt) q (unlike (early_name f.commit) q e)
+          (apart_first (own_name f.commit) f.commit.files q out)) ∙ gone
+
   named_ok : (new : Holdings) → MovesCount (early_name f.commit) (own_name f.commit) old new → new.pending ≡ old.pending
       → Leads cells with_own old new (Named (record { 0 = f })) (Going (Renamed (record { 0 = f })))
   named_ok new moves pending =
@@ -361,6 +379,7 @@ module _ (cells : Cells) (old : Holdings) (f : Flight) (st : StandsNamed cells o
           );
           whole = keeps.whole;
           reads = keeps.reads;
+          none = named_none;
         };
       }
 

@@ -1,6 +1,6 @@
 -- A book that is opened, and a commit that begins.
 use Rattle.std.proofs.Common.{◌≡◌, ◌≢◌, ℕ, ◌+◌, ◌<◌, ◌&&◌, not, Bool, true, false, List, [], ◌∷◌, ◌++◌, get_or, Option, Some, None, refl, sym, ap, subst, ◌∙◌, arith, All, cond}
-use Rattle.std.specs.Prelude.{Contains}
+use Rattle.std.specs.Prelude.{Contains, is_some}
 use Rattle.std.specs.List.{flat_map}
 use Rattle.std.proofs.lemmas.List.Elements.{All-append, All-cons, All-nil, Contains-get_or}
 use Rattle.disk_model.specs.Disk.{Name, Content, Cells, Image, IsImage, may_leave, same, is_among, put}
@@ -77,7 +77,11 @@ sound_at cells holdings c next is images lt = record {
     last_stays = record {
       commit = is;
       own = each_outcome cells (Spells c) (own_name c) (λ image of. let has = images.each image of in record { bytes = has.shown.bytes; is = has.shown.newest.there; spelled = has.shown.spelled });
-      files = λ q there. each_outcome cells (λ o. o ≡ (cells q).now) q (λ image of. (images.each image of).files q ((is.files.named q).0 (contains_of c.files q there)));
+      files = λ q there.
+          let named : Contains (flat_map files_of_segment c.infos.segs) q = (is.files.named q).0 (contains_of c.files q there) in (
+            each_outcome cells (λ o. o ≡ (cells q).now) q (λ image of. ((images.each image of).files q named).0),
+            each_outcome cells (λ o. is_some o ≡ true) q (λ image of. ((images.each image of).files q named).1) (cells q).now (leaves_now (cells q)),
+          );
     };
     in_flight = tt;
     no_other = λ q named above apart. each_outcome cells (λ o. o ≡ None) q (λ image of. (images.each image of).shown.newest.greatest q named above);

@@ -18,7 +18,7 @@ use Rattle.commit_steps.specs.Commits.{ImagesAre, AreSettled, Stays, MayStay}
 use Rattle.commit_steps.specs.Calls.{IsFree, IsSynced, AreSynced}
 use Rattle.commit_steps.specs.Book.{shown_by, flying_names, last_names, book_names, Stands, IsSound}
 use Rattle.commit_steps.specs.Beside.{IsBeside}
-use Rattle.commit_steps.proofs.Safe.{among_of, own_is, early_is, images_of_safe, settled_along, same_kept}
+use Rattle.commit_steps.proofs.Safe.{among_of, own_is, early_is, images_of_safe, file_along, same_kept}
 
 -- ---- names
 first : (x : Name) (xs : List Name) → is_among (x ∷ xs) x ≡ true
@@ -44,7 +44,7 @@ abbrev Same : Cells → Cells → List Name → Type 0
 Same before after names = (q : Name) → is_among names q ≡ true → after q ≡ before q
 
 files_settled : (before after : Cells) (files : List Name) → Same before after files → AreSettled before files → AreSettled after files
-files_settled before after files same h q there = settled_along (before q) (after q) (same_kept (before q) (after q) (same q there)) (h q there)
+files_settled before after files same h q there = file_along (before q) (after q) (same_kept (before q) (after q) (same q there)) (h q there)
 
 files_there : (before after : Cells) (files : List Name) → Same before after files → AreThere before files → AreThere after files
 files_there before after files same h = record {

@@ -16,7 +16,7 @@ use Rattle.commit_steps.specs.Flights.{own_name}
 use Rattle.commit_steps.specs.Commits.{ImagesHave, IsAbove, IsSafe}
 use Rattle.commit_steps.specs.Calls.{IsFree}
 use Rattle.commit_steps.specs.Book.{commit_of, is_last_call, progress_of, commit_along, shown_in, shown_by, stage_names, flying_names, last_names, book_names, Stands, IsNumbered, IsSound, Leads, Step}
-use Rattle.commit_steps.proofs.Safe.{images_of_safe, images_have, settled_along, same_kept}
+use Rattle.commit_steps.proofs.Safe.{images_of_safe, images_have, file_along, same_kept}
 
 -- ---- a deleter that counts as before
 module _ (cells : Cells) (old : Holdings) (room : ℕ) where
@@ -94,6 +94,7 @@ module _ (before after : Cells) (old mid new : Holdings) (room : ℕ) (book : Co
               omega (arith, leads.shifts.balance q, count_roomy old mid room e q, was, now);
           whole = λ w. leads.shifts.whole (whole_mid before old mid room e w);
           reads = λ q had has. leads.shifts.reads q (let c : count_of mid q ≡ count_of old q = count_roomy old mid room e q in omega (arith, had, c)) has;
+          none = λ q out gone. leads.shifts.none q (omega (arith, out, times-append (last_names book.last) (stage_names t) q)) gone;
         };
       }
 
@@ -132,7 +133,7 @@ module _ (before after : Cells) (old mid new : Holdings) (room : ℕ) (book : Co
       last_stays = record {
         commit = made_safe.last_stays.commit;
         own = λ o may. made_safe.last_stays.own o (ap (λ (k : Cell). may_leave k o) (sym (same_at (own_name c) own_some)) ∙ may);
-        files = λ q there. settled_along (after q) (end q) (same_kept (after q) (end q) (same_at q (file_some q there))) (made_safe.last_stays.files q there);
+        files = λ q there. file_along (after q) (end q) (same_kept (after q) (end q) (same_at q (file_some q there))) (made_safe.last_stays.files q there);
       };
       in_flight = tt;
       no_other = λ q named above apart o may. elim (lets.keeps.crash q o refl may) [ inl was ↦ made_safe.no_other q named above tt o was | inr none ↦ none ];
@@ -159,6 +160,10 @@ module _ (before after : Cells) (old mid new : Holdings) (room : ℕ) (book : Co
         reads = λ q had has.
             let m : 0 < count_of new q = in_between q has in
             lets.keeps.reads q m has ∙ leads.shifts.reads q (let k : count_of mid q ≡ count_of old q = count_roomy old mid room e q in omega (arith, had, k)) m;
+        none = λ q out gone.
+            let all : times (c.names ++ []) q ≡ times c.names q + times [] q = times-append c.names [] q in
+            let named : times c.names q ≡ times c.files q + times (own_name c ∷ []) q = ap (λ (ns : List Name). times ns q) made_safe.last_stays.commit.names ∙ times-append c.files (own_name c ∷ []) q in
+            lets.keeps.none q refl (leads.shifts.none q (omega (arith, out, all, named, times-cons (own_name c) c.files q, times_one (own_name c) q)) gone);
       };
     }
 
@@ -174,7 +179,7 @@ pub step_refused : (cells : Cells) (holdings : Holdings) (book : CommitBook) →
 step_refused cells holdings book sound = record {
   sound = sound;
   images = images_of_safe cells book.last (shown_by book.stage) sound.safe;
-  shifts = record { balance = λ q. refl; whole = λ w. w; reads = λ q had has. refl };
+  shifts = record { balance = λ q. refl; whole = λ w. w; reads = λ q had has. refl; none = λ q out gone. gone };
 }
 
 -- a commit that is still in flight did not make its last call

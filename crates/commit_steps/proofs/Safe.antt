@@ -1,6 +1,6 @@
 -- What a crash may leave of commits, over calls of the directory.
 use Rattle.std.proofs.Common.{◌≡◌, ◌≢◌, ◌⊎◌, zero, suc, ◌<◌, ◌||◌, Bool, true, false, List, [], ◌∷◌, length, Option, Some, None, refl, sym, ap, subst, ◌∙◌, arith, inl, inr, true≢false, Result, Ok, Err, cond}
-use Rattle.std.specs.Prelude.{IfSome, IsSomeAnd, Contains}
+use Rattle.std.specs.Prelude.{IfSome, IsSomeAnd, Contains, is_some}
 use Rattle.std.proofs.Math.Bool.{or-true}
 use Rattle.std.specs.List.{flat_map}
 use Rattle.std.proofs.lemmas.List.Elements.{All-contains}
@@ -70,8 +70,10 @@ greater_apart c is q lt e =
 
 -- ---- images
 settled_files : (cells : Cells) (c : Commit) (image : Image) → IsCommit c → AreSettled cells c.files → IsImage cells image
-    → (q : Name) → Contains (flat_map files_of_segment c.infos.segs) q → image q ≡ (cells q).now
-settled_files cells c image of settled is q named = settled q (among_of c.files q ((of.files.named q).1 named)) (image q) (is q)
+    → (q : Name) → Contains (flat_map files_of_segment c.infos.segs) q → (image q ≡ (cells q).now) × (is_some (image q) ≡ true)
+settled_files cells c image of settled is q named =
+    let h : IsSettled (cells q) × (is_some (cells q).now ≡ true) = settled q (among_of c.files q ((of.files.named q).1 named)) in
+    (h.0 (image q) (is q), ap is_some (h.0 (image q) (is q)) ∙ h.1)
 
 shows : (cells : Cells) (c : Commit) (image : Image) → IsCommit c → Spells c (image (own_name c)) → AreSettled cells c.files → IsImage cells image
     → ((q : Name) → is_commit_name q ≡ true → c.number < commit_number q → image q ≡ None) → HasCommit cells image c
@@ -119,6 +121,10 @@ images_have cells c safe = record {
 pub settled_along : (old new : Cell) → IsKept old new → IsSettled old → IsSettled new
 settled_along old new kept h o may = h o (kept.fewer o may) ∙ sym kept.now
 
+-- a file that is there, and that a crash leaves as it reads, stays so
+pub file_along : (old new : Cell) → IsKept old new → IsSettled old × (is_some old.now ≡ true) → IsSettled new × (is_some new.now ≡ true)
+file_along old new kept h = (settled_along old new kept h.0, ap is_some kept.now ∙ h.1)
+
 pub same_kept : (old new : Cell) → new ≡ old → IsKept old new
 same_kept old new e = record { now = ap (λ (k : Cell). k.now) e; fewer = λ o may. ap (λ (k : Cell). may_leave k o) (sym e) ∙ may }
 
@@ -128,7 +134,7 @@ module _ (before after : Cells) (names : (q : Name) → is_commit_name q ≡ tru
   stays_along c files h = record {
     commit = h.commit;
     own = λ o may. h.own o ((names (own_name c) (own_is c h.commit)).fewer o may);
-    files = λ q there. settled_along (before q) (after q) (files q there) (h.files q there);
+    files = λ q there. file_along (before q) (after q) (files q there) (h.files q there);
   }
 
   may_stay_along : (last : Option Commit) (c : Commit) → ((q : Name) → is_among c.files q ≡ true → IsKept (before q) (after q)) → MayStay before last c → MayStay after last c
@@ -136,7 +142,7 @@ module _ (before after : Cells) (names : (q : Name) → is_commit_name q ≡ tru
     commit = h.commit;
     above = h.above;
     own = λ o may. h.own o ((names (own_name c) (own_is c h.commit)).fewer o may);
-    files = λ q there. settled_along (before q) (after q) (files q there) (h.files q there);
+    files = λ q there. file_along (before q) (after q) (files q there) (h.files q there);
   }
 
   module _ (files : (c : Commit) → IsCommit c → (q : Name) → is_among c.files q ≡ true → IsKept (before q) (after q)) where

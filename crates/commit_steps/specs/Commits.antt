@@ -1,5 +1,5 @@
 -- What a crash may leave of the commits of a directory.
-use Rattle.std.specs.Prelude.{◌≡◌, ◌≢◌, ◌⊎◌, ◌<◌, ℕ, true, List, Option, None, IfSome, IsSomeAnd, Contains}
+use Rattle.std.specs.Prelude.{◌≡◌, ◌≢◌, ◌⊎◌, ◌<◌, ℕ, true, List, Option, None, IfSome, IsSomeAnd, Contains, is_some}
 use Rattle.std.specs.List.{flat_map}
 use Rattle.disk_model.specs.Disk.{Name, Content, Cell, Cells, Image, IsImage, may_leave, is_among}
 use Rattle.file_names.specs.Names.{is_commit_name, commit_number}
@@ -12,7 +12,7 @@ use Rattle.commit_steps.specs.Flights.{own_name, IsCommit, Spells}
 -- an image shows commit N with these infos, and each file that they name has in the image what the directory now reads under its name
 pub record HasInfos (cells : Cells) (image : Image) (number : ℕ) (infos : Infos) : Type 0 where
   pub shown : Shows image number infos
-  pub files : (q : Name) → Contains (flat_map files_of_segment infos.segs) q → image q ≡ (cells q).now
+  pub files : (q : Name) → Contains (flat_map files_of_segment infos.segs) q → (image q ≡ (cells q).now) × (is_some (image q) ≡ true)
 
 -- an image shows this commit, with its files
 abbrev pub HasCommit : Cells → Image → Commit → Type 0
@@ -46,7 +46,7 @@ LeavesNothing cell = (o : Content) → may_leave cell o ≡ true → o ≡ None
 
 -- a crash leaves what reads of each of these files
 abbrev pub AreSettled : Cells → List Name → Type 0
-AreSettled cells files = (q : Name) → is_among files q ≡ true → IsSettled (cells q)
+AreSettled cells files = (q : Name) → is_among files q ≡ true → IsSettled (cells q) × (is_some (cells q).now ≡ true)
 
 -- a number is above that of the last commit
 abbrev pub IsAbove : Option Commit → ℕ → Type 0

@@ -103,11 +103,7 @@ fn answer_of(hits: Vec<Hit>) -> Answer
 
 /// What a search of the documents answers. None where one that matches ranks too high for 32 bits, which none does where
 /// the query is well-formed.
-pub fn scan_if_told(
-    alloc: Global,
-    docs: &[Doc],
-    query: &Query,
-) -> Result<Option<Answer>, NoMemory>
+pub fn scan_if_told(alloc: Global, docs: &[Doc], query: &Query) -> Result<Option<Answer>, NoMemory>
     requires { length docs.now < 2 ^ 32 }
     ensures { IfOk result (λ found. MatchOption found (list_any (is_too_high query.now) docs.now ≡ true) (λ answer. answer ≡ scan_of docs.now query.now)) }
 {

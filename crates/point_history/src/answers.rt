@@ -5,13 +5,11 @@ ghost use Rattle.history_entries.specs.Lines.{start_entry};
 ghost use Rattle.history_entries.specs.Points.{documents_at};
 ghost use Rattle.history_entries.specs.Rules.{StartedSearch, MayAnswer};
 
-use documents::{Answer, Hit};
-use history_entries::{Entry, Event};
 use crate::lines::{node_survives, start_entry};
 use crate::nodes::is_node;
-use documents::Query;
-use documents::scan_if_told;
 use crate::written::documents_at;
+use documents::{Answer, Hit, Query, scan_if_told};
+use history_entries::{Entry, Event};
 use nrt_base::{At, NoMemory, NodeNo, TicketNo, Version};
 use std::alloc::Global;
 

@@ -1,7 +1,6 @@
-pub mod Advance
+pub mod Moves
 pub mod Places
 pub mod Phrases
 pub mod Cursor
-pub mod Ranks
-pub mod Best
+pub mod Keys
 pub mod Matching

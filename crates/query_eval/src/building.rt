@@ -1,68 +1,45 @@
-//! The cursor of a query in a segment, and the words and phrases that its rank counts.
-
-ghost use Rattle.std.specs.Prelude.{◌≡◌, ◌&&◌, ◌||◌, ◌<◌, ℕ, length, IsTrue, IfOk, OnOk};
-ghost use Rattle.std.specs.List.{All, sum_by};
-ghost use Rattle.documents.specs.Matching.{has_form};
-ghost use Rattle.documents.specs.Ranking.{rank_of, times_of_phrase, times_of_word};
-ghost use Rattle.documents.specs.Words.{words_of};
+ghost use Rattle.std.specs.Prelude.{◌≡◌, ◌&&◌, ◌||◌, ℕ, IfOk, Some, slice_get};
+ghost use Rattle.std.specs.List.{list_any, list_all};
+ghost use Rattle.nrt_base.specs.declared.doc.Doc.{Doc};
+ghost use Rattle.documents.specs.Matching.{matches_doc};
 ghost use Rattle.seg_reader.specs.Sound.{IsSound};
 ghost use Rattle.query_eval.specs.Cursor.{answers, all_answer, any_answers};
 ghost use Rattle.query_eval.specs.Matching.{AnswersWord, AnswersPhrase, AnswersAll, AnswersAny, AnswersQuery};
-ghost use Rattle.query_eval.specs.Ranks.{AddsRank};
 
 use crate::cursor::Cursor;
 use crate::phrase::PhraseWord;
-use crate::rank::{Leaf, Ranker};
-use nrt_base::{List, NoMemory, Word};
 use documents::Query;
+use nrt_base::{List, NoMemory, Word};
 use seg_reader::Segment;
 use std::alloc::Global;
 
-// The cursor of a word, which is counted.
-fn word_cursor<'a>(
-    seg: &'a Segment,
-    word: &Word,
-    ranker: &mut Ranker<'a>,
-) -> Result<Cursor<'a>, NoMemory>
+// The cursor of a word.
+fn word_cursor<'a>(seg: &'a Segment, word: &Word) -> Cursor<'a>
     requires { IsSound seg.now }
-    ensures answers { IfOk result (AnswersWord seg.now.docs word.now) }
-    ensures ranks { OnOk result
-        (AddsRank seg.now.docs (λ doc. times_of_word word.now (words_of doc.text)) ranker.old ranker.new) }
+    ensures { AnswersWord seg.now.docs word.now result }
 {
     match seg.word(word.as_slice()) {
-        Some(hits) => {
-            ranker.push(Leaf::Word(hits.again()))?;
-            Ok(Cursor::Word(hits))
-        }
-        None => Ok(Cursor::Nothing),
+        Some(hits) => Cursor::Word(hits),
+        None => Cursor::Nothing,
     }
 }
 
-// The cursor of a phrase, which is counted. It answers nothing where the segment lacks one of its words.
+// The cursor of a phrase, which answers nothing where the segment lacks one of its words.
 fn phrase_cursor<'a>(
     alloc: Global,
     seg: &'a Segment,
     phrase: &List<Word>,
-    ranker: &mut Ranker<'a>,
 ) -> Result<Cursor<'a>, NoMemory>
-    requires sound { IsSound seg.now }
-    requires some { 0 < length phrase.now }
-    ensures answers { IfOk result (AnswersPhrase seg.now.docs phrase.now) }
-    ensures ranks { OnOk result
-        (AddsRank seg.now.docs (λ doc. times_of_phrase phrase.now (words_of doc.text)) ranker.old ranker.new) }
+    requires { IsSound seg.now }
+    ensures { IfOk result (AnswersPhrase seg.now.docs phrase.now) }
 {
     let mut words = Vec::with_capacity(alloc, phrase.as_slice().len())?;
-    let mut counted = Vec::with_capacity(alloc, phrase.as_slice().len())?;
     for word in phrase.as_slice() {
         match seg.word(word.as_slice()) {
-            Some(hits) => {
-                counted.push(PhraseWord::new(hits.again()))?;
-                words.push(PhraseWord::new(hits))?;
-            }
+            Some(hits) => words.push(PhraseWord::new(hits))?,
             None => return Ok(Cursor::Nothing),
         }
     }
-    ranker.push(Leaf::Phrase(counted))?;
     Ok(Cursor::Phrase { least: 0, words })
 }
 
@@ -72,8 +49,7 @@ fn both<'a>(
     before: Option<Cursor<'a>>,
     next: Cursor<'a>,
 ) -> Result<Cursor<'a>, NoMemory>
-    ensures { IfOk result
-        (λ cursor. (row : ℕ) → answers cursor row ≡ (all_answer before.entry row && answers next.entry row)) }
+    ensures { IfOk result (λ cursor. (row : ℕ) → answers cursor row ≡ (all_answer before.entry row && answers next.entry row)) }
 {
     match before {
         Some(before) => Ok(Cursor::Both {
@@ -91,8 +67,7 @@ fn either<'a>(
     before: Option<Cursor<'a>>,
     next: Cursor<'a>,
 ) -> Result<Cursor<'a>, NoMemory>
-    ensures { IfOk result
-        (λ cursor. (row : ℕ) → answers cursor row ≡ (any_answers before.entry row || answers next.entry row)) }
+    ensures { IfOk result (λ cursor. (row : ℕ) → answers cursor row ≡ (any_answers before.entry row || answers next.entry row)) }
 {
     match before {
         Some(before) => Ok(Cursor::Either {
@@ -103,28 +78,19 @@ fn either<'a>(
     }
 }
 
-/// The cursor of a query in a segment. Its words and phrases are counted, but for those under a NOT.
+/// The cursor of a query in a segment.
 #[cycle(building)]
-pub fn cursor_of<'a>(
-    alloc: Global,
-    seg: &'a Segment,
-    query: &Query,
-    ranker: &mut Ranker<'a>,
-) -> Result<Cursor<'a>, NoMemory>
-    requires sound { IsSound seg.now }
-    requires form { IsTrue (has_form query.now) }
-    ensures answers { IfOk result (AnswersQuery seg.now.docs query.now) }
-    ensures ranks { OnOk result
-        (AddsRank seg.now.docs (λ doc. rank_of query.now (words_of doc.text)) ranker.old ranker.new) }
+pub fn cursor_of<'a>(alloc: Global, seg: &'a Segment, query: &Query) -> Result<Cursor<'a>, NoMemory>
+    requires { IsSound seg.now }
+    ensures { IfOk result (AnswersQuery seg.now.docs query.now) }
 {
     match query {
-        Query::Word(word) => word_cursor(seg, word, ranker),
-        Query::Phrase(phrase) => phrase_cursor(alloc, seg, phrase, ranker),
-        Query::All(parts) => cursor_of_all(alloc, seg, parts, ranker),
-        Query::Any(parts) => cursor_of_any(alloc, seg, parts, ranker),
+        Query::Word(word) => Ok(word_cursor(seg, word)),
+        Query::Phrase(phrase) => phrase_cursor(alloc, seg, phrase),
+        Query::All(parts) => cursor_of_all(alloc, seg, parts),
+        Query::Any(parts) => cursor_of_any(alloc, seg, parts),
         Query::Not(part) => {
-            let mut unused = Ranker::new(alloc);
-            let cursor = cursor_of(alloc, seg, part.as_ref(), &mut unused)?;
+            let cursor = cursor_of(alloc, seg, part.as_ref())?;
             Ok(Cursor::Rest {
                 least: 0,
                 free: 0,
@@ -140,17 +106,13 @@ fn cursor_of_all<'a>(
     alloc: Global,
     seg: &'a Segment,
     parts: &List<Query>,
-    ranker: &mut Ranker<'a>,
 ) -> Result<Cursor<'a>, NoMemory>
-    requires sound { IsSound seg.now }
-    requires form { All (λ part. IsTrue (has_form part)) parts.now }
-    ensures answers { IfOk result (AnswersAll seg.now.docs parts.now) }
-    ensures ranks { OnOk result (AddsRank seg.now.docs
-        (λ doc. sum_by (λ part. rank_of part (words_of doc.text)) parts.now) ranker.old ranker.new) }
+    requires { IsSound seg.now }
+    ensures { IfOk result (AnswersAll seg.now.docs parts.now) }
 {
     let mut all = None;
     for part in parts.as_slice() {
-        let next = cursor_of(alloc, seg, part, ranker)?;
+        let next = cursor_of(alloc, seg, part)?;
         all = Some(both(alloc, all, next)?);
     }
     Ok(all.unwrap_or(Cursor::Every))
@@ -161,17 +123,13 @@ fn cursor_of_any<'a>(
     alloc: Global,
     seg: &'a Segment,
     parts: &List<Query>,
-    ranker: &mut Ranker<'a>,
 ) -> Result<Cursor<'a>, NoMemory>
-    requires sound { IsSound seg.now }
-    requires form { All (λ part. IsTrue (has_form part)) parts.now }
-    ensures answers { IfOk result (AnswersAny seg.now.docs parts.now) }
-    ensures ranks { OnOk result (AddsRank seg.now.docs
-        (λ doc. sum_by (λ part. rank_of part (words_of doc.text)) parts.now) ranker.old ranker.new) }
+    requires { IsSound seg.now }
+    ensures { IfOk result (AnswersAny seg.now.docs parts.now) }
 {
     let mut any = None;
     for part in parts.as_slice() {
-        let next = cursor_of(alloc, seg, part, ranker)?;
+        let next = cursor_of(alloc, seg, part)?;
         any = Some(either(alloc, any, next)?);
     }
     Ok(any.unwrap_or(Cursor::Nothing))

@@ -3,8 +3,8 @@ ghost use Rattle.report_text.specs.Texts.{kind_text, plan_text, cause_text};
 
 use crate::words::push_worded;
 use file_names::FileName;
-use nrt_base::{NoMemory, NodeNo};
 use history_entries::{Cause, FaultKind, FaultPlan};
+use nrt_base::{NoMemory, NodeNo};
 use std::alloc::Global;
 
 pub fn push_cause(out: &mut Vec<u8>, alloc: Global, cause: &Cause) -> Result<(), NoMemory>

@@ -4,10 +4,10 @@ ghost use Rattle.report_text.specs.Texts.{worded, all_spaced, event_text, plan_t
 
 use crate::causes::{push_cause, push_kind, push_plan};
 use crate::words::{push_keys, push_names, push_worded};
-use file_names::{FileName, base36};
-use nrt_base::{NoMemory, NodeNo, SegNo, TicketNo, Version};
 use documents::Answer;
+use file_names::{FileName, base36};
 use history_entries::{Cause, Event, FaultKind, FaultPlan};
+use nrt_base::{NoMemory, NodeNo, SegNo, TicketNo, Version};
 use std::alloc::Global;
 
 pub fn push_event(out: &mut Vec<u8>, alloc: Global, event: &Event) -> Result<(), NoMemory>

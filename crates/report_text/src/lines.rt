@@ -3,8 +3,8 @@ ghost use Rattle.report_text.specs.Texts.{text_of_entry, text_of};
 
 use crate::events::push_event;
 use crate::words::push_number;
-use nrt_base::NoMemory;
 use history_entries::{Entry, History};
+use nrt_base::NoMemory;
 use std::alloc::Global;
 
 fn push_line(out: &mut Vec<u8>, alloc: Global, entry: &Entry) -> Result<(), NoMemory>

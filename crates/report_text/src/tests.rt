@@ -1,8 +1,10 @@
 use crate::{line, report};
-use file_names::{SegPart, commit_name, part_name};
-use nrt_base::{At, Doc, Gen, Key, LaneNo, LineNo, List, NoMemory, NodeNo, SegNo, Text, TicketNo, Version, Word};
 use documents::{Answer, Op, Query};
+use file_names::{SegPart, commit_name, part_name};
 use history_entries::{Cause, Entry, Event, FaultKind, FaultPlan, History};
+use nrt_base::{
+    At, Doc, Gen, Key, LaneNo, LineNo, List, NoMemory, NodeNo, SegNo, Text, TicketNo, Version, Word,
+};
 use std::alloc::Global;
 use std::process::Abort;
 use std::test::Fail;

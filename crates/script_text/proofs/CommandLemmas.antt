@@ -1,13 +1,13 @@
 -- What is read of a command's words is the command that they spell.
 use Rattle.std.proofs.Common.{◌≡◌, ◌<◌, ◌≤◌, ◌-◌, ◌^◌, ℕ, zero, suc, Bool, true, false, List, [], ◌∷◌, ◌++◌, length, take, refl, ap, ◌∙◌, sym, arith, Option, Some, None, Result, Ok, Err}
-use Rattle.std.specs.Prelude.{◌&&◌, nat_le, codes, MatchOption}
+use Rattle.std.specs.Prelude.{◌&&◌, nat_le, codes, MatchOption, bytes_eq}
 use Rattle.std.specs.Fmt.{decimal}
 use Rattle.std.specs.List.{list_all}
 use Rattle.std.specs.Cmp.Lexicographic.{same_text}
 use Rattle.std.specs.Option.{option_map, option_and_then}
 use Rattle.std.proofs.Math.Bool.{and-true}
 use Rattle.std.proofs.lemmas.Option.{none-some, same_Some}
-use Rattle.std.proofs.lemmas.Bool.{false≢true, and_left}
+use Rattle.std.proofs.lemmas.Bool.{false≢true, and_left, and_parts}
 use Rattle.std.proofs.lemmas.Bool.Decides.{nat_tests}
 use Rattle.nrt_base.specs.Bytes.{is_between, is_key, is_key_byte, is_text, is_text_byte}
 use Rattle.nrt_base.specs.declared.doc.Doc.{Doc}
@@ -17,6 +17,7 @@ use Rattle.history_entries.specs.declared.cause.FaultKind.{FaultKind}
 use Rattle.history_entries.specs.declared.cause.FaultKind.TheVariants as kind
 use Rattle.history_entries.specs.declared.cause.FaultPlan.TheVariants as plan
 use Rattle.documents.specs.Matching.{is_well_formed}
+use Rattle.documents.specs.Words.{is_alphanumeric}
 use Rattle.script_text.specs.declared.fault.LineFault.TheVariants.{NoNodes, Word, Count, Range, Query as RefusedQuery, Text, NotBuilt}
 use Rattle.script_text.specs.declared.fault.Refusal.{Refusal}
 use Rattle.script_text.specs.declared.fault.Refusal.TheVariants as refusal
@@ -29,9 +30,10 @@ use Rattle.script_text.specs.declared.shapes.Plain.TheVariants as plain
 use Rattle.script_text.specs.declared.shapes.Name.{Name}
 use Rattle.script_text.specs.declared.shapes.Name.TheVariants as named
 use Rattle.script_serving.specs.Form.{is_command, is_force}
-use Rattle.script_text.specs.Grammar.{words_in, rest_behind, command_words, force_word, Ends, has_bytes}
-use Rattle.script_text.specs.Refused.{Kind, number, node, force, Tail, nothing, text, query, command, is_number_in, is_word, is_kind, are_kinds, is_short, is_too_few_or_many, is_asked_in_range, asks_query}
-use Rattle.script_text.specs.Reading.{word_at, number_of, node_of, ticket_of, force_of, plain_shape, fault_shape, shape_of, front_of, plain_command, plan_of, fault_command, in_range, has_short_rest, IsDocRead, IsKeyRead, IsSearchRead, IsAskRead, IsCommandOf, IsCommandRead}
+use Rattle.script_text.specs.Grammar.{words_in, rest_behind, command_words, force_word, Ends, has_bytes, word_at}
+use Rattle.script_text.specs.Refused.{Kind, number, node, force, Tail, nothing, text, query, command, is_number_in, is_kind, are_kinds, is_short, is_too_few_or_many, is_asked_in_range, asks_query}
+use Rattle.script_text.specs.Reading.{number_within, node_named, ticket_named, force_named, plain_shape, fault_shape, shape_of, front_of, plain_command, plan_of, fault_command, in_range, has_short_rest, IsDocRead, IsKeyRead, IsDropRead, IsSearchRead, IsAskRead, IsCommandOf, IsCommandRead}
+use Rattle.script_text.proofs.DropLemmas.{word_length}
 use Rattle.script_text.proofs.NumberLemmas.{number_case}
 use Rattle.script_text.proofs.ShapeLemmas.{plain_tail, plain_few, fault_tail, fault_few}
 
@@ -60,7 +62,7 @@ module _ (size low high : ℕ) (kind : Kind) (same : (word : List ℕ) → is_ki
     (words : (n : ℕ) → command_words (make n) ≡ front ++ (decimal n ∷ []))
     (ends : (n : ℕ) (line : List ℕ) (lane : ℕ) → words_in line ≡ decimal lane ∷ command_words (make n) → Ends (make n) line lane)
     (bytes : (n : ℕ) → has_bytes (make n) ≡ true) (ranges : (n : ℕ) → is_between low high n ≡ true → is_command size (make n) ≡ true) where
-  one_number : (a b c : List ℕ) → IsReadOf size (kind ∷ []) front (a ∷ b ∷ c ∷ []) (out (number_of low high a))
+  one_number : (a b c : List ℕ) → IsReadOf size (kind ∷ []) front (a ∷ b ∷ c ∷ []) (out (number_within low high a))
   one_number a b c =
       number_case low high a small (λ o. IsReadOf size (kind ∷ []) front (a ∷ b ∷ c ∷ []) (out o))
       (λ n is spelled within.
@@ -82,9 +84,9 @@ module _ (size low high : ℕ) (kind : Kind) (same : (word : List ℕ) → is_ki
     (ends : (n k : ℕ) (line : List ℕ) (lane : ℕ) → words_in line ≡ decimal lane ∷ command_words (make n k) → Ends (make n k) line lane)
     (bytes : (n k : ℕ) → has_bytes (make n k) ≡ true)
     (ranges : (n k : ℕ) → is_between 1 size n ≡ true → is_between low high k ≡ true → is_command size (make n k) ≡ true) where
-  two_numbers : (a b c : List ℕ) → IsReadOf size (node ∷ kind ∷ []) front (a ∷ b ∷ c ∷ []) (out (number_of 1 size a) (number_of low high b))
+  two_numbers : (a b c : List ℕ) → IsReadOf size (node ∷ kind ∷ []) front (a ∷ b ∷ c ∷ []) (out (number_within 1 size a) (number_within low high b))
   two_numbers a b c =
-      number_case 1 size a few (λ o. IsReadOf size (node ∷ kind ∷ []) front (a ∷ b ∷ c ∷ []) (out o (number_of low high b)))
+      number_case 1 size a few (λ o. IsReadOf size (node ∷ kind ∷ []) front (a ∷ b ∷ c ∷ []) (out o (number_within low high b)))
       (λ n is spelled within.
       number_case low high b small (λ o. IsReadOf size (node ∷ kind ∷ []) front (a ∷ b ∷ c ∷ []) (out (Some n) o))
       (λ k is' spelled' within'.
@@ -102,7 +104,7 @@ module _ (size low high : ℕ) (kind : Kind) (same : (word : List ℕ) → is_ki
       rw (no_number n) fails))
       (λ other.
       let fails : are_kinds size (node ∷ kind ∷ []) (a ∷ b ∷ c ∷ []) ≡ false = and_left (is_number_in 1 size a) (is_kind size kind b && true) other in
-      rw (none (number_of low high b)) fails)
+      rw (none (number_within low high b)) fails)
 
 abbrev to_node : Option ℕ → Option NodeNo
 to_node o = option_map (λ n. record { 0 = n }) o
@@ -112,10 +114,10 @@ to_ticket o = option_map (λ n. record { 0 = n }) o
 
 -- a forced version is read as it is spelled
 force_case : (word : List ℕ) (P : Option Force → Type 0)
-    → ((f : Force) → is_kind 0 force word ≡ true → force_word f ≡ word → is_force f ≡ true → P (Some f)) → (is_kind 0 force word ≡ false → P None) → P (force_of word)
-force_case word P held other = by_test (is_word (codes "auto") word) refl
+    → ((f : Force) → is_kind 0 force word ≡ true → force_word f ≡ word → is_force f ≡ true → P (Some f)) → (is_kind 0 force word ≡ false → P None) → P (force_named word)
+force_case word P held other = by_test (bytes_eq (codes "auto") word) refl
   where
-    by_test : (t : Bool) → is_word (codes "auto") word ≡ t → P (force_of word)
+    by_test : (t : Bool) → bytes_eq (codes "auto") word ≡ t → P (force_named word)
     by_test true e = rw e (held Auto (rw e refl) (same_text (codes "auto") word (sym e)) refl)
     by_test false e =
         rw e
@@ -126,7 +128,7 @@ force_case word P held other = by_test (is_word (codes "auto") word) refl
 promote_is : (size : ℕ) → size < 2 ^ 64 → (a b c : List ℕ) → IsReadOf size (node ∷ force ∷ []) (codes "promote" ∷ []) (a ∷ b ∷ c ∷ []) (plain_command size plain.Promote a b c)
 promote_is size few a b c =
     number_case 1 size a few
-    (λ o. IsReadOf size (node ∷ force ∷ []) (codes "promote" ∷ []) (a ∷ b ∷ c ∷ []) (option_and_then (λ n. option_map (λ f. asks.Promote n f) (force_of b)) (to_node o)))
+    (λ o. IsReadOf size (node ∷ force ∷ []) (codes "promote" ∷ []) (a ∷ b ∷ c ∷ []) (option_and_then (λ n. option_map (λ f. asks.Promote n f) (force_named b)) (to_node o)))
     (λ n is spelled within.
     force_case b (λ o. IsReadOf size (node ∷ force ∷ []) (codes "promote" ∷ []) (a ∷ b ∷ c ∷ []) (option_map (λ f. asks.Promote (record { 0 = n }) f) o))
     (λ f is' spelled' within'. record {
@@ -200,7 +202,7 @@ fault_is size few kind.Damage a b c =
     number_case 1 size a few (λ o. IsReadOf size damage_kinds damage_front (a ∷ b ∷ c ∷ []) (option_and_then (λ n. option_map (λ p. asks.Fault n p) (plan_of kind.Damage b c)) (to_node o)))
     (λ n is spelled within.
     number_case 1 1000000 b (omega arith)
-    (λ o. IsReadOf size damage_kinds damage_front (a ∷ b ∷ c ∷ []) (option_map (λ p. asks.Fault (record { 0 = n }) p) (option_and_then (λ k. option_map (λ at. plan.Damage k at) (number_of 0 (2 ^ 32 - 1) c)) o)))
+    (λ o. IsReadOf size damage_kinds damage_front (a ∷ b ∷ c ∷ []) (option_map (λ p. asks.Fault (record { 0 = n }) p) (option_and_then (λ k. option_map (λ at. plan.Damage k at) (number_within 0 (2 ^ 32 - 1) c)) o)))
     (λ k is' spelled' within'.
     number_case 0 (2 ^ 32 - 1) c (omega arith) (λ o. IsReadOf size damage_kinds damage_front (a ∷ b ∷ c ∷ []) (option_map (λ p. asks.Fault (record { 0 = n }) p) (option_map (λ at. plan.Damage k at) o)))
     (λ at is'' spelled'' within''. record {
@@ -292,7 +294,7 @@ record Reads (low high : ℕ) (word : List ℕ) (n : ℕ) : Type 0 where
   spelled : decimal n ≡ word
   within : is_between low high n ≡ true
 
-node_reads : (size : ℕ) → size < 2 ^ 64 → (word : List ℕ) (n : NodeNo) → node_of size word ≡ Some n → Reads 1 size word n.0
+node_reads : (size : ℕ) → size < 2 ^ 64 → (word : List ℕ) (n : NodeNo) → node_named size word ≡ Some n → Reads 1 size word n.0
 node_reads size few word n =
     number_case 1 size word few (λ o. to_node o ≡ Some n → Reads 1 size word n.0)
     (λ m is spelled within e.
@@ -300,7 +302,7 @@ node_reads size few word n =
     record { number_in = is; spelled = ap decimal (sym same) ∙ spelled; within = ap (is_between 1 size) (sym same) ∙ within })
     (λ other e. absurd (none-some n e))
 
-ticket_reads : (word : List ℕ) (t : TicketNo) → ticket_of word ≡ Some t → Reads 1 9999 word t.0
+ticket_reads : (word : List ℕ) (t : TicketNo) → ticket_named word ≡ Some t → Reads 1 9999 word t.0
 ticket_reads word t =
     number_case 1 9999 word (omega arith) (λ o. to_ticket o ≡ Some t → Reads 1 9999 word t.0)
     (λ m is spelled within e.
@@ -403,6 +405,21 @@ delete_read size line (word ∷ []) taken counted (key_is, is_k) = record {
   ranges = refl;
 }
 delete_read size line (word ∷ other ∷ words) taken counted h = absurd (grind (arith, nat_tests))
+
+-- what is read of a word to drop
+pub drop_read : (size : ℕ) (line : List ℕ) (words : List (List ℕ)) (taken : List ℕ)
+    → is_too_few_or_many nothing 1 (length words) ≡ false → IsDropRead (word_at 0 words) (Ok taken) → IsCommandOf size named.Drop line words (asks.Drop taken)
+drop_read size line [] taken counted h = absurd (false≢true (sym counted))
+drop_read size line (word ∷ []) taken counted (is, only, kind) =
+    let parts = and_parts (is_between 1 64 (length word)) (list_all is_alphanumeric word) is in
+    record {
+      in_range = ap (λ t. (t && true) && true) is;
+      no_fault = λ fault asking is. absurd (false≢true asking);
+      ends = λ lane e. record { written = word; words = e; letters = parts.1; only = only };
+      bytes = kind;
+      ranges = ap (is_between 1 64) (word_length word taken parts.1 only) ∙ parts.0;
+    }
+drop_read size line (word ∷ other ∷ words) taken counted h = absurd (grind (arith, nat_tests))
 
 -- a command that wants a word has one
 pub some_words : (tail : Tail) (words : List (List ℕ)) → is_too_few_or_many tail 1 0 ≡ true → is_too_few_or_many tail 1 (length words) ≡ false → 0 < length words

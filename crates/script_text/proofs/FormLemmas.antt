@@ -13,7 +13,7 @@ use Rattle.script_serving.specs.declared.script.Line.{Line}
 use Rattle.script_serving.specs.declared.script.Script.{Script}
 use Rattle.script_serving.specs.Lines.{lines_of_phase, lines_under}
 use Rattle.script_serving.specs.Form.{is_command, is_under, are_apart, is_phase, are_ascending, are_distinct, IsInForm}
-use Rattle.script_text.specs.Grammar.{Statement, statements_from, statements_of, lines_of_text, is_statement, SpellsPhases, SpellsBody, SpellsStatements, SpellsScript, of_lane, lane_entry, lanes_from, phase_of}
+use Rattle.script_text.specs.Grammar.{Statement, statements_from, statements_of, lines_of_text, is_statement, SpellsPhases, SpellsLogged, SpellsBody, SpellsStatements, SpellsScript, of_lane, lane_entry, lanes_from, phase_of}
 
 both : (a b : Bool) → a ≡ true → b ≡ true → (a && b) ≡ true
 both true b e f = f
@@ -390,29 +390,47 @@ spelled_lines size n (statement ∷ statements) ((line ∷ phase) ∷ phases) c 
       both (is_command size line.command) (list_all (λ l. is_command size l.command) (phase ++ all_lines phases)) s.0.ranges ih.1,
     )
 
-body_lines : (size workers n : ℕ) (statements : List Statement) (phases : List (List Line)) → CountFrom n statements → SpellsBody size workers statements phases
-    → (workers ≤ 8) × (AscendFrom n (all_lines phases) × (list_all (λ line. is_command size line.command) (all_lines phases) ≡ true))
-body_lines size workers n [] phases c s =
-    (omega (arith, s.0), subst (λ (ps : List (List Line)). AscendFrom n (all_lines ps) × (list_all (λ line. is_command size line.command) (all_lines ps) ≡ true)) (sym s.1) (tt, refl))
-body_lines size workers n (statement ∷ statements) phases c (inl s) =
-    let ih = spelled_lines size (statement.number + 1) statements phases c.1 s.1 in
-    (s.0.1, (lower n (statement.number + 1) (all_lines phases) (omega (arith, c.0)) ih.0, ih.1))
-body_lines size workers n (statement ∷ statements) phases c (inr s) = (omega (arith, s.0), spelled_lines size n (statement ∷ statements) phases c s.1)
+-- the lines of these phases ascend from a number, and their commands are in their ranges
+record HasLines (size n : ℕ) (phases : List (List Line)) : Type 0 where
+  ascend : AscendFrom n (all_lines phases)
+  ranges : list_all (λ line. is_command size line.command) (all_lines phases) ≡ true
+
+no_lines : (size n : ℕ) (phases : List (List Line)) → phases ≡ [] ∷ [] → HasLines size n phases
+no_lines size n phases e = subst (HasLines size n) (sym e) (record { ascend = tt; ranges = refl })
+
+some_lines : (size n : ℕ) (statements : List Statement) (phases : List (List Line)) → CountFrom n statements → SpellsPhases size statements phases → HasLines size n phases
+some_lines size n statements phases c s = let facts = spelled_lines size n statements phases c s in record { ascend = facts.0; ranges = facts.1 }
+
+earlier_lines : (size m n : ℕ) (phases : List (List Line)) → m ≤ n → HasLines size n phases → HasLines size m phases
+earlier_lines size m n phases le has = record { ascend = lower m n (all_lines phases) le has.ascend; ranges = has.ranges }
+
+logged_lines : (size : ℕ) (log : Bool) (n : ℕ) (statements : List Statement) (phases : List (List Line)) → CountFrom n statements → SpellsLogged size log statements phases → HasLines size n phases
+logged_lines size log n [] phases c s = no_lines size n phases s.1
+logged_lines size log n (statement ∷ statements) phases c (inl s) =
+    earlier_lines size n (statement.number + 1) phases (omega (arith, c.0)) (some_lines size (statement.number + 1) statements phases c.1 s.2)
+logged_lines size log n (statement ∷ statements) phases c (inr s) = some_lines size n (statement ∷ statements) phases c s.1
+
+body_lines : (size workers : ℕ) (log : Bool) (n : ℕ) (statements : List Statement) (phases : List (List Line)) → CountFrom n statements → SpellsBody size workers log statements phases
+    → (workers ≤ 8) × HasLines size n phases
+body_lines size workers log n [] phases c s = (omega (arith, s.0), logged_lines size log n [] phases c s.1)
+body_lines size workers log n (statement ∷ statements) phases c (inl s) =
+    (s.0.1, earlier_lines size n (statement.number + 1) phases (omega (arith, c.0)) (logged_lines size log (statement.number + 1) statements phases c.1 s.1))
+body_lines size workers log n (statement ∷ statements) phases c (inr s) = (omega (arith, s.0), logged_lines size log n (statement ∷ statements) phases c s.1)
 
 form_of_statements : (statements : List Statement) (script : Script) → CountFrom 1 statements → SpellsStatements statements script → IsInForm script
 form_of_statements [] script c s = absurd s
 form_of_statements (statement ∷ statements) script c s =
     let phases = s.1.0 in
-    let facts = body_lines script.nodes script.workers (statement.number + 1) statements phases c.1 s.1.1 in
+    let facts = body_lines script.nodes script.workers script.log (statement.number + 1) statements phases c.1 s.1.1 in
     record {
       nodes = s.0.1;
       workers = facts.0;
       phases = ap (list_all is_phase) s.1.2 ∙ phases_are phases;
-      commands = ap (λ ps. list_all (λ line. is_command script.nodes line.command) (flat_map lines_of_phase ps)) s.1.2 ∙ all_of_phases (λ line. is_command script.nodes line.command) phases facts.1.1;
-      distinct = ap (λ ps. are_distinct (flat_map lines_of_phase ps)) s.1.2 ∙ distinct_phases (statement.number + 1) phases facts.1.0;
+      commands = ap (λ ps. list_all (λ line. is_command script.nodes line.command) (flat_map lines_of_phase ps)) s.1.2 ∙ all_of_phases (λ line. is_command script.nodes line.command) phases facts.1.ranges;
+      distinct = ap (λ ps. are_distinct (flat_map lines_of_phase ps)) s.1.2 ∙ distinct_phases (statement.number + 1) phases facts.1.ascend;
       ordered = λ lane.
           ap (λ ps. are_ascending (flat_map (λ phase. lines_under lane phase.lanes) ps)) s.1.2
-          ∙ ascending (statement.number + 1) (flat_map (λ phase. lines_under lane phase.lanes) (map phase_of phases)) (lane_ascends lane (statement.number + 1) phases facts.1.0);
+          ∙ ascending (statement.number + 1) (flat_map (λ phase. lines_under lane phase.lanes) (map phase_of phases)) (lane_ascends lane (statement.number + 1) phases facts.1.ascend);
     }
 
 -- a script that bytes spell is in form

@@ -1,6 +1,6 @@
 -- A statement that spells a line is right at its place.
 use Rattle.std.proofs.Common.{◌≡◌, ℕ, ◌<◌, ◌≤◌, List, [], ◌∷◌, length, take, true, false, refl, ap, ◌∙◌, subst, arith}
-use Rattle.std.specs.Prelude.{◌^◌, ◌-◌, nat_le, codes}
+use Rattle.std.specs.Prelude.{Bool, ◌^◌, ◌-◌, nat_le, codes, bytes_eq}
 use Rattle.std.specs.List.{list_all}
 use Rattle.std.specs.Fmt.{decimal}
 use Rattle.std.proofs.lemmas.Bool.{false≢true, leb-true, le-leb, le-ltb, lt-leb, eq-eqb, and_from, and_parts, or_right}
@@ -11,17 +11,19 @@ use Rattle.history_entries.specs.declared.cause.FaultPlan.TheVariants.{Link, Dam
 use Rattle.documents.specs.Matching.{is_well_formed}
 use Rattle.text_query.specs.declared.fault.QueryFault.TheVariants.{Empty}
 use Rattle.text_query.specs.Answers.{Parses}
+use Rattle.script_text.specs.declared.counted.Counted.{Counted}
 use Rattle.script_serving.specs.declared.script.Force.{Force}
 use Rattle.script_serving.specs.declared.script.Force.TheVariants.{Auto, Exactly}
 use Rattle.script_serving.specs.declared.script.Line.{Line}
 use Rattle.script_serving.specs.declared.script.LineCommand.{LineCommand}
-use Rattle.script_serving.specs.declared.script.LineCommand.TheVariants.{Put, Delete, Publish, Copy, Settle, Search, Open, Ask, Close, Commit, Crash, Reopen, Promote, Merge, Drain, Files, Fault}
+use Rattle.script_serving.specs.declared.script.LineCommand.TheVariants.{Put, Delete, Drop, Publish, Copy, Settle, Search, Open, Ask, Close, Commit, Crash, Reopen, Promote, Merge, Drain, Files, Fault}
 use Rattle.script_serving.specs.Form.{is_plan, is_force, is_command}
 use Rattle.script_text.specs.Grammar.{Statement, words_in, rest_behind, force_word, plan_words, command_words, IsQueryText, Ends, has_bytes, SpellsLine}
-use Rattle.script_text.specs.Refused.{is_word, is_number_in, Kind, number as number_kind, node as node_kind, force as force_kind, key as key_kind, nothing, text as text_tail, query as query_tail, Shape, shape as shape_with, command, asked, is_kind, are_kinds, is_short, is_too_few_or_many, lane_line, Place, IsRight}
+use Rattle.script_text.specs.Refused.{is_number_in, Kind, number as number_kind, node as node_kind, force as force_kind, key as key_kind, letters as letters_kind, nothing, text as text_tail, query as query_tail, Shape, shape as shape_with, command, asked, is_kind, are_kinds, is_short, is_too_few_or_many, lane_line, Place, has_room, IsRight}
 use Rattle.script_text.proofs.NumberLaws.{number_in, digits_of-decimal, is_digits-decimal}
 use Rattle.script_text.proofs.WordLaws.{words_after, nothing_behind}
-use Rattle.script_text.proofs.RightForms.{never_faulty, AreRight, right_lane, right_by_form, IsBehind, lane_form}
+use Rattle.script_text.proofs.RightForms.{never_faulty, AreRight, right_lane, right_by_form, IsBehind, lane_form, log_behind}
+use Rattle.script_text.proofs.DropLemmas.{letters_written}
 
 -- what a number between two others is at most
 pub between_high : (low high n : ℕ) → is_between low high n ≡ true → n ≤ high
@@ -69,7 +71,7 @@ number_is size low high n narrow h = number_in low high n (omega (arith, between
 force_is : (size : ℕ) (force : Force) → is_force force ≡ true → is_kind size force_kind (force_word force) ≡ true
 force_is size Auto h = refl
 force_is size (Exactly f) h =
-    or_right (is_word (codes "auto") (decimal f)) (is_number_in 0 (2 ^ 64 - 1) (decimal f))
+    or_right (bytes_eq (codes "auto") (decimal f)) (is_number_in 0 (2 ^ 64 - 1) (decimal f))
     (number_in 0 (2 ^ 64 - 1) f (omega (arith, between_high 0 (2 ^ 64 - 1) f h)) h)
 
 -- three words in front
@@ -162,6 +164,13 @@ module _ (size : ℕ) (small : size ≤ 16) where
       }
   right_command (Delete key) line lane ends bytes ranges =
       one_word (shape_with (codes "delete") (key_kind ∷ []) nothing) key_kind (Delete key) line lane key ends refl refl refl (key_is size key bytes)
+  right_command (Drop word) line lane ends bytes ranges =
+      record {
+        words = codes "drop" ∷ ends.written ∷ [];
+        are = ends.words;
+        right = plain size (shape_with (codes "drop") (letters_kind ∷ []) nothing) (ends.written ∷ []) (codes "drop" ∷ ends.written ∷ []) (rest_behind 3 line) refl refl refl
+            (one_kind size letters_kind ends.written [] (letters_written size ends.written word ends.letters ends.only ranges));
+      }
   right_command Publish line lane ends bytes ranges =
       whole_line Publish line lane ends (plain size (shape_with (codes "publish") [] nothing) [] (command_words Publish) (rest_behind 3 line) refl refl refl refl)
   right_command (Copy n) line lane ends bytes ranges =
@@ -216,11 +225,13 @@ module _ (size : ℕ) (small : size ≤ 16) where
       whole_line (Fault n plan) line lane ends (right_fault n.0 plan (rest_behind 3 line) parts.0 parts.1)
 
   -- a statement that spells a line is right behind the first
-  pub right_spelled : (place : Place) (before : ℕ) (statement : Statement) (line : Line) → IsBehind place size → SpellsLine size statement line → before < 200000 → IsRight place before statement
-  right_spelled place before statement line behind spells few =
+  pub right_spelled : (place : Place) (log : Bool) (before : Counted) (statement : Statement) (line : Line) → IsBehind place size log → SpellsLine size statement line
+      → has_room log before (words_in statement.line) ≡ true → IsRight place before statement
+  right_spelled place log before statement line behind spells room =
       let lane = line.at.lane.0 in
       let narrow : lane < 2 ^ 64 = omega (arith, between_high 1 8 lane spells.lane) in
       let found = right_command line.command statement.line lane spells.words spells.bytes spells.ranges in
       right_by_form place before statement (lane_line size (decimal lane) found.words)
-      (lane_form place size statement (decimal lane) found.words behind found.are (digits_of-decimal lane narrow) (is_digits-decimal lane narrow))
-      (right_lane size (decimal lane) found.words statement.line (number_in 1 8 lane narrow spells.lane) found.right) spells.printable few
+      (lane_form place size log statement (decimal lane) found.words behind found.are (digits_of-decimal lane narrow) (is_digits-decimal lane narrow))
+      (right_lane size (decimal lane) found.words statement.line (number_in 1 8 lane narrow spells.lane) found.right) spells.printable
+      (ap (λ (b : Bool). has_room b before (words_in statement.line)) (log_behind place size log behind) ∙ room)

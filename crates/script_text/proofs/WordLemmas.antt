@@ -1,4 +1,5 @@
 -- The words of a line, one after the other, and what stands behind them.
+use Rattle.text_query.specs.Tokens.{is_space}
 use Rattle.std.proofs.Common.{◌≡◌, ◌<◌, ◌≤◌, ◌+◌, ◌-◌, ℕ, zero, suc, Bool, true, false, List, [], ◌∷◌, ◌++◌, not, length, take, drop, refl, ap, ◌∙◌, sym, arith}
 use Rattle.std.specs.Prelude.{take_while, ◌&&◌, nat_lt, nat_le, if◌then◌else◌}
 use Rattle.std.specs.List.{prefix_len, list_all}
@@ -7,8 +8,8 @@ use Rattle.std.proofs.lemmas.Bool.{false≢true}
 use Rattle.std.proofs.lemmas.List.{take_rest, length-drop}
 use Rattle.std.proofs.lemmas.List.Folds.{length-prefix_len}
 use Rattle.std.proofs.lemmas.Bool.Decides.{nat_tests}
-use Rattle.script_text.specs.Grammar.{is_space, words_in, join_word, with_first, without_spaces, without_end, unless_space, behind_word, rest_behind, is_printable}
-use Rattle.script_text.specs.Reading.{word_at, is_key_word}
+use Rattle.script_text.specs.Grammar.{words_in, join_word, with_byte, without_spaces, without_end, unless_space, behind_word, rest_behind, is_printable, word_at}
+use Rattle.script_text.specs.Reading.{is_key_word}
 
 spaces_dropped : (line : List ℕ) (n : ℕ) → prefix_len is_space line ≡ n → drop n line ≡ without_spaces line
 spaces_dropped [] zero e = refl
@@ -69,10 +70,10 @@ word_split b (c ∷ line) (suc n) f e = by_test (is_space c) refl (word_split c 
     by_test false g ih =
         let z : 1 + front line ≡ suc n = rw g at e in
         let i : words_in (c ∷ line) ≡ (c ∷ take n line) ∷ words_in (drop n line) = ih g (omega arith) in
-        joined b (c ∷ line) f ∙ (joins g ∙ ap (with_first b) i)
+        joined b (c ∷ line) f ∙ (joins g ∙ ap (with_byte b) i)
       where
-        joins : is_space c ≡ false → join_word b (c ∷ line) (words_in (c ∷ line)) ≡ with_first b (words_in (c ∷ line))
-        joins h = ap (λ (u : Bool). if u then (b ∷ []) ∷ words_in (c ∷ line) else with_first b (words_in (c ∷ line))) h
+        joins : is_space c ≡ false → join_word b (c ∷ line) (words_in (c ∷ line)) ≡ with_byte b (words_in (c ∷ line))
+        joins h = ap (λ (u : Bool). if u then (b ∷ []) ∷ words_in (c ∷ line) else with_byte b (words_in (c ∷ line))) h
 
 -- the spaces at the front are in no word
 pub words_without : (line : List ℕ) → words_in line ≡ words_in (without_spaces line)
@@ -223,7 +224,7 @@ words_are_full (b ∷ line) p =
     let h = both (is_text_byte b) (is_printable line) p in
     by_test (is_space b) refl (words_are_full line h.1) h.0
   where
-    front_full : (b : ℕ) (words : List (List ℕ)) → is_key_byte b ≡ true → list_all is_key_word words ≡ true → list_all is_key_word (with_first b words) ≡ true
+    front_full : (b : ℕ) (words : List (List ℕ)) → is_key_byte b ≡ true → list_all is_key_word words ≡ true → list_all is_key_word (with_byte b words) ≡ true
     front_full b [] f g = rw f refl
     front_full b (word ∷ words) f g =
         let h = both (is_key_word word) (list_all is_key_word words) g in

@@ -4,7 +4,8 @@ use Rattle.std.specs.Prelude.{◌≢◌, IsTrue}
 use Rattle.std.specs.List.{flat_map, AllPairs}
 use Rattle.nrt_base.specs.declared.numbers.Gen.{Gen}
 use Rattle.nrt_base.specs.declared.numbers.Version.{Version}
-use Rattle.body_forms.specs.Format.{AreBytes, Read}
+use Rattle.codec_frame.specs.Bytes.{AreBytes}
+use Rattle.body_forms.specs.Format.{Read}
 use Rattle.body_forms.specs.Numbers.{u32_bytes, u64_bytes}
 use Rattle.body_forms.specs.File.{IsOneToOne}
 use Rattle.body_forms.proofs.Formats.{read_is}

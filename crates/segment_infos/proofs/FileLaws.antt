@@ -9,8 +9,9 @@ use Rattle.codec_frame.specs.declared.frame.Framed.{Framed}
 use Rattle.codec_frame.specs.declared.frame.FrameFault.{FrameFault}
 use Rattle.codec_frame.specs.declared.frame.FileFault.{FileFault}
 use Rattle.codec_frame.specs.declared.frame.FileFault.TheVariants.{Frame, Body}
-use Rattle.body_forms.specs.Format.{AreBytes}
-use Rattle.body_forms.proofs.Formats.{AreBytes-take, AreBytes-drop}
+use Rattle.codec_frame.specs.Bytes.{AreBytes}
+use Rattle.codec_frame.proofs.ByteLaws.{AreBytes-take}
+use Rattle.body_forms.proofs.Formats.{AreBytes-drop}
 use Rattle.body_forms.proofs.FileLaws.{OneVersion, Checked, IsAnswer, body_of, StandsIn, Tells, frame_refused, body_refused, file_read, exactly, stands, one_file_value, one_file_bytes, framed_file}
 use Rattle.segment_infos.specs.declared.info.SegInfo.{SegInfo}
 use Rattle.segment_infos.specs.declared.infos.Infos.{Infos}
