@@ -1,4 +1,3 @@
-pub mod Plain
 pub mod HitLemmas
 pub mod AdvanceLemmas
 pub mod RestLemmas

@@ -2,7 +2,7 @@
 use Rattle.std.proofs.Common.{◌≡◌, ℕ, zero, suc, ◌+◌, ◌<◌, ◌≤◌, List, [], ◌∷◌, length, map, take, drop, get_or, set, Bool, true, false, Some, None, refl, sym, ap, subst, ◌∙◌, inl, inr, arith, drop-cons}
 use Rattle.std.specs.List.{All}
 use Rattle.std.proofs.lemmas.Bool.{cases_lt, eq-eqb, and_left, and_right, and_from, and_parts}
-use Rattle.query_eval.proofs.Plain.{cons_from, cons_parts, cons_first}
+use Rattle.nrt_base.proofs.Plain.{cons_from, cons_parts, cons_first}
 use Rattle.postings_plain.specs.Postings.{Hit, row_of}
 use Rattle.postings_plain.specs.Rows.{from_row, IsLeastFrom, first_row, first_positions}
 use Rattle.query_eval.specs.Phrases.{has_row, places_in, all_have, IsMoved, AreMoved, AreFewer, IsPass}
