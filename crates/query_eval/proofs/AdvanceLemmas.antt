@@ -1,12 +1,8 @@
--- What is kept while parts are moved in turn, and what a least makes of a move.
+-- What is kept while parts advance in turn, and what a least makes of it.
 use Rattle.std.proofs.Common.{◌≡◌, ℕ, ◌^◌, ◌<◌, ◌≤◌, Bool, true, false, Some, None, refl, sym, ◌∙◌, inl, inr, max, arith}
-use Rattle.std.specs.Prelude.{◌&&◌, nat_le}
-use Rattle.std.proofs.lemmas.Bool.{le-leb, lt-leb, cases_lt}
-use Rattle.query_eval.specs.Moves.{IsFirst, StaysFrom, both, from_least}
-
-false_right : (a b : Bool) → b ≡ false → (a && b) ≡ false
-false_right true b e = e
-false_right false b e = refl
+use Rattle.std.specs.Prelude.{nat_le}
+use Rattle.std.proofs.lemmas.Bool.{le-leb, lt-leb, cases_lt, and_right}
+use Rattle.query_eval.specs.Advance.{IsFirst, StaysFrom, both, from_least}
 
 -- the rows from the least on stay in both parts, and no row from the start on and below it is answered by both
 pub record AreKept (first second first' second' : ℕ → Bool) (start least : ℕ) : Type 0 where
@@ -19,7 +15,7 @@ below_least : (least : ℕ) (answered : ℕ → Bool) (x : ℕ) → x < least �
 below_least least answered x lt = rw (lt-leb least x lt) refl
 
 not_answered : (least : ℕ) (answered : ℕ → Bool) (x : ℕ) → answered x ≡ false → from_least least answered x ≡ false
-not_answered least answered x e = false_right (nat_le least x) (answered x) e
+not_answered least answered x e = and_right (nat_le least x) (answered x) e
 
 above_least : (least : ℕ) (answered : ℕ → Bool) (x : ℕ) → least ≤ x → from_least least answered x ≡ answered x
 above_least least answered x le = rw (le-leb least x le) refl

@@ -1,6 +1,6 @@
 use Rattle.std.proofs.Common.{◌-◌, ◌^◌, max}
 use Rattle.query_eval.proofs.PhraseLemmas.{IsSought}
-use Rattle.query_eval.proofs.phrase.phrase_from.Given as goal
+use Rattle.query_eval.proofs.phrase.advance_phrase.Given as goal
 
 abbrev pub invariant-loop-found : goal.invariant-loop-found
 invariant-loop-found l = IsSought l.fn.words l.words (max l.fn.row l.fn.least) l.least
