@@ -8,6 +8,7 @@ use Rattle.std.proofs.lemmas.Bool.{cases_lt}
 use Rattle.std.proofs.lemmas.List.{append_cancel_left, append-nil}
 use Rattle.std.proofs.lemmas.List.Elements.{All-append, All-cons, Contains-append_left, Contains-append_right}
 use Rattle.std.proofs.lemmas.Option.{same_Some}
+use Rattle.nrt_base.proofs.Plain.{ok_never_err, same_ok}
 use Rattle.file_names.specs.Base36.{base36_value, base36_of, SpellsBase36}
 use Rattle.file_names.specs.Names.{is_commit_number, is_commit_name, commit_number, commit_name_of, is_pending_name, pending_number, pending_name_of}
 use Rattle.file_names.specs.declared.radix.Base36Fault.{Base36Fault}
@@ -54,14 +55,8 @@ none_found digits r reads never =
     no_number digits (is_commit_number digits) refl
     (λ h. let s = digits_spell digits h in let n : ℕ = base36_value digits in never n ((reads n).1 (s.spelled, omega (arith, s.below))) s.some s.below)
 
-clash : (n : ℕ) (fault : Base36Fault) → ◌≡◌ {A = Answer} (Ok n) (Err fault) → ⊥
-clash n fault e = cc
-
-same_ok : (m n : ℕ) → ◌≡◌ {A = Answer} (Ok m) (Ok n) → m ≡ n
-same_ok m n e = cc
-
 pub none_spelled : (digits : List ℕ) (r : Answer) (fault : Base36Fault) → Reads digits r → r ≡ Err fault → None ≡ cond (is_commit_number digits) (Some (base36_value digits)) None
-none_spelled digits r fault reads e = none_found digits r reads (λ n f some below. clash n fault (sym f ∙ e))
+none_spelled digits r fault reads e = none_found digits r reads (λ n f some below. ok_never_err n fault (sym f ∙ e))
 
 pub none_small : (digits : List ℕ) (r : Answer) (n : ℕ) → Reads digits r → r ≡ Ok n → n ≤ 0 → None ≡ cond (is_commit_number digits) (Some (base36_value digits)) None
 none_small digits r n reads e zero_is = none_found digits r reads (λ m f some below. omega (arith, same_ok m n (sym f ∙ e), some, zero_is))

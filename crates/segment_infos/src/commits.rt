@@ -1,8 +1,7 @@
-ghost use Rattle.std.specs.Prelude.{◌≡◌, ◌<◌, ◌≤◌, ◌^◌, ◌++◌, ◌&&◌, length, drop, nat_eq, Some, None, IfSome, if◌then◌else◌};
-ghost use Rattle.std.specs.List.{starts_with};
-ghost use Rattle.file_names.specs.Base36.{base36_value};
-ghost use Rattle.file_names.specs.Names.{is_commit_number};
-ghost use Rattle.segment_infos.specs.Commits.{number_of_commit, number_of_pending, commit_numbers, pending_numbers, IsGreatest, IsNext};
+//! The numbers of the commits that a directory's names show.
+
+ghost use Rattle.std.specs.Prelude.{◌≡◌, ◌<◌, ◌≤◌, ◌^◌, ◌++◌, IfSome};
+ghost use Rattle.segment_infos.specs.Commits.{number_in, number_behind, number_of_commit, number_of_pending, commit_numbers, pending_numbers, IsGreatest, IsNext};
 
 use file_names::{FileName, read_base36};
 
@@ -11,7 +10,7 @@ const COMMIT_NUMBERS: u64 = 1 << 62;
 
 // The number of a commit that the digits spell.
 fn number_of(digits: &[u8]) -> Option<u64>
-    ensures number { result ≡ (if is_commit_number digits.now then Some (base36_value digits.now) else None) }
+    ensures number { result ≡ number_in digits.now }
     ensures below { IfSome result (λ n. n < 2 ^ 62) }
 {
     match read_base36(digits) {
@@ -22,7 +21,7 @@ fn number_of(digits: &[u8]) -> Option<u64>
 
 // The number of a commit that stands behind these letters and ends the name.
 fn number_behind(name: &[u8], letters: &[u8]) -> Option<u64>
-    ensures number { result ≡ (if starts_with nat_eq name.now letters.now && is_commit_number (drop (length letters.now) name.now) then Some (base36_value (drop (length letters.now) name.now)) else None) }
+    ensures number { result ≡ number_behind letters.now name.now }
     ensures below { IfSome result (λ n. n < 2 ^ 62) }
 {
     if name.starts_with(letters) {
@@ -32,6 +31,7 @@ fn number_behind(name: &[u8], letters: &[u8]) -> Option<u64>
     }
 }
 
+// The number of a commit's name.
 fn number_of_commit(name: &FileName) -> Option<u64>
     ensures number { result ≡ number_of_commit name.now }
     ensures below { IfSome result (λ n. n < 2 ^ 62) }
@@ -39,6 +39,7 @@ fn number_of_commit(name: &FileName) -> Option<u64>
     number_behind(name.as_slice(), b"segments_")
 }
 
+// The number of the name of a commit in preparation.
 fn number_of_pending(name: &FileName) -> Option<u64>
     ensures number { result ≡ number_of_pending name.now }
     ensures below { IfSome result (λ n. n < 2 ^ 62) }
