@@ -1,4 +1,5 @@
 pub mod Formats
+pub mod VIntLemmas
 pub mod Numerals
 pub mod NumberLaws
 pub mod Loops
@@ -6,4 +7,3 @@ pub mod ItemTables
 pub mod TableTests
 pub mod FileLaws
 pub mod WritingTables
-pub mod VIntLemmas

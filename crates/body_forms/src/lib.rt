@@ -8,8 +8,6 @@ mod numbers;
 mod read_fault;
 mod strings;
 mod table_parts;
-#[cfg(test)]
-mod tests;
 mod vint;
 
 pub use item_table::{is_item_table, item_at, item_count};
@@ -21,3 +19,6 @@ pub use read_fault::ReadFault;
 pub use strings::{push_string, string_of};
 pub use table_parts::{push_end, push_table};
 pub use vint::{VIntFault, push_vint, read_vint, vint_len};
+
+#[cfg(test)]
+mod tests;

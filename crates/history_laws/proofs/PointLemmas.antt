@@ -16,7 +16,7 @@ use Rattle.documents.specs.Documents.{documents_after}
 use Rattle.history_entries.specs.Nodes.{Past, version_of, newest_version, newest_by, accepted_count, accepted_by}
 use Rattle.history_entries.specs.Lines.{same_at, is_start}
 use Rattle.history_entries.specs.Points.{operations_written, operations_at_start, operations_at, written_by, operations_by, documents_at, points_of}
-use Rattle.history_entries.specs.Legal.{Keeps, IsLegalPast}
+use Rattle.history_entries.specs.Legal.{KeepsRule, IsLegalPast}
 use Rattle.documents.proofs.DocumentLemmas.{length-documents_after-le}
 use Rattle.history_laws.specs.Laws.{VersionsAscend, accepted_operations, all_accepted_by, StandInOrder}
 
@@ -63,7 +63,7 @@ one_more points p newest before above =
           (all_last (max newest p.version.0) p.version.0 (versions_in points) (all_higher newest (max newest p.version.0) (versions_in points) (omega arith) before.low) (omega arith));
     }
 
-ascend_step : (size : ℕ) (past : Past) (at : At) (e : Event) → Keeps size past at e → Ascend (points_of past) (newest_version past)
+ascend_step : (size : ℕ) (past : Past) (at : At) (e : Event) → KeepsRule size past at e → Ascend (points_of past) (newest_version past)
     → Ascend (points_of (record { at = at; event = e } ∷ past)) (newest_by e (newest_version past))
 ascend_step size past at (Published g w) keeps before =
     let next : w.0 ≡ newest_version past + 1 = keeps.next in
@@ -87,7 +87,7 @@ newest_rises_step size past (Published g w) = omega arith
 newest_rises_step size past (Promoted m g f w) = omega arith
 newest_rises_step size past e = omega arith
 
-stays_step : (size : ℕ) (past : Past) (at : At) (e : Event) (v : ℕ) → Keeps size past at e → v ≤ newest_version past
+stays_step : (size : ℕ) (past : Past) (at : At) (e : Event) (v : ℕ) → KeepsRule size past at e → v ≤ newest_version past
     → operations_by e past (operations_at past) (operations_at_start at past) v ≡ operations_at past v
 stays_step size past at (Published g w) v keeps known =
     let next : w.0 ≡ newest_version past + 1 = keeps.next in

@@ -1,15 +1,11 @@
 -- The numbers of the commits that a directory's names show.
-use Rattle.std.specs.Prelude.{◌≡◌, ℕ, ◌+◌, ◌≤◌, List, [], Option, Some, None, if◌then◌else◌}
+use Rattle.std.specs.Prelude.{◌≡◌, ℕ, ◌+◌, ◌≤◌, List, [], false, Option, Some, None}
 use Rattle.std.specs.List.{All, Contains, filter_map}
-use Rattle.file_names.specs.Names.{is_commit_name, commit_number, is_pending_name, pending_number}
+use Rattle.file_names.specs.Names.{number_of_commit, number_of_pending}
 
--- the number of a commit's name, and nothing for any other name
-abbrev pub number_of_commit : List ℕ → Option ℕ
-number_of_commit name = if is_commit_name name then Some (commit_number name) else None
-
--- the number of the name of a commit in preparation, and nothing for any other name
-abbrev pub number_of_pending : List ℕ → Option ℕ
-number_of_pending name = if is_pending_name name then Some (pending_number name) else None
+-- the name is neither that of a commit nor that of one in preparation
+abbrev pub IsOfNoCommit : List ℕ → Type 0
+IsOfNoCommit name = (is_commit_name name ≡ false) × (is_pending_name name ≡ false)
 
 -- the numbers of the commits among the names
 abbrev pub commit_numbers : List (List ℕ) → List ℕ

@@ -1,57 +1,16 @@
-ghost use Rattle.std.specs.Prelude.{◌≡◌, ◌<◌, ◌≤◌, ◌^◌, ◌++◌, ◌&&◌, length, drop, nat_eq, Some, None, IfSome, if◌then◌else◌};
-ghost use Rattle.std.specs.List.{starts_with};
-ghost use Rattle.file_names.specs.Base36.{base36_value};
-ghost use Rattle.file_names.specs.Names.{is_commit_number};
-ghost use Rattle.segment_infos.specs.Commits.{number_of_commit, number_of_pending, commit_numbers, pending_numbers, IsGreatest, IsNext};
+//! The numbers of the commits that a directory's names show.
 
-use file_names::{FileName, read_base36};
+ghost use Rattle.std.specs.Prelude.{◌<◌, ◌≤◌, ◌^◌, ◌++◌, IfSome};
+ghost use Rattle.segment_infos.specs.Commits.{commit_numbers, pending_numbers, IsGreatest, IsNext};
 
-/// Commit numbers are below this.
-const COMMIT_NUMBERS: u64 = 1 << 62;
-
-// The number of a commit that the digits spell.
-fn number_of(digits: &[u8]) -> Option<u64>
-    ensures number { result ≡ (if is_commit_number digits.now then Some (base36_value digits.now) else None) }
-    ensures below { IfSome result (λ n. n < 2 ^ 62) }
-{
-    match read_base36(digits) {
-        Ok(n) if 0 < n && n < COMMIT_NUMBERS => Some(n),
-        _ => None,
-    }
-}
-
-// The number of a commit that stands behind these letters and ends the name.
-fn number_behind(name: &[u8], letters: &[u8]) -> Option<u64>
-    ensures number { result ≡ (if starts_with nat_eq name.now letters.now && is_commit_number (drop (length letters.now) name.now) then Some (base36_value (drop (length letters.now) name.now)) else None) }
-    ensures below { IfSome result (λ n. n < 2 ^ 62) }
-{
-    if name.starts_with(letters) {
-        number_of(&name[letters.len()..])
-    } else {
-        None
-    }
-}
-
-fn number_of_commit(name: &FileName) -> Option<u64>
-    ensures number { result ≡ number_of_commit name.now }
-    ensures below { IfSome result (λ n. n < 2 ^ 62) }
-{
-    number_behind(name.as_slice(), b"segments_")
-}
-
-fn number_of_pending(name: &FileName) -> Option<u64>
-    ensures number { result ≡ number_of_pending name.now }
-    ensures below { IfSome result (λ n. n < 2 ^ 62) }
-{
-    number_behind(name.as_slice(), b"pending_segments_")
-}
+use file_names::{FileName, commit_of, pending_of};
 
 /// The greatest number of a commit among the names.
 pub fn last_commit(names: &[FileName]) -> Option<u64>
     ensures greatest { IsGreatest (commit_numbers names.now) result }
     ensures below { IfSome result (λ n. n < 2 ^ 62) }
 {
-    names.iter().filter_map(number_of_commit).max()
+    names.iter().filter_map(commit_of).max()
 }
 
 // The greatest number of a commit in preparation among the names.
@@ -59,7 +18,7 @@ fn last_pending(names: &[FileName]) -> Option<u64>
     ensures greatest { IsGreatest (pending_numbers names.now) result }
     ensures below { IfSome result (λ n. n < 2 ^ 62) }
 {
-    names.iter().filter_map(number_of_pending).max()
+    names.iter().filter_map(pending_of).max()
 }
 
 /// The number for the next commit: one above the greatest number of a commit, also of one in preparation, among the names, or 1

@@ -1,0 +1,47 @@
+-- Small facts that every crate needs and std lacks: of the cells of lists, of pairs, results and tests.
+-- std has those of `&&` and `||` (`and_parts`, `and_from`, `or_cases`, ..), of `<` and `≤` as tests (`ltb-true`, `leb-true`, `eqb-true`, ..)
+-- and of `Some` (`same_Some`, `none-some`).
+use Rattle.std.proofs.Common.{◌≡◌, Bool, false, List, [], ◌∷◌, Result, Ok, Err}
+use Rattle.std.specs.Prelude.{IsTrue}
+
+-- ---- lists
+
+pub cons_from : {X : Type 0} (x y : X) (xs ys : List X) → x ≡ y → xs ≡ ys → x ∷ xs ≡ y ∷ ys
+cons_from x y xs ys e f = cc
+
+pub cons_parts : {X : Type 0} (x y : X) (xs ys : List X) → x ∷ xs ≡ y ∷ ys → (x ≡ y) × (xs ≡ ys)
+cons_parts x y xs ys e = (cc, cc)
+
+pub cons_first : {X : Type 0} (x y : X) (xs ys : List X) → x ∷ xs ≡ y ∷ ys → x ≡ y
+cons_first x y xs ys e = cc
+
+pub cons_rest : {X : Type 0} (x y : X) (xs ys : List X) → x ∷ xs ≡ y ∷ ys → xs ≡ ys
+cons_rest x y xs ys e = cc
+
+pub empty_never_cons : {X : Type 0} (x : X) (xs : List X) → [] ≡ x ∷ xs → ⊥
+empty_never_cons x xs e = cc
+
+-- ---- pairs
+
+pub pair_from : {X Y : Type 0} (a x : X) (b y : Y) → a ≡ x → b ≡ y → ◌≡◌ {A = X × Y} (a, b) (x, y)
+pair_from a x b y e f = cc
+
+-- ---- results
+
+pub ok_never_err : {X E : Type 0} (x : X) (e : E) → ◌≡◌ {A = Result X E} (Ok x) (Err e) → ⊥
+ok_never_err x e same = cc
+
+pub same_ok : {X E : Type 0} (x y : X) → ◌≡◌ {A = Result X E} (Ok x) (Ok y) → x ≡ y
+same_ok x y same = cc
+
+pub same_err : {X E : Type 0} (d e : E) → ◌≡◌ {A = Result X E} (Err d) (Err e) → d ≡ e
+same_err d e same = cc
+
+-- ---- tests
+
+pub false_never : (b : Bool) → b ≡ false → IsTrue b → ⊥
+false_never b e h = cc
+
+-- what never holds is what `false` says
+pub false_says : (X : Type 0) → (X → ⊥) → (IsTrue false → X) × (X → IsTrue false)
+false_says X never = (λ h. absurd cc, λ x. absurd (never x))
