@@ -5,13 +5,11 @@ ghost use Rattle.history_entries.specs.Lines.{start_entry};
 ghost use Rattle.history_entries.specs.Points.{documents_at};
 ghost use Rattle.history_entries.specs.Rules.{StartedSearch, MayAnswer};
 
-use documents::Answer;
-use history_entries::{Entry, Event};
 use crate::lines::{node_survives, start_entry};
-use documents::scan;
 use crate::nodes::is_node;
-use documents::Query;
 use crate::written::documents_at;
+use documents::{Answer, Query, scan};
+use history_entries::{Entry, Event};
 use nrt_base::{At, Key, NoMemory, NodeNo, TicketNo, Version};
 use std::alloc::Global;
 

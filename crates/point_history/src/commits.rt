@@ -1,13 +1,12 @@
-ghost use Rattle.std.specs.Prelude.{◌≡◌, ◌==◌, ◌∷◌, ℕ, List, reverse};
+ghost use Rattle.std.specs.Prelude.{◌≡◌, ◌==◌, ◌∷◌, ℕ, List, None, if◌then◌else◌, reverse};
 ghost use Rattle.std.specs.Option.{option_copied};
 ghost use Rattle.std.specs.List.{list_any};
 ghost use Rattle.history_entries.specs.Lines.{commit_by};
 ghost use Rattle.history_entries.specs.Commits.{has_committed, is_disk_fault, starts_commit, is_stuck_by, is_stuck, reopenable_by, reopenable_versions, was_searched_since};
 
-use history_entries::Cause;
-use history_entries::{Entry, Event};
 use crate::lines::{commit_after, is_start, same_at, start_entry};
 use crate::nodes::{Searched, is_at};
+use history_entries::{Cause, Entry, Event};
 use nrt_base::{At, NodeNo, Version};
 
 /// Whether a commit of the node was acknowledged, or found by a reopening.
@@ -70,6 +69,13 @@ pub(crate) fn is_stuck(n: NodeNo, entries: &[Entry]) -> bool
     stuck
 }
 
+/// The line whose commit is in flight at a node, where the node is stuck.
+fn late_commit(stuck: bool, line: Option<At>) -> Option<At>
+    ensures { result ≡ (if stuck then line else None) }
+{
+    if stuck { line } else { None }
+}
+
 /// Whether a node may reopen at a version after one more event, `found` saying whether it might before, and `line` being its late commit in flight.
 fn found_after(
     n: NodeNo,
@@ -104,7 +110,7 @@ pub(crate) fn is_reopenable(n: NodeNo, version: Version, entries: &[Entry]) -> b
     let mut stuck = false;
     let mut found = version.0 == 1;
     for (i, entry) in entries.iter().enumerate() {
-        let late = if stuck { line } else { None };
+        let late = late_commit(stuck, line);
         found = found_after(n, version, &entry.event, searched.primary, late, found);
         searched = searched.after(n, &entry.event);
         line = commit_after(n, entry, line);

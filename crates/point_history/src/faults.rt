@@ -1,9 +1,8 @@
 ghost use Rattle.std.specs.Prelude.{◌≡◌, reverse};
 ghost use Rattle.history_entries.specs.Faults.{kind_of, same_kind, is_of_disk, is_lasting, is_planned, has_met_fault};
 
-use history_entries::{FaultKind, FaultPlan};
-use history_entries::{Entry, Event};
 use crate::lines::same_at;
+use history_entries::{Entry, Event, FaultKind, FaultPlan};
 use nrt_base::{At, NodeNo};
 
 fn kind_of(plan: FaultPlan) -> FaultKind

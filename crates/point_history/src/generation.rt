@@ -4,9 +4,9 @@ ghost use Rattle.nrt_base.specs.declared.numbers.Version.{Version};
 ghost use Rattle.history_entries.specs.Points.{accepted_in_generation, is_put, cut_of, idle_publishes, merges_started};
 ghost use Rattle.point_history.specs.Generations.{ShowsGeneration};
 
-use history_entries::{Entry, Event};
 use crate::lines::before_start;
 use documents::Op;
+use history_entries::{Entry, Event};
 use nrt_base::{At, Gen, SegNo};
 
 /// What the entries before a place show of the present generation.

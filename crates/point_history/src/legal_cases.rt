@@ -1,12 +1,10 @@
-use history_entries::{Cause, FaultKind, FaultPlan};
-use documents::Answer;
-use history_entries::{Entry, Event, History};
 use crate::legality::legal;
-use documents::Op;
-use history_entries::Verdict;
-use documents::Query;
+use documents::{Answer, Op, Query};
 use file_names::file_name;
-use nrt_base::{At, Doc, Gen, Key, LaneNo, LineNo, List, NoMemory, NodeNo, SegNo, Text, TicketNo, Version, Word};
+use history_entries::{Cause, Entry, Event, FaultKind, FaultPlan, History, Verdict};
+use nrt_base::{
+    At, Doc, Gen, Key, LaneNo, LineNo, List, NoMemory, NodeNo, SegNo, Text, TicketNo, Version, Word,
+};
 use std::alloc::Global;
 use std::test::Fail;
 

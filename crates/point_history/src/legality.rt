@@ -5,17 +5,16 @@ ghost use Rattle.history_entries.specs.Legal.{KeepsRule, rule_number, IsVerdict}
 
 use crate::answers::may_answer;
 use crate::drawn::{Drawn, note_drawn};
-use history_entries::{Entry, Event, History};
 use crate::fault_rules::may_fault;
 use crate::generation::Generation;
 use crate::listings::may_list_files;
-use history_entries::Verdict;
 use crate::refusals::may_refuse_line;
 use crate::rules::{
     may_accept, may_ask, may_close, may_commit, may_crash, may_drain, may_finish_copy, may_open,
     may_plan, may_promote, may_publish, may_reopen, may_settle, may_start_commit, may_start_copy,
     may_start_merge, may_start_publish, may_start_settle, may_switch,
 };
+use history_entries::{Entry, Event, History, Verdict};
 use nrt_base::NoMemory;
 use std::alloc::Global;
 

@@ -11,12 +11,12 @@ ghost use Rattle.point_history.specs.Openings.{opens_by, HoldsNone};
 
 use crate::commits::has_committed;
 use crate::drawn::{Drawn, is_drawn_file, is_drawn_temporary};
-use history_entries::{Entry, Event};
 use crate::faults::has_met_fault;
 use crate::nodes::{is_node, is_running, version_of};
 use crate::tickets::open_ticket;
 use crate::written::documents_at;
 use file_names::{FileName, commit_of, pending_of};
+use history_entries::{Entry, Event};
 use nrt_base::{At, NoMemory, NodeNo, Version};
 use std::alloc::Global;
 use std::cmp::Ordering;

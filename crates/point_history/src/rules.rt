@@ -5,7 +5,6 @@ ghost use Rattle.point_history.specs.Generations.{ShowsGeneration};
 ghost use Rattle.history_entries.specs.Rules.{MayAccept, MayStartPublish, MayPublish, MayStartCopy, MaySwitch, MayFinishCopy, MayStartSettle, MaySettle, MayOpen, MayAsk, MayClose, MayStartCommit, MayCommit, MayCrash, MayReopen, MayPromote, MayStartMerge, MayDrain, MayPlan, StartedCopy, StartedCopyOf, StartedCommit};
 
 use crate::commits::{is_reopenable, is_stuck, was_searched_since};
-use history_entries::{Entry, Event};
 use crate::faults::has_met_fault;
 use crate::generation::Generation;
 use crate::lines::{
@@ -18,6 +17,7 @@ use crate::nodes::{
 };
 use crate::tasks::{drained_count, merge_count};
 use crate::tickets::{has_ticket, is_ticket_at, is_ticket_of};
+use history_entries::{Entry, Event};
 use nrt_base::{At, Gen, NodeNo, SegNo, TicketNo, Version};
 
 pub(crate) fn may_accept(entries: &[Entry], at: At, seq: u32) -> bool

@@ -5,7 +5,9 @@ use crate::points;
 use documents::{Op, Query, apply, matches, scan, words};
 use history_entries::{Entry, Event, History};
 use history_laws::laws;
-use nrt_base::{At, Boxed, Doc, Gen, Key, LaneNo, LineNo, List, NoMemory, Share, Text, Version, Word};
+use nrt_base::{
+    At, Boxed, Doc, Gen, Key, LaneNo, LineNo, List, NoMemory, Share, Text, Version, Word,
+};
 use std::alloc::Global;
 use std::test::Fail;
 
