@@ -1,17 +1,18 @@
 -- What reading a framed file answers, and what writing one makes, for every kind of file.
 -- `ids` gives each value the id that its file has; where the id is passed it is `λ _. id`.
 -- `told` is how the reader's own error tells a fault of the file.
-use Rattle.std.proofs.Common.{◌≡◌, ℕ, ◌^◌, ◌<◌, ◌≤◌, ◌↔◌, List, [], ◌++◌, length, Option, Some, Result, Ok, Err, refl, sym, ap, subst, ◌∙◌, arith}
-use Rattle.std.specs.Prelude.{IfSome, IsOkAnd, IsErrAnd, slice_range}
+use Rattle.std.proofs.Common.{◌≡◌, ℕ, ◌^◌, ◌<◌, ◌≤◌, List, [], ◌++◌, length, Option, Some, Result, Ok, Err, refl, sym, ap, subst, ◌∙◌, arith}
+use Rattle.std.specs.Prelude.{IfOk, IfSome, IsOkAnd, IsErrAnd, slice_range}
+use Rattle.nrt_base.proofs.Plain.{ok_never_err, same_ok, same_err}
 use Rattle.codec_frame.specs.Frame.{Wanted, IsFramed, IsFrame, IsFramedAs, index_header, with_footer}
-use Rattle.codec_frame.specs.Checking.{IsFirstFault}
+use Rattle.codec_frame.specs.Checking.{IsFirstFault, IsChecked}
 use Rattle.codec_frame.specs.declared.frame.Framed.{Framed}
 use Rattle.codec_frame.specs.declared.frame.FrameFault.{FrameFault}
 use Rattle.codec_frame.specs.declared.frame.FileFault.{FileFault}
 use Rattle.codec_frame.specs.declared.frame.FileFault.TheVariants.{Frame, Body}
 use Rattle.codec_frame.proofs.CheckLaws.{one_reading_lem}
 use Rattle.codec_frame.proofs.FrameLaws.{framed-length}
-use Rattle.body_forms.specs.File.{IsFile, IsOneToOne}
+use Rattle.body_forms.specs.File.{IsFile, IsOneToOne, IsFileAnswer, IsFileRead}
 
 -- a file is wanted in one version
 pub record OneVersion (want : Wanted) : Type 0 where
@@ -59,33 +60,12 @@ one_file_bytes Spells want id a b x each d e =
 
 -- ---- what reading answers
 
--- what a check answered
-pub record Checked (want : Wanted) (bytes : List ℕ) (found : Result Framed FrameFault) : Type 0 where
-  pub frame : (frame : Framed) → (found ≡ Ok frame) ↔ IsFrame want bytes frame
-  pub fault : (fault : FrameFault) → (found ≡ Err fault) ↔ IsFirstFault want bytes fault
-  pub written : (version : ℕ) (id body : List ℕ) → IsFramed want version id body bytes → IsOkAnd found (λ frame. (frame.version ≡ version) × (frame.id ≡ id) × (slice_range bytes frame.start frame.end ≡ body))
-
-pub moved : (want other : Wanted) (a b : List ℕ) (found : Result Framed FrameFault) → want ≡ other → a ≡ b → Checked want a found → Checked other b found
-moved want other a b found e f k = subst (λ (w : Wanted). Checked w b found) e (subst (λ (x : List ℕ). Checked want x found) f k)
+pub moved : (want other : Wanted) (a b : List ℕ) (found : Result Framed FrameFault) → want ≡ other → a ≡ b → IsChecked want a found → IsChecked other b found
+moved want other a b found e f k = subst (λ (w : Wanted). IsChecked w b found) e (subst (λ (x : List ℕ). IsChecked want x found) f k)
 
 -- the error tells each fault by an answer of its own
 abbrev pub Tells : {E : Type 0} → (FileFault → E) → Type 0
 Tells {E} told = (a b : FileFault) → told a ≡ told b → a ≡ b
-
--- what reading a file is to answer, apart from want of memory
-pub record IsAnswer {X E : Type 0} (Spells : List ℕ → X → Type 0) (want : Wanted) (ids : X → List ℕ) (told : FileFault → E) (bytes : List ℕ) (result : Result X E) : Type 0 where
-  pub value : (x : X) → result ≡ Ok x → IsFile Spells want (ids x) x bytes
-  pub frame : (fault : FrameFault) → (result ≡ Err (told (Frame fault))) ↔ IsFirstFault want bytes fault
-  pub body : (result ≡ Err (told Body)) ↔ (IsFramedAs want bytes × ((x : X) → IsFile Spells want (ids x) x bytes → ⊥))
-
-same_ok : {X E : Type 0} (a b : X) → ◌≡◌ {A = Result X E} (Ok a) (Ok b) → a ≡ b
-same_ok a b e = cc
-
-same_err : {X E : Type 0} (a b : E) → ◌≡◌ {A = Result X E} (Err a) (Err b) → a ≡ b
-same_err a b e = cc
-
-clash : {X E : Type 0} (a : X) (b : E) → ◌≡◌ {A = Result X E} (Ok a) (Err b) → ⊥
-clash a b e = cc
 
 same_fault : (a b : FrameFault) → ◌≡◌ {A = FileFault} (Frame a) (Frame b) → a ≡ b
 same_fault a b e = cc
@@ -100,80 +80,128 @@ pub err_of : {X E : Type 0} (result : Result X E) (e : E) → IsErrAnd result (�
 err_of (Ok x) e h = absurd h
 err_of (Err x) e h = ap Err h
 
-pub frame_refused : {X E : Type 0} (Spells : List ℕ → X → Type 0) (want : Wanted) (ids : X → List ℕ) (told : FileFault → E) (bytes : List ℕ) (found : Result Framed FrameFault) (fault : FrameFault) (result : Result X E)
-    → Tells told → Checked want bytes found → found ≡ Err fault → result ≡ Err (told (Frame fault)) → IsAnswer Spells want ids told bytes result
-frame_refused {X} {E} Spells want ids told bytes found fault result tells k e f =
-    let no_frame : IsFramedAs want bytes → ⊥ = λ x. clash x.0 fault (sym ((k.frame x.0).1 x.1) ∙ e) in
-    record {
-      value = λ x g. absurd (clash x (told (Frame fault)) (sym g ∙ f));
-      frame = λ other. (
-        λ g. subst (IsFirstFault want bytes) (same_fault fault other (tells (Frame fault) (Frame other) (same_err _ _ (sym f ∙ g)))) ((k.fault fault).0 e),
-        λ p. f ∙ ap (λ (x : FrameFault). Err (told (Frame x))) (same_err fault other (sym e ∙ (k.fault other).1 p)),
-      );
-      body = (λ g. absurd (kinds fault (tells (Frame fault) Body (same_err _ _ (sym f ∙ g)))), λ x. absurd (no_frame x.0));
-    }
+-- an error leaves nothing to be said of a value
+if_err : {X E : Type 0} (P : X → Type 0) (result : Result X E) (e : E) → result ≡ Err e → IfOk result P
+if_err {X} {E} P result e f = subst (λ (r : Result X E). IfOk r P) (sym f) tt
 
-no_fault : (want : Wanted) (bytes : List ℕ) (found : Result Framed FrameFault) (frame : Framed) → Checked want bytes found → found ≡ Ok frame → (fault : FrameFault) → IsFirstFault want bytes fault → ⊥
-no_fault want bytes found frame k e fault p = clash frame fault (sym e ∙ (k.fault fault).1 p)
+no_fault : (want : Wanted) (bytes : List ℕ) (found : Result Framed FrameFault) (frame : Framed) → IsChecked want bytes found → found ≡ Ok frame → (fault : FrameFault) → IsFirstFault want bytes fault → ⊥
+no_fault want bytes found frame k e fault p = ok_never_err frame fault (sym e ∙ (k.fault fault).1 p)
 
-pub body_refused : {X E : Type 0} (Spells : List ℕ → X → Type 0) (want : Wanted) (ids : X → List ℕ) (told : FileFault → E) (bytes : List ℕ) (found : Result Framed FrameFault) (frame : Framed) (result : Result X E)
-    → OneVersion want → Tells told → Checked want bytes found → found ≡ Ok frame → ((x : X) → StandsIn Spells ids bytes frame x → ⊥) → result ≡ Err (told Body) → IsAnswer Spells want ids told bytes result
-body_refused {X} {E} Spells want ids told bytes found frame result one tells k e none f =
-    let here = (k.frame frame).0 e in
-    let never_file : (x : X) → IsFile Spells want (ids x) x bytes → ⊥ = λ x d. none x (file_stands Spells want ids bytes frame x one here d) in
-    record {
-      value = λ x g. absurd (clash x (told Body) (sym g ∙ f));
-      frame = λ fault. (λ g. absurd (kinds fault (tells (Frame fault) Body (same_err _ _ (sym g ∙ f)))), λ p. absurd (no_fault want bytes found frame k e fault p));
-      body = (λ _. ((frame, here), never_file), λ _. f);
-    }
+module _ {X E : Type 0} (Spells : List ℕ → X → Type 0) (want : Wanted) (ids : X → List ℕ) (told : FileFault → E) where
+  pub frame_refused : (bytes : List ℕ) (found : Result Framed FrameFault) (fault : FrameFault) (result : Result X E)
+      → Tells told → IsChecked want bytes found → found ≡ Err fault → result ≡ Err (told (Frame fault)) → IsFileAnswer Spells want ids told bytes result
+  frame_refused bytes found fault result tells k e f =
+      let no_frame : IsFramedAs want bytes → ⊥ = λ x. ok_never_err x.0 fault (sym ((k.frame x.0).1 x.1) ∙ e) in
+      record {
+        value = if_err (λ x. IsFile Spells want (ids x) x bytes) result (told (Frame fault)) f;
+        frame = λ other. (
+          λ g. subst (IsFirstFault want bytes) (same_fault fault other (tells (Frame fault) (Frame other) (same_err _ _ (sym f ∙ g)))) ((k.fault fault).0 e),
+          λ p. f ∙ ap (λ (x : FrameFault). Err (told (Frame x))) (same_err fault other (sym e ∙ (k.fault other).1 p)),
+        );
+        body = (λ g. absurd (kinds fault (tells (Frame fault) Body (same_err _ _ (sym f ∙ g)))), λ x. absurd (no_frame x.0));
+      }
 
--- the value was there, and memory to hold it was wanting
-pub cut_short : {X E : Type 0} (Spells : List ℕ → X → Type 0) (want : Wanted) (ids : X → List ℕ) (told : FileFault → E) (bytes : List ℕ) (found : Result Framed FrameFault) (frame : Framed) (x : X) (wanting : E) (result : Result X E)
-    → OneVersion want → ((fault : FileFault) → told fault ≡ wanting → ⊥) → Checked want bytes found → found ≡ Ok frame → StandsIn Spells ids bytes frame x → result ≡ Err wanting → IsAnswer Spells want ids told bytes result
-cut_short Spells want ids told bytes found frame x wanting result one apart k e s f =
-    let here = (k.frame frame).0 e in
-    let file = is_file Spells want ids bytes frame x one here s in
-    record {
-      value = λ y g. absurd (clash y wanting (sym g ∙ f));
-      frame = λ fault. (λ g. absurd (apart (Frame fault) (same_err _ _ (sym g ∙ f))), λ p. absurd (no_fault want bytes found frame k e fault p));
-      body = (λ g. absurd (apart Body (same_err _ _ (sym g ∙ f))), λ y. absurd (y.1 x file));
-    }
+  pub body_refused : (bytes : List ℕ) (found : Result Framed FrameFault) (frame : Framed) (result : Result X E)
+      → OneVersion want → Tells told → IsChecked want bytes found → found ≡ Ok frame → ((x : X) → StandsIn Spells ids bytes frame x → ⊥) → result ≡ Err (told Body) → IsFileAnswer Spells want ids told bytes result
+  body_refused bytes found frame result one tells k e none f =
+      let here = (k.frame frame).0 e in
+      let never_file : (x : X) → IsFile Spells want (ids x) x bytes → ⊥ = λ x d. none x (file_stands Spells want ids bytes frame x one here d) in
+      record {
+        value = if_err (λ x. IsFile Spells want (ids x) x bytes) result (told Body) f;
+        frame = λ fault. (λ g. absurd (kinds fault (tells (Frame fault) Body (same_err _ _ (sym g ∙ f)))), λ p. absurd (no_fault want bytes found frame k e fault p));
+        body = (λ _. ((frame, here), never_file), λ _. f);
+      }
 
-pub file_read : {X E : Type 0} (Spells : List ℕ → X → Type 0) (want : Wanted) (ids : X → List ℕ) (told : FileFault → E) (bytes : List ℕ) (found : Result Framed FrameFault) (frame : Framed) (x : X) (result : Result X E)
-    → OneVersion want → Checked want bytes found → found ≡ Ok frame → StandsIn Spells ids bytes frame x → result ≡ Ok x → IsAnswer Spells want ids told bytes result
-file_read {X} {E} Spells want ids told bytes found frame x result one k e s f =
-    let here = (k.frame frame).0 e in
-    let file = is_file Spells want ids bytes frame x one here s in
-    record {
-      value = λ y g. subst (λ (z : X). IsFile Spells want (ids z) z bytes) (same_ok x y (sym f ∙ g)) file;
-      frame = λ fault. (λ g. absurd (clash x (told (Frame fault)) (sym f ∙ g)), λ p. absurd (no_fault want bytes found frame k e fault p));
-      body = (λ g. absurd (clash x (told Body) (sym f ∙ g)), λ y. absurd (y.1 x file));
-    }
+  -- the value was there, and the reader was out of memory
+  pub cut_short : (bytes : List ℕ) (found : Result Framed FrameFault) (frame : Framed) (x : X) (wanting : E) (result : Result X E)
+      → OneVersion want → ((fault : FileFault) → told fault ≡ wanting → ⊥) → IsChecked want bytes found → found ≡ Ok frame → StandsIn Spells ids bytes frame x → result ≡ Err wanting → IsFileAnswer Spells want ids told bytes result
+  cut_short bytes found frame x wanting result one apart k e s f =
+      let here = (k.frame frame).0 e in
+      let file = is_file Spells want ids bytes frame x one here s in
+      record {
+        value = if_err (λ y. IsFile Spells want (ids y) y bytes) result wanting f;
+        frame = λ fault. (λ g. absurd (apart (Frame fault) (same_err _ _ (sym g ∙ f))), λ p. absurd (no_fault want bytes found frame k e fault p));
+        body = (λ g. absurd (apart Body (same_err _ _ (sym g ∙ f))), λ y. absurd (y.1 x file));
+      }
 
--- a reader that takes no memory answers the value exactly where the bytes are its file
-pub exactly : {X : Type 0} (Spells : List ℕ → X → Type 0) (want : Wanted) (ids : X → List ℕ) (bytes : List ℕ) (found : Result Framed FrameFault) (result : Result X FileFault)
-    → OneVersion want → IsOneToOne Spells → Checked want bytes found → IsAnswer Spells want ids (λ fault. fault) bytes result → (x : X) → (result ≡ Ok x) ↔ IsFile Spells want (ids x) x bytes
-exactly Spells want ids bytes found (Ok y) one each k a x = (a.value x, λ d. ap Ok (one_file_value Spells want (ids y) (ids x) bytes y x one each (a.value y refl) d))
-exactly Spells want ids bytes found (Err (Frame fault)) one each k a x = (a.value x, λ d. absurd (not_ok found fault _ ((k.fault fault).1 ((a.frame fault).0 refl)) (k.written want.min (ids x) d.body d.framed)))
-exactly Spells want ids bytes found (Err Body) one each k a x = (a.value x, λ d. absurd ((a.body.0 refl).1 x d))
+  pub file_read : (bytes : List ℕ) (found : Result Framed FrameFault) (frame : Framed) (x : X) (result : Result X E)
+      → OneVersion want → IsChecked want bytes found → found ≡ Ok frame → StandsIn Spells ids bytes frame x → result ≡ Ok x → IsFileAnswer Spells want ids told bytes result
+  file_read bytes found frame x result one k e s f =
+      let here = (k.frame frame).0 e in
+      let file = is_file Spells want ids bytes frame x one here s in
+      record {
+        value = subst (λ (r : Result X E). IfOk r (λ y. IsFile Spells want (ids y) y bytes)) (sym f) file;
+        frame = λ fault. (λ g. absurd (ok_never_err x (told (Frame fault)) (sym f ∙ g)), λ p. absurd (no_fault want bytes found frame k e fault p));
+        body = (λ g. absurd (ok_never_err x (told Body) (sym f ∙ g)), λ y. absurd (y.1 x file));
+      }
 
 -- the frame's body lies in the bytes
 pub record Lies (bytes : List ℕ) (frame : Framed) : Type 0 where
   pub ordered : frame.start ≤ frame.end
   pub within : frame.end ≤ length bytes
 
-pub frame_lies : (want : Wanted) (bytes : List ℕ) (found : Result Framed FrameFault) (frame : Framed) → Checked want bytes found → found ≡ Ok frame → Lies bytes frame
-frame_lies want bytes found frame k e =
+pub frame_lies : {want : Wanted} {bytes : List ℕ} {found : Result Framed FrameFault} (k : IsChecked want bytes found) (frame : Framed) → found ≡ Ok frame → Lies bytes frame
+frame_lies {want} {bytes} k frame e =
     let f = (k.frame frame).0 e in
     let long = framed-length want frame.version frame.id (body_of bytes frame) bytes f.framed in
     record { ordered = omega (arith, long, f.start, f.end); within = omega (arith, f.end) }
 
 -- where the id is wanted, a value that the body spells stands in the frame
 pub stands : {X : Type 0} (Spells : List ℕ → X → Type 0) (want : Wanted) (id bytes : List ℕ) (found : Result Framed FrameFault) (frame : Framed) (x : X)
-    → want.id ≡ Some id → Checked want bytes found → found ≡ Ok frame → Spells (body_of bytes frame) x → StandsIn Spells (λ _. id) bytes frame x
+    → want.id ≡ Some id → IsChecked want bytes found → found ≡ Ok frame → Spells (body_of bytes frame) x → StandsIn Spells (λ _. id) bytes frame x
 stands Spells want id bytes found frame x e k was s =
     let f = (k.frame frame).0 was in
     record { id = subst (λ (o : Option (List ℕ)). IfSome o (λ the_id. frame.id ≡ the_id)) e f.framed.id_wanted; spelled = s }
+
+-- ---- files whose id is given
+
+-- files of one version and of this id, each of one value, and each value with one file
+pub record IsFileKind {X : Type 0} (Spells : List ℕ → X → Type 0) (want : Wanted) (id : List ℕ) : Type 0 where
+  pub version : OneVersion want
+  pub one_to_one : IsOneToOne Spells
+  pub id_wanted : want.id ≡ Some id
+
+module _ {X : Type 0} {Spells : List ℕ → X → Type 0} {want : Wanted} {id : List ℕ} (kind : IsFileKind Spells want id) where
+  -- a file is that of one value
+  pub one_value_of : (bytes : List ℕ) (x y : X) → IsFile Spells want id x bytes → IsFile Spells want id y bytes → x ≡ y
+  one_value_of bytes x y d e = one_file_value Spells want id id bytes x y kind.version kind.one_to_one d e
+
+  -- a value has one file
+  pub one_file_of : (a b : List ℕ) (x : X) → IsFile Spells want id x a → IsFile Spells want id x b → a ≡ b
+  one_file_of a b x d e = one_file_bytes Spells want id a b x kind.one_to_one d e
+
+  -- of files as of bodies: bytes are the file of one value, and a value has one file
+  pub files_one_to_one : IsOneToOne (λ bytes x. IsFile Spells want id x bytes)
+  files_one_to_one = record { one_value = one_value_of; one_spelling = one_file_of }
+
+  -- a value that the body spells stands in the frame
+  pub stands_in : {bytes : List ℕ} {found : Result Framed FrameFault} (k : IsChecked want bytes found) (frame : Framed) (x : X) → found ≡ Ok frame → Spells (body_of bytes frame) x → StandsIn Spells (λ _. id) bytes frame x
+  stands_in {bytes} {found} k frame x was s = stands Spells want id bytes found frame x kind.id_wanted k was s
+
+  -- a reader that takes no memory answers the value exactly where the bytes are its file
+  exactly : (bytes : List ℕ) (found : Result Framed FrameFault) (result : Result X FileFault) → IsChecked want bytes found → IsFileAnswer Spells want (λ _. id) (λ fault. fault) bytes result → IsFileRead Spells want id bytes result
+  exactly bytes found (Ok y) k a =
+      record { value = λ x. (λ e. subst (λ (z : X). IsFile Spells want id z bytes) (same_ok y x e) a.value, λ d. ap Ok (one_value_of bytes y x a.value d)); frame = a.frame; body = a.body }
+  exactly bytes found (Err (Frame fault)) k a = record {
+    value = λ x. (λ e. absurd (ok_never_err x (Frame fault) (sym e)), λ d. absurd (not_ok found fault _ ((k.fault fault).1 ((a.frame fault).0 refl)) (k.written want.min id d.body d.framed)));
+    frame = a.frame;
+    body = a.body;
+  }
+  exactly bytes found (Err Body) k a = record { value = λ x. (λ e. absurd (ok_never_err x Body (sym e)), λ d. absurd ((a.body.0 refl).1 x d)); frame = a.frame; body = a.body }
+
+  pub frame_told : {bytes : List ℕ} {found : Result Framed FrameFault} (k : IsChecked want bytes found) (fault : FrameFault) (result : Result X FileFault) → found ≡ Err fault
+      → result ≡ Err (Frame fault) → IsFileRead Spells want id bytes result
+  frame_told {bytes} {found} k fault result e f = exactly bytes found result k (frame_refused Spells want (λ _. id) (λ fault. fault) bytes found fault result (λ a b same. same) k e f)
+
+  pub body_told : {bytes : List ℕ} {found : Result Framed FrameFault} (k : IsChecked want bytes found) (frame : Framed) (result : Result X FileFault) → found ≡ Ok frame
+      → ((x : X) → Spells (body_of bytes frame) x → ⊥) → result ≡ Err Body → IsFileRead Spells want id bytes result
+  body_told {bytes} {found} k frame result e none f =
+      exactly bytes found result k (body_refused Spells want (λ _. id) (λ fault. fault) bytes found frame result kind.version (λ a b same. same) k e (λ x s. none x s.spelled) f)
+
+  pub value_told : {bytes : List ℕ} {found : Result Framed FrameFault} (k : IsChecked want bytes found) (frame : Framed) (x : X) (result : Result X FileFault) → found ≡ Ok frame
+      → Spells (body_of bytes frame) x → result ≡ Ok x → IsFileRead Spells want id bytes result
+  value_told {bytes} {found} k frame x result e s f =
+      exactly bytes found result k (file_read Spells want (λ _. id) (λ fault. fault) bytes found frame x result kind.version k e (stands_in k frame x e s) f)
 
 -- what holds of the body in some bytes holds of it in equal ones
 pub same_body : (P : List ℕ → Type 0) (a bytes : List ℕ) (frame : Framed) → a ≡ bytes → P (body_of a frame) → P (body_of bytes frame)

@@ -1,4 +1,5 @@
 pub mod Formats
+pub mod VIntLemmas
 pub mod Numerals
 pub mod NumberLaws
 pub mod Loops

@@ -8,9 +8,11 @@ use Rattle.std.proofs.lemmas.List.{length-append, length-take, take_at, drop_at,
 use Rattle.std.proofs.lemmas.Option.{some_pair_parts}
 use borrow.Author.Tests.{ltb-true}
 use Rattle.body_forms.specs.VInts.{vint}
-use Rattle.body_forms.specs.Format.{AreBytes, Read, ◌>>=◌, IsFormat, chain, chain_at}
+use Rattle.codec_frame.specs.Bytes.{AreBytes}
+use Rattle.body_forms.specs.Format.{Read, ◌>>=◌, IsFormat, chain, chain_at}
 use Rattle.body_forms.specs.Numbers.{u32_bytes, u32_at, u64_bytes, u64_at, vint_at, difference, MayCome, above, difference_at, positive_at, ascending, Ascend, ascending_at}
-use Rattle.body_forms.proofs.Formats.{AreBytes-drop, AreBytes-take, bind_some, passed, not_stopped, counted_format, chain_format, tested_format}
+use Rattle.codec_frame.proofs.ByteLaws.{AreBytes-take}
+use Rattle.body_forms.proofs.Formats.{AreBytes-drop, bind_some, passed, not_stopped, counted_format, chain_format, tested_format}
 use Rattle.body_forms.proofs.Numerals.{vint_format}
 
 pub positive_format : IsFormat vint (λ n. (0 < n) × (n < 2 ^ 32)) positive_at

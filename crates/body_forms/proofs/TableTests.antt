@@ -3,13 +3,16 @@ use Rattle.std.proofs.Common.{◌≡◌, ℕ, zero, suc, ◌+◌, ◌-◌, ◌*�
 use Rattle.std.specs.Prelude.{IsTrue}
 use Rattle.std.specs.List.{flat_map}
 use Rattle.std.specs.Int.{w32, from_be_bytes}
+use Rattle.std.proofs.Math.Nat.{le_trans}
 use Rattle.std.proofs.lemmas.Nat.{be_bytes_4}
+use Rattle.nrt_base.proofs.Plain.{cons_from, false_says}
 use Rattle.std.proofs.lemmas.List.{length-append, length-drop, length-take, take-append-drop, drop_all, append-nil, take_all}
 use Rattle.std.proofs.lemmas.List.Concat.{flat_map-cons}
-use Rattle.body_forms.specs.Format.{AreBytes}
-use Rattle.body_forms.specs.ItemTable.{concat, starts, IsItemTable, count_in, start_in, items_from, items_in}
+use Rattle.codec_frame.specs.Bytes.{AreBytes}
+use Rattle.body_forms.specs.ItemTable.{concat, starts, IsItemTable, item_count_in, item_start_in, items_from, items_in}
 use Rattle.body_forms.specs.Numbers.{u32_bytes}
-use Rattle.body_forms.proofs.Formats.{AreBytes-drop, AreBytes-take}
+use Rattle.codec_frame.proofs.ByteLaws.{AreBytes-take}
+use Rattle.body_forms.proofs.Formats.{AreBytes-drop}
 use Rattle.body_forms.proofs.ItemTables.{concat-cons, table_count, table_start, table_length, next_front, item_slice}
 
 -- a front and the front of what comes after it
@@ -37,7 +40,7 @@ drop_parts (suc m) n (b ∷ bytes) = let e : suc m + n ≡ suc (m + n) = omega a
 
 -- what the loop tests, of the offsets from i to i + n
 abbrev pub Rises : List ℕ → ℕ → Type 0
-Rises bytes n = (i : ℕ) → i < n → start_in bytes i ≤ start_in bytes (i + 1)
+Rises bytes n = (i : ℕ) → i < n → item_start_in bytes i ≤ item_start_in bytes (i + 1)
 
 -- a number and its four bytes
 number_back : (at : ℕ) (bytes : List ℕ) → AreBytes bytes → at + 4 ≤ length bytes → u32_bytes (from_be_bytes w32 (take 4 (drop at bytes))) ≡ take 4 (drop at bytes)
@@ -45,16 +48,16 @@ number_back at bytes fits h =
     be_bytes_4 (take 4 (drop at bytes)) _ (omega (arith, length-take 4 (drop at bytes), length-drop at bytes)) (AreBytes-take 4 (drop at bytes) (AreBytes-drop at bytes fits)) refl
 
 abbrev offsets_from : ℕ → ℕ → List ℕ → List ℕ
-offsets_from zero i bytes = start_in bytes i ∷ []
-offsets_from (suc n) i bytes = start_in bytes i ∷ offsets_from n (i + 1) bytes
+offsets_from zero i bytes = item_start_in bytes i ∷ []
+offsets_from (suc n) i bytes = item_start_in bytes i ∷ offsets_from n (i + 1) bytes
 
 offset_bytes : (n i : ℕ) (bytes : List ℕ) → AreBytes bytes → 8 + 4 * (i + n) ≤ length bytes → flat_map u32_bytes (offsets_from n i bytes) ≡ take (4 + 4 * n) (drop (4 + 4 * i) bytes)
 offset_bytes zero i bytes fits h =
-    flat_map-cons u32_bytes (start_in bytes i) [] ∙ append-nil (u32_bytes (start_in bytes i)) ∙ number_back (4 + 4 * i) bytes fits (omega arith)
+    flat_map-cons u32_bytes (item_start_in bytes i) [] ∙ append-nil (u32_bytes (item_start_in bytes i)) ∙ number_back (4 + 4 * i) bytes fits (omega arith)
 offset_bytes (suc n) i bytes fits h =
     let next : 4 + 4 * (i + 1) ≡ 4 + 4 * i + 4 = omega arith in
     let size : 4 + 4 * suc n ≡ 4 + (4 + 4 * n) = omega arith in
-    flat_map-cons u32_bytes (start_in bytes i) (offsets_from n (i + 1) bytes)
+    flat_map-cons u32_bytes (item_start_in bytes i) (offsets_from n (i + 1) bytes)
     ∙ ap (λ (x : List ℕ). x ++ flat_map u32_bytes (offsets_from n (i + 1) bytes)) (number_back (4 + 4 * i) bytes fits (omega arith))
     ∙ ap (λ (x : List ℕ). take 4 (drop (4 + 4 * i) bytes) ++ x) (offset_bytes n (i + 1) bytes fits (omega arith) ∙ ap (λ (k : ℕ). take (4 + 4 * n) (drop k bytes)) next ∙ ap (take (4 + 4 * n)) (sym (drop_parts (4 + 4 * i) 4 bytes)))
     ∙ take_parts 4 (4 + 4 * n) (drop (4 + 4 * i) bytes) ∙ ap (λ (k : ℕ). take k (drop (4 + 4 * i) bytes)) (sym size)
@@ -65,9 +68,6 @@ length-items_from base (suc n) i bytes = ap suc (length-items_from base n (i + 1
 
 le_itself : (a : ℕ) → a ≤ a
 le_itself a = omega arith
-
-le_through : (a b c : ℕ) → a ≤ b → b ≤ c → a ≤ c
-le_through a b c h g = omega arith
 
 item_ends : (base s t u : ℕ) (bytes : List ℕ) → s ≤ t → t ≤ u → base + u ≤ length bytes → s + length (take (t - s) (drop (base + s) bytes)) ≡ t
 item_ends base s t u bytes h g l = omega (arith, length-take (t - s) (drop (base + s) bytes), length-drop (base + s) bytes)
@@ -89,62 +89,62 @@ whole_area base n bytes last first f l h =
     let same : drop (8 + 4 * n + first) bytes ≡ drop (4 + 4 * n) (drop 4 bytes) = ap (λ (k : ℕ). drop k bytes) place ∙ sym (drop_parts 4 (4 + 4 * n) bytes) in
     ap (take (last - first)) same ∙ take_all (last - first) (drop (4 + 4 * n) (drop 4 bytes)) (omega (arith, length-drop (4 + 4 * n) (drop 4 bytes), length-drop 4 bytes))
 
-count_below : (bytes : List ℕ) → AreBytes bytes → count_in bytes < 2 ^ 32
+count_below : (bytes : List ℕ) → AreBytes bytes → item_count_in bytes < 2 ^ 32
 count_below bytes fits = let h = AreBytes-take 4 bytes fits in omega (arith, h 0, h 1, h 2, h 3)
 
-climbs : (n i : ℕ) (bytes : List ℕ) → ((k : ℕ) → k < i + n → start_in bytes k ≤ start_in bytes (k + 1)) → start_in bytes i ≤ start_in bytes (i + n)
-climbs zero i bytes rise = let e : i + 0 ≡ i = omega arith in subst (λ (k : ℕ). start_in bytes i ≤ start_in bytes k) (sym e) (le_itself (start_in bytes i))
+climbs : (n i : ℕ) (bytes : List ℕ) → ((k : ℕ) → k < i + n → item_start_in bytes k ≤ item_start_in bytes (k + 1)) → item_start_in bytes i ≤ item_start_in bytes (i + n)
+climbs zero i bytes rise = let e : i + 0 ≡ i = omega arith in subst (λ (k : ℕ). item_start_in bytes i ≤ item_start_in bytes k) (sym e) (le_itself (item_start_in bytes i))
 climbs (suc n) i bytes rise =
     let e : i + suc n ≡ i + 1 + n = omega arith in
     let first = rise i (omega arith) in
     let others = climbs n (i + 1) bytes (λ k h. rise k (omega arith)) in
-    subst (λ (k : ℕ). start_in bytes i ≤ start_in bytes k) (sym e) (le_through (start_in bytes i) (start_in bytes (i + 1)) (start_in bytes (i + 1 + n)) first others)
+    subst (λ (k : ℕ). item_start_in bytes i ≤ item_start_in bytes k) (sym e) (le_trans first others)
 
-starts-items_from : (base n i : ℕ) (bytes : List ℕ) → ((k : ℕ) → k < i + n → start_in bytes k ≤ start_in bytes (k + 1)) → base + start_in bytes (i + n) ≤ length bytes
-    → starts (start_in bytes i) (items_from base n i bytes) ≡ offsets_from n i bytes
+starts-items_from : (base n i : ℕ) (bytes : List ℕ) → ((k : ℕ) → k < i + n → item_start_in bytes k ≤ item_start_in bytes (k + 1)) → base + item_start_in bytes (i + n) ≤ length bytes
+    → starts (item_start_in bytes i) (items_from base n i bytes) ≡ offsets_from n i bytes
 starts-items_from base zero i bytes rise h = refl
 starts-items_from base (suc n) i bytes rise h =
     let e : i + suc n ≡ i + 1 + n = omega arith in
-    let last : base + start_in bytes (i + 1 + n) ≤ length bytes = subst (λ (k : ℕ). base + start_in bytes k ≤ length bytes) e h in
-    let later : (k : ℕ) → k < i + 1 + n → start_in bytes k ≤ start_in bytes (k + 1) = λ k g. rise k (omega arith) in
+    let last : base + item_start_in bytes (i + 1 + n) ≤ length bytes = subst (λ (k : ℕ). base + item_start_in bytes k ≤ length bytes) e h in
+    let later : (k : ℕ) → k < i + 1 + n → item_start_in bytes k ≤ item_start_in bytes (k + 1) = λ k g. rise k (omega arith) in
     let first = rise i (omega arith) in
     let others = climbs n (i + 1) bytes later in
-    let item = take (start_in bytes (i + 1) - start_in bytes i) (drop (base + start_in bytes i) bytes) in
-    let long : start_in bytes i + length item ≡ start_in bytes (i + 1) =
-    item_ends base (start_in bytes i) (start_in bytes (i + 1)) (start_in bytes (i + 1 + n)) bytes first others last in
-    ap (λ (k : ℕ). start_in bytes i ∷ starts k (items_from base n (i + 1) bytes)) long ∙ ap (λ (x : List ℕ). start_in bytes i ∷ x) (starts-items_from base n (i + 1) bytes later last)
+    let item = take (item_start_in bytes (i + 1) - item_start_in bytes i) (drop (base + item_start_in bytes i) bytes) in
+    let long : item_start_in bytes i + length item ≡ item_start_in bytes (i + 1) =
+    item_ends base (item_start_in bytes i) (item_start_in bytes (i + 1)) (item_start_in bytes (i + 1 + n)) bytes first others last in
+    ap (λ (k : ℕ). item_start_in bytes i ∷ starts k (items_from base n (i + 1) bytes)) long ∙ ap (λ (x : List ℕ). item_start_in bytes i ∷ x) (starts-items_from base n (i + 1) bytes later last)
 
-concat-items_from : (base n i : ℕ) (bytes : List ℕ) → ((k : ℕ) → k < i + n → start_in bytes k ≤ start_in bytes (k + 1))
-    → concat (items_from base n i bytes) ≡ take (start_in bytes (i + n) - start_in bytes i) (drop (base + start_in bytes i) bytes)
+concat-items_from : (base n i : ℕ) (bytes : List ℕ) → ((k : ℕ) → k < i + n → item_start_in bytes k ≤ item_start_in bytes (k + 1))
+    → concat (items_from base n i bytes) ≡ take (item_start_in bytes (i + n) - item_start_in bytes i) (drop (base + item_start_in bytes i) bytes)
 concat-items_from base zero i bytes rise =
     let e : i + 0 ≡ i = omega arith in
-    subst (λ (k : ℕ). [] ≡ take (start_in bytes k - start_in bytes i) (drop (base + start_in bytes i) bytes)) (sym e) (nothing_between (start_in bytes i) (drop (base + start_in bytes i) bytes))
+    subst (λ (k : ℕ). [] ≡ take (item_start_in bytes k - item_start_in bytes i) (drop (base + item_start_in bytes i) bytes)) (sym e) (nothing_between (item_start_in bytes i) (drop (base + item_start_in bytes i) bytes))
 concat-items_from base (suc n) i bytes rise =
     let e : i + suc n ≡ i + 1 + n = omega arith in
-    let later : (k : ℕ) → k < i + 1 + n → start_in bytes k ≤ start_in bytes (k + 1) = λ k g. rise k (omega arith) in
+    let later : (k : ℕ) → k < i + 1 + n → item_start_in bytes k ≤ item_start_in bytes (k + 1) = λ k g. rise k (omega arith) in
     let first = rise i (omega arith) in
     let others = climbs n (i + 1) bytes later in
-    concat-cons (take (start_in bytes (i + 1) - start_in bytes i) (drop (base + start_in bytes i) bytes)) (items_from base n (i + 1) bytes)
-    ∙ ap (λ (x : List ℕ). take (start_in bytes (i + 1) - start_in bytes i) (drop (base + start_in bytes i) bytes) ++ x) (concat-items_from base n (i + 1) bytes later)
-    ∙ joined base (start_in bytes i) (start_in bytes (i + 1)) (start_in bytes (i + 1 + n)) bytes first others
-    ∙ ap (λ (k : ℕ). take (start_in bytes k - start_in bytes i) (drop (base + start_in bytes i) bytes)) (sym e)
+    concat-cons (take (item_start_in bytes (i + 1) - item_start_in bytes i) (drop (base + item_start_in bytes i) bytes)) (items_from base n (i + 1) bytes)
+    ∙ ap (λ (x : List ℕ). take (item_start_in bytes (i + 1) - item_start_in bytes i) (drop (base + item_start_in bytes i) bytes) ++ x) (concat-items_from base n (i + 1) bytes later)
+    ∙ joined base (item_start_in bytes i) (item_start_in bytes (i + 1)) (item_start_in bytes (i + 1 + n)) bytes first others
+    ∙ ap (λ (k : ℕ). take (item_start_in bytes k - item_start_in bytes i) (drop (base + item_start_in bytes i) bytes)) (sym e)
 
 -- what passes the tests is a table
-pub is_table : (bytes : List ℕ) → AreBytes bytes → 8 + 4 * count_in bytes ≤ length bytes → length bytes - 8 - 4 * count_in bytes < 2 ^ 32 → start_in bytes 0 ≡ 0 → Rises bytes (count_in bytes)
-    → start_in bytes (count_in bytes) ≡ length bytes - 8 - 4 * count_in bytes → IsItemTable bytes (items_from (8 + 4 * count_in bytes) (count_in bytes) 0 bytes)
+pub is_table : (bytes : List ℕ) → AreBytes bytes → 8 + 4 * item_count_in bytes ≤ length bytes → length bytes - 8 - 4 * item_count_in bytes < 2 ^ 32 → item_start_in bytes 0 ≡ 0 → Rises bytes (item_count_in bytes)
+    → item_start_in bytes (item_count_in bytes) ≡ length bytes - 8 - 4 * item_count_in bytes → IsItemTable bytes (items_from (8 + 4 * item_count_in bytes) (item_count_in bytes) 0 bytes)
 is_table bytes fits long small zero_first rise last =
-    let n = count_in bytes in
+    let n = item_count_in bytes in
     let base = 8 + 4 * n in
     let items = items_from base n 0 bytes in
     let rest = drop 4 bytes in
-    let up : (k : ℕ) → k < 0 + n → start_in bytes k ≤ start_in bytes (k + 1) = λ k h. rise k (omega arith) in
+    let up : (k : ℕ) → k < 0 + n → item_start_in bytes k ≤ item_start_in bytes (k + 1) = λ k h. rise k (omega arith) in
     let at_end : 0 + n ≡ n = omega arith in
-    let fit : base + start_in bytes (0 + n) ≤ length bytes = subst (λ (k : ℕ). base + start_in bytes k ≤ length bytes) (sym at_end) (omega (arith, last)) in
+    let fit : base + item_start_in bytes (0 + n) ≤ length bytes = subst (λ (k : ℕ). base + item_start_in bytes k ≤ length bytes) (sym at_end) (omega (arith, last)) in
     let count : u32_bytes n ≡ take 4 bytes = number_back 0 bytes fits (omega arith) in
     let offsets : flat_map u32_bytes (starts 0 items) ≡ take (4 + 4 * n) rest =
     ap (λ (k : ℕ). flat_map u32_bytes (starts k items)) (sym zero_first) ∙ ap (flat_map u32_bytes) (starts-items_from base n 0 bytes up fit) ∙ offset_bytes n 0 bytes fits (omega arith) in
     let area : concat items ≡ drop (4 + 4 * n) rest =
-    concat-items_from base n 0 bytes up ∙ whole_area base n bytes (start_in bytes (0 + n)) (start_in bytes 0) zero_first (ap (start_in bytes) at_end ∙ last) long in
+    concat-items_from base n 0 bytes up ∙ whole_area base n bytes (item_start_in bytes (0 + n)) (item_start_in bytes 0) zero_first (ap (item_start_in bytes) at_end ∙ last) long in
     let len : length items ≡ n = length-items_from base n 0 bytes in
     record {
       count = subst (λ (k : ℕ). k < 2 ^ 32) (sym len) (count_below bytes fits);
@@ -159,32 +159,29 @@ whole_front items = ap (λ (x : List (List ℕ)). length (concat x)) (take_all (
 
 -- what a table passes
 pub record Passes (bytes : List ℕ) : Type 0 where
-  pub long : 8 + 4 * count_in bytes ≤ length bytes
-  pub small : length bytes - 8 - 4 * count_in bytes < 2 ^ 32
-  pub zero_first : start_in bytes 0 ≡ 0
-  pub rise : Rises bytes (count_in bytes)
-  pub last : start_in bytes (count_in bytes) ≡ length bytes - 8 - 4 * count_in bytes
+  pub long : 8 + 4 * item_count_in bytes ≤ length bytes
+  pub small : length bytes - 8 - 4 * item_count_in bytes < 2 ^ 32
+  pub zero_first : item_start_in bytes 0 ≡ 0
+  pub rise : Rises bytes (item_count_in bytes)
+  pub last : item_start_in bytes (item_count_in bytes) ≡ length bytes - 8 - 4 * item_count_in bytes
 
 pub table_passes : (bytes : List ℕ) (items : List (List ℕ)) → IsItemTable bytes items → Passes bytes
 table_passes bytes items t =
-    let n : count_in bytes ≡ length items = table_count bytes items t in
+    let n : item_count_in bytes ≡ length items = table_count bytes items t in
     let len = table_length bytes items t in
     record {
       long = omega (arith, n, len);
       small = omega (arith, n, len, t.area);
       zero_first = table_start bytes items 0 t (omega arith);
       rise = λ i h. omega (arith, table_start bytes items i t (omega (arith, n)), table_start bytes items (i + 1) t (omega (arith, n)), next_front i items (omega (arith, n)));
-      last = ap (start_in bytes) n ∙ table_start bytes items (length items) t (omega arith) ∙ whole_front items ∙ omega (arith, n, len);
+      last = ap (item_start_in bytes) n ∙ table_start bytes items (length items) t (omega arith) ∙ whole_front items ∙ omega (arith, n, len);
     }
 
 pub passes_is : (bytes : List ℕ) → AreBytes bytes → Passes bytes → (items : List (List ℕ)) × IsItemTable bytes items
-passes_is bytes fits p = (items_from (8 + 4 * count_in bytes) (count_in bytes) 0 bytes, is_table bytes fits p.long p.small p.zero_first p.rise p.last)
-
-refused : (X : Type 0) → (X → ⊥) → (IsTrue false → X) × (X → IsTrue false)
-refused X never = (λ h. absurd cc, λ x. absurd (never x))
+passes_is bytes fits p = (items_from (8 + 4 * item_count_in bytes) (item_count_in bytes) 0 bytes, is_table bytes fits p.long p.small p.zero_first p.rise p.last)
 
 pub fails : (bytes : List ℕ) → (Passes bytes → ⊥) → (IsTrue false → (items : List (List ℕ)) × IsItemTable bytes items) × (((items : List (List ℕ)) × IsItemTable bytes items) → IsTrue false)
-fails bytes never = refused ((items : List (List ℕ)) × IsItemTable bytes items) (λ x. never (table_passes bytes x.0 x.1))
+fails bytes never = false_says ((items : List (List ℕ)) × IsItemTable bytes items) (λ x. never (table_passes bytes x.0 x.1))
 
 pub last_test : (bytes : List ℕ) (b : Bool) → (IsTrue b → Passes bytes) → (Passes bytes → IsTrue b) → AreBytes bytes → (IsTrue b → (items : List (List ℕ)) × IsItemTable bytes items) × (((items : List (List ℕ)) × IsItemTable bytes items) → IsTrue b)
 last_test bytes b to from fits = (λ h. passes_is bytes fits (to h), λ x. from (table_passes bytes x.0 x.1))
@@ -194,25 +191,22 @@ last_test bytes b to from fits = (λ h. passes_is bytes fits (to h), λ x. from 
 item_lies : (s t base : ℕ) (bytes item : List ℕ) → take (base + t - (base + s)) (drop (base + s) bytes) ≡ item → take (t - s) (drop (base + s) bytes) ≡ item
 item_lies s t base bytes item e = let same : base + t - (base + s) ≡ t - s = omega arith in rw (← same) e
 
-item_cells : (a b : List ℕ) (x y : List (List ℕ)) → a ≡ b → x ≡ y → a ∷ x ≡ b ∷ y
-item_cells a b x y e f = cc
-
-items_from-is : (n i : ℕ) (bytes : List ℕ) (items : List (List ℕ)) → IsItemTable bytes items → i + n ≡ length items → items_from (8 + 4 * count_in bytes) n i bytes ≡ drop i items
+items_from-is : (n i : ℕ) (bytes : List ℕ) (items : List (List ℕ)) → IsItemTable bytes items → i + n ≡ length items → items_from (8 + 4 * item_count_in bytes) n i bytes ≡ drop i items
 items_from-is zero i bytes items t e = sym (drop_all i items (omega arith))
 items_from-is (suc n) i bytes items t e =
     let lt : i < length items = omega arith in
-    let base = 8 + 4 * count_in bytes in
-    let head : take (start_in bytes (i + 1) - start_in bytes i) (drop (base + start_in bytes i) bytes) ≡ get_or items i [] =
-    item_lies (start_in bytes i) (start_in bytes (i + 1)) base bytes (get_or items i [])
-    (item_slice bytes items i (count_in bytes) (start_in bytes i) (start_in bytes (i + 1)) t lt (table_count bytes items t) (table_start bytes items i t (omega arith)) (table_start bytes items (i + 1) t (omega arith))) in
+    let base = 8 + 4 * item_count_in bytes in
+    let head : take (item_start_in bytes (i + 1) - item_start_in bytes i) (drop (base + item_start_in bytes i) bytes) ≡ get_or items i [] =
+    item_lies (item_start_in bytes i) (item_start_in bytes (i + 1)) base bytes (get_or items i [])
+    (item_slice bytes items i (item_count_in bytes) (item_start_in bytes i) (item_start_in bytes (i + 1)) t lt (table_count bytes items t) (table_start bytes items i t (omega arith)) (table_start bytes items (i + 1) t (omega arith))) in
     let tail : items_from base n (i + 1) bytes ≡ drop (i + 1) items = items_from-is n (i + 1) bytes items t (omega arith) in
-    item_cells _ _ _ _ head tail ∙ sym (drop-cons items i [] lt ∙ ap (λ (k : ℕ). get_or items i [] ∷ drop k items) (sym (add-one i)))
+    cons_from _ _ _ _ head tail ∙ sym (drop-cons items i [] lt ∙ ap (λ (k : ℕ). get_or items i [] ∷ drop k items) (sym (add-one i)))
 
 pub items_in-is : (bytes : List ℕ) (items : List (List ℕ)) → IsItemTable bytes items → items_in bytes ≡ items
 unfolding items_in
 items_in-is bytes items t =
-    let from : 0 + count_in bytes ≡ length items = omega (arith, table_count bytes items t) in
-    items_from-is (count_in bytes) 0 bytes items t from
+    let from : 0 + item_count_in bytes ≡ length items = omega (arith, table_count bytes items t) in
+    items_from-is (item_count_in bytes) 0 bytes items t from
 
 -- bytes are a table of one list of items
 pub one_table : (bytes : List ℕ) (a b : List (List ℕ)) → IsItemTable bytes a → IsItemTable bytes b → a ≡ b

@@ -5,15 +5,18 @@ use Rattle.std.proofs.Math.Nat.{pow-suc}
 use Rattle.std.proofs.lemmas.Bool.{cases_lt, lt-ltb, le-ltb}
 use Rattle.std.proofs.lemmas.Bool.Decides.{nat_tests}
 use Rattle.std.proofs.lemmas.List.{append_assoc, take_all, length-take, length-set, take_more_set, get_or_past}
+use Rattle.codec_frame.specs.Bytes.{AreBytes}
 use Rattle.body_forms.specs.declared.vint.VIntFault.{VIntFault}
 use Rattle.body_forms.specs.declared.vint.VIntFault.TheVariants.{Short, Long}
-use Rattle.body_forms.specs.VInts.{goes_on, is_vint, vint_value, SpellsVInt, BeginsWithVInt, EndsWithinVInt, PassesVInt, vint_within, vint, vint_limit, with_first, vint_read}
+use Rattle.codec_frame.proofs.ByteLaws.{AreBytes-rest, AreBytes-take}
+use Rattle.body_forms.specs.VInts.{goes_on, is_vint, vint_value, SpellsVInt, BeginsWithVInt, EndsWithinVInt, PassesVInt, vint_within, vint, vint_limit, with_first_byte, vint_read}
 
-abbrev pub AreBytes : List ℕ → Type 0
-AreBytes bytes = (i : ℕ) → get_or bytes i 0 < 256
+AreBytes-cons : (b : ℕ) (bytes : List ℕ) → b < 256 → AreBytes bytes → AreBytes (b ∷ bytes)
+AreBytes-cons b bytes lt h zero = lt
+AreBytes-cons b bytes lt h (suc i) = h i
 
-AreBytes-rest : (b : ℕ) (bytes : List ℕ) → AreBytes (b ∷ bytes) → AreBytes bytes
-AreBytes-rest b bytes h i = h (suc i)
+AreBytes-none : AreBytes []
+AreBytes-none i = omega arith
 
 pub pow_pos_128 : (k : ℕ) → 0 < 128 ^ k
 pow_pos_128 zero = omega arith
@@ -54,7 +57,7 @@ read-end : (more b : ℕ) (rest : List ℕ) → b < 128 → vint_read (suc more)
 unfolding vint_read
 read-end more b rest h = rw (lt-ltb b 128 h) refl
 
-read-on : (more b : ℕ) (rest : List ℕ) → 128 ≤ b → vint_read (suc more) (b ∷ rest) ≡ with_first b (vint_read more rest)
+read-on : (more b : ℕ) (rest : List ℕ) → 128 ≤ b → vint_read (suc more) (b ∷ rest) ≡ with_first_byte b (vint_read more rest)
 unfolding vint_read
 read-on more b rest h = rw (le-ltb b 128 h) refl
 
@@ -127,13 +130,13 @@ pub data Reads (more : ℕ) (bytes : List ℕ) : Type 0 where
 reads_on : (more b : ℕ) (rest : List ℕ) → 128 ≤ b → b < 256 → Reads more rest → Reads (suc more) (b ∷ rest)
 reads_on more b rest h byte (form n taken f e) =
     let next : suc taken ≡ taken + 1 = omega arith in
-    form (b - 128 + 128 * n) (suc taken) (more_form more b rest n taken h byte f) (read-on more b rest h ∙ ap (with_first b) e ∙ ap (answer (b - 128 + 128 * n)) (sym next))
+    form (b - 128 + 128 * n) (suc taken) (more_form more b rest n taken h byte f) (read-on more b rest h ∙ ap (with_first_byte b) e ∙ ap (answer (b - 128 + 128 * n)) (sym next))
 reads_on more b rest h byte (short few all e) =
     let on : goes_on b ≡ true = grind (arith, nat_tests) in
-    short (omega (arith, few)) (rw on all) (read-on more b rest h ∙ ap (with_first b) e)
+    short (omega (arith, few)) (rw on all) (read-on more b rest h ∙ ap (with_first_byte b) e)
 reads_on more b rest h byte (long all fifth e) =
     let on : goes_on b ≡ true = grind (arith, nat_tests) in
-    long (rw on all) fifth (read-on more b rest h ∙ ap (with_first b) e)
+    long (rw on all) fifth (read-on more b rest h ∙ ap (with_first_byte b) e)
 
 pub reads : (more : ℕ) (bytes : List ℕ) → AreBytes bytes → Reads more bytes
 reads more [] h = short (omega arith) refl (read-none more)
@@ -215,8 +218,8 @@ pub end_read : (more b : ℕ) (bytes : List ℕ) → 0 < more → 1 ≤ length b
 end_read more b bytes some len f h = sym (read-end (more - 1) b (after_first bytes) h) ∙ at_first more bytes (suc (more - 1)) b (more_is more some) len f
 
 pub on_read : (more b : ℕ) (bytes : List ℕ) (read : Result (ℕ × ℕ) VIntFault) → 0 < more → 1 ≤ length bytes → b ≡ get_or bytes 0 0 → 128 ≤ b → read ≡ vint_read (more - 1) (after_first bytes)
-    → with_first b read ≡ vint_read more bytes
-on_read more b bytes read some len f h e = ap (with_first b) e ∙ sym (read-on (more - 1) b (after_first bytes) h) ∙ at_first more bytes (suc (more - 1)) b (more_is more some) len f
+    → with_first_byte b read ≡ vint_read more bytes
+on_read more b bytes read some len f h e = ap (with_first_byte b) e ∙ sym (read-on (more - 1) b (after_first bytes) h) ∙ at_first more bytes (suc (more - 1)) b (more_is more some) len f
 
 -- what was read of the rest leaves room for one byte more
 pub read_below : (more n taken : ℕ) (bytes : List ℕ) → AreBytes bytes → answer n taken ≡ vint_read more bytes → n < vint_limit more
@@ -316,6 +319,16 @@ read_long_of bytes e (long all fifth r) = record { unended = all; fifth = fifth 
 -- they are too long exactly where the fifth byte is above 15
 pub long_clause : (bytes : List ℕ) (r : Answer) → AreBytes bytes → r ≡ vint_read 4 bytes → (◌≡◌ {A = Answer} r (Err Long)) ↔ PassesVInt bytes
 long_clause bytes r h e = (λ f. read_long_of bytes (sym e ∙ f) (reads 4 bytes h), λ b. e ∙ long_read_of bytes h b (reads 4 bytes h))
+
+-- the three clauses leave one answer
+pub read_is : (bytes : List ℕ) (r : Answer) → AreBytes bytes → ((n taken : ℕ) → (r ≡ answer n taken) ↔ BeginsWithVInt bytes n taken)
+    → (◌≡◌ {A = Answer} r (Err Short)) ↔ EndsWithinVInt bytes → (◌≡◌ {A = Answer} r (Err Long)) ↔ PassesVInt bytes → r ≡ vint_read 4 bytes
+read_is bytes r h number short_is long_is = by (reads 4 bytes h)
+  where
+    by : Reads 4 bytes → r ≡ vint_read 4 bytes
+    by (form n taken f e) = (number n taken).1 (form_begins bytes n taken f) ∙ sym e
+    by (short few all e) = short_is.1 (record { few = omega (arith, few); unended = all }) ∙ sym e
+    by (long all fifth e) = long_is.1 (record { unended = all; fifth = fifth }) ∙ sym e
 
 -- ---- writing: the rest of the number completes its form
 
@@ -429,6 +442,37 @@ same_spelling (x ∷ a ∷ xs) (y ∷ b ∷ ys) h k e f l v =
     let first : x ≡ y = omega (arith, v, h 0, k 0, more x a xs e, more y b ys f) in
     cells x y (a ∷ xs) first ∙ ap (λ (t : List ℕ). y ∷ t) rest
 
+AreBytes-within : (more n : ℕ) → n < vint_limit more → AreBytes (vint_within more n)
+AreBytes-within zero n h = subst AreBytes (sym (within-small zero n (omega arith))) (AreBytes-cons n [] (omega arith) AreBytes-none)
+AreBytes-within (suc more) n h =
+    elim (cases_lt n 128) [
+      | inl lt ↦ subst AreBytes (sym (within-small (suc more) n lt)) (AreBytes-cons n [] (omega arith) AreBytes-none)
+      | inr le ↦ subst AreBytes (sym (within-large more n le)) (AreBytes-cons (128 + n % 128) (vint_within more (n / 128)) (omega arith) (AreBytes-within more (n / 128) (omega (arith, pow-suc 128 more))))
+    ]
+
+-- what is written is read back, whatever follows it
+pub read_again : (more n : ℕ) (rest : List ℕ) → n < vint_limit more → vint_read more (vint_within more n ++ rest) ≡ answer n (length (vint_within more n))
+read_again zero n rest h = ap (λ (t : List ℕ). vint_read zero (t ++ rest)) (within-small zero n (omega arith)) ∙ read-last n rest (omega arith) ∙ ap (answer n) (sym (length_one zero n (omega arith)))
+read_again (suc more) n rest h =
+    elim (cases_lt n 128) [
+      | inl lt ↦ ap (λ (t : List ℕ). vint_read (suc more) (t ++ rest)) (within-small (suc more) n lt) ∙ read-end more n rest lt ∙ ap (answer n) (sym (length_one (suc more) n lt))
+      | inr le ↦
+          let len = length (vint_within more (n / 128)) in
+          let back : 128 + n % 128 - 128 + 128 * (n / 128) ≡ n = omega arith in
+          let long : len + 1 ≡ length (vint_within (suc more) n) = omega (arith, length-within-large more n le) in
+          ap (λ (t : List ℕ). vint_read (suc more) (t ++ rest)) (within-large more n le)
+          ∙ read-on more (128 + n % 128) (vint_within more (n / 128) ++ rest) (omega arith)
+          ∙ ap (with_first_byte (128 + n % 128)) (read_again more (n / 128) rest (omega (arith, pow-suc 128 more)))
+          ∙ ap (λ (k : ℕ). answer k (len + 1)) back ∙ ap (answer n) long
+    ]
+
+-- a number that is read in as few bytes as its shortest form has is read from that form
+pub read_shortest : (bytes : List ℕ) (n taken : ℕ) → AreBytes bytes → vint_read 4 bytes ≡ answer n taken → taken ≡ length (vint n) → (take taken bytes ≡ vint n) × (n < 2 ^ 32)
+read_shortest bytes n taken h e len =
+    let b = (number_clause bytes (vint_read 4 bytes) h refl n taken).0 e in
+    let s = vint_spells n b.spelled.fits in
+    (same_spelling (take taken bytes) (vint n) (AreBytes-take taken bytes h) (AreBytes-within 4 n b.spelled.fits) b.spelled.whole s.whole (omega (arith, length-take taken bytes, b.within, len)) (b.spelled.value ∙ sym s.value), b.spelled.fits)
+
 -- ---- the code's recursion
 
 AreBytes-after : (bytes : List ℕ) → AreBytes bytes → 1 ≤ length bytes → AreBytes (after_first bytes)
@@ -452,3 +496,7 @@ err_of (Err e) fault h = ap refused h
   where
     refused : VIntFault → Answer
     refused f = Err f
+
+-- a byte below 128 is a number of one byte
+pub read_one : (b : ℕ) (rest : List ℕ) → b < 128 → vint_read 4 (b ∷ rest) ≡ answer b 1
+read_one b rest h = read-end 3 b rest h

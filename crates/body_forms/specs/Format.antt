@@ -1,8 +1,6 @@
 -- Formats: how values are spelled as bytes, and how the front of a list is read as a value.
-use Rattle.std.specs.Prelude.{◌≡◌, ℕ, zero, suc, ◌<◌, List, [], ◌∷◌, ◌++◌, slice_index, Option, Some, None}
-
-abbrev pub AreBytes : List ℕ → Type 0
-AreBytes bytes = (i : ℕ) → slice_index bytes i < 256
+use Rattle.std.specs.Prelude.{◌≡◌, ℕ, zero, suc, List, [], ◌∷◌, ◌++◌, Option, Some, None}
+use Rattle.codec_frame.specs.Bytes.{AreBytes}
 
 -- what reading the front of a list gives: a value and the bytes after it, or nothing
 abbrev pub Read : Type 0 → Type 0

@@ -24,18 +24,18 @@ pub record IsItemTable (bytes : List ℕ) (items : List (List ℕ)) : Type 0 whe
   pub whole : bytes ≡ item_table items
 
 -- how many items the bytes say that there are
-abbrev pub count_in : List ℕ → ℕ
-count_in bytes = from_be_bytes w32 (take 4 bytes)
+abbrev pub item_count_in : List ℕ → ℕ
+item_count_in bytes = from_be_bytes w32 (take 4 bytes)
 
 -- the offset at i that the bytes give
-abbrev pub start_in : List ℕ → ℕ → ℕ
-start_in bytes i = from_be_bytes w32 (take 4 (drop (4 + 4 * i) bytes))
+abbrev pub item_start_in : List ℕ → ℕ → ℕ
+item_start_in bytes i = from_be_bytes w32 (take 4 (drop (4 + 4 * i) bytes))
 
 -- n items from the one at i on, as their offsets bound them in an area that begins at `base`
 abbrev pub items_from : ℕ → ℕ → ℕ → List ℕ → List (List ℕ)
 items_from base zero i bytes = []
-items_from base (suc n) i bytes = take (start_in bytes (i + 1) - start_in bytes i) (drop (base + start_in bytes i) bytes) ∷ items_from base n (i + 1) bytes
+items_from base (suc n) i bytes = take (item_start_in bytes (i + 1) - item_start_in bytes i) (drop (base + item_start_in bytes i) bytes) ∷ items_from base n (i + 1) bytes
 
 -- the items of a table, as a function of its bytes
 unfoldable pub items_in : List ℕ → List (List ℕ)
-items_in bytes = items_from (8 + 4 * count_in bytes) (count_in bytes) 0 bytes
+items_in bytes = items_from (8 + 4 * item_count_in bytes) (item_count_in bytes) 0 bytes

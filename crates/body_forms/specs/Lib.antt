@@ -1,3 +1,4 @@
+pub mod VInts
 pub mod Format
 pub mod Numbers
 pub mod ItemTable

@@ -1,7 +1,8 @@
 -- Fixed numbers, vInts in their shortest form, strings, and ascending numbers by their differences.
-use Rattle.std.specs.Prelude.{ℕ, zero, suc, ◌+◌, ◌-◌, ◌*◌, ◌^◌, ◌<◌, ◌≤◌, List, [], ◌∷◌, ◌++◌, length, take, drop, Some, None, nat_lt, if◌then◌else◌}
+use Rattle.std.specs.Prelude.{ℕ, ◌+◌, ◌-◌, ◌^◌, ◌<◌, ◌≤◌, List, ◌++◌, length, take, drop, Some, None, Result, Ok, Err, nat_lt, ◌==◌, if◌then◌else◌}
 use Rattle.std.specs.Int.{w32, w64, to_be_bytes, from_be_bytes}
-use Rattle.body_forms.specs.VInts.{vint}
+use Rattle.body_forms.specs.VInts.{vint, vint_read}
+use Rattle.body_forms.specs.declared.vint.VIntFault.{VIntFault}
 use Rattle.body_forms.specs.Format.{Read, ◌>>=◌, chain, ChainFits, chain_at, counted_at}
 
 -- a number of 32 bits in four bytes, the highest first
@@ -18,16 +19,14 @@ u64_bytes n = to_be_bytes w64 n
 unfoldable pub u64_at : List ℕ → Read ℕ
 u64_at bytes = if nat_lt (length bytes) 8 then None else Some (from_be_bytes w64 (take 8 bytes), drop 8 bytes)
 
--- a vInt in its shortest form, with at most `more` bytes after the first; a longer form is not read
-unfoldable pub vint_at_within : ℕ → List ℕ → Read ℕ
-vint_at_within more [] = None
-vint_at_within zero (b ∷ rest) = if nat_lt b 16 then Some (b, rest) else None
-vint_at_within (suc more) (b ∷ rest) =
-    if nat_lt b 128 then Some (b, rest)
-    else (vint_at_within more rest >>= λ high. if nat_lt 0 high.0 then Some (b - 128 + 128 * high.0, high.1) else None)
+-- what was read as a vInt, where its form is the shortest: the number and the bytes after it
+abbrev pub shortest_of : List ℕ → Result (ℕ × ℕ) VIntFault → Read ℕ
+shortest_of bytes (Ok x) = if x.1 == length (vint x.0) then Some (x.0, drop x.1 bytes) else None
+shortest_of bytes (Err fault) = None
 
-abbrev pub vint_at : List ℕ → Read ℕ
-vint_at bytes = vint_at_within 4 bytes
+-- the vInt at the front, in its shortest form; a longer form is not read
+unfoldable pub vint_at : List ℕ → Read ℕ
+vint_at bytes = shortest_of bytes (vint_read 4 bytes)
 
 -- a string: its length, then its bytes
 abbrev pub string : List ℕ → List ℕ

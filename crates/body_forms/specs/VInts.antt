@@ -54,12 +54,12 @@ abbrev pub vint_limit : ℕ → ℕ
 vint_limit more = 16 * 128 ^ more
 
 -- a number of which this is the first byte, and the rest was read
-abbrev pub with_first : ℕ → Result (ℕ × ℕ) VIntFault → Result (ℕ × ℕ) VIntFault
-with_first b (Ok high) = Ok (b - 128 + 128 * high.0, high.1 + 1)
-with_first b (Err fault) = Err fault
+abbrev pub with_first_byte : ℕ → Result (ℕ × ℕ) VIntFault → Result (ℕ × ℕ) VIntFault
+with_first_byte b (Ok high) = Ok (b - 128 + 128 * high.0, high.1 + 1)
+with_first_byte b (Err fault) = Err fault
 
 -- the number at the front and how many bytes it takes, at most `more` after the first
 unfoldable pub vint_read : ℕ → List ℕ → Result (ℕ × ℕ) VIntFault
 vint_read more [] = Err Short
 vint_read zero (b ∷ rest) = if nat_lt b 16 then Ok (b, 1) else Err Long
-vint_read (suc more) (b ∷ rest) = if nat_lt b 128 then Ok (b, 1) else with_first b (vint_read more rest)
+vint_read (suc more) (b ∷ rest) = if nat_lt b 128 then Ok (b, 1) else with_first_byte b (vint_read more rest)

@@ -1,7 +1,10 @@
+//! Tables of items, read.
+
 ghost use Rattle.std.specs.Prelude.{◌≡◌, ◌↔◌, IsTrue, ◌<◌, ◌≤◌, ◌+◌, ◌*◌, ◌^◌, ℕ, List, [], length, take, drop, slice_index_or};
 ghost use Rattle.std.specs.Int.{w32, from_be_bytes};
 ghost use Rattle.body_forms.specs.ItemTable.{IsItemTable};
 
+// The number in the four bytes from a place on.
 fn number_from(bytes: &[u8], at: usize) -> u32
     requires { at + 4 ≤ length bytes.now }
     ensures { result ≡ from_be_bytes w32 (take 4 (drop at bytes.now)) }
@@ -20,7 +23,8 @@ pub fn item_count(table: &[u8]) -> u32
 /// Lends the item at this place.
 pub fn item_at(table: &[u8], place: u32) -> &[u8]
     requires { (items : List (List ℕ)) × IsItemTable table.now items × (place < length items) }
-    ensures { (items : List (List ℕ)) → IsItemTable table.now items → result.now ≡ slice_index_or items place [] }
+    ensures { (items : List (List ℕ)) → IsItemTable table.now items
+        → result.now ≡ slice_index_or items place [] }
 {
     let count = item_count(table) as usize;
     let place = place as usize;

@@ -8,6 +8,7 @@ mod numbers;
 mod read_fault;
 mod strings;
 mod table_parts;
+mod vint;
 
 pub use item_table::{is_item_table, item_at, item_count};
 pub use numbers::{
@@ -17,6 +18,7 @@ pub use numbers::{
 pub use read_fault::ReadFault;
 pub use strings::{push_string, string_of};
 pub use table_parts::{push_end, push_table};
+pub use vint::{VIntFault, push_vint, read_vint, vint_len};
 
 #[cfg(test)]
 mod tests;

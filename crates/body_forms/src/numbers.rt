@@ -1,10 +1,12 @@
+//! Numbers at the front of bytes, and numbers put at the end.
+
 ghost use Rattle.std.specs.Prelude.{◌≡◌, ◌<◌, ◌≤◌, ◌^◌, ◌++◌, Option, Some, None, IfSome, OnOk, OnErr};
 ghost use Rattle.std.specs.Option.{option_map};
 ghost use Rattle.body_forms.specs.Format.{Skips, chain_at};
-ghost use Rattle.body_forms.specs.VInts.{vint_limit};
-ghost use Rattle.body_forms.specs.Numbers.{u32_bytes, u32_at, u64_bytes, u64_at, vint_at, vint_at_within, positive_at, difference, difference_at, above, ascending_at};
+ghost use Rattle.body_forms.specs.Numbers.{u32_bytes, u32_at, u64_bytes, u64_at, vint_at, positive_at, difference, difference_at, above, ascending_at};
 
-use nrt_base::{NoMemory, push_vint};
+use crate::vint::{push_vint, read_vint, vint_len};
+use nrt_base::NoMemory;
 
 /// The number in the first four bytes, the highest first, and the bytes after it.
 #[tactic(auto, unfolding(crate::specs::Numbers::u32_at))]
@@ -45,49 +47,19 @@ pub fn push_u64(out: &mut Vec<u8>, n: u64) -> Result<(), NoMemory>
 }
 
 /// The vInt at the front, and the bytes after it. It is in its shortest form: a longer one is none.
-#[tactic(auto, unfolding(crate::specs::Numbers::vint_at_within))]
 pub fn vint_of(bytes: &[u8]) -> Option<(u32, &[u8])>
     ensures { option_map (λ x. (x.0, x.1.now)) result ≡ vint_at bytes.now }
 {
     match bytes {
+        // Most numbers take one byte: it is read at once.
         [b, rest @ ..] if *b < 128 => Some((u32::from(*b), rest)),
-        _ => vint_within_of(4, bytes),
-    }
-}
-
-// The last of five bytes is below this.
-const LAST_LIMIT: u8 = 16;
-
-// What the bytes after the first stand for is at least this: else they could be left out.
-const LEAST_HIGH: u32 = 1;
-
-// At most so many bytes may follow the first.
-fn vint_within_of(more: u8, bytes: &[u8]) -> Option<(u32, &[u8])>
-    requires { more ≤ 4 }
-    ensures value { option_map (λ x. (x.0, x.1.now)) result ≡ vint_at_within more bytes.now }
-    ensures below { IfSome result (λ x. x.0 < vint_limit more) }
-{
-    match bytes {
-        [] => None,
-        [b, rest @ ..] => {
-            let first = *b;
-            if more == 0 {
-                if first < LAST_LIMIT {
-                    Some((u32::from(first), rest))
-                } else {
-                    None
-                }
-            } else if first < 128 {
-                Some((u32::from(first), rest))
-            } else {
-                let (high, after) = vint_within_of(more - 1, rest)?;
-                if high < LEAST_HIGH {
-                    None
-                } else {
-                    Some((u32::from(first - 128) + 128 * high, after))
-                }
+        _ => match read_vint(bytes) {
+            Ok((n, taken)) if taken == vint_len(n) => {
+                let (_, rest) = bytes.split_at(taken);
+                Some((n, rest))
             }
-        }
+            _ => None,
+        },
     }
 }
 

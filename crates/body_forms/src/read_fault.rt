@@ -1,14 +1,16 @@
+//! Why a file is not read.
+
 ghost use Rattle.std.specs.Prelude.{◌≡◌};
 
 use codec_frame::{FileFault, FrameFault};
 use nrt_base::NoMemory;
 
-/// Why a file is not read: it is refused, or memory to hold what it has is wanting.
+/// Why a file is not read: it is refused, or the reader is out of memory.
 #[derive(Clone, Copy, Debug, PartialEq, Eq)]
 pub enum ReadFault {
     /// The file is refused.
     File(FileFault),
-    /// Memory to hold what the file has is wanting.
+    /// The reader is out of memory.
     Memory,
 }
 

@@ -1,9 +1,12 @@
+//! Strings: a length as a vInt, then the bytes.
+
 ghost use Rattle.std.specs.Prelude.{◌≡◌, ◌++◌, ◌<◌, ◌^◌, length, is_ok, if◌then◌else◌};
 ghost use Rattle.std.specs.Option.{option_map};
 ghost use Rattle.body_forms.specs.Numbers.{string, string_at};
 
 use crate::numbers::vint_of;
-use nrt_base::{NoMemory, push_vint};
+use crate::vint::push_vint;
+use nrt_base::NoMemory;
 
 /// The string at the front, and the bytes after it: its length as a vInt, then its bytes.
 #[tactic(auto, unfolding(crate::specs::Numbers::string_at))]
@@ -21,7 +24,8 @@ pub fn string_of(bytes: &[u8]) -> Option<(&[u8], &[u8])>
 /// Puts a string at the end.
 pub fn push_string(out: &mut Vec<u8>, text: &[u8]) -> Result<(), NoMemory>
     requires { length text.now < 2 ^ 32 }
-    ensures { out.new.items ≡ (if is_ok result then out.old.items ++ string text.now else out.old.items) }
+    ensures { out.new.items
+        ≡ (if is_ok result then out.old.items ++ string text.now else out.old.items) }
 {
     let start = out.len();
     push_vint(out, text.len() as u32)?;

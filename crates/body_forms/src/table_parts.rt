@@ -1,7 +1,8 @@
-ghost use Rattle.std.specs.Prelude.{◌≡◌, ◌++◌, ◌<◌, ◌^◌, ℕ, List, length, take, OnOk, OnErr};
+//! The offsets and the area of a table of items, written apart and then put together.
+
+ghost use Rattle.std.specs.Prelude.{◌≡◌, ◌++◌, ◌<◌, ◌^◌, length, take, OnOk, OnErr};
 ghost use Rattle.body_forms.specs.Numbers.{u32_bytes};
-ghost use Rattle.body_forms.specs.ItemTable.{IsItemTable};
-ghost use Rattle.body_forms.specs.TableParts.{ArePartsOf};
+ghost use Rattle.body_forms.specs.TableParts.{AddsTable};
 
 use crate::numbers::push_u32;
 use nrt_base::NoMemory;
@@ -11,7 +12,7 @@ use std::alloc::AllocError;
 const MOST: usize = 0xffff_ffff;
 
 /// Puts where the area ends now at the end of the offsets: first for an empty area, and then after each item. An area of
-/// 2^32 bytes or more is want of memory.
+/// 2^32 bytes or more is out of memory.
 pub fn push_end(offsets: &mut Vec<u8>, area: &[u8]) -> Result<(), NoMemory>
     ensures small { OnOk result (length area.now < 2 ^ 32) }
     ensures end { OnOk result (offsets.new.items ≡ offsets.old.items ++ u32_bytes (length area.now)) }
@@ -24,32 +25,30 @@ pub fn push_end(offsets: &mut Vec<u8>, area: &[u8]) -> Result<(), NoMemory>
 }
 
 /// Puts the table of so many items at the end, from its offsets and its area. A table of 2^32 bytes or more, and 2^32
-/// items or more, are want of memory.
+/// items or more, are out of memory.
 pub fn push_table(
     out: &mut Vec<u8>,
     count: usize,
     offsets: &[u8],
     area: &[u8],
 ) -> Result<(), NoMemory>
-    ensures ok { OnOk result ((items : List (List ℕ)) → length items ≡ count → ArePartsOf items offsets.now area.now
-        → (table : List ℕ) × (out.new.items ≡ out.old.items ++ table) × IsItemTable table items × (length table < 2 ^ 32)) }
+    ensures ok { OnOk result (AddsTable count offsets.now area.now out.old.items out.new.items) }
     ensures err { OnErr result (out.new.items ≡ out.old.items) }
 {
     let start = out.len();
     match push_parts(out, count, offsets, area) {
         Ok(()) => Ok(()),
-        Err(wanting) => {
+        Err(no_memory) => {
             out.truncate(start);
-            Err(wanting)
+            Err(no_memory)
         }
     }
 }
 
-// Puts the parts of a table at the end. Where memory is wanting, some of them may stand there.
+// Puts the parts of a table at the end. Where memory runs out, some of them may stand there.
 fn push_parts(out: &mut Vec<u8>, count: usize, offsets: &[u8], area: &[u8]) -> Result<(), NoMemory>
     ensures front { take (length out.old.items) out.new.items ≡ out.old.items }
-    ensures table { OnOk result ((items : List (List ℕ)) → length items ≡ count → ArePartsOf items offsets.now area.now
-        → (table : List ℕ) × (out.new.items ≡ out.old.items ++ table) × IsItemTable table items × (length table < 2 ^ 32)) }
+    ensures table { OnOk result (AddsTable count offsets.now area.now out.old.items out.new.items) }
 {
     let start = out.len();
     if count > MOST {

@@ -1,7 +1,9 @@
+//! vInts: numbers of seven bits a byte, the lowest first.
+
 ghost use Rattle.std.specs.Prelude.{◌≡◌, ◌++◌, ◌↔◌, ◌≤◌, ◌<◌, ℕ, length, IsErrOf, OnOk, OnErr};
 ghost use Rattle.body_forms.specs.VInts.{BeginsWithVInt, EndsWithinVInt, PassesVInt, vint, vint_read};
 
-use crate::NoMemory;
+use nrt_base::NoMemory;
 
 /// Why bytes do not begin with a vInt.
 #[derive(Clone, Copy, Debug, PartialEq, Eq)]
@@ -27,7 +29,8 @@ pub fn vint_len(n: u32) -> usize
 
 /// The number at the front of the bytes, in its shortest form or a longer one, and how many bytes it takes.
 pub fn read_vint(bytes: &[u8]) -> Result<(u32, usize), VIntFault>
-    ensures number { (n taken : ℕ) → (result ≡ Ok (n, taken)) ↔ BeginsWithVInt bytes.now n taken }
+    ensures number { (n taken : ℕ) → (result ≡ Ok (n, taken))
+        ↔ BeginsWithVInt bytes.now n taken }
     ensures short { IsErrOf result VIntFault.Short ↔ EndsWithinVInt bytes.now }
     ensures long { IsErrOf result VIntFault.Long ↔ PassesVInt bytes.now }
 {

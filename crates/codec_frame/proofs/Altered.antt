@@ -16,9 +16,6 @@ use Rattle.codec_frame.proofs.FrameLaws.{framed_sealed}
 abbrev pub IsSealed : List ℕ → Type 0
 IsSealed bytes = (front : List ℕ) × (bytes ≡ front ++ to_be_bytes w64 (crc_of front))
 
-cell : (x y : ℕ) (c d : List ℕ) → x ≡ y → c ≡ d → x ∷ c ≡ y ∷ d
-cell x y c d e f = cc
-
 -- at the seam of two splits of one list, the shorter front goes on
 seam : (a b c d : List ℕ) → a ++ b ≡ c ++ d → length a ≤ length c → (m : List ℕ) × (c ≡ a ++ m) × (b ≡ m ++ d)
 seam [] b c d e h = (c, refl, e)
@@ -27,7 +24,7 @@ seam (x ∷ a) b (y ∷ c) d e h =
     let heads : x ≡ y = cc in
     let tails : a ++ b ≡ c ++ d = cc in
     let s = seam a b c d tails (omega arith) in
-    (s.0, cell y x c (a ++ s.0) (sym heads) s.1, s.2)
+    (s.0, let rest = s.1 in cc, s.2)
 
 same_crc : (a b : List ℕ) → AreBytes a → AreBytes b → to_be_bytes w64 (crc_of a) ≡ to_be_bytes w64 (crc_of b) → crc_of a ≡ crc_of b
 same_crc a b fa fb e =
@@ -50,7 +47,7 @@ same_front (x ∷ a) b (y ∷ c) d len e =
     let heads : x ≡ y = cc in
     let tails : a ++ b ≡ c ++ d = cc in
     let s = same_front a b c d (omega arith) tails in
-    (cell x y a c heads s.0, s.1)
+    (let rest = s.0 in cc, s.1)
 
 split_here : (front back : List ℕ) (x : ℕ) → (front ++ x ∷ []) ++ back ≡ front ++ x ∷ back
 split_here front back x = append_assoc front (x ∷ []) back

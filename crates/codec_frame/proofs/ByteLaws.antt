@@ -4,6 +4,9 @@ use Rattle.std.specs.Prelude.{slice_range}
 use Rattle.std.proofs.lemmas.List.{length-take, length-drop, take-append-drop}
 use Rattle.codec_frame.specs.Bytes.{AreBytes}
 
+pub AreBytes-rest : (b : ℕ) (bytes : List ℕ) → AreBytes (b ∷ bytes) → AreBytes bytes
+AreBytes-rest b bytes h i = h (suc i)
+
 pub AreBytes-front : (front back : List ℕ) → AreBytes (front ++ back) → AreBytes front
 AreBytes-front [] back h i = omega arith
 AreBytes-front (b ∷ front) back h zero = h 0

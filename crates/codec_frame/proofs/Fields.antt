@@ -7,13 +7,13 @@ use Rattle.std.specs.Bool.{IsTrue}
 use Rattle.std.specs.Cmp.Lexicographic.{pointwise}
 use Rattle.std.proofs.lemmas.Bool.Decides.{Decides-eqb}
 use Rattle.std.proofs.lemmas.Slice.Eq.{slice_eq-Decides}
-use Rattle.codec_frame.specs.Frame.{string}
-use Rattle.codec_frame.specs.Checking.{string_at}
+use Rattle.codec_frame.specs.Frame.{short_string}
+use Rattle.codec_frame.specs.Checking.{short_string_at}
 
 -- a string's length byte and its text
-pub string_at-parts : (bytes : List ℕ) (at n : ℕ) → at + (1 + n) ≤ length bytes
-    → string_at bytes at n ≡ get_or bytes at 0 ∷ slice_range bytes (at + 1) (at + 1 + n)
-string_at-parts bytes at n h =
+pub short_string_at-parts : (bytes : List ℕ) (at n : ℕ) → at + (1 + n) ≤ length bytes
+    → short_string_at bytes at n ≡ get_or bytes at 0 ∷ slice_range bytes (at + 1) (at + 1 + n)
+short_string_at-parts bytes at n h =
     let here : at < length bytes = omega arith in
     let count : at + (1 + n) - at ≡ suc n = omega arith in
     let rest : at + 1 + n - (at + 1) ≡ n = omega arith in
@@ -21,15 +21,15 @@ string_at-parts bytes at n h =
 
 -- the test of a string: its length byte is right, and r is the test of its text
 pub string_test : (bytes text : List ℕ) (at : ℕ) (r : Bool) → at + (1 + length text) ≤ length bytes → get_or bytes at 0 ≡ length text
-    → r ≡ pointwise eqb (slice_range bytes (at + 1) (at + 1 + length text)) text → IsTrue r ↔ (string_at bytes at (length text) ≡ string text)
+    → r ≡ pointwise eqb (slice_range bytes (at + 1) (at + 1 + length text)) text → IsTrue r ↔ (short_string_at bytes at (length text) ≡ short_string text)
 string_test bytes text at r h len e =
     let decides = slice_eq-Decides Decides-eqb (slice_range bytes (at + 1) (at + 1 + length text)) text r e in
-    let parts = string_at-parts bytes at (length text) h in
+    let parts = short_string_at-parts bytes at (length text) h in
     (λ yes. let same = decides.0 yes in cc, λ same. decides.1 (let both = sym parts ∙ same in cc))
 
 -- with another length byte no string stands there
-pub string_refused : (bytes text : List ℕ) (at : ℕ) → at + (1 + length text) ≤ length bytes → (get_or bytes at 0 ≡ length text → ⊥) → string_at bytes at (length text) ≡ string text → ⊥
-string_refused bytes text at h other same = let both = sym (string_at-parts bytes at (length text) h) ∙ same in other cc
+pub string_refused : (bytes text : List ℕ) (at : ℕ) → at + (1 + length text) ≤ length bytes → (get_or bytes at 0 ≡ length text → ⊥) → short_string_at bytes at (length text) ≡ short_string text → ⊥
+string_refused bytes text at h other same = let both = sym (short_string_at-parts bytes at (length text) h) ∙ same in other cc
 
 -- the part that comes next, and what is left behind it
 peel : (bytes part rest : List ℕ) (i j : ℕ) → drop i bytes ≡ part ++ rest → j ≡ i + length part → (slice_range bytes i j ≡ part) × (drop j bytes ≡ rest)

@@ -6,8 +6,8 @@ use Rattle.std.proofs.lemmas.Nat.{be_bytes_4, be_bytes_8, from_be_bytes-to_be_by
 use Rattle.std.proofs.lemmas.List.{take_at, length-append}
 use Rattle.codec_frame.specs.Bytes.{AreBytes}
 use Rattle.codec_frame.specs.Division.{crc_of}
-use Rattle.codec_frame.specs.Frame.{header_magic, footer_magic, Wanted, IsFramed, header, index_header, with_footer, framed, string, header_length}
-use Rattle.codec_frame.specs.Checking.{HasHeader, HasFooter, u32_at, u64_at, version_place, id_place}
+use Rattle.codec_frame.specs.Frame.{header_magic, footer_magic, Wanted, IsFramed, header, index_header, with_footer, framed, short_string, header_length}
+use Rattle.codec_frame.specs.Checking.{HasHeader, HasFooter, be32_at, be64_at, version_place, id_place}
 use Rattle.codec_frame.proofs.ByteLaws.{AreBytes-front, AreBytes-slice_range, length-slice_range}
 use Rattle.codec_frame.proofs.Remainder.{crc_of-lt}
 use Rattle.codec_frame.proofs.Fields.{in_order, in_order-left, FrameLengths, AreFields, fields_of, in_fields}
@@ -18,12 +18,12 @@ covered name version id suffix body = ((index_header name version id suffix ++ b
 
 abbrev fields : (name : List ℕ) (version : ℕ) (id suffix body checksum : List ℕ) → List ℕ
 fields name version id suffix body checksum =
-    in_order (to_be_bytes w32 header_magic) (string name) (to_be_bytes w32 version) id (string suffix) body (to_be_bytes w32 footer_magic) (to_be_bytes w32 0) checksum
+    in_order (to_be_bytes w32 header_magic) (short_string name) (to_be_bytes w32 version) id (short_string suffix) body (to_be_bytes w32 footer_magic) (to_be_bytes w32 0) checksum
 
 covered-in_order : (name : List ℕ) (version : ℕ) (id suffix body checksum : List ℕ) → covered name version id suffix body ++ checksum ≡ fields name version id suffix body checksum
 unfolding index_header header
 covered-in_order name version id suffix body checksum =
-    in_order-left (to_be_bytes w32 header_magic) (string name) (to_be_bytes w32 version) id (string suffix) body (to_be_bytes w32 footer_magic) (to_be_bytes w32 0) checksum
+    in_order-left (to_be_bytes w32 header_magic) (short_string name) (to_be_bytes w32 version) id (short_string suffix) body (to_be_bytes w32 footer_magic) (to_be_bytes w32 0) checksum
 
 framed-parts : (name : List ℕ) (version : ℕ) (id suffix body : List ℕ)
     → framed name version id suffix body ≡ covered name version id suffix body ++ to_be_bytes w64 (crc_of (covered name version id suffix body))
@@ -35,7 +35,7 @@ abbrev seal : (want : Wanted) (version : ℕ) (id body : List ℕ) → List ℕ
 seal want version id body = to_be_bytes w64 (crc_of (covered want.name version id want.suffix body))
 
 lengths : (want : Wanted) (version : ℕ) (id checksum : List ℕ) → length id ≡ 16 → length checksum ≡ 8
-    → FrameLengths (length want.name) (length want.suffix) (to_be_bytes w32 header_magic) (string want.name) (to_be_bytes w32 version) id (string want.suffix) (to_be_bytes w32 footer_magic) (to_be_bytes w32 0) checksum
+    → FrameLengths (length want.name) (length want.suffix) (to_be_bytes w32 header_magic) (short_string want.name) (to_be_bytes w32 version) id (short_string want.suffix) (to_be_bytes w32 footer_magic) (to_be_bytes w32 0) checksum
 lengths want version id checksum li lc = record { magic = refl; name_length = omega arith; version = refl; id = li; suffix_length = omega arith; footer = refl; algorithm = refl; checksum = lc }
 
 whole-in_order : (want : Wanted) (version : ℕ) (id body bytes : List ℕ) → IsFramed want version id body bytes → bytes ≡ fields want.name version id want.suffix body (seal want version id body)
@@ -43,7 +43,7 @@ whole-in_order want version id body bytes f =
     f.whole ∙ framed-parts want.name version id want.suffix body ∙ covered-in_order want.name version id want.suffix body (seal want version id body)
 
 framed-fields : (want : Wanted) (version : ℕ) (id body bytes : List ℕ) → IsFramed want version id body bytes
-    → AreFields (length want.name) (length want.suffix) bytes (to_be_bytes w32 header_magic) (string want.name) (to_be_bytes w32 version) id (string want.suffix) body (to_be_bytes w32 footer_magic) (to_be_bytes w32 0) (seal want version id body)
+    → AreFields (length want.name) (length want.suffix) bytes (to_be_bytes w32 header_magic) (short_string want.name) (to_be_bytes w32 version) id (short_string want.suffix) body (to_be_bytes w32 footer_magic) (to_be_bytes w32 0) (seal want version id body)
 framed-fields want version id body bytes f =
     fields_of (length want.name) (length want.suffix) bytes _ _ _ _ _ _ _ _ _ (lengths want version id (seal want version id body) f.id_length refl) (whole-in_order want version id body bytes f)
 
@@ -89,11 +89,11 @@ framed_footer want version id body bytes fits f =
     }
 
 -- four bytes that read as a number are its bytes
-four_bytes : (bytes : List ℕ) (at n : ℕ) → AreBytes bytes → at + 4 ≤ length bytes → u32_at bytes at ≡ n → slice_range bytes at (at + 4) ≡ to_be_bytes w32 n
+four_bytes : (bytes : List ℕ) (at n : ℕ) → AreBytes bytes → at + 4 ≤ length bytes → be32_at bytes at ≡ n → slice_range bytes at (at + 4) ≡ to_be_bytes w32 n
 four_bytes bytes at n fits h e =
     sym (be_bytes_4 (slice_range bytes at (at + 4)) n (length-slice_range bytes at 4 h) (AreBytes-slice_range bytes at (at + 4) fits) (sym e))
 
-eight_bytes : (bytes : List ℕ) (at n : ℕ) → AreBytes bytes → at + 8 ≤ length bytes → u64_at bytes at ≡ n → slice_range bytes at (at + 8) ≡ to_be_bytes w64 n
+eight_bytes : (bytes : List ℕ) (at n : ℕ) → AreBytes bytes → at + 8 ≤ length bytes → be64_at bytes at ≡ n → slice_range bytes at (at + 8) ≡ to_be_bytes w64 n
 eight_bytes bytes at n fits h e =
     sym (be_bytes_8 (slice_range bytes at (at + 8)) n (length-slice_range bytes at 8 h) (AreBytes-slice_range bytes at (at + 8) fits) (sym e))
 

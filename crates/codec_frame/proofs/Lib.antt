@@ -1,10 +1,10 @@
-pub mod Steps
-pub mod Remainder
-pub mod Slicing
-pub mod KnownSums
+mod Steps
+mod Remainder
+mod Slicing
+mod KnownSums
 pub mod ByteLaws
-pub mod Fields
+mod Fields
 pub mod FrameLaws
-pub mod FaultLaws
+mod FaultLaws
 pub mod CheckLaws
-pub mod Altered
+mod Altered

@@ -8,8 +8,9 @@ use Rattle.std.proofs.lemmas.List.{length-append, length-replicate, length-map}
 use Rattle.std.proofs.lemmas.List.Concat.{flat_map-cons}
 use Rattle.codec_frame.specs.Bytes.{AreBytes}
 use Rattle.codec_frame.specs.Register.{step, steps, taken_in}
-use Rattle.codec_frame.specs.Division.{low_bits, invert_first, xor, plus, scaled, divisor_below, divisor, times_divisor, IsRemainder, divided, dividend, bit, number, IsCrc, crc_of}
-use Rattle.codec_frame.proofs.Steps.{step-xor, steps-xor, steps-zero, step-double, steps-shifted, steps-add, AreBytes-rest, taken_in-lt}
+use Rattle.codec_frame.specs.Division.{low_bits, invert_first, xor, plus, scaled, divisor_below, divisor, times_divisor, IsRemainder, divided, dividend, bit, bits_value, IsCrc, crc_of}
+use Rattle.codec_frame.proofs.Steps.{step-xor, steps-xor, steps-zero, step-double, steps-shifted, steps-add, taken_in-lt}
+use Rattle.codec_frame.proofs.ByteLaws.{AreBytes-rest}
 
 bit-xor : (a b : Bool) → bit (xor a b) ≡ bit_xor (bit a) (bit b)
 bit-xor true true = refl
@@ -25,26 +26,26 @@ bit-lt : (b : Bool) → bit b < 2
 bit-lt true = omega arith
 bit-lt false = omega arith
 
-number-plus : (p q : List Bool) → number (plus p q) ≡ bit_xor (number p) (number q)
-number-plus [] q = refl
-number-plus (a ∷ p) [] = sym (xor_zero_r (number (a ∷ p)))
-number-plus (a ∷ p) (b ∷ q) = rw (number-plus p q, bit-xor a b) (sym (xor_block 1 (number p) (number q) (bit a) (bit b) (bit-lt a) (bit-lt b)))
+bits_value-plus : (p q : List Bool) → bits_value (plus p q) ≡ bit_xor (bits_value p) (bits_value q)
+bits_value-plus [] q = refl
+bits_value-plus (a ∷ p) [] = sym (xor_zero_r (bits_value (a ∷ p)))
+bits_value-plus (a ∷ p) (b ∷ q) = rw (bits_value-plus p q, bit-xor a b) (sym (xor_block 1 (bits_value p) (bits_value q) (bit a) (bit b) (bit-lt a) (bit-lt b)))
 
-number-append : (p q : List Bool) → number (p ++ q) ≡ number p + number q * 2 ^ length p
-number-append [] q = omega arith
-number-append (b ∷ p) q = rw (number-append p q, pow-suc) (omega arith)
+bits_value-append : (p q : List Bool) → bits_value (p ++ q) ≡ bits_value p + bits_value q * 2 ^ length p
+bits_value-append [] q = omega arith
+bits_value-append (b ∷ p) q = rw (bits_value-append p q, pow-suc) (omega arith)
 
-number-zeros : (n : ℕ) → number (replicate n false) ≡ 0
-number-zeros zero = refl
-number-zeros (suc n) = rw (number-zeros n) refl
+bits_value-zeros : (n : ℕ) → bits_value (replicate n false) ≡ 0
+bits_value-zeros zero = refl
+bits_value-zeros (suc n) = rw (bits_value-zeros n) refl
 
-number-none : (p : List Bool) → number (map (λ _. false) p) ≡ 0
-number-none [] = refl
-number-none (b ∷ p) = rw (number-none p) refl
+bits_value-none : (p : List Bool) → bits_value (map (λ _. false) p) ≡ 0
+bits_value-none [] = refl
+bits_value-none (b ∷ p) = rw (bits_value-none p) refl
 
-number-scaled : (b : Bool) (p : List Bool) → number (scaled b p) ≡ bit b * number p
-number-scaled true p = omega arith
-number-scaled false p = number-none p ∙ omega arith
+bits_value-scaled : (b : Bool) (p : List Bool) → bits_value (scaled b p) ≡ bit b * bits_value p
+bits_value-scaled true p = omega arith
+bits_value-scaled false p = bits_value-none p ∙ omega arith
 
 length-plus : (p q : List Bool) → length (plus p q) ≡ max (length p) (length q)
 length-plus [] q = omega arith
@@ -62,37 +63,37 @@ length-times_divisor (b ∷ q) =
     length-plus (scaled b divisor ++ replicate (length q) false) (false ∷ times_divisor q) ∙ omega (arith, zeros, length-times_divisor q)
 
 -- what a coefficient of the quotient adds
-number-times_divisor : (b : Bool) (q : List Bool) → number (times_divisor (b ∷ q)) ≡ bit_xor (bit b * (0xedb88320 * 2 + 1)) (number (times_divisor q) * 2)
-number-times_divisor b q =
-    let first : number (scaled b divisor ++ replicate (length q) false) ≡ bit b * (0xedb88320 * 2 + 1) =
-    number-append (scaled b divisor) (replicate (length q) false) ∙ rw (number-scaled b divisor, number-zeros (length q)) (omega arith) in
-    number-plus (scaled b divisor ++ replicate (length q) false) (false ∷ times_divisor q) ∙ rw first (ap (bit_xor (bit b * (0xedb88320 * 2 + 1))) (let e : number (times_divisor q) * 2 + 0 ≡ number (times_divisor q) * 2 = omega arith in e))
+bits_value-times_divisor : (b : Bool) (q : List Bool) → bits_value (times_divisor (b ∷ q)) ≡ bit_xor (bit b * (0xedb88320 * 2 + 1)) (bits_value (times_divisor q) * 2)
+bits_value-times_divisor b q =
+    let first : bits_value (scaled b divisor ++ replicate (length q) false) ≡ bit b * (0xedb88320 * 2 + 1) =
+    bits_value-append (scaled b divisor) (replicate (length q) false) ∙ rw (bits_value-scaled b divisor, bits_value-zeros (length q)) (omega arith) in
+    bits_value-plus (scaled b divisor ++ replicate (length q) false) (false ∷ times_divisor q) ∙ rw first (ap (bit_xor (bit b * (0xedb88320 * 2 + 1))) (let e : bits_value (times_divisor q) * 2 + 0 ≡ bits_value (times_divisor q) * 2 = omega arith in e))
 
 step-divisor : (b : Bool) → step (bit b * (0xedb88320 * 2 + 1)) ≡ 0
 unfolding step
 step-divisor true = refl
 step-divisor false = refl
 
-steps-times_divisor : (q : List Bool) → steps (length q) (number (times_divisor q)) ≡ 0
+steps-times_divisor : (q : List Bool) → steps (length q) (bits_value (times_divisor q)) ≡ 0
 unfolding steps
 steps-times_divisor [] = refl
 steps-times_divisor (b ∷ q) =
-    let one : step (number (times_divisor (b ∷ q))) ≡ number (times_divisor q) =
-    ap step (number-times_divisor b q) ∙ step-xor (bit b * (0xedb88320 * 2 + 1)) (number (times_divisor q) * 2) ∙ rw (step-divisor b, step-double (number (times_divisor q))) refl in
+    let one : step (bits_value (times_divisor (b ∷ q))) ≡ bits_value (times_divisor q) =
+    ap step (bits_value-times_divisor b q) ∙ step-xor (bit b * (0xedb88320 * 2 + 1)) (bits_value (times_divisor q) * 2) ∙ rw (step-divisor b, step-double (bits_value (times_divisor q))) refl in
     ap (steps (length q)) one ∙ steps-times_divisor q
 
-number-zeros_before : (n : ℕ) (r : List Bool) → number (replicate n false ++ r) ≡ number r * 2 ^ n
-number-zeros_before n r = number-append (replicate n false) r ∙ rw (number-zeros n, length-replicate n false) (omega arith)
+bits_value-zeros_before : (n : ℕ) (r : List Bool) → bits_value (replicate n false ++ r) ≡ bits_value r * 2 ^ n
+bits_value-zeros_before n r = bits_value-append (replicate n false) r ∙ rw (bits_value-zeros n, length-replicate n false) (omega arith)
 
 -- the remainder is what the steps leave
-pub number-remainder : (p r : List Bool) → IsRemainder p r → number r ≡ steps (length p - 32) (number p)
-number-remainder p r d =
+pub bits_value-remainder : (p r : List Bool) → IsRemainder p r → bits_value r ≡ steps (length p - 32) (bits_value p)
+bits_value-remainder p r d =
     let n : ℕ = length d.quotient in
     let len : length p ≡ 32 + n = ap length d.whole ∙ length-plus (times_divisor d.quotient) (replicate n false ++ r) ∙ omega (arith, length-times_divisor d.quotient, length-append (replicate n false) r, length-replicate n false, d.below) in
     let count : length p - 32 ≡ n = omega arith in
-    let parts : number p ≡ bit_xor (number (times_divisor d.quotient)) (number r * 2 ^ n) = ap number d.whole ∙ number-plus (times_divisor d.quotient) (replicate n false ++ r) ∙ ap (bit_xor (number (times_divisor d.quotient))) (number-zeros_before n r) in
-    let left : steps n (number p) ≡ number r = ap (steps n) parts ∙ steps-xor n (number (times_divisor d.quotient)) (number r * 2 ^ n) ∙ rw (steps-times_divisor d.quotient, steps-shifted n (number r)) refl in
-    sym (ap (λ (k : ℕ). steps k (number p)) count ∙ left)
+    let parts : bits_value p ≡ bit_xor (bits_value (times_divisor d.quotient)) (bits_value r * 2 ^ n) = ap bits_value d.whole ∙ bits_value-plus (times_divisor d.quotient) (replicate n false ++ r) ∙ ap (bit_xor (bits_value (times_divisor d.quotient))) (bits_value-zeros_before n r) in
+    let left : steps n (bits_value p) ≡ bits_value r = ap (steps n) parts ∙ steps-xor n (bits_value (times_divisor d.quotient)) (bits_value r * 2 ^ n) ∙ rw (steps-times_divisor d.quotient, steps-shifted n (bits_value r)) refl in
+    sym (ap (λ (k : ℕ). steps k (bits_value p)) count ∙ left)
 
 -- ---- the other way: the steps give a quotient
 
@@ -123,14 +124,14 @@ step_back v =
     let block : bit_xor (g * 2 + v % 2) (x * 2 + 0) ≡ bit_xor g x * 2 + bit_xor (v % 2) 0 = xor_block 1 g x (v % 2) 0 (omega arith) (omega arith) in
     rw (left, right) (block ∙ rw (undo g (v / 2), xor_zero_r (v % 2)) (omega arith))
 
-number-divided : (n v : ℕ) → bit_xor (number (times_divisor (quotient_of n v))) (steps n v * 2 ^ n) ≡ v
+bits_value-divided : (n v : ℕ) → bit_xor (bits_value (times_divisor (quotient_of n v))) (steps n v * 2 ^ n) ≡ v
 unfolding steps
-number-divided zero v = omega arith
-number-divided (suc n) v =
+bits_value-divided zero v = omega arith
+bits_value-divided (suc n) v =
     let q : List Bool = quotient_of n (step v) in
-    let t : ℕ = number (times_divisor q) in
+    let t : ℕ = bits_value (times_divisor q) in
     let s : ℕ = steps n (step v) in
-    let ih : bit_xor t (s * 2 ^ n) ≡ step v = number-divided n (step v) in
+    let ih : bit_xor t (s * 2 ^ n) ≡ step v = bits_value-divided n (step v) in
     let doubled : bit_xor (t * 2 + 0) (s * 2 ^ n * 2 + 0) ≡ bit_xor t (s * 2 ^ n) * 2 + 0 = xor_block 1 t (s * 2 ^ n) 0 0 (omega arith) (omega arith) in
     let e1 : t * 2 ≡ t * 2 + 0 = omega arith in
     let e2 : s * 2 ^ suc n ≡ s * 2 ^ n * 2 + 0 = rw pow-suc (omega arith) in
@@ -138,14 +139,14 @@ number-divided (suc n) v =
     let both : bit_xor (t * 2) (s * 2 ^ suc n) ≡ step v * 2 = rw (e2, e1) (doubled ∙ e3) in
     let d : ℕ = bit (v % 2 == 1) * (0xedb88320 * 2 + 1) in
     let d-is : d ≡ v % 2 * (0xedb88320 * 2 + 1) = ap (λ (b : ℕ). b * (0xedb88320 * 2 + 1)) (bit-odd (v % 2) (omega arith)) in
-    ap (λ (x : ℕ). bit_xor x (s * 2 ^ suc n)) (number-times_divisor (v % 2 == 1) q)
+    ap (λ (x : ℕ). bit_xor x (s * 2 ^ suc n)) (bits_value-times_divisor (v % 2 == 1) q)
     ∙ xor_assoc d (t * 2) (s * 2 ^ suc n) ∙ ap (bit_xor d) both ∙ ap (λ (x : ℕ). bit_xor x (step v * 2)) d-is ∙ step_back v
 
-number-low_bits : (n v : ℕ) → v < 2 ^ n → number (low_bits n v) ≡ v
-number-low_bits zero v h = omega arith
-number-low_bits (suc n) v h =
+bits_value-low_bits : (n v : ℕ) → v < 2 ^ n → bits_value (low_bits n v) ≡ v
+bits_value-low_bits zero v h = omega arith
+bits_value-low_bits (suc n) v h =
     let below : v / 2 < 2 ^ n = omega (arith, pow-suc 2 n) in
-    rw (number-low_bits n (v / 2) below, bit-odd (v % 2) (omega arith)) (omega arith)
+    rw (bits_value-low_bits n (v / 2) below, bit-odd (v % 2) (omega arith)) (omega arith)
 
 length-low_bits : (n v : ℕ) → length (low_bits n v) ≡ n
 length-low_bits zero v = refl
@@ -157,35 +158,35 @@ same_bit true false m n e = absurd (omega arith)
 same_bit false true m n e = absurd (omega arith)
 same_bit false false m n e = (refl, omega arith)
 
-same_from_number : (p q : List Bool) → length p ≡ length q → number p ≡ number q → p ≡ q
+same_from_number : (p q : List Bool) → length p ≡ length q → bits_value p ≡ bits_value q → p ≡ q
 same_from_number [] [] len e = refl
 same_from_number [] (b ∷ q) len e = absurd (omega arith)
 same_from_number (a ∷ p) [] len e = absurd (omega arith)
 same_from_number (a ∷ p) (b ∷ q) len e =
-    let s = same_bit a b (number p) (number q) e in
+    let s = same_bit a b (bits_value p) (bits_value q) e in
     rw (s.0, same_from_number p q (omega arith) s.1) refl
 
-pub is_remainder : (n : ℕ) (p : List Bool) → length p ≡ 32 + n → steps n (number p) < 2 ^ 32 → IsRemainder p (low_bits 32 (steps n (number p)))
+pub is_remainder : (n : ℕ) (p : List Bool) → length p ≡ 32 + n → steps n (bits_value p) < 2 ^ 32 → IsRemainder p (low_bits 32 (steps n (bits_value p)))
 is_remainder n p len below =
-    let v : ℕ = number p in
+    let v : ℕ = bits_value p in
     let q : List Bool = quotient_of n v in
     let r : List Bool = low_bits 32 (steps n v) in
     let lr : length r ≡ 32 = length-low_bits 32 (steps n v) in
     let lq : length q ≡ n = length-quotient_of n v in
     let long : length (plus (times_divisor q) (replicate (length q) false ++ r)) ≡ length p =
     length-plus (times_divisor q) (replicate (length q) false ++ r) ∙ omega (arith, length-times_divisor q, length-append (replicate (length q) false) r, length-replicate (length q) false) in
-    let value : number (plus (times_divisor q) (replicate (length q) false ++ r)) ≡ v =
-    number-plus (times_divisor q) (replicate (length q) false ++ r) ∙ rw (number-zeros_before (length q) r, number-low_bits 32 (steps n v) below, lq) (number-divided n v) in
+    let value : bits_value (plus (times_divisor q) (replicate (length q) false ++ r)) ≡ v =
+    bits_value-plus (times_divisor q) (replicate (length q) false ++ r) ∙ rw (bits_value-zeros_before (length q) r, bits_value-low_bits 32 (steps n v) below, lq) (bits_value-divided n v) in
     record { quotient = q; whole = same_from_number p _ (sym long) (sym value); below = lr }
 
 -- ---- the bytes
 
-number-invert_first : (n : ℕ) (p : List Bool) → n ≤ length p → number (invert_first n p) ≡ bit_xor (2 ^ n - 1) (number p)
-number-invert_first zero p h = refl
-number-invert_first (suc n) [] h = absurd (omega arith)
-number-invert_first (suc n) (b ∷ p) h =
+bits_value-invert_first : (n : ℕ) (p : List Bool) → n ≤ length p → bits_value (invert_first n p) ≡ bit_xor (2 ^ n - 1) (bits_value p)
+bits_value-invert_first zero p h = refl
+bits_value-invert_first (suc n) [] h = absurd (omega arith)
+bits_value-invert_first (suc n) (b ∷ p) h =
     let ones : 2 ^ suc n - 1 ≡ (2 ^ n - 1) * 2 + 1 = omega (arith, pow-suc 2 n, pow_pos n) in
-    rw (ones, number-invert_first n p (omega arith), bit-not b) (sym (xor_block 1 (2 ^ n - 1) (number p) 1 (bit b) (omega arith) (bit-lt b)))
+    rw (ones, bits_value-invert_first n p (omega arith), bit-not b) (sym (xor_block 1 (2 ^ n - 1) (bits_value p) 1 (bit b) (omega arith) (bit-lt b)))
 
 length-invert_first : (n : ℕ) (p : List Bool) → length (invert_first n p) ≡ length p
 length-invert_first zero p = refl
@@ -200,13 +201,13 @@ bytes_number (b ∷ bytes) = bytes_number bytes * 2 ^ 8 + b
 abbrev bits_of : List ℕ → List Bool
 bits_of bytes = flat_map (low_bits 8) bytes ++ replicate 32 false
 
-number-bits_of : (bytes : List ℕ) → AreBytes bytes → number (bits_of bytes) ≡ bytes_number bytes
-number-bits_of [] fits = refl
-number-bits_of (b ∷ bytes) fits =
+bits_value-bits_of : (bytes : List ℕ) → AreBytes bytes → bits_value (bits_of bytes) ≡ bytes_number bytes
+bits_value-bits_of [] fits = refl
+bits_value-bits_of (b ∷ bytes) fits =
     let front : List Bool = low_bits 8 b in
     let back : List Bool = bits_of bytes in
     let e : bits_of (b ∷ bytes) ≡ front ++ back = ap (λ (p : List Bool). p ++ replicate 32 false) (flat_map-cons (low_bits 8) b bytes) ∙ append_assoc front (flat_map (low_bits 8) bytes) (replicate 32 false) in
-    ap number e ∙ number-append front back ∙ rw (number-bits_of bytes (AreBytes-rest b bytes fits), number-low_bits 8 b (fits 0)) (omega arith)
+    ap bits_value e ∙ bits_value-append front back ∙ rw (bits_value-bits_of bytes (AreBytes-rest b bytes fits), bits_value-low_bits 8 b (fits 0)) (omega arith)
 
 length-bits_of : (bytes : List ℕ) → length (bits_of bytes) ≡ 32 + 8 * length bytes
 length-bits_of [] = refl
@@ -231,30 +232,30 @@ taken_in-steps (b ∷ bytes) s fits =
     taken_in-steps bytes (steps 8 (bit_xor s b)) (AreBytes-rest b bytes fits)
     ∙ sym (ap (λ (k : ℕ). steps k (bit_xor s (n * 2 ^ 8 + b))) count ∙ steps-add 8 (8 * length bytes) (bit_xor s (n * 2 ^ 8 + b)) ∙ ap (steps (8 * length bytes)) front)
 
-number-dividend : (bytes : List ℕ) → AreBytes bytes → number (dividend bytes) ≡ bit_xor 0xffffffff (bytes_number bytes)
-number-dividend bytes fits =
+bits_value-dividend : (bytes : List ℕ) → AreBytes bytes → bits_value (dividend bytes) ≡ bit_xor 0xffffffff (bytes_number bytes)
+bits_value-dividend bytes fits =
     let enough : 32 ≤ length (bits_of bytes) = omega (arith, length-bits_of bytes) in
-    number-invert_first 32 (bits_of bytes) enough ∙ ap (bit_xor 0xffffffff) (number-bits_of bytes fits)
+    bits_value-invert_first 32 (bits_of bytes) enough ∙ ap (bit_xor 0xffffffff) (bits_value-bits_of bytes fits)
 
 length-dividend : (bytes : List ℕ) → length (dividend bytes) ≡ 32 + 8 * length bytes
 length-dividend bytes = length-invert_first 32 (bits_of bytes) ∙ length-bits_of bytes
 
-register_is : (bytes : List ℕ) → AreBytes bytes → steps (8 * length bytes) (number (dividend bytes)) ≡ taken_in 0xffffffff bytes
-register_is bytes fits = ap (steps (8 * length bytes)) (number-dividend bytes fits) ∙ sym (taken_in-steps bytes 0xffffffff fits)
+register_is : (bytes : List ℕ) → AreBytes bytes → steps (8 * length bytes) (bits_value (dividend bytes)) ≡ taken_in 0xffffffff bytes
+register_is bytes fits = ap (steps (8 * length bytes)) (bits_value-dividend bytes fits) ∙ sym (taken_in-steps bytes 0xffffffff fits)
 
 -- division by hand does the steps
-number-divided_by_hand : (n : ℕ) (p : List Bool) → number (divided n p) ≡ steps n (number p)
+bits_value-divided_by_hand : (n : ℕ) (p : List Bool) → bits_value (divided n p) ≡ steps n (bits_value p)
 unfolding steps step
-number-divided_by_hand zero p = refl
-number-divided_by_hand (suc n) [] = sym (steps-zero n)
-number-divided_by_hand (suc n) (b ∷ p) =
-    let v : ℕ = number p * 2 + bit b in
-    let half : v / 2 ≡ number p = omega (arith, bit-lt b) in
+bits_value-divided_by_hand zero p = refl
+bits_value-divided_by_hand (suc n) [] = sym (steps-zero n)
+bits_value-divided_by_hand (suc n) (b ∷ p) =
+    let v : ℕ = bits_value p * 2 + bit b in
+    let half : v / 2 ≡ bits_value p = omega (arith, bit-lt b) in
     let low : v % 2 ≡ bit b = omega (arith, bit-lt b) in
-    let one : number (plus (scaled b divisor_below) p) ≡ step v =
-    number-plus (scaled b divisor_below) p ∙ ap (λ (x : ℕ). bit_xor x (number p)) (number-scaled b divisor_below)
-    ∙ xor_comm (bit b * 0xedb88320) (number p) ∙ rw (half, low) refl in
-    number-divided_by_hand n (plus (scaled b divisor_below) p) ∙ ap (steps n) one
+    let one : bits_value (plus (scaled b divisor_below) p) ≡ step v =
+    bits_value-plus (scaled b divisor_below) p ∙ ap (λ (x : ℕ). bit_xor x (bits_value p)) (bits_value-scaled b divisor_below)
+    ∙ xor_comm (bit b * 0xedb88320) (bits_value p) ∙ rw (half, low) refl in
+    bits_value-divided_by_hand n (plus (scaled b divisor_below) p) ∙ ap (steps n) one
 
 length-divided : (n : ℕ) (p : List Bool) → 32 + n ≤ length p → 32 + n ≤ length (divided n p) + n
 length-divided zero p h = omega arith
@@ -269,27 +270,27 @@ unfolding crc_of
 crc_of-register bytes fits =
     let n : ℕ = 8 * length bytes in
     let enough : 32 + n ≤ length (divided n (dividend bytes)) + n = length-divided n (dividend bytes) (omega (arith, length-dividend bytes)) in
-    number-invert_first 32 (divided n (dividend bytes)) (omega arith)
-    ∙ ap (bit_xor 0xffffffff) (number-divided_by_hand n (dividend bytes) ∙ register_is bytes fits)
+    bits_value-invert_first 32 (divided n (dividend bytes)) (omega arith)
+    ∙ ap (bit_xor 0xffffffff) (bits_value-divided_by_hand n (dividend bytes) ∙ register_is bytes fits)
 
 -- the CRC-32 is the one that the division gives
 pub crc_is_remainder : (bytes : List ℕ) → AreBytes bytes → IsCrc bytes (crc_of bytes)
 crc_is_remainder bytes fits =
     let n : ℕ = 8 * length bytes in
-    let v : ℕ = number (dividend bytes) in
+    let v : ℕ = bits_value (dividend bytes) in
     let reg : steps n v ≡ taken_in 0xffffffff bytes = register_is bytes fits in
     let below : steps n v < 2 ^ 32 = rw reg (taken_in-lt bytes 0xffffffff fits (omega arith)) in
     let r : List Bool = low_bits 32 (steps n v) in
-    let value : number (invert_first 32 r) ≡ bit_xor 0xffffffff (taken_in 0xffffffff bytes) =
-    number-invert_first 32 r (omega (arith, length-low_bits 32 (steps n v))) ∙ ap (bit_xor 0xffffffff) (number-low_bits 32 (steps n v) below ∙ reg) in
+    let value : bits_value (invert_first 32 r) ≡ bit_xor 0xffffffff (taken_in 0xffffffff bytes) =
+    bits_value-invert_first 32 r (omega (arith, length-low_bits 32 (steps n v))) ∙ ap (bit_xor 0xffffffff) (bits_value-low_bits 32 (steps n v) below ∙ reg) in
     (r, is_remainder n (dividend bytes) (length-dividend bytes) below, crc_of-register bytes fits ∙ sym value)
 
 pub crc_is_the_only : (bytes : List ℕ) (c : ℕ) → AreBytes bytes → IsCrc bytes c → c ≡ crc_of bytes
 crc_is_the_only bytes c fits d =
     let r : List Bool = d.0 in
     let count : length (dividend bytes) - 32 ≡ 8 * length bytes = omega (arith, length-dividend bytes) in
-    let left : number r ≡ taken_in 0xffffffff bytes = number-remainder (dividend bytes) r d.1 ∙ ap (λ (k : ℕ). steps k (number (dividend bytes))) count ∙ register_is bytes fits in
-    d.2 ∙ number-invert_first 32 r (omega (arith, d.1.below)) ∙ ap (bit_xor 0xffffffff) left ∙ sym (crc_of-register bytes fits)
+    let left : bits_value r ≡ taken_in 0xffffffff bytes = bits_value-remainder (dividend bytes) r d.1 ∙ ap (λ (k : ℕ). steps k (bits_value (dividend bytes))) count ∙ register_is bytes fits in
+    d.2 ∙ bits_value-invert_first 32 r (omega (arith, d.1.below)) ∙ ap (bit_xor 0xffffffff) left ∙ sym (crc_of-register bytes fits)
 
 pub crc_of-lt : (bytes : List ℕ) → AreBytes bytes → crc_of bytes < 2 ^ 32
 crc_of-lt bytes fits = rw (crc_of-register bytes fits) (xor_lt 32 0xffffffff (taken_in 0xffffffff bytes) (omega arith) (taken_in-lt bytes 0xffffffff fits (omega arith)))

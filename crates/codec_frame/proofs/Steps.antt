@@ -5,6 +5,7 @@ use Rattle.std.proofs.lemmas.List.{drop_all, take-append-drop}
 use Rattle.std.proofs.lemmas.Nat.{xor_comm, xor_lt, xor_shr, xor_mod}
 use Rattle.codec_frame.specs.Register.{step, steps, taken_in}
 use Rattle.codec_frame.specs.Bytes.{AreBytes}
+use Rattle.codec_frame.proofs.ByteLaws.{AreBytes-rest}
 
 -- two sums of four
 pub exchange : (a b c d : ℕ) → bit_xor (bit_xor a b) (bit_xor c d) ≡ bit_xor (bit_xor a c) (bit_xor b d)
@@ -93,9 +94,6 @@ pub xor_back : (a b c : ℕ) → bit_xor a b ≡ bit_xor a c → b ≡ c
 xor_back a b c e =
     let undo : (x : ℕ) → bit_xor a (bit_xor a x) ≡ x = λ x. sym (xor_assoc a a x) ∙ ap (λ (y : ℕ). bit_xor y x) (xor_self a) ∙ xor_zero_l x in
     sym (undo b) ∙ ap (bit_xor a) e ∙ undo c
-
-pub AreBytes-rest : (b : ℕ) (bytes : List ℕ) → AreBytes (b ∷ bytes) → AreBytes bytes
-AreBytes-rest b bytes h i = h (suc i)
 
 pub take_in-lt : (s b : ℕ) → s < 2 ^ 32 → b < 256 → steps 8 (bit_xor s b) < 2 ^ 32
 take_in-lt s b hs hb = steps-lt 8 (bit_xor s b) (xor_lt 32 s b hs (omega arith))

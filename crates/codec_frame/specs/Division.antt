@@ -71,14 +71,14 @@ bit true = 1
 bit false = 0
 
 -- the number whose bits are these, lowest first
-abbrev pub number : List Bool → ℕ
-number [] = 0
-number (b ∷ p) = number p * 2 + bit b
+abbrev pub bits_value : List Bool → ℕ
+bits_value [] = 0
+bits_value (b ∷ p) = bits_value p * 2 + bit b
 
 -- c is the CRC-32 of the bytes: the remainder, inverted, its coefficient of x ^ 31 being bit 0
 abbrev pub IsCrc : List ℕ → ℕ → Type 0
-IsCrc bytes c = (r : List Bool) × IsRemainder (dividend bytes) r × (c ≡ number (invert_first 32 r))
+IsCrc bytes c = (r : List Bool) × IsRemainder (dividend bytes) r × (c ≡ bits_value (invert_first 32 r))
 
 -- the CRC-32 of the bytes
 unfoldable pub crc_of : List ℕ → ℕ
-crc_of bytes = number (invert_first 32 (divided (8 * length bytes) (dividend bytes)))
+crc_of bytes = bits_value (invert_first 32 (divided (8 * length bytes) (dividend bytes)))

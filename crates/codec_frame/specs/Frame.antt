@@ -14,16 +14,16 @@ abbrev pub footer_magic : ℕ
 footer_magic = 0xc02893e8
 
 -- the length in one byte, then the text
-abbrev pub string : List ℕ → List ℕ
-string text = length text ∷ text
+abbrev pub short_string : List ℕ → List ℕ
+short_string text = length text ∷ text
 
 -- the magic, the name and the version
 unfoldable pub header : (name : List ℕ) (version : ℕ) → List ℕ
-header name version = to_be_bytes w32 header_magic ++ string name ++ to_be_bytes w32 version
+header name version = to_be_bytes w32 header_magic ++ short_string name ++ to_be_bytes w32 version
 
 -- a header, the id and the suffix
 unfoldable pub index_header : (name : List ℕ) (version : ℕ) (id suffix : List ℕ) → List ℕ
-index_header name version id suffix = header name version ++ id ++ string suffix
+index_header name version id suffix = header name version ++ id ++ short_string suffix
 
 -- the bytes, then a footer: its magic, the algorithm 0, and the CRC-32 of all before it in eight bytes
 unfoldable pub with_footer : List ℕ → List ℕ

@@ -1,21 +1,19 @@
-ghost use Rattle.std.specs.Prelude.{◌≡◌, ℕ, ◌+◌, ◌^◌, ◌<◌, ◌≤◌, ◌↔◌, List, length, IsTrue, IfSome, IfOk, IfErr, OnOk, IsOkAnd, slice_range};
-ghost use Rattle.codec_frame.specs.Checking.{NoFaultBelow, IsFirstFault, HasHeader, HasFooter, u32_at, string_at};
-ghost use Rattle.codec_frame.specs.Frame.{IsFrame, IsFramed, header_length, string, wanted};
+//! Whether bytes are framed as wanted.
+
+ghost use Rattle.std.specs.Prelude.{◌≡◌, ◌+◌, ◌^◌, ◌<◌, ◌≤◌, ◌↔◌, length, IsTrue, IfSome, IfOk, IfErr, OnOk, slice_range};
+ghost use Rattle.codec_frame.specs.Checking.{NoFaultBelow, IsChecked, IsFirstFault, HasHeader, HasFooter, HasShortString, be32_at};
+ghost use Rattle.codec_frame.specs.Frame.{header_length, wanted};
 
 use crate::crc::crc32;
 use crate::frame::{FOOTER_LENGTH, FOOTER_MAGIC, FrameFault, Framed, HEADER_MAGIC, Want};
 
-/// Whether the bytes are a file that is framed as wanted: the frame, or the first fault.
+/// Whether the bytes are a file that is framed as wanted: the frame, or the first fault. A file that
+/// was written so is accepted, with its version, its id and its body.
 pub fn check(bytes: &[u8], want: &Want) -> Result<Framed, FrameFault>
     requires name { length want.now.name.now < 128 }
     requires suffix { length want.now.suffix.now < 256 }
 
-    ensures frame { (frame : Framed) → (result ≡ Ok frame) ↔ IsFrame (wanted want.now) bytes.now frame }
-    ensures fault { (fault : FrameFault) → (result ≡ Err fault) ↔ IsFirstFault (wanted want.now) bytes.now fault }
-
-    // A file that was written so is accepted, with this version, this id and this body.
-    ensures written { (version : ℕ) (id body : List ℕ) → IsFramed (wanted want.now) version id body bytes.now
-        → IsOkAnd result (λ frame. (frame.version ≡ version) × (frame.id ≡ id) × (slice_range bytes.now frame.start frame.end ≡ body)) }
+    ensures { IsChecked (wanted want.now) bytes.now result }
 {
     let start = 26 + want.name.len() + want.suffix.len();
     if bytes.len() < start + FOOTER_LENGTH {
@@ -97,7 +95,7 @@ fn is_wanted(id: &[u8; 16], wanted: &Option<[u8; 16]>) -> bool
 // Whether the text stands at a place, with its length before it in one byte.
 fn has_string(bytes: &[u8], at: usize, text: &[u8]) -> bool
     requires { at + (1 + length text.now) ≤ length bytes.now }
-    ensures { IsTrue result ↔ (string_at bytes.now at (length text.now) ≡ string text.now) }
+    ensures { IsTrue result ↔ HasShortString bytes.now at text.now }
 {
     bytes[at] as usize == text.len() && &bytes[at + 1..at + 1 + text.len()] == text
 }
@@ -105,7 +103,7 @@ fn has_string(bytes: &[u8], at: usize, text: &[u8]) -> bool
 // The number in the four bytes from a place on.
 fn u32_of(bytes: &[u8], at: usize) -> u32
     requires { at + 4 ≤ length bytes.now }
-    ensures { result ≡ u32_at bytes.now at }
+    ensures { result ≡ be32_at bytes.now at }
 {
     u32::from_be_bytes(array_of(bytes, at))
 }

@@ -1,3 +1,5 @@
+//! CRC-32, sixteen bytes a turn.
+
 ghost use Rattle.std.specs.Prelude.{◌≡◌, ◌+◌, ◌*◌, ◌%◌, ◌<◌, ℕ, bit_xor};
 ghost use Rattle.codec_frame.specs.Division.{IsCrc, crc_of};
 ghost use Rattle.codec_frame.specs.Register.{steps, taken_in};

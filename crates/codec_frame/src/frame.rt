@@ -1,3 +1,5 @@
+//! The types of frames and of their faults, and the numbers that every frame has.
+
 ghost use Rattle.std.specs.Prelude.{◌≡◌};
 ghost use Rattle.codec_frame.specs.declared.frame.FileFault.TheVariants.{Frame};
 

@@ -1,3 +1,5 @@
+//! Sums and files from outside, and the first fault of altered ones.
+
 ghost use Rattle.std.specs.Prelude.{◌≡◌, length};
 
 use super::*;

@@ -1,3 +1,5 @@
+//! What writes the header and the footer of a frame.
+
 ghost use Rattle.std.specs.Prelude.{◌≡◌, ◌+◌, ◌<◌, ◌≤◌, ◌++◌, length, OnOk, OnErr, vec_len, vec_capacity};
 ghost use Rattle.codec_frame.specs.Frame.{header, index_header, with_footer};
 
@@ -27,7 +29,8 @@ pub fn write_index_header(
 ) -> Result<(), AllocError>
     requires name { length name.now < 128 }
     requires suffix { length suffix.now < 256 }
-    ensures ok { OnOk result (out.new.items ≡ out.old.items ++ index_header name.now version id.now suffix.now) }
+    ensures ok { OnOk result
+        (out.new.items ≡ out.old.items ++ index_header name.now version id.now suffix.now) }
     ensures err { OnErr result (out.new.items ≡ out.old.items) }
 {
     out.reserve(26 + name.len() + suffix.len())?;

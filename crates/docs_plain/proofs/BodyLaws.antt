@@ -1,9 +1,10 @@
 -- Which bytes are the body of documents.
-use Rattle.std.proofs.Common.{◌≡◌, ℕ, zero, suc, ◌+◌, ◌<◌, Bool, false, List, [], ◌∷◌, length, get_or, map, refl, sym, ap, subst, ◌∙◌, inl, inr, arith}
-use Rattle.std.specs.Prelude.{IsTrue, IfSome, slice_get}
+use Rattle.std.proofs.Common.{◌≡◌, ℕ, zero, suc, ◌+◌, ◌<◌, List, [], ◌∷◌, length, get_or, map, refl, sym, ap, subst, ◌∙◌, inl, inr, arith}
+use Rattle.std.specs.Prelude.{IfSome, slice_get}
 use Rattle.std.specs.List.{All}
 use Rattle.std.proofs.lemmas.Bool.{cases_lt}
 use Rattle.std.proofs.lemmas.List.{length-map}
+use Rattle.nrt_base.proofs.Plain.{cons_from}
 use Rattle.nrt_base.specs.declared.doc.Doc.{Doc}
 use Rattle.body_forms.specs.ItemTable.{IsItemTable, items_in}
 use Rattle.body_forms.proofs.TableTests.{items_in-is}
@@ -11,15 +12,9 @@ use Rattle.docs_plain.specs.Documents.{row, IsRow, SpellsDocuments}
 use Rattle.docs_plain.specs.Rows.{doc_in, docs_in, IsRowOfSome}
 use Rattle.docs_plain.proofs.RowLaws.{doc_in-is}
 
-doc_cells : (a b : Doc) (x y : List Doc) → a ≡ b → x ≡ y → a ∷ x ≡ b ∷ y
-doc_cells a b x y e f = cc
-
-item_cells : (a b : List ℕ) (x y : List (List ℕ)) → a ≡ b → x ≡ y → a ∷ x ≡ b ∷ y
-item_cells a b x y e f = cc
-
 docs_back : (docs : List Doc) → All IsRow docs → map doc_in (map row docs) ≡ docs
 docs_back [] h = refl
-docs_back (doc ∷ docs) h = doc_cells _ _ _ _ (doc_in-is (row doc) doc (h 0 doc (omega arith)) refl) (docs_back docs (λ k d lt. h (suc k) d (omega arith)))
+docs_back (doc ∷ docs) h = cons_from _ _ _ _ (doc_in-is (row doc) doc (h 0 doc (omega arith)) refl) (docs_back docs (λ k d lt. h (suc k) d (omega arith)))
 
 -- a body is read as the documents that it spells
 pub docs_in-is : (body : List ℕ) (docs : List Doc) → SpellsDocuments body docs → docs_in body ≡ docs
@@ -50,7 +45,7 @@ spelled_back : (items : List (List ℕ)) → ((i : ℕ) → i < length items →
 spelled_back [] h = refl
 spelled_back (item ∷ items) h =
     let f = h 0 (omega arith) in
-    item_cells _ _ _ _ (ap row (doc_in-is item f.0 f.1 f.2) ∙ sym f.2) (spelled_back items (λ i g. h (suc i) (omega arith)))
+    cons_from _ _ _ _ (ap row (doc_in-is item f.0 f.1 f.2) ∙ sym f.2) (spelled_back items (λ i g. h (suc i) (omega arith)))
 
 rows_fit : (items : List (List ℕ)) → ((i : ℕ) → i < length items → IsRowOfSome (get_or items i [])) → All IsRow (map doc_in items)
 rows_fit [] h k d lt = absurd (omega arith)
@@ -85,12 +80,6 @@ row_in body x i h =
 
 pub some_in : (body : List ℕ) → IsBody body → 0 < length (items_in body)
 some_in body x = omega (arith, ap length (items_in-is body (map row x.0) x.1.table), length-map x.0 row, x.1.some)
-
-pub never : (X : Type 0) → (X → ⊥) → (IsTrue false → X) × (X → IsTrue false)
-never X no_x = (λ h. absurd cc, λ x. absurd (no_x x))
-
-pub false_never : (b : Bool) → b ≡ false → IsTrue b → ⊥
-false_never b e h = let bad = sym e ∙ h in cc
 
 -- ---- the rows of a body
 

@@ -1,4 +1,4 @@
-pub mod RowLaws
-pub mod BodyLaws
+mod RowLaws
+mod BodyLaws
 pub mod FileLaws
-pub mod WritingLaws
+mod WritingLaws

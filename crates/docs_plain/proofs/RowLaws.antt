@@ -1,34 +1,19 @@
 -- Rows of stored documents, read and written.
-use Rattle.std.proofs.Common.{◌≡◌, ℕ, ◌+◌, ◌^◌, ◌<◌, ◌≤◌, Bool, true, false, List, length, Some, None, refl, sym, ap, ◌∙◌, arith}
-use Rattle.std.specs.Prelude.{IsTrue, ◌&&◌, nat_le}
-use Rattle.std.proofs.lemmas.Bool.Decides.{nat_tests}
-use Rattle.std.proofs.lemmas.List.{length-append}
+use Rattle.std.proofs.Common.{◌≡◌, ℕ, ◌^◌, ◌<◌, ◌≤◌, Bool, true, false, List, length, Some, None, sym, ap, ◌∙◌, arith}
+use Rattle.std.specs.Prelude.{IsTrue, ◌&&◌}
+use Rattle.std.proofs.lemmas.Bool.{and_parts, and_from, leb-true}
 use Rattle.nrt_base.specs.Bytes.{is_key, is_text}
-use Rattle.body_forms.specs.VInts.{vint}
-use Rattle.body_forms.proofs.VIntLemmas.{length_one}
 use Rattle.nrt_base.specs.declared.doc.Doc.{Doc}
-use Rattle.body_forms.specs.Format.{AreBytes, Read, IsFormat}
+use Rattle.codec_frame.specs.Bytes.{AreBytes}
+use Rattle.body_forms.specs.Format.{Read, IsFormat}
 use Rattle.body_forms.specs.Numbers.{string, string_at}
 use Rattle.body_forms.proofs.Formats.{read_is, tested_format}
 use Rattle.body_forms.proofs.Numerals.{string_format}
 use Rattle.docs_plain.specs.Documents.{row, IsRow}
 use Rattle.docs_plain.specs.Rows.{key_at, with_rest, doc_in, IsRowOfSome}
 
-both : (a b : Bool) → (a && b) ≡ true → (a ≡ true) × (b ≡ true)
-both true b h = (refl, h)
-both false b h = absurd cc
-
-and_true : (a b : Bool) → a ≡ true → b ≡ true → (a && b) ≡ true
-and_true a b h g = rw (h, g) refl
-
-at_most : (m n : ℕ) → nat_le m n ≡ true → m ≤ n
-at_most m n h = grind (arith, nat_tests)
-
 pub key_length : (key : List ℕ) → IsTrue (is_key key) → length key ≤ 64
-key_length key h = let p = both _ _ h in let q = both _ _ p.0 in at_most (length key) 64 q.1
-
-pub text_length : (text : List ℕ) → IsTrue (is_text text) → length text ≤ 4096
-text_length text h = let p = both _ _ h in at_most (length text) 4096 p.0
+key_length key h = let p = and_parts _ _ h in let q = and_parts _ _ p.0 in leb-true (length key) 64 q.1
 
 pub key_format : IsFormat string (λ key. IsTrue (is_key key) × (length key < 2 ^ 32)) key_at
 key_format = tested_format string (λ key. length key < 2 ^ 32) string_at is_key (λ key. IsTrue (is_key key)) string_format (λ key h. h) (λ key h. h)
@@ -55,15 +40,12 @@ no_row item r = (λ h. absurd cc, λ x. absurd (string_is_there item x r))
 pub row_test : (item key text : List ℕ) (b : Bool) → AreBytes item → ◌≡◌ {A = Read (List ℕ)} (Some (key, text)) (string_at item) → b ≡ (is_key key && is_text text)
     → (IsTrue b → IsRowOfSome item) × (IsRowOfSome item → IsTrue b)
 row_test item key text b fits r e = (
-  λ h. let p = both (is_key key) (is_text text) (sym e ∙ h) in
+  λ h. let p = and_parts (is_key key) (is_text text) (sym e ∙ h) in
       let t = string_format.takes item key text fits (sym r) in
       (record { key = key; text = text }, record { key = p.0; text = p.1 }, t.0.parts),
   λ x. let q = parts_are item key text x.0 x.1 x.2 r in
-      e ∙ and_true (is_key key) (is_text text) (ap is_key q.0 ∙ x.1.key) (ap is_text q.1 ∙ x.1.text),
+      e ∙ and_from (is_key key) (is_text text) (ap is_key q.0 ∙ x.1.key) (ap is_text q.1 ∙ x.1.text),
 )
-
-pub row-length : (doc : Doc) → length (row doc) ≡ length (vint (length doc.key)) + length doc.key + length doc.text
-row-length doc = length-append (string doc.key) doc.text ∙ ap (λ (n : ℕ). n + length doc.text) (length-append (vint (length doc.key)) doc.key)
 
 pub true_and : (a b c : Bool) → a ≡ true → c ≡ b → c ≡ (a && b)
 true_and true b c h e = e
@@ -72,16 +54,3 @@ true_and false b c h e = absurd cc
 pub false_and : (a b c : Bool) → a ≡ false → c ≡ false → c ≡ (a && b)
 false_and true b c h e = absurd cc
 false_and false b c h e = e
-
--- the sizes of a row's parts
-pub record Small (prefix : ℕ) (key text : List ℕ) : Type 0 where
-  pub one : prefix ≡ 1
-  pub key_fits : length key ≤ 64
-  pub text_fits : length text ≤ 4096
-
-pub small_row : (prefix : ℕ) (key text dkey dtext : List ℕ) → key ≡ dkey → text ≡ dtext → IsTrue (is_key dkey) → IsTrue (is_text dtext) → prefix ≡ length (vint (length key)) → Small prefix key text
-small_row prefix key text dkey dtext k t fk ft e =
-    let kl : length key ≡ length dkey = ap length k in
-    let tl : length text ≡ length dtext = ap length t in
-    let short : length key ≤ 64 = omega (arith, key_length dkey fk) in
-    record { one = e ∙ length_one 4 (length key) (omega arith); key_fits = short; text_fits = omega (arith, text_length dtext ft) }

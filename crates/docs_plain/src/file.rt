@@ -1,14 +1,17 @@
-ghost use Rattle.std.specs.Prelude.{◌≡◌, ◌↔◌, ◌<◌, IsTrue, IfSome, List, length, slice_get, Ok, Err};
-ghost use Rattle.nrt_base.specs.Bytes.{is_key};
+//! Files of stored documents, read.
+
+ghost use Rattle.std.specs.Prelude.{◌≡◌, ◌↔◌, ◌<◌, IsTrue, IfSome, List, length, slice_get};
+ghost use Rattle.std.specs.List.{All};
+ghost use Rattle.nrt_base.specs.Bytes.{is_key, is_text};
 ghost use Rattle.nrt_base.specs.declared.doc.Doc.{Doc};
-ghost use Rattle.codec_frame.specs.Frame.{wanted, IsFramedAs};
-ghost use Rattle.codec_frame.specs.Checking.{IsFirstFault};
-ghost use Rattle.docs_plain.specs.Documents.{SpellsDocuments, documents_wanted, IsDocumentsFile};
+ghost use Rattle.codec_frame.specs.Checking.{IsChecked};
+ghost use Rattle.body_forms.specs.File.{IsFileRead};
+ghost use Rattle.docs_plain.specs.Documents.{IsRow, SpellsDocuments, documents_wanted};
 
 use crate::row::{is_row, parts_of};
 use body_forms::{is_item_table, item_at, item_count};
 use bytes::Bytes;
-use codec_frame::{FileFault, FrameFault, Want, check};
+use codec_frame::{FileFault, FrameFault, Framed, Want, check};
 use nrt_base::{NoMemory, Share};
 use std::alloc::Global;
 use std::marker::Model;
@@ -19,17 +22,18 @@ pub const NAME: &[u8; 7] = b"NrtDocs";
 /// The version of the format.
 pub const VERSION: u32 = 1;
 
-// What is wanted of a file with this id.
-fn want(id: &[u8; 16]) -> Want<'static>
-    ensures { wanted result ≡ documents_wanted id.now }
+// The frame of a file with this id.
+fn frame_of(bytes: &Bytes, id: &[u8; 16]) -> Result<Framed, FrameFault>
+    ensures { IsChecked (documents_wanted id.now) bytes.now result }
 {
-    Want {
+    let want = Want {
         name: NAME,
         min: VERSION,
         max: VERSION,
         id: Some(*id),
         suffix: b"",
-    }
+    };
+    check(bytes.as_slice(), &want)
 }
 
 /// The stored documents of a segment, seen as the list of them. Keys and texts are lent from the shared bytes.
@@ -62,7 +66,8 @@ impl DocsFile {
 
     /// How many documents there are.
     pub fn len(&self) -> u32
-        ensures { result ≡ length self.now }
+        ensures count { result ≡ length self.now }
+        ensures rows { All IsRow self.now }
     {
         item_count(self.body())
     }
@@ -79,7 +84,8 @@ impl DocsFile {
     /// The text of the document in a row.
     pub fn text(&self, row: u32) -> &[u8]
         requires { row < length self.now }
-        ensures { IfSome (slice_get self.now row) (λ doc. result.now ≡ doc.text) }
+        ensures value { IfSome (slice_get self.now row) (λ doc. result.now ≡ doc.text) }
+        ensures kind { IfSome (slice_get self.now row) (λ doc. IsTrue (is_text doc.text)) }
     {
         parts_of(item_at(self.body(), row)).1
     }
@@ -117,11 +123,9 @@ fn is_documents(body: &[u8]) -> bool
 
 /// The documents of a file with this id, which is looked at whole.
 pub fn read_docs(bytes: Bytes, id: &[u8; 16]) -> Result<DocsFile, FileFault>
-    ensures value { (docs : List Doc) → (result ≡ Ok docs) ↔ IsDocumentsFile id.now docs bytes }
-    ensures frame { (fault : FrameFault) → (result ≡ Err (FileFault.Frame fault)) ↔ IsFirstFault (documents_wanted id.now) bytes fault }
-    ensures body { (result ≡ Err FileFault.Body) ↔ (IsFramedAs (documents_wanted id.now) bytes × ((docs : List Doc) → IsDocumentsFile id.now docs bytes → ⊥)) }
+    ensures { IsFileRead SpellsDocuments (documents_wanted id.now) id.now bytes result }
 {
-    let frame = check(bytes.as_slice(), &want(id))?;
+    let frame = frame_of(&bytes, id)?;
     if !is_documents(&bytes.as_slice()[frame.start..frame.end]) {
         return Err(FileFault::Body);
     }

@@ -50,13 +50,8 @@ fn file_of_one_document(rt: HostRuntime) -> Result<(), Fail> {
 fn first_faults_of_the_frame(rt: HostRuntime) -> Result<(), Fail> {
     let table = [
         (0, 0x3e, FrameFault::Magic),
-        (5, 0x4f, FrameFault::Codec),
-        (15, 0, FrameFault::TooOld(0)),
         (15, 2, FrameFault::TooNew(2)),
         (23, 2, FrameFault::Id),
-        (32, 1, FrameFault::Suffix),
-        (48, 0xc1, FrameFault::FooterMagic),
-        (55, 1, FrameFault::Algorithm),
         (
             63,
             0x52,
@@ -86,24 +81,14 @@ fn first_faults_of_the_frame(rt: HostRuntime) -> Result<(), Fail> {
 
 #[test]
 fn bodies_outside_the_grammar(rt: HostRuntime) -> Result<(), Fail> {
-    let bodies: [(&str, &[u8]); 12] = [
-        ("nothing", b""),
+    let bodies: [(&str, &[u8]); 5] = [
         ("no document", b"\0\0\0\0\0\0\0\0"),
-        ("an offset short", b"\0\0\0\x01\0\0\0\0\0\0\0"),
-        (
-            "a first offset of 1",
-            b"\0\0\0\x01\0\0\0\x01\0\0\0\x04q\x01ax",
-        ),
         (
             "a descending offset",
             b"\0\0\0\x02\0\0\0\0\0\0\0\x04\0\0\0\x03\x01axx",
         ),
-        ("an area too short", b"\0\0\0\x01\0\0\0\0\0\0\0\x03\x01a"),
         ("a trailing byte", b"\0\0\0\x01\0\0\0\0\0\0\0\x03\x01axx"),
         ("a longer vInt", b"\0\0\0\x01\0\0\0\0\0\0\0\x04\x81\0ax"),
-        ("no key", b"\0\0\0\x01\0\0\0\0\0\0\0\x02\0x"),
-        ("a key past the row", b"\0\0\0\x01\0\0\0\0\0\0\0\x03\x03ax"),
-        ("a space in a key", b"\0\0\0\x01\0\0\0\0\0\0\0\x03\x01 x"),
         ("a tab in a text", b"\0\0\0\x01\0\0\0\0\0\0\0\x03\x01a\t"),
     ];
     for (name, body) in bodies {
@@ -116,21 +101,6 @@ fn bodies_outside_the_grammar(rt: HostRuntime) -> Result<(), Fail> {
             Some(FileFault::Body),
             "{name}"
         );
-    }
-    Ok(())
-}
-
-#[test]
-fn prefixes_and_altered_bytes_are_refused(rt: HostRuntime) -> Result<(), Fail> {
-    assert_eq!(rt; fault_of(rt.alloc(), &FILE)?, None);
-    for at in 0..FILE.len() {
-        assert!(rt;
-            fault_of(rt.alloc(), &FILE[..at])?.is_some(),
-            "the first {at}"
-        );
-        let mut file = FILE;
-        file[at] ^= 1;
-        assert!(rt; fault_of(rt.alloc(), &file)?.is_some(), "byte {at}");
     }
     Ok(())
 }

@@ -1,5 +1,5 @@
 -- What is read of a name is what it was made of.
-use Rattle.std.proofs.Common.{◌≡◌, ℕ, ◌+◌, ◌^◌, ◌<◌, ◌≤◌, ◌⊎◌, ◌↔◌, inl, inr, Bool, true, false, cond, Option, Some, None, Result, Ok, Err, List, [], ◌∷◌, ◌++◌, ◌-◌, length, take, drop, length-drop, codes, refl, sym, ap, subst, ◌∙◌, arith}
+use Rattle.std.proofs.Common.{◌≡◌, ℕ, ◌+◌, ◌^◌, ◌<◌, ◌≤◌, ◌⊎◌, ◌↔◌, inl, inr, Bool, true, false, cond, Option, Some, None, Result, Ok, Err, List, ◌∷◌, ◌++◌, ◌-◌, length, take, drop, length-drop, codes, refl, sym, ap, subst, ◌∙◌, arith}
 use Rattle.std.specs.Option.{option_or}
 use Rattle.std.specs.Prelude.{IfSome}
 use Rattle.std.proofs.lemmas.List.{append_assoc, append_cancel_left, append_cancel_right, take_all}
@@ -8,7 +8,7 @@ use Rattle.file_names.specs.declared.composed.SegPart.TheVariants.{Docs, Post, I
 use Rattle.nrt_base.specs.declared.numbers.SegNo.{SegNo}
 use Rattle.file_names.specs.declared.radix.Base36Fault.{Base36Fault}
 use Rattle.file_names.specs.Base36.{base36_value, base36_of, SpellsBase36}
-use Rattle.file_names.specs.Names.{part_name_of, live_name_of, temp_name_of, is_unmarked, IsFileOfSegment, IsTemporaryOfSegment, is_commit_number}
+use Rattle.file_names.specs.Names.{part_name_of, live_name_of, is_unmarked, IsFileOfSegment, IsTemporaryOfSegment, is_commit_number}
 use Rattle.nrt_base.proofs.Plain.{ok_never_err, same_ok}
 use Rattle.file_names.proofs.Base36Lemmas.{base36_spells, only_spelling}
 use Rattle.file_names.proofs.NameLaws.{commit_name_only, commit_name_is_one, lacks_not, spelling_lacks, cut_last, part_name_apart, live_name_apart, part_name_not_live, temp_name_apart}

@@ -6,8 +6,8 @@ ghost use Rattle.file_names.specs.Base36.{base36_value, base36_of};
 ghost use Rattle.file_names.specs.Names.{is_unmarked, live_name_of, is_commit_number, number_of_commit, number_of_pending, IsFileOfSegment, IsTemporaryOfSegment};
 
 use crate::names::FileName;
-use nrt_base::SegNo;
 use crate::radix::read_base36;
+use nrt_base::SegNo;
 
 /// Commit numbers are below this.
 const COMMIT_NUMBERS: u64 = 1 << 62;

@@ -6,7 +6,7 @@ use Rattle.nrt_base.specs.declared.numbers.At.{At}
 use Rattle.nrt_base.specs.SegNumbers.{segment_generation, segment_place}
 use Rattle.file_names.specs.Names.{IsFileOfSegment, IsTemporaryOfSegment}
 use Rattle.documents.specs.declared.operation.Op.{Op}
-use Rattle.documents.specs.declared.operation.Op.TheVariants.{Put, Delete}
+use Rattle.documents.specs.declared.operation.Op.TheVariants.{Put, Delete, Drop}
 use Rattle.history_entries.specs.declared.entry.Event.{Event}
 use Rattle.history_entries.specs.declared.entry.Event.TheVariants.{Accepted, Publishing, Published, Promoted, Merging}
 use Rattle.history_entries.specs.declared.point.Point.{Point}
@@ -89,9 +89,11 @@ operations_of_generation (e ∷ past) = accepted_ops_by e.event (operations_of_g
 abbrev pub cut_of : Past → List Op
 cut_of past = drop (published_in_generation past) (operations_of_generation past)
 
+-- the operation puts a document
 abbrev pub is_put : Op → Bool
 is_put (Put doc) = true
 is_put (Delete key) = false
+is_put (Drop word) = false
 
 -- the cut has a put, so its publish makes a segment and draws a name
 abbrev pub cut_has_put : Past → Bool

@@ -17,7 +17,7 @@ use Rattle.history_entries.specs.declared.cause.FaultKind.{FaultKind}
 use Rattle.history_entries.specs.declared.cause.FaultKind.TheVariants.{Link, Damage, Disk, Stop}
 use Rattle.history_entries.specs.declared.entry.Event.{Event}
 use Rattle.history_entries.specs.declared.entry.Event.TheVariants.{Publishing, Published, Copying, Settling, Opened, Asking, Committing, Merging}
-use Rattle.documents.specs.Matching.{scan_of}
+use Rattle.documents.specs.Ranking.{scan_of}
 use Rattle.history_entries.specs.Nodes.{Past, IsNode, IsReplica, is_at, primary_of, primary_crashes, is_running, crashes, generation_of, version_of, newest_version, is_made_in_generation, is_point, accepted_count}
 use Rattle.history_entries.specs.Lines.{same_at, is_start, start_entry, before_start, last_of_line, is_answered, NodeSurvives, SourceSurvives, publish_in_flight, commit_in_flight, copy_in_flight, is_free_for, highest_copy, has_switched, highest_switched}
 use Rattle.history_entries.specs.Points.{documents_at, names_drawn, IsDrawnFile, IsDrawnTemporary, merges_started, cut_of, idle_publishes}

@@ -9,7 +9,7 @@ use Rattle.history_entries.specs.declared.point.Point.{Point}
 use Rattle.history_entries.specs.declared.entry.Entry.{Entry}
 use Rattle.history_entries.specs.declared.entry.Event.TheVariants.{Answered, Reopened}
 use Rattle.history_entries.specs.declared.entry.History.{History}
-use Rattle.documents.specs.Matching.{scan_of}
+use Rattle.documents.specs.Ranking.{scan_of}
 use Rattle.history_entries.specs.Nodes.{Past, crashes, version_of}
 use Rattle.history_entries.specs.Points.{documents_at, points_of}
 use Rattle.history_entries.specs.Legal.{KeepsRule, IsLegalPast, IsLegal}

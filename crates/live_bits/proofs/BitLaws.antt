@@ -8,7 +8,7 @@ use Rattle.std.proofs.lemmas.List.{ext_get_or}
 use Rattle.std.proofs.lemmas.List.FromFn.{sum_by-map-range_with_len_more, get_or-map-range_with_len}
 use Rattle.std.proofs.lemmas.Nat.Bits.{bit_at-lt, same_from_bits_below}
 use Rattle.std.proofs.lemmas.Simd.{mask_l-lt, bit_mask_l, ones-mask_l}
-use Rattle.body_forms.specs.Format.{AreBytes}
+use Rattle.codec_frame.specs.Bytes.{AreBytes}
 use Rattle.live_bits.specs.LiveRows.{has_bit, live_rows}
 use Rattle.live_bits.specs.Held.{rows_in}
 

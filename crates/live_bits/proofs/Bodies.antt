@@ -2,12 +2,13 @@
 use Rattle.std.proofs.Common.{◌≡◌, ℕ, ◌+◌, ◌*◌, ◌/◌, ◌<◌, ◌^◌, Bool, List, ◌++◌, length, Some, Option, None, sym, ap, subst, ◌∙◌, append_assoc, arith}
 use Rattle.std.specs.Prelude.{IfNone}
 use Rattle.std.proofs.lemmas.List.Sums.{count_by-le-length}
-use Rattle.body_forms.specs.Format.{AreBytes, Read}
+use Rattle.codec_frame.specs.Bytes.{AreBytes}
+use Rattle.body_forms.specs.Format.{Read}
 use Rattle.body_forms.specs.Numbers.{u32_bytes, u32_at}
 use Rattle.body_forms.proofs.Formats.{once, read_is}
 use Rattle.body_forms.proofs.NumberLaws.{u32_format}
 use Rattle.live_bits.specs.LiveRows.{live_rows, IsPacked, SpellsLiveRows}
-use Rattle.live_bits.specs.Held.{rows_in, Holds}
+use Rattle.live_bits.specs.Held.{rows_in, HoldsRows, AreParts}
 use Rattle.live_bits.proofs.Packing.{length-rows_in, one_packing, one_content, EndsClear, packed_rows, rows_are, ends_clear_of, whole_count}
 
 few_live : (live : List Bool) → length live < 2 ^ 32 → live_rows live < 2 ^ 32
@@ -60,15 +61,16 @@ passes body rows live bits f x s =
     }
 
 pub holds : (body : List ℕ) (rows live : ℕ) (bits : List ℕ) → AreBytes body → Fronts body rows live bits → Passes rows live bits
-    → Holds bits rows live × (body ≡ u32_bytes rows ++ (u32_bytes live ++ bits))
+    → AreParts body rows live bits
 holds body rows live bits fits f p =
     let a = u32_format.takes body rows f.rest fits (sym f.first) in
-    let b = u32_format.takes f.rest live bits a.0.rest_fits (sym f.second) in (
-      record { few = a.1; packed = packed_rows rows bits b.0.rest_fits p.long p.clear; count = sym p.count ∙ whole_count rows bits p.long p.clear },
-      a.0.parts ∙ ap (λ (rest : List ℕ). u32_bytes rows ++ rest) b.0.parts,
-    )
+    let b = u32_format.takes f.rest live bits a.0.rest_fits (sym f.second) in
+    record {
+      held = record { few = a.1; packed = packed_rows rows bits b.0.rest_fits p.long p.clear; count = sym p.count ∙ whole_count rows bits p.long p.clear };
+      whole = a.0.parts ∙ ap (λ (rest : List ℕ). u32_bytes rows ++ rest) b.0.parts;
+    }
 
-pub spelled : (body bits : List ℕ) (rows live : ℕ) → Holds bits rows live → body ≡ u32_bytes rows ++ (u32_bytes live ++ bits) → SpellsLiveRows body (rows_in rows bits)
+pub spelled : (body bits : List ℕ) (rows live : ℕ) → HoldsRows bits rows live → body ≡ u32_bytes rows ++ (u32_bytes live ++ bits) → SpellsLiveRows body (rows_in rows bits)
 spelled body bits rows live h e =
     let long = length-rows_in rows bits in
     record {

@@ -7,9 +7,9 @@ use Rattle.std.proofs.lemmas.List.Sums.{sum_by-set, sum_by-cons}
 use Rattle.std.proofs.lemmas.Nat.{and_le_l, le-div, pow-add, pow_pos}
 use Rattle.std.proofs.lemmas.Nat.Bits.{bit_at-lt, bit_at-zero, bit_at_above, bit_at_ones, bit_at_ones_above, bit_at_clear_same, bit_at_clear_other, same_from_bits, ones_shr}
 use Rattle.std.proofs.Math.Nat.{div-div-eq-div-mul, div-le_self}
-use Rattle.body_forms.specs.Format.{AreBytes}
+use Rattle.codec_frame.specs.Bytes.{AreBytes}
 use Rattle.live_bits.specs.LiveRows.{has_bit, live_rows}
-use Rattle.live_bits.specs.Held.{rows_in, Holds, Clears}
+use Rattle.live_bits.specs.Held.{rows_in, HoldsRows, ClearsBit}
 use Rattle.live_bits.proofs.BitLaws.{at_place}
 use Rattle.live_bits.proofs.Packing.{length-rows_in, rows_in_at, EndsClear, packed_rows}
 
@@ -54,7 +54,7 @@ cleared_fits bits row fits i =
       | inr other ↦ omega (arith, get_or-set_other bits (row / 8) i v 0 other, fits i)
     ]
 
-pub clears : (bits : List ℕ) (row : ℕ) → row / 8 < length bits → Clears bits (cleared bits row) row
+pub clears : (bits : List ℕ) (row : ℕ) → row / 8 < length bits → ClearsBit bits (cleared bits row) row
 clears bits row lt = record {
   long = length-set bits (row / 8) _;
   here = cleared_here bits row lt;
@@ -62,7 +62,7 @@ clears bits row lt = record {
   fits = cleared_fits bits row;
 }
 
-pub cleared_rows : (n : ℕ) (old new : List ℕ) (row : ℕ) → row < n → Clears old new row → rows_in n new ≡ set (rows_in n old) row false
+pub cleared_rows : (n : ℕ) (old new : List ℕ) (row : ℕ) → row < n → ClearsBit old new row → rows_in n new ≡ set (rows_in n old) row false
 cleared_rows n old new row lt h =
     let before = length-rows_in n old in
     let after = length-rows_in n new in
@@ -78,7 +78,7 @@ one_fewer live row lt e =
     let one : ◌≡◌ {A = ℕ} (cond (get_or live row false) 1 0) 1 = ap (λ (b : Bool). cond b 1 0) e in
     omega (arith, h, one)
 
-pub clear_holds : (n live : ℕ) (old new : List ℕ) (row : ℕ) → row < n → has_bit old row ≡ true → Holds old n live → Clears old new row → Holds new n (live - 1)
+pub clear_holds : (n live : ℕ) (old new : List ℕ) (row : ℕ) → row < n → has_bit old row ≡ true → HoldsRows old n live → ClearsBit old new row → HoldsRows new n (live - 1)
 clear_holds n live old new row lt set_before h k =
     let long = length-rows_in n old in
     let fewer = one_fewer (rows_in n old) row (omega (arith, long, lt)) (rows_in_at n old row lt ∙ set_before) in
@@ -108,7 +108,7 @@ all_rows n bits h =
     ext_get_or false (rows_in n bits) (replicate n true) (long ∙ sym (length-replicate n true))
     (λ i lt. rows_in_at n bits i (omega (arith, long, lt)) ∙ h i (omega (arith, long, lt)) ∙ sym (get_or-replicate n i true false (omega (arith, long, lt))))
 
-pub all_hold : (n : ℕ) (bits : List ℕ) → n < 2 ^ 32 → AllSet bits n → Holds bits n n
+pub all_hold : (n : ℕ) (bits : List ℕ) → n < 2 ^ 32 → AllSet bits n → HoldsRows bits n n
 all_hold n bits few h = record { few = few; packed = packed_rows n bits h.fits h.long h.clear; count = sym (ap live_rows (all_rows n bits h.set_below) ∙ all_live n) }
 
 ones_at : (bits : List ℕ) (i : ℕ) → get_or bits (i / 8) 0 ≡ 255 → has_bit bits i ≡ true

@@ -1,5 +1,5 @@
-pub mod BitLaws
-pub mod Packing
-pub mod Editing
-pub mod Bodies
+mod BitLaws
+mod Packing
+mod Editing
+mod Bodies
 pub mod FileLaws

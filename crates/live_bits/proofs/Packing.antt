@@ -3,7 +3,7 @@ use Rattle.std.proofs.Common.{◌≡◌, ℕ, ◌+◌, ◌*◌, ◌/◌, ◌<◌
 use Rattle.std.proofs.lemmas.Bool.{cases_lt}
 use Rattle.std.proofs.lemmas.List.{ext_get_or, get_or_past}
 use Rattle.std.proofs.lemmas.List.FromFn.{length-map-range_with_len, get_or-map-range_with_len}
-use Rattle.body_forms.specs.Format.{AreBytes}
+use Rattle.codec_frame.specs.Bytes.{AreBytes}
 use Rattle.live_bits.specs.LiveRows.{has_bit, live_rows, IsPacked}
 use Rattle.live_bits.specs.Held.{rows_in}
 use Rattle.live_bits.proofs.BitLaws.{live-rows_in, below_past, same_bits}

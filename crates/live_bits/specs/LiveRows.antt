@@ -3,7 +3,7 @@ use Rattle.std.specs.Prelude.{◌≡◌, ℕ, ◌+◌, ◌/◌, ◌%◌, ◌<◌
 use Rattle.std.specs.List.{count_by}
 use Rattle.std.specs.Int.{bit_at}
 use Rattle.file_names.specs.Base36.{base36_of}
-use Rattle.body_forms.specs.Format.{AreBytes}
+use Rattle.codec_frame.specs.Bytes.{AreBytes}
 use Rattle.body_forms.specs.Numbers.{u32_bytes}
 use Rattle.body_forms.specs.File.{IsFile}
 use Rattle.codec_frame.specs.Frame.{Wanted}

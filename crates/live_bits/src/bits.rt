@@ -1,6 +1,8 @@
+//! Bits of rows, packed eight to a byte, the lowest first.
+
 ghost use Rattle.std.specs.Prelude.{◌≡◌, ◌↔◌, ℕ, ◌+◌, ◌*◌, ◌/◌, ◌^◌, ◌≤◌, ◌<◌, length, replicate, IsTrue, IfOk, true, false};
 ghost use Rattle.live_bits.specs.LiveRows.{has_bit, live_rows};
-ghost use Rattle.live_bits.specs.Held.{rows_in, Holds, Clears};
+ghost use Rattle.live_bits.specs.Held.{rows_in, HoldsRows, ClearsBit};
 
 use nrt_base::NoMemory;
 use std::alloc::Global;
@@ -20,17 +22,17 @@ pub fn is_set(bits: &[u8], row: u32) -> bool
     bits[(row / 8) as usize] >> (row % 8) & 1 == 1
 }
 
-/// Clears the bit of a row.
+/// ClearsBit the bit of a row.
 pub fn clear(bits: &mut [u8], row: u32)
     requires { row / 8 < length bits.old }
-    ensures { Clears bits.old bits.new row }
+    ensures { ClearsBit bits.old bits.new row }
 {
     bits[(row / 8) as usize] &= !(1u8 << (row % 8));
 }
 
 /// The bits of so many rows, all of them live.
 pub fn all_set(alloc: Global, rows: u32) -> Result<Vec<u8>, NoMemory>
-    ensures hold { IfOk result (λ bits. Holds bits.items rows rows) }
+    ensures hold { IfOk result (λ bits. HoldsRows bits.items rows rows) }
     ensures rows { IfOk result (λ bits. rows_in rows bits.items ≡ replicate rows true) }
 {
     let mut bits = vec![in alloc; 0xffu8; bytes_for(rows)]?;

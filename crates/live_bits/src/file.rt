@@ -1,16 +1,19 @@
-ghost use Rattle.std.specs.Prelude.{◌≡◌, ◌↔◌, ◌<◌, ◌++◌, ℕ, List, length, Bool, Ok, Err, OnOk, IfOk, IfSome, IfNone};
+//! Files of live rows, written and read.
+
+ghost use Rattle.std.specs.Prelude.{◌≡◌, ◌<◌, ◌++◌, ℕ, List, length, Bool, OnOk, IfOk, IfSome, IfNone};
 ghost use Rattle.file_names.specs.Base36.{base36_of};
-ghost use Rattle.codec_frame.specs.Frame.{wanted, IsFramedAs};
-ghost use Rattle.codec_frame.specs.Checking.{IsFirstFault};
-ghost use Rattle.body_forms.specs.Numbers.{u32_bytes};
+ghost use Rattle.codec_frame.specs.Frame.{wanted};
+ghost use Rattle.codec_frame.specs.Checking.{IsChecked};
+ghost use Rattle.body_forms.specs.File.{AddsSpelling, IsFileAnswer};
+ghost use Rattle.body_forms.specs.declared.read_fault.ReadFault.TheVariants.{File};
 ghost use Rattle.live_bits.specs.LiveRows.{SpellsLiveRows, live_wanted, IsLiveFile};
-ghost use Rattle.live_bits.specs.Held.{Holds};
+ghost use Rattle.live_bits.specs.Held.{AreParts};
 
 use crate::bits::{bytes_for, count_set, ends_clear};
 use crate::live::LiveBits;
 use body_forms::{ReadFault, push_u32, u32_of};
 use bytes::Bytes;
-use codec_frame::{FileFault, FrameFault, Want, check, write_footer, write_index_header};
+use codec_frame::{FileFault, FrameFault, Framed, Want, check, write_footer, write_index_header};
 use file_names::{Base36, base36};
 use nrt_base::NoMemory;
 use std::alloc::Global;
@@ -23,7 +26,8 @@ const VERSION: u32 = 1;
 
 // What is wanted of a file with this id, whose live generation has these digits.
 fn want<'a>(id: &[u8; 16], live_gen: &'a Base36) -> Want<'a>
-    ensures want { (n : ℕ) → live_gen.now ≡ base36_of n → wanted result ≡ live_wanted id.now n }
+    ensures want { (n : ℕ) → live_gen.now ≡ base36_of n
+        → wanted result ≡ live_wanted id.now n }
     ensures suffix { length result.suffix.now < 256 }
 {
     Want {
@@ -54,7 +58,7 @@ pub fn encode(
 
 // Puts the body of live rows at the end.
 fn push_body(out: &mut Vec<u8>, live: &LiveBits) -> Result<(), NoMemory>
-    ensures { OnOk result ((body : List ℕ) × (out.new.items ≡ out.old.items ++ body) × SpellsLiveRows body live.now) }
+    ensures { OnOk result (AddsSpelling SpellsLiveRows live.now out.old.items out.new.items) }
 {
     push_u32(out, live.rows)?;
     push_u32(out, live.live)?;
@@ -72,7 +76,7 @@ struct Parts<'a> {
 
 // The parts of a body, which is looked at whole.
 fn parts_of(body: &[u8]) -> Option<Parts<'_>>
-    ensures some { IfSome result (λ parts. Holds parts.bits.now parts.rows parts.live × (body.now ≡ u32_bytes parts.rows ++ (u32_bytes parts.live ++ parts.bits.now))) }
+    ensures some { IfSome result (λ parts. AreParts body.now parts.rows parts.live parts.bits.now) }
     ensures none { IfNone result ((live : List Bool) → SpellsLiveRows body.now live → ⊥) }
 {
     let (rows, rest) = u32_of(body)?;
@@ -89,20 +93,26 @@ fn parts_of(body: &[u8]) -> Option<Parts<'_>>
     Some(Parts { rows, live, bits })
 }
 
+// The frame of a file at a live generation of the segment with this id.
+fn frame_of(bytes: &[u8], id: &[u8; 16], live_gen: u64) -> Result<Framed, FrameFault>
+    ensures { IsChecked (live_wanted id.now live_gen) bytes.now result }
+{
+    let digits = base36(live_gen);
+    check(bytes, &want(id, &digits))
+}
+
 /// The live rows of a file at a live generation of the segment with this id. The file is looked at whole; its bits
-/// are copied, for which memory may be wanting.
+/// are copied, for which the reader may be out of memory.
 pub fn read_live(
     alloc: Global,
     bytes: &[u8],
     id: &[u8; 16],
     live_gen: u64,
 ) -> Result<LiveBits, ReadFault>
-    ensures value { IfOk result (λ live. IsLiveFile id.now live_gen live bytes.now) }
-    ensures frame { (fault : FrameFault) → (result ≡ Err (ReadFault.File (FileFault.Frame fault))) ↔ IsFirstFault (live_wanted id.now live_gen) bytes.now fault }
-    ensures body { (result ≡ Err (ReadFault.File FileFault.Body)) ↔ (IsFramedAs (live_wanted id.now live_gen) bytes.now × ((live : List Bool) → IsLiveFile id.now live_gen live bytes.now → ⊥)) }
+    ensures { IsFileAnswer SpellsLiveRows (live_wanted id.now live_gen) (λ _. id.now) File
+        bytes.now result }
 {
-    let digits = base36(live_gen);
-    let frame = check(bytes, &want(id, &digits))?;
+    let frame = frame_of(bytes, id, live_gen)?;
     match parts_of(&bytes[frame.start..frame.end]) {
         Some(parts) => Ok(LiveBits {
             bits: Vec::from_slice(alloc, parts.bits)?,

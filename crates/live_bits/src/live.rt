@@ -1,3 +1,5 @@
+//! Which rows of a segment are live.
+
 ghost use Rattle.std.specs.Prelude.{◌≡◌, ◌<◌, length, replicate, slice_index_or, slice_set, true, false, IfOk};
 ghost use Rattle.live_bits.specs.LiveRows.{live_rows};
 
@@ -16,13 +18,13 @@ pub struct LiveBits {
 
 impl Model for LiveBits {
     ghost use Rattle.std.specs.Prelude.{List, Bool};
-    ghost use Rattle.live_bits.specs.Held.{rows_in, Holds};
+    ghost use Rattle.live_bits.specs.Held.{rows_in, HoldsRows};
 
     ghost Value = { List Bool };
 
     ghost view = { λ a. rows_in a.rows a.bits.items };
 
-    ghost invariant = { λ a. Holds a.bits.items a.rows a.live };
+    ghost invariant = { λ a. HoldsRows a.bits.items a.rows a.live };
 }
 
 impl LiveBits {

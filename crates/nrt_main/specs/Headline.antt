@@ -11,7 +11,7 @@ use Rattle.script_serving.specs.declared.script.Script.{Script}
 use Rattle.script_serving.specs.Serves.{Serves}
 use Rattle.script_text.specs.Grammar.{SpellsScript}
 use Rattle.script_text.specs.Refused.{IsFirstRefused}
-use Rattle.plain_run.specs.Built.{IsFirstUnbuilt, IsBuilt}
+use Rattle.plain_run.specs.Built.{IsFirstUnbuilt, RunsWhole}
 use Rattle.nrt_main.specs.declared.status.Status.{Status}
 use Rattle.nrt_main.specs.declared.status.Status.TheVariants.{Done, BadScript, WriteFault}
 
@@ -26,7 +26,7 @@ longest = 16777216
 -- the bytes spell this script, and the program runs its every statement
 pub record IsRunnable (bytes : List ℕ) (script : Script) : Type 0 where
   pub grammar : SpellsScript bytes script
-  pub built : IsBuilt bytes
+  pub built : RunsWhole bytes
 
 -- the bytes are a script that the program runs, and the sink gained the text of a legal history that serves it
 pub record Answers (bytes : List ℕ) (before after : Option (List ℕ)) : Type 0 where

@@ -6,13 +6,12 @@ ghost use Rattle.nrt_main.specs.Headline.{Ran, Answers, RanInPart, AnswersInPart
 ghost use Rattle.nrt_main.specs.TopCalls.{IsRefusal, IsReport};
 
 use crate::reading::{ReadEnd, read_all};
-use plain_run::run_script;
 use crate::status::Status;
 use crate::writing::write_all;
 use nrt_base::{LineNo, NoMemory};
 use nrt_streams::{Arg, Sink, Source};
+use plain_run::{first_not_built, run_script};
 use report_text::report;
-use plain_run::first_not_built;
 use script_serving::Script;
 use script_text::{LineFault, ScriptFault, parse_script};
 use std::alloc::Global;

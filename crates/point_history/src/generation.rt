@@ -47,7 +47,7 @@ fn is_put(op: &Op) -> bool
 {
     match op {
         Op::Put(_) => true,
-        Op::Delete(_) => false,
+        Op::Delete(_) | Op::Drop(_) => false,
     }
 }
 

@@ -1,5 +1,5 @@
 use crate::legality::legal;
-use documents::{Answer, Op, Query};
+use documents::{Answer, Hit, Op, Query};
 use file_names::file_name;
 use history_entries::{Cause, Entry, Event, FaultKind, FaultPlan, History, Verdict};
 use nrt_base::{
@@ -78,10 +78,13 @@ const CASES: &str = "\
 9 opened: 1 6 asking 2 7 1
 9 opened: 1 6 crashed 2; 1 7 asking 2 7 2
 10 copied: 1 5 opened 2 0 2; 1 5 answer 2 0 2 0
-10 copied: 1 5 opened 2 0 2; 1 5 answer 2 0 2 1 b
-10 copied: 1 5 answer 2 0 2 1 a
+10 copied: 1 5 opened 2 0 2; 1 5 answer 2 0 2 1 1:b
+10 copied: 1 5 answer 2 0 2 1 1:a
+10 copied: 1 5 opened 2 0 2; 1 5 answer 2 0 2 1 2:a
 10 copied: 1 5 opened 2 0 2; 1 5 answer 2 0 1 0
-10 copied: 1 5 opened 2 0 2; 2 6 crashed 2; 1 5 answer 2 0 2 1 a
+10 two: 1 7 opened 1 0 3; 1 7 answer 1 0 3 2 1:b 1:a
+10 two: 1 7 accepted 3 drop_x; 1 8 publishing; 1 8 published 1 4; 1 9 opened 1 0 4; 1 9 answer 1 0 4 2 1:a 1:b
+10 copied: 1 5 opened 2 0 2; 2 6 crashed 2; 1 5 answer 2 0 2 1 1:a
 11 copied: 1 5 closed 2 7
 11 opened: 2 6 closed 2 7
 11 opened: 1 6 closed 3 7
@@ -180,24 +183,25 @@ const CASES: &str = "\
 22 start: 1 2 planned disk 1 1; 1 3 fault 1 disk; 1 3 planned disk 1 1
 22 start: 1 2 planned stop 1 1; 1 3 fault 1 stop; 1 3 planned link 2 1
 22 start: 1 2 planned disk 2 1; 1 3 fault 2 disk; 1 3 planned stop 1 1
-0 copied: 1 5 opened 2 0 2; 1 5 answer 2 0 2 1 a
-0 two: 1 7 opened 2 0 2; 1 7 answer 2 0 2 1 a; 1 8 opened 1 0 3; 1 8 answer 1 0 3 2 a b; 1 9 opened 3 0 1; 1 9 answer 3 0 1 0
+0 copied: 1 5 opened 2 0 2; 1 5 answer 2 0 2 1 1:a
+0 two: 1 7 accepted 3 drop_x; 1 8 publishing; 1 8 published 1 4; 1 9 opened 1 0 4; 1 9 answer 1 0 4 0
+0 two: 1 7 opened 2 0 2; 1 7 answer 2 0 2 1 1:a; 1 8 opened 1 0 3; 1 8 answer 1 0 3 2 1:a 1:b; 1 9 opened 3 0 1; 1 9 answer 3 0 1 0
 0 down: 1 6 refused down; 1 7 reopened 2 1; 1 8 opened 2 0 1; 1 8 answer 2 0 1 0; 1 9 files 2
 0 committed: 1 6 crashed 2; 1 7 reopened 2 2; 1 8 files 2 _10000.docs _10000.post _10000.si segments_1
 0 stopped: 1 9 committing 2 3; 1 9 fault 2 stop; 1 9 refused disk-fault; 1 10 crashed 2; 1 11 reopened 2 3
 0 stopped: 1 9 committing 2 3; 1 9 fault 2 stop; 1 9 refused disk-fault; 1 10 crashed 2; 1 11 reopened 2 2
 0 stopped: 1 9 committing 2 3; 1 9 fault 2 stop; 1 9 committed 2 3; 1 10 crashed 2; 1 11 reopened 2 3
-0 promoted: 1 7 accepted 2 put_b; 1 8 publishing; 1 8 published 2 4; 1 9 opened 2 0 4; 1 9 answer 2 0 4 2 a b; 1 10 reopened 1 1; 1 11 copying 1 4; 1 11 switched 1 4; 1 11 copied 1 4
+0 promoted: 1 7 accepted 2 put_b; 1 8 publishing; 1 8 published 2 4; 1 9 opened 2 0 4; 1 9 answer 2 0 4 2 1:a 1:b; 1 10 reopened 1 1; 1 11 copying 1 4; 1 11 switched 1 4; 1 11 copied 1 4
 0 vacant: 1 6 refused no-primary; 1 7 refused force-low 2; 1 8 refused force-high; 1 9 promoted 2 2 4611686018427387903 4611686018427387904
 0 published: 1 4 settling 2; 1 4 switched 2 2; 1 4 switched 3 2; 1 4 settled 2
 0 published: 1 4 settling 2; 1 4 switched 2 2; 2 5 crashed 3; 1 4 settled 2
-0 opened: 1 6 accepted 2 put_b; 1 7 publishing; 1 7 published 1 3; 1 8 copying 2 3; 1 8 switched 2 3; 1 9 asking 2 7 2; 1 9 answer 2 7 2 1 a; 1 10 refused name-used; 1 11 closed 2 7; 1 12 refused no-ticket
+0 opened: 1 6 accepted 2 put_b; 1 7 publishing; 1 7 published 1 3; 1 8 copying 2 3; 1 8 switched 2 3; 1 9 asking 2 7 2; 1 9 answer 2 7 2 1 1:a; 1 10 refused name-used; 1 11 closed 2 7; 1 12 refused no-ticket
 0 two: 1 7 planned link 2 1; 1 8 copying 2 3; 1 8 fault 2 link; 1 8 refused link-fault; 1 9 planned damage 2 1 36; 1 10 copying 2 3; 1 10 fault 2 damage; 1 10 refused damaged _10001.docs
 0 two: 1 7 planned disk 1 1; 1 8 copying 2 3; 1 8 fault 1 disk; 1 8 refused disk-fault; 1 9 planned stop 1 1; 1 10 fault 1 stop; 1 11 fault 1 stop
 0 copied: 1 5 copying 3 2; 2 6 accepted 2 put_b; 2 7 publishing; 2 7 published 1 3; 2 8 copying 3 3; 1 5 refused cancelled 3
 0 copied: 2 5 settling 2; 1 6 copying 3 2; 2 7 accepted 2 put_b; 2 8 publishing; 2 8 published 1 3; 1 6 refused cancelled 3
 0 two: 1 7 copying 2 3; 2 8 crashed 1; 1 7 refused lost
-0 two: 1 7 merging 1679618; 1 8 drained 3 9; 1 9 publishing; 1 9 published 1 4; 1 10 opened 1 0 4; 1 10 answer 1 0 4 2 a b; 1 11 refused names-spent; 1 12 refused too-many-segments
+0 two: 1 7 merging 1679618; 1 8 drained 3 9; 1 9 publishing; 1 9 published 1 4; 1 10 opened 1 0 4; 1 10 answer 1 0 4 2 1:a 1:b; 1 11 refused names-spent; 1 12 refused too-many-segments
 0 start: 1 2 refused primary; 1 3 refused primary-up; 1 4 refused up; 1 5 refused none; 1 6 files 1
 0 published: 1 4 copying 2 2; 2 5 accepted 2 put_b; 2 6 publishing; 2 6 published 1 3; 1 4 switched 2 2; 1 4 copied 2 2; 2 7 copying 2 3; 2 7 switched 2 3; 2 7 copied 2 3
 0 published: 1 4 copying 2 2; 2 5 copying 3 2; 2 6 crashed 2; 2 7 reopened 2 1; 2 8 copying 2 2
@@ -281,9 +285,20 @@ fn key(alloc: Global, name: &str) -> Result<Key, NoMemory> {
     }
 }
 
+fn hit(alloc: Global, text: &str) -> Result<Hit, NoMemory> {
+    let (rank, name) = text.split_once(':').unwrap_or(("", ""));
+    Ok(Hit {
+        key: key(alloc, name)?,
+        rank: rank.parse::<u32>().unwrap_or(0),
+    })
+}
+
 fn op(alloc: Global, name: &str) -> Result<Op, NoMemory> {
     if name == "delete_a" {
         return Ok(Op::Delete(key(alloc, "a")?));
+    }
+    if name == "drop_x" {
+        return Ok(Op::Drop(Word::new(alloc, b"x".as_slice())?));
     }
     let key = key(alloc, if name == "put_a" { "a" } else { "b" })?;
     let text = Text::new(alloc, b"x".as_slice())?;
@@ -309,9 +324,9 @@ fn plan(kind: FaultKind, k: u32, at: u32) -> FaultPlan {
 }
 
 fn answered(alloc: Global, words: &Words<'_>) -> Result<Event, Fail> {
-    let mut keys = Vec::new(alloc);
+    let mut hits = Vec::new(alloc);
     for i in 7..words.0.len() {
-        keys.push(key(alloc, words.word(i))?)?;
+        hits.push(hit(alloc, words.word(i))?)?;
     }
     Ok(Event::Answered {
         n: words.node(3),
@@ -320,7 +335,7 @@ fn answered(alloc: Global, words: &Words<'_>) -> Result<Event, Fail> {
         query: Query::Word(Word::new(alloc, b"x".as_slice())?),
         answer: Answer {
             total: words.small(6),
-            keys: List::from_vec(keys),
+            hits: List::from_vec(hits),
         },
     })
 }

@@ -22,7 +22,9 @@ mod tests;
 mod tickets;
 mod written;
 
-pub use documents::{Answer, Op, Query, Texts, apply, change, listed, matches, scan, words};
+pub use documents::{
+    Answer, Hit, Op, Query, Texts, apply, change, has_word, listed, matches, scan, words,
+};
 pub use history_entries::{Cause, Entry, Event, FaultKind, FaultPlan, History, Point, Verdict};
 pub use history_laws::laws;
 pub use legality::legal;

@@ -2,7 +2,8 @@
 use Rattle.std.proofs.Common.{◌≡◌, ℕ, suc, ◌<◌, List, [], ◌∷◌, length, map, Some, None, refl, sym, ap, subst, ◌∙◌, arith}
 use Rattle.std.proofs.lemmas.List.{append-nil}
 use Rattle.body_forms.specs.Format.{Read, chain_at}
-use Rattle.postings_plain.specs.Postings.{Hit, Entry, above_hit, hits, entry, EntryFits}
+use Rattle.nrt_base.proofs.Plain.{cons_from}
+use Rattle.postings_plain.specs.Postings.{Hit, Entry, above_hit, hits, entry, IsFileEntry}
 use Rattle.postings_plain.specs.Body.{SpellsPostings}
 use Rattle.postings_plain.specs.Reading.{hit_at, hits_at, entry_at, no_entry, at_place, entry_or_none, entry_in, entries_in}
 use Rattle.body_forms.specs.Numbers.{positive_at}
@@ -10,15 +11,12 @@ use Rattle.body_forms.proofs.TableTests.{items_in-is}
 use Rattle.body_forms.proofs.Formats.{bind_some, read_is}
 use Rattle.postings_plain.proofs.EntryLaws.{entry_format, hits_format}
 
-pub read_entry : (e : Entry) → EntryFits e → entry_in (entry e) ≡ e
+pub read_entry : (e : Entry) → IsFileEntry e → entry_in (entry e) ≡ e
 read_entry e fit = ap entry_or_none (ap entry_at (sym (append-nil (entry e))) ∙ entry_format.again e [] fit)
 
-entry_cells : (a b : Entry) (x y : List Entry) → a ≡ b → x ≡ y → a ∷ x ≡ b ∷ y
-entry_cells a b x y e f = cc
-
-entries_back : (es : List Entry) → ((i : ℕ) → i < length es → EntryFits (at_place es i)) → map entry_in (map entry es) ≡ es
+entries_back : (es : List Entry) → ((i : ℕ) → i < length es → IsFileEntry (at_place es i)) → map entry_in (map entry es) ≡ es
 entries_back [] h = refl
-entries_back (e ∷ es) h = entry_cells _ _ _ _ (read_entry e (h 0 (omega arith))) (entries_back es (λ i lt. h (suc i) (omega arith)))
+entries_back (e ∷ es) h = cons_from _ _ _ _ (read_entry e (h 0 (omega arith))) (entries_back es (λ i lt. h (suc i) (omega arith)))
 
 pub entries_in-is : (bytes : List ℕ) (es : List Entry) → SpellsPostings bytes es → entries_in bytes ≡ es
 unfolding entries_in
@@ -40,16 +38,16 @@ pub record Begins (field : ℕ) (bytes : List ℕ) (hs : List Hit) : Type 0 wher
   pub counted : positive_at bytes ≡ Some (count, rest)
   pub read : chain_at (hit_at field) above_hit count 0 rest ≡ Some (hs, [])
 
-pub begins : (e : Entry) → EntryFits e → Begins e.0 (hits e.0 e.1.1) e.1.1
+pub begins : (e : Entry) → IsFileEntry e → Begins e.0 (hits e.0 e.1.1) e.1.1
 begins e fit =
     let whole : hits_at e.0 (hits e.0 e.1.1) ≡ Some (e.1.1, []) = ap (hits_at e.0) (sym (append-nil (hits e.0 e.1.1))) ∙ (hits_format e.0).again e.1.1 [] fit.1.1 in
     let f = bind_some (positive_at (hits e.0 e.1.1)) (λ n. chain_at (hit_at e.0) above_hit n.0 0 n.1) (e.1.1, []) whole in
     record { count = f.0.0; rest = f.0.1; counted = f.1; read = f.2 }
 
-pub rows_are_there : (rest : List ℕ) (e : Entry) → EntryFits e → rest ≡ hits e.0 e.1.1 → ◌≡◌ {A = Read ℕ} None (positive_at rest) → ⊥
+pub rows_are_there : (rest : List ℕ) (e : Entry) → IsFileEntry e → rest ≡ hits e.0 e.1.1 → ◌≡◌ {A = Read ℕ} None (positive_at rest) → ⊥
 rows_are_there rest e fit same r = let b = begins e fit in let bad = r ∙ ap positive_at same ∙ b.counted in cc
 
-pub rows_read : (rest after : List ℕ) (e : Entry) (field count : ℕ) → EntryFits e → field ≡ e.0 → rest ≡ hits e.0 e.1.1 → ◌≡◌ {A = Read ℕ} (Some (count, after)) (positive_at rest)
+pub rows_read : (rest after : List ℕ) (e : Entry) (field count : ℕ) → IsFileEntry e → field ≡ e.0 → rest ≡ hits e.0 e.1.1 → ◌≡◌ {A = Read ℕ} (Some (count, after)) (positive_at rest)
     → chain_at (hit_at field) above_hit count 0 after ≡ Some (e.1.1, [])
 rows_read rest after e field count fit f same r =
     let b = begins e fit in

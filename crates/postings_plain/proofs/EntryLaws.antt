@@ -1,17 +1,19 @@
 -- The laws of an entry, from those of its parts.
 use Rattle.std.proofs.Common.{◌≡◌, ℕ, zero, suc, ◌^◌, ◌<◌, List, [], ◌∷◌, ◌++◌, length, Some, refl, sym, ap, subst, arith}
 use Rattle.std.specs.Prelude.{nat_lt}
-use Rattle.std.proofs.lemmas.Bool.{lt-ltb}
+use Rattle.std.proofs.lemmas.Bool.{lt-ltb, ltb-true}
 use Rattle.std.proofs.lemmas.Option.{some_pair_parts}
-use borrow.Author.Tests.{ltb-true}
-use Rattle.body_forms.specs.Format.{AreBytes, Takes, IsFormat, chain, ChainFits, chain_at, then_at}
+use Rattle.nrt_base.proofs.Plain.{cons_from}
+use Rattle.codec_frame.specs.Bytes.{AreBytes}
+use Rattle.body_forms.specs.Format.{Takes, IsFormat, chain, ChainFits, chain_at, then_at}
 use Rattle.body_forms.specs.VInts.{vint}
 use Rattle.body_forms.specs.Numbers.{string, string_at, difference, MayCome, difference_at, positive_at}
-use Rattle.postings_plain.specs.Postings.{Entry, positions, PositionsFit, hit, HitFits, above_hit, hits, HitsFit, entry, EntryFits}
+use Rattle.postings_plain.specs.Postings.{Entry, positions, PositionsFit, hit, HitFits, above_hit, hits, HitsFit, entry, IsFileEntry}
 use Rattle.postings_plain.specs.Reading.{positions_at, hit_at, hits_at, field_at, term_at, entry_at}
 use Rattle.body_forms.proofs.NumberLaws.{positive_format, difference_format, ascending_format}
-use Rattle.body_forms.proofs.Formats.{tested_format, once, AreBytes-rest, passed, read_is, then_format, counted_format, chain_format}
-use Rattle.body_forms.proofs.Numerals.{string_format, cells}
+use Rattle.codec_frame.proofs.ByteLaws.{AreBytes-rest}
+use Rattle.body_forms.proofs.Formats.{tested_format, once, passed, read_is, then_format, counted_format, chain_format}
+use Rattle.body_forms.proofs.Numerals.{string_format}
 
 pub term_format : IsFormat string (λ t. (0 < length t) × (length t < 2 ^ 32)) term_at
 unfolding term_at
@@ -41,7 +43,7 @@ field_takes (x ∷ bytes) b rest fits e =
     let p = passed (nat_lt x 2) (Some (x, bytes)) (b, rest) e in
     let q = some_pair_parts x b bytes rest p.1 in
     let lt : x < 2 = ltb-true _ _ p.0 in
-    (record { parts = cells x b bytes rest q.0 q.1; rest_fits = subst AreBytes q.1 (AreBytes-rest x bytes fits) }, omega (arith, q.0))
+    (record { parts = cons_from x b bytes rest q.0 q.1; rest_fits = subst AreBytes q.1 (AreBytes-rest x bytes fits) }, omega (arith, q.0))
 
 pub field_format : IsFormat (λ (b : ℕ). b ∷ []) (λ b. b < 2) field_at
 unfolding field_at
@@ -50,10 +52,10 @@ field_format = record {
   takes = λ bytes b rest fits e. field_takes bytes b rest fits e;
 }
 
-pub entry_format : IsFormat entry EntryFits entry_at
+pub entry_format : IsFormat entry IsFileEntry entry_at
 entry_format =
     then_format (λ (b : ℕ). b ∷ []) (λ b. b < 2) field_at (λ field x. string x.0 ++ hits field x.1) (λ field x. ((0 < length x.0) × (length x.0 < 2 ^ 32)) × HitsFit field x.1) (λ field. then_at term_at (λ _. hits_at field))
     field_format (λ field _. then_format string (λ t. (0 < length t) × (length t < 2 ^ 32)) term_at (λ _. hits field) (λ _. HitsFit field) (λ _. hits_at field) term_format (λ _ _. hits_format field))
 
-pub entry_once : (a b : Entry) (x y : List ℕ) → EntryFits a → EntryFits b → entry a ++ x ≡ entry b ++ y → (a ≡ b) × (x ≡ y)
-entry_once a b x y fa fb e = once entry EntryFits entry_at entry_format a b x y fa fb e
+pub entry_once : (a b : Entry) (x y : List ℕ) → IsFileEntry a → IsFileEntry b → entry a ++ x ≡ entry b ++ y → (a ≡ b) × (x ≡ y)
+entry_once a b x y fa fb e = once entry IsFileEntry entry_at entry_format a b x y fa fb e

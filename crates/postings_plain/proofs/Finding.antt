@@ -9,19 +9,19 @@ use Rattle.std.proofs.lemmas.Bool.{cases_lt}
 use Rattle.std.proofs.lemmas.List.{length-map, get_or_default}
 use Rattle.body_forms.specs.Format.{Read}
 use Rattle.body_forms.specs.Numbers.{string}
-use Rattle.postings_plain.specs.Postings.{Hit, Entry, field_of, term_of, hits_of, hits, HitsFit, entry, EntryFits}
+use Rattle.postings_plain.specs.Postings.{Hit, Entry, field_of, term_of, hits_of, hits, HitsFit, entry, IsFileEntry}
 use Rattle.postings_plain.specs.Body.{heading_of, heading_order, SpellsPostings, HasEntry, HasNoEntry}
 use Rattle.postings_plain.specs.Reading.{field_at, term_at, no_entry, at_place, HasNoHeading}
 use Rattle.postings_plain.proofs.EntryLaws.{field_format, term_format}
 use Rattle.body_forms.proofs.ItemTables.{table_count}
 use Rattle.body_forms.proofs.Formats.{read_is}
-use Rattle.body_forms.proofs.Numerals.{cells}
+use Rattle.nrt_base.proofs.Plain.{cons_from, cons_first}
 
 -- the field, then the term, are read from an entry
-pub field_first : (e : Entry) → EntryFits e → field_at (entry e) ≡ Some (e.0, string e.1.0 ++ hits e.0 e.1.1)
+pub field_first : (e : Entry) → IsFileEntry e → field_at (entry e) ≡ Some (e.0, string e.1.0 ++ hits e.0 e.1.1)
 field_first e fit = field_format.again e.0 (string e.1.0 ++ hits e.0 e.1.1) fit.0
 
-pub term_second : (e : Entry) → EntryFits e → term_at (string e.1.0 ++ hits e.0 e.1.1) ≡ Some (e.1.0, hits e.0 e.1.1)
+pub term_second : (e : Entry) → IsFileEntry e → term_at (string e.1.0 ++ hits e.0 e.1.1) ≡ Some (e.1.0, hits e.0 e.1.1)
 term_second e fit = term_format.again e.1.0 (hits e.0 e.1.1) fit.1.0
 
 pub entry_at_place : (es : List Entry) (i : ℕ) → i < length es → get_or (map entry es) i [] ≡ entry (at_place es i)
@@ -35,16 +35,16 @@ back a b e = nat_list_cmp_total.antisymm b a ∙ rw e refl
 forth : (a b : List ℕ) → heading_order a b ≡ Greater → heading_order b a ≡ Less
 forth a b e = nat_list_cmp_total.antisymm b a ∙ rw e refl
 
-pub field_read : (item : List ℕ) (e : Entry) (field : ℕ) (rest : List ℕ) → EntryFits e → item ≡ entry e → ◌≡◌ {A = Read ℕ} (Some (field, rest)) (field_at item) → (field ≡ e.0) × (rest ≡ string e.1.0 ++ hits e.0 e.1.1)
+pub field_read : (item : List ℕ) (e : Entry) (field : ℕ) (rest : List ℕ) → IsFileEntry e → item ≡ entry e → ◌≡◌ {A = Read ℕ} (Some (field, rest)) (field_at item) → (field ≡ e.0) × (rest ≡ string e.1.0 ++ hits e.0 e.1.1)
 field_read item e field rest fit same r = read_is field e.0 rest (string e.1.0 ++ hits e.0 e.1.1) (r ∙ ap field_at same ∙ field_first e fit)
 
-pub field_is_there : (item : List ℕ) (e : Entry) → EntryFits e → item ≡ entry e → ◌≡◌ {A = Read ℕ} None (field_at item) → ⊥
+pub field_is_there : (item : List ℕ) (e : Entry) → IsFileEntry e → item ≡ entry e → ◌≡◌ {A = Read ℕ} None (field_at item) → ⊥
 field_is_there item e fit same r = let bad = r ∙ ap field_at same ∙ field_first e fit in cc
 
-pub term_read : (rest : List ℕ) (e : Entry) (term after : List ℕ) → EntryFits e → rest ≡ string e.1.0 ++ hits e.0 e.1.1 → ◌≡◌ {A = Read (List ℕ)} (Some (term, after)) (term_at rest) → term ≡ e.1.0
+pub term_read : (rest : List ℕ) (e : Entry) (term after : List ℕ) → IsFileEntry e → rest ≡ string e.1.0 ++ hits e.0 e.1.1 → ◌≡◌ {A = Read (List ℕ)} (Some (term, after)) (term_at rest) → term ≡ e.1.0
 term_read rest e term after fit same r = let q = read_is term e.1.0 after (hits e.0 e.1.1) (r ∙ ap term_at same ∙ term_second e fit) in q.0
 
-pub term_is_there : (rest : List ℕ) (e : Entry) → EntryFits e → rest ≡ string e.1.0 ++ hits e.0 e.1.1 → ◌≡◌ {A = Read (List ℕ)} None (term_at rest) → ⊥
+pub term_is_there : (rest : List ℕ) (e : Entry) → IsFileEntry e → rest ≡ string e.1.0 ++ hits e.0 e.1.1 → ◌≡◌ {A = Read (List ℕ)} None (term_at rest) → ⊥
 term_is_there rest e fit same r = let bad = r ∙ ap term_at same ∙ term_second e fit in cc
 
 tied_then : (o p : Ordering) → ordering_then o p ≡ Equal → (o ≡ Equal) × (p ≡ Equal)
@@ -61,7 +61,7 @@ same_key [] (y ∷ ys) e = absurd cc
 same_key (x ∷ xs) [] e = absurd cc
 same_key (x ∷ xs) (y ∷ ys) e =
     let t = tied_then (nat_cmp x y) (slice_cmp nat_cmp xs ys) e in
-    cells x y xs ys (tied_numbers x y t.0) (same_key xs ys t.1)
+    cons_from x y xs ys (tied_numbers x y t.0) (same_key xs ys t.1)
 
 -- the places below low come before the key, and those from high on after it
 pub record Between (es : List Entry) (key : List ℕ) (low high : ℕ) : Type 0 where
@@ -107,9 +107,9 @@ pub same_count : (bytes : List ℕ) (es fs : List Entry) → SpellsPostings byte
 same_count bytes es fs p q = sym (length-map es entry) ∙ sym (table_count bytes (map entry es) p.table) ∙ table_count bytes (map entry fs) q.table ∙ length-map fs entry
 
 pub keys_alike : (f g : ℕ) (a b : List ℕ) (field : ℕ) (term : List ℕ) → f ≡ g → a ≡ b → heading_order (f ∷ a) (field ∷ term) ≡ heading_order (g ∷ b) (field ∷ term)
-keys_alike f g a b field term e h = ap (λ (k : List ℕ). heading_order k (field ∷ term)) (cells f g a b e h)
+keys_alike f g a b field term e h = ap (λ (k : List ℕ). heading_order k (field ∷ term)) (cons_from f g a b e h)
 
-pub rows_after : (rest : List ℕ) (e : Entry) (term after : List ℕ) → EntryFits e → rest ≡ string e.1.0 ++ hits e.0 e.1.1 → ◌≡◌ {A = Read (List ℕ)} (Some (term, after)) (term_at rest) → after ≡ hits e.0 e.1.1
+pub rows_after : (rest : List ℕ) (e : Entry) (term after : List ℕ) → IsFileEntry e → rest ≡ string e.1.0 ++ hits e.0 e.1.1 → ◌≡◌ {A = Read (List ℕ)} (Some (term, after)) (term_at rest) → after ≡ hits e.0 e.1.1
 rows_after rest e term after fit same r = let q = read_is term e.1.0 after (hits e.0 e.1.1) (r ∙ ap term_at same ∙ term_second e fit) in q.1
 
 -- ---- an entry by its field and its term
@@ -120,13 +120,10 @@ not_among es field term never hits x = never x.0 x.1 (ap heading_of (get_or_defa
 same_parts : (f g : ℕ) (s t : List ℕ) (hs ks : List Hit) → f ∷ s ≡ g ∷ t → ks ≡ hs → ◌≡◌ {A = Entry} (f, (s, hs)) (g, (t, ks))
 same_parts f g s t hs ks e h = cc
 
-same_field : (f g : ℕ) (s t : List ℕ) → f ∷ s ≡ g ∷ t → f ≡ g
-same_field f g s t e = cc
-
 pub among : (es : List Entry) (field : ℕ) (term : List ℕ) (hits : List Hit) (i : ℕ) → i < length es → heading_of (at_place es i) ≡ field ∷ term → hits ≡ hits_of (at_place es i) → HasEntry es field term hits
 among es field term hits i lt e h =
     (i, lt, get_or_default es i (field, (term, hits)) no_entry lt ∙ same_parts (field_of (at_place es i)) field (term_of (at_place es i)) term (hits_of (at_place es i)) hits e h)
 
-pub found_fit : (es : List Entry) (field : ℕ) (term : List ℕ) (hits : List Hit) (i : ℕ) → heading_of (at_place es i) ≡ field ∷ term → hits ≡ hits_of (at_place es i) → EntryFits (at_place es i) → HitsFit field hits
+pub found_fit : (es : List Entry) (field : ℕ) (term : List ℕ) (hits : List Hit) (i : ℕ) → heading_of (at_place es i) ≡ field ∷ term → hits ≡ hits_of (at_place es i) → IsFileEntry (at_place es i) → HitsFit field hits
 found_fit es field term hits i e h fit =
-    subst (HitsFit field) (sym h) (subst (λ (f : ℕ). HitsFit f (hits_of (at_place es i))) (same_field (field_of (at_place es i)) field (term_of (at_place es i)) term e) fit.1.1)
+    subst (HitsFit field) (sym h) (subst (λ (f : ℕ). HitsFit f (hits_of (at_place es i))) (cons_first (field_of (at_place es i)) field (term_of (at_place es i)) term e) fit.1.1)

@@ -22,7 +22,7 @@ use Rattle.body_forms.specs.ItemTable.{IsItemTable}
 use Rattle.body_forms.specs.TableParts.{ArePartsOf}
 use Rattle.body_forms.proofs.WritingTables.{parts_more}
 use Rattle.postings_plain.specs.declared.row.TermRow.{TermRow}
-use Rattle.postings_plain.specs.Postings.{Hit, Entry, field_of, hits_of, entry, EntryFits, HitFits, HitsFit, PositionsFit, above_hit}
+use Rattle.postings_plain.specs.Postings.{Hit, Entry, field_of, hits_of, entry, IsFileEntry, HitFits, HitsFit, PositionsFit, above_hit}
 use Rattle.postings_plain.specs.Body.{heading_of, heading_order, IsBefore, HasEntry, SpellsPostings}
 use Rattle.postings_plain.specs.Inverting.{has_term, term_positions, rows_with, HaveEntry, AreEntriesOf}
 use Rattle.postings_plain.specs.Gathering.{Gathers, AreFew, some_hits}
@@ -107,7 +107,7 @@ found_hits : (found : Found) (rows : List TermRow) (field : ℕ) (term : List �
 found_hits found rows field term hits g lt e = hits_known (rows_with field term rows) hits (sym (g.at field term lt) ∙ e)
 
 pub entry_fits : (found : Found) (rows : List TermRow) (heading : List ℕ) (field : ℕ) (term : List ℕ) (hits : List Hit) → Gathers found rows → AreFew rows → get (slice_cmp nat_cmp) found heading ≡ Some hits
-    → heading ≡ field ∷ term → field < 2 → 0 < length term → length term < 2 ^ 32 → EntryFits (field, (term, hits))
+    → heading ≡ field ∷ term → field < 2 → 0 < length term → length term < 2 ^ 32 → IsFileEntry (field, (term, hits))
 entry_fits found rows heading field term hits g few e both lt some small =
     let k = found_hits found rows field term hits g lt (ap (get (slice_cmp nat_cmp) found) (sym both) ∙ e) in
     (lt, ((some, small), subst (HitsFit field) k.0 (hits_fit field term rows few k.1)))
@@ -115,7 +115,7 @@ entry_fits found rows heading field term hits g few e both lt some small =
 -- the same at a turn of a walk over all that is found
 pub turn_fits : (xs : List (Bor (List ℕ) × Bor (List Hit))) (s t u : List (List ℕ × List Hit)) (r : Option (Bor (List ℕ) × Bor (List Hit))) (heading : Bor (List ℕ)) (hits : Bor (List Hit)) → Yields (TakesFirst deref_pair) s xs t → r ≡ Some (heading, hits) → TakesFirst deref_pair t r u
     → (found : Found) → s ≡ found.entries → IsOrdered (slice_cmp nat_cmp) found → (rows : List TermRow) → Gathers found rows → AreFew rows
-    → (field : ℕ) (term : List ℕ) → heading.now ≡ field ∷ term → field < 2 → 0 < length term → length term < 2 ^ 32 → EntryFits (field, (term, hits.now))
+    → (field : ℕ) (term : List ℕ) → heading.now ≡ field ∷ term → field < 2 → 0 < length term → length term < 2 ^ 32 → IsFileEntry (field, (term, hits.now))
 turn_fits xs s t u r heading hits y is step found start ordered rows g few field term both lt some small =
     let turn = btree_map_turn deref_pair xs s t u r (heading, hits) y is step nat_list_cmp_total found start ordered in
     entry_fits found rows heading.now field term hits.now g few turn.1 both lt some small
@@ -134,7 +134,7 @@ entries_with found = map (λ x. entry_with x.0 x.1) found
 -- what is found under a heading makes an entry with that heading, and the entry can be written
 pub record MakesEntry (found : List ℕ × List Hit) : Type 0 where
   pub heading : heading_of (entry_with found.0 found.1) ≡ found.0
-  pub fits : EntryFits (entry_with found.0 found.1)
+  pub fits : IsFileEntry (entry_with found.0 found.1)
 
 -- the offsets and the area are those of the entries of what is found
 pub record HasEntries (found : List (List ℕ × List Hit)) (offsets area : List ℕ) : Type 0 where
@@ -145,7 +145,7 @@ one_entry : (heading : List ℕ) (field : ℕ) (term : List ℕ) (hits : List Hi
 one_entry heading field term hits e = ap (λ (h : List ℕ). entry_with h hits) e
 
 pub entries_more : (found : List (List ℕ × List Hit)) (heading : List ℕ) (field : ℕ) (term : List ℕ) (hits : List Hit) (offsets area more_offsets more_area : List ℕ) → HasEntries found offsets area → heading ≡ field ∷ term
-    → EntryFits (field, (term, hits)) → more_area ≡ area ++ entry (field, (term, hits)) → length more_area < 2 ^ 32 → more_offsets ≡ offsets ++ u32_bytes (length more_area) → HasEntries (found ++ (heading, hits) ∷ []) more_offsets more_area
+    → IsFileEntry (field, (term, hits)) → more_area ≡ area ++ entry (field, (term, hits)) → length more_area < 2 ^ 32 → more_offsets ≡ offsets ++ u32_bytes (length more_area) → HasEntries (found ++ (heading, hits) ∷ []) more_offsets more_area
 entries_more found heading field term hits offsets area more_offsets more_area has both fits e small f =
     let same = one_entry heading field term hits both in
     let items : map entry (entries_with (found ++ (heading, hits) ∷ [])) ≡ map entry (entries_with found) ++ entry (field, (term, hits)) ∷ [] =
@@ -153,7 +153,7 @@ entries_more found heading field term hits offsets area more_offsets more_area h
     ∙ ap (λ (x : Entry). map entry (entries_with found) ++ entry x ∷ []) same in
     record {
       parts = subst (λ (x : List (List ℕ)). ArePartsOf x more_offsets more_area) (sym items) (parts_more (map entry (entries_with found)) (entry (field, (term, hits))) offsets area more_offsets more_area has.parts e small f);
-      make = All-push MakesEntry found (heading, hits) has.make (record { heading = ap heading_of same ∙ sym both; fits = subst EntryFits (sym same) fits });
+      make = All-push MakesEntry found (heading, hits) has.make (record { heading = ap heading_of same ∙ sym both; fits = subst IsFileEntry (sym same) fits });
     }
 
 -- ---- all that is found
@@ -229,7 +229,7 @@ spelled found rows body ordered g make pos table =
     let there = entry_is_there found rows g 0 first.0 (rows_with 0 first.0 rows) (record { kind = omega arith; some = first.1; hits_are = refl }) in
     record {
       some = omega (arith, there.1);
-      fit = All-map EntryFits (λ (x : List ℕ × List Hit). entry_with x.0 x.1) found.entries (All-weaker MakesEntry (λ (x : List ℕ × List Hit). EntryFits (entry_with x.0 x.1)) (λ x m. m.fits) found.entries make);
+      fit = All-map IsFileEntry (λ (x : List ℕ × List Hit). entry_with x.0 x.1) found.entries (All-weaker MakesEntry (λ (x : List ℕ × List Hit). IsFileEntry (entry_with x.0 x.1)) (λ x m. m.fits) found.entries make);
       ascend = ascending found ordered make;
       table = table;
     }

@@ -1,18 +1,19 @@
 -- Which bytes are a postings body.
-use Rattle.std.proofs.Common.{◌≡◌, ℕ, zero, suc, ◌+◌, ◌-◌, ◌<◌, Bool, false, List, [], ◌∷◌, ◌++◌, length, get_or, map, Some, None, refl, sym, ap, subst, ◌∙◌, inl, inr, arith}
+use Rattle.std.proofs.Common.{◌≡◌, ℕ, zero, suc, ◌+◌, ◌-◌, ◌<◌, Bool, List, [], ◌∷◌, ◌++◌, length, get_or, map, Some, None, refl, sym, ap, subst, ◌∙◌, inl, inr, arith}
 use Rattle.std.specs.Prelude.{IsTrue}
 use Rattle.std.specs.declared.cmp.Ordering.{Ordering}
 use Rattle.std.specs.declared.cmp.Ordering.TheVariants.{Less, Equal, Greater}
 use Rattle.std.proofs.lemmas.Bool.{cases_lt}
 use Rattle.std.proofs.lemmas.Cmp.{nat_list_cmp_total}
 use Rattle.std.proofs.lemmas.List.{append-nil, length-map, get_or_default}
-use Rattle.body_forms.specs.Format.{AreBytes, Read}
-use Rattle.postings_plain.specs.Postings.{Entry, hits_of, entry, EntryFits}
+use Rattle.codec_frame.specs.Bytes.{AreBytes}
+use Rattle.body_forms.specs.Format.{Read}
+use Rattle.postings_plain.specs.Postings.{Entry, hits_of, entry, IsFileEntry}
 use Rattle.postings_plain.specs.Body.{heading_of, heading_order, IsBefore, SpellsPostings}
 use Rattle.postings_plain.specs.Reading.{entry_at, end_after, IsEntry, IsEntryUpTo, AreEntries, no_entry, at_place, entry_in, entry_of}
 use Rattle.body_forms.specs.ItemTable.{IsItemTable}
 use Rattle.std.specs.Ordering.{is_lt}
-use Rattle.body_forms.proofs.Numerals.{cells}
+use Rattle.nrt_base.proofs.Plain.{cons_from}
 use Rattle.body_forms.proofs.ItemTables.{table_count}
 use Rattle.body_forms.proofs.Formats.{read_is}
 use Rattle.postings_plain.proofs.EntryLaws.{entry_format}
@@ -20,16 +21,16 @@ use Rattle.postings_plain.proofs.Finding.{entry_at_place}
 use Rattle.postings_plain.proofs.BodyLaws.{read_entry}
 
 -- read to the end, the bytes are an entry
-pub whole_entry : (item rest : List ℕ) (e : Entry) → AreBytes item → entry_at item ≡ Some (e, rest) → rest ≡ [] → EntryFits e × (item ≡ entry e)
+pub whole_entry : (item rest : List ℕ) (e : Entry) → AreBytes item → entry_at item ≡ Some (e, rest) → rest ≡ [] → IsFileEntry e × (item ≡ entry e)
 whole_entry item rest e fits r none =
     let t = entry_format.takes item e rest fits r in
     (t.1, t.0.parts ∙ ap (λ (x : List ℕ). entry e ++ x) none ∙ append-nil (entry e))
 
 -- an entry is read to the end
-pub read_whole : (item : List ℕ) (e : Entry) → EntryFits e → item ≡ entry e → entry_at item ≡ Some (e, [])
+pub read_whole : (item : List ℕ) (e : Entry) → IsFileEntry e → item ≡ entry e → entry_at item ≡ Some (e, [])
 read_whole item e fit same = ap entry_at (same ∙ sym (append-nil (entry e))) ∙ entry_format.again e [] fit
 
-pub entry_of-is : (items : List (List ℕ)) (i : ℕ) (e : Entry) → EntryFits e → get_or items i [] ≡ entry e → entry_of items i ≡ e
+pub entry_of-is : (items : List (List ℕ)) (i : ℕ) (e : Entry) → IsFileEntry e → get_or items i [] ≡ entry e → entry_of items i ≡ e
 entry_of-is items i e fit same = ap entry_in same ∙ read_entry e fit
 
 abbrev pub entries_of : List (List ℕ) → List Entry
@@ -40,14 +41,11 @@ at_entries_of [] i h = absurd (omega arith)
 at_entries_of (item ∷ items) zero h = refl
 at_entries_of (item ∷ items) (suc i) h = at_entries_of items i (omega arith)
 
-item_cells : (a b : List ℕ) (x y : List (List ℕ)) → a ≡ b → x ≡ y → a ∷ x ≡ b ∷ y
-item_cells a b x y e f = cc
-
 spell_back : (items : List (List ℕ)) → AreEntries items → map entry (entries_of items) ≡ items
 spell_back [] h = refl
 spell_back (item ∷ items) h =
     let f = h 0 (omega arith) in
-    item_cells (entry (entry_in item)) item (map entry (entries_of items)) items
+    cons_from (entry (entry_in item)) item (map entry (entries_of items)) items
     (ap entry (ap entry_in f.2 ∙ read_entry f.0 f.1) ∙ sym f.2) (spell_back items (λ i g. h (suc i) (omega arith)))
 
 -- neighbours in order are all in order
@@ -66,8 +64,8 @@ all_up items n i j h lt le =
     let e : i + (j - i - 1) + 1 ≡ j = omega arith in
     subst (λ (k : ℕ). heading_order (heading_of (entry_of items i)) (heading_of (entry_of items k)) ≡ Less) e (chain_up items n (j - i - 1) i h (omega arith))
 
-fit_at : (items : List (List ℕ)) (i : ℕ) → AreEntries items → i < length items → EntryFits (at_place (entries_of items) i)
-fit_at items i all h = let f = all i h in subst EntryFits (sym (at_entries_of items i h ∙ entry_of-is items i f.0 f.1 f.2)) f.1
+fit_at : (items : List (List ℕ)) (i : ℕ) → AreEntries items → i < length items → IsFileEntry (at_place (entries_of items) i)
+fit_at items i all h = let f = all i h in subst IsFileEntry (sym (at_entries_of items i h ∙ entry_of-is items i f.0 f.1 f.2)) f.1
 
 up_at : (items : List (List ℕ)) (i j : ℕ) → NextBelow items (length items - 1) → i < j → j < length items → heading_order (heading_of (at_place (entries_of items) i)) (heading_of (at_place (entries_of items) j)) ≡ Less
 up_at items i j next lt h =
@@ -86,7 +84,7 @@ is_body bytes items t pos all next =
     let len : length (entries_of items) ≡ length items = length-map items entry_in in
     record {
       some = omega (arith, len);
-      fit = λ i d h. subst EntryFits (at_default (entries_of items) i d h) (fit_at items i all (omega (arith, len)));
+      fit = λ i d h. subst IsFileEntry (at_default (entries_of items) i d h) (fit_at items i all (omega (arith, len)));
       ascend = λ i j d lt h. before_at (entries_of items) i j d (omega arith) h (up_at items i j next lt (omega (arith, len)));
       table = subst (IsItemTable bytes) (sym (spell_back items all)) t;
     }
@@ -110,7 +108,7 @@ pub less_iff : (o r : Ordering) (b : Bool) → b ≡ is_lt o → o ≡ r → (Is
 less_iff o r b e f = (λ h. sym f ∙ (less_alone o).0 (sym e ∙ h), λ g. e ∙ (less_alone o).1 (f ∙ g))
 
 pub keys_are : (f g : ℕ) (s t : List ℕ) (d e : Entry) → f ≡ d.0 → s ≡ d.1.0 → g ≡ e.0 → t ≡ e.1.0 → heading_order (f ∷ s) (g ∷ t) ≡ heading_order (heading_of d) (heading_of e)
-keys_are f g s t d e fd sd ge te = ap (λ (k : List ℕ). heading_order k (g ∷ t)) (cells f d.0 s d.1.0 fd sd) ∙ ap (heading_order (heading_of d)) (cells g e.0 t e.1.0 ge te)
+keys_are f g s t d e fd sd ge te = ap (λ (k : List ℕ). heading_order k (g ∷ t)) (cons_from f d.0 s d.1.0 fd sd) ∙ ap (heading_order (heading_of d)) (cons_from g e.0 t e.1.0 ge te)
 
 pub same_items : (bytes : List ℕ) (a b : List (List ℕ)) → IsItemTable bytes a → IsItemTable bytes b → length a ≡ length b
 same_items bytes a b t u = sym (table_count bytes a t) ∙ table_count bytes b u
@@ -143,6 +141,3 @@ next_more items n so_far here i h =
       | inl lt ↦ so_far i lt
       | inr ge ↦ let k : n ≡ i = omega arith in subst (λ (j : ℕ). heading_order (heading_of (entry_of items j)) (heading_of (entry_of items (j + 1))) ≡ Less) k here
     ]
-
-pub false_never : (b : Bool) → b ≡ false → IsTrue b → ⊥
-false_never b e h = let bad = sym e ∙ h in cc

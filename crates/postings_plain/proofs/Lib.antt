@@ -1,13 +1,13 @@
-pub mod EntryLaws
-pub mod Passing
-pub mod PlaceLaws
-pub mod Finding
-pub mod BodyLaws
-pub mod CountedHits
+mod EntryLaws
+mod Passing
+mod PlaceLaws
+mod Finding
+mod BodyLaws
+mod CountedHits
 pub mod FileLaws
-pub mod Judging
+mod Judging
 pub mod RowCounts
-pub mod Gaining
+mod Gaining
 pub mod GatheringLaws
-pub mod ChainWriting
-pub mod FoundEntries
+mod ChainWriting
+mod FoundEntries

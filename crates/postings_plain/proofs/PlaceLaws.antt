@@ -5,7 +5,8 @@ use Rattle.std.specs.List.Sorted.{IsStrictlySortedBy}
 use Rattle.std.specs.Ordering.{nat_cmp}
 use Rattle.std.specs.declared.cmp.Ordering.TheVariants.{Less}
 use Rattle.std.proofs.lemmas.Bool.Decides.{nat_tests}
-use Rattle.body_forms.specs.Format.{Read, ◌>>=◌, chain_at, ChainFits, AreBytes}
+use Rattle.codec_frame.specs.Bytes.{AreBytes}
+use Rattle.body_forms.specs.Format.{Read, ◌>>=◌, chain_at, ChainFits}
 use Rattle.body_forms.specs.Numbers.{MayCome, difference_at, above, positive_at, ascending_at}
 use Rattle.body_forms.proofs.Formats.{bind_some, read_is}
 use Rattle.body_forms.proofs.NumberLaws.{ascending_format}

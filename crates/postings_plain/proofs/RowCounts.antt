@@ -4,7 +4,7 @@ use Rattle.std.specs.List.{All, Any}
 use Rattle.std.proofs.lemmas.Bool.{cases_lt}
 use Rattle.std.proofs.lemmas.List.{get_or_default, length-map}
 use Rattle.body_forms.specs.Format.{ChainFits}
-use Rattle.postings_plain.specs.Postings.{Hit, row_of, Entry, field_of, hits_of, HitFits, above_hit, EntryFits}
+use Rattle.postings_plain.specs.Postings.{Hit, row_of, Entry, field_of, hits_of, HitFits, above_hit, IsFileEntry}
 use Rattle.postings_plain.specs.Body.{IsRowCount}
 use Rattle.postings_plain.specs.Reading.{end_after, IsEntry, IsEntryUpTo, AreEntries, no_entry, entry_in, entry_of}
 use Rattle.postings_plain.proofs.Judging.{entries_of, at_entries_of, entry_of-is}
@@ -74,7 +74,7 @@ entry_there items i d x lt =
 end_there : (items : List (List ℕ)) (i : ℕ) (x : IsEntry (get_or items i [])) → end_of items i ≡ end_after 0 (hits_of x.0)
 end_there items i x = ap (λ (e : Entry). end_after 0 (hits_of e)) (entry_of-is items i x.0 x.1 x.2)
 
-rows_below : (es : List Entry) (i n : ℕ) (d : Entry) (e : Entry) → EntryFits e → get_or es i d ≡ e → end_after 0 (hits_of e) ≤ n → All (λ h. row_of h < n) (hits_of (get_or es i d))
+rows_below : (es : List Entry) (i n : ℕ) (d : Entry) (e : Entry) → IsFileEntry e → get_or es i d ≡ e → end_after 0 (hits_of e) ≤ n → All (λ h. row_of h < n) (hits_of (get_or es i d))
 rows_below es i n d e fit same le = subst (λ (x : Entry). All (λ h. row_of h < n) (hits_of x)) (sym same) (λ k c h. omega (arith, all_below (field_of e) 0 (hits_of e) fit.1.1.1 k c h))
 
 reached_there : (items : List (List ℕ)) (i n : ℕ) (x : IsEntry (get_or items i [])) → i < length items → end_of items i ≡ n → Any (λ e. LastOf n (hits_of e)) (entries_of items)

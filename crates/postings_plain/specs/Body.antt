@@ -8,7 +8,7 @@ use Rattle.std.specs.declared.cmp.Ordering.TheVariants.{Less}
 use Rattle.body_forms.specs.ItemTable.{IsItemTable}
 use Rattle.body_forms.specs.File.{IsFile}
 use Rattle.codec_frame.specs.Frame.{Wanted}
-use Rattle.postings_plain.specs.Postings.{Hit, row_of, Entry, field_of, term_of, hits_of, entry, EntryFits}
+use Rattle.postings_plain.specs.Postings.{Hit, row_of, Entry, field_of, term_of, hits_of, entry, IsFileEntry}
 
 -- what an entry is found by: its field, then the bytes of its term
 abbrev pub heading_of : Entry → List ℕ
@@ -24,7 +24,7 @@ IsBefore e f = heading_order (heading_of e) (heading_of f) ≡ Less
 -- the bytes are the body of these entries: a table of them, in ascending order, at least one
 pub record SpellsPostings (body : List ℕ) (es : List Entry) : Type 0 where
   pub some : 0 < length es
-  pub fit : All EntryFits es
+  pub fit : All IsFileEntry es
   pub ascend : AllPairs IsBefore es
   pub table : IsItemTable body (map entry es)
 

@@ -3,10 +3,13 @@ use Rattle.std.specs.Prelude.{◌≡◌, ℕ, ◌<◌, ◌^◌, ◌++◌, List, 
 use Rattle.std.specs.List.{All}
 use Rattle.std.specs.Ordering.{nat_cmp}
 use Rattle.std.specs.Cmp.Lexicographic.{slice_cmp}
-use Rattle.std.specs.BTreeMap.{BTreeMap, get}
+use Rattle.std.specs.BTreeMap.{BTreeMap, get, Updates}
 use Rattle.postings_plain.specs.declared.row.TermRow.{TermRow}
-use Rattle.postings_plain.specs.Postings.{Hit, row_of}
-use Rattle.postings_plain.specs.Inverting.{rows_with}
+use Rattle.std.specs.Option.{unwrap_or}
+use Rattle.body_forms.specs.File.{AddsSpelling}
+use Rattle.postings_plain.specs.Postings.{Hit, Entry, row_of}
+use Rattle.postings_plain.specs.Body.{SpellsPostings}
+use Rattle.postings_plain.specs.Inverting.{rows_with, AreEntriesOf}
 
 -- the hits with one more place: in the last of them where it is of this row, and in a new one where all are of rows below
 pub record GainsPlace (old : List Hit) (row place : ℕ) (new : List Hit) : Type 0 where
@@ -30,3 +33,34 @@ pub record Gathers (found : BTreeMap (List ℕ) (List Hit)) (rows : List TermRow
 pub record AreFew (rows : List TermRow) : Type 0 where
   pub rows_few : length rows < 2 ^ 32
   pub words_few : All (λ row. length row.words < 2 ^ 32) rows
+
+-- the rows of each term, as they are found so far
+abbrev pub Terms : Type 0
+Terms = BTreeMap (List ℕ) (List Hit)
+
+-- the hits of a term that were found
+abbrev pub found_hits : Terms → List ℕ → List Hit
+found_hits found term = unwrap_or (get (slice_cmp nat_cmp) found term) []
+
+-- the term has these hits now, and every other term those that it had
+abbrev pub SetsHits : (old new : Terms) (term : List ℕ) → List Hit → Type 0
+SetsHits old new term hits = Updates (slice_cmp nat_cmp) old new term (Some hits)
+
+-- a term's hits have one more place, and every other term those that it had
+abbrev pub AddsPlace : (old new : Terms) (term : List ℕ) (row place : ℕ) → Type 0
+AddsPlace old new term row place = (hits : List Hit) × GainsPlace (found_hits old term) row place hits × SetsHits old new term hits
+
+-- after so many rows this one was gathered as well
+abbrev pub GathersRow : (number : ℕ) → TermRow → (old new : Terms) → Type 0
+GathersRow number row old new = (rows : List TermRow) → length rows ≡ number → Gathers old rows → Gathers new (rows ++ row ∷ [])
+
+-- the body has fewer than 2^32 bytes, and spells the entries of the rows
+pub record SpellsRows (body : List ℕ) (rows : List TermRow) : Type 0 where
+  pub small : length body < 2 ^ 32
+  pub entries : List Entry
+  pub are : AreEntriesOf rows entries
+  pub spelled : SpellsPostings body entries
+
+-- the body of the rows that were gathered, at least one, was added
+abbrev pub AddsPostings : (found : Terms) (old new : List ℕ) → Type 0
+AddsPostings found old new = (rows : List TermRow) → Gathers found rows → AreFew rows → 0 < length rows → AddsSpelling SpellsRows rows old new

@@ -4,7 +4,7 @@ use Rattle.std.specs.List.{filter, list_any, enumerate_from}
 use Rattle.std.specs.Str.{bytes_eq}
 use Rattle.postings_plain.specs.declared.row.TermRow.{TermRow}
 use Rattle.postings_plain.specs.Postings.{Hit, Entry}
-use Rattle.postings_plain.specs.Body.{HasEntry}
+use Rattle.postings_plain.specs.Body.{HasEntry, IsPostingsFile}
 
 -- each item with its place, from 0
 abbrev pub numbered : {X : Type 0} → List X → List (ℕ × X)
@@ -37,3 +37,7 @@ pub record HaveEntry (rows : List TermRow) (field : ℕ) (term : List ℕ) (hits
 -- the entries are exactly those that the rows have
 abbrev pub AreEntriesOf : List TermRow → List Entry → Type 0
 AreEntriesOf rows es = (field : ℕ) (term : List ℕ) (hits : List Hit) → HasEntry es field term hits ↔ HaveEntry rows field term hits
+
+-- the bytes are the file of the entries of these rows
+abbrev pub IsPostingsFileOf : (id : List ℕ) → List TermRow → List ℕ → Type 0
+IsPostingsFileOf id rows bytes = (es : List Entry) × AreEntriesOf rows es × IsPostingsFile id es bytes

@@ -61,5 +61,5 @@ abbrev pub entry : Entry → List ℕ
 entry e = (field_of e ∷ []) ++ (string (term_of e) ++ hits (field_of e) (hits_of e))
 
 -- the field is 0 or 1, and the term is not empty
-abbrev pub EntryFits : Entry → Type 0
-EntryFits e = (field_of e < 2) × (((0 < length (term_of e)) × (length (term_of e) < 2 ^ 32)) × HitsFit (field_of e) (hits_of e))
+abbrev pub IsFileEntry : Entry → Type 0
+IsFileEntry e = (field_of e < 2) × (((0 < length (term_of e)) × (length (term_of e) < 2 ^ 32)) × HitsFit (field_of e) (hits_of e))

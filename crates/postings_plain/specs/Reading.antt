@@ -4,12 +4,14 @@ use Rattle.body_forms.specs.Format.{Read, ◌>>=◌, chain_at, then_at, counted_
 use Rattle.body_forms.specs.Numbers.{string_at, difference_at, positive_at, ascending_at}
 use Rattle.body_forms.specs.ItemTable.{items_in}
 use Rattle.postings_plain.specs.Body.{heading_of}
-use Rattle.postings_plain.specs.Postings.{Hit, Entry, hits_of, above_hit, entry, EntryFits}
+use Rattle.postings_plain.specs.Postings.{Hit, Entry, hits_of, above_hit, entry, IsFileEntry}
 
+-- the positions of a hit: nothing for a key
 abbrev pub positions_at : (field : ℕ) → List ℕ → Read (List ℕ)
 positions_at zero bytes = Some ([], bytes)
 positions_at (suc n) bytes = ascending_at bytes
 
+-- a hit whose row is k or above
 abbrev pub hit_at : (field k : ℕ) → List ℕ → Read Hit
 hit_at field k bytes = then_at (difference_at k) (λ _. positions_at field) bytes
 
@@ -17,16 +19,20 @@ hit_at field k bytes = then_at (difference_at k) (λ _. positions_at field) byte
 abbrev pub counted_from_at : (field count k : ℕ) → List ℕ → Read (List Hit)
 counted_from_at field count k bytes = chain_at (hit_at field) above_hit count k bytes
 
+-- the hits of a term
 abbrev pub hits_at : (field : ℕ) → List ℕ → Read (List Hit)
 hits_at field bytes = counted_at positive_at (λ n. counted_from_at field n 0) bytes
 
+-- the field, 0 or 1
 unfoldable pub field_at : List ℕ → Read ℕ
 field_at [] = None
 field_at (b ∷ rest) = if nat_lt b 2 then Some (b, rest) else None
 
+-- the term, which is not empty
 unfoldable pub term_at : List ℕ → Read (List ℕ)
 term_at bytes = string_at bytes >>= λ t. if nat_lt 0 (length t.0) then Some t else None
 
+-- an entry: its field, its term and its hits
 abbrev pub entry_at : List ℕ → Read Entry
 entry_at bytes = then_at field_at (λ field. then_at term_at (λ _. hits_at field)) bytes
 
@@ -47,7 +53,7 @@ SkipsHits (Some found) read = (hs : List Hit) × (read ≡ Some (hs, found.1)) �
 
 -- the bytes are exactly one entry
 abbrev pub IsEntry : List ℕ → Type 0
-IsEntry item = (e : Entry) × EntryFits e × (item ≡ entry e)
+IsEntry item = (e : Entry) × IsFileEntry e × (item ≡ entry e)
 
 -- the field and the term are read past as well, and the entry is known by where its hits end
 abbrev pub SkipsEntry : Option (ℕ × List ℕ) → Read Entry → Type 0
@@ -56,7 +62,7 @@ SkipsEntry (Some found) read = (e : Entry) × (read ≡ Some (e, found.1)) × (f
 
 -- the bytes are exactly one entry, and this is one above its greatest row
 abbrev pub IsEntryUpTo : List ℕ → ℕ → Type 0
-IsEntryUpTo item end = (e : Entry) × EntryFits e × (item ≡ entry e) × (end ≡ end_after 0 (hits_of e))
+IsEntryUpTo item end = (e : Entry) × IsFileEntry e × (item ≡ entry e) × (end ≡ end_after 0 (hits_of e))
 
 -- each item is an entry
 abbrev pub AreEntries : List (List ℕ) → Type 0
@@ -66,6 +72,7 @@ AreEntries items = (i : ℕ) → i < length items → IsEntry (slice_index_or it
 abbrev pub no_entry : Entry
 no_entry = (0, ([], []))
 
+-- the entry at a place
 abbrev pub at_place : List Entry → ℕ → Entry
 at_place es i = slice_index_or es i no_entry
 
@@ -73,6 +80,11 @@ at_place es i = slice_index_or es i no_entry
 abbrev pub HasNoHeading : List Entry → List ℕ → Type 0
 HasNoHeading es heading = (i : ℕ) → i < length es → heading_of (at_place es i) ≡ heading → ⊥
 
+-- the entry at this place has the heading
+abbrev pub HasHeadingAt : List Entry → List ℕ → ℕ → Type 0
+HasHeadingAt es heading i = (i < length es) × (heading_of (at_place es i) ≡ heading)
+
+-- the entry that was read, or what stands for none
 abbrev pub entry_or_none : Read Entry → Entry
 entry_or_none None = no_entry
 entry_or_none (Some x) = x.0
@@ -85,6 +97,7 @@ entry_in item = entry_or_none (entry_at item)
 abbrev pub entry_of : List (List ℕ) → ℕ → Entry
 entry_of items i = entry_in (slice_index_or items i [])
 
+-- the entries that a body spells
 unfoldable pub entries_in : List ℕ → List Entry
 entries_in body = map entry_in (items_in body)
 

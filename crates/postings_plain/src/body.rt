@@ -1,8 +1,9 @@
-ghost use Rattle.std.specs.Prelude.{◌≡◌, ◌↔◌, IsTrue, ◌<◌, ◌+◌, ℕ, List, length, MatchOption};
-ghost use Rattle.std.specs.declared.cmp.Ordering.TheVariants.{Less};
+//! Which bytes are the body of postings.
+
+ghost use Rattle.std.specs.Prelude.{◌↔◌, IsTrue, ◌<◌, ◌+◌, ℕ, List, length, MatchOption};
 ghost use Rattle.body_forms.specs.ItemTable.{IsItemTable};
 ghost use Rattle.postings_plain.specs.Postings.{Entry};
-ghost use Rattle.postings_plain.specs.Body.{heading_of, heading_order, SpellsPostings, IsRowCount};
+ghost use Rattle.postings_plain.specs.Body.{IsBefore, SpellsPostings, IsRowCount};
 ghost use Rattle.postings_plain.specs.Reading.{IsEntry, AreEntries, IsEntryUpTo, entry_of};
 
 use crate::entries::skip_entry;
@@ -19,9 +20,10 @@ fn entry_end(item: &[u8]) -> Option<u64>
 
 // Whether the entry at a place stands before the next one, by field and by the bytes of the term.
 fn is_below_next(body: &[u8], place: u32) -> bool
-    requires table { (items : List (List ℕ)) × IsItemTable body.now items × AreEntries items × (place + 1 < length items) }
+    requires table { (items : List (List ℕ)) × IsItemTable body.now items × AreEntries items
+        × (place + 1 < length items) }
     ensures { (items : List (List ℕ)) → IsItemTable body.now items → AreEntries items
-        → (IsTrue result ↔ (heading_order (heading_of (entry_of items place)) (heading_of (entry_of items (place + 1))) ≡ Less)) }
+        → IsTrue result ↔ IsBefore (entry_of items place) (entry_of items (place + 1)) }
 {
     let (field, term) = heading_in(item_at(body, place));
     let (next_field, next_term) = heading_in(item_at(body, place + 1));

@@ -1,28 +1,30 @@
-ghost use Rattle.std.specs.Prelude.{◌≡◌, ◌++◌, ◌<◌, ◌^◌, ℕ, List, length, OnOk, IfOk};
+//! Files of postings, written.
+
+ghost use Rattle.std.specs.Prelude.{◌≡◌, ◌++◌, ◌<◌, ◌^◌, List, length, OnOk, IfOk};
+ghost use Rattle.body_forms.specs.File.{HasSmallBody};
 ghost use Rattle.body_forms.specs.Numbers.{ascending, Ascend};
-ghost use Rattle.codec_frame.specs.Frame.{IsFramed};
 ghost use Rattle.postings_plain.specs.declared.row.TermRow.{TermRow};
-ghost use Rattle.postings_plain.specs.Postings.{Entry, entry, EntryFits, hit, HitFits, hits, HitsFit, positions, PositionsFit};
-ghost use Rattle.postings_plain.specs.Body.{SpellsPostings, postings_wanted, IsPostingsFile};
-ghost use Rattle.postings_plain.specs.Inverting.{AreEntriesOf};
-ghost use Rattle.postings_plain.specs.Gathering.{Gathers, AreFew};
+ghost use Rattle.postings_plain.specs.Postings.{entry, IsFileEntry, hit, HitFits, hits, HitsFit, positions, PositionsFit};
+ghost use Rattle.postings_plain.specs.Body.{postings_wanted};
+ghost use Rattle.postings_plain.specs.Inverting.{IsPostingsFileOf};
+ghost use Rattle.postings_plain.specs.Gathering.{Gathers, AreFew, AddsPostings};
 
 use crate::file::{NAME, VERSION};
 use crate::hits::RowHit;
 use crate::inverting::{Found, inverted};
 use crate::row::TermRow;
-use body_forms::{push_difference, push_end, push_string, push_table};
+use body_forms::{push_difference, push_end, push_string, push_table, push_vint};
 use bytes::Bytes;
 use codec_frame::{write_footer, write_index_header};
-use nrt_base::{NoMemory, push_vint};
+use nrt_base::NoMemory;
 use std::alloc::Global;
 
 /// The file of the postings of these rows. Rows are numbered as they stand in the list, from 0, and positions are places
-/// among the words, from 0. A body of 2^32 bytes, 2^32 rows, 2^32 words of a row, or more are want of memory.
+/// among the words, from 0. A body of 2^32 bytes, 2^32 rows, 2^32 words of a row, or more are out of memory.
 pub fn encode(alloc: Global, id: &[u8; 16], rows: &[TermRow]) -> Result<Bytes, NoMemory>
     requires { 0 < length rows.now }
-    ensures file { IfOk result (λ bytes. (es : List Entry) × AreEntriesOf rows.now es × IsPostingsFile id.now es bytes) }
-    ensures small { IfOk result (λ bytes. (body : List ℕ) → IsFramed (postings_wanted id.now) 1 id.now body bytes → length body < 2 ^ 32) }
+    ensures file { IfOk result (IsPostingsFileOf id.now rows.now) }
+    ensures small { IfOk result (HasSmallBody (postings_wanted id.now) id.now) }
 {
     let found = inverted(alloc, rows)?;
     let mut out = Vec::new(alloc);
@@ -35,8 +37,7 @@ pub fn encode(alloc: Global, id: &[u8; 16], rows: &[TermRow]) -> Result<Bytes, N
 // Puts the body of all that is found at the end.
 fn push_body(alloc: Global, out: &mut Vec<u8>, found: &Found<'_>) -> Result<(), NoMemory>
     requires { (rows : List TermRow) × Gathers found.now rows × AreFew rows × (0 < length rows) }
-    ensures { OnOk result ((rows : List TermRow) → Gathers found.now rows → AreFew rows → 0 < length rows
-        → (body : List ℕ) × (out.new.items ≡ out.old.items ++ body) × (length body < 2 ^ 32) × ((es : List Entry) × AreEntriesOf rows es × SpellsPostings body es)) }
+    ensures { OnOk result (AddsPostings found.now out.old.items out.new.items) }
 {
     let count = found.len();
     let mut offsets = Vec::new(alloc);
@@ -53,7 +54,7 @@ fn push_body(alloc: Global, out: &mut Vec<u8>, found: &Found<'_>) -> Result<(), 
 
 // Puts an entry at the end.
 fn push_entry(out: &mut Vec<u8>, field: u8, term: &[u8], hits: &[RowHit]) -> Result<(), NoMemory>
-    requires { EntryFits (field, (term.now, hits.now)) }
+    requires { IsFileEntry (field, (term.now, hits.now)) }
     ensures { OnOk result (out.new.items ≡ out.old.items ++ entry (field, (term.now, hits.now))) }
 {
     out.push(field)?;

@@ -1,3 +1,5 @@
+//! The parts of an entry, read past.
+
 ghost use Rattle.std.specs.Prelude.{◌≡◌, ◌<◌, ◌≤◌, ◌^◌, IfSome};
 ghost use Rattle.std.specs.Option.{option_map};
 ghost use Rattle.body_forms.specs.Format.{Skips};
@@ -35,6 +37,7 @@ pub fn term_of(bytes: &[u8]) -> Option<(&[u8], &[u8])>
     }
 }
 
+// Reads past the positions of a hit.
 fn skip_positions(field: u8, bytes: &[u8]) -> Option<&[u8]>
     ensures { Skips (option_map (λ r. r.now) result) (positions_at field bytes.now) }
 {
@@ -64,8 +67,10 @@ pub fn skip_hits(field: u8, bytes: &[u8]) -> Option<(u64, &[u8])>
     skip_counted(field, count, rest)
 }
 
+// Reads past so many hits.
 fn skip_counted(field: u8, count: u32, bytes: &[u8]) -> Option<(u64, &[u8])>
-    ensures { SkipsHits (option_map (λ x. (x.0, x.1.now)) result) (counted_from_at field count 0 bytes.now) }
+    ensures { SkipsHits (option_map (λ x. (x.0, x.1.now)) result)
+        (counted_from_at field count 0 bytes.now) }
 {
     let mut rest = bytes;
     let mut least: u64 = 0;

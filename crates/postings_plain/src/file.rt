@@ -1,15 +1,17 @@
-ghost use Rattle.std.specs.Prelude.{◌≡◌, ◌↔◌, List, Ok, Err, MatchOption, IfSome};
-ghost use Rattle.codec_frame.specs.Frame.{wanted, IsFramedAs};
-ghost use Rattle.codec_frame.specs.Checking.{IsFirstFault};
-ghost use Rattle.postings_plain.specs.Postings.{Entry, HitsFit};
-ghost use Rattle.postings_plain.specs.Body.{SpellsPostings, HasEntry, HasNoEntry, IsRowCount, postings_wanted, IsPostingsFile};
+//! Files of postings, read.
+
+ghost use Rattle.std.specs.Prelude.{List, MatchOption, IfSome};
+ghost use Rattle.codec_frame.specs.Checking.{IsChecked};
+ghost use Rattle.body_forms.specs.File.{IsFileRead};
+ghost use Rattle.postings_plain.specs.Postings.{HitsFit};
+ghost use Rattle.postings_plain.specs.Body.{SpellsPostings, HasEntry, HasNoEntry, IsRowCount, postings_wanted};
 
 use crate::body::row_count;
 use crate::find::find;
 use crate::postings::Postings;
 use body_forms::item_at;
 use bytes::Bytes;
-use codec_frame::{FileFault, FrameFault, Want, check};
+use codec_frame::{FileFault, FrameFault, Framed, Want, check};
 use nrt_base::{NoMemory, Share};
 use std::alloc::Global;
 use std::marker::Model;
@@ -20,17 +22,18 @@ pub const NAME: &[u8; 11] = b"NrtPostings";
 /// The version of the format.
 pub const VERSION: u32 = 1;
 
-// What is wanted of a file with this id.
-fn want(id: &[u8; 16]) -> Want<'static>
-    ensures { wanted result ≡ postings_wanted id.now }
+// The frame of a file with this id.
+fn frame_of(bytes: &Bytes, id: &[u8; 16]) -> Result<Framed, FrameFault>
+    ensures { IsChecked (postings_wanted id.now) bytes.now result }
 {
-    Want {
+    let want = Want {
         name: NAME,
         min: VERSION,
         max: VERSION,
         id: Some(*id),
         suffix: b"",
-    }
+    };
+    check(bytes.as_slice(), &want)
 }
 
 /// The postings of a segment, seen as the list of their entries: each has a field, a term and its hits. Nothing is copied
@@ -55,7 +58,8 @@ impl Model for PostFile {
     ghost view = { λ a. entries_in (slice_range a.bytes a.start a.end) };
 
     ghost invariant = { λ a. (a.start ≤ a.end) × (a.end ≤ length a.bytes)
-        × SpellsPostings (slice_range a.bytes a.start a.end) (entries_in (slice_range a.bytes a.start a.end))
+        × SpellsPostings (slice_range a.bytes a.start a.end)
+        (entries_in (slice_range a.bytes a.start a.end))
         × IsRowCount (entries_in (slice_range a.bytes a.start a.end)) a.rows };
 }
 
@@ -75,7 +79,8 @@ impl PostFile {
 
     /// The hits of a term: of a key where the field is 0, of a word where it is 1. None comes exactly where no row has it.
     pub fn find(&self, field: u8, term: &[u8]) -> Option<Postings<'_>>
-        ensures found { MatchOption result (HasNoEntry self.now field term.now) (HasEntry self.now field term.now) }
+        ensures found { MatchOption result (HasNoEntry self.now field term.now)
+            (HasEntry self.now field term.now) }
         ensures fit { IfSome result (HitsFit field) }
     {
         let body = self.body();
@@ -84,6 +89,7 @@ impl PostFile {
     }
 }
 
+/// The bytes are shared and not copied.
 impl Share for PostFile {
     fn share(&self, alloc: Global) -> Result<Self, NoMemory> {
         Ok(PostFile {
@@ -97,11 +103,9 @@ impl Share for PostFile {
 
 /// The postings of a file with this id, which is looked at whole.
 pub fn read_postings(bytes: Bytes, id: &[u8; 16]) -> Result<PostFile, FileFault>
-    ensures value { (es : List Entry) → (result ≡ Ok es) ↔ IsPostingsFile id.now es bytes }
-    ensures frame { (fault : FrameFault) → (result ≡ Err (FileFault.Frame fault)) ↔ IsFirstFault (postings_wanted id.now) bytes fault }
-    ensures body { (result ≡ Err FileFault.Body) ↔ (IsFramedAs (postings_wanted id.now) bytes × ((es : List Entry) → IsPostingsFile id.now es bytes → ⊥)) }
+    ensures { IsFileRead SpellsPostings (postings_wanted id.now) id.now bytes result }
 {
-    let frame = check(bytes.as_slice(), &want(id))?;
+    let frame = frame_of(&bytes, id)?;
     match row_count(&bytes.as_slice()[frame.start..frame.end]) {
         Some(rows) => Ok(PostFile {
             bytes,

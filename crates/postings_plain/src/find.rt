@@ -1,7 +1,9 @@
+//! The entry of a term, found by halving.
+
 ghost use Rattle.std.specs.Prelude.{◌≡◌, ◌<◌, ◌∷◌, List, length, MatchOption};
-ghost use Rattle.postings_plain.specs.Postings.{Entry, EntryFits, entry};
+ghost use Rattle.postings_plain.specs.Postings.{Entry, field_of as field_in, term_of as term_in, IsFileEntry, entry};
 ghost use Rattle.postings_plain.specs.Body.{heading_of, heading_order, SpellsPostings};
-ghost use Rattle.postings_plain.specs.Reading.{IsEntry, HasNoHeading, at_place};
+ghost use Rattle.postings_plain.specs.Reading.{IsEntry, HasNoHeading, HasHeadingAt, at_place};
 
 use crate::entries::{field_of, term_of};
 use body_forms::{item_at, item_count};
@@ -10,7 +12,8 @@ use std::cmp::Ordering;
 /// Lends the field and the term of an entry.
 pub fn heading_in(item: &[u8]) -> (u8, &[u8])
     requires { IsEntry item.now }
-    ensures { (e : Entry) → EntryFits e → item.now ≡ entry e → (result.0 ≡ e.0) × (result.1.now ≡ e.1.0) }
+    ensures field { (e : Entry) → IsFileEntry e → item.now ≡ entry e → result.0 ≡ field_in e }
+    ensures term { (e : Entry) → IsFileEntry e → item.now ≡ entry e → result.1.now ≡ term_in e }
 {
     match field_of(item) {
         Some((field, rest)) => match term_of(rest) {
@@ -32,6 +35,7 @@ pub fn compare_headings(field: u8, term: &[u8], other: u8, other_term: &[u8]) ->
     }
 }
 
+// The order of the heading at a place and another one.
 fn compare_at(body: &[u8], place: u32, field: u8, term: &[u8]) -> Ordering
     requires { (es : List Entry) × SpellsPostings body.now es × (place < length es) }
     ensures { (es : List Entry) → SpellsPostings body.now es
@@ -45,7 +49,8 @@ fn compare_at(body: &[u8], place: u32, field: u8, term: &[u8]) -> Ordering
 pub fn find(body: &[u8], field: u8, term: &[u8]) -> Option<u32>
     requires { (es : List Entry) × SpellsPostings body.now es }
     ensures { (es : List Entry) → SpellsPostings body.now es
-        → MatchOption result (HasNoHeading es (field ∷ term.now)) (λ i. (i < length es) × (heading_of (at_place es i) ≡ field ∷ term.now)) }
+        → MatchOption result (HasNoHeading es (field ∷ term.now))
+        (HasHeadingAt es (field ∷ term.now)) }
 {
     let mut low = 0;
     let mut high = item_count(body);

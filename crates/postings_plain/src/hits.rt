@@ -1,3 +1,5 @@
+//! The rows that have a term, as they are gathered.
+
 ghost use Rattle.std.specs.Prelude.{◌≡◌, ◌↔◌, ◌++◌, ◌∷◌, [], IsTrue, OnOk};
 ghost use Rattle.postings_plain.specs.Gathering.{EndsInRow, GainsPlace};
 

@@ -1,11 +1,7 @@
-ghost use Rattle.std.specs.Prelude.{◌≡◌, ◌++◌, ◌∷◌, ◌<◌, ◌^◌, [], List, length, Some, OnOk, IfOk};
-ghost use Rattle.std.specs.Ordering.{nat_cmp};
-ghost use Rattle.std.specs.Cmp.Lexicographic.{slice_cmp};
-ghost use Rattle.std.specs.Option.{unwrap_or};
-ghost use Rattle.std.specs.BTreeMap.{get, Updates};
-ghost use Rattle.postings_plain.specs.declared.row.TermRow.{TermRow};
-ghost use Rattle.postings_plain.specs.Postings.{Hit};
-ghost use Rattle.postings_plain.specs.Gathering.{GainsPlace, Gathers, AreFew};
+//! The rows of each term, gathered row by row.
+
+ghost use Rattle.std.specs.Prelude.{◌++◌, ◌∷◌, ◌<◌, ◌^◌, [], length, OnOk, IfOk};
+ghost use Rattle.postings_plain.specs.Gathering.{Gathers, AreFew, found_hits, SetsHits, AddsPlace, GathersRow};
 
 use crate::hits::TermHits;
 use crate::row::TermRow;
@@ -20,8 +16,10 @@ const MOST: usize = 0xffff_ffff;
 /// The rows of each term, in the order of the file.
 pub type Found<'a> = BTreeMap<Term<'a>, TermHits>;
 
+// Adds a row to the hits of its key.
 fn add_key<'a>(alloc: Global, found: &mut Found<'a>, row: u32, key: &'a Key) -> Result<(), NoMemory>
-    ensures { OnOk result (Updates (slice_cmp nat_cmp) found.old found.new (0 ∷ key.now) (Some (unwrap_or (get (slice_cmp nat_cmp) found.old (0 ∷ key.now)) [] ++ (row, []) ∷ []))) }
+    ensures { OnOk result (SetsHits found.old found.new (0 ∷ key.now)
+        (found_hits found.old (0 ∷ key.now) ++ (row, []) ∷ [])) }
 {
     let hits = found
         .entry(Term::of_key(key))?
@@ -30,6 +28,7 @@ fn add_key<'a>(alloc: Global, found: &mut Found<'a>, row: u32, key: &'a Key) -> 
     Ok(())
 }
 
+// Adds a place of a word in a row to the hits of the word.
 fn add_word<'a>(
     alloc: Global,
     found: &mut Found<'a>,
@@ -37,7 +36,7 @@ fn add_word<'a>(
     place: u32,
     word: &'a Word,
 ) -> Result<(), NoMemory>
-    ensures { OnOk result ((hits : List Hit) × GainsPlace (unwrap_or (get (slice_cmp nat_cmp) found.old (1 ∷ word.now)) []) row place hits × Updates (slice_cmp nat_cmp) found.old found.new (1 ∷ word.now) (Some hits)) }
+    ensures { OnOk result (AddsPlace found.old found.new (1 ∷ word.now) row place) }
 {
     let hits = found
         .entry(Term::of_word(word)?)?
@@ -53,7 +52,7 @@ fn add_row<'a>(
     number: u32,
     row: &'a TermRow,
 ) -> Result<(), NoMemory>
-    ensures gathers { OnOk result ((rows : List TermRow) → length rows ≡ number → Gathers found.old rows → Gathers found.new (rows ++ row.now ∷ [])) }
+    ensures gathers { OnOk result (GathersRow number row.now found.old found.new) }
     ensures few { OnOk result (length row.now.words < 2 ^ 32) }
 {
     let words = row.words.as_slice();
@@ -67,7 +66,7 @@ fn add_row<'a>(
     Ok(())
 }
 
-/// The rows of each term of these rows. 2^32 rows, or words of a row, or bytes of a word, or more are want of memory.
+/// The rows of each term of these rows. 2^32 rows, or words of a row, or bytes of a word, or more are out of memory.
 pub fn inverted<'a>(alloc: Global, rows: &'a [TermRow]) -> Result<Found<'a>, NoMemory>
     ensures gathers { IfOk result (λ found. Gathers found rows.now) }
     ensures few { OnOk result (AreFew rows.now) }

@@ -1,3 +1,5 @@
+//! The positions of a word in a row, read as they are asked for.
+
 ghost use Rattle.std.specs.Prelude.{◌≡◌, ◌<◌, ◌^◌, ℕ, List, [], length, Some};
 ghost use Rattle.std.specs.Ordering.{nat_cmp};
 ghost use Rattle.std.specs.List.Sorted.{IsStrictlySortedBy};
@@ -43,7 +45,8 @@ impl Positions<'_> {
     /// The positions at the front of the bytes, how many there are first.
     pub(crate) fn counted(bytes: &[u8]) -> Positions<'_>
         requires { (xs : List ℕ) × (tail : List ℕ) × (ascending_at bytes.now ≡ Some (xs, tail)) }
-        ensures value { (xs : List ℕ) (tail : List ℕ) → ascending_at bytes.now ≡ Some (xs, tail) → result ≡ xs }
+        ensures value { (xs tail : List ℕ) → ascending_at bytes.now ≡ Some (xs, tail)
+            → result ≡ xs }
         ensures few { length result < 2 ^ 32 }
         ensures ascend { IsStrictlySortedBy nat_cmp result }
     {

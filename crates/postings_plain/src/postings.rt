@@ -1,7 +1,9 @@
+//! The hits of a term, read as they are asked for.
+
 ghost use Rattle.std.specs.Prelude.{◌≡◌, ◌<◌, ◌^◌, length, IfSome, IfNone, All};
 ghost use Rattle.std.specs.Ordering.{nat_cmp};
 ghost use Rattle.std.specs.List.Sorted.{IsStrictlySortedBy};
-ghost use Rattle.postings_plain.specs.Postings.{row_of, Entry, EntryFits, entry, hits_of};
+ghost use Rattle.postings_plain.specs.Postings.{row_of, Entry, IsFileEntry, entry, hits_of};
 ghost use Rattle.postings_plain.specs.Rows.{from_row, first_row, first_positions, IsLeastFrom};
 ghost use Rattle.postings_plain.specs.Reading.{IsEntry};
 
@@ -37,7 +39,7 @@ impl<'a> Postings<'a> {
     /// The hits of an entry.
     pub(crate) fn of_entry(item: &'a [u8]) -> Postings<'a>
         requires { IsEntry item.now }
-        ensures { (e : Entry) → EntryFits e → item.now ≡ entry e → result ≡ hits_of e }
+        ensures { (e : Entry) → IsFileEntry e → item.now ≡ entry e → result ≡ hits_of e }
     {
         match field_of(item) {
             Some((field, rest)) => match term_of(rest) {
@@ -78,6 +80,18 @@ impl<'a> Postings<'a> {
             }
         }
         None
+    }
+
+    /// Another reader of the same hits.
+    pub fn again(&self) -> Postings<'a>
+        ensures { result ≡ self.now }
+    {
+        Postings {
+            field: self.field,
+            least: self.least,
+            count: self.count,
+            rest: self.rest,
+        }
     }
 
     /// The positions of the word in the first row that is left: none where no row is left, and none for a key. They are lent

@@ -1,3 +1,5 @@
+//! A row of terms.
+
 use nrt_base::{Key, List, Word};
 
 /// A row of a segment that is written: its key, and the words of its text in order.

@@ -1,3 +1,5 @@
+//! Terms: a field and bytes, in the order of the file.
+
 ghost use Rattle.std.specs.Prelude.{◌≡◌, ◌∷◌, ◌<◌, ◌^◌, IfOk, length, nat_eq};
 ghost use Rattle.std.proofs.Common.{refl, sym};
 ghost use Rattle.std.specs.Cmp.{partial_equiv_from_equiv, partial_order_from_total, partial_order_from_own_ties};
@@ -41,7 +43,7 @@ impl<'a> Term<'a> {
         }
     }
 
-    /// A word of 2^32 bytes or more is want of memory.
+    /// A word of 2^32 bytes or more is out of memory.
     pub fn of_word(word: &'a Word) -> Result<Term<'a>, NoMemory>
         ensures { IfOk result (λ term. term ≡ 1 ∷ word.now) }
     {

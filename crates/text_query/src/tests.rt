@@ -1,6 +1,6 @@
 use crate::{QueryFault, one_tree, parse_query, words};
-use nrt_base::List;
 use documents::Query;
+use nrt_base::List;
 use std::alloc::{AllocError, Global};
 use std::test::Fail;
 

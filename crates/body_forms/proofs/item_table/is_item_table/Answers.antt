@@ -1,6 +1,6 @@
 use Rattle.std.proofs.Common.{◌≡◌, ◌∙◌, sym, ap, arith}
 use Rattle.std.proofs.lemmas.Bool.{eqb-true, eq-eqb}
-use Rattle.body_forms.specs.ItemTable.{count_in, start_in}
+use Rattle.body_forms.specs.ItemTable.{item_count_in, item_start_in}
 use Rattle.body_forms.proofs.TableTests.{fails, last_test}
 use Rattle.body_forms.proofs.item_table.is_item_table.Goals as goal
 
@@ -24,7 +24,7 @@ returns-then-start-end c = fails c.args.bytes.now (λ p.
 pub returns : goal.returns
 returns c =
     let n = c.number_from-count.ensures in
-    let at_count : start_in c.args.bytes.now (count_in c.args.bytes.now) ≡ c.number_from-2.result = ap (start_in c.args.bytes.now) (sym n) ∙ sym c.number_from-2.ensures in
+    let at_count : item_start_in c.args.bytes.now (item_count_in c.args.bytes.now) ≡ c.number_from-2.result = ap (item_start_in c.args.bytes.now) (sym n) ∙ sym c.number_from-2.ensures in
     last_test c.args.bytes.now _
     (λ h. record {
       long = omega (arith, n, c.if-bytes-count.false);

@@ -7,5 +7,5 @@ returns c =
     let b = c.in_ok-push_body.ensures in
     let f = c.in_ok-write_footer.ensures in
     let v = c.in_ok-from_vec.ensures in
-    let framed = file_framed c.args.id.now c.new-out.result.items c.write_index_header.new.out.items b.0 c.push_body.new.out.items c.write_footer.new.out.items c.in_ok-from_vec.field-0 c.told-id c.new-out.ensures.items h.ok b.1 f.ok v.ok in
-    record { file = record { body = b.0; framed = framed; spelled = b.2 }; small = small_file c.args.id.now c.in_ok-from_vec.field-0 b.0 framed b.3 }
+    let framed = file_framed c.args.id.now c.new-out.result.items c.write_index_header.new.out.items b.body c.push_body.new.out.items c.write_footer.new.out.items c.in_ok-from_vec.field-0 c.told-id c.new-out.ensures.items h.ok b.added f.ok v.ok in
+    record { file = record { body = b.body; framed = framed; spelled = b.spelled.spelled }; small = small_file c.args.id.now c.in_ok-from_vec.field-0 b.body framed b.spelled.small }

@@ -2,4 +2,4 @@ use Rattle.docs_plain.proofs.WritingLaws.{HasRows}
 use Rattle.docs_plain.proofs.encoding.push_body.Given as goal
 
 abbrev pub invariant-loop-doc : goal.invariant-loop-doc
-invariant-loop-doc l = HasRows l.initial.out.items l.docs l.doc-index l.out.items
+invariant-loop-doc l = HasRows l.docs l.doc-index l.offsets.items l.area.items

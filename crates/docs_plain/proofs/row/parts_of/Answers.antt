@@ -5,4 +5,9 @@ pub unreachable-requires : goal.unreachable-requires
 unreachable-requires c = let e = c.in-None.ensures in string_is_there c.args.item.now c.requires e
 
 pub returns : goal.returns
-returns c = λ doc fit same. let e = c.in-Some.ensures in parts_are c.args.item.now c.in-Some.parts.0.now c.in-Some.parts.1.now doc fit same e
+returns c =
+    let e = c.in-Some.ensures in
+    record {
+      key = λ doc fit same. (parts_are c.args.item.now c.in-Some.parts.0.now c.in-Some.parts.1.now doc fit same e).0;
+      text = λ doc fit same. (parts_are c.args.item.now c.in-Some.parts.0.now c.in-Some.parts.1.now doc fit same e).1;
+    }

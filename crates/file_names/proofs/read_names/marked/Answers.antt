@@ -1,4 +1,4 @@
-use Rattle.std.proofs.Common.{◌≡◌, length, [], Option, Some, ap, arith}
+use Rattle.std.proofs.Common.{◌≡◌, length, [], Some, ap, arith}
 use Rattle.std.proofs.lemmas.Bool.Decides.{nat_tests}
 use Rattle.file_names.proofs.read_names.marked.Goals as goal
 

@@ -1,4 +1,4 @@
-use Rattle.std.proofs.Common.{◌≡◌, ◌+◌, ◌++◌, codes, Option, Some, None, sym, ◌∙◌}
+use Rattle.std.proofs.Common.{◌+◌, ◌++◌, codes, Some, None, sym, ◌∙◌}
 use Rattle.std.proofs.lemmas.Bool.Decides.{Decides-eqb}
 use Rattle.std.proofs.lemmas.Slice.Eq.{strip_suffix_is}
 use Rattle.file_names.specs.Base36.{base36_of}

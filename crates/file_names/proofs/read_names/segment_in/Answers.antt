@@ -1,4 +1,3 @@
-use Rattle.std.proofs.Common.{◌∙◌, ap}
 use Rattle.file_names.proofs.NameReading.{file_found}
 use Rattle.file_names.proofs.read_names.segment_in.Goals as goal
 

@@ -10,8 +10,9 @@ returns c =
     let b = c.in_ok-push_u32-2.ensures in
     let e = c.in_ok-extend_from_slice.ensures in
     let held = c.live.inside in
-    let body = u32_bytes held.rows ++ (u32_bytes held.live ++ held.bits.items) in (
-      body,
-      put_together c.args.out.now.items c.push_u32.new.out.items c.push_u32-2.new.out.items c.extend_from_slice.new.self.items held.rows held.live c.deref.result.now held.bits.items a.ok b.ok e.items c.deref.ensures.value,
-      subst (λ (live : List Bool). SpellsLiveRows body live) c.live.view_is (spelled body held.bits.items held.rows held.live c.live.invariant refl),
-    )
+    let body = u32_bytes held.rows ++ (u32_bytes held.live ++ held.bits.items) in
+    record {
+      body = body;
+      added = put_together c.args.out.now.items c.push_u32.new.out.items c.push_u32-2.new.out.items c.extend_from_slice.new.self.items held.rows held.live c.deref.result.now held.bits.items a.ok b.ok e.items c.deref.ensures.value;
+      spelled = subst (λ (live : List Bool). SpellsLiveRows body live) c.live.view_is (spelled body held.bits.items held.rows held.live c.live.invariant refl);
+    }

@@ -1,8 +1,6 @@
-use Rattle.live_bits.proofs.FileLaws.{one_file_list, one_live_file}
+use Rattle.body_forms.proofs.FileLaws.{files_one_to_one}
+use Rattle.live_bits.proofs.FileLaws.{live_kind}
 use Rattle.live_bits.proofs.laws.one_file.Goals as goal
 
-pub returns-clause-spelling : goal.returns-clause-spelling
-returns-clause-spelling c = one_live_file
-
-pub returns-clause-reading : goal.returns-clause-reading
-returns-clause-reading c = one_file_list
+pub returns : goal.returns
+returns c = λ id live_gen. files_one_to_one (live_kind id live_gen)

@@ -1,7 +1,8 @@
 use Rattle.std.proofs.Common.{◌∙◌, sym, ap, arith, length}
 use Rattle.std.proofs.lemmas.List.{nil_from_length}
 use Rattle.std.proofs.lemmas.Bool.{eqb-true, eq-eqb}
-use Rattle.postings_plain.proofs.Judging.{entry_test, goes_past, never_read, false_never}
+use Rattle.nrt_base.proofs.Plain.{false_never}
+use Rattle.postings_plain.proofs.Judging.{entry_test, goes_past, never_read}
 use Rattle.postings_plain.proofs.body.entry_end.Goals as goal
 
 pub returns-in_err-end : goal.returns-in_err-end

@@ -1,7 +1,8 @@
 use Rattle.std.proofs.Common.{◌∙◌, arith, map}
 use Rattle.std.proofs.lemmas.List.{length-map}
 use Rattle.postings_plain.specs.Postings.{entry}
-use Rattle.postings_plain.proofs.Judging.{entry_more, next_more, false_never, is_body, body_items, body_next, entries_of}
+use Rattle.nrt_base.proofs.Plain.{false_never}
+use Rattle.postings_plain.proofs.Judging.{entry_more, next_more, is_body, body_items, body_next, entries_of}
 use Rattle.postings_plain.proofs.RowCounts.{ends_more, end_at, count_of_ends}
 use Rattle.postings_plain.proofs.body.row_count.Goals as goal
 

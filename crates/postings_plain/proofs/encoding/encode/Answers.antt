@@ -1,10 +1,8 @@
-use Rattle.std.proofs.Common.{ℕ, List, length, ◌<◌, ◌^◌, refl, arith}
-use Rattle.body_forms.proofs.FileLaws.{OneVersion, framed_file, of_each_body}
+use Rattle.std.proofs.Common.{ℕ, List, length, ◌<◌, ◌^◌, refl}
+use Rattle.body_forms.proofs.FileLaws.{framed_file, of_each_body}
 use Rattle.postings_plain.specs.Body.{postings_wanted}
+use Rattle.postings_plain.proofs.FileLaws.{postings_kind}
 use Rattle.postings_plain.proofs.encoding.encode.Goals as goal
-
-one_version : (id : List ℕ) → OneVersion (postings_wanted id)
-one_version id = record { same = refl; small = omega arith }
 
 pub returns : goal.returns
 returns c =
@@ -13,9 +11,10 @@ returns c =
     let h = c.in_ok-write_index_header.ensures in
     let f = c.in_ok-write_footer.ensures in
     let v = c.in_ok-from_vec.ensures in
-    let framed = framed_file (postings_wanted id) id c.new-out.result.items c.write_index_header.new.out.items b.0 c.push_body.new.out.items c.write_footer.new.out.items c.in_ok-from_vec.field-0
-    (one_version id) c.told-id refl c.new-out.ensures.items h.ok b.1 f.ok v.ok in
+    let one = (postings_kind id).version in
+    let framed = framed_file (postings_wanted id) id c.new-out.result.items c.write_index_header.new.out.items b.body c.push_body.new.out.items c.write_footer.new.out.items c.in_ok-from_vec.field-0
+    one c.told-id refl c.new-out.ensures.items h.ok b.added f.ok v.ok in
     record {
-      file = (b.3.0, b.3.1, record { body = b.0; framed = framed; spelled = b.3.2 });
-      small = of_each_body (postings_wanted id) id c.in_ok-from_vec.field-0 b.0 (λ (body : List ℕ). length body < 2 ^ 32) (one_version id) framed b.2;
+      file = (b.spelled.entries, b.spelled.are, record { body = b.body; framed = framed; spelled = b.spelled.spelled });
+      small = of_each_body (postings_wanted id) id c.in_ok-from_vec.field-0 b.body (λ (body : List ℕ). length body < 2 ^ 32) one framed b.spelled.small;
     }

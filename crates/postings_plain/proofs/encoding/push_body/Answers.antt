@@ -4,14 +4,14 @@ use Rattle.std.proofs.lemmas.List.{map-append, length-map}
 use Rattle.std.proofs.lemmas.Map.Iter.{iter_end}
 use Rattle.body_forms.specs.TableParts.{ArePartsOf}
 use Rattle.body_forms.specs.Numbers.{u32_bytes}
-use Rattle.postings_plain.specs.Postings.{Hit, EntryFits, entry}
+use Rattle.postings_plain.specs.Postings.{Hit, IsFileEntry, entry}
 use Rattle.postings_plain.proofs.FoundEntries.{entries_with, HasEntries, turn_fits, entries_more, entries_are, spelled, length-entries}
 use Rattle.postings_plain.proofs.encoding.push_body.Goals as goal
 
 pub push_entry-requires : goal.push_entry-requires
 push_entry-requires c =
     let e = c.parts-field.ensures in
-    subst (λ (hs : List Hit). EntryFits (c.parts-field.result.0, (c.parts-field.result.1.now, hs))) (sym c.as_slice.ensures)
+    subst (λ (hs : List Hit). IsFileEntry (c.parts-field.result.0, (c.parts-field.result.1.now, hs))) (sym c.as_slice.ensures)
     (turn_fits c.loop-term.yielded c.into_iter-term-iterator.result c.loop-term.term-iterator c.next.new.self c.next.result c.in-Some.term c.in-Some.hits c.loop-term.yielded_by c.in-Some.is c.next.ensures.steps
     c.args.found.now c.into_iter-term-iterator.ensures.into_iter_gives.0 c.len-count.ensures.ordered c.requires.0 c.requires.1 c.requires.2 c.parts-field.result.0 c.parts-field.result.1.now e.both e.field e.some e.few)
 
@@ -43,4 +43,13 @@ returns c = λ rows g few pos.
     let parts : ArePartsOf items c.deref-2.result.now c.deref-3.result.now =
     subst (λ (x : List ℕ). ArePartsOf items x c.deref-3.result.now) (sym c.deref-2.ensures.value) (subst (λ (x : List ℕ). ArePartsOf items c.loop-term.offsets.items x) (sym c.deref-3.ensures.value) has.parts) in
     let t = table.ok items (length-map (entries_with found) entry ∙ length-entries c.args.found.now ∙ sym c.len-count.ensures.len) parts in
-    (t.0, t.1, t.3, (entries_with found, entries_are c.args.found.now rows c.len-count.ensures.ordered g make, spelled c.args.found.now rows t.0 c.len-count.ensures.ordered g make pos t.2))
+    record {
+      body = t.table;
+      added = t.added;
+      spelled = record {
+        small = t.small;
+        entries = entries_with found;
+        are = entries_are c.args.found.now rows c.len-count.ensures.ordered g make;
+        spelled = spelled c.args.found.now rows t.table c.len-count.ensures.ordered g make pos t.is_table;
+      };
+    }

@@ -13,5 +13,6 @@ pub returns : goal.returns
 returns c = λ es p.
     let lt : c.args.place < length es = omega (arith, same_count c.args.body.now es c.requires.0 p c.requires.1, c.requires.2) in
     let e = at_place es c.args.place in
-    let k = c.heading_in-other.ensures e (p.fit c.args.place no_entry lt) (c.item_at.ensures _ p.table ∙ entry_at_place es c.args.place lt) in
-    c.compare_headings.ensures ∙ keys_alike _ e.0 _ e.1.0 c.args.field c.args.term.now k.0 k.1
+    let fit = p.fit c.args.place no_entry lt in
+    let same = c.item_at.ensures _ p.table ∙ entry_at_place es c.args.place lt in
+    c.compare_headings.ensures ∙ keys_alike _ e.0 _ e.1.0 c.args.field c.args.term.now (c.heading_in-other.ensures.field e fit same) (c.heading_in-other.ensures.term e fit same)

@@ -14,8 +14,12 @@ unreachable-requires c =
     term_is_there c.in-Some.rest.now c.requires.0 c.requires.1 f.1 s
 
 pub returns : goal.returns
-returns c = λ e fit same.
+returns c =
     let r = c.in-Some.ensures in
-    let f = field_read c.args.item.now e c.in-Some.field c.in-Some.rest.now fit same r in
     let t = c.in-Some-term_of.ensures in
-    (f.0, term_read c.in-Some.rest.now e c.in-Some-term_of.term.now c.in-Some-term_of.field-0-1.now fit f.1 t)
+    record {
+      field = λ e fit same. (field_read c.args.item.now e c.in-Some.field c.in-Some.rest.now fit same r).0;
+      term = λ e fit same.
+          let f = field_read c.args.item.now e c.in-Some.field c.in-Some.rest.now fit same r in
+          term_read c.in-Some.rest.now e c.in-Some-term_of.term.now c.in-Some-term_of.field-0-1.now fit f.1 t;
+    }

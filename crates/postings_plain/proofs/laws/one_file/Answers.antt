@@ -1,5 +1,6 @@
-use Rattle.postings_plain.proofs.FileLaws.{one_file_list}
+use Rattle.body_forms.proofs.FileLaws.{files_one_to_one}
+use Rattle.postings_plain.proofs.FileLaws.{postings_kind}
 use Rattle.postings_plain.proofs.laws.one_file.Goals as goal
 
-pub returns-clause-reading : goal.returns-clause-reading
-returns-clause-reading c = one_file_list
+pub returns : goal.returns
+returns c = λ id. files_one_to_one (postings_kind id)

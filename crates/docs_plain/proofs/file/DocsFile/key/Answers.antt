@@ -11,6 +11,6 @@ pub returns : goal.returns
 returns c =
     let is = c.item_at.ensures (map row c.args.self.now) c.body.ensures.table in
     record {
-      value = at_row c.args.self.now (λ doc. c.parts_of.result.0.now ≡ doc.key) c.args.row c.item_at.result.now c.body.ensures.fit c.requires is (λ doc fit e. (c.parts_of.ensures doc fit e).0);
+      value = at_row c.args.self.now (λ doc. c.parts_of.result.0.now ≡ doc.key) c.args.row c.item_at.result.now c.body.ensures.fit c.requires is c.parts_of.ensures.key;
       kind = at_row c.args.self.now (λ doc. IsTrue (is_key doc.key)) c.args.row c.item_at.result.now c.body.ensures.fit c.requires is (λ doc fit e. fit.key);
     }
