@@ -85,7 +85,8 @@ fn found_after(
     line: Option<At>,
     found: bool,
 ) -> bool
-    ensures { (old : List ℕ) → found ≡ list_any (λ w. w == version.0) old → result ≡ list_any (λ w. w == version.0) (reopenable_by n.0 event.now primary line old) }
+    ensures { (old : List ℕ) → found ≡ list_any (λ w. w == version.0) old →
+        result ≡ list_any (λ w. w == version.0) (reopenable_by n.0 event.now primary line old) }
 {
     match event {
         Event::Committed { n: m, v } | Event::Reopened { n: m, v } if m.0 == n.0 => {
@@ -103,7 +104,8 @@ fn found_after(
 
 /// Whether a node may reopen at a version: its base version, or one that a commit since may have left.
 pub(crate) fn is_reopenable(n: NodeNo, version: Version, entries: &[Entry]) -> bool
-    ensures { result ≡ list_any (λ w. w == version.0) (reopenable_versions n.0 (reverse entries.now)) }
+    ensures { result ≡ list_any (λ w. w == version.0)
+        (reopenable_versions n.0 (reverse entries.now)) }
 {
     let mut searched = Searched::new();
     let mut line = None;
