@@ -73,15 +73,10 @@ pub record MaySwitch (size : ℕ) (past : Past) (at : At) (n : NodeNo) (v : Vers
   pub survives : NodeSurvives past at n.0
   pub source : SourceSurvives past at
 
--- the line started as a copy of this version to this node
-abbrev pub StartedCopyOf : ℕ → ℕ → Option Event → Type 0
-StartedCopyOf n v (Some (Copying m w)) = (m.0 ≡ n) × (w.0 ≡ v)
-StartedCopyOf n v e = ⊥
-
 -- a copy ends with the version of its start, which the node searches: because the copy switched it, or because it did so already
 pub record MayFinishCopy (size : ℕ) (past : Past) (at : At) (n : NodeNo) (v : Version) : Type 0 where
   pub node : IsNode size n.0
-  pub started : StartedCopyOf n.0 v.0 (start_entry at past)
+  pub started : start_entry at past ≡ Some (Copying n v)
   pub searched : v.0 ≡ version_of n.0 past
   pub done : (has_switched at past ≡ true) ⊎ (version_of n.0 (before_start at past) ≡ v.0)
   pub survives : NodeSurvives past at n.0
