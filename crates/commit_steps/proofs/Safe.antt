@@ -14,7 +14,7 @@ use Rattle.segment_infos.proofs.SetLaws.{files_plain}
 use Rattle.file_deleter.proofs.NameLemmas.{same_self}
 use Rattle.commit_steps.specs.declared.states.Commit.{Commit}
 use Rattle.commit_steps.specs.Found.{ShowsNothing}
-use Rattle.commit_steps.specs.Flights.{own_name, early_name, IsCommit, Spells}
+use Rattle.commit_steps.specs.Flights.{own_name, pending_name, IsCommit, Spells}
 use Rattle.commit_steps.specs.Commits.{HasCommit, ImagesAre, ImagesHave, IsSettled, AreSettled, IsAbove, Stays, MayStay, IsSafe}
 
 -- ---- names
@@ -40,20 +40,20 @@ files_are_plain c is q there = All-contains IsPlain c.files q (files_plain c.inf
 pub own_is : (c : Commit) → IsCommit c → is_commit_name (own_name c) ≡ true
 own_is c is = commit_name_is_one c.number is.some is.below
 
-pub early_is : (c : Commit) → IsCommit c → is_pending_name (early_name c) ≡ true
-early_is c is = pending_name_is_one c.number is.some is.below
+pub pending_is : (c : Commit) → IsCommit c → is_pending_name (pending_name c) ≡ true
+pending_is c is = pending_name_is_one c.number is.some is.below
 
-pub early_not_commit : (c : Commit) → is_commit_name (early_name c) ≡ false
-early_not_commit c = pending_name_not_commit c.number
+pub pending_not_commit : (c : Commit) → is_commit_name (pending_name c) ≡ false
+pending_not_commit c = pending_name_not_commit c.number
 
 pub number_of_own : (c : Commit) → IsCommit c → commit_number (own_name c) ≡ c.number
 number_of_own c is = commit_number-commit_name c.number (omega (arith, is.below))
 
-pub early_not_own : (c d : Commit) → IsCommit d → early_name c ≢ own_name d
-early_not_own c d is e = true≢false (sym (own_is d is) ∙ sym (ap is_commit_name e) ∙ early_not_commit c)
+pub pending_not_own : (c d : Commit) → IsCommit d → pending_name c ≢ own_name d
+pending_not_own c d is e = true≢false (sym (own_is d is) ∙ sym (ap is_commit_name e) ∙ pending_not_commit c)
 
-pub early_no_file : (c d : Commit) → IsCommit c → IsCommit d → (q : Name) → is_among d.files q ≡ true → early_name c ≢ q
-early_no_file c d is of q there e = true≢false (sym (early_is c is) ∙ ap is_pending_name e ∙ (files_are_plain d of q there).1)
+pub pending_no_file : (c d : Commit) → IsCommit c → IsCommit d → (q : Name) → is_among d.files q ≡ true → pending_name c ≢ q
+pending_no_file c d is of q there e = true≢false (sym (pending_is c is) ∙ ap is_pending_name e ∙ (files_are_plain d of q there).1)
 
 pub own_no_file : (c d : Commit) → IsCommit c → IsCommit d → (q : Name) → is_among d.files q ≡ true → own_name c ≢ q
 own_no_file c d is of q there e = true≢false (sym (own_is c is) ∙ ap is_commit_name e ∙ (files_are_plain d of q there).0)
@@ -166,10 +166,10 @@ pub safe_all_kept : (before after : Cells) → ((q : Name) → IsKept (before q)
 safe_all_kept before after kept = safe_kept before after (λ q named. kept q) (λ c of q there. kept q)
 
 -- calls that change one name, that of a commit in preparation
-pub safe_beside : (before after : Cells) (f : Commit) → IsCommit f → ((q : Name) → early_name f ≢ q → after q ≡ before q) → (last flight : Option Commit) → IsSafe before last flight → IsSafe after last flight
+pub safe_beside : (before after : Cells) (f : Commit) → IsCommit f → ((q : Name) → pending_name f ≢ q → after q ≡ before q) → (last flight : Option Commit) → IsSafe before last flight → IsSafe after last flight
 safe_beside before after f of others = safe_kept before after
-    (λ q named. same_kept (before q) (after q) (others q (λ e. true≢false (sym named ∙ sym (ap is_commit_name e) ∙ early_not_commit f))))
-    (λ c is q there. same_kept (before q) (after q) (others q (early_no_file f c of is q there)))
+    (λ q named. same_kept (before q) (after q) (others q (λ e. true≢false (sym named ∙ sym (ap is_commit_name e) ∙ pending_not_commit f))))
+    (λ c is q there. same_kept (before q) (after q) (others q (pending_no_file f c of is q there)))
 
 -- ---- a sync
 flushed_leaves : (now : Content) (synced : Bool) (o : Content) → left_by now true o ≡ true → left_by now synced o ≡ true

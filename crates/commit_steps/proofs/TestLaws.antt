@@ -2,7 +2,7 @@
 use Rattle.std.proofs.Common.{◌≡◌, ℕ, ◌+◌, ◌<◌, ◌≤◌, Bool, true, false, cond, List, [], ◌∷◌, Some, None, is_some, refl, sym, ap, subst, ◌∙◌, arith, true≢false}
 use Rattle.std.specs.Prelude.{Contains}
 use Rattle.std.specs.List.{flat_map}
-use Rattle.disk_model.specs.Disk.{Name, Content, Cells, Image, may_leave, same, restarted}
+use Rattle.disk_model.specs.Disk.{Name, Content, Cells, Image, may_leave, same, restarted, reads_of}
 use Rattle.file_names.specs.Names.{commit_name_of}
 use Rattle.disk_model.proofs.CellLemmas.{same_true, left_synced}
 use Rattle.disk_memory.specs.Held.{Held, untouched, cell}
@@ -11,7 +11,7 @@ use Rattle.segment_infos.specs.declared.infos.Infos.{Infos}
 use Rattle.segment_infos.specs.Files.{files_of_segment}
 use Rattle.file_deleter.specs.Holdings.{Holdings, count_of, times, AreCounted, IsThere}
 use Rattle.file_deleter.proofs.NameLemmas.{all_there, none_missing, times_one}
-use Rattle.commit_steps.specs.Found.{reads_of, Shows}
+use Rattle.commit_steps.specs.Found.{ShowsCommit}
 use Rattle.commit_steps.specs.Recovery.{IsWholeCommit}
 use Rattle.commit_steps.specs.Commits.{LeavesNothing, IsSettled, ImagesShowNothing, ImagesShow}
 use Rattle.commit_steps.specs.declared.stage.CommitBook.{CommitBook}
@@ -47,7 +47,7 @@ files_found cells n infos whole q named =
 -- and each image after a crash shows what reads
 pub shows_restarted : (cells : Cells) (image : Image) (n : ℕ) (infos : Infos) → cells ≡ restarted image → IsWholeCommit (reads_of cells) n infos → ImagesShow cells n infos
 shows_restarted cells from n infos e whole =
-    let shown : Shows (reads_of cells) n infos = whole.shown in
+    let shown : ShowsCommit (reads_of cells) n infos = whole.shown in
     let settled : (q : Name) → IsSettled (cells q) = λ q. subst (λ (c : Cells). IsSettled (c q)) (sym e) (settled_restarted from q) in
     record {
       each = λ image is. record {

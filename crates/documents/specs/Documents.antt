@@ -2,6 +2,7 @@
 use Rattle.std.specs.Prelude.{ℕ, List, [], ◌∷◌, Bool, not, map, filter, bytes_eq}
 use Rattle.std.specs.List.Sorted.{IsStrictlySortedBy}
 use Rattle.std.specs.Ordering.{nat_cmp, on}
+use Rattle.std.specs.BTreeMap.{BTreeMap}
 use Rattle.std.specs.Cmp.Lexicographic.{slice_cmp}
 use Rattle.std.specs.declared.cmp.Ordering.{Ordering}
 use Rattle.nrt_base.specs.declared.doc.Doc.{Doc}
@@ -28,7 +29,7 @@ remaining op docs = filter (λ doc. not (removes op doc)) docs
 abbrev pub with_doc : List Doc → Doc → List Doc
 with_doc = with_item (on (λ d. d.key) key_cmp)
 
--- the documents after one more operation: those that it does not take away, and the one that it puts
+-- the documents after one more operation: those that remain, and the one that it puts
 abbrev pub after_op : List Doc → Op → List Doc
 after_op docs (Put doc) = with_doc (remaining (Put doc) docs) doc
 after_op docs (Delete key) = remaining (Delete key) docs
@@ -50,3 +51,7 @@ IsAscending docs = IsStrictlySortedBy key_cmp (map (λ d. d.key) docs)
 -- an entry of a map from keys to texts, as a document
 abbrev pub document_of : List ℕ × List ℕ → Doc
 document_of entry = record { key = entry.0; text = entry.1 }
+
+-- the documents in a map from keys to texts, in ascending order of key
+abbrev pub documents_in : BTreeMap (List ℕ) (List ℕ) → List Doc
+documents_in texts = map document_of texts.entries

@@ -34,7 +34,8 @@ abbrev mutual
 
   pub none_matches : {n : _} → Row_of-Query n → List (List ℕ) → Bool
   none_matches end_of-Query words = true
-  none_matches (more_of-Query part parts) words = not (matches part words) && none_matches parts words
+  none_matches (more_of-Query part parts) words =
+      not (matches part words) && none_matches parts words
 
   pub any_matches : {n : _} → Row_of-Query n → List (List ℕ) → Bool
   any_matches end_of-Query words = false

@@ -54,7 +54,8 @@ fitting n = if nat_lt n (2 ^ 32) then Some n else None
 -- a document that matches, and whose rank 32 bits do not tell
 abbrev pub is_too_high : Query → Doc → Bool
 is_too_high query doc =
-    is_text doc.text && (matches_doc query doc && nat_le (2 ^ 32) (rank_of query (words_of doc.text)))
+    is_text doc.text
+    && (matches_doc query doc && nat_le (2 ^ 32) (rank_of query (words_of doc.text)))
 
 -- the order of hits: the greater rank first, and of equal ranks the lesser key
 abbrev pub hit_cmp : Hit → Hit → Ordering

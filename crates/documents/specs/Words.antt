@@ -24,7 +24,8 @@ with_run (b ∷ run) words = (b ∷ run) ∷ words
 abbrev pub words_after : List ℕ → List ℕ → List (List ℕ)
 words_after run [] = with_run run []
 words_after run (b ∷ text) =
-    if is_alphanumeric b then words_after (run ++ lower b ∷ []) text else with_run run (words_after [] text)
+    if is_alphanumeric b then words_after (run ++ lower b ∷ []) text
+    else with_run run (words_after [] text)
 
 -- the longest runs of letters and digits, in order, with capitals made small
 abbrev pub words_of : List ℕ → List (List ℕ)

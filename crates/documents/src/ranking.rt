@@ -37,7 +37,7 @@ fn times_of_phrase(words: &[Word], phrase: &[Word]) -> usize
 
 // How high the words rank, where 32 bits tell it.
 #[cycle(ranking)]
-pub fn rank_of(query: &Query, words: &[Word]) -> Option<u32>
+pub(crate) fn rank_of(query: &Query, words: &[Word]) -> Option<u32>
     ensures { result ≡ fitting (rank_of_lem query.now words.now) }
 {
     match query {
@@ -62,7 +62,9 @@ fn sum_of_ranks(parts: &List<Query>, words: &[Word]) -> Option<u32>
 
 // The documents that match, as hits. None where one of them ranks too high for 32 bits.
 fn matching_hits(alloc: Global, docs: &[Doc], query: &Query) -> Result<Option<Vec<Hit>>, NoMemory>
-    ensures { IfOk result (λ found. MatchOption found (list_any (is_too_high query.now) docs.now ≡ true) (λ hits. hits.items ≡ matching_hits query.now docs.now)) }
+    ensures { IfOk result (λ found. MatchOption found
+        (list_any (is_too_high query.now) docs.now ≡ true)
+        (λ hits. hits.items ≡ matching_hits query.now docs.now)) }
 {
     let mut hits = Vec::new(alloc);
     for doc in docs {
@@ -101,11 +103,13 @@ fn answer_of(hits: Vec<Hit>) -> Answer
     }
 }
 
-/// What a search of the documents answers. None where one that matches ranks too high for 32 bits, which none does where
-/// the query is well-formed.
+/// What a search of the documents answers. None where one that matches ranks too high for 32 bits,
+/// which none does where the query is well-formed.
 pub fn scan_if_told(alloc: Global, docs: &[Doc], query: &Query) -> Result<Option<Answer>, NoMemory>
     requires { length docs.now < 2 ^ 32 }
-    ensures { IfOk result (λ found. MatchOption found (list_any (is_too_high query.now) docs.now ≡ true) (λ answer. answer ≡ scan_of docs.now query.now)) }
+    ensures { IfOk result (λ found. MatchOption found
+        (list_any (is_too_high query.now) docs.now ≡ true)
+        (λ answer. answer ≡ scan_of docs.now query.now)) }
 {
     match matching_hits(alloc, docs, query)? {
         Some(hits) => Ok(Some(answer_of(hits))),

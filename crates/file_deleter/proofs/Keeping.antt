@@ -1,12 +1,12 @@
 -- Calls in a row, and what a hold and a release of counts keep.
-use Rattle.std.proofs.Common.{◌≡◌, ℕ, zero, suc, ◌+◌, ◌<◌, ◌||◌, ◌&&◌, not, Bool, true, false, None, List, [], ◌++◌, refl, sym, ap, ◌∙◌, arith, inl, inr, true≢false, is_some, All, ◌≢◌, cond, Ok, subst, ◌∷◌}
+use Rattle.std.proofs.Common.{◌≡◌, ℕ, zero, suc, ◌+◌, ◌<◌, ◌||◌, ◌&&◌, not, Bool, true, false, None, List, [], ◌++◌, refl, sym, ap, ◌∙◌, arith, inl, inr, is_some, All, cond, Ok, subst, ◌∷◌}
 use Rattle.std.proofs.Math.Dec.{ltb as nat_lt}
 use Rattle.std.proofs.lemmas.Bool.{lt-ltb, or_parts}
 use Rattle.disk_model.specs.Disk.{same, Name, Cell, Cells, is_among}
 use Rattle.disk_model.proofs.CellLemmas.{same_true}
 use Rattle.file_deleter.specs.Holdings.{Holdings, count_of, is_due, is_known, times, IsWhole, IsThere}
 use Rattle.file_deleter.specs.Moves.{Retries, KeepsFiles, HoldsFiles, LetsGo, MovesCounts, Creates, Renames, RenamesCount}
-use Rattle.file_deleter.proofs.NameLemmas.{among-append, among_times, not_among_times, among_is, all_there, times_one, same_self, unlike}
+use Rattle.file_deleter.proofs.NameLemmas.{among-append, among_times, not_among_times, among_is, all_there, times_one, unlike}
 use Rattle.file_deleter.specs.Tally.{Adds}
 
 -- two calls in a row, where what is counted before and after is counted in between

@@ -58,7 +58,8 @@ fn is_right(
     answer: &Answer,
 ) -> Result<bool, NoMemory>
     requires { accepted_count (reverse entries.now) < 2 ^ 32 }
-    ensures { IfOk result (λ right. IsTrue right ↔ (answer.now ≡ scan_of (documents_at (reverse entries.now) v.0) query.now)) }
+    ensures { IfOk result (λ right.
+        IsTrue right ↔ (answer.now ≡ scan_of (documents_at (reverse entries.now) v.0) query.now)) }
 {
     let docs = documents_at(alloc, entries, v)?;
     match scan_if_told(alloc, docs.as_slice(), query)? {
@@ -82,7 +83,8 @@ pub(crate) fn may_answer(
     answer: &Answer,
 ) -> Result<bool, NoMemory>
     requires { accepted_count (reverse entries.now) < 2 ^ 32 }
-    ensures { IfOk result (λ may. IsTrue may ↔ MayAnswer nodes (reverse entries.now) at n t v query.now answer.now) }
+    ensures { IfOk result (λ may.
+        IsTrue may ↔ MayAnswer nodes (reverse entries.now) at n t v query.now answer.now) }
 {
     if !is_node(nodes, n)
         || !started_search(n, t, v, at, entries)

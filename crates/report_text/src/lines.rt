@@ -1,3 +1,5 @@
+//! The line of an entry, and the report of a history.
+
 ghost use Rattle.std.specs.Prelude.{◌≡◌, ◌++◌, OnOk, IfOk};
 ghost use Rattle.report_text.specs.Texts.{text_of_entry, text_of};
 

@@ -4,6 +4,7 @@ use Rattle.std.specs.Prelude.{◌≢◌, IsTrue}
 use Rattle.std.specs.List.{flat_map, AllPairs}
 use Rattle.nrt_base.specs.declared.numbers.Gen.{Gen}
 use Rattle.nrt_base.specs.declared.numbers.Version.{Version}
+use Rattle.nrt_base.proofs.Plain.{false_never}
 use Rattle.codec_frame.specs.Bytes.{AreBytes}
 use Rattle.body_forms.specs.Format.{Read}
 use Rattle.body_forms.specs.Numbers.{u32_bytes, u64_bytes}
@@ -71,9 +72,6 @@ segs_are_of body head rest segs after infos e f s =
   where
     some_parts : (x y : List SegRecord) (r t : List ℕ) → ◌≡◌ {A = Read (List SegRecord)} (Some (x, r)) (Some (y, t)) → (x ≡ y) × (r ≡ t)
     some_parts x y r t e = read_is x y r t e
-
-false_never : (b : Bool) → b ≡ false → IsTrue b → ⊥
-false_never b e h = let bad = sym e ∙ h in cc
 
 pub other_user_data : (body : List ℕ) (head : Head) (rest : List ℕ) (segs : List SegRecord) (after : List ℕ) (test : Bool)
     → ◌≡◌ {A = Read Head} (Some (head, rest)) (head_at body) → ◌≡◌ {A = Read (List SegRecord)} (Some (segs, after)) (records_at head.count rest)

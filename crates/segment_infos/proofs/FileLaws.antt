@@ -1,26 +1,26 @@
 -- The info file of a segment and the file of infos, as framed files.
-use Rattle.std.proofs.Common.{◌≡◌, ℕ, ◌-◌, ◌↔◌, ◌⊎◌, Bool, true, false, List, [], ◌++◌, length, drop, Some, None, Result, Ok, Err, refl, sym, ap, subst, ◌∙◌, arith, inl, inr}
+use Rattle.std.proofs.Common.{◌≡◌, ℕ, ◌-◌, ◌⊎◌, Bool, true, false, List, [], ◌++◌, length, drop, Result, Ok, Err, refl, sym, ap, subst, ◌∙◌, arith, inl, inr}
 use Rattle.std.specs.Prelude.{codes, IsOkAnd, nat_eq}
 use Rattle.std.specs.Cmp.Lexicographic.{pointwise}
 use Rattle.std.proofs.lemmas.Slice.Eq.{bytes_eq-Decides}
-use Rattle.codec_frame.specs.Frame.{Wanted, IsFramed, IsFramedAs, index_header, with_footer}
-use Rattle.codec_frame.specs.Checking.{IsFirstFault}
+use Rattle.codec_frame.specs.Frame.{Wanted, IsFramed, index_header, with_footer}
+use Rattle.codec_frame.specs.Checking.{IsChecked}
 use Rattle.codec_frame.specs.declared.frame.Framed.{Framed}
 use Rattle.codec_frame.specs.declared.frame.FrameFault.{FrameFault}
-use Rattle.codec_frame.specs.declared.frame.FileFault.{FileFault}
 use Rattle.codec_frame.specs.declared.frame.FileFault.TheVariants.{Frame, Body}
 use Rattle.codec_frame.specs.Bytes.{AreBytes}
 use Rattle.codec_frame.proofs.ByteLaws.{AreBytes-take}
 use Rattle.body_forms.proofs.Formats.{AreBytes-drop}
-use Rattle.body_forms.proofs.FileLaws.{OneVersion, Checked, IsAnswer, body_of, StandsIn, Tells, frame_refused, body_refused, file_read, exactly, stands, one_file_value, one_file_bytes, framed_file}
+use Rattle.body_forms.specs.File.{IsOneToOne, IsFileAnswer}
+use Rattle.body_forms.proofs.FileLaws.{OneVersion, IsFileKind, body_of, StandsIn, Tells, frame_refused, body_refused, file_read, one_file_value, one_file_bytes, framed_file}
 use Rattle.segment_infos.specs.declared.info.SegInfo.{SegInfo}
 use Rattle.segment_infos.specs.declared.infos.Infos.{Infos}
 use Rattle.body_forms.specs.declared.read_fault.ReadFault.{ReadFault}
 use Rattle.body_forms.specs.declared.read_fault.ReadFault.TheVariants.{Memory, File}
 use Rattle.segment_infos.specs.SegmentInfo.{SpellsSegmentInfo, info_wanted, IsInfoFile}
-use Rattle.segment_infos.specs.Infos.{SpellsInfos, id_of, infos_wanted, IsInfosFile, IsOfNoInfos}
-use Rattle.segment_infos.specs.Reading.{info_in, IsDecoded}
-use Rattle.segment_infos.proofs.InfoLaws.{info_spelled, info_read, info_one_to_one}
+use Rattle.segment_infos.specs.Infos.{SpellsInfos, infos_id, infos_wanted, IsInfosFile, IsOfNoInfos}
+use Rattle.segment_infos.specs.Reading.{IsDecoded}
+use Rattle.segment_infos.proofs.InfoLaws.{info_one_to_one}
 use Rattle.segment_infos.proofs.BodyLaws.{infos_one_to_one}
 
 pub body_fits : (bytes : List ℕ) (frame : Framed) → AreBytes bytes → AreBytes (body_of bytes frame)
@@ -28,49 +28,13 @@ body_fits bytes frame fits = AreBytes-take (frame.end - frame.start) (drop frame
 
 -- ---- info files
 
-info_version : (id : List ℕ) → OneVersion (info_wanted id)
-info_version id = record { same = refl; small = omega arith }
-
--- what reading an info file is to answer
-pub record Answers (id bytes : List ℕ) (result : Result SegInfo FileFault) : Type 0 where
-  pub value : (info : SegInfo) → (result ≡ Ok info) ↔ IsInfoFile id info bytes
-  pub frame : (fault : FrameFault) → (result ≡ Err (Frame fault)) ↔ IsFirstFault (info_wanted id) bytes fault
-  pub body : (result ≡ Err Body) ↔ (IsFramedAs (info_wanted id) bytes × ((info : SegInfo) → IsInfoFile id info bytes → ⊥))
-
-answers : (id bytes : List ℕ) (found : Result Framed FrameFault) (result : Result SegInfo FileFault) → Checked (info_wanted id) bytes found
-    → IsAnswer SpellsSegmentInfo (info_wanted id) (λ _. id) (λ fault. fault) bytes result → Answers id bytes result
-answers id bytes found result k a =
-    record { value = exactly SpellsSegmentInfo (info_wanted id) (λ _. id) bytes found result (info_version id) info_one_to_one k a; frame = a.frame; body = a.body }
-
-pub refused_frame : (id bytes : List ℕ) (found : Result Framed FrameFault) (fault : FrameFault) (result : Result SegInfo FileFault) → Checked (info_wanted id) bytes found → found ≡ Err fault
-    → result ≡ Err (Frame fault) → Answers id bytes result
-refused_frame id bytes found fault result k e f =
-    answers id bytes found result k (frame_refused SpellsSegmentInfo (info_wanted id) (λ _. id) (λ fault. fault) bytes found fault result (λ a b same. same) k e f)
-
-pub read_whole : (id bytes : List ℕ) (found : Result Framed FrameFault) (frame : Framed) (info : SegInfo) (result : Result SegInfo FileFault) → AreBytes (body_of bytes frame)
-    → Checked (info_wanted id) bytes found → found ≡ Ok frame → Some info ≡ info_in (body_of bytes frame) → result ≡ Ok info → Answers id bytes result
-read_whole id bytes found frame info result fits k was e f =
-    let s = info_spelled (body_of bytes frame) info fits (sym e) in
-    answers id bytes found result k
-    (file_read SpellsSegmentInfo (info_wanted id) (λ _. id) (λ fault. fault) bytes found frame info result (info_version id) k was (stands SpellsSegmentInfo (info_wanted id) id bytes found frame info refl k was s) f)
-
-pub refused_body : (id bytes : List ℕ) (found : Result Framed FrameFault) (frame : Framed) (result : Result SegInfo FileFault)
-    → Checked (info_wanted id) bytes found → found ≡ Ok frame → None ≡ info_in (body_of bytes frame) → result ≡ Err Body → Answers id bytes result
-refused_body id bytes found frame result k was e f =
-    answers id bytes found result k
-    (body_refused SpellsSegmentInfo (info_wanted id) (λ _. id) (λ fault. fault) bytes found frame result (info_version id) (λ a b same. same) k was
-    (λ info s. let bad = e ∙ info_read (body_of bytes frame) info s.spelled in cc) f)
-
-pub one_info_file : (id bytes : List ℕ) (info other : SegInfo) → IsInfoFile id info bytes → IsInfoFile id other bytes → info ≡ other
-one_info_file id bytes info other d e = one_file_value SpellsSegmentInfo (info_wanted id) id id bytes info other (info_version id) info_one_to_one d e
-
-pub one_info_bytes : (id a b : List ℕ) (info : SegInfo) → IsInfoFile id info a → IsInfoFile id info b → a ≡ b
-one_info_bytes id a b info d e = one_file_bytes SpellsSegmentInfo (info_wanted id) id a b info info_one_to_one d e
+pub info_kind : (id : List ℕ) → IsFileKind SpellsSegmentInfo (info_wanted id) id
+info_kind id = record { version = record { same = refl; small = omega arith }; one_to_one = info_one_to_one; id_wanted = refl }
 
 pub info_file : (id start head body out footed file : List ℕ) (info : SegInfo) → length id ≡ 16 → start ≡ [] → head ≡ start ++ index_header (codes "NrtSegmentInfo") 1 id [] → out ≡ head ++ body
     → SpellsSegmentInfo body info → footed ≡ with_footer out → file ≡ footed → IsInfoFile id info file
 info_file id start head body out footed file info len z e f s g h =
-    record { body = body; framed = framed_file (info_wanted id) id start head body out footed file (info_version id) len refl z e f g h; spelled = s }
+    record { body = body; framed = framed_file (info_wanted id) id start head body out footed file (info_kind id).version len refl z e f g h; spelled = s }
 
 -- ---- files of infos
 
@@ -80,13 +44,13 @@ infos_version = record { same = refl; small = omega arith }
 told_apart : Tells (λ fault. File fault)
 told_apart a b e = cc
 
-pub one_infos_file : (bytes : List ℕ) (infos other : Infos) → IsInfosFile infos bytes → IsInfosFile other bytes → infos ≡ other
-one_infos_file bytes infos other d e = one_file_value SpellsInfos infos_wanted (id_of infos) (id_of other) bytes infos other infos_version infos_one_to_one d e
+one_infos_file : (bytes : List ℕ) (infos other : Infos) → IsInfosFile infos bytes → IsInfosFile other bytes → infos ≡ other
+one_infos_file bytes infos other d e = one_file_value SpellsInfos infos_wanted (infos_id infos) (infos_id other) bytes infos other infos_version infos_one_to_one d e
 
-pub one_infos_bytes : (a b : List ℕ) (infos : Infos) → IsInfosFile infos a → IsInfosFile infos b → a ≡ b
-one_infos_bytes a b infos d e = one_file_bytes SpellsInfos infos_wanted (id_of infos) a b infos infos_one_to_one d e
+pub infos_files_one_to_one : IsOneToOne (λ bytes infos. IsInfosFile infos bytes)
+infos_files_one_to_one = record { one_value = one_infos_file; one_spelling = λ a b infos d e. one_file_bytes SpellsInfos infos_wanted (infos_id infos) a b infos infos_one_to_one d e }
 
-pub infos_file : (id start head body out footed file : List ℕ) (infos : Infos) → length id ≡ 16 → id ≡ id_of infos → start ≡ [] → head ≡ start ++ index_header (codes "NrtInfos") 1 id [] → out ≡ head ++ body
+pub infos_file : (id start head body out footed file : List ℕ) (infos : Infos) → length id ≡ 16 → id ≡ infos_id infos → start ≡ [] → head ≡ start ++ index_header (codes "NrtInfos") 1 id [] → out ≡ head ++ body
     → SpellsInfos body infos → footed ≡ with_footer out → file ≡ footed → IsInfosFile infos file
 infos_file id start head body out footed file infos len same z e f s g h =
     record {
@@ -95,7 +59,7 @@ infos_file id start head body out footed file infos len same z e f s g h =
       spelled = s;
     }
 
-decoded : (bytes : List ℕ) (result : Result Infos ReadFault) → IsAnswer SpellsInfos infos_wanted id_of (λ fault. File fault) bytes result
+decoded : (bytes : List ℕ) (result : Result Infos ReadFault) → IsFileAnswer SpellsInfos infos_wanted infos_id (λ fault. File fault) bytes result
     → ((fault : FrameFault) → result ≡ Err (File (Frame fault)) → (version : ℕ) (id body : List ℕ) → IsFramed infos_wanted version id body bytes → ⊥) → IsDecoded bytes result
 decoded bytes result a never = record { value = a.value; frame = a.frame; unframed = never; body = a.body.0 }
 
@@ -106,32 +70,32 @@ not_ok infos fault e = cc
 not_body : (fault : FrameFault) → ◌≡◌ {A = Result Infos ReadFault} (Err (File Body)) (Err (File (Frame fault))) → ⊥
 not_body fault e = cc
 
-not_framed : (want : Wanted) (bytes : List ℕ) (found : Result Framed FrameFault) (fault : FrameFault) → Checked want bytes found → found ≡ Err fault → (version : ℕ) (id body : List ℕ) → IsFramed want version id body bytes → ⊥
+not_framed : (want : Wanted) (bytes : List ℕ) (found : Result Framed FrameFault) (fault : FrameFault) → IsChecked want bytes found → found ≡ Err fault → (version : ℕ) (id body : List ℕ) → IsFramed want version id body bytes → ⊥
 not_framed want bytes found fault k e version id body f = refused _ found e (k.written version id body f)
   where
     refused : (P : Framed → Type 0) (r : Result Framed FrameFault) → r ≡ Err fault → IsOkAnd r P → ⊥
     refused P r e h = subst (λ (x : Result Framed FrameFault). IsOkAnd x P) e h
 
-pub frame_is_refused : (bytes : List ℕ) (found : Result Framed FrameFault) (fault : FrameFault) (result : Result Infos ReadFault) → Checked infos_wanted bytes found → found ≡ Err fault
+pub frame_is_refused : (bytes : List ℕ) (found : Result Framed FrameFault) (fault : FrameFault) (result : Result Infos ReadFault) → IsChecked infos_wanted bytes found → found ≡ Err fault
     → result ≡ Err (File (Frame fault)) → IsDecoded bytes result
 frame_is_refused bytes found fault result k e f =
-    decoded bytes result (frame_refused SpellsInfos infos_wanted id_of (λ fault. File fault) bytes found fault result told_apart k e f) (λ other g. not_framed infos_wanted bytes found fault k e)
+    decoded bytes result (frame_refused SpellsInfos infos_wanted infos_id (λ fault. File fault) bytes found fault result told_apart k e f) (λ other g. not_framed infos_wanted bytes found fault k e)
 
-pub infos_are_read : (bytes : List ℕ) (found : Result Framed FrameFault) (frame : Framed) (infos : Infos) (result : Result Infos ReadFault) → Checked infos_wanted bytes found → found ≡ Ok frame
-    → SpellsInfos (body_of bytes frame) infos → frame.id ≡ id_of infos → result ≡ Ok infos → IsDecoded bytes result
+pub infos_are_read : (bytes : List ℕ) (found : Result Framed FrameFault) (frame : Framed) (infos : Infos) (result : Result Infos ReadFault) → IsChecked infos_wanted bytes found → found ≡ Ok frame
+    → SpellsInfos (body_of bytes frame) infos → frame.id ≡ infos_id infos → result ≡ Ok infos → IsDecoded bytes result
 infos_are_read bytes found frame infos result k was s i f =
-    decoded bytes result (file_read SpellsInfos infos_wanted id_of (λ fault. File fault) bytes found frame infos result infos_version k was (record { id = i; spelled = s }) f)
+    decoded bytes result (file_read SpellsInfos infos_wanted infos_id (λ fault. File fault) bytes found frame infos result infos_version k was (record { id = i; spelled = s }) f)
     (λ fault g. absurd (not_ok infos fault (sym f ∙ g)))
 
-body_is_refused : (bytes : List ℕ) (found : Result Framed FrameFault) (frame : Framed) (result : Result Infos ReadFault) → Checked infos_wanted bytes found → found ≡ Ok frame
-    → ((infos : Infos) → StandsIn SpellsInfos id_of bytes frame infos → ⊥) → result ≡ Err (File Body) → IsDecoded bytes result
+body_is_refused : (bytes : List ℕ) (found : Result Framed FrameFault) (frame : Framed) (result : Result Infos ReadFault) → IsChecked infos_wanted bytes found → found ≡ Ok frame
+    → ((infos : Infos) → StandsIn SpellsInfos infos_id bytes frame infos → ⊥) → result ≡ Err (File Body) → IsDecoded bytes result
 body_is_refused bytes found frame result k was none f =
-    decoded bytes result (body_refused SpellsInfos infos_wanted id_of (λ fault. File fault) bytes found frame result infos_version told_apart k was none f) (λ fault g. absurd (not_body fault (sym f ∙ g)))
+    decoded bytes result (body_refused SpellsInfos infos_wanted infos_id (λ fault. File fault) bytes found frame result infos_version told_apart k was none f) (λ fault g. absurd (not_body fault (sym f ∙ g)))
 
-pub another_id : (bytes : List ℕ) (found : Result Framed FrameFault) (frame : Framed) (infos : Infos) (result : Result Infos ReadFault) → Checked infos_wanted bytes found → found ≡ Ok frame
-    → SpellsInfos (body_of bytes frame) infos → (frame.id ≡ id_of infos → ⊥) → result ≡ Err (File Body) → IsDecoded bytes result
+pub another_id : (bytes : List ℕ) (found : Result Framed FrameFault) (frame : Framed) (infos : Infos) (result : Result Infos ReadFault) → IsChecked infos_wanted bytes found → found ≡ Ok frame
+    → SpellsInfos (body_of bytes frame) infos → (frame.id ≡ infos_id infos → ⊥) → result ≡ Err (File Body) → IsDecoded bytes result
 another_id bytes found frame infos result k was s other f =
-    body_is_refused bytes found frame result k was (λ x t. other (t.id ∙ ap id_of (infos_one_to_one.one_value (body_of bytes frame) x infos t.spelled s))) f
+    body_is_refused bytes found frame result k was (λ x t. other (t.id ∙ ap infos_id (infos_one_to_one.one_value (body_of bytes frame) x infos t.spelled s))) f
 
 -- two ids that are compared
 pub same_id : (a b c : List ℕ) (test : Bool) → test ≡ pointwise nat_eq a b → test ≡ true → b ≡ c → a ≡ c
@@ -143,13 +107,13 @@ other_id a b c test e t f same = let yes = (bytes_eq-Decides a b).1 (same ∙ sy
 -- ---- all infos are answered, and each body of none is refused
 
 pub each_infos : (bytes : List ℕ) (result : Result Infos ReadFault) → IsDecoded bytes result → (infos : Infos) → IsInfosFile infos bytes → (result ≡ Err Memory) ⊎ (result ≡ Ok infos)
-each_infos bytes (Ok x) d infos file = inr (ap (λ (y : Infos). Ok y) (one_infos_file bytes x infos (d.value x refl) file))
+each_infos bytes (Ok x) d infos file = inr (ap (λ (y : Infos). Ok y) (one_infos_file bytes x infos d.value file))
 each_infos bytes (Err Memory) d infos file = inl refl
-each_infos bytes (Err (File (Frame fault))) d infos file = absurd (d.unframed fault refl 1 (id_of infos) file.body file.framed)
+each_infos bytes (Err (File (Frame fault))) d infos file = absurd (d.unframed fault refl 1 (infos_id infos) file.body file.framed)
 each_infos bytes (Err (File Body)) d infos file = absurd ((d.body refl).1 infos file)
 
 pub each_body : (bytes : List ℕ) (result : Result Infos ReadFault) → IsDecoded bytes result → IsOfNoInfos bytes → (result ≡ Err Memory) ⊎ (result ≡ Err (File Body))
-each_body bytes (Ok x) d none = absurd (none.1 x (d.value x refl))
+each_body bytes (Ok x) d none = absurd (none.1 x d.value)
 each_body bytes (Err Memory) d none = inl refl
 each_body bytes (Err (File (Frame fault))) d none = let f = none.0.1 in absurd (d.unframed fault refl none.0.0.version none.0.0.id (body_of bytes none.0.0) f.framed)
 each_body bytes (Err (File Body)) d none = inr refl

@@ -2,7 +2,7 @@
 use Rattle.std.proofs.Common.{◌≡◌, ℕ, suc, ◌^◌, ◌<◌, ◌≤◌, ◌⊎◌, Bool, true, false, cond, List, [], ◌∷◌, ◌++◌, length, Some, None, refl, sym, ap, subst, ◌∙◌, arith, inl, inr}
 use Rattle.std.specs.Prelude.{◌&&◌, ◌||◌, ◌==◌, nat_lt, nat_le}
 use Rattle.std.specs.List.{flat_map, All}
-use Rattle.std.proofs.lemmas.Bool.{cases_lt}
+use Rattle.std.proofs.lemmas.Bool.{cases_lt, ltb-true, leb-true, eqb-true, lt-ltb}
 use Rattle.std.proofs.lemmas.Bool.Decides.{nat_tests}
 use Rattle.std.proofs.lemmas.List.Elements.{All-cons, All-nil}
 use Rattle.codec_frame.specs.Bytes.{AreBytes}
@@ -56,18 +56,6 @@ both : (a b : Bool) → (a && b) ≡ true → (a ≡ true) × (b ≡ true)
 both true b h = (refl, h)
 both false b h = absurd cc
 
-true_lt : (m n : ℕ) → nat_lt m n ≡ true → m < n
-true_lt m n h = grind (arith, nat_tests)
-
-true_le : (m n : ℕ) → nat_le m n ≡ true → m ≤ n
-true_le m n h = grind (arith, nat_tests)
-
-true_eq : (m n : ℕ) → (m == n) ≡ true → m ≡ n
-true_eq m n h = grind (arith, nat_tests)
-
-lt_true : (m n : ℕ) → m < n → nat_lt m n ≡ true
-lt_true m n h = grind (arith, nat_tests)
-
 le_true : (m n : ℕ) → m ≤ n → nat_le m n ≡ true
 le_true m n h = grind (arith, nat_tests)
 
@@ -78,12 +66,12 @@ head_from_test : (head : Head) → is_head head ≡ true → IsHead head
 head_from_test head h =
     let p = both (nat_lt 0 head.generation.0) (nat_lt 0 head.version.0 && nat_le head.count 256) h in
     let q = both (nat_lt 0 head.version.0) (nat_le head.count 256) p.1 in
-    record { generation = true_lt 0 head.generation.0 p.0; version = true_lt 0 head.version.0 q.0; few = true_le head.count 256 q.1 }
+    record { generation = ltb-true 0 head.generation.0 p.0; version = ltb-true 0 head.version.0 q.0; few = leb-true head.count 256 q.1 }
 
 head_passes : (head : Head) → IsHead head → is_head head ≡ true
 head_passes head h =
-    let g : nat_lt 0 head.generation.0 ≡ true = lt_true 0 head.generation.0 h.generation in
-    let v : nat_lt 0 head.version.0 ≡ true = lt_true 0 head.version.0 h.version in
+    let g : nat_lt 0 head.generation.0 ≡ true = lt-ltb 0 head.generation.0 h.generation in
+    let v : nat_lt 0 head.version.0 ≡ true = lt-ltb 0 head.version.0 h.version in
     let f : nat_le head.count 256 ≡ true = le_true head.count 256 h.few in
     rw (g, v, f) refl
 
@@ -121,11 +109,11 @@ first_or false b h = inr h
 record_from_test : (r : SegRecord) → is_record r ≡ true → IsRecord r
 record_from_test r h =
     elim (first_or (r.live == r.rows) (nat_lt r.live r.rows && nat_lt 0 r.live_gen) h) [
-      | inl e ↦ let same : r.live ≡ r.rows = true_eq r.live r.rows e in record { most = omega (arith, same); all = λ _. same }
+      | inl e ↦ let same : r.live ≡ r.rows = eqb-true r.live r.rows e in record { most = omega (arith, same); all = λ _. same }
       | inr e ↦
           let p = both (nat_lt r.live r.rows) (nat_lt 0 r.live_gen) e in
-          let less : r.live < r.rows = true_lt r.live r.rows p.0 in
-          let some : 0 < r.live_gen = true_lt 0 r.live_gen p.1 in
+          let less : r.live < r.rows = ltb-true r.live r.rows p.0 in
+          let some : 0 < r.live_gen = ltb-true 0 r.live_gen p.1 in
           record { most = omega (arith, less); all = λ z. absurd (omega (arith, z, some)) }
     ]
 
@@ -133,7 +121,7 @@ record_passes : (r : SegRecord) → IsRecord r → is_record r ≡ true
 record_passes r h = elim (cases_lt r.live r.rows) [
   | inl lt ↦
       elim (cases_lt 0 r.live_gen) [
-        | inl some ↦ let a : nat_lt r.live r.rows ≡ true = lt_true r.live r.rows lt in let b : nat_lt 0 r.live_gen ≡ true = lt_true 0 r.live_gen some in rw (a, b) (or_true (r.live == r.rows))
+        | inl some ↦ let a : nat_lt r.live r.rows ≡ true = lt-ltb r.live r.rows lt in let b : nat_lt 0 r.live_gen ≡ true = lt-ltb 0 r.live_gen some in rw (a, b) (or_true (r.live == r.rows))
         | inr none ↦ absurd (omega (arith, lt, h.all (omega (arith, none))))
       ]
   | inr ge ↦ let a : (r.live == r.rows) ≡ true = eq_true r.live r.rows (omega (arith, ge, h.most)) in rw a refl

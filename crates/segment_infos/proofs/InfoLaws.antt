@@ -1,10 +1,10 @@
 -- What the body of a segment's info file says.
-use Rattle.std.proofs.Common.{◌≡◌, ℕ, ◌^◌, ◌<◌, Bool, true, false, cond, List, [], ◌∷◌, ◌++◌, Option, Some, None, refl, sym, ap, subst, ◌∙◌, arith}
+use Rattle.std.proofs.Common.{◌≡◌, ℕ, ◌^◌, ◌<◌, Bool, true, false, cond, List, [], ◌∷◌, ◌++◌, Option, Some, None, refl, sym, ap, subst, ◌∙◌}
 use Rattle.std.specs.Prelude.{◌&&◌, nat_eq, nat_lt}
 use Rattle.std.specs.Cmp.Lexicographic.{pointwise}
-use Rattle.std.proofs.lemmas.Bool.Decides.{nat_tests}
 use Rattle.std.proofs.lemmas.Option.{same_Some}
 use Rattle.std.proofs.lemmas.Slice.Eq.{bytes_eq-Decides}
+use Rattle.std.proofs.lemmas.Bool.{ltb-true, lt-ltb}
 use Rattle.codec_frame.specs.Bytes.{AreBytes}
 use Rattle.body_forms.specs.Format.{Read, ◌>>=◌}
 use Rattle.body_forms.specs.Numbers.{u32_bytes, u32_at, u64_bytes, u64_at}
@@ -34,12 +34,6 @@ both : (a b : Bool) → (a && b) ≡ true → (a ≡ true) × (b ≡ true)
 both true b h = (refl, h)
 both false b h = absurd cc
 
-true_lt : (m n : ℕ) → nat_lt m n ≡ true → m < n
-true_lt m n h = grind (arith, nat_tests)
-
-lt_true : (m n : ℕ) → m < n → nat_lt m n ≡ true
-lt_true m n h = grind (arith, nat_tests)
-
 spelled_parts : (body rest : List ℕ) (seg rows : ℕ) → body ≡ u64_bytes seg ++ rest → rest ≡ u32_bytes rows ++ 1 ∷ [] → seg < 2 ^ 64 → rows < 2 ^ 32 → 0 < rows → SpellsSegmentInfo body (made seg rows 1)
 unfolding info_body
 spelled_parts body rest seg rows e f sf rf some =
@@ -56,7 +50,7 @@ info_spelled body info fits e =
     let t = u64_format.takes body f.0.0 f.0.1 fits f.1 in
     let u = u32_format.takes f.0.1 g.0.0 g.0.1 t.0.rest_fits g.1 in
     let rest : f.0.1 ≡ u32_bytes g.0.0 ++ 1 ∷ [] = u.0.parts ∙ ap (λ (x : List ℕ). u32_bytes g.0.0 ++ x) last in
-    subst (SpellsSegmentInfo body) (same_Some (made f.0.0 g.0.0 1) info p.1) (spelled_parts body f.0.1 f.0.0 g.0.0 t.0.parts rest t.1 u.1 (true_lt 0 g.0.0 q.0))
+    subst (SpellsSegmentInfo body) (same_Some (made f.0.0 g.0.0 1) info p.1) (spelled_parts body f.0.1 f.0.0 g.0.0 t.0.parts rest t.1 u.1 (ltb-true 0 g.0.0 q.0))
 
 -- and of no other
 pub info_read : (body : List ℕ) (info : SegInfo) → SpellsSegmentInfo body info → info_in body ≡ Some info
@@ -65,7 +59,7 @@ info_read body info s =
     let rest = u32_bytes info.rows ++ info.format ∷ [] in
     let seg = ap u64_at s.whole ∙ u64_format.again info.seg.0 rest s.seg_fits in
     let rows = u32_format.again info.rows (info.format ∷ []) s.rows_fit in
-    let some : nat_lt 0 info.rows ≡ true = lt_true 0 info.rows s.can.some in
+    let some : nat_lt 0 info.rows ≡ true = lt-ltb 0 info.rows s.can.some in
     let last : ◌≡◌ {A = Option SegInfo} (cond (nat_lt 0 info.rows && pointwise nat_eq (1 ∷ []) (1 ∷ [])) (Some (made info.seg.0 info.rows 1)) None) (Some (made info.seg.0 info.rows 1)) = rw some refl in
     info_in-is body ∙ ap from_seg seg ∙ ap (from_rows info.seg.0) rows
     ∙ ap (λ (k : ℕ). cond (nat_lt 0 info.rows && pointwise nat_eq (k ∷ []) (1 ∷ [])) (Some (made info.seg.0 info.rows 1)) None) s.can.format
@@ -86,3 +80,7 @@ spells_written info can s r = record { can = can; seg_fits = s; rows_fit = r; wh
 pub adds_info : (before one two three : List ℕ) (info : SegInfo) → one ≡ before ++ u64_bytes info.seg.0 → two ≡ one ++ u32_bytes info.rows → three ≡ two ++ info.format ∷ [] → three ≡ before ++ info_body info
 unfolding info_body
 adds_info before one two three info e f g = joined before one three (u64_bytes info.seg.0) (u32_bytes info.rows ++ info.format ∷ []) e (joined one two three (u32_bytes info.rows) (info.format ∷ []) f g)
+
+-- a body in which nothing is read spells nothing
+pub none_spelled_in : (body : List ℕ) → ◌≡◌ {A = Option SegInfo} None (info_in body) → (info : SegInfo) → SpellsSegmentInfo body info → ⊥
+none_spelled_in body e info s = let bad = e ∙ info_read body info s in cc

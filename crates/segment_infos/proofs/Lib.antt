@@ -1,11 +1,11 @@
-pub mod Appends
-pub mod FormatLaws
-pub mod RecordLaws
-pub mod WritingLaws
-pub mod InfoLaws
-pub mod BodyLaws
+mod Appends
+mod FormatLaws
+mod RecordLaws
+mod WritingLaws
+mod InfoLaws
+mod BodyLaws
 pub mod FileLaws
-pub mod NumberLaws
+mod NumberLaws
 pub mod SortedLists
 pub mod SetLaws
 pub mod CommitLaws

@@ -57,9 +57,13 @@ pub record SpellsInfos (body : List ℕ) (infos : Infos) : Type 0 where
   pub fit : InfosFit infos
   pub whole : body ≡ infos_body infos
 
+-- the body spells no infos
+abbrev pub SpellsNoInfos : List ℕ → Type 0
+SpellsNoInfos body = (infos : Infos) → SpellsInfos body infos → ⊥
+
 -- the id of a file of infos: their generation and their version
-abbrev pub id_of : Infos → List ℕ
-id_of infos = u64_bytes infos.generation.0 ++ u64_bytes infos.version.0
+abbrev pub infos_id : Infos → List ℕ
+infos_id infos = u64_bytes infos.generation.0 ++ u64_bytes infos.version.0
 
 -- what is wanted of a file of infos, whose id is told by its body
 abbrev pub infos_wanted : Wanted
@@ -67,7 +71,7 @@ infos_wanted = record { name = codes "NrtInfos"; min = 1; max = 1; id = None; su
 
 -- the bytes are the file of these infos: their body, framed, with their id
 abbrev pub IsInfosFile : Infos → List ℕ → Type 0
-IsInfosFile infos bytes = IsFile SpellsInfos infos_wanted (id_of infos) infos bytes
+IsInfosFile infos bytes = IsFile SpellsInfos infos_wanted (infos_id infos) infos bytes
 
 -- the bytes are framed as wanted, and are the file of no infos
 abbrev pub IsOfNoInfos : List ℕ → Type 0

@@ -1,7 +1,6 @@
 -- How the fronts of bodies are read, and what reading a file of infos is to answer.
-use Rattle.std.specs.Prelude.{◌≡◌, ℕ, ◌&&◌, ◌||◌, ◌==◌, ◌↔◌, nat_lt, nat_le, Bool, List, [], ◌∷◌, Option, Some, None, Result, Ok, Err, if◌then◌else◌}
+use Rattle.std.specs.Prelude.{◌≡◌, ℕ, ◌&&◌, ◌||◌, ◌==◌, ◌↔◌, nat_lt, nat_le, nat_eq, Bool, List, [], ◌∷◌, Option, Some, None, Result, Err, IfOk, if◌then◌else◌}
 use Rattle.std.specs.Cmp.Lexicographic.{pointwise}
-use Rattle.std.specs.Prelude.{nat_eq}
 use Rattle.codec_frame.specs.Frame.{IsFramed}
 use Rattle.codec_frame.specs.Checking.{IsFirstFault}
 use Rattle.codec_frame.specs.declared.frame.FrameFault.{FrameFault}
@@ -21,12 +20,15 @@ unfoldable pub info_in : List ℕ → Option SegInfo
 info_in body = u64_at body >>= λ seg. u32_at seg.1 >>= λ rows.
     if nat_lt 0 rows.0 && pointwise nat_eq rows.1 (1 ∷ []) then Some (record { seg = record { 0 = seg.0 }; rows = rows.0; format = 1 }) else None
 
+-- the four numbers of a head, or of a record
 abbrev pub Four : Type 0
 Four = ℕ × (ℕ × (ℕ × ℕ))
 
+-- the head of these numbers
 abbrev pub head_from : Four → Head
 head_from p = record { generation = record { 0 = p.0 }; version = record { 0 = p.1.0 }; counter = p.1.1.0; count = p.1.1.1 }
 
+-- generation and version count from 1, and at most 256 segments follow
 abbrev pub is_head : Head → Bool
 is_head head = nat_lt 0 head.generation.0 && (nat_lt 0 head.version.0 && nat_le head.count 256)
 
@@ -34,6 +36,7 @@ is_head head = nat_lt 0 head.generation.0 && (nat_lt 0 head.version.0 && nat_le 
 unfoldable pub head_at : List ℕ → Read Head
 head_at bytes = then_at u64_at (λ _. then_at u64_at (λ _. then_at u32_at (λ _. u32_at))) bytes >>= λ x. if is_head (head_from x.0) then Some (head_from x.0, x.1) else None
 
+-- the record of these numbers
 abbrev pub record_from : Four → SegRecord
 record_from p = record { seg = record { 0 = p.0 }; rows = p.1.0; live_gen = p.1.1.0; live = p.1.1.1 }
 
@@ -49,9 +52,9 @@ record_at bytes = then_at u64_at (λ _. then_at u32_at (λ _. then_at u64_at (λ
 unfoldable pub records_at : ℕ → List ℕ → Read (List SegRecord)
 records_at count bytes = chain_at (λ (_ : Unit {0}). record_at) (λ _. tt) count tt bytes
 
--- what reading a file of infos is to answer, apart from want of memory
+-- what reading a file of infos is to answer, unless memory runs out
 pub record IsDecoded (bytes : List ℕ) (result : Result Infos ReadFault) : Type 0 where
-  pub value : (infos : Infos) → result ≡ Ok infos → IsInfosFile infos bytes
+  pub value : IfOk result (λ infos. IsInfosFile infos bytes)
   pub frame : (fault : FrameFault) → (result ≡ Err (File (Frame fault))) ↔ IsFirstFault infos_wanted bytes fault
   pub unframed : (fault : FrameFault) → result ≡ Err (File (Frame fault)) → (version : ℕ) (id body : List ℕ) → IsFramed infos_wanted version id body bytes → ⊥
   pub body : result ≡ Err (File Body) → IsOfNoInfos bytes

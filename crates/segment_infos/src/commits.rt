@@ -1,3 +1,5 @@
+//! The numbers of the commits that a directory's names show.
+
 ghost use Rattle.std.specs.Prelude.{◌<◌, ◌≤◌, ◌^◌, ◌++◌, IfSome};
 ghost use Rattle.segment_infos.specs.Commits.{commit_numbers, pending_numbers, IsGreatest, IsNext};
 

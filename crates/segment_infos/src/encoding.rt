@@ -1,3 +1,5 @@
+//! Files of infos, written.
+
 ghost use Rattle.std.specs.Prelude.{◌≡◌, ◌++◌, IfOk, OnOk};
 ghost use Rattle.std.specs.Fmt.{decimal};
 ghost use Rattle.body_forms.specs.Numbers.{u64_bytes, string};

@@ -1,3 +1,5 @@
+//! The files that infos name.
+
 ghost use Rattle.std.specs.Prelude.{◌≡◌, ◌++◌, IfOk, OnOk};
 ghost use Rattle.std.specs.List.{flat_map};
 ghost use Rattle.segment_infos.specs.Files.{files_of_segment, AreFilesOf};

@@ -1,12 +1,14 @@
-ghost use Rattle.std.specs.Prelude.{◌≡◌, ◌↔◌, ◌++◌, IfOk, OnOk, Ok, Err};
-ghost use Rattle.codec_frame.specs.Frame.{wanted, IsFramedAs};
-ghost use Rattle.codec_frame.specs.Checking.{IsFirstFault};
+//! The info file of a segment.
+
+ghost use Rattle.std.specs.Prelude.{◌≡◌, ◌++◌, IfOk, OnOk};
+ghost use Rattle.codec_frame.specs.Checking.{IsChecked};
+ghost use Rattle.body_forms.specs.File.{IsFileRead};
 ghost use Rattle.segment_infos.specs.SegmentInfo.{info_body, CanSpellInfo, SpellsSegmentInfo, info_wanted, IsInfoFile};
 ghost use Rattle.segment_infos.specs.Reading.{info_in};
 
 use body_forms::{push_u32, push_u64, u32_of, u64_of};
 use bytes::Bytes;
-use codec_frame::{FileFault, FrameFault, Want, check, write_footer, write_index_header};
+use codec_frame::{FileFault, FrameFault, Framed, Want, check, write_footer, write_index_header};
 use nrt_base::{NoMemory, SegNo};
 use std::alloc::Global;
 
@@ -29,17 +31,18 @@ pub struct SegInfo {
     pub format: u8,
 }
 
-// What is wanted of an info file with this id.
-fn want(id: &[u8; 16]) -> Want<'static>
-    ensures { wanted result ≡ info_wanted id.now }
+// The frame of an info file with this id.
+fn frame_of(bytes: &[u8], id: &[u8; 16]) -> Result<Framed, FrameFault>
+    ensures { IsChecked (info_wanted id.now) bytes.now result }
 {
-    Want {
+    let want = Want {
         name: NAME,
         min: VERSION,
         max: VERSION,
         id: Some(*id),
         suffix: b"",
-    }
+    };
+    check(bytes, &want)
 }
 
 // Puts the body of an info file at the end.
@@ -87,11 +90,9 @@ fn info_of(body: &[u8]) -> Option<SegInfo>
 
 /// What the info file of a segment says, which has this id and is looked at whole.
 pub fn read_info(bytes: &[u8], id: &[u8; 16]) -> Result<SegInfo, FileFault>
-    ensures value { (info : SegInfo) → (result ≡ Ok info) ↔ IsInfoFile id.now info bytes.now }
-    ensures frame { (fault : FrameFault) → (result ≡ Err (FileFault.Frame fault)) ↔ IsFirstFault (info_wanted id.now) bytes.now fault }
-    ensures body { (result ≡ Err FileFault.Body) ↔ (IsFramedAs (info_wanted id.now) bytes.now × ((info : SegInfo) → IsInfoFile id.now info bytes.now → ⊥)) }
+    ensures { IsFileRead SpellsSegmentInfo (info_wanted id.now) id.now bytes.now result }
 {
-    let frame = check(bytes, &want(id))?;
+    let frame = frame_of(bytes, id)?;
     match info_of(&bytes[frame.start..frame.end]) {
         Some(info) => Ok(info),
         None => Err(FileFault::Body),

@@ -1,3 +1,5 @@
+//! Infos: what the segments of a point are.
+
 use nrt_base::{Gen, List, NoMemory, SegNo, Share, Version};
 use std::alloc::Global;
 

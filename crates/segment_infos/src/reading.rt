@@ -1,16 +1,17 @@
+//! Files of infos, read.
+
 ghost use Rattle.std.specs.Prelude.{◌≡◌, ◌≢◌, ◌↔◌, ◌⊎◌, [], map, IfOk, IsTrue, MatchOption, Ok, Err};
 ghost use Rattle.std.specs.List.{AllPairs};
 ghost use Rattle.std.specs.List.Sorted.{IsStrictlyIncreasing};
 ghost use Rattle.std.specs.Option.{option_map};
-ghost use Rattle.codec_frame.specs.Frame.{wanted};
-ghost use Rattle.codec_frame.specs.Checking.{IsFirstFault};
-ghost use Rattle.segment_infos.specs.Infos.{user_data, SpellsInfos, infos_wanted, IsInfosFile, IsOfNoInfos};
+ghost use Rattle.codec_frame.specs.Checking.{IsChecked, IsFirstFault};
+ghost use Rattle.segment_infos.specs.Infos.{user_data, SpellsInfos, SpellsNoInfos, infos_wanted, IsInfosFile, IsOfNoInfos};
 ghost use Rattle.segment_infos.specs.Reading.{head_at, record_at, records_at, IsDecoded};
 
 use crate::encoding::{NAME, VERSION, id_of, push_user_data};
 use crate::infos::{Infos, SegRecord};
 use body_forms::{ReadFault, u32_of, u64_of};
-use codec_frame::{FileFault, FrameFault, Want, check};
+use codec_frame::{FileFault, FrameFault, Framed, Want, check};
 use nrt_base::{Gen, List, NoMemory, SegNo, Version};
 use std::alloc::Global;
 
@@ -26,17 +27,18 @@ struct Head {
     count: u32,
 }
 
-// What is wanted of a file of infos.
-fn want() -> Want<'static>
-    ensures { wanted result ≡ infos_wanted }
+// The frame of a file of infos.
+fn frame_of(bytes: &[u8]) -> Result<Framed, FrameFault>
+    ensures { IsChecked infos_wanted bytes.now result }
 {
-    Want {
+    let want = Want {
         name: NAME,
         min: VERSION,
         max: VERSION,
         id: None,
         suffix: b"",
-    }
+    };
+    check(bytes, &want)
 }
 
 // The head at the front of a body, and the bytes after it.
@@ -84,14 +86,15 @@ fn record_of(bytes: &[u8]) -> Option<(SegRecord, &[u8])>
 }
 
 // Puts this many records from the front of the bytes at the end, and answers the bytes after them. Where they are not there, or
-// memory is wanting, some may have been put.
+// memory runs out, some may have been put.
 fn take_records<'a>(
     records: &mut Vec<SegRecord>,
     count: u32,
     bytes: &'a [u8],
 ) -> Result<Option<&'a [u8]>, NoMemory>
     requires { records.old.items ≡ [] }
-    ensures { IfOk result (λ rest. option_map (λ r. (records.new.items, r.now)) rest ≡ records_at count bytes.now) }
+    ensures { IfOk result (λ rest. option_map (λ r. (records.new.items, r.now)) rest
+        ≡ records_at count bytes.now) }
 {
     let mut rest = bytes;
     for _ in 0..count {
@@ -148,7 +151,8 @@ fn is_user_data(
 
 // The infos that a body spells.
 fn infos_of(alloc: Global, body: &[u8]) -> Result<Option<Infos>, NoMemory>
-    ensures { IfOk result (λ found. MatchOption found ((infos : Infos) → SpellsInfos body.now infos → ⊥) (SpellsInfos body.now)) }
+    ensures { IfOk result (λ found. MatchOption found (SpellsNoInfos body.now)
+        (SpellsInfos body.now)) }
 {
     let Some((head, rest)) = head_of(body) else {
         return Ok(None);
@@ -175,7 +179,7 @@ fn infos_of(alloc: Global, body: &[u8]) -> Result<Option<Infos>, NoMemory>
 fn answer(alloc: Global, bytes: &[u8]) -> Result<Infos, ReadFault>
     ensures { IsDecoded bytes.now result }
 {
-    let frame = check(bytes, &want())?;
+    let frame = frame_of(bytes)?;
     let Some(infos) = infos_of(alloc, &bytes[frame.start..frame.end])? else {
         return Err(ReadFault::File(FileFault::Body));
     };
@@ -190,7 +194,8 @@ fn answer(alloc: Global, bytes: &[u8]) -> Result<Infos, ReadFault>
 /// fault.
 pub fn decode(alloc: Global, bytes: &[u8]) -> Result<Infos, ReadFault>
     ensures value { IfOk result (λ infos. IsInfosFile infos bytes.now) }
-    ensures frame { (fault : FrameFault) → (result ≡ Err (ReadFault.File (FileFault.Frame fault))) ↔ IsFirstFault infos_wanted bytes.now fault }
+    ensures frame { (fault : FrameFault) → (result ≡ Err (ReadFault.File (FileFault.Frame fault)))
+        ↔ IsFirstFault infos_wanted bytes.now fault }
     ensures body { result ≡ Err (ReadFault.File FileFault.Body) → IsOfNoInfos bytes.now }
 
     // Infos are answered, and a body of none is refused, unless memory runs out.

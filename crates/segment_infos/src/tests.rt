@@ -4,7 +4,7 @@ ghost use Rattle.segment_infos.specs.Infos.{IsRecord, CanSpell};
 use super::*;
 use crate::encoding::id_of;
 use body_forms::ReadFault;
-use codec_frame::{FileFault, FrameFault, write_footer, write_index_header};
+use codec_frame::{FileFault, write_footer, write_index_header};
 use file_names::{SegPart, commit_name, part_name, pending_name};
 use nrt_base::{Gen, List, NoMemory, SegNo, Share, Version};
 use std::alloc::Global;
@@ -87,48 +87,9 @@ fn info_file_of_one_row(rt: HostRuntime) -> Result<(), Fail> {
 }
 
 #[test]
-fn first_faults_of_an_info_file(rt: HostRuntime) -> Result<(), Fail> {
-    let bytes = encode_info(rt.alloc(), &ID, &INFO)?;
-    let table = [
-        (0, 0x3e, FrameFault::Magic),
-        (5, 0x4f, FrameFault::Codec),
-        (22, 0, FrameFault::TooOld(0)),
-        (22, 2, FrameFault::TooNew(2)),
-        (30, 2, FrameFault::Id),
-        (39, 1, FrameFault::Suffix),
-        (53, 0xc1, FrameFault::FooterMagic),
-        (60, 1, FrameFault::Algorithm),
-        (
-            68,
-            0xc6,
-            FrameFault::Checksum {
-                want: 0x1c86_b9c7,
-                found: 0x1c86_b9c6,
-            },
-        ),
-    ];
-    for (at, byte, fault) in table {
-        let file = with_byte(rt.alloc(), bytes.as_slice(), at, byte)?;
-        assert_eq!(rt;
-            info_fault(&file),
-            Some(FileFault::Frame(fault)),
-            "byte {at} made {byte}"
-        );
-    }
-    assert_eq!(rt;
-        info_fault(&[0; 55]),
-        Some(FileFault::Frame(FrameFault::Truncated))
-    );
-    Ok(())
-}
-
-#[test]
 fn info_bodies_outside_the_grammar(rt: HostRuntime) -> Result<(), Fail> {
-    let bodies: [(&str, &[u8]); 5] = [
-        ("nothing", b""),
-        ("no row", b"\0\0\0\0\0\x19\xa1\0\0\0\0\0\x01"),
+    let bodies: [(&str, &[u8]); 2] = [
         ("another format", b"\0\0\0\0\0\x19\xa1\0\0\0\0\x01\x02"),
-        ("no format", b"\0\0\0\0\0\x19\xa1\0\0\0\0\x01"),
         ("a trailing byte", b"\0\0\0\0\0\x19\xa1\0\0\0\0\x01\x01\0"),
     ];
     for (name, body) in bodies {
@@ -154,43 +115,6 @@ fn file_of_infos_with_one_segment(rt: HostRuntime) -> Result<(), Fail> {
     Ok(())
 }
 
-// The file wants no id, so that no fault is the id's: an id that is not the generation and the version is the body's fault.
-#[test]
-fn first_faults_of_a_file_of_infos(rt: HostRuntime) -> Result<(), Fail> {
-    let infos = infos_of_one(rt.alloc(), SEGMENT)?;
-    let bytes = encode(rt.alloc(), &infos)?;
-    let table = [
-        (0, 0x3e, FrameFault::Magic),
-        (5, 0x4f, FrameFault::Codec),
-        (16, 0, FrameFault::TooOld(0)),
-        (16, 2, FrameFault::TooNew(2)),
-        (33, 1, FrameFault::Suffix),
-        (113, 0xc1, FrameFault::FooterMagic),
-        (120, 1, FrameFault::Algorithm),
-        (
-            128,
-            0xad,
-            FrameFault::Checksum {
-                want: 0x2688_9fac,
-                found: 0x2688_9fad,
-            },
-        ),
-    ];
-    for (at, byte, fault) in table {
-        let file = with_byte(rt.alloc(), bytes.as_slice(), at, byte)?;
-        assert_eq!(rt;
-            infos_fault(rt.alloc(), &file),
-            Some(FileFault::Frame(fault)),
-            "byte {at} made {byte}"
-        );
-    }
-    assert_eq!(rt;
-        infos_fault(rt.alloc(), &[0; 49]),
-        Some(FileFault::Frame(FrameFault::Truncated))
-    );
-    Ok(())
-}
-
 #[test]
 fn infos_bodies_with_an_altered_byte(rt: HostRuntime) -> Result<(), Fail> {
     let infos = infos_of_one(rt.alloc(), SEGMENT)?;
@@ -198,15 +122,9 @@ fn infos_bodies_with_an_altered_byte(rt: HostRuntime) -> Result<(), Fail> {
     assert_eq!(rt; bytes.len(), 129);
     let body = &bytes.as_slice()[34..113];
     let table = [
-        ("generation 0", 7, 0),
-        ("version 0", 15, 0),
-        ("no segment", 23, 0),
         ("a segment more", 23, 2),
-        ("live rows above the rows", 47, 2),
         ("a dead row without a live file", 47, 0),
-        ("three entries", 51, 3),
         ("another name", 53, b'x'),
-        ("another generation in digits", 66, b'2'),
         ("another version in digits", 78, b'3'),
     ];
     for (name, at, byte) in table {
@@ -224,63 +142,6 @@ fn infos_bodies_with_an_altered_byte(rt: HostRuntime) -> Result<(), Fail> {
         Some(FileFault::Body),
         "another id"
     );
-    Ok(())
-}
-
-#[test]
-fn infos_bodies_of_other_lengths(rt: HostRuntime) -> Result<(), Fail> {
-    let infos = infos_of_one(rt.alloc(), SEGMENT)?;
-    let bytes = encode(rt.alloc(), &infos)?;
-    assert_eq!(rt; bytes.len(), 129);
-    let body = &bytes.as_slice()[34..113];
-    let mut twice = with_byte(rt.alloc(), &bytes.as_slice()[34..82], 23, 2)?;
-    twice.extend_from_slice(&bytes.as_slice()[58..113])?;
-    let file = infos_file(rt.alloc(), 2, &twice)?;
-    assert_eq!(rt;
-        infos_fault(rt.alloc(), &file),
-        Some(FileFault::Body),
-        "a segment twice"
-    );
-    let cuts: [(&str, usize, &[u8]); 3] = [
-        ("a trailing byte", 79, b"\0"),
-        ("a byte less", 78, b""),
-        ("a leading zero", 77, b"\x0202"),
-    ];
-    for (name, front, end) in cuts {
-        let mut altered = body.to_vec(rt.alloc())?;
-        altered.truncate(front);
-        altered.extend_from_slice(end)?;
-        let file = infos_file(rt.alloc(), 2, &altered)?;
-        assert_eq!(rt;
-            infos_fault(rt.alloc(), &file),
-            Some(FileFault::Body),
-            "{name}"
-        );
-    }
-    Ok(())
-}
-
-#[test]
-fn prefixes_and_altered_bytes_are_refused(rt: HostRuntime) -> Result<(), Fail> {
-    let info = encode_info(rt.alloc(), &ID, &INFO)?;
-    for at in 0..info.len() {
-        assert!(rt;
-            info_fault(&info.as_slice()[..at]).is_some(),
-            "the first {at}"
-        );
-        let file = with_byte(rt.alloc(), info.as_slice(), at, 0xa5)?;
-        assert!(rt; info_fault(&file).is_some(), "byte {at}");
-    }
-    let infos = infos_of_one(rt.alloc(), SEGMENT)?;
-    let bytes = encode(rt.alloc(), &infos)?;
-    for at in 0..bytes.len() {
-        assert!(rt;
-            infos_fault(rt.alloc(), &bytes.as_slice()[..at]).is_some(),
-            "the first {at}"
-        );
-        let file = with_byte(rt.alloc(), bytes.as_slice(), at, 0xa5)?;
-        assert!(rt; infos_fault(rt.alloc(), &file).is_some(), "byte {at}");
-    }
     Ok(())
 }
 

@@ -1,12 +1,7 @@
-use Rattle.segment_infos.proofs.InfoLaws.{one_info}
-use Rattle.segment_infos.proofs.FileLaws.{one_info_bytes, one_info_file}
+use Rattle.body_forms.proofs.FileLaws.{files_one_to_one}
+use Rattle.segment_infos.proofs.InfoLaws.{info_one_to_one}
+use Rattle.segment_infos.proofs.FileLaws.{info_kind}
 use Rattle.segment_infos.proofs.laws.one_info_spelling.Goals as goal
 
-pub returns-clause-reading : goal.returns-clause-reading
-returns-clause-reading c = one_info
-
-pub returns-clause-file : goal.returns-clause-file
-returns-clause-file c = one_info_bytes
-
-pub returns-clause-file_reading : goal.returns-clause-file_reading
-returns-clause-file_reading c = one_info_file
+pub returns : goal.returns
+returns c = record { body = info_one_to_one; file = λ id. files_one_to_one (info_kind id) }
