@@ -2,6 +2,8 @@
 #![tactic(auto)]
 
 #[cfg(test)]
-mod tests;
-
-
+mod names;
+#[cfg(test)]
+mod small_types;
+#[cfg(test)]
+mod streams;

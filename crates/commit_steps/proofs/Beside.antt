@@ -13,12 +13,12 @@ use Rattle.commit_steps.specs.declared.states.Commit.{Commit}
 use Rattle.commit_steps.specs.declared.stage.Stage.{Stage}
 use Rattle.commit_steps.specs.declared.stage.Stage.TheVariants.{Begun, Synced, Written, Pending, Named, Renamed}
 use Rattle.commit_steps.specs.declared.stage.CommitBook.{CommitBook}
-use Rattle.commit_steps.specs.Flights.{own_name, early_name, IsCommit}
+use Rattle.commit_steps.specs.Flights.{own_name, pending_name, IsCommit}
 use Rattle.commit_steps.specs.Commits.{ImagesAre, AreSettled, Stays, MayStay}
 use Rattle.commit_steps.specs.Calls.{IsFree, IsSynced, AreSynced}
-use Rattle.commit_steps.specs.Book.{shown_by, flying_names, last_names, book_names, Stands, IsSound}
+use Rattle.commit_steps.specs.Book.{shown_by, flying_names, last_names, book_names, Stands, IsBookSound}
 use Rattle.commit_steps.specs.Beside.{IsBeside}
-use Rattle.commit_steps.proofs.Safe.{among_of, own_is, early_is, images_of_safe, settled_along, same_kept}
+use Rattle.commit_steps.proofs.Safe.{among_of, own_is, pending_is, images_of_safe, file_along, same_kept}
 
 -- ---- names
 first : (x : Name) (xs : List Name) → is_among (x ∷ xs) x ≡ true
@@ -44,7 +44,7 @@ abbrev Same : Cells → Cells → List Name → Type 0
 Same before after names = (q : Name) → is_among names q ≡ true → after q ≡ before q
 
 files_settled : (before after : Cells) (files : List Name) → Same before after files → AreSettled before files → AreSettled after files
-files_settled before after files same h q there = settled_along (before q) (after q) (same_kept (before q) (after q) (same q there)) (h q there)
+files_settled before after files same h q there = file_along (before q) (after q) (same_kept (before q) (after q) (same q there)) (h q there)
 
 files_there : (before after : Cells) (files : List Name) → Same before after files → AreThere before files → AreThere after files
 files_there before after files same h = record {
@@ -92,8 +92,8 @@ module _ (book : CommitBook) (old new : Holdings) (before after : Cells) (b : Is
       unheld zero e = e
       unheld (suc n) e = absurd (true≢false (sym (known_counted new q (omega (arith, e))) ∙ unknown))
 
-  once : (c : Commit) → IsCommit c → 0 < count_of new (early_name c) → count_of old (early_name c) ≡ 1 → count_of new (early_name c) ≡ 1
-  once c is some one = omega (arith, some, one, b.alone (early_name c) (early_is c is))
+  once : (c : Commit) → IsCommit c → 0 < count_of new (pending_name c) → count_of old (pending_name c) ≡ 1 → count_of new (pending_name c) ≡ 1
+  once c is some one = omega (arith, some, one, b.alone (pending_name c) (pending_is c is))
 
   -- ---- what a crash leaves
   last_beside : (last : Option Commit) → Same before after (last_names last) → IfSome last (Stays before) → IfSome last (Stays after)
@@ -118,7 +118,7 @@ module _ (book : CommitBook) (old new : Holdings) (before after : Cells) (b : Is
   flight_beside last (Some (Synced s)) same h = tt
   flight_beside last (Some (Written s)) same h = tt
   flight_beside last (Some (Pending s)) same h = tt
-  flight_beside last (Some (Named s)) same h = may_stay last s.0.commit (λ q there. same q (behind (early_name s.0.commit) s.0.commit.files q there)) h
+  flight_beside last (Some (Named s)) same h = may_stay last s.0.commit (λ q there. same q (behind (pending_name s.0.commit) s.0.commit.files q there)) h
   flight_beside last (Some (Renamed s)) same h = may_stay last s.0.commit (λ q there. same q (behind (own_name s.0.commit) s.0.commit.files q there)) h
 
   -- ---- what the commit in flight has
@@ -126,8 +126,8 @@ module _ (book : CommitBook) (old new : Holdings) (before after : Cells) (b : Is
     own_free : IsFree before old (own_name c) → IsFree after new (own_name c)
     own_free h = free (own_name c) (inl (own_is c is)) h
 
-    early_free : IsFree before old (early_name c) → IsFree after new (early_name c)
-    early_free h = free (early_name c) (inr (early_is c is)) h
+    pending_free : IsFree before old (pending_name c) → IsFree after new (pending_name c)
+    pending_free h = free (pending_name c) (inr (pending_is c is)) h
 
   stands_beside : (stage : Option Stage) → Same before after (flying_names stage) → ((q : Name) → is_among (flying_names stage) q ≡ true → 0 < count_of new q)
       → IfSome stage (Stands before old) → IfSome stage (Stands after new)
@@ -135,39 +135,39 @@ module _ (book : CommitBook) (old new : Holdings) (before after : Cells) (b : Is
   stands_beside (Some (Begun s)) same some h = record {
     flight = h.flight;
     files = files_there before after s.0.commit.files same h.files;
-    early = early_free s.0.commit h.flight.commit h.early;
+    pending = pending_free s.0.commit h.flight.commit h.pending;
     own = own_free s.0.commit h.flight.commit h.own;
   }
   stands_beside (Some (Synced s)) same some h = record {
     flight = h.flight;
     files = files_synced before after s.0.commit.files same h.files;
-    early = early_free s.0.commit h.flight.commit h.early;
+    pending = pending_free s.0.commit h.flight.commit h.pending;
     own = own_free s.0.commit h.flight.commit h.own;
   }
   stands_beside (Some (Written s)) same some h =
-      let at = first (early_name s.0.commit) s.0.commit.files in
+      let at = first (pending_name s.0.commit) s.0.commit.files in
       record {
         flight = h.flight;
-        files = files_synced before after s.0.commit.files (λ q there. same q (behind (early_name s.0.commit) s.0.commit.files q there)) h.files;
-        early = ap (λ (x : Cell). x.now) (same (early_name s.0.commit) at) ∙ h.early;
-        once = once s.0.commit h.flight.commit (some (early_name s.0.commit) at) h.once;
+        files = files_synced before after s.0.commit.files (λ q there. same q (behind (pending_name s.0.commit) s.0.commit.files q there)) h.files;
+        pending = ap (λ (x : Cell). x.now) (same (pending_name s.0.commit) at) ∙ h.pending;
+        once = once s.0.commit h.flight.commit (some (pending_name s.0.commit) at) h.once;
         own = own_free s.0.commit h.flight.commit h.own;
       }
   stands_beside (Some (Pending s)) same some h =
-      let at = first (early_name s.0.commit) s.0.commit.files in
+      let at = first (pending_name s.0.commit) s.0.commit.files in
       record {
         flight = h.flight;
-        files = files_synced before after s.0.commit.files (λ q there. same q (behind (early_name s.0.commit) s.0.commit.files q there)) h.files;
-        early = one_synced before after (early_name s.0.commit) s.0.bytes (same (early_name s.0.commit) at) h.early;
-        once = once s.0.commit h.flight.commit (some (early_name s.0.commit) at) h.once;
+        files = files_synced before after s.0.commit.files (λ q there. same q (behind (pending_name s.0.commit) s.0.commit.files q there)) h.files;
+        pending = one_synced before after (pending_name s.0.commit) s.0.bytes (same (pending_name s.0.commit) at) h.pending;
+        once = once s.0.commit h.flight.commit (some (pending_name s.0.commit) at) h.once;
         own = own_free s.0.commit h.flight.commit h.own;
       }
   stands_beside (Some (Named s)) same some h =
-      let at = first (early_name s.0.commit) s.0.commit.files in
+      let at = first (pending_name s.0.commit) s.0.commit.files in
       record {
         flight = h.flight;
-        early = one_synced before after (early_name s.0.commit) s.0.bytes (same (early_name s.0.commit) at) h.early;
-        once = once s.0.commit h.flight.commit (some (early_name s.0.commit) at) h.once;
+        pending = one_synced before after (pending_name s.0.commit) s.0.bytes (same (pending_name s.0.commit) at) h.pending;
+        once = once s.0.commit h.flight.commit (some (pending_name s.0.commit) at) h.once;
         own = own_free s.0.commit h.flight.commit h.own;
       }
   stands_beside (Some (Renamed s)) same some h = record {
@@ -176,7 +176,7 @@ module _ (book : CommitBook) (old new : Holdings) (before after : Cells) (b : Is
   }
 
   -- ---- the book
-  pub sound_beside : IsSound before old book → IsSound after new book
+  pub sound_beside : IsBookSound before old book → IsBookSound after new book
   sound_beside sound = record {
     safe = record {
       last_stays = last_beside book.last (λ q there. held q (in_front (last_names book.last) (flying_names book.stage) q there)) sound.safe.last_stays;
@@ -191,7 +191,7 @@ module _ (book : CommitBook) (old new : Holdings) (before after : Cells) (b : Is
   }
 
 -- where a book is sound, each image shows what it may
-pub sound_images : (cells : Cells) (holdings : Holdings) (book : CommitBook) → IsSound cells holdings book → ImagesAre cells book.last (shown_by book.stage)
+pub sound_images : (cells : Cells) (holdings : Holdings) (book : CommitBook) → IsBookSound cells holdings book → ImagesAre cells book.last (shown_by book.stage)
 sound_images cells holdings book sound = images_of_safe cells book.last (shown_by book.stage) sound.safe
 
 -- ---- what a step leaves of what the book holds

@@ -1,9 +1,9 @@
-pub mod Answers
+mod Answers
 pub mod Safe
-pub mod Advancing
-pub mod Books
-pub mod Beginning
-pub mod Recovering
-pub mod Recovered
+mod Advancing
+mod Books
+mod Beginning
+mod Recovering
+mod Recovered
 pub mod Beside
-pub mod TestLaws
+mod TestLaws

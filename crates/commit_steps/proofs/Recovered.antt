@@ -1,9 +1,9 @@
 -- An opening answers all that the directory shows.
 use Rattle.std.proofs.Common.{◌≡◌, ◌⊎◌, ◌↔◌, ℕ, ◌<◌, not, List, Option, Some, None, Result, Ok, Err, refl, sym, ap, subst, ◌∙◌, arith, inl, inr, is_some, true≢false}
-use Rattle.std.specs.Prelude.{find}
 use Rattle.std.proofs.lemmas.Option.{same_Some}
-use Rattle.disk_model.specs.Disk.{Name, Cells, Image}
+use Rattle.disk_model.specs.Disk.{Name, Cells, Image, reads_of, first_missing}
 use Rattle.file_names.specs.Names.{commit_name_of, commit_number}
+use Rattle.nrt_base.proofs.Plain.{ok_never_err, same_ok, same_err}
 use Rattle.file_names.proofs.NameLaws.{commit_name_is_one, commit_number-commit_name}
 use Rattle.codec_frame.specs.Checking.{IsFirstFault}
 use Rattle.codec_frame.specs.declared.frame.FrameFault.{FrameFault}
@@ -17,18 +17,9 @@ use Rattle.segment_infos.specs.declared.infos.Infos.{Infos}
 use Rattle.segment_infos.proofs.SetLaws.{one_list_of}
 use Rattle.commit_steps.specs.declared.recovery.RecoverFault.{RecoverFault}
 use Rattle.commit_steps.specs.declared.recovery.RecoverFault.TheVariants.{Memory, Failed, Broken, Gone}
-use Rattle.commit_steps.specs.Found.{reads_of, ShowsNothing, IsNewest, IsNewestNumber, IsNewestAnswer, Shows}
-use Rattle.commit_steps.specs.Recovery.{IsRefused, is_there, IsWholeCommit, IsBroken, IsCutOff, IsUnlessCutOff, Refuses, IsLoaded, IsAnswer}
+use Rattle.commit_steps.specs.Found.{ShowsNothing, IsNewest, IsNewestNumber, IsNewestAnswer, ShowsCommit}
+use Rattle.commit_steps.specs.Recovery.{IsRefused, IsWholeCommit, IsBrokenCommit, IsCutOff, IsAnswered, SaysHowBroken, IsLoaded, IsRecoverAnswer}
 use Rattle.commit_steps.proofs.Recovering.{whole_commit}
-
-clash : {X E : Type 0} (x : X) (e : E) → ◌≡◌ {A = Result X E} (Ok x) (Err e) → ⊥
-clash x e same = cc
-
-same_ok : {X E : Type 0} (a b : X) → ◌≡◌ {A = Result X E} (Ok a) (Ok b) → a ≡ b
-same_ok a b same = cc
-
-same_err : {X E : Type 0} (a b : E) → ◌≡◌ {A = Result X E} (Err a) (Err b) → a ≡ b
-same_err a b same = cc
 
 same_file : (e : ReadFault) (a b : FileFault) → e ≡ File a → ◌≡◌ {A = Result Infos ReadFault} (Err e) (Err (File b)) → a ≡ b
 same_file e a b is same = cc
@@ -79,10 +70,10 @@ module _ (image : Image) (n : ℕ) where
         let e : m ≡ n = one_number image m n (newest_number image m others h) newest in
         (e, same_Some others bytes (sym h.there ∙ ap (λ k. image (commit_name_of k)) e ∙ sym (ap image is) ∙ there))
 
-    spelled_here : (infos : Infos) → Shows image n infos → IsInfosFile infos bytes
+    spelled_here : (infos : Infos) → ShowsCommit image n infos → IsInfosFile infos bytes
     spelled_here infos shown = subst (λ (b : List ℕ). IsInfosFile infos b) (their_bytes n shown.bytes shown.newest).1 shown.spelled
 
-    refused_here : (other : Name) (fault : FileFault) → IsBroken image other fault → (name ≡ other) × IsRefused bytes fault
+    refused_here : (other : Name) (fault : FileFault) → IsBrokenCommit image other fault → (name ≡ other) × IsRefused bytes fault
     refused_here other fault broken =
         let t = their_bytes broken.number broken.bytes broken.newest in
         (is ∙ sym (ap commit_name_of t.0) ∙ sym broken.name_is, subst (λ (b : List ℕ). IsRefused b fault) t.1 broken.refused)
@@ -96,11 +87,11 @@ module _ (image : Image) (n : ℕ) where
     }
       where
         got : (x : Infos) → (◌≡◌ {A = Result Infos ReadFault} (Ok infos) (Err ReadMemory)) ⊎ (◌≡◌ {A = Result Infos ReadFault} (Ok infos) (Ok x)) → infos ≡ x
-        got x (inl e) = absurd (clash _ _ e)
+        got x (inl e) = absurd (ok_never_err _ _ e)
         got x (inr e) = same_ok _ _ e
 
         not_refused : (fault : FileFault) → IsRefused bytes fault → ⊥
-        not_refused (Frame fault) h = clash _ _ ((frame fault).1 h)
+        not_refused (Frame fault) h = ok_never_err _ _ ((frame fault).1 h)
         not_refused Body h = h.1 infos value
 
     -- they are refused
@@ -114,7 +105,7 @@ module _ (image : Image) (n : ℕ) where
       where
         never : (x : Infos) → (◌≡◌ {A = Result Infos ReadFault} (Err e) (Err ReadMemory)) ⊎ (◌≡◌ {A = Result Infos ReadFault} (Err e) (Ok x)) → ⊥
         never x (inl h) = not_memory e fault file h
-        never x (inr h) = clash _ _ (sym h)
+        never x (inr h) = ok_never_err _ _ (sym h)
 
         told : (◌≡◌ {A = Result Infos ReadFault} (Err e) (Err ReadMemory)) ⊎ (◌≡◌ {A = Result Infos ReadFault} (Err e) (Err (File Body))) → fault ≡ Body
         told (inl h) = absurd (not_memory e fault file h)
@@ -126,13 +117,13 @@ module _ (image : Image) (n : ℕ) where
 
 -- ---- each answer
 module _ (image : Image) where
-  pub answers_cut_off : (e : RecoverFault) → IsCutOff e → IsAnswer image (Err e)
+  pub answers_cut_off : (e : RecoverFault) → IsCutOff e → IsRecoverAnswer image (Err e)
   answers_cut_off Memory cut = record { recovers = tt; none = λ h. inl refl; whole = λ n infos h. inl refl; broken = λ name fault h. inl refl; gone = λ name h. inl refl }
   answers_cut_off Failed cut = record { recovers = tt; none = λ h. inr (inl refl); whole = λ n infos h. inr (inl refl); broken = λ name fault h. inr (inl refl); gone = λ name h. inr (inl refl) }
   answers_cut_off (Broken name fault) cut = absurd cut
   answers_cut_off (Gone name) cut = absurd cut
 
-  pub answers_nothing : ShowsNothing image → IsAnswer image (Ok None)
+  pub answers_nothing : ShowsNothing image → IsRecoverAnswer image (Ok None)
   answers_nothing nothing = record {
     recovers = nothing;
     none = λ h. inr (inr refl);
@@ -142,13 +133,13 @@ module _ (image : Image) where
   }
 
   module _ (n : ℕ) (newest : IsNewestNumber image n) where
-    shown_here : (m : ℕ) (infos : Infos) → Shows image m infos → (m ≡ n) × Shows image n infos
+    shown_here : (m : ℕ) (infos : Infos) → ShowsCommit image m infos → (m ≡ n) × ShowsCommit image n infos
     shown_here m infos shown =
         let e : m ≡ n = one_number image m n (newest_number image m shown.bytes shown.newest) newest in
-        (e, subst (λ k. Shows image k infos) e shown)
+        (e, subst (λ k. ShowsCommit image k infos) e shown)
 
     -- reading was refused
-    pub answers_refused : (e : RecoverFault) → Refuses image e → IsLoaded image n (Err e) → IsAnswer image (Err e)
+    pub answers_refused : (e : RecoverFault) → SaysHowBroken image e → IsLoaded image n (Err e) → IsRecoverAnswer image (Err e)
     answers_refused e refuses loaded = record {
       recovers = refuses;
       none = λ nothing. absurd (stands image n newest nothing);
@@ -157,38 +148,38 @@ module _ (image : Image) where
       gone = λ name h. cut (Err (Gone name)) h.infos (loaded.each_infos h.infos (shown_here h.number h.infos h.shown).1);
     }
       where
-        cut : (answer : Result (Option (ℕ × Infos)) RecoverFault) (infos : Infos) → IsUnlessCutOff {X = Infos} (Err e) (Ok infos) → IsUnlessCutOff (Err e) answer
+        cut : (answer : Result (Option (ℕ × Infos)) RecoverFault) (infos : Infos) → IsAnswered {X = Infos} (Err e) (Ok infos) → IsAnswered (Err e) answer
         cut answer infos (inl h) = inl (ap Err (same_err _ _ h))
         cut answer infos (inr (inl h)) = inr (inl (ap Err (same_err _ _ h)))
-        cut answer infos (inr (inr h)) = absurd (clash _ _ (sym h))
+        cut answer infos (inr (inr h)) = absurd (ok_never_err _ _ (sym h))
 
-        told : (name : Name) (fault : FileFault) → IsUnlessCutOff {X = Infos} (Err e) (Err (Broken name fault)) → IsUnlessCutOff {X = Option (ℕ × Infos)} (Err e) (Err (Broken name fault))
+        told : (name : Name) (fault : FileFault) → IsAnswered {X = Infos} (Err e) (Err (Broken name fault)) → IsAnswered {X = Option (ℕ × Infos)} (Err e) (Err (Broken name fault))
         told name fault (inl h) = inl (ap Err (same_err _ _ h))
         told name fault (inr (inl h)) = inr (inl (ap Err (same_err _ _ h)))
         told name fault (inr (inr h)) = inr (inr (ap Err (same_err _ _ h)))
 
     module _ (infos : Infos) (loaded : IsLoaded image n (Ok infos)) where
-      got : (x : Infos) → IsUnlessCutOff {X = Infos} (Ok infos) (Ok x) → infos ≡ x
-      got x (inl e) = absurd (clash _ _ e)
-      got x (inr (inl e)) = absurd (clash _ _ e)
+      got : (x : Infos) → IsAnswered {X = Infos} (Ok infos) (Ok x) → infos ≡ x
+      got x (inl e) = absurd (ok_never_err _ _ e)
+      got x (inr (inl e)) = absurd (ok_never_err _ _ e)
       got x (inr (inr e)) = same_ok _ _ e
 
-      never : (fault : RecoverFault) → IsUnlessCutOff {X = Infos} (Ok infos) (Err fault) → ⊥
-      never fault (inl e) = clash _ _ e
-      never fault (inr (inl e)) = clash _ _ e
-      never fault (inr (inr e)) = clash _ _ e
+      never : (fault : RecoverFault) → IsAnswered {X = Infos} (Ok infos) (Err fault) → ⊥
+      never fault (inl e) = ok_never_err _ _ e
+      never fault (inr (inl e)) = ok_never_err _ _ e
+      never fault (inr (inr e)) = ok_never_err _ _ e
 
-      one_shown : (m : ℕ) (x : Infos) → Shows image m x → (m ≡ n) × (infos ≡ x)
+      one_shown : (m : ℕ) (x : Infos) → ShowsCommit image m x → (m ≡ n) × (infos ≡ x)
       one_shown m x shown = let h = shown_here m x shown in (h.0, got x (loaded.each_infos x h.1))
 
-      not_broken : (name : Name) (fault : FileFault) → IsBroken image name fault → ⊥
+      not_broken : (name : Name) (fault : FileFault) → IsBrokenCommit image name fault → ⊥
       not_broken name fault h = never (Broken name fault) (loaded.each_fault name fault h)
 
       -- the first file that is missing is told by the infos
-      same_missing : (files names : List Name) (m : ℕ) (x : Infos) → AreFilesOf infos files → Shows image m x → AreFilesOf x names
-          → find (λ q. not (is_there image q)) files ≡ find (λ q. not (is_there image q)) names
+      same_missing : (files names : List Name) (m : ℕ) (x : Infos) → AreFilesOf infos files → ShowsCommit image m x → AreFilesOf x names
+          → first_missing image files ≡ first_missing image names
       same_missing files names m x named shown also =
-          ap (find (λ q. not (is_there image q))) (one_list_of infos files names named (subst (λ (i : Infos). AreFilesOf i names) (sym (one_shown m x shown).1) also))
+          ap (first_missing image) (one_list_of infos files names named (subst (λ (i : Infos). AreFilesOf i names) (sym (one_shown m x shown).1) also))
 
       some_none : (name : Name) (a b : Option Name) → a ≡ b → a ≡ Some name → b ≡ None → ⊥
       some_none name a b e f g = cc
@@ -197,7 +188,7 @@ module _ (image : Image) where
       same_name x y a b e f g = cc
 
       -- the commit is whole
-      pub answers_whole : IsWholeCommit image n infos → IsAnswer image (Ok (Some (n, infos)))
+      pub answers_whole : IsWholeCommit image n infos → IsRecoverAnswer image (Ok (Some (n, infos)))
       answers_whole is = record {
         recovers = is;
         none = λ nothing. absurd (stands image n newest nothing);
@@ -207,7 +198,7 @@ module _ (image : Image) where
       }
 
       -- a file is gone
-      pub answers_gone : (files : List Name) (name : Name) → Shows image n infos → AreFilesOf infos files → find (λ q. not (is_there image q)) files ≡ Some name → IsAnswer image (Err (Gone name))
+      pub answers_gone : (files : List Name) (name : Name) → ShowsCommit image n infos → AreFilesOf infos files → first_missing image files ≡ Some name → IsRecoverAnswer image (Err (Gone name))
       answers_gone files name shown named first = record {
         recovers = record { number = n; infos = infos; shown = shown; files = files; named = named; first = first };
         none = λ nothing. absurd (stands image n newest nothing);
@@ -223,27 +214,27 @@ Numbered cells number n = IsNewestAnswer (reads_of cells) number × (number ≡ 
 newest_of : (cells : Cells) (number : Option ℕ) (n : ℕ) → Numbered cells number n → IsNewestNumber (reads_of cells) n
 newest_of cells number n h = subst (IsNewestAnswer (reads_of cells)) h.1 h.0
 
-pub nothing_found : (cells : Cells) (number : Option ℕ) → IsNewestAnswer (reads_of cells) number → number ≡ None → IsAnswer (reads_of cells) (Ok None)
+pub nothing_found : (cells : Cells) (number : Option ℕ) → IsNewestAnswer (reads_of cells) number → number ≡ None → IsRecoverAnswer (reads_of cells) (Ok None)
 nothing_found cells number found is = answers_nothing (reads_of cells) (subst (IsNewestAnswer (reads_of cells)) is found)
 
 module _ (cells between : Cells) (number : Option ℕ) (n : ℕ) (same : between ≡ cells) (found : IsNewestAnswer (reads_of cells) number) (is : number ≡ Some n) where
-  pub not_loaded : (e : RecoverFault) → Refuses (reads_of between) e → IsLoaded (reads_of between) n (Err e) → IsAnswer (reads_of cells) (Err e)
+  pub not_loaded : (e : RecoverFault) → SaysHowBroken (reads_of between) e → IsLoaded (reads_of between) n (Err e) → IsRecoverAnswer (reads_of cells) (Err e)
   not_loaded e refuses loaded =
-      answers_refused (reads_of cells) n (newest_of cells number n (found, is)) e (subst (λ (k : Cells). Refuses (reads_of k) e) same refuses)
+      answers_refused (reads_of cells) n (newest_of cells number n (found, is)) e (subst (λ (k : Cells). SaysHowBroken (reads_of k) e) same refuses)
       (subst (λ (k : Cells). IsLoaded (reads_of k) n (Err e)) same loaded)
 
-  module _ (after : Cells) (infos : Infos) (files : List Name) (missing : Option Name) (still : after ≡ between) (shown : Shows (reads_of between) n infos) (loaded : IsLoaded (reads_of between) n (Ok infos))
-      (named : AreFilesOf infos files) (first : missing ≡ find (λ q. not (is_there (reads_of after) q)) files) where
-    shown_first : Shows (reads_of cells) n infos
-    shown_first = subst (λ (k : Cells). Shows (reads_of k) n infos) same shown
+  module _ (after : Cells) (infos : Infos) (files : List Name) (missing : Option Name) (still : after ≡ between) (shown : ShowsCommit (reads_of between) n infos) (loaded : IsLoaded (reads_of between) n (Ok infos))
+      (named : AreFilesOf infos files) (first : missing ≡ first_missing (reads_of after) files) where
+    shown_first : ShowsCommit (reads_of cells) n infos
+    shown_first = subst (λ (k : Cells). ShowsCommit (reads_of k) n infos) same shown
 
     loaded_first : IsLoaded (reads_of cells) n (Ok infos)
     loaded_first = subst (λ (k : Cells). IsLoaded (reads_of k) n (Ok infos)) same loaded
 
-    pub all_found : missing ≡ None → IsAnswer (reads_of cells) (Ok (Some (n, infos)))
+    pub all_found : missing ≡ None → IsRecoverAnswer (reads_of cells) (Ok (Some (n, infos)))
     all_found none = answers_whole (reads_of cells) n (newest_of cells number n (found, is)) infos loaded_first (whole_commit cells after n infos files missing (still ∙ same) shown_first named first none)
 
-    pub one_gone : (name : Name) → missing ≡ Some name → IsAnswer (reads_of cells) (Err (Gone name))
+    pub one_gone : (name : Name) → missing ≡ Some name → IsRecoverAnswer (reads_of cells) (Err (Gone name))
     one_gone name some =
         answers_gone (reads_of cells) n (newest_of cells number n (found, is)) infos loaded_first files name shown_first named
-        (ap (λ (k : Cells). find (λ q. not (is_there (reads_of k) q)) files) (sym (still ∙ same)) ∙ sym first ∙ some)
+        (ap (λ (k : Cells). first_missing (reads_of k) files) (sym (still ∙ same)) ∙ sym first ∙ some)

@@ -1,12 +1,12 @@
 -- What an opening finds.
 use Rattle.std.proofs.Common.{◌≡◌, ◌⊎◌, ℕ, ◌≤◌, true, not, List, [], Option, Some, None, refl, sym, ap, subst, ◌∙◌, arith, inl, inr, is_some}
-use Rattle.std.specs.Prelude.{Contains, find}
+use Rattle.std.specs.Prelude.{Contains}
 use Rattle.std.specs.List.{All}
 use Rattle.std.proofs.lemmas.List.Elements.{All-contains}
-use Rattle.disk_model.specs.Disk.{Name, Content, Cells, Image, is_among}
+use Rattle.disk_model.specs.Disk.{Name, Content, Cells, Image, is_among, reads_of, first_missing}
 use Rattle.disk_model.specs.declared.dir.DirFault.{DirFault}
 use Rattle.disk_model.specs.declared.dir.DirFault.TheVariants.{Memory as DirMemory, Missing, Exists, Failed as DirFailed}
-use Rattle.file_deleter.specs.Moves.{IsMemoryOrFailed}
+use Rattle.disk_model.specs.Faults.{IsMemoryOrFailed}
 use Rattle.file_names.specs.Names.{commit_name_of, is_commit_name, commit_number}
 use Rattle.file_names.proofs.NameLaws.{commit_name_only}
 use Rattle.codec_frame.specs.declared.frame.FileFault.{FileFault}
@@ -17,8 +17,8 @@ use Rattle.segment_infos.specs.declared.infos.Infos.{Infos}
 use Rattle.segment_infos.proofs.CommitLaws.{commits_are}
 use Rattle.commit_steps.specs.declared.recovery.RecoverFault.{RecoverFault}
 use Rattle.commit_steps.specs.declared.recovery.RecoverFault.TheVariants.{Memory, Failed, Broken, Gone}
-use Rattle.commit_steps.specs.Found.{reads_of, ShowsNothing, IsNewest, IsNewestNumber, IsNewestAnswer, Shows}
-use Rattle.commit_steps.specs.Recovery.{IsRefused, is_there, IsWholeCommit, IsBroken, IsGone, Refuses}
+use Rattle.commit_steps.specs.Found.{ShowsNothing, IsNewest, IsNewestNumber, IsNewestAnswer, ShowsCommit}
+use Rattle.commit_steps.specs.Recovery.{IsRefused, IsWholeCommit, IsBrokenCommit, IsGone, SaysHowBroken}
 use Rattle.commit_steps.proofs.Safe.{contains_of, among_of}
 
 pub listed_faults : (e : DirFault) → (◌≡◌ {A = DirFault} e Missing → ⊥) → (◌≡◌ {A = DirFault} e Exists → ⊥) → IsMemoryOrFailed e
@@ -64,35 +64,35 @@ module _ (cells : Cells) (names : List Name) (listed : (q : Name) → is_among n
 pub is_newest : (image : Image) (n : ℕ) (name : Name) (bytes : List ℕ) → IsNewestNumber image n → name ≡ commit_name_of n → image name ≡ Some bytes → IsNewest image n bytes
 is_newest image n name bytes newest is there = record { some = newest.some; below = newest.below; there = sym (ap image is) ∙ there; greatest = newest.greatest }
 
-pub shows_infos : (image : Image) (n : ℕ) (name : Name) (bytes : List ℕ) (infos : Infos) → IsNewestNumber image n → name ≡ commit_name_of n → image name ≡ Some bytes → IsInfosFile infos bytes → Shows image n infos
+pub shows_infos : (image : Image) (n : ℕ) (name : Name) (bytes : List ℕ) (infos : Infos) → IsNewestNumber image n → name ≡ commit_name_of n → image name ≡ Some bytes → IsInfosFile infos bytes → ShowsCommit image n infos
 shows_infos image n name bytes infos newest is there spelled = record { bytes = bytes; newest = is_newest image n name bytes newest is there; spelled = spelled }
 
-pub is_broken : (image : Image) (n : ℕ) (name : Name) (bytes : List ℕ) (fault : FileFault) → IsNewestNumber image n → name ≡ commit_name_of n → image name ≡ Some bytes → IsRefused bytes fault → IsBroken image name fault
+pub is_broken : (image : Image) (n : ℕ) (name : Name) (bytes : List ℕ) (fault : FileFault) → IsNewestNumber image n → name ≡ commit_name_of n → image name ≡ Some bytes → IsRefused bytes fault → IsBrokenCommit image name fault
 is_broken image n name bytes fault newest is there refused = record { number = n; bytes = bytes; newest = is_newest image n name bytes newest is there; name_is = is; refused = refused }
 
-pub refuses : (image : Image) (fault : RecoverFault) → (fault ≡ Memory) ⊎ (fault ≡ Failed) → Refuses image fault
+pub refuses : (image : Image) (fault : RecoverFault) → (fault ≡ Memory) ⊎ (fault ≡ Failed) → SaysHowBroken image fault
 refuses image Memory h = tt
 refuses image Failed h = tt
 refuses image (Broken name fault) h = elim h [ inl e ↦ absurd cc | inr e ↦ absurd cc ]
 refuses image (Gone name) h = elim h [ inl e ↦ absurd cc | inr e ↦ absurd cc ]
 
 -- ---- its files
-pub whole_commit : (cells now : Cells) (n : ℕ) (infos : Infos) (files : List Name) (missing : Option Name) → now ≡ cells → Shows (reads_of cells) n infos → AreFilesOf infos files
-    → missing ≡ find (λ q. not (is_there (reads_of now) q)) files → missing ≡ None → IsWholeCommit (reads_of cells) n infos
+pub whole_commit : (cells now : Cells) (n : ℕ) (infos : Infos) (files : List Name) (missing : Option Name) → now ≡ cells → ShowsCommit (reads_of cells) n infos → AreFilesOf infos files
+    → missing ≡ first_missing (reads_of now) files → missing ≡ None → IsWholeCommit (reads_of cells) n infos
 whole_commit cells now n infos files missing same shown named is none = record {
   shown = shown;
   files = files;
   named = named;
-  there = ap (λ (c : Cells). find (λ q. not (is_there (reads_of c) q)) files) (sym same) ∙ sym is ∙ none;
+  there = ap (λ (c : Cells). first_missing (reads_of c) files) (sym same) ∙ sym is ∙ none;
 }
 
-pub gone : (cells now : Cells) (n : ℕ) (infos : Infos) (files : List Name) (missing : Option Name) (name : Name) → now ≡ cells → Shows (reads_of cells) n infos → AreFilesOf infos files
-    → missing ≡ find (λ q. not (is_there (reads_of now) q)) files → missing ≡ Some name → IsGone (reads_of cells) name
+pub gone : (cells now : Cells) (n : ℕ) (infos : Infos) (files : List Name) (missing : Option Name) (name : Name) → now ≡ cells → ShowsCommit (reads_of cells) n infos → AreFilesOf infos files
+    → missing ≡ first_missing (reads_of now) files → missing ≡ Some name → IsGone (reads_of cells) name
 gone cells now n infos files missing name same shown named is some = record {
   number = n;
   infos = infos;
   shown = shown;
   files = files;
   named = named;
-  first = ap (λ (c : Cells). find (λ q. not (is_there (reads_of c) q)) files) (sym same) ∙ sym is ∙ some;
+  first = ap (λ (c : Cells). first_missing (reads_of c) files) (sym same) ∙ sym is ∙ some;
 }

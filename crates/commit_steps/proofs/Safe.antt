@@ -1,6 +1,6 @@
 -- What a crash may leave of commits, over calls of the directory.
 use Rattle.std.proofs.Common.{◌≡◌, ◌≢◌, ◌⊎◌, zero, suc, ◌<◌, ◌||◌, Bool, true, false, List, [], ◌∷◌, length, Option, Some, None, refl, sym, ap, subst, ◌∙◌, arith, inl, inr, true≢false, Result, Ok, Err, cond}
-use Rattle.std.specs.Prelude.{IfSome, IsSomeAnd, Contains}
+use Rattle.std.specs.Prelude.{IfSome, IsSomeAnd, Contains, is_some}
 use Rattle.std.proofs.Math.Bool.{or-true}
 use Rattle.std.specs.List.{flat_map}
 use Rattle.std.proofs.lemmas.List.Elements.{All-contains}
@@ -14,7 +14,7 @@ use Rattle.segment_infos.proofs.SetLaws.{files_plain}
 use Rattle.file_deleter.proofs.NameLemmas.{same_self}
 use Rattle.commit_steps.specs.declared.states.Commit.{Commit}
 use Rattle.commit_steps.specs.Found.{ShowsNothing}
-use Rattle.commit_steps.specs.Flights.{own_name, early_name, IsCommit, Spells}
+use Rattle.commit_steps.specs.Flights.{own_name, pending_name, IsCommit, Spells}
 use Rattle.commit_steps.specs.Commits.{HasCommit, ImagesAre, ImagesHave, IsSettled, AreSettled, IsAbove, Stays, MayStay, IsSafe}
 
 -- ---- names
@@ -40,20 +40,20 @@ files_are_plain c is q there = All-contains IsPlain c.files q (files_plain c.inf
 pub own_is : (c : Commit) → IsCommit c → is_commit_name (own_name c) ≡ true
 own_is c is = commit_name_is_one c.number is.some is.below
 
-pub early_is : (c : Commit) → IsCommit c → is_pending_name (early_name c) ≡ true
-early_is c is = pending_name_is_one c.number is.some is.below
+pub pending_is : (c : Commit) → IsCommit c → is_pending_name (pending_name c) ≡ true
+pending_is c is = pending_name_is_one c.number is.some is.below
 
-pub early_not_commit : (c : Commit) → is_commit_name (early_name c) ≡ false
-early_not_commit c = pending_name_not_commit c.number
+pub pending_not_commit : (c : Commit) → is_commit_name (pending_name c) ≡ false
+pending_not_commit c = pending_name_not_commit c.number
 
 pub number_of_own : (c : Commit) → IsCommit c → commit_number (own_name c) ≡ c.number
 number_of_own c is = commit_number-commit_name c.number (omega (arith, is.below))
 
-pub early_not_own : (c d : Commit) → IsCommit d → early_name c ≢ own_name d
-early_not_own c d is e = true≢false (sym (own_is d is) ∙ sym (ap is_commit_name e) ∙ early_not_commit c)
+pub pending_not_own : (c d : Commit) → IsCommit d → pending_name c ≢ own_name d
+pending_not_own c d is e = true≢false (sym (own_is d is) ∙ sym (ap is_commit_name e) ∙ pending_not_commit c)
 
-pub early_no_file : (c d : Commit) → IsCommit c → IsCommit d → (q : Name) → is_among d.files q ≡ true → early_name c ≢ q
-early_no_file c d is of q there e = true≢false (sym (early_is c is) ∙ ap is_pending_name e ∙ (files_are_plain d of q there).1)
+pub pending_no_file : (c d : Commit) → IsCommit c → IsCommit d → (q : Name) → is_among d.files q ≡ true → pending_name c ≢ q
+pending_no_file c d is of q there e = true≢false (sym (pending_is c is) ∙ ap is_pending_name e ∙ (files_are_plain d of q there).1)
 
 pub own_no_file : (c d : Commit) → IsCommit c → IsCommit d → (q : Name) → is_among d.files q ≡ true → own_name c ≢ q
 own_no_file c d is of q there e = true≢false (sym (own_is c is) ∙ ap is_commit_name e ∙ (files_are_plain d of q there).0)
@@ -70,8 +70,10 @@ greater_apart c is q lt e =
 
 -- ---- images
 settled_files : (cells : Cells) (c : Commit) (image : Image) → IsCommit c → AreSettled cells c.files → IsImage cells image
-    → (q : Name) → Contains (flat_map files_of_segment c.infos.segs) q → image q ≡ (cells q).now
-settled_files cells c image of settled is q named = settled q (among_of c.files q ((of.files.named q).1 named)) (image q) (is q)
+    → (q : Name) → Contains (flat_map files_of_segment c.infos.segs) q → (image q ≡ (cells q).now) × (is_some (image q) ≡ true)
+settled_files cells c image of settled is q named =
+    let h : IsSettled (cells q) × (is_some (cells q).now ≡ true) = settled q (among_of c.files q ((of.files.named q).1 named)) in
+    (h.0 (image q) (is q), ap is_some (h.0 (image q) (is q)) ∙ h.1)
 
 shows : (cells : Cells) (c : Commit) (image : Image) → IsCommit c → Spells c (image (own_name c)) → AreSettled cells c.files → IsImage cells image
     → ((q : Name) → is_commit_name q ≡ true → c.number < commit_number q → image q ≡ None) → HasCommit cells image c
@@ -119,6 +121,10 @@ images_have cells c safe = record {
 pub settled_along : (old new : Cell) → IsKept old new → IsSettled old → IsSettled new
 settled_along old new kept h o may = h o (kept.fewer o may) ∙ sym kept.now
 
+-- a file that is there, and that a crash leaves as it reads, stays so
+pub file_along : (old new : Cell) → IsKept old new → IsSettled old × (is_some old.now ≡ true) → IsSettled new × (is_some new.now ≡ true)
+file_along old new kept h = (settled_along old new kept h.0, ap is_some kept.now ∙ h.1)
+
 pub same_kept : (old new : Cell) → new ≡ old → IsKept old new
 same_kept old new e = record { now = ap (λ (k : Cell). k.now) e; fewer = λ o may. ap (λ (k : Cell). may_leave k o) (sym e) ∙ may }
 
@@ -128,7 +134,7 @@ module _ (before after : Cells) (names : (q : Name) → is_commit_name q ≡ tru
   stays_along c files h = record {
     commit = h.commit;
     own = λ o may. h.own o ((names (own_name c) (own_is c h.commit)).fewer o may);
-    files = λ q there. settled_along (before q) (after q) (files q there) (h.files q there);
+    files = λ q there. file_along (before q) (after q) (files q there) (h.files q there);
   }
 
   may_stay_along : (last : Option Commit) (c : Commit) → ((q : Name) → is_among c.files q ≡ true → IsKept (before q) (after q)) → MayStay before last c → MayStay after last c
@@ -136,7 +142,7 @@ module _ (before after : Cells) (names : (q : Name) → is_commit_name q ≡ tru
     commit = h.commit;
     above = h.above;
     own = λ o may. h.own o ((names (own_name c) (own_is c h.commit)).fewer o may);
-    files = λ q there. settled_along (before q) (after q) (files q there) (h.files q there);
+    files = λ q there. file_along (before q) (after q) (files q there) (h.files q there);
   }
 
   module _ (files : (c : Commit) → IsCommit c → (q : Name) → is_among c.files q ≡ true → IsKept (before q) (after q)) where
@@ -160,10 +166,10 @@ pub safe_all_kept : (before after : Cells) → ((q : Name) → IsKept (before q)
 safe_all_kept before after kept = safe_kept before after (λ q named. kept q) (λ c of q there. kept q)
 
 -- calls that change one name, that of a commit in preparation
-pub safe_beside : (before after : Cells) (f : Commit) → IsCommit f → ((q : Name) → early_name f ≢ q → after q ≡ before q) → (last flight : Option Commit) → IsSafe before last flight → IsSafe after last flight
+pub safe_beside : (before after : Cells) (f : Commit) → IsCommit f → ((q : Name) → pending_name f ≢ q → after q ≡ before q) → (last flight : Option Commit) → IsSafe before last flight → IsSafe after last flight
 safe_beside before after f of others = safe_kept before after
-    (λ q named. same_kept (before q) (after q) (others q (λ e. true≢false (sym named ∙ sym (ap is_commit_name e) ∙ early_not_commit f))))
-    (λ c is q there. same_kept (before q) (after q) (others q (early_no_file f c of is q there)))
+    (λ q named. same_kept (before q) (after q) (others q (λ e. true≢false (sym named ∙ sym (ap is_commit_name e) ∙ pending_not_commit f))))
+    (λ c is q there. same_kept (before q) (after q) (others q (pending_no_file f c of is q there)))
 
 -- ---- a sync
 flushed_leaves : (now : Content) (synced : Bool) (o : Content) → left_by now true o ≡ true → left_by now synced o ≡ true

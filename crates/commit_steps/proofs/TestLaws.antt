@@ -2,7 +2,7 @@
 use Rattle.std.proofs.Common.{◌≡◌, ℕ, ◌+◌, ◌<◌, ◌≤◌, Bool, true, false, cond, List, [], ◌∷◌, Some, None, is_some, refl, sym, ap, subst, ◌∙◌, arith, true≢false}
 use Rattle.std.specs.Prelude.{Contains}
 use Rattle.std.specs.List.{flat_map}
-use Rattle.disk_model.specs.Disk.{Name, Content, Cells, Image, may_leave, same, restarted}
+use Rattle.disk_model.specs.Disk.{Name, Content, Cells, Image, may_leave, same, restarted, reads_of}
 use Rattle.file_names.specs.Names.{commit_name_of}
 use Rattle.disk_model.proofs.CellLemmas.{same_true, left_synced}
 use Rattle.disk_memory.specs.Held.{Held, untouched, cell}
@@ -11,7 +11,7 @@ use Rattle.segment_infos.specs.declared.infos.Infos.{Infos}
 use Rattle.segment_infos.specs.Files.{files_of_segment}
 use Rattle.file_deleter.specs.Holdings.{Holdings, count_of, times, AreCounted, IsThere}
 use Rattle.file_deleter.proofs.NameLemmas.{all_there, none_missing, times_one}
-use Rattle.commit_steps.specs.Found.{reads_of, Shows}
+use Rattle.commit_steps.specs.Found.{ShowsCommit}
 use Rattle.commit_steps.specs.Recovery.{IsWholeCommit}
 use Rattle.commit_steps.specs.Commits.{LeavesNothing, IsSettled, ImagesShowNothing, ImagesShow}
 use Rattle.commit_steps.specs.declared.stage.CommitBook.{CommitBook}
@@ -39,9 +39,15 @@ settled_restarted image q o may = by (image q) o may
 pub shows_nothing : (table : Table) → ((q : Name) → table q ≡ untouched) → ImagesShowNothing (cells_of table)
 shows_nothing table none = record { each = λ image is q named. leaves_nothing table none q (image q) (is q) }
 
+-- each file of a whole commit is there
+pub files_found : (cells : Cells) (n : ℕ) (infos : Infos) → IsWholeCommit (reads_of cells) n infos → (q : Name) → Contains (flat_map files_of_segment infos.segs) q → IsThere cells q
+files_found cells n infos whole q named =
+    all_there cells whole.files q (none_missing cells whole.files whole.there).each (among_of whole.files q ((whole.named.named q).1 named))
+
 -- and each image after a crash shows what reads
-pub shows_restarted : (cells : Cells) (image : Image) (n : ℕ) (infos : Infos) → cells ≡ restarted image → Shows (reads_of cells) n infos → ImagesShow cells n infos
-shows_restarted cells from n infos e shown =
+pub shows_restarted : (cells : Cells) (image : Image) (n : ℕ) (infos : Infos) → cells ≡ restarted image → IsWholeCommit (reads_of cells) n infos → ImagesShow cells n infos
+shows_restarted cells from n infos e whole =
+    let shown : ShowsCommit (reads_of cells) n infos = whole.shown in
     let settled : (q : Name) → IsSettled (cells q) = λ q. subst (λ (c : Cells). IsSettled (c q)) (sym e) (settled_restarted from q) in
     record {
       each = λ image is. record {
@@ -55,7 +61,7 @@ shows_restarted cells from n infos e shown =
           };
           spelled = shown.spelled;
         };
-        files = λ q named. settled q (image q) (is q);
+        files = λ q named. (settled q (image q) (is q), ap is_some (settled q (image q) (is q)) ∙ files_found cells n infos whole q named);
       };
     }
 
@@ -72,11 +78,6 @@ counted_one name holdings some = record { each = λ q. by q (same name q) refl }
         let here : 0 < count_of holdings q = subst (λ (n : Name). 0 < count_of holdings n) (same_true name q e) some in
         omega (arith, one, here)
     by q false e = let none : times (name ∷ []) q ≡ 0 = times_one name q ∙ ap (λ t. cond t 1 0) e in omega (arith, none)
-
--- each file of a whole commit is there
-pub files_found : (cells : Cells) (n : ℕ) (infos : Infos) → IsWholeCommit (reads_of cells) n infos → (q : Name) → Contains (flat_map files_of_segment infos.segs) q → IsThere cells q
-files_found cells n infos whole q named =
-    all_there cells whole.files q (none_missing cells whole.files whole.there).each (among_of whole.files q ((whole.named.named q).1 named))
 
 -- what was held is counted
 pub counted_held : (names : List Name) (old new : Holdings) → ((q : Name) → count_of new q ≡ count_of old q + times names q) → AreCounted names new

@@ -1,11 +1,11 @@
 -- What a book of commits stands for.
 use Rattle.std.specs.Prelude.{◌≡◌, ◌<◌, ◌+◌, ℕ, Bool, true, false, Option, Some, None, IfSome, List, [], ◌∷◌, ◌++◌, Result, IfOk, IfErr}
 use Rattle.disk_model.specs.Disk.{Cells, Name}
-use Rattle.file_deleter.specs.Holdings.{Holdings}
+use Rattle.file_deleter.specs.Holdings.{Holdings, AreCounted}
 use Rattle.file_deleter.specs.Moves.{Shifts}
 use Rattle.commit_steps.specs.Commits.{ImagesAre, IsAbove, IsSafe}
 use Rattle.segment_infos.specs.declared.infos.Infos.{Infos}
-use Rattle.commit_steps.specs.Flights.{own_name, early_name, IsCommit}
+use Rattle.commit_steps.specs.Flights.{own_name, pending_name, IsCommit}
 use Rattle.commit_steps.specs.Calls.{StandsBegun, StandsSynced, StandsWritten, StandsPending, StandsNamed, StandsRenamed}
 use Rattle.commit_steps.specs.declared.states.Commit.{Commit}
 use Rattle.commit_steps.specs.declared.states.Flight.{Flight}
@@ -16,6 +16,7 @@ use Rattle.commit_steps.specs.declared.stage.Progress.{Progress}
 use Rattle.commit_steps.specs.declared.stage.Progress.TheVariants.{Going, Made}
 use Rattle.commit_steps.specs.declared.stage.CommitBook.{CommitBook}
 
+-- the commit in flight, with its bytes
 abbrev pub flight_of : Stage → Flight
 flight_of (Begun s) = s.0
 flight_of (Synced s) = s.0
@@ -24,7 +25,7 @@ flight_of (Pending s) = s.0
 flight_of (Named s) = s.0
 flight_of (Renamed s) = s.0
 
--- the commit that is under way
+-- the commit in flight
 abbrev pub commit_of : Stage → Commit
 commit_of s = (flight_of s).commit
 
@@ -55,6 +56,7 @@ shown_in (Synced s) = None
 shown_in (Written s) = None
 shown_in (Pending s) = None
 
+-- the same of a book's stage
 abbrev pub shown_by : Option Stage → Option Commit
 shown_by None = None
 shown_by (Some s) = shown_in s
@@ -63,15 +65,17 @@ shown_by (Some s) = shown_in s
 abbrev pub stage_names : Stage → List Name
 stage_names (Begun s) = s.0.commit.files
 stage_names (Synced s) = s.0.commit.files
-stage_names (Written s) = early_name s.0.commit ∷ s.0.commit.files
-stage_names (Pending s) = early_name s.0.commit ∷ s.0.commit.files
-stage_names (Named s) = early_name s.0.commit ∷ s.0.commit.files
+stage_names (Written s) = pending_name s.0.commit ∷ s.0.commit.files
+stage_names (Pending s) = pending_name s.0.commit ∷ s.0.commit.files
+stage_names (Named s) = pending_name s.0.commit ∷ s.0.commit.files
 stage_names (Renamed s) = own_name s.0.commit ∷ s.0.commit.files
 
+-- the same of a book's stage
 abbrev pub flying_names : Option Stage → List Name
 flying_names None = []
 flying_names (Some s) = stage_names s
 
+-- the names that the last commit holds
 abbrev pub last_names : Option Commit → List Name
 last_names None = []
 last_names (Some c) = c.names
@@ -95,7 +99,7 @@ pub record IsNumbered (last : Option Commit) (next : ℕ) (s : Stage) : Type 0 w
   pub drawn : (commit_of s).number < next
 
 -- the directory and the deleter are as the calls of the book leave them
-pub record IsSound (cells : Cells) (holdings : Holdings) (book : CommitBook) : Type 0 where
+pub record IsBookSound (cells : Cells) (holdings : Holdings) (book : CommitBook) : Type 0 where
   pub safe : IsSafe cells book.last (shown_by book.stage)
   pub stands : IfSome book.stage (Stands cells holdings)
   pub numbered : IfSome book.stage (IsNumbered book.last book.next)
@@ -108,10 +112,12 @@ abbrev pub book_along : CommitBook → Progress → CommitBook
 book_along book (Going s) = record { last = book.last; stage = Some s; next = book.next }
 book_along book (Made c) = record { last = Some c; stage = None; next = book.next }
 
+-- the book after a call of its stage that was not refused
 abbrev pub book_by : CommitBook → Option Stage → CommitBook
 book_by book None = book
 book_by book (Some s) = book_along book (progress_of s)
 
+-- the book after a step that was not refused
 abbrev pub book_after : CommitBook → CommitBook
 book_after book = book_by book book.stage
 
@@ -120,23 +126,27 @@ abbrev pub is_last_step : Option Stage → Bool
 is_last_step None = false
 is_last_step (Some s) = is_last_call s
 
--- the last commit and the one in flight that a crash may show, after a call
+-- the last commit, after a call
 abbrev pub last_along : Option Commit → Progress → Option Commit
 last_along last (Going s) = last
 last_along last (Made c) = Some c
 
+-- the commit in flight that a crash may show, after a call
 abbrev pub shown_along : Progress → Option Commit
 shown_along (Going s) = shown_in s
 shown_along (Made c) = None
 
+-- the commit of which a call was made
 abbrev pub commit_along : Progress → Commit
 commit_along (Going s) = commit_of s
 commit_along (Made c) = c
 
+-- the names of a commit that is still in flight are as the book's calls left them
 abbrev pub StandsAlong : Cells → Holdings → Progress → Type 0
 StandsAlong cells holdings (Going s) = Stands cells holdings s
 StandsAlong cells holdings (Made c) = Unit {0}
 
+-- the names that the commit of a call holds after it
 abbrev pub names_along : Progress → List Name
 names_along (Going s) = stage_names s
 names_along (Made c) = own_name c ∷ c.files
@@ -153,13 +163,16 @@ pub record Advances (before after : Cells) (old new : Holdings) (from : Stage) (
   pub ok : IfOk result (λ to. (to ≡ progress_of from) × Leads before after old new from to)
   pub err : IfErr result (λ stopped. (stopped.state ≡ from) × Leads before after old new from (Going from))
 
--- what a step of the book does, whatever it answers: the directory stays sound, each image shows what it may, and counts move as the names of the book
-pub record Step (before after : Cells) (old new : Holdings) (was now : CommitBook) : Type 0 where
-  pub sound : IsSound after new now
+-- What a step of the book does, whatever it answers: the directory stays sound, each image shows the last commit, or the one in flight, or nothing where
+-- there is no last one, counts move as the names of the book, and these stay counted.
+pub record IsBookStep (before after : Cells) (old new : Holdings) (was now : CommitBook) : Type 0 where
+  pub sound : IsBookSound after new now
   pub images : ImagesAre after now.last (shown_by now.stage)
   pub shifts : Shifts (book_names was) (book_names now) old new before after
+  pub counted : AreCounted (book_names now) new
 
 -- ---- how a book begins
+-- this is the last commit
 abbrev pub IsLast : ℕ → Infos → Option Commit → Type 0
 IsLast number infos None = ⊥
 IsLast number infos (Some c) = (c.number ≡ number) × (c.infos ≡ infos) × IsCommit c
@@ -170,6 +183,7 @@ pub record IsOpened (number : ℕ) (infos : Infos) (next : ℕ) (book : CommitBo
   pub none : book.stage ≡ None
   pub next_is : book.next ≡ next
 
+-- this commit has begun, and made no call
 abbrev pub IsBegun : ℕ → Infos → Option Stage → Type 0
 IsBegun number infos (Some (Begun s)) = (s.0.commit.number ≡ number) × (s.0.commit.infos ≡ infos)
 IsBegun number infos _ = ⊥

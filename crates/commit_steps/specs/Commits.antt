@@ -1,18 +1,23 @@
 -- What a crash may leave of the commits of a directory.
-use Rattle.std.specs.Prelude.{◌≡◌, ◌≢◌, ◌⊎◌, ◌<◌, ℕ, true, List, Option, None, IfSome, IsSomeAnd, Contains}
+use Rattle.std.specs.Prelude.{◌≡◌, ◌≢◌, ◌⊎◌, ◌<◌, ℕ, true, List, Option, None, IfSome, IsSomeAnd, Contains, is_some}
 use Rattle.std.specs.List.{flat_map}
 use Rattle.disk_model.specs.Disk.{Name, Content, Cell, Cells, Image, IsImage, may_leave, is_among}
+use Rattle.file_deleter.specs.Holdings.{IsThere}
 use Rattle.file_names.specs.Names.{is_commit_name, commit_number}
 use Rattle.segment_infos.specs.Files.{files_of_segment}
 use Rattle.segment_infos.specs.declared.infos.Infos.{Infos}
 use Rattle.commit_steps.specs.declared.states.Commit.{Commit}
-use Rattle.commit_steps.specs.Found.{ShowsNothing, Shows}
+use Rattle.commit_steps.specs.Found.{ShowsNothing, ShowsCommit}
 use Rattle.commit_steps.specs.Flights.{own_name, IsCommit, Spells}
 
--- an image shows commit N with these infos, and each file that they name has in the image what the directory now reads under its name
+-- each file that the infos name is in the directory
+abbrev pub HasFilesOf : Cells → Infos → Type 0
+HasFilesOf cells infos = (q : Name) → Contains (flat_map files_of_segment infos.segs) q → IsThere cells q
+
+-- an image shows commit N with these infos, and each file that they name is there, as the directory now reads it
 pub record HasInfos (cells : Cells) (image : Image) (number : ℕ) (infos : Infos) : Type 0 where
-  pub shown : Shows image number infos
-  pub files : (q : Name) → Contains (flat_map files_of_segment infos.segs) q → image q ≡ (cells q).now
+  pub shown : ShowsCommit image number infos
+  pub files : (q : Name) → Contains (flat_map files_of_segment infos.segs) q → (image q ≡ (cells q).now) × (is_some (image q) ≡ true)
 
 -- an image shows this commit, with its files
 abbrev pub HasCommit : Cells → Image → Commit → Type 0
@@ -44,9 +49,13 @@ IsSettled cell = (o : Content) → may_leave cell o ≡ true → o ≡ cell.now
 abbrev pub LeavesNothing : Cell → Type 0
 LeavesNothing cell = (o : Content) → may_leave cell o ≡ true → o ≡ None
 
--- a crash leaves what reads of each of these files
+-- a file is there, and a crash leaves it as it reads
+abbrev pub IsSettledFile : Cell → Type 0
+IsSettledFile cell = IsSettled cell × (is_some cell.now ≡ true)
+
+-- each of these files is there, and a crash leaves it as it reads
 abbrev pub AreSettled : Cells → List Name → Type 0
-AreSettled cells files = (q : Name) → is_among files q ≡ true → IsSettled (cells q)
+AreSettled cells files = (q : Name) → is_among files q ≡ true → IsSettledFile (cells q)
 
 -- a number is above that of the last commit
 abbrev pub IsAbove : Option Commit → ℕ → Type 0

@@ -17,8 +17,8 @@ abbrev pub own_name : Commit → Name
 own_name c = commit_name_of c.number
 
 -- the name that a commit's file has before
-abbrev pub early_name : Commit → Name
-early_name c = pending_name_of c.number
+abbrev pub pending_name : Commit → Name
+pending_name c = pending_name_of c.number
 
 -- a commit has a number that a name can carry, the files that its infos name, and it holds these and its own
 pub record IsCommit (c : Commit) : Type 0 where

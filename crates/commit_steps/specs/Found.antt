@@ -1,13 +1,9 @@
 -- The commit that a directory shows, by what stands under each name.
 use Rattle.std.specs.Prelude.{◌≡◌, ℕ, ◌<◌, ◌^◌, true, List, Option, Some, None, is_some}
-use Rattle.disk_model.specs.Disk.{Name, Image, Cells}
+use Rattle.disk_model.specs.Disk.{Name, Image}
 use Rattle.file_names.specs.Names.{commit_name_of, is_commit_name, commit_number}
 use Rattle.segment_infos.specs.Infos.{IsInfosFile}
 use Rattle.segment_infos.specs.declared.infos.Infos.{Infos}
-
--- what reads in a directory
-abbrev pub reads_of : Cells → Image
-reads_of cells q = (cells q).now
 
 -- no `segments_N` stands there
 abbrev pub ShowsNothing : Image → Type 0
@@ -21,7 +17,7 @@ pub record IsNewest (image : Image) (n : ℕ) (bytes : List ℕ) : Type 0 where
   pub greatest : (q : Name) → is_commit_name q ≡ true → n < commit_number q → image q ≡ None
 
 -- what stands there shows commit N with these infos: its `segments_N` is the one with the greatest N, and its bytes spell the infos
-pub record Shows (image : Image) (n : ℕ) (infos : Infos) : Type 0 where
+pub record ShowsCommit (image : Image) (n : ℕ) (infos : Infos) : Type 0 where
   pub bytes : List ℕ
   pub newest : IsNewest image n bytes
   pub spelled : IsInfosFile infos bytes

@@ -1,8 +1,9 @@
-// One call of the directory for the commit in flight.
+//! One call of the directory for the commit in flight.
+
 ghost use Rattle.std.specs.Prelude.{◌≡◌, ◌<◌, ℕ, Ok, Err, IsSome};
 ghost use Rattle.disk_model.specs.Faults.{CountsFaults};
 ghost use Rattle.file_deleter.specs.Holdings.{Holdings, AreThere};
-ghost use Rattle.commit_steps.specs.Flights.{early_name, answer_of};
+ghost use Rattle.commit_steps.specs.Flights.{pending_name, answer_of};
 ghost use Rattle.commit_steps.specs.Calls.{StandsBegun, StandsSynced, StandsWritten, StandsPending, StandsNamed, StandsRenamed};
 ghost use Rattle.commit_steps.specs.Book.{Stands, Advances};
 
@@ -16,7 +17,8 @@ use std::alloc::Global;
 #[tactic(auto, using(crate::proofs::Advancing::begun_stops))]
 fn sync_files<D: Dir>(state: Begun, dir: &mut D) -> Result<Progress, Stopped<Stage>>
     requires { AreThere (D.cells dir.old) state.0.commit.files }
-    ensures advances { (holdings : Holdings) → StandsBegun (D.cells dir.old) holdings state.0 → Advances (D.cells dir.old) (D.cells dir.new) holdings holdings (Stage.Begun state) result }
+    ensures advances { (holdings : Holdings) → StandsBegun (D.cells dir.old) holdings state.0
+        → Advances (D.cells dir.old) (D.cells dir.new) holdings holdings (Stage.Begun state) result }
     ensures faults { CountsFaults (D.faults dir.old) (D.faults dir.new) (answer_of result) }
 {
     match state.sync_files(dir) {
@@ -37,7 +39,8 @@ fn write_pending<D: Dir>(
 ) -> Result<Progress, Stopped<Stage>>
     requires room { 0 < files.old.room }
     requires stands { StandsSynced (D.cells dir.old) files.old state.0 }
-    ensures advances { Advances (D.cells dir.old) (D.cells dir.new) files.old files.new (Stage.Synced state) result }
+    ensures advances { Advances (D.cells dir.old) (D.cells dir.new)
+        files.old files.new (Stage.Synced state) result }
     ensures faults { CountsFaults (D.faults dir.old) (D.faults dir.new) (answer_of result) }
 {
     let name = pending_name(state.0.commit.number);
@@ -55,8 +58,9 @@ fn write_pending<D: Dir>(
 
 #[tactic(auto, using(crate::proofs::Advancing::written_stops))]
 fn sync_pending<D: Dir>(state: Written, dir: &mut D) -> Result<Progress, Stopped<Stage>>
-    requires { IsSome (D.cells dir.old (early_name state.0.commit)).now }
-    ensures advances { (holdings : Holdings) → StandsWritten (D.cells dir.old) holdings state.0 → Advances (D.cells dir.old) (D.cells dir.new) holdings holdings (Stage.Written state) result }
+    requires { IsSome (D.cells dir.old (pending_name state.0.commit)).now }
+    ensures advances { (holdings : Holdings) → StandsWritten (D.cells dir.old) holdings state.0
+        → Advances (D.cells dir.old) (D.cells dir.new) holdings holdings (Stage.Written state) result }
     ensures faults { CountsFaults (D.faults dir.old) (D.faults dir.new) (answer_of result) }
 {
     match state.sync_pending(dir) {
@@ -70,7 +74,8 @@ fn sync_pending<D: Dir>(state: Written, dir: &mut D) -> Result<Progress, Stopped
 
 #[tactic(auto, using(crate::proofs::Advancing::pending_stops))]
 fn sync_first_names<D: Dir>(state: Pending, dir: &mut D) -> Result<Progress, Stopped<Stage>>
-    ensures advances { (holdings : Holdings) → StandsPending (D.cells dir.old) holdings state.0 → Advances (D.cells dir.old) (D.cells dir.new) holdings holdings (Stage.Pending state) result }
+    ensures advances { (holdings : Holdings) → StandsPending (D.cells dir.old) holdings state.0
+        → Advances (D.cells dir.old) (D.cells dir.new) holdings holdings (Stage.Pending state) result }
     ensures faults { CountsFaults (D.faults dir.old) (D.faults dir.new) (answer_of result) }
 {
     match state.sync_names(dir) {
@@ -90,14 +95,15 @@ fn rename<D: Dir>(
 ) -> Result<Progress, Stopped<Stage>>
     requires room { 0 < files.old.room }
     requires stands { StandsNamed (D.cells dir.old) files.old state.0 }
-    ensures advances { Advances (D.cells dir.old) (D.cells dir.new) files.old files.new (Stage.Named state) result }
+    ensures advances { Advances (D.cells dir.old) (D.cells dir.new)
+        files.old files.new (Stage.Named state) result }
     ensures faults { CountsFaults (D.faults dir.old) (D.faults dir.new) (answer_of result) }
 {
-    let early = pending_name(state.0.commit.number);
+    let pending = pending_name(state.0.commit.number);
     let own = commit_name(state.0.commit.number);
     match state.rename(dir) {
         Ok(renamed) => {
-            files.renamed(&early, &own);
+            files.renamed(&pending, &own);
             Ok(Progress::Going(Stage::Renamed(renamed)))
         }
         Err(stopped) => Err(Stopped {
@@ -109,7 +115,8 @@ fn rename<D: Dir>(
 
 #[tactic(auto, using(crate::proofs::Advancing::renamed_stops))]
 fn sync_last_names<D: Dir>(state: Renamed, dir: &mut D) -> Result<Progress, Stopped<Stage>>
-    ensures advances { (holdings : Holdings) → StandsRenamed (D.cells dir.old) holdings state.0 → Advances (D.cells dir.old) (D.cells dir.new) holdings holdings (Stage.Renamed state) result }
+    ensures advances { (holdings : Holdings) → StandsRenamed (D.cells dir.old) holdings state.0
+        → Advances (D.cells dir.old) (D.cells dir.new) holdings holdings (Stage.Renamed state) result }
     ensures faults { CountsFaults (D.faults dir.old) (D.faults dir.new) (answer_of result) }
 {
     match state.sync_names(dir) {

@@ -1,13 +1,14 @@
-// The calls of the book.
+//! The calls of the book.
+
 ghost use Rattle.std.specs.Prelude.{◌≡◌, ◌+◌, ◌<◌, ◌≤◌, ℕ, List, true, is_some, None, Some, IsSome, IfSome, Ok, Err, IfOk, OnOk, OnErr, IsErrOf};
 ghost use Rattle.std.specs.Option.{option_map};
 ghost use Rattle.nrt_base.specs.Causes.{Rose};
 ghost use Rattle.disk_model.specs.Disk.{Cells, is_among};
 ghost use Rattle.disk_model.specs.Faults.{CountsFaults};
 ghost use Rattle.file_deleter.specs.Holdings.{Holdings, AreCounted};
-ghost use Rattle.file_deleter.specs.Moves.{Shifts, LetsGo};
-ghost use Rattle.commit_steps.specs.Commits.{ImagesAre, ImagesHave, ImagesShowNothing};
-ghost use Rattle.commit_steps.specs.Book.{commit_of, shown_by, last_names, book_names, IsSound, Step, book_after, is_last_step};
+ghost use Rattle.file_deleter.specs.Moves.{LetsGo};
+ghost use Rattle.commit_steps.specs.Commits.{ImagesHave, ImagesShowNothing};
+ghost use Rattle.commit_steps.specs.Book.{commit_of, last_names, book_names, IsBookSound, IsBookStep, book_after, is_last_step};
 
 use crate::advance::advance;
 use crate::stage::{CommitBook, Progress};
@@ -22,7 +23,8 @@ impl CommitBook {
     pub fn new(next: u64) -> CommitBook
         requires { 0 < next }
         ensures book { result ≡ record { last = None; stage = None; next = next } }
-        ensures sound { (cells : Cells) (holdings : Holdings) → ImagesShowNothing cells → IsSound cells holdings result }
+        ensures sound { (cells : Cells) (holdings : Holdings)
+            → ImagesShowNothing cells → IsBookSound cells holdings result }
     {
         CommitBook {
             last: None,
@@ -50,7 +52,8 @@ impl CommitBook {
     fn make<D: Dir>(&mut self, commit: Commit, files: &mut FileDeleter, dir: &mut D)
         requires { AreCounted (last_names self.old.last) files.old }
         ensures book { self.new ≡ record self.old { last = Some commit } }
-        ensures lets { LetsGo (last_names self.old.last) files.old files.new (D.cells dir.old) (D.cells dir.new) }
+        ensures lets { LetsGo (last_names self.old.last) files.old files.new
+            (D.cells dir.old) (D.cells dir.new) }
         ensures later { D.faults dir.old ≤ D.faults dir.new }
     {
         if let Some(old) = self.last.replace(commit) {
@@ -67,10 +70,12 @@ impl CommitBook {
         dir: &mut D,
     ) -> Result<bool, CommitFault>
         requires in_flight { IsSome self.old.stage }
-        requires sound { IsSound (D.cells dir.old) files.old self.old }
+        requires sound { IsBookSound (D.cells dir.old) files.old self.old }
         requires counted { AreCounted (book_names self.old) files.old }
-        ensures step { Step (D.cells dir.old) (D.cells dir.new) files.old files.new self.old self.new }
-        ensures made { result ≡ Ok true → IfSome self.old.stage (λ stage. ImagesHave (D.cells dir.new) (commit_of stage)) }
+        ensures step { IsBookStep (D.cells dir.old) (D.cells dir.new) files.old files.new
+            self.old self.new }
+        ensures made { result ≡ Ok true
+            → IfSome self.old.stage (λ stage. ImagesHave (D.cells dir.new) (commit_of stage)) }
         ensures ok { OnOk result (self.new ≡ book_after self.old) }
         ensures done { IfOk result (λ done. done ≡ is_last_step self.old.stage) }
         ensures err { OnErr result (self.new ≡ self.old) }
@@ -102,7 +107,7 @@ impl CommitBook {
     ///
     /// At each answer each image of the directory shows the last commit or the one in flight, or nothing where there is no
     /// last one; and what the book holds before and after reads the same.
-    #[tactic(auto, using(crate::proofs::Beside::counted_after, crate::proofs::Beside::reads_held))]
+    #[tactic(auto, using(crate::proofs::Beside::reads_held))]
     pub fn step<D: Dir>(
         &mut self,
         alloc: Global,
@@ -110,23 +115,24 @@ impl CommitBook {
         dir: &mut D,
     ) -> Result<bool, CommitFault>
         requires in_flight { IsSome self.old.stage }
-        requires sound { IsSound (D.cells dir.old) files.old self.old }
+        requires sound { IsBookSound (D.cells dir.old) files.old self.old }
         requires counted { AreCounted (book_names self.old) files.old }
+
+        // What is answered.
         ensures ok { OnOk result (self.new ≡ book_after self.old) }
         ensures done { IfOk result (λ done. done ≡ is_last_step self.old.stage) }
-        ensures made { result ≡ Ok true → IfSome self.old.stage (λ stage. ImagesHave (D.cells dir.new) (commit_of stage)) }
+        ensures made { result ≡ Ok true
+            → IfSome self.old.stage (λ stage. ImagesHave (D.cells dir.new) (commit_of stage)) }
         ensures err { OnErr result (self.new ≡ self.old) }
         ensures failed { IsErrOf result CommitFault.Failed → Rose (D.faults dir.old) (D.faults dir.new) }
-        ensures later { D.faults dir.old ≤ D.faults dir.new }
 
         // At each answer.
-        ensures images { ImagesAre (D.cells dir.new) self.new.last (shown_by self.new.stage) }
-        ensures shifts { Shifts (book_names self.old) (book_names self.new) files.old files.new (D.cells dir.old) (D.cells dir.new) }
-        ensures sound { IsSound (D.cells dir.new) files.new self.new }
-        ensures counted { AreCounted (book_names self.new) files.new }
-
-        // What the book holds before and after reads the same.
-        ensures reads { (q : List ℕ) → is_among (book_names self.old) q ≡ true → is_among (book_names self.new) q ≡ true → (D.cells dir.new q).now ≡ (D.cells dir.old q).now }
+        ensures step { IsBookStep (D.cells dir.old) (D.cells dir.new) files.old files.new
+            self.old self.new }
+        ensures reads { (q : List ℕ)
+            → is_among (book_names self.old) q ≡ true → is_among (book_names self.new) q ≡ true
+            → (D.cells dir.new q).now ≡ (D.cells dir.old q).now }
+        ensures later { D.faults dir.old ≤ D.faults dir.new }
     {
         self.step_on(alloc, files, dir)
     }

@@ -1,16 +1,15 @@
-// How a book is opened, and how a commit begins.
-ghost use Rattle.std.specs.Prelude.{◌≡◌, ◌+◌, ◌<◌, ◌^◌, ℕ, List, [], None, Some, IsSome, IfSome, Ok, Err, IfOk, OnOk, OnErr, Contains};
-ghost use Rattle.std.specs.List.{flat_map};
+//! How a book is opened, and how a commit begins.
+
+ghost use Rattle.std.specs.Prelude.{◌≡◌, ◌+◌, ◌<◌, ◌^◌, [], None, Some, IsSome, IfSome, Ok, Err, IfOk, OnOk, OnErr};
+ghost use Rattle.disk_model.specs.Disk.{reads_of};
 ghost use Rattle.file_names.specs.Names.{commit_name_of, pending_name_of};
-ghost use Rattle.file_deleter.specs.Holdings.{IsThere};
-ghost use Rattle.file_deleter.specs.Moves.{Holds, Moves};
+ghost use Rattle.file_deleter.specs.Moves.{HoldsFiles, MovesCounts};
 ghost use Rattle.segment_infos.specs.Infos.{CanSpell};
-ghost use Rattle.segment_infos.specs.Files.{files_of_segment};
-ghost use Rattle.commit_steps.specs.Found.{reads_of, Shows};
+ghost use Rattle.commit_steps.specs.Found.{ShowsCommit};
 ghost use Rattle.commit_steps.specs.Flights.{IsCommit};
-ghost use Rattle.commit_steps.specs.Commits.{ImagesShow};
+ghost use Rattle.commit_steps.specs.Commits.{HasFilesOf, ImagesShow};
 ghost use Rattle.commit_steps.specs.Calls.{IsFree};
-ghost use Rattle.commit_steps.specs.Book.{book_names, IsSound, IsOpened, HasBegun};
+ghost use Rattle.commit_steps.specs.Book.{book_names, IsBookSound, IsOpened, HasBegun};
 
 use crate::stage::{CommitBook, Stage};
 use crate::states::{Begun, Commit, Flight};
@@ -53,12 +52,14 @@ impl CommitBook {
         files: &mut FileDeleter,
         dir: &D,
     ) -> Result<CommitBook, NoMemory>
-        requires shown { Shows (reads_of (D.cells dir.now)) number infos.now }
-        requires there { (q : List ℕ) → Contains (flat_map files_of_segment infos.now.segs) q → IsThere (D.cells dir.now) q }
+        requires shown { ShowsCommit (reads_of (D.cells dir.now)) number infos.now }
+        requires there { HasFilesOf (D.cells dir.now) infos.now }
         requires next { number < next }
         ensures book { IfOk result (IsOpened number infos.now next) }
-        ensures holds { IfOk result (λ book. Holds (book_names book) files.old files.new (D.cells dir.now)) }
-        ensures sound { ImagesShow (D.cells dir.now) number infos.now → IfOk result (IsSound (D.cells dir.now) files.new) }
+        ensures holds { IfOk result (λ book.
+            HoldsFiles (book_names book) files.old files.new (D.cells dir.now)) }
+        ensures sound { ImagesShow (D.cells dir.now) number infos.now
+            → IfOk result (IsBookSound (D.cells dir.now) files.new) }
         ensures err { OnErr result (files.new ≡ files.old) }
     {
         let commit = commit_with(alloc, number, infos)?;
@@ -82,14 +83,15 @@ impl CommitBook {
     ) -> Result<(), NoMemory>
         requires none { self.old.stage ≡ None }
         requires spelled { CanSpell infos.now }
-        requires there { (q : List ℕ) → Contains (flat_map files_of_segment infos.now.segs) q → IsThere (D.cells dir.now) q }
+        requires there { HasFilesOf (D.cells dir.now) infos.now }
         requires below { self.old.next < 2 ^ 62 }
-        requires early { IsFree (D.cells dir.now) files.old (pending_name_of self.old.next) }
+        requires pending { IsFree (D.cells dir.now) files.old (pending_name_of self.old.next) }
         requires own { IsFree (D.cells dir.now) files.old (commit_name_of self.old.next) }
-        requires sound { IsSound (D.cells dir.now) files.old self.old }
+        requires sound { IsBookSound (D.cells dir.now) files.old self.old }
         ensures book { OnOk result (HasBegun infos.now self.old self.new) }
-        ensures moves { OnOk result (Moves [] (book_names self.old) (book_names self.new) files.old files.new (D.cells dir.now) (D.cells dir.now)) }
-        ensures sound { IsSound (D.cells dir.now) files.new self.new }
+        ensures moves { OnOk result (MovesCounts [] (book_names self.old) (book_names self.new)
+            files.old files.new (D.cells dir.now) (D.cells dir.now)) }
+        ensures sound { IsBookSound (D.cells dir.now) files.new self.new }
         ensures err { OnErr result ((self.new ≡ self.old) × (files.new ≡ files.old)) }
     {
         let bytes = encode(alloc, infos)?;

@@ -1,13 +1,15 @@
-// What an opening finds.
-ghost use Rattle.std.specs.Prelude.{◌≡◌, ◌≤◌, ◌⊎◌, ℕ, List, Ok, Err, Some, None, IfOk, IfErr, IsErrOf, find, not, is_some};
+//! What an opening finds.
+
+ghost use Rattle.std.specs.Prelude.{◌≡◌, ◌≤◌, ◌⊎◌, ℕ, List, Ok, Err, Some, None, IfOk, IfErr, IsErrOf};
+ghost use Rattle.disk_model.specs.Disk.{reads_of};
+ghost use Rattle.disk_model.specs.Faults.{IsMemoryOrFailed};
 ghost use Rattle.nrt_base.specs.Causes.{Rose};
-ghost use Rattle.file_deleter.specs.Moves.{IsMemoryOrFailed};
-ghost use Rattle.commit_steps.specs.Found.{reads_of, ShowsNothing, IsNewestAnswer, IsNewestNumber, Shows};
-ghost use Rattle.commit_steps.specs.Recovery.{IsCutOff, IsUnlessCutOff, IsWholeCommit, IsBroken, IsGone, Refuses, Recovers, IsLoaded, IsAnswer, is_there};
+ghost use Rattle.commit_steps.specs.Found.{ShowsNothing, IsNewestAnswer, IsNewestNumber, ShowsCommit};
+ghost use Rattle.commit_steps.specs.Recovery.{IsCutOff, IsAnswered, IsWholeCommit, IsBrokenCommit, IsGone, SaysHowBroken, Recovers, IsLoaded, IsRecoverAnswer};
 
 use body_forms::ReadFault;
 use codec_frame::FileFault;
-use disk_model::{Dir, DirFault};
+use disk_model::{Dir, DirFault, first_missing};
 use file_names::{FileName, commit_name};
 use nrt_base::NoMemory;
 use segment_infos::{Infos, decode, files_of, last_commit};
@@ -16,7 +18,7 @@ use std::alloc::Global;
 /// Why no commit is recovered.
 #[derive(Clone, Copy, Debug, PartialEq, Eq)]
 pub enum RecoverFault {
-    /// Memory was wanting.
+    /// Out of memory.
     Memory,
     /// The disk failed.
     Failed,
@@ -66,8 +68,8 @@ fn newest<D: Dir>(dir: &mut D) -> Result<Option<u64>, RecoverFault>
 // The infos that the newest `segments_N` spells.
 fn load_infos<D: Dir>(alloc: Global, number: u64, dir: &mut D) -> Result<Infos, RecoverFault>
     requires { IsNewestNumber (reads_of (D.cells dir.old)) number }
-    ensures found { IfOk result (Shows (reads_of (D.cells dir.old)) number) }
-    ensures err { IfErr result (Refuses (reads_of (D.cells dir.old))) }
+    ensures found { IfOk result (ShowsCommit (reads_of (D.cells dir.old)) number) }
+    ensures err { IfErr result (SaysHowBroken (reads_of (D.cells dir.old))) }
     ensures loaded { IsLoaded (reads_of (D.cells dir.old)) number result }
     ensures cells { D.cells dir.new ≡ D.cells dir.old }
     ensures failed { IsErrOf result RecoverFault.Failed → Rose (D.faults dir.old) (D.faults dir.new) }
@@ -84,16 +86,9 @@ fn load_infos<D: Dir>(alloc: Global, number: u64, dir: &mut D) -> Result<Infos, 
     }
 }
 
-// The first name that the directory lacks.
-fn first_missing<D: Dir>(names: &[FileName], dir: &D) -> Option<FileName>
-    ensures { result ≡ find (λ q. not (is_there (reads_of (D.cells dir.now)) q)) names.now }
-{
-    names.iter().copied().find(|name| !dir.has(name))
-}
-
 // The answer of an opening, with all that is said of it as one.
 fn answer<D: Dir>(alloc: Global, dir: &mut D) -> Result<Option<(u64, Infos)>, RecoverFault>
-    ensures answer { IsAnswer (reads_of (D.cells dir.old)) result }
+    ensures answer { IsRecoverAnswer (reads_of (D.cells dir.old)) result }
     ensures cells { D.cells dir.new ≡ D.cells dir.old }
     ensures failed { IsErrOf result RecoverFault.Failed → Rose (D.faults dir.old) (D.faults dir.new) }
     ensures later { D.faults dir.old ≤ D.faults dir.new }
@@ -115,11 +110,15 @@ pub fn recover<D: Dir>(alloc: Global, dir: &mut D) -> Result<Option<(u64, Infos)
     // What is answered.
     ensures recovers { Recovers (reads_of (D.cells dir.old)) result }
 
-    // Each of these is answered, unless memory is wanting or the disk fails.
-    ensures none { ShowsNothing (reads_of (D.cells dir.old)) → IsUnlessCutOff result (Ok None) }
-    ensures whole { (n : ℕ) (infos : Infos) → IsWholeCommit (reads_of (D.cells dir.old)) n infos → IsUnlessCutOff result (Ok (Some (n, infos))) }
-    ensures broken { (name : List ℕ) (fault : FileFault) → IsBroken (reads_of (D.cells dir.old)) name fault → IsUnlessCutOff result (Err (RecoverFault.Broken name fault)) }
-    ensures gone { (name : List ℕ) → IsGone (reads_of (D.cells dir.old)) name → IsUnlessCutOff result (Err (RecoverFault.Gone name)) }
+    // Each of these is answered, unless the call is out of memory or the disk fails.
+    ensures none { ShowsNothing (reads_of (D.cells dir.old)) → IsAnswered result (Ok None) }
+    ensures whole { (n : ℕ) (infos : Infos) → IsWholeCommit (reads_of (D.cells dir.old)) n infos
+        → IsAnswered result (Ok (Some (n, infos))) }
+    ensures broken { (name : List ℕ) (fault : FileFault)
+        → IsBrokenCommit (reads_of (D.cells dir.old)) name fault
+        → IsAnswered result (Err (RecoverFault.Broken name fault)) }
+    ensures gone { (name : List ℕ) → IsGone (reads_of (D.cells dir.old)) name
+        → IsAnswered result (Err (RecoverFault.Gone name)) }
 
     // What stays, and when the disk failed.
     ensures cells { D.cells dir.new ≡ D.cells dir.old }

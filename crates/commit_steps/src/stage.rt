@@ -1,4 +1,5 @@
-// The book of commits.
+//! The book of commits.
+
 use crate::states::{Begun, Commit, Named, Pending, Renamed, Synced, Written};
 
 /// A commit in flight, in one of its states.

@@ -1,4 +1,5 @@
-// The states of a commit in flight.
+//! The states of a commit in flight.
+
 ghost use Rattle.std.specs.Prelude.{◌≡◌};
 
 use bytes::Bytes;
@@ -56,7 +57,7 @@ pub struct Done(pub Flight);
 /// Why a call of a commit is refused.
 #[derive(Clone, Copy, Debug, PartialEq, Eq)]
 pub enum CommitFault {
-    /// Memory was wanting.
+    /// Out of memory.
     Memory,
     /// The disk failed.
     Failed,

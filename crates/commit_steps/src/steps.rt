@@ -1,10 +1,10 @@
-// The six calls of a commit.
+//! The six calls of a commit.
+
 ghost use Rattle.std.specs.Prelude.{◌≡◌, None, Some, IsSome, Ok, Err, [], ◌∷◌, IfOk, IfErr, OnErr, Any};
 ghost use Rattle.disk_model.specs.Disk.{after_sync, after_write, after_rename, after_sync_names};
-ghost use Rattle.disk_model.specs.Faults.{CountsFaults, FailsByPlans};
+ghost use Rattle.disk_model.specs.Faults.{CountsFaults, FailsByPlans, IsMemoryOrFailed};
 ghost use Rattle.file_deleter.specs.Holdings.{AreThere};
-ghost use Rattle.file_deleter.specs.Moves.{IsMemoryOrFailed};
-ghost use Rattle.commit_steps.specs.Flights.{own_name, early_name, fault_of, answer_of};
+ghost use Rattle.commit_steps.specs.Flights.{own_name, pending_name, fault_of, answer_of};
 
 use crate::states::{Begun, CommitFault, Done, Named, Pending, Renamed, Stopped, Synced, Written};
 use disk_model::{Dir, DirFault};
@@ -30,8 +30,10 @@ impl Begun {
     pub fn sync_files<D: Dir>(self, dir: &mut D) -> Result<Synced, Stopped<Begun>>
         requires { AreThere (D.cells dir.old) self.0.commit.files }
         ensures ok { IfOk result (λ synced. synced.0 ≡ self.0) }
-        ensures err { IfErr result (λ stopped. (stopped.state ≡ self) × (stopped.fault ≡ CommitFault.Failed)) }
-        ensures cells { D.cells dir.new ≡ after_sync (D.cells dir.old) self.0.commit.files (answer_of result) }
+        ensures err { IfErr result
+            (λ stopped. (stopped.state ≡ self) × (stopped.fault ≡ CommitFault.Failed)) }
+        ensures cells { D.cells dir.new
+            ≡ after_sync (D.cells dir.old) self.0.commit.files (answer_of result) }
         ensures faults { CountsFaults (D.faults dir.old) (D.faults dir.new) (answer_of result) }
         ensures plans { FailsByPlans (D.plans dir.old) (D.plans dir.new) (answer_of result) }
     {
@@ -52,10 +54,11 @@ impl Synced {
         alloc: Global,
         dir: &mut D,
     ) -> Result<Written, Stopped<Synced>>
-        requires { (D.cells dir.old (early_name self.0.commit)).now ≡ None }
+        requires { (D.cells dir.old (pending_name self.0.commit)).now ≡ None }
         ensures ok { IfOk result (λ written. written.0 ≡ self.0) }
         ensures err { IfErr result (λ stopped. stopped.state ≡ self) }
-        ensures cells { D.cells dir.new ≡ after_write (D.cells dir.old) (early_name self.0.commit) self.0.bytes (answer_of result) }
+        ensures cells { D.cells dir.new ≡ after_write (D.cells dir.old)
+            (pending_name self.0.commit) self.0.bytes (answer_of result) }
         ensures faults { CountsFaults (D.faults dir.old) (D.faults dir.new) (answer_of result) }
         ensures plans { FailsByPlans (D.plans dir.old) (D.plans dir.new) (answer_of result) }
     {
@@ -90,10 +93,12 @@ fn sync_one<D: Dir>(dir: &mut D, name: &FileName) -> Result<(), DirFault>
 impl Written {
     /// Syncs the commit's file, which must exist under the name `pending_segments_N`.
     pub fn sync_pending<D: Dir>(self, dir: &mut D) -> Result<Pending, Stopped<Written>>
-        requires { IsSome (D.cells dir.old (early_name self.0.commit)).now }
+        requires { IsSome (D.cells dir.old (pending_name self.0.commit)).now }
         ensures ok { IfOk result (λ pending. pending.0 ≡ self.0) }
-        ensures err { IfErr result (λ stopped. (stopped.state ≡ self) × (stopped.fault ≡ CommitFault.Failed)) }
-        ensures cells { D.cells dir.new ≡ after_sync (D.cells dir.old) (early_name self.0.commit ∷ []) (answer_of result) }
+        ensures err { IfErr result
+            (λ stopped. (stopped.state ≡ self) × (stopped.fault ≡ CommitFault.Failed)) }
+        ensures cells { D.cells dir.new ≡ after_sync (D.cells dir.old)
+            (pending_name self.0.commit ∷ []) (answer_of result) }
         ensures faults { CountsFaults (D.faults dir.old) (D.faults dir.new) (answer_of result) }
         ensures plans { FailsByPlans (D.plans dir.old) (D.plans dir.new) (answer_of result) }
     {
@@ -111,7 +116,8 @@ impl Pending {
     /// Syncs the names. From here on a crash may show the commit.
     pub fn sync_names<D: Dir>(self, dir: &mut D) -> Result<Named, Stopped<Pending>>
         ensures ok { IfOk result (λ named. named.0 ≡ self.0) }
-        ensures err { IfErr result (λ stopped. (stopped.state ≡ self) × (stopped.fault ≡ CommitFault.Failed)) }
+        ensures err { IfErr result
+            (λ stopped. (stopped.state ≡ self) × (stopped.fault ≡ CommitFault.Failed)) }
         ensures cells { D.cells dir.new ≡ after_sync_names (D.cells dir.old) (answer_of result) }
         ensures faults { CountsFaults (D.faults dir.old) (D.faults dir.new) (answer_of result) }
         ensures plans { FailsByPlans (D.plans dir.old) (D.plans dir.new) (answer_of result) }
@@ -129,11 +135,12 @@ impl Pending {
 impl Named {
     /// Gives the commit's file the name `segments_N`, which no file must have.
     pub fn rename<D: Dir>(self, dir: &mut D) -> Result<Renamed, Stopped<Named>>
-        requires there { IsSome (D.cells dir.old (early_name self.0.commit)).now }
+        requires there { IsSome (D.cells dir.old (pending_name self.0.commit)).now }
         requires free { (D.cells dir.old (own_name self.0.commit)).now ≡ None }
         ensures ok { IfOk result (λ renamed. renamed.0 ≡ self.0) }
         ensures err { IfErr result (λ stopped. stopped.state ≡ self) }
-        ensures cells { D.cells dir.new ≡ after_rename (D.cells dir.old) (early_name self.0.commit) (own_name self.0.commit) (answer_of result) }
+        ensures cells { D.cells dir.new ≡ after_rename (D.cells dir.old)
+            (pending_name self.0.commit) (own_name self.0.commit) (answer_of result) }
         ensures faults { CountsFaults (D.faults dir.old) (D.faults dir.new) (answer_of result) }
         ensures plans { FailsByPlans (D.plans dir.old) (D.plans dir.new) (answer_of result) }
     {
@@ -152,7 +159,8 @@ impl Renamed {
     /// Syncs the names. At `Ok` the commit is acknowledged: each image shows it.
     pub fn sync_names<D: Dir>(self, dir: &mut D) -> Result<Done, Stopped<Renamed>>
         ensures ok { IfOk result (λ done. done.0 ≡ self.0) }
-        ensures err { IfErr result (λ stopped. (stopped.state ≡ self) × (stopped.fault ≡ CommitFault.Failed)) }
+        ensures err { IfErr result
+            (λ stopped. (stopped.state ≡ self) × (stopped.fault ≡ CommitFault.Failed)) }
         ensures cells { D.cells dir.new ≡ after_sync_names (D.cells dir.old) (answer_of result) }
         ensures faults { CountsFaults (D.faults dir.old) (D.faults dir.new) (answer_of result) }
         ensures plans { FailsByPlans (D.plans dir.old) (D.plans dir.new) (answer_of result) }

@@ -1,14 +1,16 @@
+//! A directory with its deleter and its book, for the tests.
+
 ghost use Rattle.std.specs.Prelude.{◌≡◌, ◌<◌, true, [], Ok, IfOk, OnOk};
+ghost use Rattle.disk_model.specs.Disk.{reads_of};
 ghost use Rattle.file_names.specs.Names.{commit_name_of, pending_name_of};
 ghost use Rattle.segment_infos.specs.Infos.{CanSpell};
 ghost use Rattle.disk_memory.specs.Table.{cells_of};
 ghost use Rattle.disk_memory.specs.Memory.{table_of};
 ghost use Rattle.file_deleter.specs.Holdings.{AreCounted};
-ghost use Rattle.commit_steps.specs.Found.{reads_of};
 ghost use Rattle.commit_steps.specs.Commits.{ImagesShowNothing};
 ghost use Rattle.commit_steps.specs.Recovery.{IsWholeCommit};
 ghost use Rattle.commit_steps.specs.Calls.{IsFree};
-ghost use Rattle.commit_steps.specs.Book.{book_names, IsSound};
+ghost use Rattle.commit_steps.specs.Book.{book_names, IsBookSound};
 
 use crate::{CommitBook, CommitFault, recover};
 use disk_memory::MemDir;
@@ -71,7 +73,7 @@ impl<D: FaultDir + Drop> Site<D> {
     // A site on a directory without a commit.
     fn new(alloc: Global, dir: D) -> Result<Site<D>, NoMemory>
         requires { ImagesShowNothing (D.cells dir) }
-        ensures sound { IfOk result (λ site. IsSound (D.cells site.dir) site.files site.book) }
+        ensures sound { IfOk result (λ site. IsBookSound (D.cells site.dir) site.files site.book) }
         ensures counted { IfOk result (λ site. AreCounted (book_names site.book) site.files) }
     {
         let files = FileDeleter::new(alloc)?;
@@ -87,14 +89,15 @@ impl<D: FaultDir + Drop> Site<D> {
         Ok(pending.is_empty() && self.files.count(name) == 0 && !self.dir.has(name))
     }
 
-    // Refuses a number whose names are not free.
+    // SaysHowBroken a number whose names are not free.
     fn free_names(&self, alloc: Global, number: u64) -> Result<(), Fail>
-        ensures early { OnOk result (IsFree (D.cells self.now.dir) self.now.files (pending_name_of number)) }
+        ensures pending { OnOk result
+            (IsFree (D.cells self.now.dir) self.now.files (pending_name_of number)) }
         ensures own { OnOk result (IsFree (D.cells self.now.dir) self.now.files (commit_name_of number)) }
     {
-        let early = self.is_free(alloc, &pending_name(number))?;
+        let pending = self.is_free(alloc, &pending_name(number))?;
         let own = self.is_free(alloc, &commit_name(number))?;
-        if !early || !own {
+        if !pending || !own {
             return Err(Fail::new("a name is not free"));
         }
         Ok(())
@@ -103,9 +106,9 @@ impl<D: FaultDir + Drop> Site<D> {
     // Begins a commit of infos without a segment.
     fn begin(&mut self, alloc: Global, version: u64) -> Result<(), Fail>
         requires some { 0 < version }
-        requires sound { IsSound (D.cells self.old.dir) self.old.files self.old.book }
+        requires sound { IsBookSound (D.cells self.old.dir) self.old.files self.old.book }
         requires counted { AreCounted (book_names self.old.book) self.old.files }
-        ensures sound { IsSound (D.cells self.new.dir) self.new.files self.new.book }
+        ensures sound { IsBookSound (D.cells self.new.dir) self.new.files self.new.book }
         ensures counted { AreCounted (book_names self.new.book) self.new.files }
     {
         let number = self.book.next;
@@ -120,9 +123,9 @@ impl<D: FaultDir + Drop> Site<D> {
 
     // A step of the commit in flight.
     fn step(&mut self, alloc: Global) -> Result<bool, CommitFault>
-        requires sound { IsSound (D.cells self.old.dir) self.old.files self.old.book }
+        requires sound { IsBookSound (D.cells self.old.dir) self.old.files self.old.book }
         requires counted { AreCounted (book_names self.old.book) self.old.files }
-        ensures sound { IsSound (D.cells self.new.dir) self.new.files self.new.book }
+        ensures sound { IsBookSound (D.cells self.new.dir) self.new.files self.new.book }
         ensures counted { AreCounted (book_names self.new.book) self.new.files }
     {
         if !self.book.in_flight() {
@@ -133,9 +136,9 @@ impl<D: FaultDir + Drop> Site<D> {
 
     // How many steps make the commit in flight, or 0 where six do not.
     fn commit(&mut self, alloc: Global) -> Result<u32, CommitFault>
-        requires sound { IsSound (D.cells self.old.dir) self.old.files self.old.book }
+        requires sound { IsBookSound (D.cells self.old.dir) self.old.files self.old.book }
         requires counted { AreCounted (book_names self.old.book) self.old.files }
-        ensures sound { IsSound (D.cells self.new.dir) self.new.files self.new.book }
+        ensures sound { IsBookSound (D.cells self.new.dir) self.new.files self.new.book }
         ensures counted { AreCounted (book_names self.new.book) self.new.files }
     {
         for count in 1..=6 {
@@ -149,27 +152,17 @@ impl<D: FaultDir + Drop> Site<D> {
     // Plans that the k-th call of the directory and each later one fail.
     fn stop_at(&mut self, k: u64)
         requires some { 0 < k }
-        requires sound { IsSound (D.cells self.old.dir) self.old.files self.old.book }
+        requires sound { IsBookSound (D.cells self.old.dir) self.old.files self.old.book }
         requires counted { AreCounted (book_names self.old.book) self.old.files }
-        ensures sound { IsSound (D.cells self.new.dir) self.new.files self.new.book }
+        ensures sound { IsBookSound (D.cells self.new.dir) self.new.files self.new.book }
         ensures counted { AreCounted (book_names self.new.book) self.new.files }
     {
         self.dir.stop_at(k);
     }
 
-    // Plans that the k-th call of the directory fails.
-    fn plan(&mut self, k: u64)
-        requires some { 0 < k }
-        requires sound { IsSound (D.cells self.old.dir) self.old.files self.old.book }
-        requires counted { AreCounted (book_names self.old.book) self.old.files }
-        ensures sound { IsSound (D.cells self.new.dir) self.new.files self.new.book }
-        ensures counted { AreCounted (book_names self.new.book) self.new.files }
-    {
-        self.dir.plan(k);
-    }
     // Crashes, and opens the book on what the directory shows then.
     fn reopen(&mut self, alloc: Global, pick: u64) -> Result<(), Fail>
-        ensures sound { OnOk result (IsSound (D.cells self.new.dir) self.new.files self.new.book) }
+        ensures sound { OnOk result (IsBookSound (D.cells self.new.dir) self.new.files self.new.book) }
         ensures counted { OnOk result (AreCounted (book_names self.new.book) self.new.files) }
     {
         self.dir.crash(pick)?;

@@ -11,8 +11,8 @@ use Rattle.disk_memory.specs.declared.state.State.{State}
 use Rattle.disk_memory.specs.declared.state.State.TheVariants.{Absent, Loose, Synced}
 use Rattle.disk_memory.specs.declared.state.Outcome.{Outcome}
 use Rattle.disk_memory.specs.declared.state.Outcome.TheVariants.{Gone, Exactly, Any}
-use Rattle.disk_memory.specs.Held.{Held, content_of, is_there, is_synced, outcome_of, may_be, is_same, is_some_same, ends_with, gain, past_of, cell, set_to, with_outcome, synced, flushed}
-use Rattle.disk_memory.specs.Table.{Table, cells_of, after_write, after_remove, after_rename, after_sync, after_sync_names}
+use Rattle.disk_memory.specs.Held.{Held, content_of, has_file, is_synced, outcome_of, may_be, is_same, is_some_same, ends_with, gain, past_of, cell, set_to, with_outcome, synced, held_flushed}
+use Rattle.disk_memory.specs.Table.{Table, cells_of, table_after_write, table_after_remove, table_after_rename, table_after_sync, table_after_sync_names}
 
 -- the outcome of a state may be what is left by it
 pub left_of : (state : State) (c : Content) → may_be (outcome_of state) c ≡ left_by (content_of state) (is_synced state) c
@@ -81,7 +81,7 @@ synced_synced Absent e = e
 synced_synced (Loose bytes) e = refl
 synced_synced (Synced bytes) e = refl
 
-flushed_cell : (h : Held) → is_there h ≡ true → cell (flushed h) ≡ model.flushed (cell h)
+flushed_cell : (h : Held) → has_file h ≡ true → cell (held_flushed h) ≡ model.flushed (cell h)
 flushed_cell h there = λ i. record { now = synced_content h.state i; synced = synced_synced h.state there i; past = past_of h.past }
 
 -- ---- of the directory
@@ -93,21 +93,21 @@ put_cells table name h c e = λ i q. (by (same name q) q ∙ ap (λ k. cond (sam
     by false q = refl
 
 module _ {T : Type 0} where
-  pub written_cells : (table : Table) (name : Name) (bytes : List ℕ) (r : Result T DirFault) → cells_of (after_write table name bytes r) ≡ model.after_write (cells_of table) name bytes r
+  pub written_cells : (table : Table) (name : Name) (bytes : List ℕ) (r : Result T DirFault) → cells_of (table_after_write table name bytes r) ≡ model.after_write (cells_of table) name bytes r
   written_cells table name bytes (Ok x) = put_cells table name _ _ (set_cell (Loose bytes) (table name))
   written_cells table name bytes (Err Failed) = put_cells table name _ _ (outcome_cell (Any bytes) (table name) is_some (λ c. refl))
   written_cells table name bytes (Err Memory) = refl
   written_cells table name bytes (Err Missing) = refl
   written_cells table name bytes (Err Exists) = refl
 
-  pub removed_cells : (table : Table) (name : Name) (r : Result T DirFault) → cells_of (after_remove table name r) ≡ model.after_remove (cells_of table) name r
+  pub removed_cells : (table : Table) (name : Name) (r : Result T DirFault) → cells_of (table_after_remove table name r) ≡ model.after_remove (cells_of table) name r
   removed_cells table name (Ok x) = put_cells table name _ _ (set_cell Absent (table name))
   removed_cells table name (Err Failed) = put_cells table name _ _ (outcome_cell Gone (table name) is_none (λ c. refl))
   removed_cells table name (Err Memory) = refl
   removed_cells table name (Err Missing) = refl
   removed_cells table name (Err Exists) = refl
 
-  pub renamed_cells : (table : Table) (from to : Name) (r : Result T DirFault) → cells_of (after_rename table from to r) ≡ model.after_rename (cells_of table) from to r
+  pub renamed_cells : (table : Table) (from to : Name) (r : Result T DirFault) → cells_of (table_after_rename table from to r) ≡ model.after_rename (cells_of table) from to r
   renamed_cells table from to (Ok x) =
       put_cells (put table to (set_to (table from).state (table to))) from _ _ (set_cell Absent (table from))
       ∙ ap (λ (cells : Cells). put cells from (model.removed (cell (table from)))) (put_cells table to _ _ (set_cell (table from).state (table to)))
@@ -118,7 +118,7 @@ module _ {T : Type 0} where
   renamed_cells table from to (Err Missing) = refl
   renamed_cells table from to (Err Exists) = refl
 
-  pub settled_cells : (table : Table) (r : Result T DirFault) → cells_of (after_sync_names table r) ≡ model.after_sync_names (cells_of table) r
+  pub settled_cells : (table : Table) (r : Result T DirFault) → cells_of (table_after_sync_names table r) ≡ model.after_sync_names (cells_of table) r
   settled_cells table (Ok x) = refl
   settled_cells table (Err e) = refl
 
@@ -132,10 +132,10 @@ all_among P [] q every e = absurd (true≢false (sym e))
 all_among P (x ∷ names) q every e = one_among P x q (is_among names q) (same x q) refl (All-head P x names every) (all_among P names q (All-tail P x names every)) e
 
 pub synced_cells : {T : Type 0} (table : Table) (names : List Name) (r : Result T DirFault) → All (λ q. is_some (content_of (table q).state) ≡ true) names
-    → cells_of (after_sync table names r) ≡ model.after_sync (cells_of table) names r
+    → cells_of (table_after_sync table names r) ≡ model.after_sync (cells_of table) names r
 synced_cells table names (Err e) every = refl
 synced_cells table names (Ok x) every = λ i q. by q (is_among names q) refl i
   where
-    by : (q : Name) (t : Bool) → is_among names q ≡ t → cell (cond t (flushed (table q)) (table q)) ≡ cond t (model.flushed (cell (table q))) (cell (table q))
+    by : (q : Name) (t : Bool) → is_among names q ≡ t → cell (cond t (held_flushed (table q)) (table q)) ≡ cond t (model.flushed (cell (table q))) (cell (table q))
     by q true e = flushed_cell (table q) (all_among (λ (k : Name). is_some (content_of (table k).state) ≡ true) names q every e)
     by q false e = refl

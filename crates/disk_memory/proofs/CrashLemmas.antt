@@ -15,9 +15,9 @@ use Rattle.disk_memory.specs.declared.state.State.{State}
 use Rattle.disk_memory.specs.declared.state.State.TheVariants.{Absent, Loose, Synced}
 use Rattle.disk_memory.specs.declared.state.Outcome.{Outcome}
 use Rattle.disk_memory.specs.declared.state.Outcome.TheVariants.{Gone, Exactly, Any}
-use Rattle.disk_memory.specs.Held.{Held, untouched, content_of, is_there, is_synced, outcome_of, may_be, past_of, cell}
+use Rattle.disk_memory.specs.Held.{Held, untouched, content_of, has_file, is_synced, outcome_of, may_be, past_of, cell}
 use Rattle.disk_memory.specs.Table.{held_at, held_in, names_in, cells_of}
-use Rattle.disk_memory.specs.Crash.{next_number, place_of, content_left, outcome_at, picked, is_picked, number_at, left_at, contents_left, content_at, image_picked, started}
+use Rattle.disk_memory.specs.Crash.{next_number, place_picked, content_left, outcome_at, picked, is_picked, number_at, left_at, contents_left, content_at, image_picked, started}
 use Rattle.disk_memory.proofs.CellBridge.{left_of}
 use Rattle.disk_memory.proofs.WalkLemmas.{at, at_same, apart_above}
 
@@ -43,7 +43,7 @@ at_place (o ∷ past) (suc i) last c e = behind (may_be o c) (past_of past c) (m
 
 picked_left : (pick x : ℕ) (h : Held) → may_leave (cell h) (picked pick x h) ≡ true
 picked_left pick x h =
-    let place = place_of pick x (length h.past + 1) in
+    let place = place_picked pick x (length h.past + 1) in
     sym (ap (λ b. past_of h.past (picked pick x h) || b) (left_of h.state (picked pick x h)))
     ∙ at_place h.past place (outcome_of h.state) (picked pick x h) (may_be_left pick x (outcome_at h place))
 
@@ -91,11 +91,11 @@ at_apart q k e = by (same k q) refl
     by true h = absurd (true≢false (sym (nat_list_eq_equiv.refl q) ∙ sym (is_eq-slice_cmp q q) ∙ ap (λ (n : Name). at q n) (sym (same_true k q h)) ∙ e))
     by false h = h
 
-listed : (b s t rest : Bool) (here below : Held) → b ≡ is_there here → (t ≡ true → s ≡ true) → (t ≡ false → s ≡ false) → (t ≡ true → below ≡ untouched) → rest ≡ is_there below
-    → ((b && s) || rest) ≡ is_there (cond t here below)
+listed : (b s t rest : Bool) (here below : Held) → b ≡ has_file here → (t ≡ true → s ≡ true) → (t ≡ false → s ≡ false) → (t ≡ true → below ≡ untouched) → rest ≡ has_file below
+    → ((b && s) || rest) ≡ has_file (cond t here below)
 listed true true true rest here below there on off past e = there
 listed true false true rest here below there on off past e = absurd (true≢false (sym (on refl)))
-listed false s true rest here below there on off past e = e ∙ ap is_there (past refl) ∙ there
+listed false s true rest here below there on off past e = e ∙ ap has_file (past refl) ∙ there
 listed true true false rest here below there on off past e = absurd (true≢false (off refl))
 listed true false false rest here below there on off past e = e
 listed false s false rest here below there on off past e = e
@@ -112,13 +112,13 @@ pub names_there : (entries : List (Name × Held)) → IsStrictlySortedBy (slice_
 unfolding IsStrictlySortedBy
 names_there [] sorted q = refl
 names_there (e ∷ entries) sorted q =
-    front (is_there e.1) e.0 q (names_in entries)
-    ∙ listed (is_there e.1) (same e.0 q) (at q e.0) (is_among (names_in entries) q) e.1 (held_in entries q) refl (at_here q e.0) (at_apart q e.0) (λ t. ap held_at (apart_above e.0 q entries t sorted.0)) (names_there entries sorted.1 q)
-    ∙ ap is_there (sym (found (at q e.0) e.1 (lookup (at q) entries)))
+    front (has_file e.1) e.0 q (names_in entries)
+    ∙ listed (has_file e.1) (same e.0 q) (at q e.0) (is_among (names_in entries) q) e.1 (held_in entries q) refl (at_here q e.0) (at_apart q e.0) (λ t. ap held_at (apart_above e.0 q entries t sorted.0)) (names_there entries sorted.1 q)
+    ∙ ap has_file (sym (found (at q e.0) e.1 (lookup (at q) entries)))
 
 some_above : (P : Name → Type 0) (entries : List (Name × Held)) → AllByRecursion P (keys_of entries) → AllByRecursion P (names_in entries)
 some_above P [] every = every
-some_above P (e ∷ entries) every = by (is_there e.1) (some_above P entries every.1)
+some_above P (e ∷ entries) every = by (has_file e.1) (some_above P entries every.1)
   where
     by : (b : Bool) → AllByRecursion P (names_in entries) → AllByRecursion P (cond b (e.0 ∷ names_in entries) (names_in entries))
     by true rest = (every.0, rest)
@@ -132,4 +132,4 @@ ascends false k names above rest = rest
 pub names_ascend : (entries : List (Name × Held)) → IsStrictlySortedBy (slice_cmp nat_cmp) (keys_of entries) → IsStrictlySortedBy (slice_cmp nat_cmp) (names_in entries)
 unfolding IsStrictlySortedBy
 names_ascend [] sorted = sorted
-names_ascend (e ∷ entries) sorted = ascends (is_there e.1) e.0 (names_in entries) (some_above (λ y. slice_cmp nat_cmp e.0 y ≡ Less) entries sorted.0) (names_ascend entries sorted.1)
+names_ascend (e ∷ entries) sorted = ascends (has_file e.1) e.0 (names_in entries) (some_above (λ y. slice_cmp nat_cmp e.0 y ≡ Less) entries sorted.0) (names_ascend entries sorted.1)

@@ -1,6 +1,6 @@
-pub mod FlushLemmas
-pub mod RenameLemmas
-pub mod TableLemmas
-pub mod WalkLemmas
-pub mod CellBridge
-pub mod CrashLemmas
+mod FlushLemmas
+mod RenameLemmas
+mod TableLemmas
+mod WalkLemmas
+mod CellBridge
+mod CrashLemmas

@@ -14,7 +14,7 @@ use Rattle.disk_model.specs.Disk.{Name, Content}
 use Rattle.disk_model.proofs.CellLemmas.{same_true}
 use Rattle.disk_memory.specs.declared.state.State.{State}
 use Rattle.disk_memory.specs.declared.state.State.TheVariants.{Absent, Loose, Synced}
-use Rattle.disk_memory.specs.Held.{Held, untouched, content_of, is_there, settled}
+use Rattle.disk_memory.specs.Held.{Held, untouched, content_of, has_file, held_settled}
 use Rattle.disk_memory.specs.Table.{held_at, held_in}
 use Rattle.disk_memory.specs.Crash.{left_at, number_at, contents_left, content_at, started}
 
@@ -45,9 +45,9 @@ module _ {S : Type 0} (after : S → Held → Held) (next : S → Held → S) wh
   walked_keys x (e ∷ entries) = ap (λ ks. e.0 ∷ ks) (walked_keys (next x e.1) entries)
 
   module _ {F : Type 0} (T : F → Name → Held → Bool → Held → F → Type 0) (number : F → S)
-      (says : (f : F) (k : Name) (v : Held) (b : Bool) (w : Held) (g : F) → T f k v b w g → (w ≡ after (number f) v) × (b ≡ is_there w) × (number g ≡ next (number f) v))
-      (gone : (x : S) (v : Held) → is_there (after x v) ≡ false → after x v ≡ untouched) where
-    step : (b t : Bool) (w v : Held) (rest kept : Option Held) → b ≡ is_there v → w ≡ v → (is_there v ≡ false → v ≡ untouched) → (t ≡ true → held_at kept ≡ untouched) → held_at rest ≡ held_at kept
+      (says : (f : F) (k : Name) (v : Held) (b : Bool) (w : Held) (g : F) → T f k v b w g → (w ≡ after (number f) v) × (b ≡ has_file w) × (number g ≡ next (number f) v))
+      (gone : (x : S) (v : Held) → has_file (after x v) ≡ false → after x v ≡ untouched) where
+    step : (b t : Bool) (w v : Held) (rest kept : Option Held) → b ≡ has_file v → w ≡ v → (has_file v ≡ false → v ≡ untouched) → (t ≡ true → held_at kept ≡ untouched) → held_at rest ≡ held_at kept
         → held_at (cond b (cond t (Some w) rest) rest) ≡ held_at (cond t (Some v) kept)
     step true true w v rest kept there is none past e = is
     step true false w v rest kept there is none past e = e
@@ -67,23 +67,23 @@ module _ {S : Type 0} (after : S → Held → Held) (next : S → Held → S) wh
         retained entries h.3 h.2 h.5 sorted.1 q ∙ ap (λ x. held_in (walked x entries) q) s.2 in
         ap (λ (ks : List (Name × Held)). held_in ks q) h.6
         ∙ ap held_at (front h.0 q e.0 h.1 h.3)
-        ∙ step h.0 (at q e.0) h.1 (after (number f) e.1) (lookup (at q) h.3) (lookup (at q) (walked (next (number f) e.1) entries)) (s.1 ∙ ap is_there s.0) s.0 (gone (number f) e.1)
+        ∙ step h.0 (at q e.0) h.1 (after (number f) e.1) (lookup (at q) h.3) (lookup (at q) (walked (next (number f) e.1) entries)) (s.1 ∙ ap has_file s.0) s.0 (gone (number f) e.1)
         (λ t. ap held_at (apart_above e.0 q (walked (next (number f) e.1) entries) t (subst (AllByRecursion (λ y. slice_cmp nat_cmp e.0 y ≡ Less)) (sym (walked_keys (next (number f) e.1) entries)) sorted.0)))
         later
 
 -- every name settled
 abbrev pub settles : ℕ → Held → Held
-settles x h = settled h
+settles x h = held_settled h
 
 abbrev pub stays : ℕ → Held → ℕ
 stays x h = x
 
-pub settled_walk : (entries : List (Name × Held)) (q : Name) → held_in (walked settles stays 0 entries) q ≡ settled (held_in entries q)
+pub settled_walk : (entries : List (Name × Held)) (q : Name) → held_in (walked settles stays 0 entries) q ≡ held_settled (held_in entries q)
 settled_walk [] q = refl
 settled_walk (e ∷ entries) q = by (at q e.0) (settled_walk entries q)
   where
-    by : (t : Bool) → held_in (walked settles stays 0 entries) q ≡ settled (held_in entries q)
-        → held_at (cond t (Some (settled e.1)) (lookup (at q) (walked settles stays 0 entries))) ≡ settled (held_at (cond t (Some e.1) (lookup (at q) entries)))
+    by : (t : Bool) → held_in (walked settles stays 0 entries) q ≡ held_settled (held_in entries q)
+        → held_at (cond t (Some (held_settled e.1)) (lookup (at q) (walked settles stays 0 entries))) ≡ held_settled (held_at (cond t (Some e.1) (lookup (at q) entries)))
     by true h = refl
     by false h = h
 
@@ -104,7 +104,7 @@ crashed_walk pick x (e ∷ entries) q = by (at q e.0) (crashed_walk pick (number
     by false h = h
 
 -- what is gone then is untouched
-pub started_gone : (c : Content) → is_there (started c) ≡ false → started c ≡ untouched
+pub started_gone : (c : Content) → has_file (started c) ≡ false → started c ≡ untouched
 started_gone None e = refl
 started_gone (Some bytes) e = absurd (true≢false e)
 
@@ -113,5 +113,5 @@ state_gone Absent e = refl
 state_gone (Loose bytes) e = absurd (true≢false e)
 state_gone (Synced bytes) e = absurd (true≢false e)
 
-pub settled_gone : (h : Held) → is_there (settled h) ≡ false → settled h ≡ untouched
+pub settled_gone : (h : Held) → has_file (held_settled h) ≡ false → held_settled h ≡ untouched
 settled_gone h e = λ i. record { state = state_gone h.state e i; past = [] }

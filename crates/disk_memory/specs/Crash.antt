@@ -19,8 +19,8 @@ abbrev pub drawn_below : ℕ → ℕ → ℕ
 drawn_below n x = (x / 2 ^ 33) % n
 
 -- the place of the outcome that is picked among n: the last for 0, the first for 1
-abbrev pub place_of : ℕ → ℕ → ℕ → ℕ
-place_of pick x n = if nat_eq pick 0 then n - 1 else (if nat_eq pick 1 then 0 else drawn_below n x)
+abbrev pub place_picked : ℕ → ℕ → ℕ → ℕ
+place_picked pick x n = if nat_eq pick 0 then n - 1 else (if nat_eq pick 1 then 0 else drawn_below n x)
 
 -- how many of the n bytes written any bytes become: all for 0, none for 1
 abbrev pub length_left : ℕ → ℕ → ℕ → ℕ
@@ -38,7 +38,7 @@ outcome_at h place = slice_index_or h.past place (outcome_of h.state)
 
 -- the content that a crash leaves under one name
 abbrev pub picked : ℕ → ℕ → Held → Content
-picked pick x h = content_left pick x (outcome_at h (place_of pick x (length h.past + 1)))
+picked pick x h = content_left pick x (outcome_at h (place_picked pick x (length h.past + 1)))
 
 -- there is something to pick: the name exists or has a past outcome
 abbrev pub is_picked : Held → Bool
@@ -70,3 +70,7 @@ image_picked pick entries q = content_at (lookup (is_at (slice_cmp nat_cmp q)) (
 abbrev pub started : Content → Held
 started None = record { state = Absent; past = [] }
 started (Some bytes) = record { state = Synced bytes; past = [] }
+
+-- what is held under a name after the crash with this number
+abbrev pub held_after_crash : ℕ → List (Name × Held) → Name → Held
+held_after_crash pick entries q = started (image_picked pick entries q)

@@ -24,8 +24,8 @@ content_of (Loose bytes) = Some bytes
 content_of (Synced bytes) = Some bytes
 
 -- a file exists under the name
-abbrev pub is_there : Held → Bool
-is_there h = is_some (content_of h.state)
+abbrev pub has_file : Held → Bool
+has_file h = is_some (content_of h.state)
 
 -- the state has bytes that are synced
 abbrev pub is_synced : State → Bool
@@ -82,18 +82,19 @@ set_to state h = record { state = state; past = gain h.past (outcome_of h.state)
 abbrev pub with_outcome : Outcome → Held → Held
 with_outcome outcome h = record { state = h.state; past = gain h.past outcome }
 
--- its bytes are synced
+-- a state whose bytes are synced
 abbrev pub synced : State → State
 synced Absent = Absent
 synced (Loose bytes) = Synced bytes
 synced (Synced bytes) = Synced bytes
 
-abbrev pub flushed : Held → Held
-flushed h = record { state = synced h.state; past = h.past }
+-- its bytes are synced
+abbrev pub held_flushed : Held → Held
+held_flushed h = record { state = synced h.state; past = h.past }
 
 -- its past outcomes are over
-abbrev pub settled : Held → Held
-settled h = record { state = h.state; past = [] }
+abbrev pub held_settled : Held → Held
+held_settled h = record { state = h.state; past = [] }
 
 -- how many outcomes removals of the name may still add: once that nothing is there, and that of the state
 abbrev pub need : State → List Outcome → ℕ

@@ -1,14 +1,16 @@
+//! A directory in memory, whose faults are planned and whose crashes are picked by a number.
+
 ghost use Rattle.std.specs.Prelude.{◌≡◌, ◌<◌, ◌↔◌, ℕ, List, Some, None, is_some, IfOk, OnOk, OnErr, IsOk, IsErrOf, Any, IsSome, refl};
 ghost use Rattle.std.specs.Cmp.Lexicographic.{slice_cmp};
 ghost use Rattle.std.specs.Ordering.{nat_cmp};
 ghost use Rattle.std.specs.List.Sorted.{IsStrictlySortedBy};
 ghost use Rattle.disk_model.specs.Disk as model;
-ghost use Rattle.disk_model.specs.Disk.{Cells, Image, is_among, IsImage, restarted};
-ghost use Rattle.disk_model.specs.Faults.{CountsFaults, FailsByPlans, faults_met};
+ghost use Rattle.disk_model.specs.Disk.{is_among, BothRead, HasCrashed};
+ghost use Rattle.disk_model.specs.Faults.{CountsFaults, FailsByPlans, ended};
 ghost use Rattle.disk_memory.specs.Held.{untouched};
-ghost use Rattle.disk_memory.specs.Table.{cells_of, after_write, after_remove, after_rename, after_sync, after_sync_names};
-ghost use Rattle.disk_memory.specs.Crash.{image_picked, started};
-ghost use Rattle.disk_memory.specs.Memory.{entries_of, table_of, plans_of};
+ghost use Rattle.disk_memory.specs.Table.{table_after_write, table_after_remove, table_after_rename, table_after_sync, table_after_sync_names};
+ghost use Rattle.disk_memory.specs.Crash.{held_after_crash};
+ghost use Rattle.disk_memory.specs.Memory.{entries_of, table_of, plans_of, cells_in, faults_in, known_plans};
 
 use crate::plans::Planned;
 use crate::slot::Slot;
@@ -36,7 +38,8 @@ impl MemDir {
     /// An empty directory, of which every image is empty, without a plan.
     pub fn new(alloc: Global) -> Result<MemDir, NoMemory>
         ensures table { IfOk result (λ dir. (q : List ℕ) → table_of dir q ≡ untouched) }
-        ensures plans { IfOk result (λ dir. plans_of dir ≡ record { once = 0; stop = 0; met_once = 0; met_stop = 0 }) }
+        ensures plans { IfOk result (λ dir. plans_of dir
+            ≡ record { once = 0; stop = 0; met_once = 0; met_stop = 0 }) }
     {
         Ok(MemDir {
             alloc,
@@ -47,24 +50,25 @@ impl MemDir {
 }
 
 impl Dir for MemDir {
-    ghost cells = { λ m. cells_of (table_of m) };
+    ghost cells = { cells_in };
 
-    ghost faults = { λ m. faults_met (plans_of m) };
+    ghost faults = { faults_in };
 
-    ghost plans = { λ m. Some (plans_of m) };
+    ghost plans = { known_plans };
 
     fn has(&self, name: &FileName) -> bool {
         table::has(&self.slots, name)
     }
 
     fn list(&mut self) -> Result<Vec<FileName>, DirFault>
-        ensures names { IfOk result (λ names. (q : List ℕ) → is_among names.items q ≡ is_some (cells_of (table_of self.old) q).now) }
+        ensures names { IfOk result (λ names. (q : List ℕ)
+            → is_among names.items q ≡ is_some (cells_in self.old q).now) }
         ensures ascending { IfOk result (λ names. IsStrictlySortedBy (slice_cmp nat_cmp) names.items) }
-        ensures cells { cells_of (table_of self.new) ≡ cells_of (table_of self.old) }
+        ensures cells { cells_in self.new ≡ cells_in self.old }
         ensures not_missing { IsErrOf result DirFault.Missing → ⊥ }
         ensures not_exists { IsErrOf result DirFault.Exists → ⊥ }
-        ensures faults { CountsFaults (faults_met (plans_of self.old)) (faults_met (plans_of self.new)) result }
-        ensures plans { FailsByPlans (Some (plans_of self.old)) (Some (plans_of self.new)) result }
+        ensures faults { CountsFaults (faults_in self.old) (faults_in self.new) result }
+        ensures plans { FailsByPlans (known_plans self.old) (known_plans self.new) result }
         ensures entries { entries_of self.new ≡ entries_of self.old }
     {
         if self.plans.is_met() {
@@ -77,12 +81,12 @@ impl Dir for MemDir {
     }
 
     fn load(&mut self, name: &FileName) -> Result<Bytes, DirFault>
-        ensures bytes { IfOk result (λ bytes. (cells_of (table_of self.old) name.now).now ≡ Some bytes) }
-        ensures cells { cells_of (table_of self.new) ≡ cells_of (table_of self.old) }
-        ensures missing { IsErrOf result DirFault.Missing ↔ ((cells_of (table_of self.old) name.now).now ≡ None) }
+        ensures bytes { IfOk result (λ bytes. (cells_in self.old name.now).now ≡ Some bytes) }
+        ensures cells { cells_in self.new ≡ cells_in self.old }
+        ensures missing { IsErrOf result DirFault.Missing ↔ ((cells_in self.old name.now).now ≡ None) }
         ensures not_exists { IsErrOf result DirFault.Exists → ⊥ }
-        ensures faults { CountsFaults (faults_met (plans_of self.old)) (faults_met (plans_of self.new)) result }
-        ensures plans { FailsByPlans (Some (plans_of self.old)) (Some (plans_of self.new)) result }
+        ensures faults { CountsFaults (faults_in self.old) (faults_in self.new) result }
+        ensures plans { FailsByPlans (known_plans self.old) (known_plans self.new) result }
         ensures entries { entries_of self.new ≡ entries_of self.old }
     {
         if !table::has(&self.slots, name) {
@@ -98,12 +102,12 @@ impl Dir for MemDir {
     }
 
     fn write_new(&mut self, name: &FileName, bytes: Bytes) -> Result<(), DirFault>
-        ensures cells { cells_of (table_of self.new) ≡ model.after_write (cells_of (table_of self.old)) name.now bytes result }
+        ensures cells { cells_in self.new ≡ model.after_write (cells_in self.old) name.now bytes result }
         ensures not_missing { IsErrOf result DirFault.Missing → ⊥ }
-        ensures exists { IsErrOf result DirFault.Exists ↔ IsSome (cells_of (table_of self.old) name.now).now }
-        ensures faults { CountsFaults (faults_met (plans_of self.old)) (faults_met (plans_of self.new)) result }
-        ensures plans { FailsByPlans (Some (plans_of self.old)) (Some (plans_of self.new)) result }
-        ensures table { table_of self.new ≡ after_write (table_of self.old) name.now bytes result }
+        ensures exists { IsErrOf result DirFault.Exists ↔ IsSome (cells_in self.old name.now).now }
+        ensures faults { CountsFaults (faults_in self.old) (faults_in self.new) result }
+        ensures plans { FailsByPlans (known_plans self.old) (known_plans self.new) result }
+        ensures table { table_of self.new ≡ table_after_write (table_of self.old) name.now bytes result }
     {
         if table::has(&self.slots, name) {
             return Err(DirFault::Exists);
@@ -119,13 +123,14 @@ impl Dir for MemDir {
     }
 
     fn sync(&mut self, names: &[FileName]) -> Result<(), DirFault>
-        ensures cells { cells_of (table_of self.new) ≡ model.after_sync (cells_of (table_of self.old)) names.now result }
-        ensures missing { IsErrOf result DirFault.Missing ↔ Any (λ q. (cells_of (table_of self.old) q).now ≡ None) names.now }
+        ensures cells { cells_in self.new ≡ model.after_sync (cells_in self.old) names.now result }
+        ensures missing { IsErrOf result DirFault.Missing
+            ↔ Any (λ q. (cells_in self.old q).now ≡ None) names.now }
         ensures not_exists { IsErrOf result DirFault.Exists → ⊥ }
         ensures memory { IsErrOf result DirFault.Memory → ⊥ }
-        ensures faults { CountsFaults (faults_met (plans_of self.old)) (faults_met (plans_of self.new)) result }
-        ensures plans { FailsByPlans (Some (plans_of self.old)) (Some (plans_of self.new)) result }
-        ensures table { table_of self.new ≡ after_sync (table_of self.old) names.now result }
+        ensures faults { CountsFaults (faults_in self.old) (faults_in self.new) result }
+        ensures plans { FailsByPlans (known_plans self.old) (known_plans self.new) result }
+        ensures table { table_of self.new ≡ table_after_sync (table_of self.old) names.now result }
     {
         if !table::has_all(&self.slots, names) {
             return Err(DirFault::Missing);
@@ -140,11 +145,11 @@ impl Dir for MemDir {
     }
 
     fn sync_names(&mut self) -> Result<(), DirFault>
-        ensures cells { cells_of (table_of self.new) ≡ model.after_sync_names (cells_of (table_of self.old)) result }
+        ensures cells { cells_in self.new ≡ model.after_sync_names (cells_in self.old) result }
         ensures only_failed { OnErr result (IsErrOf result DirFault.Failed) }
-        ensures faults { CountsFaults (faults_met (plans_of self.old)) (faults_met (plans_of self.new)) result }
-        ensures plans { FailsByPlans (Some (plans_of self.old)) (Some (plans_of self.new)) result }
-        ensures table { table_of self.new ≡ after_sync_names (table_of self.old) result }
+        ensures faults { CountsFaults (faults_in self.old) (faults_in self.new) result }
+        ensures plans { FailsByPlans (known_plans self.old) (known_plans self.new) result }
+        ensures table { table_of self.new ≡ table_after_sync_names (table_of self.old) result }
     {
         if self.plans.is_met() {
             self.plans.count();
@@ -156,12 +161,14 @@ impl Dir for MemDir {
     }
 
     fn rename(&mut self, from: &FileName, to: &FileName) -> Result<(), DirFault>
-        ensures cells { cells_of (table_of self.new) ≡ model.after_rename (cells_of (table_of self.old)) from.now to.now result }
-        ensures missing { IsErrOf result DirFault.Missing ↔ ((cells_of (table_of self.old) from.now).now ≡ None) }
-        ensures exists { IsErrOf result DirFault.Exists ↔ (IsSome (cells_of (table_of self.old) from.now).now × IsSome (cells_of (table_of self.old) to.now).now) }
-        ensures faults { CountsFaults (faults_met (plans_of self.old)) (faults_met (plans_of self.new)) result }
-        ensures plans { FailsByPlans (Some (plans_of self.old)) (Some (plans_of self.new)) result }
-        ensures table { table_of self.new ≡ after_rename (table_of self.old) from.now to.now result }
+        ensures cells { cells_in self.new
+            ≡ model.after_rename (cells_in self.old) from.now to.now result }
+        ensures missing { IsErrOf result DirFault.Missing ↔ ((cells_in self.old from.now).now ≡ None) }
+        ensures exists { IsErrOf result DirFault.Exists ↔ BothRead (cells_in self.old) from.now to.now }
+        ensures faults { CountsFaults (faults_in self.old) (faults_in self.new) result }
+        ensures plans { FailsByPlans (known_plans self.old) (known_plans self.new) result }
+        ensures table { table_of self.new
+            ≡ table_after_rename (table_of self.old) from.now to.now result }
     {
         if !table::has(&self.slots, from) {
             return Err(DirFault::Missing);
@@ -180,13 +187,13 @@ impl Dir for MemDir {
     }
 
     fn remove(&mut self, name: &FileName) -> Result<(), DirFault>
-        ensures cells { cells_of (table_of self.new) ≡ model.after_remove (cells_of (table_of self.old)) name.now result }
-        ensures missing { IsErrOf result DirFault.Missing ↔ ((cells_of (table_of self.old) name.now).now ≡ None) }
+        ensures cells { cells_in self.new ≡ model.after_remove (cells_in self.old) name.now result }
+        ensures missing { IsErrOf result DirFault.Missing ↔ ((cells_in self.old name.now).now ≡ None) }
         ensures not_exists { IsErrOf result DirFault.Exists → ⊥ }
         ensures memory { IsErrOf result DirFault.Memory → ⊥ }
-        ensures faults { CountsFaults (faults_met (plans_of self.old)) (faults_met (plans_of self.new)) result }
-        ensures plans { FailsByPlans (Some (plans_of self.old)) (Some (plans_of self.new)) result }
-        ensures table { table_of self.new ≡ after_remove (table_of self.old) name.now result }
+        ensures faults { CountsFaults (faults_in self.old) (faults_in self.new) result }
+        ensures plans { FailsByPlans (known_plans self.old) (known_plans self.new) result }
+        ensures table { table_of self.new ≡ table_after_remove (table_of self.old) name.now result }
     {
         if !table::has(&self.slots, name) {
             return Err(DirFault::Missing);
@@ -216,8 +223,8 @@ impl FaultDir for MemDir {
     fn plan(&mut self, k: u64)
         requires { 0 < k }
         ensures plans { plans_of self.new ≡ record (plans_of self.old) { once = k } }
-        ensures faults { faults_met (plans_of self.new) ≡ faults_met (plans_of self.old) }
-        ensures cells { cells_of (table_of self.new) ≡ cells_of (table_of self.old) }
+        ensures faults { faults_in self.new ≡ faults_in self.old }
+        ensures cells { cells_in self.new ≡ cells_in self.old }
         ensures entries { entries_of self.new ≡ entries_of self.old }
     {
         self.plans.set_once(k);
@@ -226,8 +233,8 @@ impl FaultDir for MemDir {
     fn stop_at(&mut self, k: u64)
         requires { 0 < k }
         ensures plans { plans_of self.new ≡ record (plans_of self.old) { stop = k } }
-        ensures faults { faults_met (plans_of self.new) ≡ faults_met (plans_of self.old) }
-        ensures cells { cells_of (table_of self.new) ≡ cells_of (table_of self.old) }
+        ensures faults { faults_in self.new ≡ faults_in self.old }
+        ensures cells { cells_in self.new ≡ cells_in self.old }
         ensures entries { entries_of self.new ≡ entries_of self.old }
     {
         self.plans.set_stop(k);
@@ -239,12 +246,14 @@ impl FaultDir for MemDir {
 
     /// This takes no memory.
     fn crash(&mut self, pick: u64) -> Result<(), NoMemory>
-        ensures image { OnOk result ((image : Image) × IsImage (cells_of (table_of self.old)) image × (cells_of (table_of self.new) ≡ restarted image)) }
-        ensures plans { OnOk result (plans_of self.new ≡ record (plans_of self.old) { once = 0; stop = 0 }) }
-        ensures faults { faults_met (plans_of self.new) ≡ faults_met (plans_of self.old) }
-        ensures refused { OnErr result ((cells_of (table_of self.new) ≡ cells_of (table_of self.old)) × (plans_of self.new ≡ plans_of self.old)) }
+        ensures image { OnOk result (HasCrashed (cells_in self.old) (cells_in self.new)) }
+        ensures plans { OnOk result (plans_of self.new ≡ ended (plans_of self.old)) }
+        ensures faults { faults_in self.new ≡ faults_in self.old }
+        ensures refused { OnErr result (cells_in self.new ≡ cells_in self.old) }
+        ensures refused_plans { OnErr result (plans_of self.new ≡ plans_of self.old) }
         ensures always { IsOk result }
-        ensures picked { (q : List ℕ) → table_of self.new q ≡ started (image_picked pick (entries_of self.old) q) }
+        ensures picked { (q : List ℕ) → table_of self.new q
+            ≡ held_after_crash pick (entries_of self.old) q }
     {
         table::crash_all(&mut self.slots, pick);
         self.plans.set_once(0);

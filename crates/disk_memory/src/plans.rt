@@ -1,3 +1,5 @@
+//! The faults that are planned for a disk, and how many were met.
+
 ghost use Rattle.std.specs.Prelude.{◌≡◌};
 ghost use Rattle.disk_model.specs.Faults.{is_met, counted, one_if, next_stop, faults_met};
 

@@ -1,8 +1,10 @@
+//! One name of the disk: its state and its past outcomes.
+
 ghost use Rattle.std.specs.Prelude.{[], ◌≡◌, ◌+◌, ◌<◌, ◌≤◌, true, false, None, OnOk, OnErr, IfOk, IsOk, if◌then◌else◌, vec_len, vec_capacity, is_some, slice_index_or};
-ghost use Rattle.disk_memory.specs.Held.{untouched, content_of, outcome_of, ends_with, gain, set_to, with_outcome, flushed, settled};
+ghost use Rattle.disk_memory.specs.Held.{untouched, content_of, outcome_of, ends_with, gain, set_to, with_outcome, held_flushed, held_settled};
 ghost use Rattle.disk_memory.specs.Crash.{picked, is_picked, started};
 
-use crate::state::{Outcome, State, place_of};
+use crate::state::{Outcome, State, place_picked};
 use nrt_base::NoMemory;
 use std::alloc::Global;
 use std::marker::Model;
@@ -41,7 +43,8 @@ fn gain(past: &mut Vec<Outcome>, outcome: Outcome) -> Result<(), NoMemory>
     ensures err { OnErr result (past.new.items ≡ past.old.items) }
     ensures room { vec_len past.old < vec_capacity past.old → IsOk result }
     ensures there { ends_with past.old.items outcome ≡ true → IsOk result }
-    ensures len { vec_len past.new ≤ vec_len past.old + (if ends_with past.old.items outcome then 0 else 1) }
+    ensures len { vec_len past.new
+        ≤ vec_len past.old + (if ends_with past.old.items outcome then 0 else 1) }
     ensures capacity { vec_capacity past.old ≤ vec_capacity past.new }
 {
     if ends_with(past, &outcome) {
@@ -123,7 +126,7 @@ impl Slot {
 
     /// The bytes are on the disk.
     pub fn flush(&mut self)
-        ensures { self.new ≡ flushed self.old }
+        ensures { self.new ≡ held_flushed self.old }
     {
         self.state = match mem::replace(&mut self.state, State::Absent) {
             State::Absent => State::Absent,
@@ -134,7 +137,7 @@ impl Slot {
 
     /// The past is over. The room stays.
     pub fn settle(&mut self)
-        ensures { self.new ≡ settled self.old }
+        ensures { self.new ≡ held_settled self.old }
     {
         self.past.clear();
     }
@@ -151,7 +154,7 @@ impl Slot {
         ensures { self.new ≡ started (picked pick number self.old) }
     {
         let state = mem::replace(&mut self.state, State::Absent);
-        let place = place_of(pick, number, self.past.len() as u64 + 1);
+        let place = place_picked(pick, number, self.past.len() as u64 + 1);
         let outcome = take_outcome(&mut self.past, place as usize, state.into_outcome());
         self.past.clear();
         self.state = outcome.into_state(pick, number);

@@ -1,6 +1,8 @@
+//! The states of a name, the outcomes of a crash, and how a number picks among them.
+
 ghost use Rattle.std.specs.Prelude.{◌≡◌, ◌<◌, ◌^◌, [], true, false, IfOk, if◌then◌else◌, is_some};
 ghost use Rattle.disk_memory.specs.Held.{content_of, outcome_of, is_same};
-ghost use Rattle.disk_memory.specs.Crash.{place_of, length_left, content_left, started, drawn_below, next_number};
+ghost use Rattle.disk_memory.specs.Crash.{place_picked, length_left, content_left, started, drawn_below, next_number};
 
 use bytes::Bytes;
 use nrt_base::NoMemory;
@@ -93,9 +95,9 @@ fn drawn_below(bound: u64, number: u64) -> u64
     (number >> 33) % bound
 }
 
-pub fn place_of(pick: u64, number: u64, count: u64) -> u64
+pub fn place_picked(pick: u64, number: u64, count: u64) -> u64
     requires { 0 < count }
-    ensures { result ≡ place_of pick number count }
+    ensures { result ≡ place_picked pick number count }
 {
     match pick {
         0 => count - 1,

@@ -1,11 +1,11 @@
-// The names of the disk, each with its slot. Each function makes one change of what is held under the names.
+//! The names of the disk, each with its slot. Each function makes one change of what is held under the names.
+
 ghost use Rattle.std.specs.Prelude.{◌≡◌, true, Some, None, ◌↔◌, ◌⊎◌, OnOk, OnErr, IfOk, IsErrOf, Err, is_some, All, Any, ℕ, List, if◌then◌else◌};
 ghost use Rattle.std.specs.Bool.{OnTrue, OnFalse};
 ghost use Rattle.disk_model.specs.Disk.{put, is_among};
-ghost use Rattle.disk_memory.specs.Held.{untouched, content_of, outcome_of, set_to, with_outcome, flushed, settled};
-ghost use Rattle.disk_memory.specs.Held.{is_there};
-ghost use Rattle.disk_memory.specs.Table.{held_in, names_in};
-ghost use Rattle.disk_memory.specs.Crash.{started, left_at, number_at, image_picked};
+ghost use Rattle.disk_memory.specs.Held.{untouched, has_file, outcome_of, set_to, with_outcome, held_flushed, held_settled};
+ghost use Rattle.disk_memory.specs.Table.{held_in, names_in, reads_in, HasFile, ChangesAt, IsUnchanged, renamed_table, half_renamed_table, flushed_table, settled_table};
+ghost use Rattle.disk_memory.specs.Crash.{started, left_at, number_at, held_after_crash};
 ghost use Rattle.std.specs.BTreeMap.{get_by, keys};
 ghost use Rattle.std.specs.List.Sorted.{IsStrictlySortedBy};
 ghost use Rattle.std.specs.Cmp.Lexicographic.{slice_cmp};
@@ -22,7 +22,7 @@ use std::collections::BTreeMap;
 
 /// Whether a file of this name exists.
 pub fn has(slots: &BTreeMap<FileName, Slot>, name: &FileName) -> bool
-    ensures { result ≡ is_some (content_of (held_in slots.now.entries name.now).state) }
+    ensures { result ≡ is_some (reads_in slots.now.entries name.now) }
 {
     match slots.get(name) {
         Some(slot) => !slot.state().is_absent(),
@@ -32,8 +32,8 @@ pub fn has(slots: &BTreeMap<FileName, Slot>, name: &FileName) -> bool
 
 /// Removes a file that is there.
 pub fn remove(slots: &mut BTreeMap<FileName, Slot>, name: &FileName)
-    requires { is_some (content_of (held_in slots.old.entries name.now).state) ≡ true }
-    ensures { held_in slots.new.entries ≡ put (held_in slots.old.entries) name.now (set_to State.Absent (held_in slots.old.entries name.now)) }
+    requires { HasFile slots.old.entries name.now }
+    ensures { ChangesAt slots.old.entries slots.new.entries name.now (set_to State.Absent) }
 {
     if let Some(slot) = slots.get_mut(name) {
         slot.remove();
@@ -42,8 +42,8 @@ pub fn remove(slots: &mut BTreeMap<FileName, Slot>, name: &FileName)
 
 /// Fails to remove a file that is there.
 pub fn half_remove(slots: &mut BTreeMap<FileName, Slot>, name: &FileName)
-    requires { is_some (content_of (held_in slots.old.entries name.now).state) ≡ true }
-    ensures { held_in slots.new.entries ≡ put (held_in slots.old.entries) name.now (with_outcome Outcome.Gone (held_in slots.old.entries name.now)) }
+    requires { HasFile slots.old.entries name.now }
+    ensures { ChangesAt slots.old.entries slots.new.entries name.now (with_outcome Outcome.Gone) }
 {
     if let Some(slot) = slots.get_mut(name) {
         slot.half_remove();
@@ -57,9 +57,9 @@ fn set_in_slot(
     state: State,
 ) -> Result<(), NoMemory>
     requires there { is_some (get_by (slice_cmp nat_cmp name.now) slots.old) ≡ true }
-    requires absent { content_of (held_in slots.old.entries name.now).state ≡ None }
-    ensures ok { OnOk result (held_in slots.new.entries ≡ put (held_in slots.old.entries) name.now (set_to state (held_in slots.old.entries name.now))) }
-    ensures err { OnErr result (held_in slots.new.entries ≡ held_in slots.old.entries) }
+    requires absent { reads_in slots.old.entries name.now ≡ None }
+    ensures ok { OnOk result (ChangesAt slots.old.entries slots.new.entries name.now (set_to state)) }
+    ensures err { OnErr result (IsUnchanged slots.old.entries slots.new.entries) }
 {
     match slots.get_mut(name) {
         Some(slot) => {
@@ -82,7 +82,7 @@ fn set_slot(alloc: Global, state: State) -> Result<Slot, NoMemory>
 // Gives a name this slot.
 fn insert(slots: &mut BTreeMap<FileName, Slot>, name: FileName, slot: Slot) -> Result<(), NoMemory>
     ensures ok { OnOk result (held_in slots.new.entries ≡ put (held_in slots.old.entries) name slot) }
-    ensures err { OnErr result (held_in slots.new.entries ≡ held_in slots.old.entries) }
+    ensures err { OnErr result (IsUnchanged slots.old.entries slots.new.entries) }
 {
     slots.insert(name, slot)?;
     Ok(())
@@ -95,9 +95,9 @@ pub fn set(
     name: &FileName,
     state: State,
 ) -> Result<(), NoMemory>
-    requires { content_of (held_in slots.old.entries name.now).state ≡ None }
-    ensures ok { OnOk result (held_in slots.new.entries ≡ put (held_in slots.old.entries) name.now (set_to state (held_in slots.old.entries name.now))) }
-    ensures err { OnErr result (held_in slots.new.entries ≡ held_in slots.old.entries) }
+    requires { reads_in slots.old.entries name.now ≡ None }
+    ensures ok { OnOk result (ChangesAt slots.old.entries slots.new.entries name.now (set_to state)) }
+    ensures err { OnErr result (IsUnchanged slots.old.entries slots.new.entries) }
 {
     if slots.contains_key(name) {
         return set_in_slot(slots, name, state);
@@ -113,9 +113,9 @@ fn half_set_in_slot(
     state: State,
 ) -> Result<(), NoMemory>
     requires there { is_some (get_by (slice_cmp nat_cmp name.now) slots.old) ≡ true }
-    requires absent { content_of (held_in slots.old.entries name.now).state ≡ None }
-    ensures ok { OnOk result (held_in slots.new.entries ≡ put (held_in slots.old.entries) name.now (with_outcome (outcome_of state) (held_in slots.old.entries name.now))) }
-    ensures err { OnErr result (held_in slots.new.entries ≡ held_in slots.old.entries) }
+    requires absent { reads_in slots.old.entries name.now ≡ None }
+    ensures ok { OnOk result (ChangesAt slots.old.entries slots.new.entries name.now (with_outcome (outcome_of state))) }
+    ensures err { OnErr result (IsUnchanged slots.old.entries slots.new.entries) }
 {
     match slots.get_mut(name) {
         Some(slot) => {
@@ -142,9 +142,9 @@ pub fn half_set(
     name: &FileName,
     state: State,
 ) -> Result<(), NoMemory>
-    requires { content_of (held_in slots.old.entries name.now).state ≡ None }
-    ensures ok { OnOk result (held_in slots.new.entries ≡ put (held_in slots.old.entries) name.now (with_outcome (outcome_of state) (held_in slots.old.entries name.now))) }
-    ensures err { OnErr result (held_in slots.new.entries ≡ held_in slots.old.entries) }
+    requires { reads_in slots.old.entries name.now ≡ None }
+    ensures ok { OnOk result (ChangesAt slots.old.entries slots.new.entries name.now (with_outcome (outcome_of state))) }
+    ensures err { OnErr result (IsUnchanged slots.old.entries slots.new.entries) }
 {
     if slots.contains_key(name) {
         return half_set_in_slot(slots, name, state);
@@ -170,11 +170,11 @@ pub fn rename(
     from: &FileName,
     to: &FileName,
 ) -> Result<(), NoMemory>
-    requires there { is_some (content_of (held_in slots.old.entries from.now).state) ≡ true }
-    requires free { content_of (held_in slots.old.entries to.now).state ≡ None }
-    ensures ok { OnOk result (let table = held_in slots.old.entries in
-        held_in slots.new.entries ≡ put (put table to.now (set_to (table from.now).state (table to.now))) from.now (set_to State.Absent (table from.now))) }
-    ensures err { OnErr result (held_in slots.new.entries ≡ held_in slots.old.entries) }
+    requires there { HasFile slots.old.entries from.now }
+    requires free { reads_in slots.old.entries to.now ≡ None }
+    ensures ok { OnOk result (held_in slots.new.entries
+        ≡ renamed_table (held_in slots.old.entries) from.now to.now) }
+    ensures err { OnErr result (IsUnchanged slots.old.entries slots.new.entries) }
 {
     let state = state_of(slots, from)?;
     set(alloc, slots, to, state)?;
@@ -189,11 +189,11 @@ pub fn half_rename(
     from: &FileName,
     to: &FileName,
 ) -> Result<(), NoMemory>
-    requires there { is_some (content_of (held_in slots.old.entries from.now).state) ≡ true }
-    requires free { content_of (held_in slots.old.entries to.now).state ≡ None }
-    ensures ok { OnOk result (let table = held_in slots.old.entries in
-        held_in slots.new.entries ≡ put (put table to.now (with_outcome (outcome_of (table from.now).state) (table to.now))) from.now (with_outcome Outcome.Gone (table from.now))) }
-    ensures err { OnErr result (held_in slots.new.entries ≡ held_in slots.old.entries) }
+    requires there { HasFile slots.old.entries from.now }
+    requires free { reads_in slots.old.entries to.now ≡ None }
+    ensures ok { OnOk result (held_in slots.new.entries
+        ≡ half_renamed_table (held_in slots.old.entries) from.now to.now) }
+    ensures err { OnErr result (IsUnchanged slots.old.entries slots.new.entries) }
 {
     let state = state_of(slots, from)?;
     half_set(alloc, slots, to, state)?;
@@ -203,9 +203,10 @@ pub fn half_rename(
 
 /// The bytes of a file, shared.
 pub fn load(slots: &BTreeMap<FileName, Slot>, name: &FileName) -> Result<Bytes, DirFault>
-    ensures bytes { IfOk result (λ bytes. content_of (held_in slots.now.entries name.now).state ≡ Some bytes) }
-    ensures missing { IsErrOf result DirFault.Missing ↔ (content_of (held_in slots.now.entries name.now).state ≡ None) }
-    ensures others { OnErr result ((result ≡ Err DirFault.Missing) ⊎ (result ≡ Err DirFault.Memory)) }
+    ensures bytes { IfOk result (λ bytes. reads_in slots.now.entries name.now ≡ Some bytes) }
+    ensures missing { IsErrOf result DirFault.Missing ↔ (reads_in slots.now.entries name.now ≡ None) }
+    ensures others { OnErr result
+        ((result ≡ Err DirFault.Missing) ⊎ (result ≡ Err DirFault.Memory)) }
 {
     let Some(slot) = slots.get(name) else {
         return Err(DirFault::Missing);
@@ -219,8 +220,8 @@ pub fn load(slots: &BTreeMap<FileName, Slot>, name: &FileName) -> Result<Bytes, 
 
 /// Whether each of the names has a file.
 pub fn has_all(slots: &BTreeMap<FileName, Slot>, names: &[FileName]) -> bool
-    ensures yes { OnTrue result (All (λ q. is_some (content_of (held_in slots.now.entries q).state) ≡ true) names.now) }
-    ensures no { OnFalse result (Any (λ q. content_of (held_in slots.now.entries q).state ≡ None) names.now) }
+    ensures yes { OnTrue result (All (λ q. HasFile slots.now.entries q) names.now) }
+    ensures no { OnFalse result (Any (λ q. reads_in slots.now.entries q ≡ None) names.now) }
 {
     for name in names {
         if !has(slots, name) {
@@ -232,8 +233,8 @@ pub fn has_all(slots: &BTreeMap<FileName, Slot>, names: &[FileName]) -> bool
 
 // Marks a file as synced.
 fn flush(slots: &mut BTreeMap<FileName, Slot>, name: &FileName)
-    requires { is_some (content_of (held_in slots.old.entries name.now).state) ≡ true }
-    ensures { held_in slots.new.entries ≡ put (held_in slots.old.entries) name.now (flushed (held_in slots.old.entries name.now)) }
+    requires { HasFile slots.old.entries name.now }
+    ensures { ChangesAt slots.old.entries slots.new.entries name.now held_flushed }
 {
     if let Some(slot) = slots.get_mut(name) {
         slot.flush();
@@ -242,8 +243,9 @@ fn flush(slots: &mut BTreeMap<FileName, Slot>, name: &FileName)
 
 /// Marks files as synced.
 pub fn flush_all(slots: &mut BTreeMap<FileName, Slot>, names: &[FileName])
-    requires { All (λ q. is_some (content_of (held_in slots.old.entries q).state) ≡ true) names.now }
-    ensures { (q : List ℕ) → held_in slots.new.entries q ≡ (if is_among names.now q then flushed (held_in slots.old.entries q) else held_in slots.old.entries q) }
+    requires { All (λ q. HasFile slots.old.entries q) names.now }
+    ensures { (q : List ℕ) → held_in slots.new.entries q
+        ≡ flushed_table (held_in slots.old.entries) names.now q }
 {
     for name in names {
         flush(slots, name);
@@ -266,12 +268,13 @@ pub fn names(alloc: Global, slots: &BTreeMap<FileName, Slot>) -> Result<Vec<File
 
 /// Forgets the past outcomes of every name, and the names under which no file exists.
 pub fn settle_all(slots: &mut BTreeMap<FileName, Slot>)
-    ensures { (q : List ℕ) → held_in slots.new.entries q ≡ settled (held_in slots.old.entries q) }
+    ensures { (q : List ℕ) → held_in slots.new.entries q
+        ≡ settled_table (held_in slots.old.entries) q }
 {
     slots.retain(
         |_name: &FileName, slot: &mut Slot| -> bool
-            ensures slot { slot.new ≡ settled slot.old }
-            ensures there { result ≡ is_there slot.new }
+            ensures slot { slot.new ≡ held_settled slot.old }
+            ensures there { result ≡ has_file slot.new }
         {
             slot.settle();
             !slot.state().is_absent()
@@ -294,13 +297,13 @@ fn crash_slot(slot: &mut Slot, pick: u64, number: u64) -> u64
 
 /// A crash leaves the image that the pick says.
 pub fn crash_all(slots: &mut BTreeMap<FileName, Slot>, pick: u64)
-    ensures { (q : List ℕ) → held_in slots.new.entries q ≡ started (image_picked pick slots.old.entries q) }
+    ensures { (q : List ℕ) → held_in slots.new.entries q ≡ held_after_crash pick slots.old.entries q }
 {
     let mut number = pick;
     slots.retain(
         move |_name: &FileName, slot: &mut Slot| -> bool
             ensures slot { slot.new ≡ started (left_at pick number.entry slot.old) }
-            ensures there { result ≡ is_there slot.new }
+            ensures there { result ≡ has_file slot.new }
             ensures number { number.exit ≡ number_at number.entry slot.old }
         {
             number = crash_slot(slot, pick, number);

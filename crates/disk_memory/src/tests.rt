@@ -1,3 +1,5 @@
+//! What crashes leave by their picks, what plans count, and two callers.
+
 use crate::MemDir;
 use bytes::Bytes;
 use disk_model::{Dir, DirFault, FaultDir};
@@ -6,7 +8,6 @@ use std::alloc::Global;
 use std::test::Fail;
 
 mod callers;
-mod model;
 mod random;
 
 use callers::{remove_all, save_whole};

@@ -1,10 +1,9 @@
 -- What callers of a directory cite.
-use Rattle.std.proofs.Common.{◌≡◌, ◌≢◌, ◌⊎◌, Bool, true, false, ◌||◌, Some, None, List, ℕ, refl, sym, ap, subst, ◌∙◌, cond, true≢false, inl, inr, is_some, Result, Ok, Err}
-use Rattle.std.proofs.lemmas.Bool.{or_cases}
+use Rattle.std.proofs.Common.{◌≡◌, ◌≢◌, ◌⊎◌, Bool, true, false, ◌||◌, Some, None, List, ℕ, refl, sym, ap, ◌∙◌, cond, true≢false, inl, inr, Result, Ok, Err}
 use Rattle.std.proofs.Math.Bool.{or-true}
 use Rattle.std.proofs.lemmas.Cmp.{nat_list_eq_equiv}
 use Rattle.std.proofs.lemmas.Slice.Eq.{bytes_eq-Decides}
-use Rattle.disk_model.specs.Disk.{Name, Content, Cell, Cells, same, is_content, left_by, may_leave, put, settled, flushed, replaced, removed, half_replaced, half_removed, after_rename, IsKept, IsImage}
+use Rattle.disk_model.specs.Disk.{Name, Content, Cell, Cells, same, left_by, may_leave, put, settled, replaced, removed, half_replaced, half_removed, after_rename, IsKept, IsImage}
 use Rattle.disk_model.specs.declared.dir.DirFault.{DirFault}
 use Rattle.disk_model.specs.declared.dir.DirFault.TheVariants.{Memory, Missing, Exists, Failed}
 

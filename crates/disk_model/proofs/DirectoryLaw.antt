@@ -1,9 +1,10 @@
 -- The law of a directory: a call leaves every name that it does not name as it was, and of the outcomes only `sync_names` takes some away.
-use Rattle.std.proofs.Common.{◌≡◌, ◌≢◌, Bool, true, false, ◌||◌, cond, is_some, is_none, Result, Ok, Err, List, ℕ, refl, sym, ap, ◌∙◌, true≢false}
+use Rattle.std.proofs.Common.{◌≡◌, ◌≢◌, Bool, true, false, cond, is_some, is_none, Result, Ok, Err, List, ℕ, refl, sym, ap, ◌∙◌}
+use Rattle.std.proofs.lemmas.Bool.{or_left}
 use Rattle.disk_model.specs.declared.dir.DirFault.{DirFault}
 use Rattle.disk_model.specs.declared.dir.DirFault.TheVariants.{Memory, Missing, Exists, Failed}
-use Rattle.disk_model.specs.Disk.{Name, Content, Cell, Cells, same, is_among, put, may_leave, left_by, written, half_written, removed, half_removed, replaced, half_replaced, flushed, settled, after_write, after_remove, after_rename, after_sync, after_sync_names, IsKept}
-use Rattle.disk_model.proofs.CellLemmas.{same_true, put_apart, rename_others, settled_kept}
+use Rattle.disk_model.specs.Disk.{Name, Content, Cell, Cells, same, is_among, put, left_by, written, half_written, removed, half_removed, replaced, half_replaced, flushed, after_write, after_remove, after_rename, after_sync, after_sync_names, IsKept}
+use Rattle.disk_model.proofs.CellLemmas.{same_true, put_apart, settled_kept}
 
 -- ---- names that a call does not name
 module _ {T : Type 0} where
@@ -35,10 +36,6 @@ module _ {T : Type 0} where
 abbrev pub KeepsPast : Cell → Cell → Type 0
 KeepsPast old new = (c : Content) → old.past c ≡ true → new.past c ≡ true
 
-more : (past other : Bool) → past ≡ true → (past || other) ≡ true
-more true other h = refl
-more false other h = absurd (true≢false (sym h))
-
 one : (t : Bool) (here old : Cell) → (t ≡ true → KeepsPast old here) → KeepsPast old (cond t here old)
 one true here old h = h refl
 one false here old h = λ c past. past
@@ -48,15 +45,15 @@ at_name cells name here kept q = one (same name q) here (cells q) (λ e c past. 
 
 module _ {T : Type 0} where
   pub write_keeps_past : (cells : Cells) (name : Name) (bytes : List ℕ) (r : Result T DirFault) (q : Name) → KeepsPast (cells q) (after_write cells name bytes r q)
-  write_keeps_past cells name bytes (Ok x) q = at_name cells name (written bytes (cells name)) (λ c. more ((cells name).past c) (left_by (cells name).now (cells name).synced c)) q
-  write_keeps_past cells name bytes (Err Failed) q = at_name cells name (half_written (cells name)) (λ c. more ((cells name).past c) (is_some c)) q
+  write_keeps_past cells name bytes (Ok x) q = at_name cells name (written bytes (cells name)) (λ c. or_left ((cells name).past c) (left_by (cells name).now (cells name).synced c)) q
+  write_keeps_past cells name bytes (Err Failed) q = at_name cells name (half_written (cells name)) (λ c. or_left ((cells name).past c) (is_some c)) q
   write_keeps_past cells name bytes (Err Memory) q = λ c past. past
   write_keeps_past cells name bytes (Err Missing) q = λ c past. past
   write_keeps_past cells name bytes (Err Exists) q = λ c past. past
 
   pub remove_keeps_past : (cells : Cells) (name : Name) (r : Result T DirFault) (q : Name) → KeepsPast (cells q) (after_remove cells name r q)
-  remove_keeps_past cells name (Ok x) q = at_name cells name (removed (cells name)) (λ c. more ((cells name).past c) (left_by (cells name).now (cells name).synced c)) q
-  remove_keeps_past cells name (Err Failed) q = at_name cells name (half_removed (cells name)) (λ c. more ((cells name).past c) (is_none c)) q
+  remove_keeps_past cells name (Ok x) q = at_name cells name (removed (cells name)) (λ c. or_left ((cells name).past c) (left_by (cells name).now (cells name).synced c)) q
+  remove_keeps_past cells name (Err Failed) q = at_name cells name (half_removed (cells name)) (λ c. or_left ((cells name).past c) (is_none c)) q
   remove_keeps_past cells name (Err Memory) q = λ c past. past
   remove_keeps_past cells name (Err Missing) q = λ c past. past
   remove_keeps_past cells name (Err Exists) q = λ c past. past
@@ -64,12 +61,12 @@ module _ {T : Type 0} where
   pub rename_keeps_past : (cells : Cells) (from to : Name) (r : Result T DirFault) (q : Name) → from ≢ to → KeepsPast (cells q) (after_rename cells from to r q)
   rename_keeps_past cells from to (Ok x) q apart = λ c past.
       at_name (put cells to (replaced (cells from) (cells to))) from (removed (cells from))
-      (λ o h. more ((cells from).past o) (left_by (cells from).now (cells from).synced o) (sym (ap (λ (k : Cell). k.past o) (put_apart cells to (replaced (cells from) (cells to)) from (λ e. apart (sym e)))) ∙ h)) q c
-      (at_name cells to (replaced (cells from) (cells to)) (λ o. more ((cells to).past o) (left_by (cells to).now (cells to).synced o)) q c past)
+      (λ o h. or_left ((cells from).past o) (left_by (cells from).now (cells from).synced o) (sym (ap (λ (k : Cell). k.past o) (put_apart cells to (replaced (cells from) (cells to)) from (λ e. apart (sym e)))) ∙ h)) q c
+      (at_name cells to (replaced (cells from) (cells to)) (λ o. or_left ((cells to).past o) (left_by (cells to).now (cells to).synced o)) q c past)
   rename_keeps_past cells from to (Err Failed) q apart = λ c past.
       at_name (put cells to (half_replaced (cells from) (cells to))) from (half_removed (cells from))
-      (λ o h. more ((cells from).past o) (is_none o) (sym (ap (λ (k : Cell). k.past o) (put_apart cells to (half_replaced (cells from) (cells to)) from (λ e. apart (sym e)))) ∙ h)) q c
-      (at_name cells to (half_replaced (cells from) (cells to)) (λ o. more ((cells to).past o) (left_by (cells from).now (cells from).synced o)) q c past)
+      (λ o h. or_left ((cells from).past o) (is_none o) (sym (ap (λ (k : Cell). k.past o) (put_apart cells to (half_replaced (cells from) (cells to)) from (λ e. apart (sym e)))) ∙ h)) q c
+      (at_name cells to (half_replaced (cells from) (cells to)) (λ o. or_left ((cells to).past o) (left_by (cells from).now (cells from).synced o)) q c past)
   rename_keeps_past cells from to (Err Memory) q apart = λ c past. past
   rename_keeps_past cells from to (Err Missing) q apart = λ c past. past
   rename_keeps_past cells from to (Err Exists) q apart = λ c past. past

@@ -1,9 +1,9 @@
 -- A directory, as what reads now under each name and what a crash may leave there.
-use Rattle.std.specs.Prelude.{◌≡◌, ℕ, Bool, true, false, ◌||◌, if◌then◌else◌, nat_eq, List, Option, Some, None, is_some, is_none, Result, Ok, Err}
+use Rattle.std.specs.Prelude.{◌≡◌, ℕ, Bool, true, false, ◌||◌, not, if◌then◌else◌, nat_eq, List, find, Option, Some, None, IsSome, is_some, is_none, Result, Ok, Err}
 use Rattle.std.specs.Cmp.Lexicographic.{pointwise}
 use Rattle.std.specs.List.{list_any}
 use Rattle.disk_model.specs.declared.dir.DirFault.{DirFault}
-use Rattle.disk_model.specs.declared.dir.DirFault.TheVariants.{Memory, Missing, Exists, Failed}
+use Rattle.disk_model.specs.declared.dir.DirFault.TheVariants.{Failed}
 
 -- the bytes of a file's name
 abbrev pub Name : Type 0
@@ -86,34 +86,56 @@ settled c = record { now = c.now; synced = c.synced; past = λ _. false }
 
 -- ---- what each call does to the directory, by its answer
 module _ {T : Type 0} where
-  -- a call that answers neither Ok nor Failed leaves all as before
+  -- after a write, as after each call: an answer that is neither Ok nor Failed leaves all as before
   abbrev pub after_write : Cells → Name → List ℕ → Result T DirFault → Cells
   after_write cells name bytes (Ok _) = put cells name (written bytes (cells name))
   after_write cells name bytes (Err Failed) = put cells name (half_written (cells name))
   after_write cells name bytes (Err e) = cells
 
+  -- after a removal
   abbrev pub after_remove : Cells → Name → Result T DirFault → Cells
   after_remove cells name (Ok _) = put cells name (removed (cells name))
   after_remove cells name (Err Failed) = put cells name (half_removed (cells name))
   after_remove cells name (Err e) = cells
 
+  -- after a rename
   abbrev pub after_rename : Cells → Name → Name → Result T DirFault → Cells
   after_rename cells from to (Ok _) = put (put cells to (replaced (cells from) (cells to))) from (removed (cells from))
   after_rename cells from to (Err Failed) = put (put cells to (half_replaced (cells from) (cells to))) from (half_removed (cells from))
   after_rename cells from to (Err e) = cells
 
+  -- after a sync of these names: one that fails syncs none
   abbrev pub after_sync : Cells → List Name → Result T DirFault → Cells
-  after_sync cells names (Ok _) = λ q. if list_any (λ x. same x q) names then flushed (cells q) else cells q
+  after_sync cells names (Ok _) = λ q. if is_among names q then flushed (cells q) else cells q
   after_sync cells names (Err e) = cells
 
+  -- after a sync of the names: one that fails takes no past outcome away
   abbrev pub after_sync_names : Cells → Result T DirFault → Cells
   after_sync_names cells (Ok _) = λ q. settled (cells q)
   after_sync_names cells (Err e) = cells
 
--- ---- crashes
--- what stands under each name after a crash
+-- ---- what reads
+-- what stands under each name, as a crash leaves it
 abbrev pub Image : Type 0
 Image = Name → Content
+
+-- what reads now under each name
+abbrev pub reads_of : Cells → Image
+reads_of cells q = (cells q).now
+
+-- the test whether something stands under a name
+abbrev pub is_there : Image → Name → Bool
+is_there image q = is_some (image q)
+
+-- the first of these names under which nothing stands
+abbrev pub first_missing : Image → List Name → Option Name
+first_missing image names = find (λ q. not (is_there image q)) names
+
+-- something reads under both names
+abbrev pub BothRead : Cells → Name → Name → Type 0
+BothRead cells a b = IsSome (cells a).now × IsSome (cells b).now
+
+-- ---- crashes
 
 -- an image: each name, chosen by itself, has a past outcome or one of the current state
 abbrev pub IsImage : Cells → Image → Type 0
@@ -122,6 +144,10 @@ IsImage cells image = (q : Name) → may_leave (cells q) (image q) ≡ true
 -- the directory that starts from an image: all is synced, and there are no past outcomes
 abbrev pub restarted : Image → Cells
 restarted image q = record { now = image q; synced = is_some (image q); past = λ _. false }
+
+-- the directory starts again from one of its images
+abbrev pub HasCrashed : Cells → Cells → Type 0
+HasCrashed before after = (image : Image) × IsImage before image × (after ≡ restarted image)
 
 -- a cell over calls that do not name it: it reads the same, and a crash leaves nothing more
 pub record IsKept (old new : Cell) : Type 0 where

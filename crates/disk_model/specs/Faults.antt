@@ -9,12 +9,23 @@ pub record CountsFaults {T : Type 0} (before now : ℕ) (result : Result T DirFa
   pub later : before ≤ now
   pub failed : IsErrOf result Failed → Rose before now
 
+-- out of memory, or a fault of the disk
+abbrev pub IsMemoryOrFailed : DirFault → Type 0
+IsMemoryOrFailed Memory = Unit {0}
+IsMemoryOrFailed Failed = Unit {0}
+IsMemoryOrFailed Missing = ⊥
+IsMemoryOrFailed Exists = ⊥
+
 -- the faults planned: the call that fails once and the first of those that fail from then on, counted from 1, 0 for none; and how many faults each kind has met
 pub record Plans : Type 0 where
   pub once : ℕ
   pub stop : ℕ
   pub met_once : ℕ
   pub met_stop : ℕ
+
+-- the plans after a crash: none is left, and the faults that were met stay counted
+abbrev pub ended : Plans → Plans
+ended p = record p { once = 0; stop = 0 }
 
 -- how many faults the plans have met
 abbrev pub faults_met : Plans → ℕ

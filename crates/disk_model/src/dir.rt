@@ -1,9 +1,11 @@
+//! A directory of files, and one whose faults are planned.
+
 ghost use Rattle.std.specs.Prelude.{◌≡◌, ◌<◌, ◌≤◌, ◌↔◌, ℕ, List, Some, None, is_some, IfOk, OnOk, OnErr, IsErrOf, Any, IsSome, Option};
 ghost use Rattle.std.specs.Cmp.Lexicographic.{slice_cmp};
 ghost use Rattle.std.specs.Ordering.{nat_cmp};
 ghost use Rattle.std.specs.List.Sorted.{IsStrictlySortedBy};
-ghost use Rattle.disk_model.specs.Disk.{Cell, Cells, Content, Image, is_among, after_write, after_remove, after_rename, after_sync, after_sync_names, IsImage, restarted};
-ghost use Rattle.disk_model.specs.Faults.{Plans, CountsFaults, FailsByPlans, faults_met};
+ghost use Rattle.disk_model.specs.Disk.{Cell, Cells, Content, is_among, after_write, after_remove, after_rename, after_sync, after_sync_names, reads_of, first_missing, BothRead, HasCrashed};
+ghost use Rattle.disk_model.specs.Faults.{Plans, CountsFaults, FailsByPlans, ended, faults_met};
 
 use bytes::Bytes;
 use file_names::FileName;
@@ -12,7 +14,7 @@ use nrt_base::NoMemory;
 /// Why a call of a directory is refused. Missing is looked at before Exists, and both before Failed.
 #[derive(Clone, Copy, Debug, PartialEq, Eq)]
 pub enum DirFault {
-    /// Memory was wanting. All is as before.
+    /// Out of memory. All is as before.
     Memory,
     /// A name that is loaded, synced, renamed from or removed does not exist. All is as before.
     Missing,
@@ -54,7 +56,8 @@ pub trait Dir {
 
     /// The names of the files that exist, in ascending order.
     fn list(&mut self) -> Result<Vec<FileName>, DirFault>
-        ensures names { IfOk result (λ names. (q : List ℕ) → is_among names.items q ≡ is_some (cells self.old q).now) }
+        ensures names { IfOk result (λ names. (q : List ℕ)
+            → is_among names.items q ≡ is_some (cells self.old q).now) }
         ensures ascending { IfOk result (λ names. IsStrictlySortedBy (slice_cmp nat_cmp) names.items) }
         ensures cells { cells self.new ≡ cells self.old }
         ensures not_missing { IsErrOf result DirFault.Missing → ⊥ }
@@ -82,7 +85,8 @@ pub trait Dir {
     /// Syncs the bytes of files.
     fn sync(&mut self, names: &[FileName]) -> Result<(), DirFault>
         ensures cells { cells self.new ≡ after_sync (cells self.old) names.now result }
-        ensures missing { IsErrOf result DirFault.Missing ↔ Any (λ q. (cells self.old q).now ≡ None) names.now }
+        ensures missing { IsErrOf result DirFault.Missing
+            ↔ Any (λ q. (cells self.old q).now ≡ None) names.now }
         ensures not_exists { IsErrOf result DirFault.Exists → ⊥ }
         ensures memory { IsErrOf result DirFault.Memory → ⊥ }
         ensures faults { CountsFaults (faults self.old) (faults self.new) result }
@@ -99,7 +103,7 @@ pub trait Dir {
     fn rename(&mut self, from: &FileName, to: &FileName) -> Result<(), DirFault>
         ensures cells { cells self.new ≡ after_rename (cells self.old) from.now to.now result }
         ensures missing { IsErrOf result DirFault.Missing ↔ ((cells self.old from.now).now ≡ None) }
-        ensures exists { IsErrOf result DirFault.Exists ↔ (IsSome (cells self.old from.now).now × IsSome (cells self.old to.now).now) }
+        ensures exists { IsErrOf result DirFault.Exists ↔ BothRead (cells self.old) from.now to.now }
         ensures faults { CountsFaults (faults self.old) (faults self.new) result }
         ensures plans { FailsByPlans (plans self.old) (plans self.new) result };
 
@@ -145,14 +149,22 @@ pub trait FaultDir: Dir {
 
     /// A crash leaves an image, and ends the plans. The number picks among the images.
     fn crash(&mut self, pick: u64) -> Result<(), NoMemory>
-        ensures image { OnOk result ((image : Image) × IsImage (Self.cells self.old) image × (Self.cells self.new ≡ restarted image)) }
-        ensures plans { OnOk result (planned self.new ≡ record (planned self.old) { once = 0; stop = 0 }) }
+        ensures image { OnOk result (HasCrashed (Self.cells self.old) (Self.cells self.new)) }
+        ensures plans { OnOk result (planned self.new ≡ ended (planned self.old)) }
         ensures faults { Self.faults self.new ≡ Self.faults self.old }
-        ensures refused { OnErr result ((Self.cells self.new ≡ Self.cells self.old) × (planned self.new ≡ planned self.old)) };
+        ensures refused { OnErr result (Self.cells self.new ≡ Self.cells self.old) }
+        ensures refused_plans { OnErr result (planned self.new ≡ planned self.old) };
 
     /// The plans are known.
     ghost known: { (dir : Self) → Self.plans dir ≡ Some (planned dir) };
 
     /// The plans met every fault.
     ghost all_met: { (dir : Self) → Self.faults dir ≡ faults_met (planned dir) };
+}
+
+/// The first of the names that the directory lacks.
+pub fn first_missing<D: Dir>(names: &[FileName], dir: &D) -> Option<FileName>
+    ensures { result ≡ first_missing (reads_of (D.cells dir.now)) names.now }
+{
+    names.iter().copied().find(|name| !dir.has(name))
 }

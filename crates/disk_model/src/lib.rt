@@ -3,4 +3,4 @@
 
 mod dir;
 
-pub use dir::{Dir, DirFault, FaultDir};
+pub use dir::{Dir, DirFault, FaultDir, first_missing};

@@ -1,11 +1,12 @@
 //! Files of stored documents, read.
 
 ghost use Rattle.std.specs.Prelude.{◌≡◌, ◌↔◌, ◌<◌, IsTrue, IfSome, List, length, slice_get};
+ghost use Rattle.std.specs.List.{All};
 ghost use Rattle.nrt_base.specs.Bytes.{is_key, is_text};
 ghost use Rattle.nrt_base.specs.declared.doc.Doc.{Doc};
 ghost use Rattle.codec_frame.specs.Checking.{IsChecked};
 ghost use Rattle.body_forms.specs.File.{IsFileRead};
-ghost use Rattle.docs_plain.specs.Documents.{SpellsDocuments, documents_wanted};
+ghost use Rattle.docs_plain.specs.Documents.{IsRow, SpellsDocuments, documents_wanted};
 
 use crate::row::{is_row, parts_of};
 use body_forms::{is_item_table, item_at, item_count};
@@ -65,7 +66,8 @@ impl DocsFile {
 
     /// How many documents there are.
     pub fn len(&self) -> u32
-        ensures { result ≡ length self.now }
+        ensures count { result ≡ length self.now }
+        ensures rows { All IsRow self.now }
     {
         item_count(self.body())
     }

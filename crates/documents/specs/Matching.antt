@@ -1,33 +1,28 @@
--- Which documents a query matches, and what a search answers.
-use Rattle.std.specs.Prelude.{ℕ, ◌+◌, max, nat_le, length, List, [], ◌∷◌, Bool, true, false, ◌||◌, ◌&&◌, not, nat_eq, take, map, filter, count_by}
-use Rattle.std.specs.List.{list_any}
+-- Which documents a query matches, and which queries are well-formed.
+use Rattle.std.specs.Prelude.{ℕ, ◌+◌, max, nat_le, length, List, [], ◌∷◌, Bool, true, false, ◌||◌, ◌&&◌, not, bytes_eq}
+use Rattle.std.specs.List.{list_any, starts_with}
 use Rattle.nrt_base.specs.declared.doc.Doc.{Doc}
 use Rattle.documents.specs.declared.query.Query.{Query, Word, Phrase, All', Any', Not', Row_of-Query, end_of-Query, more_of-Query}
-use Rattle.documents.specs.declared.answer.Answer.{Answer}
-use Rattle.documents.specs.Words.{words_of}
+use Rattle.documents.specs.Words.{words_of, has_word}
 
--- two words are the same bytes
-abbrev pub same_bytes : List ℕ → List ℕ → Bool
-same_bytes [] [] = true
-same_bytes (a ∷ as') (b ∷ bs) = nat_eq a b && same_bytes as' bs
-same_bytes [] (b ∷ bs) = false
-same_bytes (a ∷ as') [] = false
+-- the words from each place on, and the end
+abbrev pub tails : List (List ℕ) → List (List (List ℕ))
+tails [] = [] ∷ []
+tails (w ∷ words) = (w ∷ words) ∷ tails words
 
 -- the words begin with the phrase
-abbrev pub begins_with : List (List ℕ) → List (List ℕ) → Bool
-begins_with [] words = true
-begins_with (p ∷ phrase) [] = false
-begins_with (p ∷ phrase) (w ∷ words) = same_bytes p w && begins_with phrase words
+abbrev pub stands_at_front : List (List ℕ) → List (List ℕ) → Bool
+stands_at_front phrase words = starts_with bytes_eq words phrase
 
 -- the phrase stands in the words without a gap
 abbrev pub stands_in : List (List ℕ) → List (List ℕ) → Bool
-stands_in phrase [] = begins_with phrase []
-stands_in phrase (w ∷ words) = begins_with phrase (w ∷ words) || stands_in phrase words
+stands_in phrase words = list_any (stands_at_front phrase) (tails words)
 
 abbrev mutual
-  -- a query matches the words of a text: its word is among them, its phrase stands in them, all or some of its parts match, its part does not
+  -- a query matches words: its word is among them, its phrase stands in them, all or some of its
+  -- parts match, its part does not
   pub matches : Query → List (List ℕ) → Bool
-  matches (Word w) words = list_any (same_bytes w) words
+  matches (Word w) words = has_word w words
   matches (Phrase phrase) words = stands_in phrase words
   matches (All' shape parts) words = all_match parts words
   matches (Any' shape parts) words = any_matches parts words
@@ -39,7 +34,8 @@ abbrev mutual
 
   pub none_matches : {n : _} → Row_of-Query n → List (List ℕ) → Bool
   none_matches end_of-Query words = true
-  none_matches (more_of-Query part parts) words = not (matches part words) && none_matches parts words
+  none_matches (more_of-Query part parts) words =
+      not (matches part words) && none_matches parts words
 
   pub any_matches : {n : _} → Row_of-Query n → List (List ℕ) → Bool
   any_matches end_of-Query words = false
@@ -48,14 +44,6 @@ abbrev mutual
 -- a query matches a document by the words of its text
 abbrev pub matches_doc : Query → Doc → Bool
 matches_doc query doc = matches query (words_of doc.text)
-
--- how many documents match, and the first 20 of their keys
-abbrev pub scan_of : List Doc → Query → Answer
-scan_of docs query =
-    record {
-      total = count_by (matches_doc query) docs;
-      keys = take 20 (map (λ d. d.key) (filter (matches_doc query) docs));
-    }
 
 abbrev mutual
   -- a leaf has depth 1; every other query is one deeper than its deepest part
@@ -101,6 +89,6 @@ abbrev mutual
   all_have_form end_of-Query = true
   all_have_form (more_of-Query part parts) = has_form part && all_have_form parts
 
--- a query is well-formed where its phrases and parts are no fewer than two, its depth is at most 32, and it has at most 64 leaves
+-- a query is well-formed: no phrase of one word, no lone part, at most 32 deep and 64 leaves
 abbrev pub is_well_formed : Query → Bool
 is_well_formed query = has_form query && nat_le (depth_of query) 32 && nat_le (leaves_of query) 64

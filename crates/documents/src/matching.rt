@@ -1,52 +1,35 @@
-ghost use Rattle.std.specs.Prelude.{◌≡◌, ◌<◌, ◌^◌, IfOk, length, map, filter};
-ghost use Rattle.std.specs.List.{list_any, list_all};
-ghost use Rattle.documents.specs.Matching.{same_bytes as same_bytes_lem, begins_with as begins_with_lem, stands_in as stands_in_lem, matches as matches_lem, matches_doc, scan_of};
+//! Which documents a query matches.
 
-use crate::answer::Answer;
+ghost use Rattle.std.specs.Prelude.{◌≡◌, IfOk};
+ghost use Rattle.std.specs.List.{list_any, list_all};
+ghost use Rattle.documents.specs.Words.{has_word as has_word_lem};
+ghost use Rattle.documents.specs.Matching.{stands_in as stands_in_lem, matches as matches_lem, matches_doc};
+
 use crate::query::Query;
 use crate::text_words::words;
-use nrt_base::{Doc, Key, List, NoMemory, Share, Word};
+use nrt_base::{Doc, List, NoMemory, Word};
 use std::alloc::Global;
 
-fn same_bytes(a: &[u8], b: &[u8]) -> bool
-    ensures { result ≡ same_bytes_lem a.now b.now }
-{
-    a == b
-}
-
 fn has_word(words: &[Word], word: &Word) -> bool
-    ensures { result ≡ list_any (same_bytes_lem word.now) words.now }
+    ensures { result ≡ has_word_lem word.now words.now }
 {
-    words
-        .iter()
-        .any(|w| same_bytes(word.as_slice(), w.as_slice()))
-}
-
-fn begins_with(phrase: &[Word], words: &[Word]) -> bool
-    ensures { result ≡ begins_with_lem phrase.now words.now }
-{
-    for (i, word) in phrase.iter().enumerate() {
-        if i >= words.len() || !same_bytes(word.as_slice(), words[i].as_slice()) {
-            return false;
-        }
-    }
-    true
+    words.iter().any(|w| w == word)
 }
 
 fn stands_in(phrase: &[Word], words: &[Word]) -> bool
     ensures { result ≡ stands_in_lem phrase.now words.now }
 {
     for i in 0..words.len() {
-        if begins_with(phrase, &words[i..]) {
+        if words[i..].starts_with(phrase) {
             return true;
         }
     }
-    begins_with(phrase, &[])
+    phrase.is_empty()
 }
 
-/// Whether a query matches these words.
+// Whether a query matches these words.
 #[cycle(matching)]
-fn matches_words(query: &Query, words: &[Word]) -> bool
+pub(crate) fn matches_words(query: &Query, words: &[Word]) -> bool
     ensures { result ≡ matches_lem query.now words.now }
 {
     match query {
@@ -88,32 +71,4 @@ pub fn matches(alloc: Global, doc: &Doc, query: &Query) -> Result<bool, NoMemory
 {
     let words = words(alloc, doc.text.as_slice())?;
     Ok(matches_words(query, words.as_slice()))
-}
-
-/// The keys of the documents that match, in order.
-fn matching_keys(alloc: Global, docs: &[Doc], query: &Query) -> Result<Vec<Key>, NoMemory>
-    ensures { IfOk result (λ keys. keys.items ≡ map (λ d. d.key) (filter (matches_doc query.now) docs.now)) }
-{
-    let mut keys = Vec::new(alloc);
-    for doc in docs {
-        if matches(alloc, doc, query)? {
-            keys.push(doc.key.share(alloc)?)?;
-        }
-    }
-    Ok(keys)
-}
-
-/// How many documents match, and the first 20 of their keys. The documents are fewer than 2^32.
-#[tactic(auto, using(crate::proofs::MatchingLemmas::lengths))]
-pub fn scan(alloc: Global, docs: &[Doc], query: &Query) -> Result<Answer, NoMemory>
-    requires { length docs.now < 2 ^ 32 }
-    ensures { IfOk result (λ answer. answer ≡ scan_of docs.now query.now) }
-{
-    let mut keys = matching_keys(alloc, docs, query)?;
-    let total = keys.len() as u32;
-    keys.truncate(20);
-    Ok(Answer {
-        total,
-        keys: List::from_vec(keys),
-    })
 }

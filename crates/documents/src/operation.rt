@@ -1,4 +1,6 @@
-use nrt_base::{Doc, Key, NoMemory, Share};
+//! The operations that change documents.
+
+use nrt_base::{Doc, Key, NoMemory, Share, Word};
 use std::alloc::Global;
 
 /// An operation on the documents.
@@ -8,6 +10,8 @@ pub enum Op {
     Put(Doc),
     /// The key has no document any more.
     Delete(Key),
+    /// Every document that has the word in its text is taken away.
+    Drop(Word),
 }
 
 impl Share for Op {
@@ -15,6 +19,7 @@ impl Share for Op {
         match self {
             Op::Put(doc) => Ok(Op::Put(doc.share(alloc)?)),
             Op::Delete(key) => Ok(Op::Delete(key.share(alloc)?)),
+            Op::Drop(word) => Ok(Op::Drop(word.share(alloc)?)),
         }
     }
 }

@@ -1,3 +1,5 @@
+//! What searches look for.
+
 ghost use Rattle.std.specs.Prelude.{◌≡◌, IfOk};
 
 use nrt_base::{Boxed, List, NoMemory, Share, Word};
@@ -5,8 +7,8 @@ use std::alloc::Global;
 
 /// What a search looks for.
 ///
-/// A query is well-formed where each phrase has at least two words, each `All` and each `Any` at least two
-/// parts, its depth is at most 32 and it has at most 64 leaves.
+/// A query is well-formed where each phrase has at least two words, each `All` and each `Any` at
+/// least two parts, its depth is at most 32 and it has at most 64 leaves.
 #[derive(Debug, Drop)]
 pub enum Query {
     /// The word is among the words of the text.

@@ -1,7 +1,7 @@
 pub mod NameLemmas
-pub mod Removing
+mod Removing
 pub mod Falling
 pub mod Keeping
-pub mod Sounding
-pub mod Releasing
+mod Sounding
+mod Releasing
 pub mod Writing

@@ -19,12 +19,16 @@ use Rattle.std.proofs.lemmas.List.Sums.{sum_by-cons, sum_by-append, count_by_mor
 use Rattle.std.proofs.lemmas.Map.Text.{is_eq-slice_cmp}
 use Rattle.std.proofs.lemmas.Map.Views.{any-filter_same}
 use Rattle.std.proofs.Math.Dec.{ltb as nat_lt}
-use Rattle.disk_model.specs.Disk.{Name, Cells, same, is_among}
+use Rattle.disk_model.specs.Disk.{Name, Cells, same, is_among, reads_of, first_missing}
 use Rattle.disk_model.proofs.CellLemmas.{same_true}
-use Rattle.file_deleter.specs.Holdings.{times, IsThere, AreThere, first_missing}
+use Rattle.file_deleter.specs.Holdings.{times, IsThere, AreThere}
 
 pub same_self : (q : Name) → same q q ≡ true
 same_self q = nat_list_eq_equiv.refl q
+
+-- a name that the test finds another is another
+pub unlike : (a q : Name) → same a q ≡ false → a ≢ q
+unlike a q e i = true≢false (sym (same_self q) ∙ ap (λ (n : Name). same n q) (sym i) ∙ e)
 
 -- ---- how often a name stands in a list
 pub times-cons : (x : Name) (xs : List Name) (q : Name) → times (x ∷ xs) q ≡ cond (same x q) 1 0 + times xs q
@@ -255,9 +259,9 @@ not_found : (b : Bool) (x : Name) (rest : Option Name) → cond (not b) (Some x)
 not_found true x rest e = (refl, e)
 not_found false x rest e = cc
 
-all_found : (cells : Cells) (names : List Name) → first_missing cells names ≡ None → All (IsThere cells) names
+all_found : (cells : Cells) (names : List Name) → first_missing (reads_of cells) names ≡ None → All (IsThere cells) names
 all_found cells [] e = λ k d lt. absurd (omega (arith, lt))
-all_found cells (x ∷ xs) e = let h = not_found (is_some (cells x).now) x (first_missing cells xs) e in All-cons (IsThere cells) x xs h.0 (all_found cells xs h.1)
+all_found cells (x ∷ xs) e = let h = not_found (is_some (cells x).now) x (first_missing (reads_of cells) xs) e in All-cons (IsThere cells) x xs h.0 (all_found cells xs h.1)
 
-pub none_missing : (cells : Cells) (names : List Name) → first_missing cells names ≡ None → AreThere cells names
+pub none_missing : (cells : Cells) (names : List Name) → first_missing (reads_of cells) names ≡ None → AreThere cells names
 none_missing cells names e = record { each = all_found cells names e }

@@ -11,7 +11,7 @@ use Rattle.file_deleter.specs.Holdings.{times}
 use Rattle.file_deleter.specs.Removals.{Directory, Removes, Removals}
 use Rattle.file_deleter.specs.Removals.Removals.{no_more, gone, absent, stays}
 use Rattle.file_deleter.specs.Moves.{Retries}
-use Rattle.file_deleter.proofs.NameLemmas.{times-cons, times_one, among_times, not_among_times, not_among_of_times, same_self, fewer}
+use Rattle.file_deleter.proofs.NameLemmas.{times-cons, times_one, among_times, not_among_times, not_among_of_times, same_self, fewer, unlike}
 use Rattle.std.specs.List.{AllByRecursion}
 use Rattle.std.specs.List.Sorted.{IsStrictlySortedBy}
 use Rattle.std.specs.Cmp.Lexicographic.{slice_cmp}
@@ -184,26 +184,23 @@ module _ (x : Name) (names failed : List Name) (a b c : Directory) (rest : Remov
   as_left : c.cells x ≡ b.cells x
   as_left = untouched names failed b c rest x (not_among_of_times names x no_more_of)
 
-  was_pending : {P : Type 0} → is_among (x ∷ names) x ≡ false → P
-  was_pending e = absurd (true≢false (sym first ∙ e))
+  was_due : {P : Type 0} → is_among (x ∷ names) x ≡ false → P
+  was_due e = absurd (true≢false (sym first ∙ e))
 
   first_gone : Removes x (Ok tt) a b → Retries (is_among (x ∷ names) x) (is_among failed x) (a.cells x) (c.cells x)
   first_gone r =
       let is : c.cells x ≡ removed (a.cells x) = as_left ∙ ap (λ (k : Cells). k x) r.cells ∙ put_here a.cells x (removed (a.cells x)) in
-      record { kept = was_pending; tried = λ e. inl (not_failed, ap (λ (k : Cell). k.now) is); crash = λ o h. done_at (a.cells x) o (sym (ap (λ (k : Cell). may_leave k o) is) ∙ h) }
+      record { kept = was_due; tried = λ e. inl (not_failed, ap (λ (k : Cell). k.now) is); crash = λ o h. done_at (a.cells x) o (sym (ap (λ (k : Cell). may_leave k o) is) ∙ h) }
 
   first_absent : Removes x (Err Missing) a b → Retries (is_among (x ∷ names) x) (is_among failed x) (a.cells x) (c.cells x)
   first_absent r =
       let is : c.cells x ≡ a.cells x = as_left ∙ ap (λ (k : Cells). k x) r.cells in
-      record { kept = was_pending; tried = λ e. inl (not_failed, ap (λ (k : Cell). k.now) is ∙ r.missing.0 refl); crash = λ o h. inl (sym (ap (λ (k : Cell). may_leave k o) is) ∙ h) }
+      record { kept = was_due; tried = λ e. inl (not_failed, ap (λ (k : Cell). k.now) is ∙ r.missing.0 refl); crash = λ o h. inl (sym (ap (λ (k : Cell). may_leave k o) is) ∙ h) }
 
   first_stays : Removes x (Err Failed) a b → Retries (is_among (x ∷ names) x) (is_among (x ∷ failed) x) (a.cells x) (c.cells x)
   first_stays r =
       let is : c.cells x ≡ half_removed (a.cells x) = as_left ∙ ap (λ (k : Cells). k x) r.cells ∙ put_here a.cells x (half_removed (a.cells x)) in
-      record { kept = was_pending; tried = λ e. inr (ap (λ t. t || is_among failed x) (same_self x), ap (λ (k : Cell). k.now) is); crash = λ o h. failed_at (a.cells x) o (sym (ap (λ (k : Cell). may_leave k o) is) ∙ h) }
-
-apart_from : (x q : Name) → same x q ≡ false → x ≢ q
-apart_from x q e i = true≢false (sym (same_self q) ∙ ap (λ (n : Name). same n q) (sym i) ∙ e)
+      record { kept = was_due; tried = λ e. inr (ap (λ t. t || is_among failed x) (same_self x), ap (λ (k : Cell). k.now) is); crash = λ o h. failed_at (a.cells x) o (sym (ap (λ (k : Cell). may_leave k o) is) ∙ h) }
 
 -- removals of names that stand once each, at one name
 pub retries : (names failed : List Name) (a b : Directory) → Removals names failed a b → ((q : Name) → times names q ≤ 1) → (q : Name) → Retries (is_among names q) (is_among failed q) (a.cells q) (b.cells q)
@@ -212,23 +209,23 @@ retries names failed a b (gone x ns fs s u v r rest) one q = by (same x q) refl 
   where
     by : (t : Bool) → same x q ≡ t → Retries (is_among ns q) (is_among fs q) (u.cells q) (b.cells q) → Retries (is_among (x ∷ ns) q) (is_among fs q) (a.cells q) (b.cells q)
     by true e more = subst (λ (n : Name). Retries (is_among (x ∷ ns) n) (is_among fs n) (a.cells n) (b.cells n)) (same_true x q e) (first_gone x ns fs a u b rest one r)
-    by false e more = beside (is_among ns q) (is_among fs q) (is_among (x ∷ ns) q) (is_among fs q) (a.cells q) (u.cells q) (b.cells q) (ap (λ t. t || is_among ns q) e) refl (same_cell x q (Ok tt) a u r (apart_from x q e)) more
+    by false e more = beside (is_among ns q) (is_among fs q) (is_among (x ∷ ns) q) (is_among fs q) (a.cells q) (u.cells q) (b.cells q) (ap (λ t. t || is_among ns q) e) refl (same_cell x q (Ok tt) a u r (unlike x q e)) more
 retries names failed a b (absent x ns fs s u v r rest) one q = by (same x q) refl (retries ns fs u b rest (fewer x ns one) q)
   where
     by : (t : Bool) → same x q ≡ t → Retries (is_among ns q) (is_among fs q) (u.cells q) (b.cells q) → Retries (is_among (x ∷ ns) q) (is_among fs q) (a.cells q) (b.cells q)
     by true e more = subst (λ (n : Name). Retries (is_among (x ∷ ns) n) (is_among fs n) (a.cells n) (b.cells n)) (same_true x q e) (first_absent x ns fs a u b rest one r)
-    by false e more = beside (is_among ns q) (is_among fs q) (is_among (x ∷ ns) q) (is_among fs q) (a.cells q) (u.cells q) (b.cells q) (ap (λ t. t || is_among ns q) e) refl (same_cell x q (Err Missing) a u r (apart_from x q e)) more
+    by false e more = beside (is_among ns q) (is_among fs q) (is_among (x ∷ ns) q) (is_among fs q) (a.cells q) (u.cells q) (b.cells q) (ap (λ t. t || is_among ns q) e) refl (same_cell x q (Err Missing) a u r (unlike x q e)) more
 retries names failed a b (stays x ns fs s u v r rest) one q = by (same x q) refl (retries ns fs u b rest (fewer x ns one) q)
   where
     by : (t : Bool) → same x q ≡ t → Retries (is_among ns q) (is_among fs q) (u.cells q) (b.cells q) → Retries (is_among (x ∷ ns) q) (is_among (x ∷ fs) q) (a.cells q) (b.cells q)
     by true e more = subst (λ (n : Name). Retries (is_among (x ∷ ns) n) (is_among (x ∷ fs) n) (a.cells n) (b.cells n)) (same_true x q e) (first_stays x ns fs a u b rest one r)
-    by false e more = beside (is_among ns q) (is_among fs q) (is_among (x ∷ ns) q) (is_among (x ∷ fs) q) (a.cells q) (u.cells q) (b.cells q) (ap (λ t. t || is_among ns q) e) (ap (λ t. t || is_among fs q) e) (same_cell x q (Err Failed) a u r (apart_from x q e)) more
+    by false e more = beside (is_among ns q) (is_among fs q) (is_among (x ∷ ns) q) (is_among (x ∷ fs) q) (a.cells q) (u.cells q) (b.cells q) (ap (λ t. t || is_among ns q) e) (ap (λ t. t || is_among fs q) e) (same_cell x q (Err Failed) a u r (unlike x q e)) more
 
 -- a name where nothing changed
-pub retries_same : (pending : Bool) (c : Cell) → Retries pending pending c c
-retries_same pending c = record { kept = λ e. (e, refl); tried = λ e. inr (e, refl); crash = λ o h. inl h }
+pub retries_same : (due : Bool) (c : Cell) → Retries due due c c
+retries_same due c = record { kept = λ e. (e, refl); tried = λ e. inr (e, refl); crash = λ o h. inl h }
 
--- a removal of one pending name
+-- a removal of one due name
 pub tries_one : (name : Name) (failed : List Name) (a b : Directory) (had has : Name → Bool) → Removals (name ∷ []) failed a b
     → had name ≡ true → has name ≡ is_among failed name → ((q : Name) → name ≢ q → has q ≡ had q) → (q : Name) → Retries (had q) (has q) (a.cells q) (b.cells q)
 tries_one name failed a b had has r was now others q = by (same name q) refl
@@ -246,7 +243,7 @@ tries_one name failed a b had has r was now others q = by (same name q) refl
     by true e = subst (λ (n : Name). Retries (had n) (has n) (a.cells n) (b.cells n)) (same_true name q e) here
     by false e =
         let still : b.cells q ≡ a.cells q = untouched (name ∷ []) failed a b r q (ap (λ t. t || false) e) in
-        subst (λ (h : Bool). Retries (had q) h (a.cells q) (b.cells q)) (sym (others q (apart_from name q e))) (subst (λ (c : Cell). Retries (had q) (had q) (a.cells q) c) (sym still) (retries_same (had q) (a.cells q)))
+        subst (λ (h : Bool). Retries (had q) h (a.cells q) (b.cells q)) (sym (others q (unlike name q e))) (subst (λ (c : Cell). Retries (had q) (had q) (a.cells q) c) (sym still) (retries_same (had q) (a.cells q)))
 
 -- a single removal, as a row of one
 pub one_stays : (name : Name) (a b : Directory) → Removes name (Err Failed) a b → Removals (name ∷ []) (name ∷ []) a b

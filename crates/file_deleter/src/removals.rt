@@ -1,4 +1,5 @@
-// Tries of removals.
+//! Tries of removals.
+
 ghost use Rattle.std.specs.Prelude.{◌≡◌, ◌⊎◌, ◌+◌, ◌≤◌, ◌++◌, ℕ, List, [], length, not, filter, is_some, Ok, Err, MatchBool, vec_len};
 ghost use Rattle.std.specs.Map.{lookup};
 ghost use Rattle.std.specs.Vec.{vec_capacity};
@@ -7,7 +8,7 @@ ghost use Rattle.std.specs.Ordering.{nat_cmp};
 ghost use Rattle.std.specs.List.Sorted.{IsSorted};
 ghost use Rattle.disk_model.specs.Disk.{same};
 ghost use Rattle.file_deleter.specs.Holdings.{times};
-ghost use Rattle.file_deleter.specs.Removals.{directory_of, Removes, Removals};
+ghost use Rattle.file_deleter.specs.Removals.{directory_of, Removes, RemovesOrLacks, Removals};
 
 use crate::counts::Counts;
 use disk_model::{Dir, DirFault};
@@ -15,9 +16,13 @@ use file_names::FileName;
 
 /// Removes a file, and answers whether that failed. A file that is not there is gone too.
 pub(crate) fn stays<D: Dir>(name: &FileName, dir: &mut D) -> bool
-    ensures { MatchBool result (Removes name.now (Err DirFault.Failed) (directory_of D.cells D.plans D.faults dir.old) (directory_of D.cells D.plans D.faults dir.new))
-        (Removes name.now (Ok tt) (directory_of D.cells D.plans D.faults dir.old) (directory_of D.cells D.plans D.faults dir.new)
-        ⊎ Removes name.now (Err DirFault.Missing) (directory_of D.cells D.plans D.faults dir.old) (directory_of D.cells D.plans D.faults dir.new)) }
+    ensures { MatchBool result
+        (Removes name.now (Err DirFault.Failed)
+        (directory_of D.cells D.plans D.faults dir.old)
+        (directory_of D.cells D.plans D.faults dir.new))
+        (RemovesOrLacks name.now
+        (directory_of D.cells D.plans D.faults dir.old)
+        (directory_of D.cells D.plans D.faults dir.new)) }
 {
     match dir.remove(name) {
         Err(DirFault::Failed) => true,
@@ -27,7 +32,9 @@ pub(crate) fn stays<D: Dir>(name: &FileName, dir: &mut D) -> bool
 
 /// Removes files in this order, and leaves in the list those that failed.
 pub(crate) fn try_each<D: Dir>(names: &mut Vec<FileName>, dir: &mut D)
-    ensures removals { Removals names.old.items names.new.items (directory_of D.cells D.plans D.faults dir.old) (directory_of D.cells D.plans D.faults dir.new) }
+    ensures removals { Removals names.old.items names.new.items
+        (directory_of D.cells D.plans D.faults dir.old)
+        (directory_of D.cells D.plans D.faults dir.new) }
     ensures len { vec_len names.new ≤ vec_len names.old }
     ensures capacity { vec_capacity names.new ≡ vec_capacity names.old }
 {
@@ -42,37 +49,39 @@ pub(crate) fn try_each<D: Dir>(names: &mut Vec<FileName>, dir: &mut D)
     names.truncate(kept);
 }
 
-// Puts names behind those that are pending. There is room.
-fn extend(pending: &mut Vec<FileName>, more: &[FileName])
-    requires { vec_len pending.old + length more.now ≤ vec_capacity pending.old }
-    ensures items { pending.new.items ≡ pending.old.items ++ more.now }
-    ensures len { vec_len pending.new ≡ vec_len pending.old + length more.now }
-    ensures capacity { vec_capacity pending.old ≤ vec_capacity pending.new }
+// Puts names behind those that are due. There is room.
+fn extend(due: &mut Vec<FileName>, more: &[FileName])
+    requires { vec_len due.old + length more.now ≤ vec_capacity due.old }
+    ensures items { due.new.items ≡ due.old.items ++ more.now }
+    ensures len { vec_len due.new ≡ vec_len due.old + length more.now }
+    ensures capacity { vec_capacity due.old ≤ vec_capacity due.new }
 {
     // This takes no memory.
-    let _ = pending.extend_from_slice(more);
+    let _ = due.extend_from_slice(more);
 }
 
-/// Moves the names whose removal failed to those that are pending, and puts these in order. There is room.
-pub(crate) fn merge(pending: &mut Vec<FileName>, fallen: &mut Vec<FileName>)
-    requires { vec_len pending.old + vec_len fallen.old ≤ vec_capacity pending.old }
-    ensures times { (q : List ℕ) → times pending.new.items q ≡ times pending.old.items q + times fallen.old.items q }
-    ensures sorted { IsSorted (slice_cmp nat_cmp) pending.new.items }
+/// MovesCounts the names whose removal failed to those that are due, and puts these in order. There is room.
+pub(crate) fn merge(due: &mut Vec<FileName>, fallen: &mut Vec<FileName>)
+    requires { vec_len due.old + vec_len fallen.old ≤ vec_capacity due.old }
+    ensures times { (q : List ℕ) → times due.new.items q
+        ≡ times due.old.items q + times fallen.old.items q }
+    ensures sorted { IsSorted (slice_cmp nat_cmp) due.new.items }
     ensures empty { fallen.new.items ≡ [] }
-    ensures len { vec_len pending.new ≡ vec_len pending.old + vec_len fallen.old }
-    ensures capacity { vec_capacity pending.old ≤ vec_capacity pending.new }
+    ensures len { vec_len due.new ≡ vec_len due.old + vec_len fallen.old }
+    ensures capacity { vec_capacity due.old ≤ vec_capacity due.new }
     ensures fallen_capacity { vec_capacity fallen.new ≡ vec_capacity fallen.old }
 {
-    extend(pending, fallen.as_slice());
+    extend(due, fallen.as_slice());
     fallen.clear();
-    pending.sort_unstable();
+    due.sort_unstable();
 }
 
 /// Takes out the names that are counted.
-pub(crate) fn drop_counted(pending: &mut Vec<FileName>, counts: &Counts)
-    ensures items { pending.new.items ≡ filter (λ q. not (is_some (lookup (same q) counts.now.entries))) pending.old.items }
-    ensures len { vec_len pending.new ≤ vec_len pending.old }
-    ensures capacity { vec_capacity pending.new ≡ vec_capacity pending.old }
+pub(crate) fn drop_counted(due: &mut Vec<FileName>, counts: &Counts)
+    ensures items { due.new.items
+        ≡ filter (λ q. not (is_some (lookup (same q) counts.now.entries))) due.old.items }
+    ensures len { vec_len due.new ≤ vec_len due.old }
+    ensures capacity { vec_capacity due.new ≡ vec_capacity due.old }
 {
-    pending.retain(|name| !counts.contains_key(name));
+    due.retain(|name| !counts.contains_key(name));
 }

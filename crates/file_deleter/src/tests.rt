@@ -1,3 +1,5 @@
+//! Calls over a directory that has nothing.
+
 ghost use Rattle.std.specs.Prelude.{◌≡◌, None, false};
 
 use crate::{FileDeleter, HoldFault};
@@ -6,7 +8,7 @@ use disk_model::{Dir, DirFault};
 use file_names::{FileName, file_name};
 use std::test::Fail;
 
-// A directory without a file, whose memory is always wanting.
+// A directory without a file, which is always out of memory.
 #[derive(Drop)]
 struct Empty;
 

@@ -1,8 +1,8 @@
 -- The spelling of a number in base 36 spells it, and nothing else does.
-use Rattle.std.proofs.Common.{◌≡◌, ℕ, zero, suc, ◌+◌, ◌*◌, ◌/◌, ◌%◌, ◌^◌, ◌<◌, ◌≤◌, ◌≢◌, Bool, true, false, ◌&&◌, List, [], ◌∷◌, ◌++◌, length, get_or, refl, sym, ap, subst, ◌∙◌, arith, inl, inr}
+use Rattle.std.proofs.Common.{◌≡◌, ℕ, zero, suc, ◌+◌, ◌*◌, ◌/◌, ◌%◌, ◌^◌, ◌<◌, ◌≤◌, ◌≢◌, Bool, true, false, List, [], ◌∷◌, ◌++◌, length, get_or, refl, sym, ap, subst, ◌∙◌, arith, inl, inr}
 use Rattle.std.specs.List.{list_all}
 use Rattle.std.proofs.Math.Nat.{pow-suc, mul-le-mul_left}
-use Rattle.std.proofs.lemmas.Bool.{cases_lt, cases_eq, lt-ltb, le-ltb}
+use Rattle.std.proofs.lemmas.Bool.{cases_lt, cases_eq, lt-ltb, le-ltb, and_parts, and_from}
 use Rattle.std.proofs.lemmas.Bool.Decides.{nat_tests}
 use Rattle.std.proofs.lemmas.List.{append_assoc, length-append}
 use Rattle.file_names.specs.Base36.{is_base36_digit, digit_value, digit_of, value_after, base36_value, has_leading_zero, SpellsBase36, base36_within, base36_of, is_base36}
@@ -27,13 +27,6 @@ digit_of_zero d h e = grind (arith, nat_tests)
 pub digit_value_some : (b : ℕ) → is_base36_digit b ≡ true → b ≢ 48 → 0 < digit_value b
 digit_value_some b h e = grind (arith, nat_tests)
 
-pub and_true : (p q : Bool) → (p && q) ≡ true → (p ≡ true) × (q ≡ true)
-and_true true q h = (refl, h)
-and_true false q h = absurd cc
-
-pub both_true : (p q : Bool) → p ≡ true → q ≡ true → (p && q) ≡ true
-both_true p q e f = rw (e, f) refl
-
 -- ---- values
 
 pub value_after-append : (n : ℕ) (xs ys : List ℕ) → value_after n (xs ++ ys) ≡ value_after (value_after n xs) ys
@@ -50,13 +43,13 @@ value_grows n (b ∷ digits) = omega (arith, value_grows (n * 36 + digit_value b
 
 pub list_all-append : (p : ℕ → Bool) (xs ys : List ℕ) → list_all p xs ≡ true → list_all p ys ≡ true → list_all p (xs ++ ys) ≡ true
 list_all-append p [] ys h k = k
-list_all-append p (x ∷ xs) ys h k = let e = and_true (p x) (list_all p xs) h in both_true (p x) (list_all p (xs ++ ys)) e.0 (list_all-append p xs ys e.1 k)
+list_all-append p (x ∷ xs) ys h k = let e = and_parts (p x) (list_all p xs) h in and_from (p x) (list_all p (xs ++ ys)) e.0 (list_all-append p xs ys e.1 k)
 
 -- the value of digits is below a power of 36
 value_after_below : (n : ℕ) (digits : List ℕ) → list_all is_base36_digit digits ≡ true → value_after n digits < (n + 1) * 36 ^ length digits
 value_after_below n [] h = omega arith
 value_after_below n (b ∷ digits) h =
-    let e = and_true (is_base36_digit b) (list_all is_base36_digit digits) h in
+    let e = and_parts (is_base36_digit b) (list_all is_base36_digit digits) h in
     let d : digit_value b < 36 = digit_value_below b e.0 in
     let power : ℕ = 36 ^ length digits in
     let ih : value_after (n * 36 + digit_value b) digits < (n * 36 + digit_value b + 1) * power = value_after_below (n * 36 + digit_value b) digits e.1 in
@@ -89,7 +82,7 @@ spelling_small : (n most : ℕ) → n < 36 → IsSpelling (digit_of n ∷ []) n 
 spelling_small n most h = record {
   some = omega arith;
   few = omega arith;
-  digits = both_true (is_base36_digit (digit_of n)) true (is_digit-digit_of n h) refl;
+  digits = and_from (is_base36_digit (digit_of n)) true (is_digit-digit_of n h) refl;
   first = λ e. digit_of_zero n h e;
   single = λ _. refl;
   value = value-first (digit_of n) [] ∙ digit_value-digit_of n h;
@@ -105,7 +98,7 @@ spelling_push front n most h s =
     record {
       some = omega (arith, length-append front (digit_of (n % 36) ∷ []));
       few = omega (arith, length-append front (digit_of (n % 36) ∷ []), s.few);
-      digits = list_all-append is_base36_digit front (digit_of (n % 36) ∷ []) s.digits (both_true (is_base36_digit (digit_of (n % 36))) true (is_digit-digit_of (n % 36) d) refl);
+      digits = list_all-append is_base36_digit front (digit_of (n % 36) ∷ []) s.digits (and_from (is_base36_digit (digit_of (n % 36))) true (is_digit-digit_of (n % 36) d) refl);
       first = λ e. omega (arith, s.first (sym (first-push front (digit_of (n % 36)) s.some) ∙ e));
       single = λ lt. absurd (omega arith);
       value = value_after-append 0 front (digit_of (n % 36) ∷ []) ∙ omega (arith, s.value, digit_value-digit_of (n % 36) d);
@@ -172,7 +165,7 @@ spelled_behind more n [] some h = let e : more + 0 ≡ more = omega arith in rw 
     append-nil-of [] = refl
     append-nil-of (x ∷ xs) = ap (λ (t : List ℕ). x ∷ t) (append-nil-of xs)
 spelled_behind more n (b ∷ digits) some h =
-    let e = and_true (is_base36_digit b) (list_all is_base36_digit digits) h in
+    let e = and_parts (is_base36_digit b) (list_all is_base36_digit digits) h in
     let d : digit_value b < 36 = digit_value_below b e.0 in
     let m : ℕ = n * 36 + digit_value b in
     let turns : more + suc (length digits) ≡ suc more + length digits = omega arith in
@@ -196,7 +189,7 @@ value_below b digits h k =
 
 only_from : (b : ℕ) (digits : List ℕ) (n : ℕ) → n < 2 ^ 64 → SpellsBase36 (b ∷ digits) n → b ≢ 48 → b ∷ digits ≡ base36_of n
 only_from b digits n h s some =
-    let e = and_true (is_base36_digit b) (list_all is_base36_digit digits) s.digits in
+    let e = and_parts (is_base36_digit b) (list_all is_base36_digit digits) s.digits in
     let d : digit_value b < 36 = digit_value_below b e.0 in
     let spelled = spelled_behind 0 (digit_value b) digits (digit_value_some b e.0 some) e.1 in
     let front : base36_within 0 (digit_value b) ≡ b ∷ [] = within-small 0 (digit_value b) d ∙ ap (λ (k : ℕ). k ∷ []) (digit_of-digit_value b e.0) in

@@ -3,3 +3,4 @@ pub mod NameLaws
 pub mod NameLemmas
 pub mod ReadingLemmas
 pub mod SpellingLemmas
+pub mod NameReading

@@ -1,7 +1,7 @@
 -- The names of files are names, and no two things have one name.
 use Rattle.std.proofs.Common.{◌≡◌, ℕ, ◌+◌, ◌-◌, ◌*◌, ◌^◌, ◌<◌, ◌≤◌, ◌⊎◌, Bool, true, false, not, ◌&&◌, nat_lt, nat_eq, List, [], ◌∷◌, ◌++◌, length, take, drop, codes, refl, sym, ap, ◌∙◌, arith, inl, inr}
 use Rattle.std.specs.List.{list_all, starts_with, ends_with}
-use Rattle.std.proofs.lemmas.Bool.{cases_eq, lt-ltb}
+use Rattle.std.proofs.lemmas.Bool.{cases_eq, lt-ltb, and_parts, and_from}
 use Rattle.std.proofs.lemmas.Bool.Decides.{nat_tests}
 use Rattle.std.proofs.lemmas.Slice.Eq.{bytes_eq-Decides}
 use borrow.Author.Tests.{ltb-true}
@@ -11,16 +11,17 @@ use Rattle.file_names.specs.declared.composed.SegPart.{SegPart}
 use Rattle.file_names.specs.declared.composed.SegPart.TheVariants.{Docs, Post, Info}
 use Rattle.file_names.specs.Base36.{is_base36_digit, digit_value, base36_value, has_leading_zero, SpellsBase36, base36_of}
 use Rattle.file_names.specs.Names.{part_ending, part_name_of, live_name_of, commit_name_of, pending_name_of, temp_name_of, is_commit_number, is_commit_name, commit_number, is_pending_name, pending_number, is_documents_name}
-use Rattle.file_names.proofs.Base36Lemmas.{spelling_of, list_all-append, and_true, both_true, value_grows, value-first, digit_value_some, only_first, base36_spells, only_spelling, base36_apart}
+use Rattle.nrt_base.proofs.Plain.{cons_first, cons_rest, cons_from}
+use Rattle.file_names.proofs.Base36Lemmas.{spelling_of, list_all-append, value_grows, value-first, digit_value_some, only_first, base36_spells, only_spelling, base36_apart}
 
 -- ---- each is a name
 
 digits_are_name_bytes : (bytes : List ℕ) → list_all is_base36_digit bytes ≡ true → list_all is_name_byte bytes ≡ true
 digits_are_name_bytes [] h = refl
 digits_are_name_bytes (b ∷ bytes) h =
-    let e = and_true (is_base36_digit b) (list_all is_base36_digit bytes) h in
+    let e = and_parts (is_base36_digit b) (list_all is_base36_digit bytes) h in
     let name : is_name_byte b ≡ true = grind (arith, nat_tests, e.0) in
-    both_true (is_name_byte b) (list_all is_name_byte bytes) name (digits_are_name_bytes bytes e.1)
+    and_from (is_name_byte b) (list_all is_name_byte bytes) name (digits_are_name_bytes bytes e.1)
 
 -- name bytes that are few enough
 record IsPiece (bytes : List ℕ) (most : ℕ) : Type 0 where
@@ -78,7 +79,7 @@ pending_name_is n h =
     name_from (pending_name_of n) 30 (omega arith) (omega arith) (joined (codes "pending_segments_") (base36_of n) 17 13 (record { few = omega arith; name = refl }) (digits_piece n h))
 
 name_piece : (name : List ℕ) → is_file_name name ≡ true → length name ≤ 46 → IsPiece name 46
-name_piece name h few = record { few = few; name = (and_true _ (list_all is_name_byte name) h).1 }
+name_piece name h few = record { few = few; name = (and_parts _ (list_all is_name_byte name) h).1 }
 
 pub temp_name_is : (name : List ℕ) (job : ℕ) → is_file_name name ≡ true → length name ≤ 46 → job < 2 ^ 64 → is_file_name (temp_name_of name job) ≡ true
 temp_name_is name job h few k =
@@ -93,46 +94,37 @@ temp_name_is name job h few k =
 abbrev lacks : ℕ → List ℕ → Bool
 lacks m bytes = list_all (λ b. not (nat_eq b m)) bytes
 
-lacks_not : (m : ℕ) (xs ys : List ℕ) → lacks m (xs ++ m ∷ ys) ≡ true → ⊥
-lacks_not m [] ys h = grind (arith, nat_tests, (and_true (not (nat_eq m m)) (lacks m ys) h).0)
-lacks_not m (x ∷ xs) ys h = lacks_not m xs ys (and_true (not (nat_eq x m)) (lacks m (xs ++ m ∷ ys)) h).1
+pub lacks_not : (m : ℕ) (xs ys : List ℕ) → lacks m (xs ++ m ∷ ys) ≡ true → ⊥
+lacks_not m [] ys h = grind (arith, nat_tests, (and_parts (not (nat_eq m m)) (lacks m ys) h).0)
+lacks_not m (x ∷ xs) ys h = lacks_not m xs ys (and_parts (not (nat_eq x m)) (lacks m (xs ++ m ∷ ys)) h).1
 
 digits_lack : (m : ℕ) (bytes : List ℕ) → is_base36_digit m ≡ false → list_all is_base36_digit bytes ≡ true → lacks m bytes ≡ true
 digits_lack m [] e h = refl
 digits_lack m (b ∷ bytes) e h =
-    let g = and_true (is_base36_digit b) (list_all is_base36_digit bytes) h in
+    let g = and_parts (is_base36_digit b) (list_all is_base36_digit bytes) h in
     let other : not (nat_eq b m) ≡ true = grind (arith, nat_tests, e, g.0) in
-    both_true (not (nat_eq b m)) (lacks m bytes) other (digits_lack m bytes e g.1)
+    and_from (not (nat_eq b m)) (lacks m bytes) other (digits_lack m bytes e g.1)
 
-spelling_lacks : (m n : ℕ) → is_base36_digit m ≡ false → n < 2 ^ 64 → lacks m (base36_of n) ≡ true
+pub spelling_lacks : (m n : ℕ) → is_base36_digit m ≡ false → n < 2 ^ 64 → lacks m (base36_of n) ≡ true
 spelling_lacks m n e h = digits_lack m (base36_of n) e (spelling_of n h).digits
-
-heads : (x y : ℕ) (xs ys : List ℕ) → x ∷ xs ≡ y ∷ ys → x ≡ y
-heads x y xs ys e = cc
-
-tails : (x y : ℕ) (xs ys : List ℕ) → x ∷ xs ≡ y ∷ ys → xs ≡ ys
-tails x y xs ys e = cc
-
-cells : (x y : ℕ) (xs ys : List ℕ) → x ≡ y → xs ≡ ys → x ∷ xs ≡ y ∷ ys
-cells x y xs ys e f = cc
 
 -- lists that are cut at the first such byte
 cut_first : (m : ℕ) (a b x y : List ℕ) → lacks m a ≡ true → lacks m b ≡ true → a ++ m ∷ x ≡ b ++ m ∷ y → (a ≡ b) × (x ≡ y)
-cut_first m [] [] x y h k e = (refl, tails m m x y e)
-cut_first m [] (c ∷ b) x y h k e = absurd (grind (arith, nat_tests, heads m c x (b ++ m ∷ y) e, (and_true (not (nat_eq c m)) (lacks m b) k).0))
-cut_first m (c ∷ a) [] x y h k e = absurd (grind (arith, nat_tests, heads c m (a ++ m ∷ x) y e, (and_true (not (nat_eq c m)) (lacks m a) h).0))
+cut_first m [] [] x y h k e = (refl, cons_rest m m x y e)
+cut_first m [] (c ∷ b) x y h k e = absurd (grind (arith, nat_tests, cons_first m c x (b ++ m ∷ y) e, (and_parts (not (nat_eq c m)) (lacks m b) k).0))
+cut_first m (c ∷ a) [] x y h k e = absurd (grind (arith, nat_tests, cons_first c m (a ++ m ∷ x) y e, (and_parts (not (nat_eq c m)) (lacks m a) h).0))
 cut_first m (c ∷ a) (d ∷ b) x y h k e =
-    let rest = cut_first m a b x y (and_true (not (nat_eq c m)) (lacks m a) h).1 (and_true (not (nat_eq d m)) (lacks m b) k).1 (tails c d (a ++ m ∷ x) (b ++ m ∷ y) e) in
-    (cells c d a b (heads c d (a ++ m ∷ x) (b ++ m ∷ y) e) rest.0, rest.1)
+    let rest = cut_first m a b x y (and_parts (not (nat_eq c m)) (lacks m a) h).1 (and_parts (not (nat_eq d m)) (lacks m b) k).1 (cons_rest c d (a ++ m ∷ x) (b ++ m ∷ y) e) in
+    (cons_from c d a b (cons_first c d (a ++ m ∷ x) (b ++ m ∷ y) e) rest.0, rest.1)
 
 -- lists that are cut at the last such byte
-cut_last : (m : ℕ) (a b x y : List ℕ) → lacks m x ≡ true → lacks m y ≡ true → a ++ m ∷ x ≡ b ++ m ∷ y → (a ≡ b) × (x ≡ y)
-cut_last m [] [] x y h k e = (refl, tails m m x y e)
-cut_last m [] (c ∷ b) x y h k e = absurd (lacks_not m b y (sym (ap (lacks m) (tails m c x (b ++ m ∷ y) e)) ∙ h))
-cut_last m (c ∷ a) [] x y h k e = absurd (lacks_not m a x (ap (lacks m) (tails c m (a ++ m ∷ x) y e) ∙ k))
+pub cut_last : (m : ℕ) (a b x y : List ℕ) → lacks m x ≡ true → lacks m y ≡ true → a ++ m ∷ x ≡ b ++ m ∷ y → (a ≡ b) × (x ≡ y)
+cut_last m [] [] x y h k e = (refl, cons_rest m m x y e)
+cut_last m [] (c ∷ b) x y h k e = absurd (lacks_not m b y (sym (ap (lacks m) (cons_rest m c x (b ++ m ∷ y) e)) ∙ h))
+cut_last m (c ∷ a) [] x y h k e = absurd (lacks_not m a x (ap (lacks m) (cons_rest c m (a ++ m ∷ x) y e) ∙ k))
 cut_last m (c ∷ a) (d ∷ b) x y h k e =
-    let rest = cut_last m a b x y h k (tails c d (a ++ m ∷ x) (b ++ m ∷ y) e) in
-    (cells c d a b (heads c d (a ++ m ∷ x) (b ++ m ∷ y) e) rest.0, rest.1)
+    let rest = cut_last m a b x y h k (cons_rest c d (a ++ m ∷ x) (b ++ m ∷ y) e) in
+    (cons_from c d a b (cons_first c d (a ++ m ∷ x) (b ++ m ∷ y) e) rest.0, rest.1)
 
 -- ---- no two things have one name
 
@@ -149,13 +141,13 @@ part_ending-letters Info = refl
 
 same_part : (p q : SegPart) → ending_letters p ≡ ending_letters q → p ≡ q
 same_part Docs Docs e = refl
-same_part Docs Post e = absurd (grind (arith, heads 100 112 (codes "ocs") (codes "ost") e))
-same_part Docs Info e = absurd (grind (arith, heads 100 115 (codes "ocs") (codes "i") e))
-same_part Post Docs e = absurd (grind (arith, heads 112 100 (codes "ost") (codes "ocs") e))
+same_part Docs Post e = absurd (grind (arith, cons_first 100 112 (codes "ocs") (codes "ost") e))
+same_part Docs Info e = absurd (grind (arith, cons_first 100 115 (codes "ocs") (codes "i") e))
+same_part Post Docs e = absurd (grind (arith, cons_first 112 100 (codes "ost") (codes "ocs") e))
 same_part Post Post e = refl
-same_part Post Info e = absurd (grind (arith, heads 112 115 (codes "ost") (codes "i") e))
-same_part Info Docs e = absurd (grind (arith, heads 115 100 (codes "i") (codes "ocs") e))
-same_part Info Post e = absurd (grind (arith, heads 115 112 (codes "i") (codes "ost") e))
+same_part Post Info e = absurd (grind (arith, cons_first 112 115 (codes "ost") (codes "i") e))
+same_part Info Docs e = absurd (grind (arith, cons_first 115 100 (codes "i") (codes "ocs") e))
+same_part Info Post e = absurd (grind (arith, cons_first 115 112 (codes "i") (codes "ost") e))
 same_part Info Info e = refl
 
 part_name-cut : (seg : ℕ) (part : SegPart) → part_name_of seg part ≡ 95 ∷ (base36_of seg ++ 46 ∷ ending_letters part)
@@ -164,7 +156,7 @@ part_name-cut seg part = ap (λ (x : List ℕ). 95 ∷ (base36_of seg ++ x)) (pa
 -- two parts have one name only where they are one part of one segment
 pub part_name_apart : (s t : ℕ) (p q : SegPart) → s < 2 ^ 64 → t < 2 ^ 64 → part_name_of s p ≡ part_name_of t q → (s ≡ t) × (p ≡ q)
 part_name_apart s t p q h k e =
-    let behind = tails 95 95 (base36_of s ++ 46 ∷ ending_letters p) (base36_of t ++ 46 ∷ ending_letters q) (sym (part_name-cut s p) ∙ e ∙ part_name-cut t q) in
+    let behind = cons_rest 95 95 (base36_of s ++ 46 ∷ ending_letters p) (base36_of t ++ 46 ∷ ending_letters q) (sym (part_name-cut s p) ∙ e ∙ part_name-cut t q) in
     let cut = cut_first 46 (base36_of s) (base36_of t) (ending_letters p) (ending_letters q) (spelling_lacks 46 s refl h) (spelling_lacks 46 t refl k) behind in
     (base36_apart s t h k cut.0, same_part p q cut.1)
 
@@ -177,7 +169,7 @@ pub live_name_apart : (s t g k : ℕ) → s < 2 ^ 64 → t < 2 ^ 64 → g < 2 ^ 
 live_name_apart s t g k hs ht hg hk e =
     let behind_s : List ℕ = base36_of g ++ 46 ∷ codes "liv" in
     let behind_t : List ℕ = base36_of k ++ 46 ∷ codes "liv" in
-    let behind = tails 95 95 (base36_of s ++ 95 ∷ behind_s) (base36_of t ++ 95 ∷ behind_t) (sym (live_name-cut s g) ∙ e ∙ live_name-cut t k) in
+    let behind = cons_rest 95 95 (base36_of s ++ 95 ∷ behind_s) (base36_of t ++ 95 ∷ behind_t) (sym (live_name-cut s g) ∙ e ∙ live_name-cut t k) in
     let cut = cut_first 95 (base36_of s) (base36_of t) behind_s behind_t (spelling_lacks 95 s refl hs) (spelling_lacks 95 t refl ht) behind in
     let end = cut_first 46 (base36_of g) (base36_of k) (codes "liv") (codes "liv") (spelling_lacks 46 g refl hg) (spelling_lacks 46 k refl hk) cut.1 in
     (base36_apart s t hs ht cut.0, base36_apart g k hg hk end.0)
@@ -186,7 +178,7 @@ live_name_apart s t g k hs ht hg hk e =
 pub part_name_not_live : (s t g : ℕ) (p : SegPart) → s < 2 ^ 64 → t < 2 ^ 64 → g < 2 ^ 64 → part_name_of s p ≡ live_name_of t g → ⊥
 part_name_not_live s t g p hs ht hg e =
     let live_behind : List ℕ = base36_of t ++ 95 ∷ (base36_of g ++ 46 ∷ codes "liv") in
-    let behind = tails 95 95 (base36_of s ++ 46 ∷ ending_letters p) live_behind (sym (part_name-cut s p) ∙ e ∙ live_name-cut t g) in
+    let behind = cons_rest 95 95 (base36_of s ++ 46 ∷ ending_letters p) live_behind (sym (part_name-cut s p) ∙ e ∙ live_name-cut t g) in
     let none : lacks 95 (base36_of s ++ 46 ∷ ending_letters p) ≡ true =
     list_all-append (λ b. not (nat_eq b 95)) (base36_of s) (46 ∷ ending_letters p) (spelling_lacks 95 s refl hs) (letters_lack p) in
     lacks_not 95 (base36_of t) (base36_of g ++ 46 ∷ codes "liv") (sym (ap (lacks 95) behind) ∙ none)
@@ -231,13 +223,13 @@ number_is : (bytes : List ℕ) → is_commit_number bytes ≡ true → IsCommitN
 number_is [] h = absurd cc
 number_is (b ∷ digits) h =
     let all : List ℕ = b ∷ digits in
-    let e = and_true (not (nat_eq b 48) && list_all is_base36_digit all) (nat_lt (base36_value all) (2 ^ 62)) h in
-    let f = and_true (not (nat_eq b 48)) (list_all is_base36_digit all) e.0 in
+    let e = and_parts (not (nat_eq b 48) && list_all is_base36_digit all) (nat_lt (base36_value all) (2 ^ 62)) h in
+    let f = and_parts (not (nat_eq b 48)) (list_all is_base36_digit all) e.0 in
     let below : base36_value all < 2 ^ 62 = ltb-true _ _ e.1 in
     let none : has_leading_zero all ≡ false = grind (arith, nat_tests, f.0) in
     record {
       spelled = only_spelling all (base36_value all) (omega (arith, below)) (record { some = omega arith; digits = f.1; leading = none; value = refl });
-      some = first_some b digits (and_true (is_base36_digit b) (list_all is_base36_digit digits) f.1).0 f.0;
+      some = first_some b digits (and_parts (is_base36_digit b) (list_all is_base36_digit digits) f.1).0 f.0;
       below = below;
     }
 
@@ -245,8 +237,8 @@ is_number_at : (bytes : List ℕ) (n : ℕ) → SpellsBase36 bytes n → 0 < n �
 is_number_at [] n s some below = absurd (omega (arith, s.some))
 is_number_at (b ∷ digits) n s some below =
     let not_zero : not (nat_eq b 48) ≡ true = not_zero_of (cases_eq b 48) in
-    both_true (not (nat_eq b 48) && list_all is_base36_digit (b ∷ digits)) (nat_lt (base36_value (b ∷ digits)) (2 ^ 62))
-    (both_true (not (nat_eq b 48)) (list_all is_base36_digit (b ∷ digits)) not_zero s.digits)
+    and_from (not (nat_eq b 48) && list_all is_base36_digit (b ∷ digits)) (nat_lt (base36_value (b ∷ digits)) (2 ^ 62))
+    (and_from (not (nat_eq b 48)) (list_all is_base36_digit (b ∷ digits)) not_zero s.digits)
     (lt-ltb (base36_value (b ∷ digits)) (2 ^ 62) (omega (arith, s.value, below)))
   where
     zero_value : b ≡ 48 → n ≡ 0
@@ -268,13 +260,13 @@ begins_with needle bytes h =
 -- the name of a commit is made of its number
 pub commit_name_only : (name : List ℕ) → is_commit_name name ≡ true → (name ≡ commit_name_of (commit_number name)) × (0 < commit_number name) × (commit_number name < 2 ^ 62)
 commit_name_only name h =
-    let e = and_true (starts_with nat_eq name (codes "segments_")) (is_commit_number (drop 9 name)) h in
+    let e = and_parts (starts_with nat_eq name (codes "segments_")) (is_commit_number (drop 9 name)) h in
     let n = number_is (drop 9 name) e.1 in
     (begins_with (codes "segments_") name e.0 ∙ ap (λ (x : List ℕ). codes "segments_" ++ x) n.spelled, n.some, n.below)
 
 pub pending_name_only : (name : List ℕ) → is_pending_name name ≡ true → (name ≡ pending_name_of (pending_number name)) × (0 < pending_number name) × (pending_number name < 2 ^ 62)
 pending_name_only name h =
-    let e = and_true (starts_with nat_eq name (codes "pending_segments_")) (is_commit_number (drop 17 name)) h in
+    let e = and_parts (starts_with nat_eq name (codes "pending_segments_")) (is_commit_number (drop 17 name)) h in
     let n = number_is (drop 17 name) e.1 in
     (begins_with (codes "pending_segments_") name e.0 ∙ ap (λ (x : List ℕ). codes "pending_segments_" ++ x) n.spelled, n.some, n.below)
 

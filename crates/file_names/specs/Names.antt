@@ -1,5 +1,5 @@
 -- The names of files: which there are, and which names are those of commits and of stored documents.
-use Rattle.std.specs.Prelude.{ℕ, ◌^◌, List, [], ◌∷◌, ◌++◌, Bool, true, false, ◌&&◌, not, ◌==◌, nat_eq, nat_lt, codes, drop, ◌||◌, length}
+use Rattle.std.specs.Prelude.{ℕ, ◌≡◌, ◌<◌, ◌^◌, ◌⊎◌, List, [], ◌∷◌, ◌++◌, Bool, true, false, ◌&&◌, not, ◌==◌, nat_eq, nat_lt, codes, drop, if◌then◌else◌, Option, Some, None, ◌||◌, length}
 use Rattle.std.specs.List.{list_all, starts_with, ends_with}
 use Rattle.std.specs.Ordering.{nat_cmp}
 use Rattle.std.specs.Cmp.Lexicographic.{slice_cmp}
@@ -44,6 +44,21 @@ pending_name_of n = codes "pending_segments_" ++ base36_of n
 abbrev pub temp_name_of : List ℕ → ℕ → List ℕ
 temp_name_of name job = name ++ codes "_" ++ base36_of job ++ codes ".tmp"
 
+-- no `_` is among the bytes
+abbrev pub is_unmarked : List ℕ → Bool
+is_unmarked bytes = list_all (λ b. not (nat_eq b 95)) bytes
+
+-- the name of a file of a segment: of a part of it, or of its live rows in some generation
+abbrev pub IsFileOfSegment : ℕ → List ℕ → Type 0
+IsFileOfSegment seg name =
+    (seg < 2 ^ 64)
+    × (((part : SegPart) × (name ≡ part_name_of seg part)) ⊎ ((live_gen : ℕ) × (live_gen < 2 ^ 64) × (name ≡ live_name_of seg live_gen)))
+
+-- the temporary name of a file of a segment in some job
+abbrev pub IsTemporaryOfSegment : ℕ → List ℕ → Type 0
+IsTemporaryOfSegment seg name =
+    (file : List ℕ) × (job : ℕ) × IsFileOfSegment seg file × (job < 2 ^ 64) × (name ≡ temp_name_of file job)
+
 -- the digits spell a number from 1 to below 2^62, without leading zeros
 abbrev pub is_commit_number : List ℕ → Bool
 is_commit_number [] = false
@@ -64,6 +79,14 @@ is_pending_name name = starts_with nat_eq name (codes "pending_segments_") && is
 -- the number in the name of a commit in preparation
 abbrev pub pending_number : List ℕ → ℕ
 pending_number name = base36_value (drop 17 name)
+
+-- the number of a commit's name, and nothing for any other name
+abbrev pub number_of_commit : List ℕ → Option ℕ
+number_of_commit name = if is_commit_name name then Some (commit_number name) else None
+
+-- the number of the name of a commit in preparation, and nothing for any other name
+abbrev pub number_of_pending : List ℕ → Option ℕ
+number_of_pending name = if is_pending_name name then Some (pending_number name) else None
 
 -- the name of stored documents: it ends in `.docs`
 abbrev pub is_documents_name : List ℕ → Bool

@@ -3,8 +3,8 @@ ghost use Rattle.file_names.specs.Names.{is_file_name};
 ghost use Rattle.file_names.specs.Names.{part_ending, part_name_of, live_name_of, commit_name_of, commit_number, is_commit_name, pending_name_of, pending_number, is_pending_name, temp_name_of};
 
 use crate::names::{FileName, padded};
-use nrt_base::SegNo;
 use crate::radix::base36;
+use nrt_base::SegNo;
 use std::marker::Model;
 
 /// A part of a segment that has a file of its own and is written once.
@@ -133,29 +133,4 @@ pub fn temp_name(name: &FileName, job: u64) -> FileName
     temp.push(base36(job).as_slice());
     temp.push(b".tmp");
     temp.finish()
-}
-
-#[cfg(test)]
-mod tests {
-    use super::*;
-
-    #[test]
-    fn names_of_each_kind(rt: HostRuntime) {
-        let first = SegNo(1679616);
-        let docs = part_name(first, SegPart::Docs);
-        let cases: [(FileName, &[u8]); 9] = [
-            (docs, b"_10000.docs"),
-            (part_name(first, SegPart::Post), b"_10000.post"),
-            (part_name(SegNo(3359232), SegPart::Info), b"_20000.si"),
-            (live_name(first, 1), b"_10000_1.liv"),
-            (commit_name(1), b"segments_1"),
-            (commit_name(36), b"segments_10"),
-            (pending_name(1), b"pending_segments_1"),
-            (temp_name(&docs, 1), b"_10000.docs_1.tmp"),
-            (pending_name(u64::MAX), b"pending_segments_3w5e11264sgsf"),
-        ];
-        for (name, bytes) in cases {
-            assert_eq!(rt; name.as_slice(), bytes);
-        }
-    }
 }

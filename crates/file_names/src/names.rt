@@ -8,8 +8,7 @@ ghost use Rattle.std.specs.Ordering.{nat_cmp, as_partial_cmp};
 ghost use Rattle.std.proofs.lemmas.Map.Text.{is_eq-slice_cmp};
 ghost use Rattle.file_names.specs.Names.{is_name_byte, is_file_name};
 
-use nrt_base::NoMemory;
-use nrt_base::Share;
+use nrt_base::{NoMemory, Share};
 use std::alloc::Global;
 use std::cmp::Ordering;
 use std::fmt;

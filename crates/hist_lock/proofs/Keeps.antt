@@ -15,7 +15,7 @@ use Rattle.hist_lock.specs.declared.view.Turn.TheVariants.{Idle, Waiting, Inside
 use Rattle.hist_lock.specs.declared.view.JoinedSeat.{JoinedSeat}
 use Rattle.hist_lock.specs.declared.view.View.{View}
 use Rattle.hist_lock.specs.History.{Each, longer_of, shorter_of, entries_by, MayAppend, Extends, HasJust, Continues}
-use Rattle.hist_lock.specs.Views.{all_room, ticket_of, first_view, splitter_view, new_seat_view, note_view, spent_view, joiner_view, hearer_view, waiting_view, inside_view, outside_view}
+use Rattle.hist_lock.specs.Views.{all_room, turn_ticket, first_view, splitter_view, new_seat_view, note_view, spent_view, joiner_view, hearer_view, waiting_view, inside_view, outside_view}
 use Rattle.hist_lock.specs.Rule.{Desk, Owns, HoldsTicket, Fits, EachFits, AnswersFor, IsHome, IsOut, IsKept}
 use Rattle.hist_lock.specs.Steps.{DrewTicket, Looked, ServedNext, Compared}
 use Rattle.hist_lock.proofs.Histories.{sum_by-set_at, sum_by-at, at_end, each_map, each-append, prefix_refl, prefix_more, prefix_both, longer_prefix, shorter_prefix, shorter_length, longer_first, by_same, by_none, by_between}
@@ -181,11 +181,11 @@ module _ {T E : Type 0} (history : T → List E) (names : E → ℕ) where
   pub looks : (slots id t : ℕ) (m : Me (Option T) V) → m.0.turn ≡ Waiting t → m.1 ≡ [] → Allows K slots id m 1 (λ n. n) (Looked history names (step slots 1 0 0 none) m)
   looks slots id t m is empty s k _ at _ =
       let v = m.0 in
-      let same : ticket_of v.turn ≡ t = ap ticket_of is in
-      let is' : v.turn ≡ Waiting (ticket_of v.turn) = is ∙ ap Waiting (sym same) in
+      let same : turn_ticket v.turn ≡ t = ap turn_ticket is in
+      let is' : v.turn ≡ Waiting (turn_ticket v.turn) = is ∙ ap Waiting (sym same) in
       subst (λ (cs : List (ℕ × Option T)). (w : V) × (a : Act (Option T)) × Valid s.homes cs a × K (stepped s 1 (get_or s.words 1 0) id cs w a) × Looked history names (step slots 1 0 0 none) (v, cs) (get_or s.words 1 0) (w, carried_after cs a)) (sym empty)
-      (dite (ℕ_discrete (get_or s.words 1 0) (ticket_of v.turn % 2 ^ 64))
-      (λ hit. let e = enters s k id (ticket_of v.turn) v at is' hit in (inside_view v (ticket_of v.turn) (history e.0), takes 0 (Some e.0), e.1, e.2, ((λ _. (e.0, refl, e.3)), (λ miss. absurd (miss hit)))))
+      (dite (ℕ_discrete (get_or s.words 1 0) (turn_ticket v.turn % 2 ^ 64))
+      (λ hit. let e = enters s k id (turn_ticket v.turn) v at is' hit in (inside_view v (turn_ticket v.turn) (history e.0), takes 0 (Some e.0), e.1, e.2, ((λ _. (e.0, refl, e.3)), (λ miss. absurd (miss hit)))))
       (λ miss. (v, keeps, tt, unmoved s k 1 id v at, ((λ hit. absurd (miss hit)), (λ _. refl)))))
 
   serve : (d : Desk E) (log : List E) (id t j : ℕ) (seen : List E) → t ≡ d.served → d.served ≤ d.next → d.holder t ≡ id → j ≢ id → (turn : Turn) → HoldsTicket names d j seen turn
@@ -534,7 +534,7 @@ module _ {T E : Type 0} (history : T → List E) (names : E → ℕ) where
 
   pub entered_else : (m m1 m2 m3 : Me (Option T) V) (t ticket serving : ℕ) → m1 ≡ (waiting_view m.0 t, m.1) → m2 ≡ m1 → ticket ≡ t % 2 ^ 64 → serving ≢ ticket → Looked history names (step 0 1 0 0 none) m2 serving m3 → m3 ≡ m1
   entered_else m m1 m2 m3 t ticket serving drew stays mine miss look =
-      look.1 (λ e. miss (e ∙ (ap (λ (x : Me (Option T) V). ticket_of x.0.turn % 2 ^ 64) (stays ∙ drew) ∙ sym mine))) ∙ stays
+      look.1 (λ e. miss (e ∙ (ap (λ (x : Me (Option T) V). turn_ticket x.0.turn % 2 ^ 64) (stays ∙ drew) ∙ sym mine))) ∙ stays
 
   -- the value that was taken out
   pub taken_out : (cs : List (ℕ × Option T)) (x y : Option T) → cs ≡ (0, x) ∷ [] → cs ≡ (0, y) ∷ rest cs → y ≡ x

@@ -19,6 +19,12 @@ module _ {E : Type 0} where
   abbrev pub shorter_of : List E → List E → List E
   shorter_of xs ys = cond (nat_lt (length xs) (length ys)) xs ys
 
+  -- a history that begins with either of two, and is the longer of them
+  pub record HasBoth (one two history : List E) : Type 0 where
+    pub longer : history ≡ longer_of one two
+    pub begins_with_one : IsPrefix one history
+    pub begins_with_two : IsPrefix two history
+
   -- what was added to the history since it was found
   abbrev pub entries_added : List E → List E → List E
   entries_added found now = drop (length found) now

@@ -1,11 +1,12 @@
 -- What contracts say of a seat.
-use Rattle.std.specs.Prelude.{◌≡◌, ℕ, ◌≤◌, List, [], ◌∷◌, true, None}
+use Rattle.std.specs.Prelude.{◌≡◌, ℕ, ◌+◌, ◌<◌, ◌≤◌, List, [], ◌∷◌, ◌++◌, true, None}
 use Rattle.hist_lock.specs.declared.view.Turn.TheVariants.{Idle, Inside}
 use Rattle.hist_lock.specs.declared.view.JoinedSeat.{JoinedSeat}
 use Rattle.hist_lock.specs.declared.view.View.{View}
 use Rattle.hist_lock.specs.declared.grows.Grows.{Ghosts}
 use Rattle.hist_lock.specs.declared.lock.LaneSeat.{LaneSeat}
 use Rattle.hist_lock.specs.declared.lock.HistLock.{HistLock}
+use Rattle.hist_lock.specs.History.{entries_by, entries_added}
 use Rattle.hist_lock.specs.Views.{all_room, seats_under}
 
 module _ {T E : Type 0} {g : Ghosts T E} where
@@ -69,3 +70,67 @@ module _ {T E : Type 0} {g : Ghosts T E} where
     pub joined : joined_seats after ≡ joined_seats before
     pub is_first : after.seat.me.0.is_first ≡ before.seat.me.0.is_first
     pub splits : split_count after ≡ split_count before
+
+  -- the same seat, which holds nothing and has the same room, though it may have seen more
+  pub record IsStillFree (before after : LaneSeat T E g) : Type 0 where
+    pub same : IsSame before after
+    pub free : IsFree after
+    pub room : room_of after ≡ room_of before
+
+  -- the seat that a new lock gives: the first, which is also the last, and has seen nothing
+  pub record IsOpeningSeat (lock : HistLock T E) (s : LaneSeat T E g) : Type 0 where
+    pub table : IsSeatOf lock s
+    pub is_first : IsFirst s
+    pub is_last : IsLast s
+    pub number : number_of s ≡ 0
+    pub splits : split_count s ≡ 0
+    pub seen : history_seen s ≡ []
+    pub joined : joined_seats s ≡ []
+
+  -- the first seat has split off one more, for which it gave room, and is else as before
+  pub record HasSplit (lock : HistLock T E) (before after : LaneSeat T E g) : Type 0 where
+    pub table : IsSeatOf lock after
+    pub free : IsFree after
+    pub is_first : IsFirst after
+    pub splits : split_count after ≡ split_count before + 1
+    pub room : room_of after + 1 ≡ room_of before
+    pub seen : history_seen after ≡ history_seen before
+    pub number : number_of after ≡ number_of before
+    pub own : own_entries after ≡ own_entries before
+    pub joined : joined_seats after ≡ joined_seats before
+
+  -- the seat that the first split off last: it has the next number, has seen what the first had, and has no entries
+  pub record IsNewSeat (lock : HistLock T E) (first new : LaneSeat T E g) : Type 0 where
+    pub table : IsSeatOf lock new
+    pub free : IsFree new
+    pub number : number_of new ≡ split_count first
+    pub room : room_of new ≡ 1
+    pub seen : history_seen new ≡ history_seen first
+    pub own : own_entries new ≡ []
+    pub joined : joined_seats new ≡ []
+
+  -- the seat answers for another that was joined to it, has its room too, and is else the same seat
+  pub record HasTakenIn (lock : HistLock T E) (before other after : LaneSeat T E g) : Type 0 where
+    pub table : IsSeatOf lock after
+    pub free : IsFree after
+    pub is_first : IsFirst before → IsFirst after
+    pub joined : joined_seats after ≡ joined_seats before ++ left_by other
+    pub room : room_of after ≡ room_of before + room_of other
+    pub number : number_of after ≡ number_of before
+    pub own : own_entries after ≡ own_entries before
+    pub splits : split_count after ≡ split_count before
+
+  -- the seat has left the lock: it holds nothing, has its room again, and is else the same seat
+  pub record HasLeft (lock : HistLock T E) (before after : LaneSeat T E g) : Type 0 where
+    pub table : IsSeatOf lock after
+    pub free : IsFree after
+    pub is_first : IsFirst before → IsFirst after
+    pub room : room_of after ≡ room_of before + 1
+    pub number : number_of after ≡ number_of before
+    pub joined : joined_seats after ≡ joined_seats before
+    pub splits : split_count after ≡ split_count before
+
+  -- the seat's own entries are all that name it in the history: those from before, and those that were added
+  pub record HasAppended (names : E → ℕ) (history : List E) (before after : LaneSeat T E g) : Type 0 where
+    pub all : own_entries after ≡ entries_by names (number_of before) history
+    pub more : 0 < number_of before → own_entries after ≡ own_entries before ++ entries_by names (number_of before) (entries_added (history_seen before) history)

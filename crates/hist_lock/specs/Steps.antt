@@ -3,7 +3,7 @@ use Rattle.std.specs.Prelude.{◌≡◌, ◌≢◌, ℕ, ◌%◌, ◌^◌, List,
 use mathlib.Core.List.{IsPrefix}
 use Rattle.atomic_table.specs.Table.{Step, Me}
 use Rattle.hist_lock.specs.declared.view.View.{View}
-use Rattle.hist_lock.specs.Views.{ticket_of, waiting_view, inside_view, outside_view}
+use Rattle.hist_lock.specs.Views.{turn_ticket, waiting_view, inside_view, outside_view}
 use Rattle.hist_lock.specs.History.{Continues}
 use Rattle.hist_lock.specs.Rule.{RecallsOwn}
 
@@ -22,7 +22,7 @@ module _ {T E : Type 0} (history : T → List E) (names : E → ℕ) where
 
   -- where its ticket is being served the seat has the value, and else nothing changes
   abbrev pub Looked : Step (Option T) → Sitter → ℕ → Sitter → Type 0
-  Looked st m r n = (r ≡ ticket_of m.0.turn % 2 ^ 64 → FoundValue m (ticket_of m.0.turn) n) × (r ≢ ticket_of m.0.turn % 2 ^ 64 → n ≡ m)
+  Looked st m r n = (r ≡ turn_ticket m.0.turn % 2 ^ 64 → FoundValue m (turn_ticket m.0.turn) n) × (r ≢ turn_ticket m.0.turn % 2 ^ 64 → n ≡ m)
 
   -- the seat has given the value back, and has seen its whole history
   abbrev pub ServedNext : Step (Option T) → Sitter → ℕ → Sitter → Type 0

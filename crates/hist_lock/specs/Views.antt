@@ -11,10 +11,10 @@ abbrev pub all_room : ℕ
 all_room = 4294967295
 
 -- the ticket of a seat that waits or is inside
-abbrev pub ticket_of : Turn → ℕ
-ticket_of (Waiting t) = t
-ticket_of (Inside t) = t
-ticket_of Idle = 0
+abbrev pub turn_ticket : Turn → ℕ
+turn_ticket (Waiting t) = t
+turn_ticket (Inside t) = t
+turn_ticket Idle = 0
 
 module _ {E : Type 0} where
   -- the first seat of a lock has number 0, all the room, and has seen an empty history

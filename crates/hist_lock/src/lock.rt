@@ -1,7 +1,6 @@
 //! The lock, its seats, and its value while a seat is inside.
-ghost use Rattle.std.specs.Prelude.{◌≡◌, ℕ, ◌+◌, ◌<◌, List, [], ◌∷◌, ◌++◌, true, IfOk};
-ghost use mathlib.Core.List.{IsPrefix};
-ghost use Rattle.hist_lock.specs.History.{longer_of, entries_by, entries_added, Extends};
+ghost use Rattle.std.specs.Prelude.{◌≡◌, ℕ, ◌+◌, ◌<◌, List, [], true, IfOk};
+ghost use Rattle.hist_lock.specs.History.{Extends, HasBoth};
 ghost use Rattle.hist_lock.specs.Rule.{RecallsOwn};
 
 use crate::grows::Grows;
@@ -51,15 +50,14 @@ impl<T> Model for Held<T> {
 }
 
 impl<T: Grows + Drop> HistLock<T> {
-    ghost use Rattle.hist_lock.specs.Seats.{history_seen, number_of, split_count, joined_seats, IsFirst, IsLast, IsSeatOf};
+    ghost use Rattle.hist_lock.specs.Seats.{IsOpeningSeat};
 
     /// A lock round a value with no history yet, and the first seat.
     ///
-    /// Only want of memory is an error, and the value is then dropped.
+    /// Only out of memory is an error, and the value is then dropped.
     pub fn new(alloc: Global, value: T) -> Result<(HistLock<T>, LaneSeat<T>), AllocError>
         requires { T.history value ≡ [] }
-        ensures seat { IfOk result (λ r. IsSeatOf r.0 r.1 × IsFirst r.1 × IsLast r.1) }
-        ensures begins { IfOk result (λ r. (number_of r.1 ≡ 0) × (split_count r.1 ≡ 0) × (history_seen r.1 ≡ []) × (joined_seats r.1 ≡ [])) }
+        ensures { IfOk result (λ r. IsOpeningSeat r.0 r.1) }
     {
         let mut slots = Vec::with_capacity(alloc, 1)?;
         slots.push_reserved(Some(value));
@@ -72,7 +70,7 @@ impl<T: Grows + Drop> HistLock<T> {
 
 impl<T: Grows> HistLock<T> {
     ghost use Rattle.hist_lock.specs.History.{Continues};
-    ghost use Rattle.hist_lock.specs.Seats.{history_seen, number_of, own_entries, joined_seats, split_count, room_of, view_of, left_by, IsFirst, IsFree, IsInside, IsLast, IsSeatOf, IsSame};
+    ghost use Rattle.hist_lock.specs.Seats.{history_seen, number_of, room_of, view_of, IsFirst, IsFree, IsInside, IsLast, IsSeatOf, IsSame, IsStillFree, HasSplit, IsNewSeat, HasTakenIn, HasLeft, HasAppended};
 
     /// Splits off a seat with the next number. It has seen what the first seat has seen, and has no entries yet.
     pub fn split(&self, seat: &mut LaneSeat<T>) -> LaneSeat<T>
@@ -80,14 +78,8 @@ impl<T: Grows> HistLock<T> {
         requires free { IsFree seat.old }
         requires first { IsFirst seat.old × (1 < room_of seat.old) }
 
-        // the first seat
-        ensures kept { IsSeatOf self.now seat.new × IsFree seat.new × IsFirst seat.new }
-        ensures same { (history_seen seat.new ≡ history_seen seat.old) × (number_of seat.new ≡ number_of seat.old) × (own_entries seat.new ≡ own_entries seat.old) × (joined_seats seat.new ≡ joined_seats seat.old) }
-        ensures counted { (split_count seat.new ≡ split_count seat.old + 1) × (room_of seat.new + 1 ≡ room_of seat.old) }
-
-        // the new one
-        ensures given { IsSeatOf self.now result × IsFree result × (number_of result ≡ split_count seat.new) × (room_of result ≡ 1) }
-        ensures begins { (history_seen result ≡ history_seen seat.old) × (own_entries result ≡ []) × (joined_seats result ≡ []) }
+        ensures new { IsNewSeat self.now seat.new result }
+        ensures counted { HasSplit self.now seat.old seat.new }
     {
         let table = &self.table.shared;
         let mut new = table.split_seat::<SplitOff>(&mut seat.seat);
@@ -99,10 +91,9 @@ impl<T: Grows> HistLock<T> {
     pub fn join(&self, seat: &mut LaneSeat<T>, other: LaneSeat<T>)
         requires of { IsSeatOf self.now seat.old × IsSeatOf self.now other }
         requires free { IsFree seat.old × IsFree other }
-        ensures kept { IsSeatOf self.now seat.new × IsFree seat.new × (IsFirst seat.old → IsFirst seat.new) }
-        ensures same { (number_of seat.new ≡ number_of seat.old) × (own_entries seat.new ≡ own_entries seat.old) × (split_count seat.new ≡ split_count seat.old) }
-        ensures taken { (joined_seats seat.new ≡ joined_seats seat.old ++ left_by other) × (room_of seat.new ≡ room_of seat.old + room_of other) }
-        ensures seen { (history_seen seat.new ≡ longer_of (history_seen seat.old) (history_seen other)) × IsPrefix (history_seen seat.old) (history_seen seat.new) × IsPrefix (history_seen other) (history_seen seat.new) }
+
+        ensures taken { HasTakenIn self.now seat.old other seat.new }
+        ensures seen { HasBoth (history_seen seat.old) (history_seen other) (history_seen seat.new) }
     {
         let table = &self.table.shared;
         let LaneSeat { seat: other } = other;
@@ -114,9 +105,13 @@ impl<T: Grows> HistLock<T> {
     pub fn tell(&self, from: &mut LaneSeat<T>, to: &mut LaneSeat<T>)
         requires of { IsSeatOf self.now from.old × IsSeatOf self.now to.old }
         requires free { IsFree from.old × IsFree to.old }
-        ensures from { IsSame from.old from.new × IsFree from.new × (room_of from.new ≡ room_of from.old) × (history_seen from.new ≡ history_seen from.old) }
-        ensures to { IsSame to.old to.new × IsFree to.new × (room_of to.new ≡ room_of to.old) }
-        ensures seen { (history_seen to.new ≡ longer_of (history_seen to.old) (history_seen from.old)) × IsPrefix (history_seen to.old) (history_seen to.new) × IsPrefix (history_seen from.old) (history_seen to.new) }
+
+        ensures seen { HasBoth (history_seen to.old) (history_seen from.old) (history_seen to.new) }
+
+        // Both are else as before.
+        ensures to { IsStillFree to.old to.new }
+        ensures from { IsStillFree from.old from.new }
+        ensures from_seen { history_seen from.new ≡ history_seen from.old }
     {
         let table = &self.table.shared;
         let note = table.split_seat::<MakeNote>(&mut from.seat);
@@ -130,9 +125,15 @@ impl<T: Grows> HistLock<T> {
     pub fn lock<R: Wait>(&self, rt: &R, seat: &mut LaneSeat<T>) -> Held<T>
         requires of { IsSeatOf self.now seat.old }
         requires free { IsFree seat.old }
-        ensures same { IsSame seat.old seat.new × (room_of seat.new + 1 ≡ room_of seat.old) }
+
+        // The value's history goes on from what the seat knew, and the seat has seen all of it.
+        ensures found { Continues T.names (view_of seat.old) (T.history result) }
+        ensures seen { history_seen seat.new ≡ T.history result }
+
+        // The seat is inside, which takes room for one, and is else as before.
         ensures inside { IsInside seat.new }
-        ensures found { (history_seen seat.new ≡ T.history result) × Continues T.names (view_of seat.old) (T.history result) }
+        ensures room { room_of seat.new + 1 ≡ room_of seat.old }
+        ensures same { IsSame seat.old seat.new }
     {
         let table = &self.table.shared;
         let ticket = table.fetch_add::<DrawTicket>(&mut seat.seat, TICKETS, 1);
@@ -153,11 +154,10 @@ impl<T: Grows> HistLock<T> {
         requires of { IsSeatOf self.now seat.old }
         requires inside { IsInside seat.old }
         requires extends { Extends T.names (number_of seat.old) (history_seen seat.old) (T.history held) }
-        ensures kept { IsSeatOf self.now seat.new × IsFree seat.new × (IsFirst seat.old → IsFirst seat.new) }
-        ensures same { (number_of seat.new ≡ number_of seat.old) × (joined_seats seat.new ≡ joined_seats seat.old) × (split_count seat.new ≡ split_count seat.old) × (room_of seat.new ≡ room_of seat.old + 1) }
+
         ensures seen { history_seen seat.new ≡ T.history held }
-        ensures own { own_entries seat.new ≡ entries_by T.names (number_of seat.old) (T.history held) }
-        ensures appended { 0 < number_of seat.old → own_entries seat.new ≡ own_entries seat.old ++ entries_by T.names (number_of seat.old) (entries_added (history_seen seat.old) (T.history held)) }
+        ensures own { HasAppended T.names (T.history held) seat.old seat.new }
+        ensures left { HasLeft self.now seat.old seat.new }
     {
         let table = &self.table.shared;
         let Held { value } = held;

@@ -3,8 +3,8 @@
 //! It stands outside the tests because an edit that the check must refuse is checked without them.
 ghost use Rattle.std.specs.Prelude.{◌≡◌, ◌+◌, ◌<◌, [], ◌∷◌, ◌++◌, ◌==◌, true, length, drop, OnOk, OnErr, IfOk};
 ghost use Rattle.std.specs.List.{filter};
-ghost use Rattle.hist_lock.specs.Pairs.{pairs_below};
-ghost use Rattle.hist_lock.specs.Seats.{history_seen, number_of, own_entries, joined_seats, room_of, IsFree, IsInside, IsSeatOf};
+ghost use Rattle.hist_lock.specs.Pairs.{pairs_below, IsFreeSeat, IsUnused, HasSameRoom};
+ghost use Rattle.hist_lock.specs.Seats.{history_seen, number_of, own_entries, room_of, IsInside, IsSeatOf};
 ghost use mathlib.Core.List.{IsPrefix};
 
 use crate::grows::Grows;
@@ -59,7 +59,8 @@ impl Pairs {
         number: u64,
     ) -> Result<(), AllocError>
         ensures ok { OnOk result (self.new ≡ self.old ++ (by, number) ∷ []) }
-        ensures seen { OnOk result (seen.new.items ≡ (seen.old.items ++ drop (length seen.old.items) self.old) ++ (by, number) ∷ []) }
+        ensures seen { OnOk result
+            (seen.new.items ≡ (seen.old.items ++ drop (length seen.old.items) self.old) ++ (by, number) ∷ []) }
         ensures err { OnErr result (self.new ≡ self.old) }
     {
         let known = seen.len().min(self.list.len());
@@ -79,10 +80,11 @@ pub fn append<R: Wait>(
     by: u64,
     number: u64,
 ) -> Result<(), AllocError>
-    requires seat { IsSeatOf lock.now seat.old × IsFree seat.old }
-    requires number { (number_of seat.old ≡ by) × (0 < by) }
+    requires seat { IsFreeSeat lock.now by seat.old }
+    requires number { 0 < by }
     requires seen { seen.old.items ≡ history_seen seat.old }
-    ensures seat { IsSeatOf lock.now seat.new × IsFree seat.new × (number_of seat.new ≡ by) × (room_of seat.new ≡ room_of seat.old) × (joined_seats seat.new ≡ joined_seats seat.old) }
+    ensures seat { IsFreeSeat lock.now by seat.new }
+    ensures same { HasSameRoom seat.old seat.new }
     ensures own { OnOk result (own_entries seat.new ≡ own_entries seat.old ++ (by, number) ∷ []) }
     ensures seen { OnOk result (seen.new.items ≡ history_seen seat.new) }
 {
@@ -101,9 +103,11 @@ pub fn append_all<R: Wait>(
     by: u64,
     count: u64,
 ) -> (LaneSeat<Pairs>, Result<Vec<(u64, u64)>, AllocError>)
-    requires seat { IsSeatOf lock.now seat × IsFree seat }
-    requires number { (number_of seat ≡ by) × (0 < by) × (own_entries seat ≡ []) × (history_seen seat ≡ []) }
-    ensures seat { IsSeatOf lock.now result.0 × IsFree result.0 × (number_of result.0 ≡ by) × (room_of result.0 ≡ room_of seat) × (joined_seats result.0 ≡ joined_seats seat) }
+    requires seat { IsFreeSeat lock.now by seat }
+    requires number { 0 < by }
+    requires unused { IsUnused seat }
+    ensures seat { IsFreeSeat lock.now by result.0 }
+    ensures same { HasSameRoom seat result.0 }
     ensures own { OnOk result.1 (own_entries result.0 ≡ pairs_below by count) }
     ensures seen { IfOk result.1 (λ seen. seen.items ≡ history_seen result.0) }
 {
@@ -128,24 +132,30 @@ pub fn append_in_two_threads<R: Threads + Wait + Sync>(
     two: LaneSeat<Pairs>,
     count: u64,
 ) -> (Ended, Ended)
-    requires one { IsSeatOf lock.now one × IsFree one × (number_of one ≡ 1) × (own_entries one ≡ []) × (history_seen one ≡ []) }
-    requires two { IsSeatOf lock.now two × IsFree two × (number_of two ≡ 2) × (own_entries two ≡ []) × (history_seen two ≡ []) }
-    ensures one { IsSeatOf lock.now result.0.0 × IsFree result.0.0 × (number_of result.0.0 ≡ 1) × (room_of result.0.0 ≡ room_of one) × (joined_seats result.0.0 ≡ joined_seats one) }
+    requires one { IsFreeSeat lock.now 1 one × IsUnused one }
+    requires two { IsFreeSeat lock.now 2 two × IsUnused two }
+
+    ensures one { IsFreeSeat lock.now 1 result.0.0 × HasSameRoom one result.0.0 }
     ensures own_of_one { OnOk result.0.1 (own_entries result.0.0 ≡ pairs_below 1 count) }
     ensures seen_by_one { IfOk result.0.1 (λ seen. seen.items ≡ history_seen result.0.0) }
-    ensures two { IsSeatOf lock.now result.1.0 × IsFree result.1.0 × (number_of result.1.0 ≡ 2) × (room_of result.1.0 ≡ room_of two) × (joined_seats result.1.0 ≡ joined_seats two) }
+
+    ensures two { IsFreeSeat lock.now 2 result.1.0 × HasSameRoom two result.1.0 }
     ensures own_of_two { OnOk result.1.1 (own_entries result.1.0 ≡ pairs_below 2 count) }
     ensures seen_by_two { IfOk result.1.1 (λ seen. seen.items ≡ history_seen result.1.0) }
 {
     join(
         rt,
         move || -> Ended
-            requires { IsSeatOf lock.now one × IsFree one × (number_of one ≡ 1) × (own_entries one ≡ []) × (history_seen one ≡ []) }
-            ensures { IsSeatOf lock.entry.now result.0 × IsFree result.0 × (number_of result.0 ≡ 1) × (room_of result.0 ≡ room_of one) × (joined_seats result.0 ≡ joined_seats one) × OnOk result.1 (own_entries result.0 ≡ pairs_below 1 count) × IfOk result.1 (λ seen. seen.items ≡ history_seen result.0) }
+            requires { IsFreeSeat lock.now 1 one × IsUnused one }
+            ensures { IsFreeSeat lock.entry.now 1 result.0 × HasSameRoom one result.0
+                × OnOk result.1 (own_entries result.0 ≡ pairs_below 1 count)
+                × IfOk result.1 (λ seen. seen.items ≡ history_seen result.0) }
         { append_all(rt, alloc, lock, one, 1, count) },
         move || -> Ended
-            requires { IsSeatOf lock.now two × IsFree two × (number_of two ≡ 2) × (own_entries two ≡ []) × (history_seen two ≡ []) }
-            ensures { IsSeatOf lock.entry.now result.0 × IsFree result.0 × (number_of result.0 ≡ 2) × (room_of result.0 ≡ room_of two) × (joined_seats result.0 ≡ joined_seats two) × OnOk result.1 (own_entries result.0 ≡ pairs_below 2 count) × IfOk result.1 (λ seen. seen.items ≡ history_seen result.0) }
+            requires { IsFreeSeat lock.now 2 two × IsUnused two }
+            ensures { IsFreeSeat lock.entry.now 2 result.0 × HasSameRoom two result.0
+                × OnOk result.1 (own_entries result.0 ≡ pairs_below 2 count)
+                × IfOk result.1 (λ seen. seen.items ≡ history_seen result.0) }
         { append_all(rt, alloc, lock, two, 2, count) },
     )
 }
@@ -191,12 +201,16 @@ pub fn lock_after_telling<R: Wait>(
     one: &mut LaneSeat<Pairs>,
     two: &mut LaneSeat<Pairs>,
 ) -> Held<Pairs>
-    requires seats { IsSeatOf lock.now one.old × IsSeatOf lock.now two.old × IsFree one.old × IsFree two.old }
-    requires numbers { (number_of one.old ≡ 1) × (number_of two.old ≡ 2) }
+    requires one { IsFreeSeat lock.now 1 one.old }
+    requires two { IsFreeSeat lock.now 2 two.old }
+
     ensures one { IsPrefix (own_entries one.old) (filter (λ e. e.0 == 1) result) }
     ensures two { filter (λ e. e.0 == 2) result ≡ own_entries two.old }
-    ensures seats { IsSeatOf lock.now one.new × IsSeatOf lock.now two.new × IsFree one.new × IsInside two.new × (history_seen two.new ≡ result) }
-    ensures same { (number_of one.new ≡ 1) × (number_of two.new ≡ 2) × (room_of one.new ≡ room_of one.old) × (room_of two.new + 1 ≡ room_of two.old) }
+    ensures seen { history_seen two.new ≡ result }
+
+    ensures free { IsFreeSeat lock.now 1 one.new × (room_of one.new ≡ room_of one.old) }
+    ensures inside { IsSeatOf lock.now two.new × IsInside two.new × (number_of two.new ≡ 2) }
+    ensures room { room_of two.new + 1 ≡ room_of two.old }
 {
     lock.tell(one, two);
     lock.lock(rt, two)

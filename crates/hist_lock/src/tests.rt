@@ -1,3 +1,5 @@
+//! Two threads append to one list under the lock, and a seat is told what another has seen.
+
 use crate::lock::HistLock;
 use crate::pairs::{Left, Pairs, append_in_two_threads, list_of_two_threads, lock_after_telling};
 use std::test::Fail;

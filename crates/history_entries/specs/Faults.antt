@@ -24,6 +24,10 @@ same_kind Disk Disk = true
 same_kind Stop Stop = true
 same_kind a b = false
 
+-- a fault of a disk: of one call, or of a call and all after it
+abbrev pub is_of_disk : FaultKind → Bool
+is_of_disk kind = same_kind Disk kind || same_kind Stop kind
+
 -- a plan of this kind lasts when it is met
 abbrev pub is_lasting : FaultKind → Bool
 is_lasting Stop = true
@@ -48,3 +52,7 @@ is_fault_by node kind e = false
 abbrev pub has_fault : (ℕ → Bool) → (FaultKind → Bool) → At → Past → Bool
 has_fault node kind at [] = false
 has_fault node kind at (e ∷ past) = (is_fault_by node kind e.event && same_at e.at at) || has_fault node kind at past
+
+-- the line has met a fault, of any kind, at any node
+abbrev pub has_met_fault : At → Past → Bool
+has_met_fault at past = has_fault (λ n. true) (λ kind. true) at past

@@ -9,38 +9,38 @@ use Rattle.history_entries.specs.declared.point.Verdict.{Verdict}
 use Rattle.history_entries.specs.declared.point.Verdict.TheVariants.{Legal, Broken}
 use Rattle.history_entries.specs.Nodes.{Past}
 use Rattle.history_entries.specs.Lines.{start_entry}
-use Rattle.history_entries.specs.Rules.{MayAccept, MayStartPublish, MayPublish, MayStartCopy, MaySwitch, MayFinishCopy, MayStartSettle, MaySettle, MayOpen, MayAsk, MayAnswer, MayClose, MayStartCommit, MayCommit, MayCrash, MayReopen, MayPromote, MayStartMerge, MayListFiles, MayFault, MayRefuseStarted}
+use Rattle.history_entries.specs.Rules.{MayAccept, MayStartPublish, MayPublish, MayStartCopy, MaySwitch, MayFinishCopy, MayStartSettle, MaySettle, MayOpen, MayAsk, MayAnswer, MayClose, MayStartCommit, MayCommit, MayCrash, MayReopen, MayPromote, MayStartMerge, MayDrain, MayListFiles, MayPlan, MayFault, MayRefuseLine}
 
 -- the rule of an entry of this line, over the entries before it
-abbrev pub Keeps : ℕ → Past → At → Event → Type 0
-Keeps size past at (Accepted seq op) = MayAccept past seq
-Keeps size past at Publishing = MayStartPublish past at
-Keeps size past at (Published g v) = MayPublish past at g v
-Keeps size past at (Copying n v) = MayStartCopy size past n v
-Keeps size past at (Switched n v) = MaySwitch size past at n v
-Keeps size past at (Copied n v) = MayFinishCopy size past at n v
-Keeps size past at (Settling v) = MayStartSettle past v
-Keeps size past at (Settled v) = MaySettle size past at v
-Keeps size past at (Opened n t v) = MayOpen size past at n t v
-Keeps size past at (Asking n t v) = MayAsk size past at n t v
-Keeps size past at (Answered n t v query answer) = MayAnswer size past at n t v query answer
-Keeps size past at (Closed n t) = MayClose size past at n t
-Keeps size past at (Committing n v) = MayStartCommit size past at n v
-Keeps size past at (Committed n v) = MayCommit size past at n v
-Keeps size past at (Crashed n) = MayCrash size past n
-Keeps size past at (Reopened n v) = MayReopen size past n v
-Keeps size past at (Promoted n g f v) = MayPromote size past n g f v
-Keeps size past at (Merging seg) = MayStartMerge past seg
-Keeps size past at (Drained done most) = ⊤
-Keeps size past at (Files n names) = MayListFiles size past n names
-Keeps size past at (Planned n plan) = ⊤
-Keeps size past at (Fault n kind) = MayFault size past n kind
-Keeps size past at (Refused cause) = MayRefuseStarted size past at (start_entry at past) cause
+abbrev pub KeepsRule : ℕ → Past → At → Event → Type 0
+KeepsRule size past at (Accepted seq op) = MayAccept past at seq
+KeepsRule size past at Publishing = MayStartPublish past at
+KeepsRule size past at (Published g v) = MayPublish past at g v
+KeepsRule size past at (Copying n v) = MayStartCopy size past at n v
+KeepsRule size past at (Switched n v) = MaySwitch size past at n v
+KeepsRule size past at (Copied n v) = MayFinishCopy size past at n v
+KeepsRule size past at (Settling v) = MayStartSettle past v
+KeepsRule size past at (Settled v) = MaySettle size past at v
+KeepsRule size past at (Opened n t v) = MayOpen size past at n t v
+KeepsRule size past at (Asking n t v) = MayAsk size past at n t v
+KeepsRule size past at (Answered n t v query answer) = MayAnswer size past at n t v query answer
+KeepsRule size past at (Closed n t) = MayClose size past at n t
+KeepsRule size past at (Committing n v) = MayStartCommit size past at n v
+KeepsRule size past at (Committed n v) = MayCommit size past at n v
+KeepsRule size past at (Crashed n) = MayCrash size past n
+KeepsRule size past at (Reopened n v) = MayReopen size past at n v
+KeepsRule size past at (Promoted n g f v) = MayPromote size past n g f v
+KeepsRule size past at (Merging seg) = MayStartMerge past at seg
+KeepsRule size past at (Drained done most) = MayDrain size past at done
+KeepsRule size past at (Files n names) = MayListFiles size past at n names
+KeepsRule size past at (Planned n plan) = MayPlan past at
+KeepsRule size past at (Fault n kind) = MayFault size past at n kind
+KeepsRule size past at (Refused cause) = MayRefuseLine size past at (start_entry at past) cause
 
 -- each entry keeps the rule of its kind over the entries before it
 abbrev pub IsLegalPast : ℕ → Past → Type 0
 IsLegalPast size [] = ⊤
-IsLegalPast size (e ∷ past) = Keeps size past e.at e.event × IsLegalPast size past
+IsLegalPast size (e ∷ past) = KeepsRule size past e.at e.event × IsLegalPast size past
 
 -- a history is legal where every entry keeps the rule of its kind
 abbrev pub IsLegal : History → Type 0
@@ -69,17 +69,18 @@ rule_number (Merging seg) = 17
 rule_number (Files n names) = 18
 rule_number (Fault n kind) = 19
 rule_number (Refused cause) = 20
-rule_number e = 0
+rule_number (Drained done most) = 21
+rule_number (Planned n plan) = 22
 
 -- the entry at this place is the first that breaks its rule
-pub record IsBroken (h : History) (at rule : ℕ) : Type 0 where
+pub record BreaksFirst (h : History) (at rule : ℕ) : Type 0 where
   pub entry : Entry
   pub there : slice_get h.entries at ≡ Some entry
   pub before : IsLegalPast h.nodes (reverse (take at h.entries))
-  pub broken : Keeps h.nodes (reverse (take at h.entries)) entry.at entry.event → ⊥
+  pub broken : KeepsRule h.nodes (reverse (take at h.entries)) entry.at entry.event → ⊥
   pub numbered : rule ≡ rule_number entry.event
 
 -- the verdict says whether the history is legal, and else which entry breaks which rule
 abbrev pub IsVerdict : History → Verdict → Type 0
 IsVerdict h Legal = IsLegal h
-IsVerdict h (Broken at rule) = IsBroken h at rule
+IsVerdict h (Broken at rule) = BreaksFirst h at rule

@@ -4,5 +4,6 @@ pub mod Points
 pub mod Tickets
 pub mod Commits
 pub mod Faults
+pub mod Tasks
 pub mod Rules
 pub mod Legal

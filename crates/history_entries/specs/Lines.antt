@@ -1,9 +1,9 @@
 -- What the entries before a place show of one line of the script: how far it has come, and what happened since it began.
-use Rattle.std.specs.Prelude.{ℕ, ◌≡◌, [], ◌∷◌, Bool, true, false, ◌&&◌, ◌||◌, not, ◌==◌, if◌then◌else◌, Option, Some, None}
+use Rattle.std.specs.Prelude.{ℕ, ◌≡◌, [], ◌∷◌, Bool, true, false, ◌&&◌, ◌||◌, not, ◌==◌, max, if◌then◌else◌, Option, Some, None}
 use Rattle.nrt_base.specs.declared.numbers.At.{At}
 use Rattle.nrt_base.specs.declared.numbers.NodeNo.{NodeNo}
 use Rattle.history_entries.specs.declared.entry.Event.{Event}
-use Rattle.history_entries.specs.declared.entry.Event.TheVariants.{Publishing, Copying, Switched, Settling, Opened, Asking, Committing, Crashed, Fault}
+use Rattle.history_entries.specs.declared.entry.Event.TheVariants.{Accepted, Publishing, Published, Copying, Switched, Copied, Settling, Settled, Opened, Asking, Answered, Closed, Committing, Committed, Crashed, Reopened, Promoted, Merging, Drained, Files, Planned, Fault, Refused}
 use Rattle.history_entries.specs.Nodes.{Past, primary_of, is_at, crashes, primary_crashes}
 
 -- the two are one line of the script
@@ -20,15 +20,31 @@ is_start (Asking n t v) = true
 is_start (Committing n v) = true
 is_start e = false
 
--- the event is neither a start nor a reply: something that happened while the line was done
-abbrev pub is_within : Event → Bool
-is_within (Switched n v) = true
-is_within (Fault n kind) = true
-is_within e = false
-
--- the event answers its line
+-- the event answers its line: it neither starts it, nor happens while it is done
 abbrev pub is_reply : Event → Bool
-is_reply e = not (is_start e) && not (is_within e)
+is_reply (Accepted seq op) = true
+is_reply Publishing = false
+is_reply (Published g v) = true
+is_reply (Copying n v) = false
+is_reply (Switched n v) = false
+is_reply (Copied n v) = true
+is_reply (Settling v) = false
+is_reply (Settled v) = true
+is_reply (Opened n t v) = not (t.0 == 0)
+is_reply (Asking n t v) = false
+is_reply (Answered n t v query answer) = true
+is_reply (Closed n t) = true
+is_reply (Committing n v) = false
+is_reply (Committed n v) = true
+is_reply (Crashed n) = true
+is_reply (Reopened n v) = true
+is_reply (Promoted n g f v) = true
+is_reply (Merging seg) = true
+is_reply (Drained done most) = true
+is_reply (Files n names) = true
+is_reply (Planned n plan) = true
+is_reply (Fault n kind) = false
+is_reply (Refused cause) = true
 
 -- the entries of a line, newest first
 abbrev pub entries_of_line : At → Past → Past
@@ -92,7 +108,46 @@ abbrev pub commit_in_flight : ℕ → Past → Option At
 commit_in_flight n [] = None
 commit_in_flight n (e ∷ past) = commit_by n e.at e.event (commit_in_flight n past)
 
+abbrev pub copy_by : ℕ → ℕ → At → Event → Option NodeNo → Option At → Option At
+copy_by n v at (Copying m w) p old = if (m.0 == n) && (w.0 == v) then Some at else old
+copy_by n v at (Crashed m) p old = if (m.0 == n) || is_at p m.0 then None else without_at at old
+copy_by n v at e p old = if is_reply e then without_at at old else old
+
+-- the line whose copy of a version to a node is between its start and its reply, neither the node nor the primary crashed since
+abbrev pub copy_in_flight : ℕ → ℕ → Past → Option At
+copy_in_flight n v [] = None
+copy_in_flight n v (e ∷ past) = copy_by n v e.at e.event (primary_of past) (copy_in_flight n v past)
+
 -- no line but this one is in flight
 abbrev pub is_free_for : At → Option At → Bool
 is_free_for at None = true
 is_free_for at (Some a) = same_at at a
+
+abbrev pub highest_copy_by : ℕ → Event → ℕ → ℕ
+highest_copy_by n (Copying m w) v = if m.0 == n then max v w.0 else v
+highest_copy_by n e v = v
+
+-- the greatest version of a copy to a node that was started, or 1
+abbrev pub highest_copy : ℕ → Past → ℕ
+highest_copy n [] = 1
+highest_copy n (e ∷ past) = highest_copy_by n e.event (highest_copy n past)
+
+abbrev pub switches_by : Event → Bool
+switches_by (Switched n v) = true
+switches_by e = false
+
+-- the line has switched a replica since its start entry
+abbrev pub has_switched : At → Past → Bool
+has_switched at [] = false
+has_switched at (e ∷ past) =
+    if is_start e.event && same_at e.at at then false else (switches_by e.event && same_at e.at at) || has_switched at past
+
+abbrev pub switched_node_by : Event → ℕ → ℕ
+switched_node_by (Switched n v) k = max k n.0
+switched_node_by e k = k
+
+-- the greatest node that the line has switched since its start entry, or 0
+abbrev pub highest_switched : At → Past → ℕ
+highest_switched at [] = 0
+highest_switched at (e ∷ past) =
+    if same_at e.at at then (if is_start e.event then 0 else switched_node_by e.event (highest_switched at past)) else highest_switched at past

@@ -1,15 +1,17 @@
 -- The points that the entries before a place show: which operations each has, and so which documents.
-use Rattle.std.specs.Prelude.{ℕ, ◌+◌, List, [], ◌∷◌, ◌++◌, Bool, true, false, ◌&&◌, ◌==◌, drop, nat_le, if◌then◌else◌}
+use Rattle.std.specs.Prelude.{ℕ, ◌≡◌, ◌+◌, List, [], ◌∷◌, ◌++◌, Bool, true, false, ◌&&◌, ◌==◌, drop, nat_lt, nat_le, if◌then◌else◌}
 use Rattle.std.specs.List.{list_any}
 use Rattle.nrt_base.specs.declared.doc.Doc.{Doc}
 use Rattle.nrt_base.specs.declared.numbers.At.{At}
+use Rattle.nrt_base.specs.SegNumbers.{segment_generation, segment_place}
+use Rattle.file_names.specs.Names.{IsFileOfSegment, IsTemporaryOfSegment}
 use Rattle.documents.specs.declared.operation.Op.{Op}
-use Rattle.documents.specs.declared.operation.Op.TheVariants.{Put, Delete}
+use Rattle.documents.specs.declared.operation.Op.TheVariants.{Put, Delete, Drop}
 use Rattle.history_entries.specs.declared.entry.Event.{Event}
 use Rattle.history_entries.specs.declared.entry.Event.TheVariants.{Accepted, Publishing, Published, Promoted, Merging}
 use Rattle.history_entries.specs.declared.point.Point.{Point}
 use Rattle.documents.specs.Documents.{documents_after}
-use Rattle.history_entries.specs.Nodes.{Past, version_of}
+use Rattle.history_entries.specs.Nodes.{Past, generation_of, version_of}
 use Rattle.history_entries.specs.Lines.{same_at, is_start, before_start}
 
 abbrev pub written_by : Event → Past → (ℕ → List Op) → List Op → List Op
@@ -87,9 +89,11 @@ operations_of_generation (e ∷ past) = accepted_ops_by e.event (operations_of_g
 abbrev pub cut_of : Past → List Op
 cut_of past = drop (published_in_generation past) (operations_of_generation past)
 
+-- the operation puts a document
 abbrev pub is_put : Op → Bool
 is_put (Put doc) = true
 is_put (Delete key) = false
+is_put (Drop word) = false
 
 -- the cut has a put, so its publish makes a segment and draws a name
 abbrev pub cut_has_put : Past → Bool
@@ -105,6 +109,23 @@ names_by e has_put k = k
 abbrev pub names_drawn : Past → ℕ
 names_drawn [] = 0
 names_drawn (e ∷ past) = names_by e.event (cut_has_put past) (names_drawn past)
+
+-- how many segment names a generation has drawn, or had when it was the present one
+abbrev pub names_drawn_in : ℕ → Past → ℕ
+names_drawn_in g [] = 0
+names_drawn_in g (e ∷ past) = if generation_of (e ∷ past) == g then names_drawn (e ∷ past) else names_drawn_in g past
+
+-- the segment's name was drawn: its place is below the number of names that its generation has drawn
+abbrev pub is_drawn : ℕ → Past → Bool
+is_drawn seg past = nat_lt (segment_place seg) (names_drawn_in (segment_generation seg) past)
+
+-- the name of a file of a segment whose name was drawn
+abbrev pub IsDrawnFile : Past → List ℕ → Type 0
+IsDrawnFile past name = (seg : ℕ) × (is_drawn seg past ≡ true) × IsFileOfSegment seg name
+
+-- the temporary name of such a file
+abbrev pub IsDrawnTemporary : Past → List ℕ → Type 0
+IsDrawnTemporary past name = (seg : ℕ) × (is_drawn seg past ≡ true) × IsTemporaryOfSegment seg name
 
 abbrev pub merges_by : Event → ℕ → ℕ
 merges_by (Merging seg) k = k + 1

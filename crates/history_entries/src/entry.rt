@@ -1,7 +1,5 @@
 use crate::cause::{Cause, FaultKind, FaultPlan};
-use documents::Op;
-use documents::Answer;
-use documents::Query;
+use documents::{Answer, Op, Query};
 use file_names::FileName;
 use nrt_base::{At, Gen, List, NodeNo, SegNo, TicketNo, Version};
 

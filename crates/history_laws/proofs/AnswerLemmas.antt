@@ -12,7 +12,7 @@ use Rattle.history_entries.specs.Nodes.{Past, is_point, crashes}
 use Rattle.history_entries.specs.Lines.{same_at, is_start, start_entry}
 use Rattle.history_entries.specs.Tickets.{Ticket, is_ticket, ticket_by, last_opened, while_alive, open_ticket, IsTicketOf}
 use Rattle.history_entries.specs.Rules.{StartedSearch}
-use Rattle.history_entries.specs.Legal.{Keeps, IsLegalPast}
+use Rattle.history_entries.specs.Legal.{KeepsRule, IsLegalPast}
 use Rattle.history_laws.proofs.PastLemmas.{point_stays}
 use Rattle.history_laws.proofs.NodeLemmas.{known}
 
@@ -29,7 +29,7 @@ at_point_if : (past : Past) (b : Bool) (yes' no' : Option Ticket) → IsAtPoint 
 at_point_if past true yes' no' left right = left
 at_point_if past false yes' no' left right = right
 
-opened_step : (size : ℕ) (past : Past) (at : At) (e : Event) (lane t : ℕ) → Keeps size past at e → IsLegalPast size past → IsAtPoint past (last_opened lane t past)
+opened_step : (size : ℕ) (past : Past) (at : At) (e : Event) (lane t : ℕ) → KeepsRule size past at e → IsLegalPast size past → IsAtPoint past (last_opened lane t past)
     → IsAtPoint (record { at = at; event = e } ∷ past) (ticket_by lane t at e past (last_opened lane t past))
 opened_step size past at (Opened n u v) lane t keeps legal old =
     at_point_if past (u.0 == 0) (last_opened lane t past) (if is_ticket at u.0 lane t then Some (record { node = n.0; version = v.0; life = crashes n.0 past }) else last_opened lane t past)
@@ -58,7 +58,7 @@ ticket_point : (past : Past) (ticket : Option Ticket) (n v : ℕ) → IsAtPoint 
 ticket_point past None n v point held = absurd held
 ticket_point past (Some ticket) n v point held = subst (λ (w : ℕ). is_point w past ≡ true) held.1 point
 
-search_step : (size : ℕ) (past : Past) (at : At) (e : Event) (n : NodeNo) (t : TicketNo) (v : Version) → Keeps size past at e → IsLegalPast size past
+search_step : (size : ℕ) (past : Past) (at : At) (e : Event) (n : NodeNo) (t : TicketNo) (v : Version) → KeepsRule size past at e → IsLegalPast size past
     → StartedSearch n t v (Some e) → is_point v.0 past ≡ true
 search_step size past at (Opened m u w) n t v keeps legal started =
     subst (λ (x : ℕ). is_point x past ≡ true) (sym keeps.searched ∙ ap (λ (x : Version). x.0) started.2) ((known size past legal).version m.0)

@@ -1,20 +1,20 @@
 -- The version at which a node of a legal history reopens: its last commit, or a later one that was begun.
 use Rattle.std.proofs.Common.{◌≡◌, ◌≤◌, ◌<◌, ◌+◌, ◌==◌, ◌||◌, ◌&&◌, ◌⊎◌, ⊎_elim, inl, inr, ℕ, List, [], ◌∷◌, Bool, true, false, true≢false, Option, Some, None, if◌then◌else◌, refl, sym, ap, ◌∙◌, subst, arith}
-use Rattle.std.proofs.lemmas.Bool.{or_cases}
+use Rattle.std.proofs.lemmas.Bool.{or_cases, or_right}
 use Rattle.std.specs.List.{list_any}
 use Rattle.nrt_base.specs.declared.numbers.At.{At}
 use Rattle.history_entries.specs.declared.entry.Event.{Event}
 use Rattle.history_entries.specs.declared.entry.Event.TheVariants.{Published, Switched, Committing, Committed, Crashed, Reopened, Promoted}
 use Rattle.history_entries.specs.Nodes.{Past, is_at, primary_of, is_running, is_running_by, crashes, version_of, version_by, newest_version}
 use Rattle.history_entries.specs.Lines.{same_at, is_start, start_entry, before_start, commit_in_flight}
-use Rattle.history_entries.specs.Commits.{base_by, base_version, more_by, reopenable_by, reopenable_versions, was_searched_since}
+use Rattle.history_entries.specs.Commits.{base_by, base_version, is_stuck, late_commit, more_by, reopenable_by, reopenable_versions, was_searched_since}
 use Rattle.history_entries.specs.Rules.{StartedCommit}
-use Rattle.history_entries.specs.Legal.{Keeps, IsLegalPast}
+use Rattle.history_entries.specs.Legal.{KeepsRule, IsLegalPast}
 use Rattle.history_laws.specs.Laws.{is_some_line, was_searched_in_commit, IsLeftByCommits}
 use Rattle.history_laws.proofs.PastLemmas.{equal_from_test, test_same, point_low}
 use Rattle.history_laws.proofs.NodeLemmas.{known, in_one, in_more, crashes_rise, runs_on, rises_step}
 
-started_running : (size : ℕ) (past : Past) (at : At) (e : Event) (n : ℕ) → Keeps size past at e → StartedCommit n (Some e) → is_running_by n e (is_running n past) ≡ true
+started_running : (size : ℕ) (past : Past) (at : At) (e : Event) (n : ℕ) → KeepsRule size past at e → StartedCommit n (Some e) → is_running_by n e (is_running n past) ≡ true
 started_running size past at (Committing m w) n keeps started = subst (λ (k : ℕ). is_running k past ≡ true) started keeps.running
 started_running size past at e n keeps started = absurd started
 
@@ -65,17 +65,13 @@ commit_runs size at n (e ∷ past) legal started same =
           low = λ v found. ⊎_elim (λ now. omega arith) (λ old. omega (arith, before.low v old, up)) (now_or v false is found);
         }
 
-or_right : (x y : Bool) → y ≡ true → (x || y) ≡ true
-or_right true y is = refl
-or_right false y is = is
-
 more_found : (flight : Option At) (w base : ℕ) (old : List ℕ) → list_any (λ u. u == base) old ≡ true → list_any (λ u. u == base) (more_by flight w old) ≡ true
 more_found None w base old found = found
 more_found (Some a) w base old found = or_right (w == base) _ found
 
 -- the base version is one at which the node may reopen
 base_step : (n : ℕ) (e : Event) (base : ℕ) (past : Past) (old : List ℕ) → list_any (λ w. w == base) old ≡ true
-    → list_any (λ w. w == base_by n e base) (reopenable_by n e (primary_of past) (commit_in_flight n past) old) ≡ true
+    → list_any (λ w. w == base_by n e base) (reopenable_by n e (primary_of past) (late_commit n past) old) ≡ true
 base_step n (Committed m w) base past old found =
     elim (m.0 == n) as (λ b. list_any (λ u. u == (if b then w.0 else base)) (if b then w.0 ∷ [] else old) ≡ true) [ true ↦ rw (test_same w.0) refl | false ↦ found ]
 base_step n (Reopened m w) base past old found =
@@ -83,18 +79,18 @@ base_step n (Reopened m w) base past old found =
 base_step n (Committing m w) base past old found =
     elim (m.0 == n) as (λ b. list_any (λ u. u == base) (if b then w.0 ∷ old else old) ≡ true) [ true ↦ or_right (w.0 == base) _ found | false ↦ found ]
 base_step n (Published g w) base past old found =
-    elim (is_at (primary_of past) n) as (λ b. list_any (λ u. u == base) (if b then more_by (commit_in_flight n past) w.0 old else old) ≡ true) [
-      | true ↦ more_found (commit_in_flight n past) w.0 base old found
+    elim (is_at (primary_of past) n) as (λ b. list_any (λ u. u == base) (if b then more_by (late_commit n past) w.0 old else old) ≡ true) [
+      | true ↦ more_found (late_commit n past) w.0 base old found
       | false ↦ found
     ]
 base_step n (Switched m w) base past old found =
-    elim (m.0 == n) as (λ b. list_any (λ u. u == base) (if b then more_by (commit_in_flight n past) w.0 old else old) ≡ true) [
-      | true ↦ more_found (commit_in_flight n past) w.0 base old found
+    elim (m.0 == n) as (λ b. list_any (λ u. u == base) (if b then more_by (late_commit n past) w.0 old else old) ≡ true) [
+      | true ↦ more_found (late_commit n past) w.0 base old found
       | false ↦ found
     ]
 base_step n (Promoted m g f w) base past old found =
-    elim (m.0 == n) as (λ b. list_any (λ u. u == base) (if b then more_by (commit_in_flight n past) w.0 old else old) ≡ true) [
-      | true ↦ more_found (commit_in_flight n past) w.0 base old found
+    elim (m.0 == n) as (λ b. list_any (λ u. u == base) (if b then more_by (late_commit n past) w.0 old else old) ≡ true) [
+      | true ↦ more_found (late_commit n past) w.0 base old found
       | false ↦ found
     ]
 base_step n e base past old found = found
@@ -111,7 +107,7 @@ pub record Low (past : Past) (n : ℕ) : Type 0 where
   pub running : is_running n past ≡ true → base_version n past ≤ version_of n past
   pub reopenable : (v : ℕ) → list_any (λ w. w == v) (reopenable_versions n past) ≡ true → base_version n past ≤ v
 
-running_step : (size : ℕ) (past : Past) (at : At) (e : Event) (n : ℕ) → Keeps size past at e → IsLegalPast size past → Low past n
+running_step : (size : ℕ) (past : Past) (at : At) (e : Event) (n : ℕ) → KeepsRule size past at e → IsLegalPast size past → Low past n
     → is_running_by n e (is_running n past) ≡ true → base_by n e (base_version n past) ≤ version_by n (primary_of past) e (version_of n past)
 running_step size past at (Committed m w) n keeps legal low runs = commit (m.0 == n) refl
   where
@@ -150,8 +146,8 @@ more_low : (flight : Option At) (w v base : ℕ) (old : List ℕ) → base ≤ w
 more_low flight w v base old high low found =
     ⊎_elim (λ same. let is = equal_from_test w v same in omega arith) low (in_more flight w v old found)
 
-reopenable_step : (size : ℕ) (past : Past) (at : At) (e : Event) (n v : ℕ) → Keeps size past at e → IsLegalPast size past → Low past n
-    → list_any (λ u. u == v) (reopenable_by n e (primary_of past) (commit_in_flight n past) (reopenable_versions n past)) ≡ true
+reopenable_step : (size : ℕ) (past : Past) (at : At) (e : Event) (n v : ℕ) → KeepsRule size past at e → IsLegalPast size past → Low past n
+    → list_any (λ u. u == v) (reopenable_by n e (primary_of past) (late_commit n past) (reopenable_versions n past)) ≡ true
     → base_by n e (base_version n past) ≤ v
 reopenable_step size past at (Committed m w) n v keeps legal low found = commit (m.0 == n) found
   where
@@ -174,29 +170,29 @@ reopenable_step size past at (Committing m w) n v keeps legal low found = start 
     start false is found = low.reopenable v found
 reopenable_step size past at (Published g w) n v keeps legal low found = publish (is_at (primary_of past) n) found
   where
-    publish : (b : Bool) → list_any (λ u. u == v) (if b then more_by (commit_in_flight n past) w.0 (reopenable_versions n past) else reopenable_versions n past) ≡ true → base_version n past ≤ v
+    publish : (b : Bool) → list_any (λ u. u == v) (if b then more_by (late_commit n past) w.0 (reopenable_versions n past) else reopenable_versions n past) ≡ true → base_version n past ≤ v
     publish true found =
         let next : w.0 ≡ newest_version past + 1 = keeps.next in
         let base = base_low size past n legal in
-        more_low (commit_in_flight n past) w.0 v (base_version n past) (reopenable_versions n past) (omega arith) (low.reopenable v) found
+        more_low (late_commit n past) w.0 v (base_version n past) (reopenable_versions n past) (omega arith) (low.reopenable v) found
     publish false found = low.reopenable v found
 reopenable_step size past at (Switched m w) n v keeps legal low found = switch (m.0 == n) refl found
   where
-    switch : (b : Bool) → (m.0 == n) ≡ b → list_any (λ u. u == v) (if b then more_by (commit_in_flight n past) w.0 (reopenable_versions n past) else reopenable_versions n past) ≡ true → base_version n past ≤ v
+    switch : (b : Bool) → (m.0 == n) ≡ b → list_any (λ u. u == v) (if b then more_by (late_commit n past) w.0 (reopenable_versions n past) else reopenable_versions n past) ≡ true → base_version n past ≤ v
     switch true is found =
         let node = equal_from_test m.0 n is in
         let above : version_of n past < w.0 = subst (λ (k : ℕ). version_of k past < w.0) node keeps.above in
         let runs = low.running (subst (λ (k : ℕ). is_running k past ≡ true) node keeps.replica.running) in
-        more_low (commit_in_flight n past) w.0 v (base_version n past) (reopenable_versions n past) (omega arith) (low.reopenable v) found
+        more_low (late_commit n past) w.0 v (base_version n past) (reopenable_versions n past) (omega arith) (low.reopenable v) found
     switch false is found = low.reopenable v found
 reopenable_step size past at (Promoted m g f w) n v keeps legal low found = promote (m.0 == n) found
   where
-    promote : (b : Bool) → list_any (λ u. u == v) (if b then more_by (commit_in_flight n past) w.0 (reopenable_versions n past) else reopenable_versions n past) ≡ true → base_version n past ≤ v
+    promote : (b : Bool) → list_any (λ u. u == v) (if b then more_by (late_commit n past) w.0 (reopenable_versions n past) else reopenable_versions n past) ≡ true → base_version n past ≤ v
     promote true found =
         let above : w.0 ≡ f.0 + 1 = keeps.above in
         let high : newest_version past ≤ f.0 = keeps.high in
         let base = base_low size past n legal in
-        more_low (commit_in_flight n past) w.0 v (base_version n past) (reopenable_versions n past) (omega arith) (low.reopenable v) found
+        more_low (late_commit n past) w.0 v (base_version n past) (reopenable_versions n past) (omega arith) (low.reopenable v) found
     promote false found = low.reopenable v found
 reopenable_step size past at e n v keeps legal low found = low.reopenable v found
 
@@ -226,21 +222,26 @@ in_flight_or : (flight : Option At) (w v : ℕ) (old : List ℕ) → list_any (�
 in_flight_or None w v old found = inr found
 in_flight_or (Some at) w v old found = ⊎_elim (λ same. inl (refl, equal_from_test w v same)) (λ older. inr older) (or_cases (w == v) _ found)
 
--- a version that the node searches from now on
-made : (flight : Option At) (w v : ℕ) (after b : Bool) (now base : ℕ) (old : List ℕ) (was : Bool)
-    → (list_any (λ u. u == v) old ≡ true → (v ≡ base) ⊎ (was ≡ true))
-    → list_any (λ u. u == v) (if b then more_by flight w old else old) ≡ true
-    → (v ≡ base) ⊎ ((((is_some_line flight || after) && ((if b then w else now) == v)) || was) ≡ true)
-made flight w v after true now base old was origin found =
-    ⊎_elim
-    (λ new. inr (searched_now (is_some_line flight || after) w v was (ap (λ (x : Bool). x || after) new.0) new.1))
-    (λ older. still _ was (origin older))
-    (in_flight_or flight w v old found)
-made flight w v after false now base old was origin found = still _ was (origin found)
+-- a late commit is in flight
+late_flies : (stuck : Bool) (flight : Option At) → is_some_line (if stuck then flight else None) ≡ true → is_some_line flight ≡ true
+late_flies true flight is = is
+late_flies false flight is = absurd (true≢false (sym is))
 
-origin_step : (size : ℕ) (past : Past) (at : At) (e : Event) (n v : ℕ) → Keeps size past at e
+-- a version that the node searches from now on
+made : (stuck : Bool) (flight : Option At) (w v : ℕ) (after b : Bool) (now base : ℕ) (old : List ℕ) (was : Bool)
+    → (list_any (λ u. u == v) old ≡ true → (v ≡ base) ⊎ (was ≡ true))
+    → list_any (λ u. u == v) (if b then more_by (if stuck then flight else None) w old else old) ≡ true
+    → (v ≡ base) ⊎ ((((is_some_line flight || after) && ((if b then w else now) == v)) || was) ≡ true)
+made stuck flight w v after true now base old was origin found =
+    ⊎_elim
+    (λ new. inr (searched_now (is_some_line flight || after) w v was (ap (λ (x : Bool). x || after) (late_flies stuck flight new.0)) new.1))
+    (λ older. still _ was (origin older))
+    (in_flight_or (if stuck then flight else None) w v old found)
+made stuck flight w v after false now base old was origin found = still _ was (origin found)
+
+origin_step : (size : ℕ) (past : Past) (at : At) (e : Event) (n v : ℕ) → KeepsRule size past at e
     → (list_any (λ u. u == v) (reopenable_versions n past) ≡ true → (v ≡ base_version n past) ⊎ (was_searched_in_commit n v past ≡ true))
-    → list_any (λ u. u == v) (reopenable_by n e (primary_of past) (commit_in_flight n past) (reopenable_versions n past)) ≡ true
+    → list_any (λ u. u == v) (reopenable_by n e (primary_of past) (late_commit n past) (reopenable_versions n past)) ≡ true
     → (v ≡ base_by n e (base_version n past)) ⊎ (was_searched_in_commit n v (record { at = at; event = e } ∷ past) ≡ true)
 origin_step size past at (Committed m w) n v keeps origin found = settle _ (m.0 == n) found
   where
@@ -266,9 +267,9 @@ origin_step size past at (Committing m w) n v keeps origin found = begin (m.0 ==
         (λ old. still _ _ (origin old))
         (or_cases (w.0 == v) _ found)
     begin false is found = still _ _ (origin found)
-origin_step size past at (Published g w) n v keeps origin found = made (commit_in_flight n past) w.0 v _ (is_at (primary_of past) n) (version_of n past) (base_version n past) (reopenable_versions n past) (was_searched_in_commit n v past) origin found
-origin_step size past at (Switched m w) n v keeps origin found = made (commit_in_flight n past) w.0 v _ (m.0 == n) (version_of n past) (base_version n past) (reopenable_versions n past) (was_searched_in_commit n v past) origin found
-origin_step size past at (Promoted m g f w) n v keeps origin found = made (commit_in_flight n past) w.0 v _ (m.0 == n) (version_of n past) (base_version n past) (reopenable_versions n past) (was_searched_in_commit n v past) origin found
+origin_step size past at (Published g w) n v keeps origin found = made (is_stuck n past) (commit_in_flight n past) w.0 v _ (is_at (primary_of past) n) (version_of n past) (base_version n past) (reopenable_versions n past) (was_searched_in_commit n v past) origin found
+origin_step size past at (Switched m w) n v keeps origin found = made (is_stuck n past) (commit_in_flight n past) w.0 v _ (m.0 == n) (version_of n past) (base_version n past) (reopenable_versions n past) (was_searched_in_commit n v past) origin found
+origin_step size past at (Promoted m g f w) n v keeps origin found = made (is_stuck n past) (commit_in_flight n past) w.0 v _ (m.0 == n) (version_of n past) (base_version n past) (reopenable_versions n past) (was_searched_in_commit n v past) origin found
 origin_step size past at e n v keeps origin found = still _ _ (origin found)
 
 origin : (size : ℕ) (past : Past) (n v : ℕ) → IsLegalPast size past → list_any (λ u. u == v) (reopenable_versions n past) ≡ true

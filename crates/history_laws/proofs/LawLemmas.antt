@@ -9,10 +9,10 @@ use Rattle.history_entries.specs.declared.point.Point.{Point}
 use Rattle.history_entries.specs.declared.entry.Entry.{Entry}
 use Rattle.history_entries.specs.declared.entry.Event.TheVariants.{Answered, Reopened}
 use Rattle.history_entries.specs.declared.entry.History.{History}
-use Rattle.documents.specs.Matching.{scan_of}
+use Rattle.documents.specs.Ranking.{scan_of}
 use Rattle.history_entries.specs.Nodes.{Past, crashes, version_of}
 use Rattle.history_entries.specs.Points.{documents_at, points_of}
-use Rattle.history_entries.specs.Legal.{Keeps, IsLegalPast, IsLegal}
+use Rattle.history_entries.specs.Legal.{KeepsRule, IsLegalPast, IsLegal}
 use Rattle.history_laws.specs.Laws.{past_at, VersionsAscend, OnePointPerVersion, HaveTheirDocuments, DocumentsStay, NeverFalls, AnswersAreScans, ReopensWhereCommitted, OperationsWereAccepted, DocumentsAreFew}
 use Rattle.history_laws.proofs.PastLemmas.{legal_before, keeps_at, point_low}
 use Rattle.history_laws.proofs.NodeLemmas.{runs_through}
@@ -45,7 +45,7 @@ legal_at h i legal = legal_before h.nodes (reverse (drop i h.entries)) (past_at 
 legal_later : (h : History) (i j : ℕ) → i ≤ j → IsLegal h → IsLegalPast h.nodes (between h i j ++ past_at h i)
 legal_later h i j low legal = subst (IsLegalPast h.nodes) (later h i j low) (legal_at h j legal)
 
-keeps_there : (h : History) (i : ℕ) (e : Entry) → IsLegal h → slice_get h.entries i ≡ Some e → Keeps h.nodes (past_at h i) e.at e.event
+keeps_there : (h : History) (i : ℕ) (e : Entry) → IsLegal h → slice_get h.entries i ≡ Some e → KeepsRule h.nodes (past_at h i) e.at e.event
 keeps_there h i e legal there =
     keeps_at h.nodes h.entries i e legal (slice_get_within h.entries i e there) (sym (get_or_from_slice_get h.entries i e e there))
 

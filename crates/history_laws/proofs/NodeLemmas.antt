@@ -8,9 +8,9 @@ use Rattle.history_entries.specs.declared.entry.Entry.{Entry}
 use Rattle.history_entries.specs.declared.entry.Event.{Event}
 use Rattle.history_entries.specs.declared.entry.Event.TheVariants.{Published, Switched, Committing, Committed, Crashed, Reopened, Promoted}
 use Rattle.history_entries.specs.Nodes.{Past, is_at, primary_of, is_running, is_running_by, crashes, crashes_by, version_of, version_by, newest_version, is_point, is_point_by}
-use Rattle.history_entries.specs.Lines.{same_at, is_start, commit_in_flight}
-use Rattle.history_entries.specs.Commits.{more_by, reopenable_by, reopenable_versions, was_searched_since}
-use Rattle.history_entries.specs.Legal.{Keeps, IsLegalPast}
+use Rattle.history_entries.specs.Lines.{same_at, is_start}
+use Rattle.history_entries.specs.Commits.{late_commit, more_by, reopenable_by, reopenable_versions, was_searched_since}
+use Rattle.history_entries.specs.Legal.{KeepsRule, IsLegalPast}
 use Rattle.history_laws.proofs.PastLemmas.{equal_from_test, test_same, point_stays, point_low, made_point}
 
 -- each version that is searched, or may be reopened at, is a point
@@ -28,7 +28,7 @@ point_if false w v past new old = old
 new_point : (w v : ℕ) (b : Bool) → (w == v) ≡ true → (if w == v then true else b) ≡ true
 new_point w v b same = rw same refl
 
-known_version : (size : ℕ) (past : Past) (at : At) (e : Event) (n : ℕ) → Keeps size past at e → Known past
+known_version : (size : ℕ) (past : Past) (at : At) (e : Event) (n : ℕ) → KeepsRule size past at e → Known past
     → is_point (version_by n (primary_of past) e (version_of n past)) (record { at = at; event = e } ∷ past) ≡ true
 known_version size past at (Published g w) n keeps known =
     point_if (is_at (primary_of past) n) w.0 (version_of n past) (record { at = at; event = Published g w } ∷ past)
@@ -51,8 +51,8 @@ in_more (Some a) w v old found = or_cases _ _ found
 pub in_one : (w v : ℕ) → list_any (λ u. u == v) (w ∷ []) ≡ true → w ≡ v
 in_one w v found = ⊎_elim (λ same. equal_from_test w v same) (λ none. absurd (true≢false (sym none))) (or_cases (w == v) false found)
 
-known_reopenable : (size : ℕ) (past : Past) (at : At) (e : Event) (n v : ℕ) → Keeps size past at e → Known past
-    → list_any (λ u. u == v) (reopenable_by n e (primary_of past) (commit_in_flight n past) (reopenable_versions n past)) ≡ true
+known_reopenable : (size : ℕ) (past : Past) (at : At) (e : Event) (n v : ℕ) → KeepsRule size past at e → Known past
+    → list_any (λ u. u == v) (reopenable_by n e (primary_of past) (late_commit n past) (reopenable_versions n past)) ≡ true
     → is_point_by v e (is_point v past) ≡ true
 known_reopenable size past at (Committed m w) n v keeps known found = commit (m.0 == n) found
   where
@@ -72,24 +72,24 @@ known_reopenable size past at (Committing m w) n v keeps known found = start (m.
     start false found = known.reopenable n v found
 known_reopenable size past at (Published g w) n v keeps known found = publish (is_at (primary_of past) n) found
   where
-    publish : (b : Bool) → list_any (λ u. u == v) (if b then more_by (commit_in_flight n past) w.0 (reopenable_versions n past) else reopenable_versions n past) ≡ true
+    publish : (b : Bool) → list_any (λ u. u == v) (if b then more_by (late_commit n past) w.0 (reopenable_versions n past) else reopenable_versions n past) ≡ true
         → (if w.0 == v then true else is_point v past) ≡ true
     publish true found =
-        ⊎_elim (λ same. new_point w.0 v (is_point v past) same) (λ old. point_stays past (record { at = at; event = Published g w }) v (known.reopenable n v old)) (in_more (commit_in_flight n past) w.0 v (reopenable_versions n past) found)
+        ⊎_elim (λ same. new_point w.0 v (is_point v past) same) (λ old. point_stays past (record { at = at; event = Published g w }) v (known.reopenable n v old)) (in_more (late_commit n past) w.0 v (reopenable_versions n past) found)
     publish false found = point_stays past (record { at = at; event = Published g w }) v (known.reopenable n v found)
 known_reopenable size past at (Switched m w) n v keeps known found = switch (m.0 == n) found
   where
-    switch : (b : Bool) → list_any (λ u. u == v) (if b then more_by (commit_in_flight n past) w.0 (reopenable_versions n past) else reopenable_versions n past) ≡ true
+    switch : (b : Bool) → list_any (λ u. u == v) (if b then more_by (late_commit n past) w.0 (reopenable_versions n past) else reopenable_versions n past) ≡ true
         → is_point v past ≡ true
     switch true found =
-        ⊎_elim (λ same. subst (λ (u : ℕ). is_point u past ≡ true) (equal_from_test w.0 v same) (made_point past w.0 keeps.made)) (λ old. known.reopenable n v old) (in_more (commit_in_flight n past) w.0 v (reopenable_versions n past) found)
+        ⊎_elim (λ same. subst (λ (u : ℕ). is_point u past ≡ true) (equal_from_test w.0 v same) (made_point past w.0 keeps.made)) (λ old. known.reopenable n v old) (in_more (late_commit n past) w.0 v (reopenable_versions n past) found)
     switch false found = known.reopenable n v found
 known_reopenable size past at (Promoted m g f w) n v keeps known found = promote (m.0 == n) found
   where
-    promote : (b : Bool) → list_any (λ u. u == v) (if b then more_by (commit_in_flight n past) w.0 (reopenable_versions n past) else reopenable_versions n past) ≡ true
+    promote : (b : Bool) → list_any (λ u. u == v) (if b then more_by (late_commit n past) w.0 (reopenable_versions n past) else reopenable_versions n past) ≡ true
         → (if w.0 == v then true else is_point v past) ≡ true
     promote true found =
-        ⊎_elim (λ same. new_point w.0 v (is_point v past) same) (λ old. point_stays past (record { at = at; event = Promoted m g f w }) v (known.reopenable n v old)) (in_more (commit_in_flight n past) w.0 v (reopenable_versions n past) found)
+        ⊎_elim (λ same. new_point w.0 v (is_point v past) same) (λ old. point_stays past (record { at = at; event = Promoted m g f w }) v (known.reopenable n v old)) (in_more (late_commit n past) w.0 v (reopenable_versions n past) found)
     promote false found = point_stays past (record { at = at; event = Promoted m g f w }) v (known.reopenable n v found)
 known_reopenable size past at e n v keeps known found = known.reopenable n v found
 
@@ -151,7 +151,7 @@ raised : (b : Bool) (w v : ℕ) → (b ≡ true → v ≤ w) → v ≤ (if b the
 raised true w v high = high refl
 raised false w v high = omega arith
 
-pub rises_step : (size : ℕ) (past : Past) (at : At) (e : Event) (n : ℕ) → Keeps size past at e → IsLegalPast size past → is_running n past ≡ true
+pub rises_step : (size : ℕ) (past : Past) (at : At) (e : Event) (n : ℕ) → KeepsRule size past at e → IsLegalPast size past → is_running n past ≡ true
     → version_of n past ≤ version_by n (primary_of past) e (version_of n past)
 rises_step size past at (Published g w) n keeps legal runs =
     let next : w.0 ≡ newest_version past + 1 = keeps.next in

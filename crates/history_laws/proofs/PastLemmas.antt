@@ -9,7 +9,7 @@ use Rattle.history_entries.specs.declared.entry.Entry.{Entry}
 use Rattle.history_entries.specs.declared.entry.Event.{Event}
 use Rattle.history_entries.specs.declared.entry.Event.TheVariants.{Published, Switched, Crashed, Reopened, Promoted}
 use Rattle.history_entries.specs.Nodes.{Past, is_at, primary_of, primary_by, is_running, is_running_by, version_of, version_by, newest_version, newest_by, is_made_in_generation, is_made_by, is_point, is_point_by}
-use Rattle.history_entries.specs.Legal.{Keeps, IsLegalPast}
+use Rattle.history_entries.specs.Legal.{KeepsRule, IsLegalPast}
 
 -- what stood before an entry of a legal past was legal
 pub legal_before : (size : ℕ) (newer past : Past) → IsLegalPast size (newer ++ past) → IsLegalPast size past
@@ -26,7 +26,7 @@ past_next entries i e within is =
 
 -- an entry of a legal history keeps its rule over the entries before it
 pub keeps_at : (size : ℕ) (entries : List Entry) (i : ℕ) (e : Entry) → IsLegalPast size (reverse entries) → i < length entries
-    → e ≡ get_or entries i e → Keeps size (reverse (take i entries)) e.at e.event
+    → e ≡ get_or entries i e → KeepsRule size (reverse (take i entries)) e.at e.event
 keeps_at size entries i e legal within is =
     let split : reverse (drop (i + 1) entries) ++ reverse (take (i + 1) entries) ≡ reverse entries =
     sym (reverse-append (take (i + 1) entries) (drop (i + 1) entries)) ∙ ap reverse (take-append-drop (i + 1) entries) in
@@ -45,7 +45,7 @@ at_other : (p : Option NodeNo) (m n : ℕ) → is_at p m ≡ false → is_at p n
 at_other None m n other here = absurd (true≢false (sym here))
 at_other (Some q) m n other here = grind (arith, nat_tests)
 
-primary_runs_step : (size : ℕ) (past : Past) (at : At) (e : Event) (n : ℕ) → Keeps size past at e
+primary_runs_step : (size : ℕ) (past : Past) (at : At) (e : Event) (n : ℕ) → KeepsRule size past at e
     → (is_at (primary_of past) n ≡ true → is_running n past ≡ true)
     → is_at (primary_by e (primary_of past)) n ≡ true → is_running_by n e (is_running n past) ≡ true
 primary_runs_step size past at (Crashed m) n keeps runs here = crash (is_at (primary_of past) m.0) refl here
@@ -69,7 +69,7 @@ primary_runs size [] n legal here = refl
 primary_runs size (e ∷ past) n legal here =
     primary_runs_step size past e.at e.event n legal.0 (primary_runs size past n legal.1) here
 
-version_primary_step : (size : ℕ) (past : Past) (at : At) (e : Event) (n : ℕ) → IsLegalPast size past → Keeps size past at e
+version_primary_step : (size : ℕ) (past : Past) (at : At) (e : Event) (n : ℕ) → IsLegalPast size past → KeepsRule size past at e
     → (is_at (primary_of past) n ≡ true → version_of n past ≡ newest_version past)
     → is_at (primary_by e (primary_of past)) n ≡ true → version_by n (primary_of past) e (version_of n past) ≡ newest_by e (newest_version past)
 version_primary_step size past at (Published g w) n legal keeps same here =
@@ -100,7 +100,7 @@ version_primary size [] n legal here = refl
 version_primary size (e ∷ past) n legal here =
     version_primary_step size past e.at e.event n legal.1 legal.0 (version_primary size past n legal.1) here
 
-newest_made_step : (size : ℕ) (past : Past) (at : At) (e : Event) → Keeps size past at e
+newest_made_step : (size : ℕ) (past : Past) (at : At) (e : Event) → KeepsRule size past at e
     → (1 < newest_version past → is_made_in_generation (newest_version past) past ≡ true)
     → 1 < newest_by e (newest_version past) → is_made_by (newest_by e (newest_version past)) e (is_made_in_generation (newest_by e (newest_version past)) past) ≡ true
 newest_made_step size past at (Published g w) keeps made more =

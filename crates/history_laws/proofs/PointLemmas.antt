@@ -6,19 +6,18 @@ use Rattle.std.specs.List.{AllByRecursion, slice_get}
 use Rattle.std.specs.List.Sorted.{IsStrictlySortedBy}
 use Rattle.std.specs.Ordering.{nat_cmp, match_ordering}
 use Rattle.std.specs.declared.cmp.Ordering.TheVariants.{Less, Equal, Greater}
-use Rattle.nrt_base.specs.declared.doc.Doc.{Doc}
 use Rattle.nrt_base.specs.declared.numbers.At.{At}
 use Rattle.documents.specs.declared.operation.Op.{Op}
-use Rattle.documents.specs.declared.operation.Op.TheVariants.{Put, Delete}
 use Rattle.history_entries.specs.declared.point.Point.{Point}
 use Rattle.history_entries.specs.declared.entry.Entry.{Entry}
 use Rattle.history_entries.specs.declared.entry.Event.{Event}
 use Rattle.history_entries.specs.declared.entry.Event.TheVariants.{Accepted, Published, Promoted}
-use Rattle.documents.specs.Documents.{key_cmp, with_doc, without_key, after_op, after_ops, documents_after}
+use Rattle.documents.specs.Documents.{documents_after}
 use Rattle.history_entries.specs.Nodes.{Past, version_of, newest_version, newest_by, accepted_count, accepted_by}
 use Rattle.history_entries.specs.Lines.{same_at, is_start}
 use Rattle.history_entries.specs.Points.{operations_written, operations_at_start, operations_at, written_by, operations_by, documents_at, points_of}
-use Rattle.history_entries.specs.Legal.{Keeps, IsLegalPast}
+use Rattle.history_entries.specs.Legal.{KeepsRule, IsLegalPast}
+use Rattle.documents.proofs.DocumentLemmas.{length-documents_after-le}
 use Rattle.history_laws.specs.Laws.{VersionsAscend, accepted_operations, all_accepted_by, StandInOrder}
 
 -- one more number above all
@@ -64,7 +63,7 @@ one_more points p newest before above =
           (all_last (max newest p.version.0) p.version.0 (versions_in points) (all_higher newest (max newest p.version.0) (versions_in points) (omega arith) before.low) (omega arith));
     }
 
-ascend_step : (size : ℕ) (past : Past) (at : At) (e : Event) → Keeps size past at e → Ascend (points_of past) (newest_version past)
+ascend_step : (size : ℕ) (past : Past) (at : At) (e : Event) → KeepsRule size past at e → Ascend (points_of past) (newest_version past)
     → Ascend (points_of (record { at = at; event = e } ∷ past)) (newest_by e (newest_version past))
 ascend_step size past at (Published g w) keeps before =
     let next : w.0 ≡ newest_version past + 1 = keeps.next in
@@ -88,7 +87,7 @@ newest_rises_step size past (Published g w) = omega arith
 newest_rises_step size past (Promoted m g f w) = omega arith
 newest_rises_step size past e = omega arith
 
-stays_step : (size : ℕ) (past : Past) (at : At) (e : Event) (v : ℕ) → Keeps size past at e → v ≤ newest_version past
+stays_step : (size : ℕ) (past : Past) (at : At) (e : Event) (v : ℕ) → KeepsRule size past at e → v ≤ newest_version past
     → operations_by e past (operations_at past) (operations_at_start at past) v ≡ operations_at past v
 stays_step size past at (Published g w) v keeps known =
     let next : w.0 ≡ newest_version past + 1 = keeps.next in
@@ -208,38 +207,6 @@ operations_accepted (e ∷ past) =
           (still_accepted e.event (operations_at_start at past) (accepted_operations past) (before.started at));
       points = λ v. points_accepted past e.at e.event v before;
     }
-
-length-with_doc-le : (docs : List Doc) (doc : Doc) → length (with_doc docs doc) ≤ length docs + 1
-length-with_doc-le [] doc = omega arith
-length-with_doc-le (d ∷ docs) doc =
-    let rest = length-with_doc-le docs doc in
-    elim (key_cmp doc.key d.key) as (λ o. length (match_ordering o (doc ∷ d ∷ docs) (doc ∷ docs) (d ∷ with_doc docs doc)) ≤ length (d ∷ docs) + 1) [
-      | Less ↦ omega arith
-      | Equal ↦ omega arith
-      | Greater ↦ omega (arith, rest)
-    ]
-
-length-without_key-le : (docs : List Doc) (key : List ℕ) → length (without_key docs key) ≤ length docs
-length-without_key-le [] key = omega arith
-length-without_key-le (d ∷ docs) key =
-    let rest = length-without_key-le docs key in
-    elim (key_cmp key d.key) as (λ o. length (match_ordering o (d ∷ docs) docs (d ∷ without_key docs key)) ≤ length (d ∷ docs)) [
-      | Less ↦ omega arith
-      | Equal ↦ omega arith
-      | Greater ↦ omega (arith, rest)
-    ]
-
-length-after_op-le : (docs : List Doc) (op : Op) → length (after_op docs op) ≤ length docs + 1
-length-after_op-le docs (Put doc) = length-with_doc-le docs doc
-length-after_op-le docs (Delete key) = let rest = length-without_key-le docs key in omega (arith, rest)
-
-length-after_ops-le : (docs : List Doc) (ops : List Op) → length (after_ops docs ops) ≤ length docs + length ops
-length-after_ops-le docs [] = omega arith
-length-after_ops-le docs (op ∷ ops) = omega (arith, length-after_op-le docs op, length-after_ops-le (after_op docs op) ops)
-
--- operations leave no more documents than they are
-pub length-documents_after-le : (ops : List Op) → length (documents_after ops) ≤ length ops
-length-documents_after-le ops = omega (arith, length-after_ops-le [] ops)
 
 -- the lengths of what is written, of what a publish took and of what a version has
 pub record Counts (past : Past) : Type 0 where

@@ -13,7 +13,7 @@ use Rattle.documents.specs.declared.answer.Answer.{Answer}
 use Rattle.history_entries.specs.declared.entry.Event.{Event}
 use Rattle.history_entries.specs.declared.entry.Event.TheVariants.{Accepted, Answered, Committed, Reopened}
 use Rattle.history_entries.specs.declared.entry.History.{History}
-use Rattle.documents.specs.Matching.{scan_of}
+use Rattle.documents.specs.Ranking.{scan_of}
 use Rattle.history_entries.specs.Nodes.{Past, is_running, crashes, version_of, newest_version, is_point, accepted_count}
 use Rattle.history_entries.specs.Lines.{commit_in_flight}
 use Rattle.history_entries.specs.Points.{operations_at, documents_at}

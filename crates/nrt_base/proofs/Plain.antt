@@ -1,7 +1,7 @@
 -- Small facts that every crate needs and std lacks: of the cells of lists, of pairs, results and tests.
 -- std has those of `&&` and `||` (`and_parts`, `and_from`, `or_cases`, ..), of `<` and `≤` as tests (`ltb-true`, `leb-true`, `eqb-true`, ..)
 -- and of `Some` (`same_Some`, `none-some`).
-use Rattle.std.proofs.Common.{◌≡◌, ℕ, Bool, true, false, List, [], ◌∷◌, Result, Ok, Err}
+use Rattle.std.proofs.Common.{◌≡◌, Bool, false, List, [], ◌∷◌, Result, Ok, Err}
 use Rattle.std.specs.Prelude.{IsTrue}
 
 -- ---- lists

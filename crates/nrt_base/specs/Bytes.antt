@@ -1,5 +1,5 @@
 -- Which bytes a key, a text, a word and the bytes of a header may have.
-use Rattle.std.specs.Prelude.{ℕ, List, length, Bool, nat_eq, nat_le, ◌&&◌, ◌||◌}
+use Rattle.std.specs.Prelude.{ℕ, List, length, Bool, nat_le, ◌&&◌, ◌||◌}
 use Rattle.std.specs.List.{list_all}
 
 -- a byte from `low` to `high`

@@ -1,6 +1,6 @@
 -- A script of which the program runs every statement, the engine runs: two nodes, and one phase of lines of the first lane.
 use Rattle.std.proofs.Common.{◌≡◌, ◌<◌, ◌≤◌, ◌^◌, ◌==◌, ◌++◌, ℕ, suc, Bool, true, false, List, [], ◌∷◌, length, map, Some, None, refl, ap, ◌∙◌, sym, subst, arith, inl, inr, append-nil}
-use Rattle.std.specs.Prelude.{codes}
+use Rattle.std.specs.Prelude.{codes, bytes_eq}
 use Rattle.std.specs.List.{list_all, list_any, flat_map}
 use Rattle.std.specs.Cmp.Lexicographic.{same_text}
 use Rattle.std.specs.Fmt.{decimal}
@@ -16,8 +16,8 @@ use Rattle.script_serving.specs.declared.script.Script.{Script}
 use Rattle.script_serving.specs.Lines.{lines_of, lines_of_phase}
 use Rattle.script_serving.specs.Form.{is_command}
 use Rattle.script_text.specs.Grammar.{Statement, statements_of, words_in, command_words, Ends, IsNodesHeader, SpellsPhases, SpellsBody, SpellsStatements, of_lane, lane_entry, lanes_from, phase_of}
-use Rattle.script_text.specs.Refused.{is_word, is_digit, value_of}
-use Rattle.plain_run.specs.Built.{begins_with, is_built, first_unbuilt}
+use Rattle.script_text.specs.Refused.{is_digit, value_of}
+use Rattle.plain_run.specs.Built.{begins_with_words, is_built, first_unbuilt}
 use Rattle.script_text.proofs.NumberLaws.{value_of-decimal, digits_of-decimal, other_word}
 use Rattle.script_text.proofs.WordLaws.{words_after}
 use Rattle.script_text.proofs.RightLines.{between_high, three_words}
@@ -29,23 +29,23 @@ abbrev command_beginnings : List (List (List ℕ))
 command_beginnings = (codes "put" ∷ []) ∷ (codes "publish" ∷ []) ∷ (codes "copy" ∷ codes "2" ∷ []) ∷ (codes "search" ∷ []) ∷ []
 
 abbrev is_built_command : List (List ℕ) → Bool
-is_built_command words = list_any (λ beginning. begins_with beginning words) command_beginnings
+is_built_command words = list_any (λ beginning. begins_with_words beginning words) command_beginnings
 
 -- the line is of the first lane, and the command behind it is one that the program runs
 record IsOfFirst (lane : List ℕ) (words : List (List ℕ)) : Type 0 where
-  one : is_word (codes "1") lane ≡ true
+  one : bytes_eq (codes "1") lane ≡ true
   command : is_built_command words ≡ true
 
 built_lane : (lane : List ℕ) (words : List (List ℕ)) → list_all is_digit lane ≡ true → is_built (lane ∷ words) ≡ true → IsOfFirst lane words
 built_lane lane words digits built =
-    let other : is_word (codes "nodes") lane ≡ false = other_word 110 (codes "odes") lane refl digits in
-    elim (cases_Bool (is_word (codes "1") lane)) [
+    let other : bytes_eq (codes "nodes") lane ≡ false = other_word 110 (codes "odes") lane refl digits in
+    elim (cases_Bool (bytes_eq (codes "1") lane)) [
       | inl one ↦ record { one = one; command = simp (other, one) at built }
       | inr apart ↦ absurd (false≢true (simp (other, apart) at built))
     ]
 
 -- the word spells the number, so the number has its value
-number_of : (word : List ℕ) (n : ℕ) → is_word word (decimal n) ≡ true → n < 2 ^ 64 → n ≡ value_of word
+number_of : (word : List ℕ) (n : ℕ) → bytes_eq word (decimal n) ≡ true → n < 2 ^ 64 → n ≡ value_of word
 number_of word n same narrow = sym (value_of-decimal n narrow) ∙ ap value_of (sym (same_text word (decimal n) (sym same)))
 
 -- a line that the engine runs
@@ -61,7 +61,7 @@ module _ (line : List ℕ) (lane : ℕ) (narrow : lane < 2 ^ 64) (built : is_bui
 
   copied_to : (n : ℕ) → n < 2 ^ 64 → is_built_command (codes "copy" ∷ decimal n ∷ []) ≡ true → (n == 2) ≡ true
   copied_to n small h =
-      elim (cases_Bool (is_word (codes "2") (decimal n))) [
+      elim (cases_Bool (bytes_eq (codes "2") (decimal n))) [
         | inl two ↦ eq-eqb n 2 (number_of (codes "2") n two small)
         | inr apart ↦ absurd (false≢true (simp apart at h))
       ]
@@ -170,7 +170,7 @@ plain_of script phases most small nodes workers one is =
 two_nodes : (statement : Statement) (nodes : ℕ) → IsNodesHeader statement nodes → is_built (words_in statement.line) ≡ true → nodes ≡ 2
 two_nodes statement nodes header built =
     let said : is_built (codes "nodes" ∷ decimal nodes ∷ []) ≡ true = ap is_built (sym header.0) ∙ built in
-    elim (cases_Bool (is_word (codes "2") (decimal nodes))) [
+    elim (cases_Bool (bytes_eq (codes "2") (decimal nodes))) [
       | inl two ↦ number_of (codes "2") nodes two (omega (arith, between_high 2 16 nodes header.1))
       | inr apart ↦ absurd (false≢true (simp apart at said))
     ]

@@ -1,5 +1,5 @@
 -- What the program promises for what it reads.
-use Rattle.std.specs.Prelude.{ℕ, ◌≡◌, ◌≤◌, ◌<◌, ◌⊎◌, List, [], ◌∷◌, length, codes, Option}
+use Rattle.std.specs.Prelude.{ℕ, ◌≡◌, ◌≤◌, ◌<◌, ◌⊎◌, List, [], ◌∷◌, length, take, codes, Option}
 use Rattle.std.specs.Io.KnownBytes.{Consumes, IsAtEnd, Appends}
 use Rattle.nrt_base.specs.declared.numbers.LineNo.{LineNo}
 use Rattle.history_entries.specs.declared.entry.History.{History}
@@ -11,7 +11,7 @@ use Rattle.script_serving.specs.declared.script.Script.{Script}
 use Rattle.script_serving.specs.Serves.{Serves}
 use Rattle.script_text.specs.Grammar.{SpellsScript}
 use Rattle.script_text.specs.Refused.{IsFirstRefused}
-use Rattle.plain_run.specs.Built.{IsFirstUnbuilt, IsBuilt}
+use Rattle.plain_run.specs.Built.{IsFirstUnbuilt, RunsWhole}
 use Rattle.nrt_main.specs.declared.status.Status.{Status}
 use Rattle.nrt_main.specs.declared.status.Status.TheVariants.{Done, BadScript, WriteFault}
 
@@ -26,7 +26,7 @@ longest = 16777216
 -- the bytes spell this script, and the program runs its every statement
 pub record IsRunnable (bytes : List ℕ) (script : Script) : Type 0 where
   pub grammar : SpellsScript bytes script
-  pub built : IsBuilt bytes
+  pub built : RunsWhole bytes
 
 -- the bytes are a script that the program runs, and the sink gained the text of a legal history that serves it
 pub record Answers (bytes : List ℕ) (before after : Option (List ℕ)) : Type 0 where
@@ -48,6 +48,22 @@ pub record Ran (left_before left_after held_before held_after : Option (List ℕ
   pub bytes : List ℕ
   pub read : ReadWhole left_before left_after bytes
   pub answers : Answers bytes held_before held_after
+
+-- the bytes are a script that the program runs, and the sink gained the front of the text of a legal history that serves it
+pub record AnswersInPart (bytes : List ℕ) (before after : Option (List ℕ)) : Type 0 where
+  pub script : Script
+  pub runnable : IsRunnable bytes script
+  pub history : History
+  pub legal : IsLegal history
+  pub serves : Serves script history
+  pub front : ℕ
+  pub written : Appends before after (take front (text_of history))
+
+-- the source was read to its end, and the sink gained the front of the text of a legal history that serves what it gave
+pub record RanInPart (left_before left_after held_before held_after : Option (List ℕ)) : Type 0 where
+  pub bytes : List ℕ
+  pub read : ReadWhole left_before left_after bytes
+  pub answers : AnswersInPart bytes held_before held_after
 
 -- line n of the bytes is refused for this cause: as the grammar says; or, of a script, as the first that the program does not run yet
 abbrev pub RefusesLine : List ℕ → ℕ → LineFault → Type 0

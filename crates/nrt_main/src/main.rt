@@ -4,6 +4,7 @@
 ghost use Rattle.std.specs.Prelude.{◌≡◌};
 ghost use Rattle.nrt_main.specs.Statuses.{cause_number};
 
+mod message;
 mod reading;
 mod standard;
 mod status;
@@ -12,6 +13,7 @@ mod tests;
 mod top;
 mod writing;
 
+use crate::message::{line_of, unknown_word};
 use crate::standard::{StdSink, StdSource};
 use crate::status::Status;
 use crate::top::run_nrt;
@@ -44,24 +46,42 @@ fn cause_number(cause: LineFault) -> u8
     }
 }
 
+/// Says in words what is wrong with a line.
+fn explain_line(rt: &HostRuntime, line: &str, cause: LineFault) -> io::Result<()> {
+    match cause {
+        LineFault::NoNodes => eprintln!(rt; "a script begins with `nodes N`, N from 2 to 16"),
+        LineFault::Word => eprintln!(rt; "unknown word \"{}\"", unknown_word(line)),
+        LineFault::Count => eprintln!(rt; "a word is missing, or there is one too many"),
+        LineFault::Range => eprintln!(rt; "a number, a key or a text is out of its range"),
+        LineFault::Query(fault) => eprintln!(rt; "{}", fault),
+        LineFault::Text => eprintln!(rt; "a byte is not printable"),
+        LineFault::NotBuilt => eprintln!(rt; "the program does not run \"{}\" yet", line),
+    }
+}
+
 /// Says on standard error why nothing was run.
-fn explain(rt: &HostRuntime, status: Status) -> io::Result<()> {
+fn explain(rt: &HostRuntime, status: Status, script: &[u8]) -> io::Result<()> {
     match status {
         Status::Usage => eprintln!(rt; "usage: nrt run < SCRIPT"),
         Status::BadScript(line, cause) => {
-            eprintln!(rt; "line {} cause {}", line.0, cause_number(cause))
+            eprintln!(rt; "line {} cause {}", line.0, cause_number(cause))?;
+            eprint!(rt; "nrt: line {}: ", line.0)?;
+            explain_line(rt, line_of(script, line), cause)
         }
         _ => Ok(()),
     }
 }
 
 fn main(rt: HostRuntime) -> ExitCode {
-    let Ok(words) = words(&rt) else {
-        return ExitCode::from(Status::Memory.number());
-    };
-    let mut source = StdSource::new(rt.stdin());
+    let mut source = StdSource::new(rt.alloc(), rt.stdin());
     let mut sink = StdSink::new(rt.stdout());
-    let status = run_nrt(rt.alloc(), words.as_slice(), &mut source, &mut sink);
-    let _ = explain(&rt, status);
+    let status = match words(&rt) {
+        Ok(words) => run_nrt(rt.alloc(), words.as_slice(), &mut source, &mut sink),
+        Err(error) => match error.kind() {
+            io::ErrorKind::InvalidData => Status::Usage,
+            _ => Status::Memory,
+        },
+    };
+    let _ = explain(&rt, status, source.seen());
     ExitCode::from(status.number())
 }

@@ -1,20 +1,32 @@
 ghost use Rattle.std.specs.Prelude.{◌≡◌, None};
 
 use nrt_streams::{Failed, Sink, Source};
+use std::alloc::Global;
 use std::io::{Read, Write};
 
-/// A reader of the system as a source. It tells nothing of its bytes.
+/// A reader of the system as a source. It tells nothing of its bytes, and keeps those that were read, as far as
+/// memory lasts, for messages.
 #[derive(Drop)]
 pub struct StdSource<R> {
     reader: R,
     faults: u64,
+    seen: Vec<u8>,
 }
 
 impl<R> StdSource<R> {
-    pub fn new(reader: R) -> Self
+    pub fn new(alloc: Global, reader: R) -> Self
         ensures { result.faults ≡ 0 }
     {
-        StdSource { reader, faults: 0 }
+        StdSource {
+            reader,
+            faults: 0,
+            seen: Vec::new(alloc),
+        }
+    }
+
+    /// The bytes that were read.
+    pub fn seen(&self) -> &[u8] {
+        self.seen.as_slice()
     }
 }
 
@@ -25,7 +37,10 @@ impl<R: Read> Source for StdSource<R> {
 
     fn read(&mut self, buf: &mut [u8]) -> Result<usize, Failed> {
         match self.reader.read(buf) {
-            Ok(count) => Ok(count),
+            Ok(count) => {
+                let _ = self.seen.extend_from_slice(&buf[..count]);
+                Ok(count)
+            }
             Err(_) => {
                 self.faults = self.faults.saturating_add(1);
                 Err(Failed)

@@ -2,17 +2,16 @@ ghost use Rattle.std.specs.Prelude.{◌≡◌, ◌≤◌, length, ◌<◌, ◌-�
 ghost use Rattle.nrt_base.specs.Causes.{Rose};
 ghost use Rattle.script_serving.specs.Form.{IsInForm};
 ghost use Rattle.plain_run.specs.PlainRun.{IsPlainScript};
-ghost use Rattle.nrt_main.specs.Headline.{Ran, Answers, IsRunnable, RefusesLine, IsAnswer, AnswersWhole, Refuses, IsRun, TakesWithin, TakesMore, longest};
+ghost use Rattle.nrt_main.specs.Headline.{Ran, Answers, RanInPart, AnswersInPart, IsRunnable, RefusesLine, IsAnswer, AnswersWhole, Refuses, IsRun, TakesWithin, TakesMore, longest};
 ghost use Rattle.nrt_main.specs.TopCalls.{IsRefusal, IsReport};
 
 use crate::reading::{ReadEnd, read_all};
-use plain_run::run_script;
 use crate::status::Status;
 use crate::writing::write_all;
 use nrt_base::{LineNo, NoMemory};
 use nrt_streams::{Arg, Sink, Source};
+use plain_run::{first_not_built, run_script};
 use report_text::report;
-use plain_run::first_not_built;
 use script_serving::Script;
 use script_text::{LineFault, ScriptFault, parse_script};
 use std::alloc::Global;
@@ -53,6 +52,7 @@ fn run_report(alloc: Global, script: &Script) -> Result<Vec<u8>, NoMemory>
 fn run_bytes<K: Sink>(alloc: Global, bytes: &[u8], sink: &mut K) -> Status
     requires { length bytes.now ≤ longest }
     ensures done { result ≡ Status.Done → Answers bytes.now (K.held sink.old) (K.held sink.new) }
+    ensures part { result ≡ Status.WriteFault → AnswersInPart bytes.now (K.held sink.old) (K.held sink.new) }
     ensures bad { (n : LineNo) (cause : LineFault) → result ≡ Status.BadScript n cause → RefusesLine bytes.now n.0 cause }
     ensures answers { result ≢ Status.Memory → IsAnswer bytes.now result }
     ensures write { result ≡ Status.WriteFault → Rose (K.fault_count sink.old) (K.fault_count sink.new) }
@@ -102,6 +102,7 @@ pub fn run_nrt<S: Source, K: Sink>(
     requires reads { S.fault_count source.old < 2 ^ 64 - 1 }
     requires writes { K.fault_count sink.old < 2 ^ 64 - 1 }
     ensures done { result ≡ Status.Done → Ran (S.left source.old) (S.left source.new) (K.held sink.old) (K.held sink.new) }
+    ensures part { result ≡ Status.WriteFault → RanInPart (S.left source.old) (S.left source.new) (K.held sink.old) (K.held sink.new) }
     ensures usage { result ≡ Status.Usage ↔ ¬ IsRun words.now }
     ensures unread { result ≡ Status.Usage → source.new ≡ source.old }
     ensures bad { (n : LineNo) (cause : LineFault) → result ≡ Status.BadScript n cause → Refuses (S.left source.old) (S.left source.new) n.0 cause }

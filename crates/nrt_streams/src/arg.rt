@@ -3,8 +3,7 @@ ghost use Rattle.std.specs.Prelude.{◌≡◌, IfOk, nat_eq};
 ghost use Rattle.std.specs.Cmp.{partial_equiv_from_equiv};
 ghost use Rattle.std.specs.Cmp.Lexicographic.{pointwise, nat_list_eq_equiv};
 
-use nrt_base::NoMemory;
-use nrt_base::Share;
+use nrt_base::{NoMemory, Share};
 use std::alloc::Global;
 use std::marker::Model;
 

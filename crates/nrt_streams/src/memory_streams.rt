@@ -4,8 +4,8 @@ ghost use Rattle.std.specs.Io.KnownBytes.{ReadConsumes, WriteAppends};
 ghost use Rattle.nrt_base.specs.Causes.{HasCause};
 ghost use Rattle.nrt_streams.specs.MemoryStreams.{raised, is_to_fail, read_by, after_read, is_refused, taken_by, after_write};
 
-use nrt_base::NoMemory;
 use crate::stream::{Failed, Sink, Source};
+use nrt_base::NoMemory;
 use std::alloc::Global;
 use std::marker::Model;
 

@@ -1,5 +1,5 @@
 -- What the engine keeps is kept by each step.
-use Rattle.std.proofs.Common.{◌≡◌, ◌≢◌, ℕ, ◌+◌, ◌<◌, ◌≤◌, List, [], ◌∷◌, ◌++◌, length, take, drop, map, true, false, refl, ap, ◌∙◌, sym, arith, length-drop, reverse, subst, take-append-drop}
+use Rattle.std.proofs.Common.{◌≡◌, ◌≢◌, ℕ, ◌+◌, ◌<◌, ◌≤◌, List, [], ◌∷◌, ◌++◌, length, take, drop, map, true, false, refl, ap, ◌∙◌, sym, arith, length-drop, reverse, subst, take-append-drop, inl}
 use Rattle.std.specs.BTreeMap.{IsOrdered}
 use Rattle.std.proofs.lemmas.List.{reverse-append, take-take}
 use Rattle.std.proofs.Math.Seq.{take-length}
@@ -134,7 +134,7 @@ module _ (past : Past) (at : At) (ops : List Op) (p r : Searched) (s : Shows pas
             next = refl;
             merged = rw (same_at_self at, adds_some, q.busy) (omega arith);
           },
-          (record { running = λ e. let n = sym q.primary ∙ e in cc; alone = rw q.landed refl }, s.legal),
+          (record { running = λ e. let n = sym q.primary ∙ e in cc; alone = rw q.landed refl; some = inl some }, s.legal),
         )
 
     new_point : (v : ℕ) → v ≡ newest_version past + 1 → operations_at after v ≡ operations_written past

@@ -1,20 +1,20 @@
 -- What the program runs so far: the first statement of a script that it does not run.
-use Rattle.std.specs.Prelude.{ℕ, ◌≡◌, List, [], ◌∷◌, codes, Bool, true, false, ◌&&◌, if◌then◌else◌, Option, Some, None}
+use Rattle.std.specs.Prelude.{ℕ, ◌≡◌, List, [], ◌∷◌, codes, Bool, true, false, ◌&&◌, if◌then◌else◌, Option, Some, None, bytes_eq}
 use Rattle.std.specs.List.{list_any}
 use Rattle.script_text.specs.Grammar.{Statement, statements_of, words_in}
-use Rattle.script_text.specs.Refused.{is_word}
 
 -- the words begin with these
-abbrev pub begins_with : List (List ℕ) → List (List ℕ) → Bool
-begins_with [] words = true
-begins_with (name ∷ names) [] = false
-begins_with (name ∷ names) (word ∷ words) = is_word name word && begins_with names words
+abbrev pub begins_with_words : List (List ℕ) → List (List ℕ) → Bool
+begins_with_words [] words = true
+begins_with_words (name ∷ names) [] = false
+begins_with_words (name ∷ names) (word ∷ words) = bytes_eq name word && begins_with_words names words
 
--- the statements that the program runs: two nodes, and of lane 1 a put, a publish, a copy to node 2 and a search
+-- the statements that the program runs: two nodes, and of lane 1 a put, a drop, a publish, a copy to node 2 and a search
 abbrev pub built_beginnings : List (List (List ℕ))
 built_beginnings =
     (codes "nodes" ∷ codes "2" ∷ [])
     ∷ (codes "1" ∷ codes "put" ∷ [])
+    ∷ (codes "1" ∷ codes "drop" ∷ [])
     ∷ (codes "1" ∷ codes "publish" ∷ [])
     ∷ (codes "1" ∷ codes "copy" ∷ codes "2" ∷ [])
     ∷ (codes "1" ∷ codes "search" ∷ [])
@@ -22,7 +22,7 @@ built_beginnings =
 
 -- the program runs a statement of these words
 abbrev pub is_built : List (List ℕ) → Bool
-is_built words = list_any (λ beginning. begins_with beginning words) built_beginnings
+is_built words = list_any (λ beginning. begins_with_words beginning words) built_beginnings
 
 -- the line number of the first of these statements that the program does not run
 abbrev pub first_unbuilt : List Statement → Option ℕ
@@ -34,5 +34,5 @@ abbrev pub IsFirstUnbuilt : List ℕ → ℕ → Type 0
 IsFirstUnbuilt bytes n = first_unbuilt (statements_of bytes) ≡ Some n
 
 -- the program runs every statement of the text
-abbrev pub IsBuilt : List ℕ → Type 0
-IsBuilt bytes = first_unbuilt (statements_of bytes) ≡ None
+abbrev pub RunsWhole : List ℕ → Type 0
+RunsWhole bytes = first_unbuilt (statements_of bytes) ≡ None

@@ -1,18 +1,17 @@
 ghost use Rattle.std.specs.Prelude.{◌≡◌, ◌≤◌, length, MatchOption};
 ghost use Rattle.script_text.specs.Grammar.{words_in};
-ghost use Rattle.plain_run.specs.Built.{IsFirstUnbuilt, IsBuilt, is_built as is_built_lem};
+ghost use Rattle.plain_run.specs.Built.{IsFirstUnbuilt, RunsWhole, is_built as is_built_lem};
 ghost use Rattle.script_text.specs.Reading.{is_built_command as is_built_command_lem};
 
-use script_text::next_statement;
-use script_text::LONGEST;
-use script_text::{first_words, is_word};
 use nrt_base::LineNo;
+use script_text::{LONGEST, first_words, is_word, next_statement};
 
 /// Whether the program runs a line of lane 1 with these words behind the lane.
 fn is_built_command(name: &[u8], next: &[u8]) -> bool
     ensures { result ≡ is_built_command_lem name.now next.now }
 {
     is_word(b"put", name)
+        || is_word(b"drop", name)
         || is_word(b"publish", name)
         || (is_word(b"copy", name) && is_word(b"2", next))
         || is_word(b"search", name)
@@ -32,7 +31,7 @@ fn is_built(line: &[u8]) -> bool
 /// The line of the first statement that the program does not run yet.
 pub fn first_not_built(bytes: &[u8]) -> Option<LineNo>
     requires { length bytes.now ≤ LONGEST }
-    ensures { MatchOption result (IsBuilt bytes.now) (λ line. IsFirstUnbuilt bytes.now line.0) }
+    ensures { MatchOption result (RunsWhole bytes.now) (λ line. IsFirstUnbuilt bytes.now line.0) }
 {
     let mut left = bytes;
     let mut number = 1;

@@ -7,9 +7,9 @@ ghost use Rattle.history_entries.specs.Legal.{IsLegal};
 ghost use Rattle.plain_run.specs.PlainRun.{after_accept, published_next, refused_entry, after_copy, copied_same, copied_newer, after_search};
 
 use crate::node::Searched;
-use nrt_base::{At, Gen, List, NoMemory, NodeNo, Share, TicketNo, Version};
 use documents::{Answer, Op, Query, scan};
 use history_entries::{Cause, Entry, Event, History};
+use nrt_base::{At, Gen, List, NoMemory, NodeNo, Share, TicketNo, Version};
 use std::alloc::Global;
 use std::marker::Model;
 

@@ -2,8 +2,8 @@ ghost use Rattle.std.specs.Prelude.{◌≡◌, ◌≤◌, length, map, drop, [],
 ghost use Rattle.std.specs.BTreeMap.{IsOrdered};
 ghost use Rattle.documents.specs.Documents.{key_cmp, document_of, after_ops};
 
-use nrt_base::{Doc, NoMemory};
 use documents::{Op, Texts, change, listed};
+use nrt_base::{Doc, NoMemory};
 use std::alloc::Global;
 
 /// What a node searches: its version, and the documents of so many of the operations.

@@ -8,9 +8,9 @@ ghost use Rattle.script_serving.specs.Serves.{Serves};
 ghost use Rattle.plain_run.specs.PlainRun.{is_plain, after_command, IsPlainScript};
 
 use crate::engine::Engine;
-use nrt_base::{NoMemory, Share};
 use documents::Op;
 use history_entries::History;
+use nrt_base::{NoMemory, Share};
 use script_serving::{Line, LineCommand, Script};
 use std::alloc::Global;
 

@@ -1,6 +1,6 @@
 use crate::first_not_built;
-use script_text::parse_script;
 use nrt_base::LineNo;
+use script_text::parse_script;
 use std::test::Fail;
 
 #[test]

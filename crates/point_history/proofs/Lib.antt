@@ -1,5 +1,6 @@
 pub mod WalkLemmas
-pub mod KeyLemmas
+pub mod HitLemmas
+pub mod DrawnLemmas
 pub mod ListingLemmas
 pub mod TicketLemmas
 pub mod WrittenLemmas

@@ -18,7 +18,7 @@ use Rattle.documents.specs.Documents.{IsAscending, key_cmp, document_of, documen
 use Rattle.history_entries.specs.Nodes.{Past, version_of}
 use Rattle.history_entries.specs.Lines.{same_at}
 use Rattle.history_entries.specs.Points.{operations_written, operations_at, documents_at, points_of}
-use Rattle.history_entries.specs.Legal.{Keeps, IsLegalPast}
+use Rattle.history_entries.specs.Legal.{KeepsRule, IsLegalPast}
 use Rattle.point_history.specs.Walks.{Shows, Promotes, IsStarted, line_cmp, begun_at, made_at, searched_by}
 use Rattle.history_laws.proofs.PastLemmas.{keeps_at}
 use Rattle.documents.proofs.DocumentLemmas.{documents_ascend, documents_after_last}
@@ -98,7 +98,7 @@ pub on_both : {T E : Type 0} (r : Result T E) (P Q R : Type 0) → (P → Q → 
 on_both (Ok x) P Q R f p q = f p q
 on_both (Err e) P Q R f p q = tt
 
-is_started_from : (size : ℕ) (past : Past) (at : At) (e : Event) → Keeps size past at e → IsStarted past at e
+is_started_from : (size : ℕ) (past : Past) (at : At) (e : Event) → KeepsRule size past at e → IsStarted past at e
 is_started_from size past at (Published g v) keeps = keeps.started
 is_started_from size past at e keeps = tt
 

@@ -1,9 +1,11 @@
 -- What a walk over a history knows of the present generation.
-use Rattle.std.specs.Prelude.{ℕ, ◌≡◌, ◌≤◌, length, drop, nat_lt}
+use Rattle.std.specs.Prelude.{ℕ, ◌≡◌, ◌≤◌, length, drop, nat_lt, unwrap_or}
+use Rattle.std.specs.BTreeMap.{BTreeMap, get}
 use Rattle.std.specs.List.{list_any}
+use Rattle.std.specs.Ordering.{nat_cmp}
 use Rattle.point_history.specs.declared.generation.Generation.{Generation}
 use Rattle.history_entries.specs.Nodes.{Past, generation_of}
-use Rattle.history_entries.specs.Points.{accepted_in_generation, published_in_generation, operations_of_generation, is_put, names_drawn, merges_started, idle_publishes}
+use Rattle.history_entries.specs.Points.{accepted_in_generation, published_in_generation, operations_of_generation, is_put, names_drawn, names_drawn_in, merges_started, idle_publishes}
 
 -- the numbers are those of the present generation, and none is above the number of entries
 pub record ShowsGeneration (past : Past) (g : Generation) : Type 0 where
@@ -19,3 +21,11 @@ pub record ShowsGeneration (past : Past) (g : Generation) : Type 0 where
   pub names_low : g.names ≤ length past
   pub merges_low : g.merges ≤ length past
   pub idle_low : g.idle ≤ length past
+
+-- how many segment names are noted for a generation, none where there is no note
+abbrev pub drawn_in : BTreeMap ℕ ℕ → ℕ → ℕ
+drawn_in drawn g = unwrap_or (get nat_cmp drawn g) 0
+
+-- for each generation the number of names that it has drawn is noted
+abbrev pub ShowsDrawn : Past → BTreeMap ℕ ℕ → Type 0
+ShowsDrawn past drawn = (g : ℕ) → drawn_in drawn g ≡ names_drawn_in g past

@@ -1,21 +1,19 @@
 ghost use Rattle.std.specs.Prelude.{◌≡◌, ◌<◌, ◌^◌, ◌↔◌, reverse, IfOk, IsTrue};
-ghost use Rattle.documents.specs.Matching.{scan_of};
+ghost use Rattle.documents.specs.Ranking.{first_rank, scan_of};
 ghost use Rattle.history_entries.specs.Nodes.{accepted_count};
 ghost use Rattle.history_entries.specs.Lines.{start_entry};
 ghost use Rattle.history_entries.specs.Points.{documents_at};
 ghost use Rattle.history_entries.specs.Rules.{StartedSearch, MayAnswer};
 
-use documents::Answer;
-use history_entries::{Entry, Event};
 use crate::lines::{node_survives, start_entry};
-use documents::scan;
 use crate::nodes::is_node;
-use documents::Query;
 use crate::written::documents_at;
-use nrt_base::{At, Key, NoMemory, NodeNo, TicketNo, Version};
+use documents::{Answer, Hit, Query, scan_if_told};
+use history_entries::{Entry, Event};
+use nrt_base::{At, NoMemory, NodeNo, TicketNo, Version};
 use std::alloc::Global;
 
-fn same_keys(a: &[Key], b: &[Key]) -> bool
+fn same_hits(a: &[Hit], b: &[Hit]) -> bool
     ensures { IsTrue result ↔ (a.now ≡ b.now) }
 {
     a == b
@@ -24,7 +22,7 @@ fn same_keys(a: &[Key], b: &[Key]) -> bool
 fn same_answer(a: &Answer, b: &Answer) -> bool
     ensures { IsTrue result ↔ (a.now ≡ b.now) }
 {
-    a.total == b.total && same_keys(a.keys.as_slice(), b.keys.as_slice())
+    a.total == b.total && same_hits(a.hits.as_slice(), b.hits.as_slice())
 }
 
 fn started_search(n: NodeNo, t: TicketNo, v: Version, at: At, entries: &[Entry]) -> bool
@@ -38,7 +36,20 @@ fn started_search(n: NodeNo, t: TicketNo, v: Version, at: At, entries: &[Entry])
     }
 }
 
-/// Whether the answer is the scan of the documents of the point of this version.
+fn is_told(rank: u32)
+    ensures { rank < 2 ^ 32 }
+{}
+
+// The rank of the first hit is one that 32 bits tell, since it is a `u32`.
+fn read_first_rank(answer: &Answer)
+    ensures { first_rank answer.now.hits < 2 ^ 32 }
+{
+    if let Some(hit) = answer.hits.as_slice().first() {
+        is_told(hit.rank);
+    }
+}
+
+// Whether the answer is the scan of the documents of the point of this version.
 fn is_right(
     alloc: Global,
     entries: &[Entry],
@@ -47,11 +58,17 @@ fn is_right(
     answer: &Answer,
 ) -> Result<bool, NoMemory>
     requires { accepted_count (reverse entries.now) < 2 ^ 32 }
-    ensures { IfOk result (λ right. IsTrue right ↔ (answer.now ≡ scan_of (documents_at (reverse entries.now) v.0) query.now)) }
+    ensures { IfOk result (λ right.
+        IsTrue right ↔ (answer.now ≡ scan_of (documents_at (reverse entries.now) v.0) query.now)) }
 {
     let docs = documents_at(alloc, entries, v)?;
-    let right = scan(alloc, docs.as_slice(), query)?;
-    Ok(same_answer(answer, &right))
+    match scan_if_told(alloc, docs.as_slice(), query)? {
+        Some(right) => Ok(same_answer(answer, &right)),
+        None => {
+            read_first_rank(answer);
+            Ok(false)
+        }
+    }
 }
 
 pub(crate) fn may_answer(
@@ -66,7 +83,8 @@ pub(crate) fn may_answer(
     answer: &Answer,
 ) -> Result<bool, NoMemory>
     requires { accepted_count (reverse entries.now) < 2 ^ 32 }
-    ensures { IfOk result (λ may. IsTrue may ↔ MayAnswer nodes (reverse entries.now) at n t v query.now answer.now) }
+    ensures { IfOk result (λ may.
+        IsTrue may ↔ MayAnswer nodes (reverse entries.now) at n t v query.now answer.now) }
 {
     if !is_node(nodes, n)
         || !started_search(n, t, v, at, entries)

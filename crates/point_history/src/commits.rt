@@ -1,14 +1,15 @@
-ghost use Rattle.std.specs.Prelude.{◌≡◌, ◌==◌, ℕ, List, reverse};
+ghost use Rattle.std.specs.Prelude.{◌≡◌, ◌==◌, ◌∷◌, ℕ, List, reverse};
+ghost use Rattle.std.specs.Option.{option_copied};
 ghost use Rattle.std.specs.List.{list_any};
 ghost use Rattle.history_entries.specs.Lines.{commit_by};
-ghost use Rattle.history_entries.specs.Commits.{has_committed, reopenable_by, reopenable_versions, was_searched_since};
+ghost use Rattle.history_entries.specs.Commits.{has_committed, is_disk_fault, starts_commit, is_stuck_by, is_stuck, reopenable_by, reopenable_versions, was_searched_since};
 
-use history_entries::{Entry, Event};
-use crate::lines::{commit_after, is_start, same_at};
+use crate::lines::{commit_after, is_start, same_at, start_entry};
 use crate::nodes::{Searched, is_at};
+use history_entries::{Cause, Entry, Event};
 use nrt_base::{At, NodeNo, Version};
 
-/// Whether a commit of the node was acknowledged.
+/// Whether a commit of the node was acknowledged, or found by a reopening.
 pub(crate) fn has_committed(n: NodeNo, entries: &[Entry]) -> bool
     ensures { result ≡ has_committed n.0 (reverse entries.now) }
 {
@@ -16,13 +17,59 @@ pub(crate) fn has_committed(n: NodeNo, entries: &[Entry]) -> bool
     for entry in entries {
         match &entry.event {
             Event::Committed { n: m, .. } if m.0 == n.0 => committed = true,
+            Event::Reopened { n: m, v } if m.0 == n.0 && 1 < v.0 => committed = true,
             _ => {}
         }
     }
     committed
 }
 
-/// Whether a node may reopen at a version after one more event, `found` saying whether it might before, and `line` being its commit in flight.
+/// Whether the cause is a fault of a disk.
+pub(crate) fn is_disk_fault(cause: &Cause) -> bool
+    ensures { result ≡ is_disk_fault cause.now }
+{
+    match cause {
+        Cause::DiskFault => true,
+        _ => false,
+    }
+}
+
+/// Whether a line started as a commit at this node.
+fn starts_commit(n: NodeNo, start: Option<&Event>) -> bool
+    ensures { result ≡ starts_commit n.0 (option_copied start.entry) }
+{
+    match start {
+        Some(Event::Committing { n: m, .. }) => m.0 == n.0,
+        _ => false,
+    }
+}
+
+/// Whether a node is stuck after one more entry than these.
+fn is_stuck_after(n: NodeNo, entries: &[Entry], entry: &Entry, stuck: bool) -> bool
+    requires { stuck ≡ is_stuck n.0 (reverse entries.now) }
+    ensures { result ≡ is_stuck n.0 (entry.now ∷ reverse entries.now) }
+{
+    match &entry.event {
+        Event::Committed { n: m, .. } | Event::Reopened { n: m, .. } if m.0 == n.0 => false,
+        Event::Refused { cause } => {
+            stuck || (is_disk_fault(cause) && starts_commit(n, start_entry(entry.at, entries)))
+        }
+        _ => stuck,
+    }
+}
+
+/// Whether a disk fault refused a commit of the node, and neither was one acknowledged since nor did it reopen.
+pub(crate) fn is_stuck(n: NodeNo, entries: &[Entry]) -> bool
+    ensures { result ≡ is_stuck n.0 (reverse entries.now) }
+{
+    let mut stuck = false;
+    for (i, entry) in entries.iter().enumerate() {
+        stuck = is_stuck_after(n, &entries[..i], entry, stuck);
+    }
+    stuck
+}
+
+/// Whether a node may reopen at a version after one more event, `found` saying whether it might before, and `line` being its late commit in flight.
 fn found_after(
     n: NodeNo,
     version: Version,
@@ -47,17 +94,20 @@ fn found_after(
     }
 }
 
-/// Whether a node may reopen at a version: its base version, or one that it searched since while a commit of it was in flight.
+/// Whether a node may reopen at a version: its base version, or one that a commit since may have left.
 pub(crate) fn is_reopenable(n: NodeNo, version: Version, entries: &[Entry]) -> bool
     ensures { result ≡ list_any (λ w. w == version.0) (reopenable_versions n.0 (reverse entries.now)) }
 {
     let mut searched = Searched::new();
     let mut line = None;
+    let mut stuck = false;
     let mut found = version.0 == 1;
-    for entry in entries {
-        found = found_after(n, version, &entry.event, searched.primary, line, found);
+    for (i, entry) in entries.iter().enumerate() {
+        let late = if stuck { line } else { None };
+        found = found_after(n, version, &entry.event, searched.primary, late, found);
         searched = searched.after(n, &entry.event);
         line = commit_after(n, entry, line);
+        stuck = is_stuck_after(n, &entries[..i], entry, stuck);
     }
     found
 }

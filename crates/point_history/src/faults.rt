@@ -1,9 +1,9 @@
 ghost use Rattle.std.specs.Prelude.{◌≡◌, reverse};
-ghost use Rattle.history_entries.specs.Faults.{kind_of, same_kind, is_lasting, is_planned};
+ghost use Rattle.history_entries.specs.Faults.{kind_of, same_kind, is_of_disk, is_lasting, is_planned, has_met_fault};
 
-use history_entries::{FaultKind, FaultPlan};
-use history_entries::{Entry, Event};
-use nrt_base::NodeNo;
+use crate::lines::same_at;
+use history_entries::{Entry, Event, FaultKind, FaultPlan};
+use nrt_base::{At, NodeNo};
 
 fn kind_of(plan: FaultPlan) -> FaultKind
     ensures { result ≡ kind_of plan }
@@ -26,6 +26,13 @@ pub(crate) fn same_kind(a: FaultKind, b: FaultKind) -> bool
         | (FaultKind::Stop, FaultKind::Stop) => true,
         _ => false,
     }
+}
+
+/// Whether it is a fault of a disk: of one call, or of a call and all after it.
+pub(crate) fn is_of_disk(kind: FaultKind) -> bool
+    ensures { result ≡ is_of_disk kind }
+{
+    same_kind(FaultKind::Disk, kind) || same_kind(FaultKind::Stop, kind)
 }
 
 fn is_lasting(kind: FaultKind) -> bool
@@ -63,4 +70,19 @@ pub(crate) fn is_planned(n: NodeNo, kind: FaultKind, entries: &[Entry]) -> bool
         }
     }
     planned
+}
+
+/// Whether a line has met a fault, of any kind, at any node.
+pub(crate) fn has_met_fault(at: At, entries: &[Entry]) -> bool
+    ensures { result ≡ has_met_fault at (reverse entries.now) }
+{
+    let mut met = false;
+    for entry in entries {
+        if let Event::Fault { .. } = &entry.event {
+            if same_at(entry.at, at) {
+                met = true;
+            }
+        }
+    }
+    met
 }

@@ -1,15 +1,13 @@
-ghost use Rattle.std.specs.Prelude.{◌≡◌, ◌≤◌, ◌<◌, ◌+◌, ◌^◌, ◌*◌, ◌↔◌, ◌∷◌, [], IsTrue, if◌then◌else◌, reverse, length};
-ghost use Rattle.history_entries.specs.Points.{accepted_in_generation, published_in_generation, is_put, adds_none, idle_publishes, merges_started};
-ghost use Rattle.history_entries.specs.Lines.{before_start};
+ghost use Rattle.std.specs.Prelude.{◌≡◌, ◌≤◌, ◌<◌, ◌+◌, ◌^◌, ◌↔◌, ◌⊎◌, ◌∷◌, [], IsTrue, if◌then◌else◌, reverse, length};
+ghost use Rattle.nrt_base.specs.SegNumbers.{segment_number};
+ghost use Rattle.nrt_base.specs.declared.numbers.Version.{Version};
+ghost use Rattle.history_entries.specs.Points.{accepted_in_generation, is_put, cut_of, idle_publishes, merges_started};
 ghost use Rattle.point_history.specs.Generations.{ShowsGeneration};
 
-use history_entries::{Entry, Event};
 use crate::lines::before_start;
 use documents::Op;
-use nrt_base::{At, SegNo};
-
-/// How many segment numbers each generation has.
-const SEGMENTS_OF_GENERATION: u64 = 1_679_616;
+use history_entries::{Entry, Event};
+use nrt_base::{At, Gen, SegNo};
 
 /// What the entries before a place show of the present generation.
 #[derive(Drop)]
@@ -49,7 +47,7 @@ fn is_put(op: &Op) -> bool
 {
     match op {
         Op::Put(_) => true,
-        Op::Delete(_) => false,
+        Op::Delete(_) | Op::Drop(_) => false,
     }
 }
 
@@ -92,7 +90,7 @@ impl Generation {
     pub(crate) fn has_merges_for_publish(&self, at: At, entries: &[Entry]) -> bool
         requires shown { ShowsGeneration (reverse entries.now) self.now }
         requires few { length entries.now + 1 < 2 ^ 64 }
-        ensures { IsTrue result ↔ ((if adds_none (accepted_in_generation (before_start at (reverse entries.now))) (published_in_generation (reverse entries.now)) then idle_publishes (reverse entries.now) + 1 else idle_publishes (reverse entries.now)) ≤ merges_started (reverse entries.now)) }
+        ensures { (g : Gen) (v : Version) → IsTrue result ↔ (idle_publishes (record { at = at; event = Event.Published g v } ∷ reverse entries.now) ≤ merges_started (reverse entries.now)) }
     {
         let started = accepted_in_generation(before_start(at, entries));
         if started <= self.published {
@@ -102,12 +100,20 @@ impl Generation {
         }
     }
 
+    /// Whether a publish would add an operation, or have a merge that no publish without operations had.
+    pub(crate) fn has_something_to_publish(&self, entries: &[Entry]) -> bool
+        requires shown { ShowsGeneration (reverse entries.now) self.now }
+        ensures { IsTrue result ↔ ((0 < length (cut_of (reverse entries.now))) ⊎ (idle_publishes (reverse entries.now) < merges_started (reverse entries.now))) }
+    {
+        self.published < self.accepted || self.merges > self.idle
+    }
+
     /// Whether this is the number of the next segment.
     pub(crate) fn is_next_segment(&self, seg: SegNo) -> bool
-        ensures { IsTrue result ↔ (seg.0 ≡ self.now.number * 1679616 + self.now.names) }
+        ensures { IsTrue result ↔ (seg.0 ≡ segment_number self.now.number self.now.names) }
     {
-        match self.number.checked_mul(SEGMENTS_OF_GENERATION) {
-            Some(first) => first <= seg.0 && seg.0 - first == self.names as u64,
+        match SegNo::new(Gen(self.number), self.names as u64) {
+            Some(next) => next.0 == seg.0,
             None => false,
         }
     }

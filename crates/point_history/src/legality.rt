@@ -1,19 +1,20 @@
 ghost use Rattle.std.specs.Prelude.{◌≡◌, ◌<◌, ◌+◌, ◌^◌, ◌∷◌, ◌↔◌, reverse, length, IfOk, IsTrue};
 ghost use Rattle.history_entries.specs.Nodes.{accepted_count};
-ghost use Rattle.point_history.specs.Generations.{ShowsGeneration};
-ghost use Rattle.history_entries.specs.Legal.{Keeps, rule_number, IsVerdict};
+ghost use Rattle.point_history.specs.Generations.{ShowsGeneration, ShowsDrawn};
+ghost use Rattle.history_entries.specs.Legal.{KeepsRule, rule_number, IsVerdict};
 
 use crate::answers::may_answer;
-use history_entries::{Entry, Event, History};
+use crate::drawn::{Drawn, note_drawn};
+use crate::fault_rules::may_fault;
 use crate::generation::Generation;
 use crate::listings::may_list_files;
-use history_entries::Verdict;
-use crate::refusals::may_refuse_started;
+use crate::refusals::may_refuse_line;
 use crate::rules::{
-    may_accept, may_ask, may_close, may_commit, may_crash, may_fault, may_finish_copy, may_open,
-    may_promote, may_publish, may_reopen, may_settle, may_start_commit, may_start_copy,
+    may_accept, may_ask, may_close, may_commit, may_crash, may_drain, may_finish_copy, may_open,
+    may_plan, may_promote, may_publish, may_reopen, may_settle, may_start_commit, may_start_copy,
     may_start_merge, may_start_publish, may_start_settle, may_switch,
 };
+use history_entries::{Entry, Event, History, Verdict};
 use nrt_base::NoMemory;
 use std::alloc::Global;
 
@@ -42,7 +43,8 @@ fn rule_number(event: &Event) -> u8
         Event::Files { .. } => 18,
         Event::Fault { .. } => 19,
         Event::Refused { .. } => 20,
-        _ => 0,
+        Event::Drained { .. } => 21,
+        Event::Planned { .. } => 22,
     }
 }
 
@@ -52,23 +54,25 @@ fn keeps(
     nodes: u8,
     before: &[Entry],
     generation: &Generation,
+    drawn: &Drawn,
     entry: &Entry,
 ) -> Result<bool, NoMemory>
     requires shown { ShowsGeneration (reverse before.now) generation.now }
+    requires drawn { ShowsDrawn (reverse before.now) drawn.now }
     requires few { length before.now + 1 < 2 ^ 64 }
     requires few_accepted { accepted_count (reverse before.now) < 2 ^ 32 }
-    ensures rule { IfOk result (λ kept. IsTrue kept ↔ Keeps nodes (reverse before.now) entry.now.at entry.now.event) }
+    ensures rule { IfOk result (λ kept. IsTrue kept ↔ KeepsRule nodes (reverse before.now) entry.now.at entry.now.event) }
     ensures few { IfOk result (λ kept. IsTrue kept → accepted_count (entry.now ∷ reverse before.now) < 2 ^ 32) }
 {
     let at = entry.at;
     Ok(match &entry.event {
-        Event::Accepted { seq, .. } => may_accept(before, *seq),
-        Event::Publishing => may_start_publish(before, at),
+        Event::Accepted { seq, .. } => may_accept(before, at, *seq),
+        Event::Publishing => may_start_publish(before, generation, at),
         Event::Published {
             generation: number,
             v,
         } => may_publish(before, generation, at, *number, *v),
-        Event::Copying { n, v } => may_start_copy(nodes, before, *n, *v),
+        Event::Copying { n, v } => may_start_copy(nodes, before, at, *n, *v),
         Event::Switched { n, v } => may_switch(nodes, before, at, *n, *v),
         Event::Copied { n, v } => may_finish_copy(nodes, before, at, *n, *v),
         Event::Settling { v } => may_start_settle(before, *v),
@@ -86,18 +90,21 @@ fn keeps(
         Event::Committing { n, v } => may_start_commit(nodes, before, at, *n, *v),
         Event::Committed { n, v } => may_commit(nodes, before, at, *n, *v),
         Event::Crashed { n } => may_crash(nodes, before, *n),
-        Event::Reopened { n, v } => may_reopen(nodes, before, *n, *v),
+        Event::Reopened { n, v } => may_reopen(nodes, before, at, *n, *v),
         Event::Promoted {
             n,
             generation: number,
             forced,
             v,
         } => may_promote(nodes, before, generation, *n, *number, *forced, *v),
-        Event::Merging { seg } => may_start_merge(before, generation, *seg),
-        Event::Files { n, names } => may_list_files(alloc, nodes, before, *n, names.as_slice())?,
-        Event::Fault { n, kind } => may_fault(nodes, before, *n, *kind),
-        Event::Refused { cause } => may_refuse_started(nodes, before, at, cause),
-        Event::Drained { .. } | Event::Planned { .. } => true,
+        Event::Merging { seg } => may_start_merge(before, generation, at, *seg),
+        Event::Drained { done, .. } => may_drain(nodes, before, at, *done),
+        Event::Files { n, names } => {
+            may_list_files(alloc, nodes, before, drawn, at, *n, names.as_slice())?
+        }
+        Event::Planned { .. } => may_plan(before, at),
+        Event::Fault { n, kind } => may_fault(nodes, before, at, *n, *kind),
+        Event::Refused { cause } => may_refuse_line(nodes, before, drawn, at, cause),
     })
 }
 
@@ -109,15 +116,17 @@ pub fn legal(alloc: Global, h: &History) -> Result<Verdict, NoMemory>
 {
     let entries = h.entries.as_slice();
     let mut generation = Generation::first();
+    let mut drawn = Drawn::new(alloc);
     for (at, entry) in entries.iter().enumerate() {
         let before = &entries[..at];
-        if !keeps(alloc, h.nodes, before, &generation, entry)? {
+        if !keeps(alloc, h.nodes, before, &generation, &drawn, entry)? {
             return Ok(Verdict::Broken {
                 at,
                 rule: rule_number(&entry.event),
             });
         }
         generation = generation.after(before, entry);
+        note_drawn(&mut drawn, &generation)?;
     }
     Ok(Verdict::Legal)
 }

@@ -3,6 +3,8 @@
 
 mod answers;
 mod commits;
+mod drawn;
+mod fault_rules;
 mod faults;
 mod generation;
 #[cfg(test)]
@@ -14,12 +16,15 @@ mod nodes;
 mod published;
 mod refusals;
 mod rules;
+mod tasks;
 #[cfg(test)]
 mod tests;
 mod tickets;
 mod written;
 
-pub use documents::{Answer, Op, Query, Texts, apply, change, listed, matches, scan, words};
+pub use documents::{
+    Answer, Hit, Op, Query, Texts, apply, change, has_word, listed, matches, scan, words,
+};
 pub use history_entries::{Cause, Entry, Event, FaultKind, FaultPlan, History, Point, Verdict};
 pub use history_laws::laws;
 pub use legality::legal;

@@ -1,10 +1,10 @@
 ghost use Rattle.std.specs.Prelude.{◌≡◌, ◌↔◌, ◌≤◌, reverse, length, IsTrue};
 ghost use Rattle.std.specs.Option.{option_copied};
-ghost use Rattle.history_entries.specs.Lines.{same_at, is_start, is_reply, is_answered, start_entry, before_start, without_at, publish_in_flight, commit_by, commit_in_flight, is_free_for, NodeSurvives, SourceSurvives};
+ghost use Rattle.history_entries.specs.Lines.{same_at, is_start, is_reply, is_answered, start_entry, before_start, last_of_line, without_at, publish_in_flight, commit_by, commit_in_flight, copy_by, copy_in_flight, is_free_for, highest_copy, has_switched, highest_switched, NodeSurvives, SourceSurvives};
 
+use crate::nodes::{Searched, crashes, is_at, primary_of};
 use history_entries::{Entry, Event};
-use crate::nodes::{crashes, is_at, primary_of};
-use nrt_base::{At, NodeNo};
+use nrt_base::{At, NodeNo, Version};
 
 /// Whether the two are one line of the script.
 pub(crate) fn same_at(a: At, b: At) -> bool
@@ -24,7 +24,23 @@ pub(crate) fn is_start(event: &Event) -> bool
         | Event::Asking { .. }
         | Event::Committing { .. } => true,
         Event::Opened { t, .. } => t.0 == 0,
-        _ => false,
+        Event::Accepted { .. }
+        | Event::Published { .. }
+        | Event::Switched { .. }
+        | Event::Copied { .. }
+        | Event::Settled { .. }
+        | Event::Answered { .. }
+        | Event::Closed { .. }
+        | Event::Committed { .. }
+        | Event::Crashed { .. }
+        | Event::Reopened { .. }
+        | Event::Promoted { .. }
+        | Event::Merging { .. }
+        | Event::Drained { .. }
+        | Event::Files { .. }
+        | Event::Planned { .. }
+        | Event::Fault { .. }
+        | Event::Refused { .. } => false,
     }
 }
 
@@ -33,8 +49,29 @@ pub(crate) fn is_reply(event: &Event) -> bool
     ensures { result ≡ is_reply event.now }
 {
     match event {
-        Event::Switched { .. } | Event::Fault { .. } => false,
-        _ => !is_start(event),
+        Event::Accepted { .. }
+        | Event::Published { .. }
+        | Event::Copied { .. }
+        | Event::Settled { .. }
+        | Event::Answered { .. }
+        | Event::Closed { .. }
+        | Event::Committed { .. }
+        | Event::Crashed { .. }
+        | Event::Reopened { .. }
+        | Event::Promoted { .. }
+        | Event::Merging { .. }
+        | Event::Drained { .. }
+        | Event::Files { .. }
+        | Event::Planned { .. }
+        | Event::Refused { .. } => true,
+        Event::Opened { t, .. } => t.0 != 0,
+        Event::Publishing
+        | Event::Copying { .. }
+        | Event::Switched { .. }
+        | Event::Settling { .. }
+        | Event::Asking { .. }
+        | Event::Committing { .. }
+        | Event::Fault { .. } => false,
     }
 }
 
@@ -62,6 +99,22 @@ pub(crate) fn start_entry<'a>(at: At, entries: &'a [Entry]) -> Option<&'a Event>
         }
     }
     start
+}
+
+/// The newest entry of a line that is no fault.
+pub(crate) fn last_of_line<'a>(at: At, entries: &'a [Entry]) -> Option<&'a Event>
+    ensures { option_copied result ≡ last_of_line at (reverse entries.now) }
+{
+    let mut last = None;
+    for entry in entries {
+        if same_at(entry.at, at) {
+            match &entry.event {
+                Event::Fault { .. } => {}
+                event => last = Some(event),
+            }
+        }
+    }
+    last
 }
 
 /// The entries before the start entry of a line.
@@ -156,6 +209,48 @@ pub(crate) fn commit_in_flight(n: NodeNo, entries: &[Entry]) -> Option<At>
     line
 }
 
+/// The line whose copy of a version to a node is in flight after one more entry.
+fn copy_after(
+    n: NodeNo,
+    version: Version,
+    entry: &Entry,
+    primary: Option<NodeNo>,
+    line: Option<At>,
+) -> Option<At>
+    ensures { result ≡ copy_by n.0 version.0 entry.now.at entry.now.event primary line }
+{
+    match &entry.event {
+        Event::Copying { n: m, v } => {
+            if m.0 == n.0 && v.0 == version.0 {
+                Some(entry.at)
+            } else {
+                line
+            }
+        }
+        Event::Crashed { n: m } if m.0 == n.0 || is_at(primary, *m) => None,
+        event => {
+            if is_reply(event) {
+                without_at(entry.at, line)
+            } else {
+                line
+            }
+        }
+    }
+}
+
+/// The line whose copy of a version to a node is between its start and its reply, neither the node nor the primary crashed since.
+pub(crate) fn copy_in_flight(n: NodeNo, version: Version, entries: &[Entry]) -> Option<At>
+    ensures { result ≡ copy_in_flight n.0 version.0 (reverse entries.now) }
+{
+    let mut searched = Searched::new();
+    let mut line = None;
+    for entry in entries {
+        line = copy_after(n, version, entry, searched.primary, line);
+        searched = searched.after(n, &entry.event);
+    }
+    line
+}
+
 /// Whether no line but this one is in flight.
 pub(crate) fn is_free_for(at: At, line: Option<At>) -> bool
     ensures { result ≡ is_free_for at line }
@@ -164,4 +259,53 @@ pub(crate) fn is_free_for(at: At, line: Option<At>) -> bool
         Some(a) => same_at(at, a),
         None => true,
     }
+}
+
+/// The greatest version of a copy to a node that was started, or 1.
+pub(crate) fn highest_copy(n: NodeNo, entries: &[Entry]) -> u64
+    ensures { result ≡ highest_copy n.0 (reverse entries.now) }
+{
+    let mut highest: u64 = 1;
+    for entry in entries {
+        if let Event::Copying { n: m, v } = &entry.event {
+            if m.0 == n.0 {
+                highest = highest.max(v.0);
+            }
+        }
+    }
+    highest
+}
+
+/// Whether a line has switched a replica since its start entry.
+pub(crate) fn has_switched(at: At, entries: &[Entry]) -> bool
+    ensures { result ≡ has_switched at (reverse entries.now) }
+{
+    let mut switched = false;
+    for entry in entries {
+        if is_start(&entry.event) && same_at(entry.at, at) {
+            switched = false;
+        } else if let Event::Switched { .. } = &entry.event {
+            if same_at(entry.at, at) {
+                switched = true;
+            }
+        }
+    }
+    switched
+}
+
+/// The greatest node that a line has switched since its start entry, or 0.
+pub(crate) fn highest_switched(at: At, entries: &[Entry]) -> u8
+    ensures { result ≡ highest_switched at (reverse entries.now) }
+{
+    let mut highest: u8 = 0;
+    for entry in entries {
+        if same_at(entry.at, at) {
+            if is_start(&entry.event) {
+                highest = 0;
+            } else if let Event::Switched { n, .. } = &entry.event {
+                highest = highest.max(n.0);
+            }
+        }
+    }
+    highest
 }

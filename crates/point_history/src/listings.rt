@@ -1,71 +1,36 @@
-ghost use Rattle.std.specs.Prelude.{◌≡◌, ◌↔◌, ◌<◌, reverse, true, IfOk, IsTrue, MatchBool};
-ghost use Rattle.std.specs.List.{list_any, list_all};
+//! The rule of a listing of files.
+
+ghost use Rattle.std.specs.Prelude.{◌≡◌, ◌↔◌, reverse, true, IfOk, IsTrue, MatchBool};
+ghost use Rattle.std.specs.List.{All, list_any};
 ghost use Rattle.std.specs.Ordering.{nat_cmp};
 ghost use Rattle.std.specs.Cmp.Lexicographic.{slice_cmp};
-ghost use Rattle.file_names.specs.Base36.{is_base36_digit, digit_value};
-ghost use Rattle.file_names.specs.Names.{is_commit_number, is_commit_name, is_documents_name, is_less, is_ascending};
-ghost use Rattle.history_entries.specs.Rules.{has_documents, MayListFiles};
+ghost use Rattle.file_names.specs.Names.{is_commit_name, is_pending_name, is_documents_name, is_less, is_ascending};
+ghost use Rattle.point_history.specs.Generations.{ShowsDrawn};
+ghost use Rattle.history_entries.specs.Rules.{has_documents, MayHaveName, MayListFiles};
 ghost use Rattle.point_history.specs.Openings.{opens_by, HoldsNone};
 
 use crate::commits::has_committed;
-use history_entries::{Entry, Event};
+use crate::drawn::{Drawn, is_drawn_file, is_drawn_temporary};
+use crate::faults::has_met_fault;
 use crate::nodes::{is_node, is_running, version_of};
 use crate::tickets::open_ticket;
 use crate::written::documents_at;
-use file_names::FileName;
-use nrt_base::{NoMemory, NodeNo, Version};
+use file_names::{FileName, commit_of, pending_of};
+use history_entries::{Entry, Event};
+use nrt_base::{At, NoMemory, NodeNo, Version};
 use std::alloc::Global;
 use std::cmp::Ordering;
 
-/// Commit numbers are below this.
-const COMMIT_NUMBERS: u64 = 1 << 62;
-
-fn is_base36_digit(b: u8) -> bool
-    ensures { result ≡ is_base36_digit b }
-{
-    matches!(b, b'0'..=b'9' | b'a'..=b'z')
-}
-
-fn digit_value(b: u8) -> u64
-    requires { is_base36_digit b ≡ true }
-    ensures value { result ≡ digit_value b }
-    ensures low { result < 36 }
-{
-    if b <= 57 {
-        b as u64 - 48
-    } else {
-        b as u64 - 87
-    }
-}
-
-/// Whether the digits spell a commit's number, from 1 and without leading zeros.
-fn is_commit_number(digits: &[u8]) -> bool
-    ensures { result ≡ is_commit_number digits.now }
-{
-    if digits.is_empty() || digits[0] == b'0' {
-        return false;
-    }
-    let mut value = 0;
-    for b in digits {
-        if !is_base36_digit(*b) {
-            return false;
-        }
-        let digit = digit_value(*b);
-        if value > (COMMIT_NUMBERS - 1 - digit) / 36 {
-            return false;
-        }
-        value = value * 36 + digit;
-    }
-    true
-}
-
-fn is_commit_name(name: &[u8]) -> bool
+fn is_commit_name(name: &FileName) -> bool
     ensures { result ≡ is_commit_name name.now }
 {
-    match name.strip_prefix(b"segments_".as_slice()) {
-        Some(digits) => is_commit_number(digits),
-        None => false,
-    }
+    commit_of(name).is_some()
+}
+
+fn is_pending_name(name: &FileName) -> bool
+    ensures { result ≡ is_pending_name name.now }
+{
+    pending_of(name).is_some()
 }
 
 fn is_documents_name(name: &[u8]) -> bool
@@ -77,7 +42,7 @@ fn is_documents_name(name: &[u8]) -> bool
 fn has_commit_name(names: &[FileName]) -> bool
     ensures { result ≡ list_any is_commit_name names.now }
 {
-    names.iter().any(|name| is_commit_name(name.as_slice()))
+    names.iter().any(is_commit_name)
 }
 
 fn has_documents_name(names: &[FileName]) -> bool
@@ -100,6 +65,30 @@ fn is_ascending(names: &[FileName]) -> bool
 {
     for i in 1..names.len() {
         if !is_below(&names[i - 1], &names[i]) {
+            return false;
+        }
+    }
+    true
+}
+
+/// Whether a file may have this name.
+fn may_have_name(entries: &[Entry], drawn: &Drawn, name: &FileName) -> bool
+    requires shown { ShowsDrawn (reverse entries.now) drawn.now }
+    ensures { IsTrue result ↔ MayHaveName (reverse entries.now) name.now }
+{
+    is_commit_name(name)
+        || is_pending_name(name)
+        || is_drawn_file(drawn, name)
+        || is_drawn_temporary(drawn, name)
+}
+
+/// Whether files may have these names.
+fn may_have_names(entries: &[Entry], drawn: &Drawn, names: &[FileName]) -> bool
+    requires shown { ShowsDrawn (reverse entries.now) drawn.now }
+    ensures { IsTrue result ↔ All (MayHaveName (reverse entries.now)) names.now }
+{
+    for name in names {
+        if !may_have_name(entries, drawn, name) {
             return false;
         }
     }
@@ -143,12 +132,18 @@ pub(crate) fn may_list_files(
     alloc: Global,
     nodes: u8,
     entries: &[Entry],
+    drawn: &Drawn,
+    at: At,
     n: NodeNo,
     names: &[FileName],
 ) -> Result<bool, NoMemory>
-    ensures { IfOk result (λ may. IsTrue may ↔ MayListFiles nodes (reverse entries.now) n names.now) }
+    requires shown { ShowsDrawn (reverse entries.now) drawn.now }
+    ensures { IfOk result (λ may. IsTrue may ↔ MayListFiles nodes (reverse entries.now) at n names.now) }
 {
-    if !is_node(nodes, n) || !is_running(n, entries) || !is_ascending(names) {
+    if !is_node(nodes, n) || !is_running(n, entries) || has_met_fault(at, entries) {
+        return Ok(false);
+    }
+    if !is_ascending(names) || !may_have_names(entries, drawn, names) {
         return Ok(false);
     }
     if has_committed(n, entries) && !has_commit_name(names) {

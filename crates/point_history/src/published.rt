@@ -9,8 +9,7 @@ ghost use Rattle.history_entries.specs.Legal.{IsLegal};
 ghost use Rattle.point_history.specs.Walks.{Shows, Promotes, IsStarted, begun_at, made_at, searched_by};
 
 use documents::{Texts, change, listed, texts_of};
-use history_entries::{Entry, Event, History};
-use history_entries::Point;
+use history_entries::{Entry, Event, History, Point};
 use nrt_base::{At, Doc, Gen, List, NoMemory, NodeNo, Share, Version};
 use std::alloc::Global;
 use std::collections::BTreeMap;

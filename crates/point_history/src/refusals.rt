@@ -1,17 +1,22 @@
-ghost use Rattle.std.specs.Prelude.{◌≡◌, ◌↔◌, ◌||◌, reverse, IsTrue};
-ghost use Rattle.history_entries.specs.Faults.{same_kind, has_fault};
-ghost use Rattle.history_entries.specs.Lines.{start_entry};
-ghost use Rattle.history_entries.specs.Rules.{is_node_of, is_source_of, is_lost, version_in, is_above, is_copied_beside, is_settled_beside, has_switched, is_copy, is_loss, MayCancel, MayBreakOff, MayRefuse, MayRefuseStarted};
+//! The rule of a refusal.
 
-use history_entries::{Cause, FaultKind};
-use history_entries::{Entry, Event};
-use crate::faults::same_kind;
-use crate::lines::{before_start, is_answered, is_start, same_at, start_entry};
+ghost use Rattle.std.specs.Prelude.{◌≡◌, ◌↔◌, reverse, IsTrue};
+ghost use Rattle.history_entries.specs.Faults.{same_kind, has_fault};
+ghost use Rattle.point_history.specs.Generations.{ShowsDrawn};
+ghost use Rattle.history_entries.specs.Lines.{start_entry};
+ghost use Rattle.history_entries.specs.Rules.{is_node_of, is_source_of, is_lost, version_in, is_above, is_copied_beside, is_settled_beside, is_copy, is_loss, has_disk_fault, MayCancel, MayBeDamaged, MayBreakOff, MayRefuse, MayRefuseAtOnce, MayRefuseLine};
+
+use crate::commits::is_disk_fault;
+use crate::drawn::{Drawn, is_drawn_file};
+use crate::faults::{has_met_fault, is_of_disk, same_kind};
+use crate::lines::{before_start, has_switched, is_answered, is_start, same_at, start_entry};
 use crate::nodes::{crashes, is_at, is_point, is_running, primary_of};
+use file_names::FileName;
+use history_entries::{Cause, Entry, Event, FaultKind};
 use nrt_base::{At, NodeNo, Version};
 
 /// Whether a node is one of a line that started with this event after these entries.
-fn is_node_of(nodes: u8, start: &[Entry], begun: &Event, n: NodeNo) -> bool
+pub(crate) fn is_node_of(nodes: u8, start: &[Entry], begun: &Event, n: NodeNo) -> bool
     ensures { result ≡ is_node_of nodes (reverse start.now) begun.now n.0 }
 {
     match begun {
@@ -109,23 +114,6 @@ fn is_settled_beside(start: &[Entry], at: At, entries: &[Entry]) -> bool
     settled
 }
 
-/// Whether a line has switched a replica since its start entry.
-fn has_switched(at: At, entries: &[Entry]) -> bool
-    ensures { result ≡ has_switched at (reverse entries.now) }
-{
-    let mut switched = false;
-    for entry in entries {
-        if is_start(&entry.event) && same_at(entry.at, at) {
-            switched = false;
-        } else if let Event::Switched { .. } = &entry.event {
-            if same_at(entry.at, at) {
-                switched = true;
-            }
-        }
-    }
-    switched
-}
-
 /// Whether a line has met a fault of this kind at a node of its own.
 fn has_fault_at_node(
     nodes: u8,
@@ -153,14 +141,13 @@ fn has_fault_at_node(
 
 /// Whether a line has met a fault of a disk at a node of its own or at its source.
 fn has_disk_fault(nodes: u8, start: &[Entry], begun: &Event, at: At, entries: &[Entry]) -> bool
-    ensures { result ≡ has_fault (λ n. is_node_of nodes (reverse start.now) begun.now n || is_source_of (reverse start.now) begun.now n) (λ kind. same_kind FaultKind.Disk kind || same_kind FaultKind.Stop kind) at (reverse entries.now) }
+    ensures { result ≡ has_disk_fault nodes (reverse start.now) begun.now at (reverse entries.now) }
 {
     let mut met = false;
     for entry in entries {
         if let Event::Fault { n, kind } = &entry.event {
             let is_near = is_node_of(nodes, start, begun, *n) || is_source_of(start, begun, *n);
-            let is_of_disk = same_kind(FaultKind::Disk, *kind) || same_kind(FaultKind::Stop, *kind);
-            if is_near && is_of_disk && same_at(entry.at, at) {
+            if is_near && is_of_disk(*kind) && same_at(entry.at, at) {
                 met = true;
             }
         }
@@ -184,20 +171,38 @@ fn may_cancel(
             || is_settled_beside(start, at, entries))
 }
 
+fn may_be_damaged(
+    nodes: u8,
+    entries: &[Entry],
+    drawn: &Drawn,
+    at: At,
+    start: &[Entry],
+    begun: &Event,
+    name: &FileName,
+) -> bool
+    requires shown { ShowsDrawn (reverse entries.now) drawn.now }
+    ensures { IsTrue result ↔ MayBeDamaged nodes (reverse entries.now) at (reverse start.now) begun.now name.now }
+{
+    has_fault_at_node(nodes, start, begun, FaultKind::Damage, at, entries)
+        && is_drawn_file(drawn, name)
+}
+
 fn may_break_off(
     nodes: u8,
     entries: &[Entry],
+    drawn: &Drawn,
     at: At,
     start: &[Entry],
     begun: &Event,
     cause: &Cause,
 ) -> bool
+    requires shown { ShowsDrawn (reverse entries.now) drawn.now }
     ensures { IsTrue result ↔ MayBreakOff nodes (reverse entries.now) at (reverse start.now) begun.now cause.now }
 {
     match cause {
         Cause::Cancelled(v) => may_cancel(nodes, entries, at, start, begun, *v),
         Cause::LinkFault => has_fault_at_node(nodes, start, begun, FaultKind::Link, at, entries),
-        Cause::Damaged(_) => has_fault_at_node(nodes, start, begun, FaultKind::Damage, at, entries),
+        Cause::Damaged(name) => may_be_damaged(nodes, entries, drawn, at, start, begun, name),
         Cause::DiskFault => has_disk_fault(nodes, start, begun, at, entries),
         _ => false,
     }
@@ -224,11 +229,13 @@ fn is_copy(begun: &Event) -> bool
 fn may_refuse(
     nodes: u8,
     entries: &[Entry],
+    drawn: &Drawn,
     at: At,
     start: &[Entry],
     begun: &Event,
     cause: &Cause,
 ) -> bool
+    requires shown { ShowsDrawn (reverse entries.now) drawn.now }
     ensures { IsTrue result ↔ MayRefuse nodes (reverse entries.now) at (reverse start.now) begun.now cause.now }
 {
     if is_loss(cause) != is_lost(entries, start, begun) {
@@ -237,14 +244,30 @@ fn may_refuse(
     if is_copy(begun) && has_switched(at, entries) {
         return false;
     }
-    is_loss(cause) || may_break_off(nodes, entries, at, start, begun, cause)
+    is_loss(cause) || may_break_off(nodes, entries, drawn, at, start, begun, cause)
 }
 
-pub(crate) fn may_refuse_started(nodes: u8, entries: &[Entry], at: At, cause: &Cause) -> bool
-    ensures { IsTrue result ↔ MayRefuseStarted nodes (reverse entries.now) at (start_entry at (reverse entries.now)) cause.now }
+fn may_refuse_at_once(entries: &[Entry], at: At, cause: &Cause) -> bool
+    ensures { IsTrue result ↔ MayRefuseAtOnce (reverse entries.now) at cause.now }
+{
+    is_disk_fault(cause) == has_met_fault(at, entries)
+}
+
+pub(crate) fn may_refuse_line(
+    nodes: u8,
+    entries: &[Entry],
+    drawn: &Drawn,
+    at: At,
+    cause: &Cause,
+) -> bool
+    requires shown { ShowsDrawn (reverse entries.now) drawn.now }
+    ensures { IsTrue result ↔ MayRefuseLine nodes (reverse entries.now) at (start_entry at (reverse entries.now)) cause.now }
 {
     match start_entry(at, entries) {
-        Some(begun) => may_refuse(nodes, entries, at, before_start(at, entries), begun, cause),
-        None => true,
+        Some(begun) => {
+            let start = before_start(at, entries);
+            may_refuse(nodes, entries, drawn, at, start, begun, cause)
+        }
+        None => may_refuse_at_once(entries, at, cause),
     }
 }

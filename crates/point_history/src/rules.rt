@@ -1,36 +1,42 @@
-ghost use Rattle.std.specs.Prelude.{◌≡◌, ◌≤◌, ◌<◌, ◌+◌, ◌^◌, ◌↔◌, ℕ, reverse, length, IsTrue};
+ghost use Rattle.std.specs.Prelude.{◌≡◌, ◌≤◌, ◌<◌, ◌+◌, ◌^◌, ◌↔◌, ◌⊎◌, ℕ, reverse, length, IsTrue, true};
 ghost use Rattle.history_entries.specs.Nodes.{IsNode, IsReplica, version_of, accepted_count};
-ghost use Rattle.history_entries.specs.Lines.{start_entry, before_start, NodeSurvives};
+ghost use Rattle.history_entries.specs.Lines.{start_entry, before_start, has_switched, NodeSurvives};
 ghost use Rattle.point_history.specs.Generations.{ShowsGeneration};
-ghost use Rattle.history_entries.specs.Rules.{MayAccept, MayStartPublish, MayPublish, MayStartCopy, MaySwitch, MayFinishCopy, MayStartSettle, MaySettle, MayOpen, MayAsk, MayClose, MayStartCommit, MayCommit, MayCrash, MayReopen, MayPromote, MayStartMerge, MayFault, StartedCopy, StartedCopyOf, StartedCommit};
+ghost use Rattle.history_entries.specs.Rules.{MayAccept, MayStartPublish, MayPublish, MayStartCopy, MaySwitch, MayFinishCopy, MayStartSettle, MaySettle, MayOpen, MayAsk, MayClose, MayStartCommit, MayCommit, MayCrash, MayReopen, MayPromote, MayStartMerge, MayDrain, MayPlan, StartedCopy, StartedCopyOf, StartedCommit};
 
-use history_entries::FaultKind;
-use crate::commits::{is_reopenable, was_searched_since};
-use history_entries::{Entry, Event};
-use crate::faults::is_planned;
+use crate::commits::{is_reopenable, is_stuck, was_searched_since};
+use crate::faults::has_met_fault;
 use crate::generation::Generation;
 use crate::lines::{
-    before_start, commit_in_flight, is_free_for, node_survives, publish_in_flight, source_survives,
-    start_entry,
+    before_start, commit_in_flight, copy_in_flight, has_switched, highest_copy, highest_switched,
+    is_free_for, node_survives, publish_in_flight, source_survives, start_entry,
 };
 use crate::nodes::{
     accepted_count, is_made_in_generation, is_node, is_replica, is_running, newest_version,
     primary_of, version_of,
 };
+use crate::tasks::{drained_count, merge_count};
 use crate::tickets::{has_ticket, is_ticket_at, is_ticket_of};
+use history_entries::{Entry, Event};
 use nrt_base::{At, Gen, NodeNo, SegNo, TicketNo, Version};
 
-pub(crate) fn may_accept(entries: &[Entry], seq: u32) -> bool
-    ensures rule { IsTrue result ↔ MayAccept (reverse entries.now) seq }
+pub(crate) fn may_accept(entries: &[Entry], at: At, seq: u32) -> bool
+    ensures rule { IsTrue result ↔ MayAccept (reverse entries.now) at seq }
     ensures few { IsTrue result → accepted_count (reverse entries.now) + 1 < 2 ^ 32 }
 {
-    primary_of(entries).node.is_some() && seq != 0 && seq as usize - 1 == accepted_count(entries)
+    primary_of(entries).node.is_some()
+        && seq != 0
+        && seq as usize - 1 == accepted_count(entries)
+        && !has_met_fault(at, entries)
 }
 
-pub(crate) fn may_start_publish(entries: &[Entry], at: At) -> bool
+pub(crate) fn may_start_publish(entries: &[Entry], generation: &Generation, at: At) -> bool
+    requires shown { ShowsGeneration (reverse entries.now) generation.now }
     ensures { IsTrue result ↔ MayStartPublish (reverse entries.now) at }
 {
-    primary_of(entries).node.is_some() && is_free_for(at, publish_in_flight(entries))
+    primary_of(entries).node.is_some()
+        && is_free_for(at, publish_in_flight(entries))
+        && generation.has_something_to_publish(entries)
 }
 
 fn started_publish(at: At, entries: &[Entry]) -> bool
@@ -61,21 +67,24 @@ pub(crate) fn may_publish(
         && generation.has_merges_for_publish(at, entries)
 }
 
-pub(crate) fn may_start_copy(nodes: u8, entries: &[Entry], n: NodeNo, v: Version) -> bool
-    ensures { IsTrue result ↔ MayStartCopy nodes (reverse entries.now) n v }
+pub(crate) fn may_start_copy(nodes: u8, entries: &[Entry], at: At, n: NodeNo, v: Version) -> bool
+    ensures { IsTrue result ↔ MayStartCopy nodes (reverse entries.now) at n v }
 {
     is_node(nodes, n)
         && is_replica(n, entries)
         && primary_of(entries).node.is_some()
         && v.0 == newest_version(entries)
+        && is_free_for(at, copy_in_flight(n, v, entries))
 }
 
 fn started_copy(n: NodeNo, v: Version, at: At, entries: &[Entry]) -> bool
-    ensures { IsTrue result ↔ StartedCopy n.0 v.0 (start_entry at (reverse entries.now)) }
+    ensures { IsTrue result ↔ StartedCopy (reverse entries.now) (before_start at (reverse entries.now)) n.0 v.0 (start_entry at (reverse entries.now)) }
 {
     match start_entry(at, entries) {
-        Some(Event::Copying { n: m, v: w }) => m.0 == n.0 && w.0 <= v.0,
-        Some(Event::Settling { v: w }) => w.0 <= v.0,
+        Some(Event::Copying { n: m, v: w }) => m.0 == n.0 && w.0 == v.0,
+        Some(Event::Settling { v: w }) => {
+            w.0 <= v.0 && version_of(n, entries) < w.0 && is_replica(n, before_start(at, entries))
+        }
         _ => false,
     }
 }
@@ -87,6 +96,8 @@ pub(crate) fn may_switch(nodes: u8, entries: &[Entry], at: At, n: NodeNo, v: Ver
         && is_replica(n, entries)
         && is_made_in_generation(v, entries)
         && version_of(n, entries) < v.0
+        && highest_copy(n, entries) <= v.0
+        && highest_switched(at, entries) < n.0
         && started_copy(n, v, at, entries)
         && node_survives(n, at, entries)
         && source_survives(at, entries)
@@ -96,9 +107,16 @@ fn started_copy_of(n: NodeNo, v: Version, at: At, entries: &[Entry]) -> bool
     ensures { IsTrue result ↔ StartedCopyOf n.0 v.0 (start_entry at (reverse entries.now)) }
 {
     match start_entry(at, entries) {
-        Some(Event::Copying { n: m, v: w }) => m.0 == n.0 && w.0 <= v.0,
+        Some(Event::Copying { n: m, v: w }) => m.0 == n.0 && w.0 == v.0,
         _ => false,
     }
+}
+
+/// Whether the copy of a line has switched the node, or the node searched the version before the line started.
+fn has_brought(n: NodeNo, v: Version, at: At, entries: &[Entry]) -> bool
+    ensures { IsTrue result ↔ ((has_switched at (reverse entries.now) ≡ true) ⊎ (version_of n.0 (before_start at (reverse entries.now)) ≡ v.0)) }
+{
+    has_switched(at, entries) || version_of(n, before_start(at, entries)) == v.0
 }
 
 pub(crate) fn may_finish_copy(nodes: u8, entries: &[Entry], at: At, n: NodeNo, v: Version) -> bool
@@ -107,6 +125,7 @@ pub(crate) fn may_finish_copy(nodes: u8, entries: &[Entry], at: At, n: NodeNo, v
     is_node(nodes, n)
         && started_copy_of(n, v, at, entries)
         && v.0 == version_of(n, entries)
+        && has_brought(n, v, at, entries)
         && node_survives(n, at, entries)
         && source_survives(at, entries)
 }
@@ -168,6 +187,7 @@ pub(crate) fn may_open(
         && is_running(n, entries)
         && v.0 == version_of(n, entries)
         && !has_ticket(at.lane, t, entries)
+        && !has_met_fault(at, entries)
 }
 
 pub(crate) fn may_ask(
@@ -207,6 +227,15 @@ fn started_commit(n: NodeNo, at: At, entries: &[Entry]) -> bool
     }
 }
 
+fn started_commit_of(n: NodeNo, v: Version, at: At, entries: &[Entry]) -> bool
+    ensures { IsTrue result ↔ (start_entry at (reverse entries.now) ≡ Some (Event.Committing n v)) }
+{
+    match start_entry(at, entries) {
+        Some(Event::Committing { n: m, v: w }) => m.0 == n.0 && w.0 == v.0,
+        _ => false,
+    }
+}
+
 pub(crate) fn may_commit(nodes: u8, entries: &[Entry], at: At, n: NodeNo, v: Version) -> bool
     ensures { IsTrue result ↔ MayCommit nodes (reverse entries.now) at n v }
 {
@@ -214,6 +243,7 @@ pub(crate) fn may_commit(nodes: u8, entries: &[Entry], at: At, n: NodeNo, v: Ver
         && started_commit(n, at, entries)
         && node_survives(n, at, entries)
         && was_searched_since(at, n, v, entries)
+        && (is_stuck(n, entries) || started_commit_of(n, v, at, entries))
 }
 
 pub(crate) fn may_crash(nodes: u8, entries: &[Entry], n: NodeNo) -> bool
@@ -222,10 +252,13 @@ pub(crate) fn may_crash(nodes: u8, entries: &[Entry], n: NodeNo) -> bool
     is_node(nodes, n) && is_running(n, entries)
 }
 
-pub(crate) fn may_reopen(nodes: u8, entries: &[Entry], n: NodeNo, v: Version) -> bool
-    ensures { IsTrue result ↔ MayReopen nodes (reverse entries.now) n v }
+pub(crate) fn may_reopen(nodes: u8, entries: &[Entry], at: At, n: NodeNo, v: Version) -> bool
+    ensures { IsTrue result ↔ MayReopen nodes (reverse entries.now) at n v }
 {
-    is_node(nodes, n) && !is_running(n, entries) && is_reopenable(n, v, entries)
+    is_node(nodes, n)
+        && !is_running(n, entries)
+        && is_reopenable(n, v, entries)
+        && !has_met_fault(at, entries)
 }
 
 pub(crate) fn may_promote(
@@ -250,15 +283,29 @@ pub(crate) fn may_promote(
         && v.0 == forced.0 + 1
 }
 
-pub(crate) fn may_start_merge(entries: &[Entry], generation: &Generation, seg: SegNo) -> bool
+pub(crate) fn may_start_merge(
+    entries: &[Entry],
+    generation: &Generation,
+    at: At,
+    seg: SegNo,
+) -> bool
     requires { ShowsGeneration (reverse entries.now) generation.now }
-    ensures { IsTrue result ↔ MayStartMerge (reverse entries.now) seg }
+    ensures { IsTrue result ↔ MayStartMerge (reverse entries.now) at seg }
 {
-    primary_of(entries).node.is_some() && generation.is_next_segment(seg)
+    primary_of(entries).node.is_some()
+        && generation.is_next_segment(seg)
+        && !has_met_fault(at, entries)
 }
 
-pub(crate) fn may_fault(nodes: u8, entries: &[Entry], n: NodeNo, kind: FaultKind) -> bool
-    ensures { IsTrue result ↔ MayFault nodes (reverse entries.now) n kind }
+pub(crate) fn may_drain(nodes: u8, entries: &[Entry], at: At, done: u32) -> bool
+    ensures { IsTrue result ↔ MayDrain nodes (reverse entries.now) at done }
 {
-    is_node(nodes, n) && is_planned(n, kind, entries)
+    let most = (u128::from(nodes) + 1) * merge_count(entries) as u128;
+    drained_count(entries) + u128::from(done) <= most && !has_met_fault(at, entries)
+}
+
+pub(crate) fn may_plan(entries: &[Entry], at: At) -> bool
+    ensures { IsTrue result ↔ MayPlan (reverse entries.now) at }
+{
+    !has_met_fault(at, entries)
 }

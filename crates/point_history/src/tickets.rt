@@ -2,8 +2,8 @@ ghost use Rattle.std.specs.Prelude.{◌≡◌, ◌↔◌, reverse, IsTrue, Match
 ghost use Rattle.history_entries.specs.Nodes.{crashes};
 ghost use Rattle.history_entries.specs.Tickets.{last_opened, open_ticket, has_ticket, IsTicketAt, IsTicketOf};
 
-use history_entries::{Entry, Event};
 use crate::nodes::crashes;
+use history_entries::{Entry, Event};
 use nrt_base::{At, LaneNo, NodeNo, TicketNo, Version};
 
 /// An opening of a ticket.

@@ -3,11 +3,10 @@ ghost use Rattle.history_entries.specs.Nodes.{accepted_count};
 ghost use Rattle.history_entries.specs.Points.{operations_at, operations_of_generation, documents_at};
 ghost use Rattle.point_history.specs.Origins.{operations_from, operations_before_generation, size_of};
 
-use documents::apply;
-use history_entries::{Entry, Event};
 use crate::lines::before_start;
 use crate::nodes::version_of;
-use documents::Op;
+use documents::{Op, apply};
+use history_entries::{Entry, Event};
 use nrt_base::{Doc, NoMemory, NodeNo, Share, Version};
 use std::alloc::Global;
 

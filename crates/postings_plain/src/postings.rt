@@ -82,6 +82,18 @@ impl<'a> Postings<'a> {
         None
     }
 
+    /// Another reader of the same hits.
+    pub fn again(&self) -> Postings<'a>
+        ensures { result ≡ self.now }
+    {
+        Postings {
+            field: self.field,
+            least: self.least,
+            count: self.count,
+            rest: self.rest,
+        }
+    }
+
     /// The positions of the word in the first row that is left: none where no row is left, and none for a key. They are lent
     /// from the file's bytes, and stay as the rows are passed.
     pub fn positions(&self) -> Positions<'a>

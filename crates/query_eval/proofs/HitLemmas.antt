@@ -1,12 +1,12 @@
 -- The rows of hits before and after they are moved.
 use Rattle.std.proofs.Common.{◌≡◌, ℕ, ◌<◌, ◌≤◌, List, [], ◌∷◌, get_or, Bool, true, false, Option, Some, None, refl, ap, ◌∙◌, inl, inr, arith}
-use Rattle.std.specs.Prelude.{◌||◌, nat_eq, IfSome, IfNone}
+use Rattle.std.specs.Prelude.{nat_eq, IfSome, IfNone}
 use Rattle.std.specs.List.{All}
-use Rattle.std.proofs.lemmas.Bool.{lt-ltb, le-ltb, cases_lt, ne_eqb, eq-eqb}
+use Rattle.std.proofs.lemmas.Bool.{lt-ltb, le-ltb, cases_lt, ne_eqb, eq-eqb, or_parts}
 use Rattle.std.proofs.lemmas.List.Folds.{list_any_none, list_any-from_Any}
 use Rattle.postings_plain.specs.Postings.{Hit, row_of}
 use Rattle.postings_plain.specs.Rows.{from_row, IsLeastFrom}
-use Rattle.query_eval.specs.Moves.{IsFirst, Moves}
+use Rattle.query_eval.specs.Advance.{IsFirst, FindsRow}
 use Rattle.query_eval.specs.Phrases.{has_row, places_in, IsMoved}
 
 other_row : (h : Hit) (x row : ℕ) → row_of h < row → row ≤ x → nat_eq (row_of h) x ≡ false
@@ -27,14 +27,10 @@ places_stay row x (h ∷ hits) le = elim (cases_lt (row_of h) row) [
   | inr ge ↦ rw (le-ltb (row_of h) row ge) refl
 ]
 
-or_false : (a b : Bool) → (a || b) ≡ false → (a ≡ false) × (b ≡ false)
-or_false true b e = absurd cc
-or_false false b e = (refl, e)
-
 pub rows_fewer : (row x : ℕ) (hits : List Hit) → has_row hits x ≡ false → has_row (from_row row hits) x ≡ false
 rows_fewer row x [] e = refl
 rows_fewer row x (h ∷ hits) e = elim (cases_lt (row_of h) row) [
-  | inl lt ↦ rw (lt-ltb (row_of h) row lt) (rows_fewer row x hits (or_false (nat_eq (row_of h) x) (has_row hits x) e).1)
+  | inl lt ↦ rw (lt-ltb (row_of h) row lt) (rows_fewer row x hits (or_parts (nat_eq (row_of h) x) (has_row hits x) e).1)
   | inr ge ↦ rw (le-ltb (row_of h) row ge) e
 ]
 
@@ -63,9 +59,9 @@ pub word_first : (row : ℕ) (found : Option ℕ) (hits : List Hit) → IfSome f
 word_first row None hits is none = λ x le fits. word_none row hits none x le
 word_first row (Some found) hits is none = word_found row found hits is
 
-pub word_moves : (row : ℕ) (found : Option ℕ) (hits left : List Hit) → left ≡ from_row row hits → IfSome found (IsLeastFrom row hits) → IfNone found (All (λ h. row_of h < row) hits)
-    → Moves (has_row hits) (has_row left) row found
-word_moves row found hits left e is none = record {
+pub word_advances : (row : ℕ) (found : Option ℕ) (hits left : List Hit) → left ≡ from_row row hits → IfSome found (IsLeastFrom row hits) → IfNone found (All (λ h. row_of h < row) hits)
+    → FindsRow (has_row hits) (has_row left) row found
+word_advances row found hits left e is none = record {
   first = word_first row found hits is none;
   stays = λ x le. ap (λ hs. has_row hs x) e ∙ rows_stay row x hits le;
 }

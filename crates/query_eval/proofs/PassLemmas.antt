@@ -1,39 +1,20 @@
 -- How a pass moves the words of a phrase, one after the other.
 use Rattle.std.proofs.Common.{◌≡◌, ℕ, zero, suc, ◌+◌, ◌<◌, ◌≤◌, List, [], ◌∷◌, length, map, take, drop, get_or, set, Bool, true, false, Some, None, refl, sym, ap, subst, ◌∙◌, inl, inr, arith, drop-cons}
-use Rattle.std.specs.Prelude.{◌&&◌}
 use Rattle.std.specs.List.{All}
-use Rattle.std.proofs.lemmas.Bool.{cases_lt, eq-eqb}
+use Rattle.std.proofs.lemmas.Bool.{cases_lt, eq-eqb, and_left, and_right, and_from, and_parts}
+use Rattle.nrt_base.proofs.Plain.{cons_from, cons_parts, cons_first}
 use Rattle.postings_plain.specs.Postings.{Hit, row_of}
 use Rattle.postings_plain.specs.Rows.{from_row, IsLeastFrom, first_row, first_positions}
 use Rattle.query_eval.specs.Phrases.{has_row, places_in, all_have, IsMoved, AreMoved, AreFewer, IsPass}
 use Rattle.query_eval.proofs.HitLemmas.{is_moved, word_found, word_none}
 use Rattle.query_eval.proofs.PhraseLemmas.{are_moved_not, are_moved_on}
 
-false_left : (a b : Bool) → a ≡ false → (a && b) ≡ false
-false_left true b e = absurd cc
-false_left false b e = refl
-
-false_right : (a b : Bool) → b ≡ false → (a && b) ≡ false
-false_right true b e = e
-false_right false b e = refl
-
-and_true : (a b : Bool) → a ≡ true → b ≡ true → (a && b) ≡ true
-and_true true b e f = f
-and_true false b e f = absurd cc
-
-both_true : (a b : Bool) → (a && b) ≡ true → (a ≡ true) × (b ≡ true)
-both_true true b e = (refl, e)
-both_true false b e = absurd cc
-
-same_first : (a b : List Hit) (as' bs : List (List Hit)) → a ∷ as' ≡ b ∷ bs → a ≡ b
-same_first a b as' bs e = cc
-
 -- a word that lacks the row, which stands at a place
 lacking : (old : List (List Hit)) (i x : ℕ) (w : List Hit) (rest : List (List Hit)) → drop i old ≡ w ∷ rest → has_row w x ≡ false → all_have old x ≡ false
 lacking [] zero x w rest e lacks = absurd cc
 lacking [] (suc i) x w rest e lacks = absurd cc
-lacking (h ∷ old) zero x w rest e lacks = false_left (has_row h x) (all_have old x) (ap (λ (hs : List Hit). has_row hs x) (same_first h w old rest e) ∙ lacks)
-lacking (h ∷ old) (suc i) x w rest e lacks = false_right (has_row h x) (all_have old x) (lacking old i x w rest e lacks)
+lacking (h ∷ old) zero x w rest e lacks = and_left (has_row h x) (all_have old x) (ap (λ (hs : List Hit). has_row hs x) (cons_first h w old rest e) ∙ lacks)
+lacking (h ∷ old) (suc i) x w rest e lacks = and_right (has_row h x) (all_have old x) (lacking old i x w rest e lacks)
 
 drop_next : (xs : List (List Hit)) (i : ℕ) (w : List Hit) (rest : List (List Hit)) → drop i xs ≡ w ∷ rest → drop (suc i) xs ≡ rest
 drop_next [] zero w rest e = absurd cc
@@ -44,34 +25,25 @@ drop_next (x ∷ xs) (suc i) w rest e = drop_next xs i w rest e
 all_more : (old : List (List Hit)) (i x : ℕ) (w : List Hit) (rest : List (List Hit)) → drop i old ≡ w ∷ rest → all_have (take i old) x ≡ true → has_row w x ≡ true → all_have (take (suc i) old) x ≡ true
 all_more [] zero x w rest e all has = absurd cc
 all_more [] (suc i) x w rest e all has = absurd cc
-all_more (h ∷ old) zero x w rest e all has = and_true (has_row h x) (all_have (take zero old) x) (ap (λ (hs : List Hit). has_row hs x) (same_first h w old rest e) ∙ has) refl
+all_more (h ∷ old) zero x w rest e all has = and_from (has_row h x) (all_have (take zero old) x) (ap (λ (hs : List Hit). has_row hs x) (cons_first h w old rest e) ∙ has) refl
 all_more (h ∷ old) (suc i) x w rest e all has =
-    let parts = both_true (has_row h x) (all_have (take i old) x) all in
-    and_true (has_row h x) (all_have (take (suc i) old) x) parts.0 (all_more old i x w rest e parts.1 has)
-
-cells : (a b : List ℕ) (as' bs : List (List ℕ)) → a ≡ b → as' ≡ bs → a ∷ as' ≡ b ∷ bs
-cells a b as' bs e f = cc
-
-first_cell : (a b : List ℕ) (as' bs : List (List ℕ)) → a ∷ as' ≡ b ∷ bs → a ≡ b
-first_cell a b as' bs e = cc
-
-other_cells : (a b : List ℕ) (as' bs : List (List ℕ)) → a ∷ as' ≡ b ∷ bs → as' ≡ bs
-other_cells a b as' bs e = cc
+    let parts = and_parts (has_row h x) (all_have (take i old) x) all in
+    and_from (has_row h x) (all_have (take (suc i) old) x) parts.0 (all_more old i x w rest e parts.1 has)
 
 stand_more : (now : List (List Hit)) (i row : ℕ) (w v : List Hit) (rest : List (List Hit)) → drop i now ≡ w ∷ rest → map first_positions (take i now) ≡ map (places_in row) (take i now)
     → first_positions v ≡ places_in row v → map first_positions (take (suc i) (set now i v)) ≡ map (places_in row) (take (suc i) (set now i v))
 stand_more [] zero row w v rest e stand here = absurd cc
 stand_more [] (suc i) row w v rest e stand here = absurd cc
-stand_more (n ∷ now) zero row w v rest e stand here = cells (first_positions v) (places_in row v) (map first_positions (take zero now)) (map (places_in row) (take zero now)) here refl
+stand_more (n ∷ now) zero row w v rest e stand here = cc
 stand_more (n ∷ now) (suc i) row w v rest e stand here =
-    cells (first_positions n) (places_in row n) (map first_positions (take (suc i) (set now i v))) (map (places_in row) (take (suc i) (set now i v)))
-    (first_cell (first_positions n) (places_in row n) (map first_positions (take i now)) (map (places_in row) (take i now)) stand)
-    (stand_more now i row w v rest e (other_cells (first_positions n) (places_in row n) (map first_positions (take i now)) (map (places_in row) (take i now)) stand) here)
+    let cells = cons_parts (first_positions n) (places_in row n) (map first_positions (take i now)) (map (places_in row) (take i now)) stand in
+    cons_from (first_positions n) (places_in row n) (map first_positions (take (suc i) (set now i v))) (map (places_in row) (take (suc i) (set now i v)))
+    cells.0 (stand_more now i row w v rest e cells.1 here)
 
 set_moved : (at : ℕ) (now : List (List Hit)) (i : ℕ) (w v : List Hit) (rest : List (List Hit)) → drop i now ≡ w ∷ rest → IsMoved at w v → AreMoved at now (set now i v)
 set_moved at [] zero w v rest e m = absurd cc
 set_moved at [] (suc i) w v rest e m = absurd cc
-set_moved at (n ∷ now) zero w v rest e m = (subst (λ (h : List Hit). IsMoved at h v) (sym (same_first n w now rest e)) m, are_moved_not at now)
+set_moved at (n ∷ now) zero w v rest e m = (subst (λ (h : List Hit). IsMoved at h v) (sym (cons_first n w now rest e)) m, are_moved_not at now)
 set_moved at (n ∷ now) (suc i) w v rest e m = (record { rows = λ x le. refl; places = λ x le. refl; fewer = λ x f. f }, set_moved at now i w v rest e m)
 
 rest_set : (now : List (List Hit)) (i : ℕ) (w v : List Hit) (rest : List (List Hit)) → drop i now ≡ w ∷ rest → drop (suc i) (set now i v) ≡ rest
@@ -83,7 +55,7 @@ rest_set (n ∷ now) (suc i) w v rest e = rest_set now i w v rest e
 some_row : (a b : ℕ) → Some a ≡ Some b → a ≡ b
 some_row a b e = cc
 
-stand_here : (hits : List Hit) (row : ℕ) → first_row hits ≡ Some row → first_positions hits ≡ places_in row hits
+pub stand_here : (hits : List Hit) (row : ℕ) → first_row hits ≡ Some row → first_positions hits ≡ places_in row hits
 stand_here [] row e = absurd cc
 stand_here (h ∷ hits) row e = rw (eq-eqb (row_of h) row (some_row (row_of h) row e)) refl
 
@@ -145,8 +117,8 @@ are_fewer row (o ∷ old) [] m x e = absurd m
 are_fewer row (o ∷ old) (n ∷ now) m x e = by_test (has_row o x) refl e (are_fewer row old now m.1 x)
   where
     by_test : (b : Bool) → has_row o x ≡ b → all_have (o ∷ old) x ≡ false → (all_have old x ≡ false → all_have now x ≡ false) → all_have (n ∷ now) x ≡ false
-    by_test true f g h = let rest = rw f at g in false_right (has_row n x) (all_have now x) (h rest)
-    by_test false f g h = false_left (has_row n x) (all_have now x) (m.0.fewer x f)
+    by_test true f g h = let rest = rw f at g in and_right (has_row n x) (all_have now x) (h rest)
+    by_test false f g h = and_left (has_row n x) (all_have now x) (m.0.fewer x f)
 
 -- the word at a place has no row left
 pub pass_none : (i : ℕ) (old now : List (List Hit)) (row at : ℕ) (w : List Hit) → IsPassing i old now row at → i < length now → w ≡ get_or now i w

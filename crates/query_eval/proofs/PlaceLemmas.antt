@@ -1,34 +1,28 @@
--- The words of a phrase, found from documents, stand together in the rows in whose text the phrase stands.
+-- The words of a phrase, found from documents, stand together in a row as often as the phrase stands in its text.
 use Rattle.std.proofs.Common.{◌≡◌, ℕ, zero, suc, ◌+◌, ◌<◌, ◌≤◌, List, [], ◌∷◌, ◌++◌, length, map, take, drop, Bool, true, false, Some, refl, sym, ap, ◌∙◌, arith}
-use Rattle.std.specs.Prelude.{◌&&◌, ◌||◌, nat_eq, nat_le, slice_get}
+use Rattle.std.specs.Prelude.{◌&&◌, ◌||◌, nat_eq, nat_le, nat_lt, slice_get, count_by, if◌then◌else◌}
 use Rattle.std.specs.List.{list_any, filter, enumerate_from}
 use Rattle.std.specs.Str.{bytes_eq}
-use Rattle.std.proofs.lemmas.Bool.{ne_eqb, eq-eqb, le-leb}
+use Rattle.std.proofs.lemmas.Bool.{ne_eqb, eq-eqb, le-leb, lt-ltb, or_parts, and_left, and_right}
+use Rattle.std.proofs.lemmas.Cmp.{nat_list_eq_equiv}
+use Rattle.std.proofs.lemmas.List.{length-map}
+use Rattle.std.proofs.lemmas.List.Sums.{sum_by-cons}
 use Rattle.nrt_base.specs.declared.doc.Doc.{Doc}
-use Rattle.documents.specs.Words.{words_of}
-use Rattle.documents.specs.Matching.{same_bytes, begins_with, stands_in}
+use Rattle.documents.specs.Words.{words_of, has_word}
+use Rattle.documents.specs.Matching.{tails, stands_at_front, stands_in}
+use Rattle.documents.specs.Ranking.{times_of_word, times_of_phrase}
 use Rattle.postings_plain.specs.declared.row.TermRow.{TermRow}
 use Rattle.postings_plain.specs.Postings.{Hit}
 use Rattle.postings_plain.specs.Body.{HasEntry, HasNoEntry}
 use Rattle.postings_plain.specs.Inverting.{has_term, positions_of}
 use Rattle.seg_reader.specs.Shown.{Shown}
 use Rattle.seg_reader.specs.Sound.{term_row, IsSound}
-use Rattle.query_eval.specs.Phrases.{places_in, follow, stand_together}
-use Rattle.query_eval.proofs.RowLemmas.{rows_from, some_row, doc_row, same_test, no_entry_rows}
+use Rattle.query_eval.specs.Phrases.{places_in, follow, times_together, phrase_times, phrase_in}
+use Rattle.query_eval.proofs.RowLemmas.{rows_from, some_row, doc_row, no_entry_rows}
 
-false_left : (a b : Bool) → a ≡ false → (a && b) ≡ false
-false_left true b e = absurd cc
-false_left false b e = refl
-
-or_false : (a b : Bool) → (a || b) ≡ false → (a ≡ false) × (b ≡ false)
-or_false true b e = absurd cc
-or_false false b e = (refl, e)
-
-same_and : (a b c d : Bool) → a ≡ b → c ≡ d → (a && c) ≡ (b && d)
-same_and a b c d e f = cc
-
-same_or : (a b c d : Bool) → a ≡ b → c ≡ d → (a || c) ≡ (b || d)
-same_or a b c d e f = cc
+-- how many words are this one, where it is tested in turn
+pub count_cons : {X : Type 0} (p : X → Bool) (x : X) (xs : List X) → count_by p (x ∷ xs) ≡ (if p x then 1 else 0) + count_by p xs
+count_cons {X} p x xs = sum_by-cons (λ (y : X). if p y then 1 else 0) x xs
 
 -- the places of a word, where the first word is numbered so
 abbrev places_from : List ℕ → ℕ → List (List ℕ) → List ℕ
@@ -37,7 +31,7 @@ places_from word n words = map (λ x. x.0) (filter (λ x. bytes_eq x.1 word) (en
 -- the word that stands first
 abbrev is_first : List ℕ → List (List ℕ) → Bool
 is_first word [] = false
-is_first word (w ∷ words) = same_bytes word w
+is_first word (w ∷ words) = bytes_eq w word
 
 none_below : (word : List ℕ) (n : ℕ) (words : List (List ℕ)) (x : ℕ) → x < n → list_any (λ p. nat_eq p x) (places_from word n words) ≡ false
 none_below word n [] x lt = refl
@@ -51,11 +45,11 @@ none_below word n (w ∷ words) x lt = by_test (bytes_eq w word) refl (none_belo
 has_place : (word : List ℕ) (n i m : ℕ) (words : List (List ℕ)) → m ≡ n + i → list_any (λ p. nat_eq p m) (places_from word n words) ≡ is_first word (drop i words)
 has_place word n zero m [] e = refl
 has_place word n (suc i) m [] e = refl
-has_place word n zero m (w ∷ words) e = by_test (bytes_eq w word) refl (same_test w word)
+has_place word n zero m (w ∷ words) e = by_test (bytes_eq w word) refl
   where
-    by_test : (b : Bool) → bytes_eq w word ≡ b → bytes_eq w word ≡ same_bytes word w → list_any (λ p. nat_eq p m) (places_from word n (w ∷ words)) ≡ same_bytes word w
-    by_test true f g = rw (f, eq-eqb n m (omega (arith, e))) (sym f ∙ g)
-    by_test false f g = rw f (none_below word (n + 1) words m (omega (arith, e)) ∙ sym f ∙ g)
+    by_test : (b : Bool) → bytes_eq w word ≡ b → list_any (λ p. nat_eq p m) (places_from word n (w ∷ words)) ≡ bytes_eq w word
+    by_test true f = rw (f, eq-eqb n m (omega (arith, e))) refl
+    by_test false f = rw f (none_below word (n + 1) words m (omega (arith, e)))
 has_place word n (suc i) m (w ∷ words) e = by_test (bytes_eq w word) refl (has_place word (n + 1) i m words (omega (arith, e)))
   where
     by_test : (b : Bool) → bytes_eq w word ≡ b → list_any (λ p. nat_eq p m) (places_from word (n + 1) words) ≡ is_first word (drop i words)
@@ -63,39 +57,62 @@ has_place word n (suc i) m (w ∷ words) e = by_test (bytes_eq w word) refl (has
     by_test true f h = rw (f, ne_eqb n m (λ g. omega (arith, g, e))) h
     by_test false f h = rw f h
 
-begins_at : (p : List ℕ) (phrase words : List (List ℕ)) (i : ℕ) → (is_first p (drop i words) && begins_with phrase (drop (suc i) words)) ≡ begins_with (p ∷ phrase) (drop i words)
+begins_at : (p : List ℕ) (phrase words : List (List ℕ)) (i : ℕ) → (is_first p (drop i words) && stands_at_front phrase (drop (suc i) words)) ≡ stands_at_front (p ∷ phrase) (drop i words)
 begins_at p phrase [] zero = refl
 begins_at p phrase [] (suc i) = refl
-begins_at p phrase (w ∷ words) zero = refl
+begins_at p phrase (w ∷ words) zero = ap (λ (b : Bool). b && stands_at_front phrase words) (nat_list_eq_equiv.symm w p)
 begins_at p phrase (w ∷ words) (suc i) = begins_at p phrase words i
 
 -- words follow each other from a place on where the phrase begins there
-follow_begins : (phrase words : List (List ℕ)) (i m : ℕ) → m ≡ i → follow m (map (λ w. places_from w 0 words) phrase) ≡ begins_with phrase (drop i words)
+follow_begins : (phrase words : List (List ℕ)) (i m : ℕ) → m ≡ i → follow m (map (λ w. places_from w 0 words) phrase) ≡ stands_at_front phrase (drop i words)
 follow_begins [] words i m e = refl
 follow_begins (p ∷ phrase) words i m e =
-    same_and (list_any (λ q. nat_eq q m) (places_from p 0 words)) (is_first p (drop i words)) (follow (m + 1) (map (λ w. places_from w 0 words) phrase)) (begins_with phrase (drop (suc i) words))
-    (has_place p 0 i m words (omega (arith, e))) (follow_begins phrase words (suc i) (m + 1) (omega (arith, e)))
+    let first = has_place p 0 i m words (omega (arith, e)) in
+    let rest = follow_begins phrase words (suc i) (m + 1) (omega (arith, e)) in
+    both (list_any (λ q. nat_eq q m) (places_from p 0 words)) (is_first p (drop i words)) (follow (m + 1) (map (λ w. places_from w 0 words) phrase)) (stands_at_front phrase (drop (suc i) words)) first rest
     ∙ begins_at p phrase words i
-
--- some place of the first word has the rest of the phrase behind it where the phrase stands in the words
-any_stands : (test : ℕ → Bool) (p : List ℕ) (phrase words : List (List ℕ)) (n : ℕ) → ((i m : ℕ) → m ≡ n + i → test m ≡ begins_with phrase (drop (suc i) words))
-    → list_any test (places_from p n words) ≡ stands_in (p ∷ phrase) words
-any_stands test p phrase [] n is = refl
-any_stands test p phrase (w ∷ words) n is =
-    by_test (bytes_eq w p) refl (same_test w p) (is 0 n (omega arith)) (any_stands test p phrase words (n + 1) (λ i m e. is (suc i) m (omega (arith, e))))
   where
-    by_test : (b : Bool) → bytes_eq w p ≡ b → bytes_eq w p ≡ same_bytes p w → test n ≡ begins_with phrase words → list_any test (places_from p (n + 1) words) ≡ stands_in (p ∷ phrase) words
-        → list_any test (places_from p n (w ∷ words)) ≡ ((same_bytes p w && begins_with phrase words) || stands_in (p ∷ phrase) words)
-    by_test true f g h k = rw (f, sym g ∙ f) (same_or (test n) (begins_with phrase words) (list_any test (places_from p (n + 1) words)) (stands_in (p ∷ phrase) words) h k)
-    by_test false f g h k = rw (f, sym g ∙ f) k
+    both : (a b c d : Bool) → a ≡ b → c ≡ d → (a && c) ≡ (b && d)
+    both a b c d f g = cc
 
-empty_stands : (words : List (List ℕ)) → true ≡ stands_in [] words
-empty_stands [] = refl
-empty_stands (w ∷ words) = refl
+-- as many places of the first word have the rest of the phrase behind them as the phrase has in the words
+count_stands : (test : ℕ → Bool) (p : List ℕ) (phrase words : List (List ℕ)) (n : ℕ) → ((i m : ℕ) → m ≡ n + i → test m ≡ stands_at_front phrase (drop (suc i) words))
+    → count_by test (places_from p n words) ≡ times_of_phrase (p ∷ phrase) words
+count_stands test p phrase [] n is = refl
+count_stands test p phrase (w ∷ words) n is =
+    by_test (bytes_eq w p) refl (is 0 n (omega arith)) (count_stands test p phrase words (n + 1) (λ i m e. is (suc i) m (omega (arith, e))))
+    ∙ sym (count_cons (stands_at_front (p ∷ phrase)) (w ∷ words) (tails words))
+  where
+    front : (b : Bool) → bytes_eq w p ≡ b → stands_at_front (p ∷ phrase) (w ∷ words) ≡ (b && stands_at_front phrase words)
+    front b f = ap (λ (t : Bool). t && stands_at_front phrase words) (nat_list_eq_equiv.symm p w ∙ f)
 
-pub phrase_stands : (phrase words : List (List ℕ)) → stand_together (map (λ w. positions_of w words) phrase) ≡ stands_in phrase words
-phrase_stands [] words = empty_stands words
-phrase_stands (p ∷ phrase) words = any_stands (λ q. follow (q + 1) (map (λ w. places_from w 0 words) phrase)) p phrase words 0 (λ i m e. follow_begins phrase words (suc i) (m + 1) (omega (arith, e)))
+    by_test : (b : Bool) → bytes_eq w p ≡ b → test n ≡ stands_at_front phrase words → count_by test (places_from p (n + 1) words) ≡ times_of_phrase (p ∷ phrase) words
+        → count_by test (places_from p n (w ∷ words)) ≡ (if stands_at_front (p ∷ phrase) (w ∷ words) then 1 else 0) + times_of_phrase (p ∷ phrase) words
+    by_test true f g h = rw (front true f, f) (count_cons test n (places_from p (n + 1) words) ∙ rw (g, h) refl)
+    by_test false f g h = rw (front false f, f) (rw h refl)
+
+-- how often a phrase stands in words
+phrase_stands : (p : List ℕ) (phrase words : List (List ℕ)) → times_together (map (λ w. positions_of w words) (p ∷ phrase)) ≡ times_of_phrase (p ∷ phrase) words
+phrase_stands p phrase words = count_stands (λ q. follow (q + 1) (map (λ w. places_from w 0 words) phrase)) p phrase words 0 (λ i m e. follow_begins phrase words (suc i) (m + 1) (omega (arith, e)))
+
+-- a test is passed where it is passed at least once
+any_counted : {X : Type 0} (p : X → Bool) (xs : List X) → list_any p xs ≡ nat_lt 0 (count_by p xs)
+any_counted p [] = refl
+any_counted {X} p (x ∷ xs) = by_test (p x) refl (any_counted p xs)
+  where
+    by_test : (b : Bool) → p x ≡ b → list_any p xs ≡ nat_lt 0 (count_by p xs) → list_any p (x ∷ xs) ≡ nat_lt 0 (count_by p (x ∷ xs))
+    by_test true e rest = rw (e, count_cons p x xs, e) (sym (lt-ltb 0 (1 + count_by p xs) (omega arith)))
+    by_test false e rest = let none : 0 + count_by p xs ≡ count_by p xs = omega arith in rw (e, count_cons p x xs, e, none) rest
+
+-- how often a word stands in words
+count_places : (word : List ℕ) (n : ℕ) (words : List (List ℕ)) → length (places_from word n words) ≡ times_of_word word words
+count_places word n [] = refl
+count_places word n (w ∷ words) = by_test (bytes_eq w word) refl (count_places word (n + 1) words) ∙ sym (count_cons (λ v. bytes_eq v word) w words)
+  where
+    by_test : (b : Bool) → bytes_eq w word ≡ b → length (places_from word (n + 1) words) ≡ times_of_word word words
+        → length (places_from word n (w ∷ words)) ≡ (if bytes_eq w word then 1 else 0) + times_of_word word words
+    by_test true f h = rw f (omega (arith, h))
+    by_test false f h = rw f (omega (arith, h))
 
 no_places_before : (word : List ℕ) (n : ℕ) (rows : List TermRow) (x : ℕ) → x < n → places_in x (rows_from word n rows) ≡ []
 no_places_before word n [] x lt = refl
@@ -108,7 +125,7 @@ no_places_before word n (r ∷ rows) x lt = by_test (has_term 1 word r) refl (no
 none_placed : (word : List ℕ) (n : ℕ) (words : List (List ℕ)) → list_any (λ w. bytes_eq w word) words ≡ false → places_from word n words ≡ []
 none_placed word n [] e = refl
 none_placed word n (w ∷ words) e =
-    let parts = or_false (bytes_eq w word) (list_any (λ v. bytes_eq v word) words) e in
+    let parts = or_parts (bytes_eq w word) (list_any (λ v. bytes_eq v word) words) e in
     step parts.0 (none_placed word (n + 1) words parts.1)
   where
     step : bytes_eq w word ≡ false → places_from word (n + 1) words ≡ [] → places_from word n (w ∷ words) ≡ []
@@ -135,6 +152,10 @@ entry_places shown word hits sound has i doc e =
     let have = (sound.entries 1 word hits).0 has in
     ap (places_in i) have.hits_are ∙ places_found word 0 i i (map term_row shown.docs) (term_row doc) (omega arith) (doc_row shown.docs i doc e)
 
+pub word_times : (shown : Shown) (word : List ℕ) (hits : List Hit) → IsSound shown → HasEntry shown.entries 1 word hits
+    → (i : ℕ) (doc : Doc) → slice_get shown.docs i ≡ Some doc → length (places_in i hits) ≡ times_of_word word (words_of doc.text)
+word_times shown word hits sound has i doc e = ap length (entry_places shown word hits sound has i doc e) ∙ count_places word 0 (words_of doc.text)
+
 -- the words that were found have, in each row, the places of the words of the phrase so far
 abbrev pub ArePlaced : List Doc → List (List Hit) → List (List ℕ) → Type 0
 ArePlaced docs hits phrase = (row : ℕ) (doc : Doc) → slice_get docs row ≡ Some doc → map (places_in row) hits ≡ map (λ w. positions_of w (words_of doc.text)) phrase
@@ -145,10 +166,7 @@ map_more f (y ∷ xs) x = ap (λ (ys : List (List ℕ)). f y ∷ ys) (map_more f
 
 take_one : (xs : List (List ℕ)) (i : ℕ) (x : List ℕ) → slice_get xs i ≡ Some x → take (suc i) xs ≡ take i xs ++ x ∷ []
 take_one [] i x e = absurd cc
-take_one (y ∷ xs) zero x e = first y x e
-  where
-    first : (y x : List ℕ) → Some y ≡ Some x → y ∷ [] ≡ x ∷ []
-    first y x e = cc
+take_one (y ∷ xs) zero x e = cc
 take_one (y ∷ xs) (suc i) x e = ap (λ (ys : List (List ℕ)). y ∷ ys) (take_one xs i x e)
 
 more_cells : (as' bs : List (List ℕ)) (a b : List ℕ) → as' ≡ bs → a ≡ b → as' ++ a ∷ [] ≡ bs ++ b ∷ []
@@ -167,43 +185,39 @@ placed_more shown words more phrase i j word same hits sound placed is spelt has
     ∙ ap (map of) (sym (take_one phrase i word is))
     ∙ ap (λ (n : ℕ). map of (take n phrase)) (sym one)
 
--- a phrase with a word that is not among them does not begin the words
-no_begin : (phrase words : List (List ℕ)) (i : ℕ) (word : List ℕ) → slice_get phrase i ≡ Some word → list_any (same_bytes word) words ≡ false → begins_with phrase words ≡ false
-no_begin [] words i word is lacks = absurd cc
-no_begin (p ∷ phrase) [] i word is lacks = refl
-no_begin (p ∷ phrase) (w ∷ words) zero word is lacks =
-    let parts = or_false (same_bytes word w) (list_any (same_bytes word) words) lacks in
-    false_left (same_bytes p w) (begins_with phrase words) (ap (λ (x : List ℕ). same_bytes x w) (same_word p word is) ∙ parts.0)
+-- ---- a word that the segment lacks
+
+no_front : (phrase words : List (List ℕ)) (i : ℕ) (word : List ℕ) → slice_get phrase i ≡ Some word → has_word word words ≡ false → stands_at_front phrase words ≡ false
+no_front [] words i word is lacks = absurd cc
+no_front (p ∷ phrase) [] i word is lacks = refl
+no_front (p ∷ phrase) (w ∷ words) zero word is lacks =
+    let parts = or_parts (bytes_eq w word) (has_word word words) lacks in
+    and_left (bytes_eq p w) (stands_at_front phrase words) (nat_list_eq_equiv.symm p w ∙ ap (bytes_eq w) (same_word p word is) ∙ parts.0)
   where
     same_word : (a b : List ℕ) → Some a ≡ Some b → a ≡ b
     same_word a b e = cc
-no_begin (p ∷ phrase) (w ∷ words) (suc i) word is lacks =
-    let parts = or_false (same_bytes word w) (list_any (same_bytes word) words) lacks in
-    right (same_bytes p w) (begins_with phrase words) (no_begin phrase words i word is parts.1)
-  where
-    right : (a b : Bool) → b ≡ false → (a && b) ≡ false
-    right true b e = e
-    right false b e = refl
+no_front (p ∷ phrase) (w ∷ words) (suc i) word is lacks =
+    let parts = or_parts (bytes_eq w word) (has_word word words) lacks in
+    and_right (bytes_eq p w) (stands_at_front phrase words) (no_front phrase words i word is parts.1)
 
-no_stand : (phrase words : List (List ℕ)) (i : ℕ) (word : List ℕ) → slice_get phrase i ≡ Some word → list_any (same_bytes word) words ≡ false → stands_in phrase words ≡ false
-no_stand phrase [] i word is lacks = no_begin phrase [] i word is lacks
-no_stand phrase (w ∷ words) i word is lacks =
-    let parts = or_false (same_bytes word w) (list_any (same_bytes word) words) lacks in
-    both (begins_with phrase (w ∷ words)) (stands_in phrase words) (no_begin phrase (w ∷ words) i word is lacks) (no_stand phrase words i word is parts.1)
-  where
-    both : (a b : Bool) → a ≡ false → b ≡ false → (a || b) ≡ false
-    both true b e f = absurd cc
-    both false b e f = f
+never_stands : (phrase words : List (List ℕ)) (i : ℕ) (word : List ℕ) → slice_get phrase i ≡ Some word → has_word word words ≡ false → times_of_phrase phrase words ≡ 0
+never_stands phrase [] i word is lacks = count_cons (stands_at_front phrase) [] [] ∙ rw (no_front phrase [] i word is lacks) refl
+never_stands phrase (w ∷ words) i word is lacks =
+    let parts = or_parts (bytes_eq w word) (has_word word words) lacks in
+    count_cons (stands_at_front phrase) (w ∷ words) (tails words)
+    ∙ rw (no_front phrase (w ∷ words) i word is lacks) (never_stands phrase words i word is parts.1)
 
--- a word that the segment lacks
+pub times_lacking : (shown : Shown) (phrase : List (List ℕ)) (i : ℕ) (word same : List ℕ) → IsSound shown → slice_get phrase i ≡ Some word → same ≡ word → HasNoEntry shown.entries 1 same
+    → (row : ℕ) (doc : Doc) → slice_get shown.docs row ≡ Some doc → times_of_phrase phrase (words_of doc.text) ≡ 0
+times_lacking shown phrase i word same sound is spelt lacks row doc here =
+    never_stands phrase (words_of doc.text) i word is (ap (λ (w : List ℕ). has_word w (words_of doc.text)) (sym spelt) ∙ no_entry_rows shown same sound lacks row doc here)
+
 pub phrase_lacks : (shown : Shown) (phrase : List (List ℕ)) (i : ℕ) (word same : List ℕ) → IsSound shown → slice_get phrase i ≡ Some word → same ≡ word → HasNoEntry shown.entries 1 same
     → (row : ℕ) (doc : Doc) → slice_get shown.docs row ≡ Some doc → false ≡ stands_in phrase (words_of doc.text)
 phrase_lacks shown phrase i word same sound is spelt lacks row doc here =
-    sym (no_stand phrase (words_of doc.text) i word is
-    (ap (λ (w : List ℕ). list_any (same_bytes w) (words_of doc.text)) (sym spelt) ∙ no_entry_rows shown same sound lacks row doc here))
+    sym (any_counted (stands_at_front phrase) (tails (words_of doc.text)) ∙ ap (nat_lt 0) (times_lacking shown phrase i word same sound is spelt lacks row doc here))
 
-from_zero : (row : ℕ) (b : Bool) → (nat_le 0 row && b) ≡ b
-from_zero row b = rw (le-leb 0 row (omega arith)) refl
+-- ---- all words were found
 
 pub whole : (n : ℕ) (xs : List (List ℕ)) → length xs ≤ n → take n xs ≡ xs
 whole zero [] le = refl
@@ -211,9 +225,18 @@ whole zero (x ∷ xs) le = absurd (omega (arith, le))
 whole (suc n) [] le = refl
 whole (suc n) (x ∷ xs) le = ap (λ (ys : List (List ℕ)). x ∷ ys) (whole n xs (omega (arith, le)))
 
--- all words were found
-pub phrase_placed : (docs : List Doc) (hits : List (List Hit)) (phrase so_far : List (List ℕ)) → ArePlaced docs hits so_far → so_far ≡ phrase
-    → (row : ℕ) (doc : Doc) → slice_get docs row ≡ Some doc → (nat_le 0 row && stand_together (map (places_in row) hits)) ≡ stands_in phrase (words_of doc.text)
-phrase_placed docs hits phrase so_far placed e row doc here =
-    from_zero row (stand_together (map (places_in row) hits))
-    ∙ ap stand_together (placed row doc here ∙ ap (map (λ w. positions_of w (words_of doc.text))) e) ∙ phrase_stands phrase (words_of doc.text)
+pub times_placed : (docs : List Doc) (hits : List (List Hit)) (phrase so_far : List (List ℕ)) → ArePlaced docs hits so_far → so_far ≡ phrase → 0 < length phrase
+    → (row : ℕ) (doc : Doc) → slice_get docs row ≡ Some doc → phrase_times hits row ≡ times_of_phrase phrase (words_of doc.text)
+times_placed docs hits [] so_far placed e some = absurd (omega (arith, some))
+times_placed docs hits (p ∷ phrase) so_far placed e some row doc here =
+    ap times_together (placed row doc here ∙ ap (map (λ w. positions_of w (words_of doc.text))) e) ∙ phrase_stands p phrase (words_of doc.text)
+
+pub phrase_placed : (docs : List Doc) (hits : List (List Hit)) (phrase so_far : List (List ℕ)) → ArePlaced docs hits so_far → so_far ≡ phrase → 0 < length phrase
+    → (row : ℕ) (doc : Doc) → slice_get docs row ≡ Some doc → (nat_le 0 row && phrase_in hits row) ≡ stands_in phrase (words_of doc.text)
+phrase_placed docs hits phrase so_far placed e some row doc here =
+    from_zero row (phrase_in hits row)
+    ∙ ap (nat_lt 0) (times_placed docs hits phrase so_far placed e some row doc here)
+    ∙ sym (any_counted (stands_at_front phrase) (tails (words_of doc.text)))
+  where
+    from_zero : (row : ℕ) (b : Bool) → (nat_le 0 row && b) ≡ b
+    from_zero row b = rw (le-leb 0 row (omega arith)) refl

@@ -1,16 +1,17 @@
 -- What a reader of places has not passed, and what it answers.
 use Rattle.std.proofs.Common.{◌≡◌, ℕ, ◌+◌, ◌<◌, ◌≤◌, List, [], ◌∷◌, map, Bool, true, false, Option, Some, None, refl, sym, ap, subst, ◌∙◌, inl, inr, arith}
-use Rattle.std.specs.Prelude.{◌&&◌, ◌||◌, nat_eq, slice_get, MatchOption}
-use Rattle.std.specs.List.{list_any, AllByRecursion}
+use Rattle.std.specs.Prelude.{◌&&◌, ◌||◌, nat_eq, slice_get, count_by, if◌then◌else◌, MatchOption}
+use Rattle.std.specs.List.{AllByRecursion}
 use Rattle.std.specs.List.Sorted.{IsStrictlySortedBy}
 use Rattle.std.specs.Ordering.{nat_cmp}
 use Rattle.std.specs.declared.cmp.Ordering.TheVariants.{Less}
-use Rattle.std.proofs.lemmas.Bool.{cases_lt, lt-ltb, le-ltb, ne_eqb, eq-eqb}
+use Rattle.std.proofs.lemmas.Bool.{cases_lt, lt-ltb, le-ltb, ne_eqb, eq-eqb, or_left, or_right}
+use Rattle.std.proofs.lemmas.List.Sums.{sum_by-cons}
 use Rattle.std.proofs.lemmas.Bool.Decides.{nat_tests}
 use Rattle.postings_plain.specs.Postings.{Hit}
 use Rattle.postings_plain.specs.Rows.{first_positions}
 use Rattle.query_eval.specs.Places.{has_place, all_left, from_place, AreSameFrom}
-use Rattle.query_eval.specs.Phrases.{follow, stand_together}
+use Rattle.query_eval.specs.Phrases.{follow, times_together}
 
 abbrev pub Ascending : List ℕ → Type 0
 Ascending places = IsStrictlySortedBy nat_cmp places
@@ -109,38 +110,26 @@ same_later least place left all same up x le = same x (omega (arith, up, le))
 pub same_on : (place : ℕ) (left now all : List ℕ) → AreSameFrom place left all → now ≡ from_place place left → AreSameFrom place now all
 same_on place left now all same e x le = ap (λ (ps : List ℕ). has_place ps x) e ∙ same_from place x left le ∙ same x le
 
--- a place of the first list is among its places
-or_left : (a b : Bool) → a ≡ true → (a || b) ≡ true
-or_left true b e = refl
-or_left false b e = absurd cc
+-- ---- the places of the first list are gone through
 
-or_right : (a b : Bool) → b ≡ true → (a || b) ≡ true
-or_right true b e = refl
-or_right false b e = e
+count_there : (f : ℕ → Bool) (all places : List ℕ) → ((p : ℕ) → has_place places p ≡ true → has_place all p ≡ true) → count_by (λ p. has_place all p && f p) places ≡ count_by f places
+count_there f all [] there = refl
+count_there f all (p ∷ places) there =
+    sum_by-cons (λ (q : ℕ). if (has_place all q && f q) then 1 else 0) p places
+    ∙ rw (there p (or_left (nat_eq p p) (has_place places p) (eq-eqb p p refl)))
+    (ap (λ (n : ℕ). (if f p then 1 else 0) + n) (count_there f all places (λ q e. there q (or_right (nat_eq p q) (has_place places q) e))))
+    ∙ sym (sum_by-cons (λ (q : ℕ). if f q then 1 else 0) p places)
 
-same_or : (a b c d : Bool) → a ≡ b → c ≡ d → (a || c) ≡ (b || d)
-same_or a b c d e f = cc
-
-and_there : (a b : Bool) → a ≡ true → (a && b) ≡ b
-and_there true b e = refl
-and_there false b e = absurd cc
-
-any_there : (f : ℕ → Bool) (all places : List ℕ) → ((p : ℕ) → has_place places p ≡ true → has_place all p ≡ true) → list_any (λ p. has_place all p && f p) places ≡ list_any f places
-any_there f all [] there = refl
-any_there f all (p ∷ places) there =
-    same_or (has_place all p && f p) (f p) (list_any (λ q. has_place all q && f q) places) (list_any f places)
-    (and_there (has_place all p) (f p) (there p (or_left (nat_eq p p) (has_place places p) (eq-eqb p p refl))))
-    (any_there f all places (λ q e. there q (or_right (nat_eq p q) (has_place places q) e)))
-
-from_first : (places : List ℕ) (rest : List (List ℕ)) → list_any (λ p. follow p (places ∷ rest)) places ≡ stand_together (places ∷ rest)
-from_first places rest = any_there (λ p. follow (p + 1) rest) places places (λ p e. e)
-
--- the places of the first word are gone through
-pub first_stands : (words : List (List Hit)) (first : List Hit) (places : List ℕ) → ◌≡◌ {A = Option (List Hit)} (Some first) (slice_get words 0) → places ≡ first_positions first
-    → list_any (λ p. follow p (map first_positions words)) places ≡ stand_together (map first_positions words)
-first_stands [] first places is e = absurd cc
-first_stands (w ∷ words) first places is e =
-    ap (list_any (λ p. follow p (map first_positions (w ∷ words)))) (e ∙ ap first_positions (same_word first w is)) ∙ from_first (first_positions w) (map first_positions words)
+pub first_counts : (words : List (List Hit)) (first : List Hit) (places : List ℕ) → ◌≡◌ {A = Option (List Hit)} (Some first) (slice_get words 0) → places ≡ first_positions first
+    → count_by (λ p. follow p (map first_positions words)) places ≡ times_together (map first_positions words)
+first_counts [] first places is e = absurd cc
+first_counts (w ∷ words) first places is e =
+    ap (count_by (λ p. follow p (map first_positions (w ∷ words)))) (e ∙ ap first_positions (same_word first w is))
+    ∙ count_there (λ p. follow (p + 1) (map first_positions words)) (first_positions w) (first_positions w) (λ p e. e)
   where
     same_word : (a b : List Hit) → ◌≡◌ {A = Option (List Hit)} (Some a) (Some b) → a ≡ b
     same_word a b f = cc
+
+-- one more place was asked for
+pub count_next : (f : ℕ → Bool) (p : ℕ) (places : List ℕ) (times more : ℕ) → (more ≡ times + (if f p then 1 else 0)) → more + count_by f places ≡ times + count_by f (p ∷ places)
+count_next f p places times more e = let here = sum_by-cons (λ (q : ℕ). if f q then 1 else 0) p places in omega (arith, e, here)

@@ -1,12 +1,10 @@
 -- The rows of a word, found from documents, are those whose text has it, with its positions there.
 use Rattle.std.proofs.Common.{◌≡◌, ℕ, zero, suc, ◌+◌, ◌<◌, List, [], ◌∷◌, map, Bool, true, false, Some, refl, sym, ap, ◌∙◌, arith}
-use Rattle.std.specs.Prelude.{◌&&◌, ◌||◌, nat_eq, slice_get}
+use Rattle.std.specs.Prelude.{slice_get}
 use Rattle.std.specs.List.{list_any, filter, enumerate_from}
-use Rattle.std.specs.Str.{bytes_eq}
-use Rattle.std.proofs.lemmas.Bool.{ne_eqb, eq-eqb}
+use Rattle.std.proofs.lemmas.Bool.{ne_eqb, eq-eqb, or_right}
 use Rattle.nrt_base.specs.declared.doc.Doc.{Doc}
-use Rattle.documents.specs.Words.{words_of}
-use Rattle.documents.specs.Matching.{same_bytes}
+use Rattle.documents.specs.Words.{words_of, has_word}
 use Rattle.postings_plain.specs.declared.row.TermRow.{TermRow}
 use Rattle.postings_plain.specs.Postings.{Hit}
 use Rattle.postings_plain.specs.Body.{HasEntry, HasNoEntry}
@@ -43,25 +41,6 @@ row_found word n (suc i) (r ∷ rows) row e = by_test (has_term 1 word r) refl (
     by_test true f h = let m : (n + 1) + i ≡ n + suc i = omega arith in rw (f, ne_eqb n (n + suc i) (λ g. omega (arith, g))) (ap (has_row (rows_from word (n + 1) rows)) (sym m) ∙ h)
     by_test false f h = let m : (n + 1) + i ≡ n + suc i = omega arith in rw f (ap (has_row (rows_from word (n + 1) rows)) (sym m) ∙ h)
 
-pub same_test : (a b : List ℕ) → bytes_eq a b ≡ same_bytes b a
-same_test [] [] = refl
-same_test [] (y ∷ ys) = refl
-same_test (x ∷ xs) [] = refl
-same_test (x ∷ xs) (y ∷ ys) = same_and (nat_eq x y) (nat_eq y x) (bytes_eq xs ys) (same_bytes ys xs) (either_way x y) (same_test xs ys)
-  where
-    same_and : (a b c d : Bool) → a ≡ b → c ≡ d → (a && c) ≡ (b && d)
-    same_and a b c d e f = cc
-
-    either_way : (a b : ℕ) → nat_eq a b ≡ nat_eq b a
-    either_way a b = grind arith
-
-same_any : (word : List ℕ) (words : List (List ℕ)) → list_any (λ w. bytes_eq w word) words ≡ list_any (same_bytes word) words
-same_any word [] = refl
-same_any word (w ∷ words) = same_or (bytes_eq w word) (same_bytes word w) (list_any (λ v. bytes_eq v word) words) (list_any (same_bytes word) words) (same_test w word) (same_any word words)
-  where
-    same_or : (a b c d : Bool) → a ≡ b → c ≡ d → (a || c) ≡ (b || d)
-    same_or a b c d e f = cc
-
 pub doc_row : (docs : List Doc) (i : ℕ) (doc : Doc) → slice_get docs i ≡ Some doc → slice_get (map term_row docs) i ≡ Some (term_row doc)
 doc_row [] i doc e = absurd cc
 doc_row (d ∷ docs) zero doc e = cc
@@ -72,15 +51,14 @@ from_zero hits i = let e : 0 + i ≡ i = omega arith in ap (has_row hits) e
 
 -- the rows that have a word are those whose text has it
 pub word_rows : (docs : List Doc) (word : List ℕ) (i : ℕ) (doc : Doc) → slice_get docs i ≡ Some doc
-    → has_row (rows_with 1 word (map term_row docs)) i ≡ list_any (same_bytes word) (words_of doc.text)
+    → has_row (rows_with 1 word (map term_row docs)) i ≡ has_word word (words_of doc.text)
 word_rows docs word i doc e =
     sym (from_zero (rows_with 1 word (map term_row docs)) i)
     ∙ row_found word 0 i (map term_row docs) (term_row doc) (doc_row docs i doc e)
-    ∙ same_any word (words_of doc.text)
 
 -- the hits that a sound segment has for a word
 pub entry_rows : (shown : Shown) (word : List ℕ) (hits : List Hit) → IsSound shown → HasEntry shown.entries 1 word hits
-    → (i : ℕ) (doc : Doc) → slice_get shown.docs i ≡ Some doc → has_row hits i ≡ list_any (same_bytes word) (words_of doc.text)
+    → (i : ℕ) (doc : Doc) → slice_get shown.docs i ≡ Some doc → has_row hits i ≡ has_word word (words_of doc.text)
 entry_rows shown word hits sound has i doc e =
     let have = (sound.entries 1 word hits).0 has in
     ap (λ hs. has_row hs i) have.hits_are ∙ word_rows shown.docs word i doc e
@@ -88,19 +66,15 @@ entry_rows shown word hits sound has i doc e =
 found_any : (word : List ℕ) (i : ℕ) (rows : List TermRow) (row : TermRow) → slice_get rows i ≡ Some row → has_term 1 word row ≡ true → list_any (has_term 1 word) rows ≡ true
 found_any word i [] row e has = absurd cc
 found_any word zero (r ∷ rows) row e has = rw (ap (has_term 1 word) (some_row r row e) ∙ has) refl
-found_any word (suc i) (r ∷ rows) row e has = true_right (has_term 1 word r) (list_any (has_term 1 word) rows) (found_any word i rows row e has)
-  where
-    true_right : (a b : Bool) → b ≡ true → (a || b) ≡ true
-    true_right true b f = refl
-    true_right false b f = f
+found_any word (suc i) (r ∷ rows) row e has = or_right (has_term 1 word r) (list_any (has_term 1 word) rows) (found_any word i rows row e has)
 
 -- a word that a sound segment lacks is in no text
 pub no_entry_rows : (shown : Shown) (word : List ℕ) → IsSound shown → HasNoEntry shown.entries 1 word
-    → (i : ℕ) (doc : Doc) → slice_get shown.docs i ≡ Some doc → list_any (same_bytes word) (words_of doc.text) ≡ false
-no_entry_rows shown word sound none i doc e = by_test (list_any (same_bytes word) (words_of doc.text)) refl
+    → (i : ℕ) (doc : Doc) → slice_get shown.docs i ≡ Some doc → has_word word (words_of doc.text) ≡ false
+no_entry_rows shown word sound none i doc e = by_test (has_word word (words_of doc.text)) refl
   where
-    by_test : (b : Bool) → list_any (same_bytes word) (words_of doc.text) ≡ b → b ≡ false
+    by_test : (b : Bool) → has_word word (words_of doc.text) ≡ b → b ≡ false
     by_test false f = refl
     by_test true f =
-        let some = found_any word i (map term_row shown.docs) (term_row doc) (doc_row shown.docs i doc e) (same_any word (words_of doc.text) ∙ f) in
+        let some = found_any word i (map term_row shown.docs) (term_row doc) (doc_row shown.docs i doc e) f in
         absurd (none (rows_with 1 word (map term_row shown.docs)) ((sound.entries 1 word (rows_with 1 word (map term_row shown.docs))).1 (record { kind = omega arith; some = some; hits_are = refl })))

@@ -2,7 +2,7 @@
 use Rattle.std.specs.Prelude.{ℕ, ◌+◌, Bool, true, false, ◌&&◌, ◌||◌, not, nat_le, nat_lt, Option, Some, None}
 use Rattle.query_eval.specs.declared.cursor.Cursor.{Cursor}
 use Rattle.query_eval.specs.declared.cursor.Cursor.TheVariants.{Nothing, Every, Word, Phrase, Both', Either', Rest'}
-use Rattle.query_eval.specs.Moves.{from_least}
+use Rattle.query_eval.specs.Advance.{from_least}
 use Rattle.query_eval.specs.Phrases.{has_row, phrase_in}
 
 -- a cursor answers the row

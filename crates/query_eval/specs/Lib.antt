@@ -1,6 +1,7 @@
-pub mod Moves
+pub mod Advance
 pub mod Places
 pub mod Phrases
 pub mod Cursor
-pub mod Keys
+pub mod Ranks
+pub mod Best
 pub mod Matching

@@ -1,18 +1,22 @@
--- The documents of segments that a query matches.
-use Rattle.std.specs.Prelude.{◌≡◌, ℕ, ◌+◌, ◌≤◌, Bool, List, ◌++◌, map, reverse, filter, length, Some, slice_get}
+-- The documents of segments that a query matches, and their hits.
+use Rattle.std.specs.Prelude.{◌≡◌, ℕ, ◌+◌, ◌≤◌, Bool, MatchBool, IfSome, List, ◌++◌, length, Some, slice_get, slice_index_or, false}
 use Rattle.std.specs.List.{sum_by, list_any, list_all}
 use Rattle.nrt_base.specs.declared.doc.Doc.{Doc}
+use Rattle.documents.specs.declared.answer.Answer.{Answer}
+use Rattle.documents.specs.declared.answer.Hit.{Hit}
 use Rattle.documents.specs.declared.query.Query.{Query}
-use Rattle.documents.specs.Matching.{matches_doc, same_bytes, stands_in}
-use Rattle.documents.specs.Words.{words_of}
+use Rattle.documents.specs.Matching.{matches_doc, stands_in}
+use Rattle.documents.specs.Ranking.{matching_hits, answer_of}
+use Rattle.documents.specs.Words.{words_of, has_word}
 use Rattle.seg_reader.specs.Shown.{Shown, live_documents_of}
 use Rattle.query_eval.specs.declared.cursor.Cursor.{Cursor}
+use Rattle.query_eval.specs.Best.{hit_with, CountsHit}
 use Rattle.query_eval.specs.Cursor.{answers}
-use Rattle.query_eval.specs.Keys.{Tally, tally_of}
 
 -- the cursor answers the rows whose documents pass the test
 abbrev pub AnswersTest : List Doc → (Doc → Bool) → Cursor → Type 0
-AnswersTest docs test cursor = (row : ℕ) (doc : Doc) → slice_get docs row ≡ Some doc → answers cursor row ≡ test doc
+AnswersTest docs test cursor =
+    (row : ℕ) (doc : Doc) → slice_get docs row ≡ Some doc → answers cursor row ≡ test doc
 
 -- those that the query matches
 abbrev pub AnswersQuery : List Doc → Query → Cursor → Type 0
@@ -20,7 +24,7 @@ AnswersQuery docs query cursor = AnswersTest docs (matches_doc query) cursor
 
 -- those whose text has the word
 abbrev pub AnswersWord : List Doc → List ℕ → Cursor → Type 0
-AnswersWord docs word cursor = AnswersTest docs (λ doc. list_any (same_bytes word) (words_of doc.text)) cursor
+AnswersWord docs word cursor = AnswersTest docs (λ doc. has_word word (words_of doc.text)) cursor
 
 -- those in whose text the phrase stands
 abbrev pub AnswersPhrase : List Doc → List (List ℕ) → Cursor → Type 0
@@ -28,21 +32,26 @@ AnswersPhrase docs phrase cursor = AnswersTest docs (λ doc. stands_in phrase (w
 
 -- those that every part matches
 abbrev pub AnswersAll : List Doc → List Query → Cursor → Type 0
-AnswersAll docs parts cursor = AnswersTest docs (λ doc. list_all (λ part. matches_doc part doc) parts) cursor
+AnswersAll docs parts cursor =
+    AnswersTest docs (λ doc. list_all (λ part. matches_doc part doc) parts) cursor
 
 -- those that some part matches
 abbrev pub AnswersAny : List Doc → List Query → Cursor → Type 0
-AnswersAny docs parts cursor = AnswersTest docs (λ doc. list_any (λ part. matches_doc part doc) parts) cursor
-
--- the keys of the documents that match
-abbrev pub matching_keys : Query → List Doc → List (List ℕ)
-matching_keys query docs = map (λ doc. doc.key) (filter (matches_doc query) docs)
+AnswersAny docs parts cursor =
+    AnswersTest docs (λ doc. list_any (λ part. matches_doc part doc) parts) cursor
 
 -- how many rows segments have together
 abbrev pub rows_of : List Shown → ℕ
 rows_of segs = sum_by (λ seg. length seg.docs) segs
 
+-- the document of a row was counted with this rank where the row is live
+abbrev pub CountsRow : Shown → (row rank : ℕ) → (old new : Answer) → Type 0
+CountsRow seg row rank old new =
+    IfSome (slice_get seg.docs row)
+    (λ doc. MatchBool (slice_index_or seg.live row false) (CountsHit (hit_with doc.key rank) old new) (new ≡ old))
+
 -- the live rows of a segment whose documents match were counted over what was found before
-pub record Counts (query : Query) (seg : Shown) (old new : Tally) : Type 0 where
+pub record CountsSegment (query : Query) (seg : Shown) (old new : Answer) : Type 0 where
   pub few : new.total ≤ old.total + length seg.docs
-  pub all : (keys : List (List ℕ)) → old ≡ tally_of keys → new ≡ tally_of (reverse (matching_keys query (live_documents_of seg)) ++ keys)
+  pub all : (hits : List Hit) → old ≡ answer_of hits
+      → new ≡ answer_of (hits ++ matching_hits query (live_documents_of seg))

@@ -1,5 +1,5 @@
 -- The rows of a word and those of a phrase, by the hits of words.
-use Rattle.std.specs.Prelude.{◌≡◌, ℕ, ◌+◌, ◌≤◌, ◌<◌, List, [], ◌∷◌, map, Bool, true, false, ◌&&◌, nat_eq, if◌then◌else◌, Option, Some, None}
+use Rattle.std.specs.Prelude.{◌≡◌, ℕ, ◌+◌, ◌≤◌, ◌<◌, List, [], ◌∷◌, map, Bool, true, false, ◌&&◌, nat_eq, nat_lt, count_by, if◌then◌else◌, Option, Some, None}
 use Rattle.std.specs.List.{list_any}
 use Rattle.postings_plain.specs.Postings.{Hit, row_of, positions_in}
 use Rattle.postings_plain.specs.Rows.{first_positions}
@@ -19,14 +19,18 @@ abbrev pub follow : ℕ → List (List ℕ) → Bool
 follow place [] = true
 follow place (places ∷ rest) = has_place places place && follow (place + 1) rest
 
--- from some place of the first list on, each list has the next one
-abbrev pub stand_together : List (List ℕ) → Bool
-stand_together [] = true
-stand_together (places ∷ rest) = list_any (λ p. follow (p + 1) rest) places
+-- how many places of the first list have the next ones behind them, one in each of the others
+abbrev pub times_together : List (List ℕ) → ℕ
+times_together [] = 0
+times_together (places ∷ rest) = count_by (λ p. follow (p + 1) rest) places
 
--- the words of a phrase, given by their hits, stand together in the row
+-- how often the words of a phrase, given by their hits, stand together in the row
+abbrev pub phrase_times : List (List Hit) → ℕ → ℕ
+phrase_times words row = times_together (map (places_in row) words)
+
+-- they do so at least once
 abbrev pub phrase_in : List (List Hit) → ℕ → Bool
-phrase_in words row = stand_together (map (places_in row) words)
+phrase_in words row = nat_lt 0 (phrase_times words row)
 
 -- each word has the row
 abbrev pub all_have : List (List Hit) → ℕ → Bool

@@ -1,8 +1,10 @@
-ghost use Rattle.std.specs.Prelude.{◌≡◌, ◌&&◌, ◌||◌};
-ghost use Rattle.query_eval.specs.Moves.{Moves, both, from_least, least_row, rest_of};
+//! The rows of a segment that a query asks for.
+
+ghost use Rattle.std.specs.Prelude.{◌≡◌};
+ghost use Rattle.query_eval.specs.Advance.{FindsRow, both, either, from_least, least_row, rest_of};
 ghost use Rattle.query_eval.specs.Cursor.{answers, parted};
 
-use crate::phrase::{PhraseWord, phrase_from};
+use crate::phrase::{PhraseWord, advance_phrase};
 use postings_plain::Postings;
 use std::mem;
 
@@ -56,21 +58,22 @@ fn least_of(a: Option<u32>, b: Option<u32>) -> Option<u32>
 
 // The first row at or above this one, from `least` on, that both answer. The least rises to it.
 #[cycle(moving)]
-fn both_from(
+fn advance_both(
     least: &mut u32,
     first: &mut Cursor<'_>,
     second: &mut Cursor<'_>,
     row: u32,
 ) -> Option<u32>
-    ensures moves { Moves (from_least least.old (both (answers first.old) (answers second.old))) (from_least least.new (both (answers first.new) (answers second.new))) row result }
+    ensures found { FindsRow (from_least least.old (both (answers first.old) (answers second.old)))
+        (from_least least.new (both (answers first.new) (answers second.new))) row result }
     ensures same_first { parted first.new ≡ parted first.old }
     ensures same_second { parted second.new ≡ parted second.old }
 {
     *least = row.max(*least);
     loop {
-        let found = next_from(first, *least)?;
+        let found = advance(first, *least)?;
         *least = found;
-        let next = next_from(second, found)?;
+        let next = advance(second, found)?;
         *least = next;
         if next == found {
             return Some(found);
@@ -80,27 +83,29 @@ fn both_from(
 
 // The least of the rows at or above this one that either answers.
 #[cycle(moving)]
-fn either_from(first: &mut Cursor<'_>, second: &mut Cursor<'_>, row: u32) -> Option<u32>
-    ensures moves { Moves (λ x. answers first.old x || answers second.old x) (λ x. answers first.new x || answers second.new x) row result }
+fn advance_either(first: &mut Cursor<'_>, second: &mut Cursor<'_>, row: u32) -> Option<u32>
+    ensures found { FindsRow (either (answers first.old) (answers second.old))
+        (either (answers first.new) (answers second.new)) row result }
     ensures same_first { parted first.new ≡ parted first.old }
     ensures same_second { parted second.new ≡ parted second.old }
 {
-    let a = next_from(first, row);
-    let b = next_from(second, row);
+    let a = advance(first, row);
+    let b = advance(second, row);
     least_of(a, b)
 }
 
 // The first row at or above this one, from `least` on and below `rows`, that is below `free` or that the part does not answer.
 // It becomes the least; the row that the part is asked for next becomes `free`.
 #[cycle(moving)]
-fn rest_from(
+fn advance_rest(
     least: &mut u32,
     free: &mut u32,
     rows: u32,
     part: &mut Cursor<'_>,
     row: u32,
 ) -> Option<u32>
-    ensures moves { Moves (rest_of least.old free.old rows (answers part.old)) (rest_of least.new free.new rows (answers part.new)) row result }
+    ensures found { FindsRow (rest_of least.old free.old rows (answers part.old))
+        (rest_of least.new free.new rows (answers part.new)) row result }
     ensures same_parts { parted part.new ≡ parted part.old }
 {
     *least = row.max(*least);
@@ -108,7 +113,7 @@ fn rest_from(
         if *least < *free {
             return Some(*least);
         }
-        let found = next_from(part, *least);
+        let found = advance(part, *least);
         if found != Some(*least) {
             *free = found.unwrap_or(rows);
             return Some(*least);
@@ -118,12 +123,13 @@ fn rest_from(
     None
 }
 
-/// Moves to the first row at or above this one that is answered, and says which it is.
+/// Advances to the first row at or above this one that is answered, and says which it is.
 #[cycle(moving)]
-pub fn next_from(cursor: &mut Cursor<'_>, row: u32) -> Option<u32>
-    ensures moves { Moves (answers cursor.old) (answers cursor.new) row result }
+pub fn advance(cursor: &mut Cursor<'_>, row: u32) -> Option<u32>
+    ensures found { FindsRow (answers cursor.old) (answers cursor.new) row result }
     ensures same_parts { parted cursor.new ≡ parted cursor.old }
 {
+    // The value is taken out and put back, since no proof follows several `&mut` into a variant that holds a reference.
     match mem::replace(cursor, Cursor::Nothing) {
         Cursor::Nothing => None,
         Cursor::Every => {
@@ -139,7 +145,7 @@ pub fn next_from(cursor: &mut Cursor<'_>, row: u32) -> Option<u32>
             mut least,
             mut words,
         } => {
-            let found = phrase_from(&mut least, words.as_mut_slice(), row);
+            let found = advance_phrase(&mut least, words.as_mut_slice(), row);
             *cursor = Cursor::Phrase { least, words };
             found
         }
@@ -148,7 +154,7 @@ pub fn next_from(cursor: &mut Cursor<'_>, row: u32) -> Option<u32>
             mut first,
             mut second,
         } => {
-            let found = both_from(&mut least, &mut first, &mut second, row);
+            let found = advance_both(&mut least, &mut first, &mut second, row);
             *cursor = Cursor::Both {
                 least,
                 first,
@@ -160,7 +166,7 @@ pub fn next_from(cursor: &mut Cursor<'_>, row: u32) -> Option<u32>
             mut first,
             mut second,
         } => {
-            let found = either_from(&mut first, &mut second, row);
+            let found = advance_either(&mut first, &mut second, row);
             *cursor = Cursor::Either { first, second };
             found
         }
@@ -170,7 +176,7 @@ pub fn next_from(cursor: &mut Cursor<'_>, row: u32) -> Option<u32>
             rows,
             mut part,
         } => {
-            let found = rest_from(&mut least, &mut free, rows, &mut part, row);
+            let found = advance_rest(&mut least, &mut free, rows, &mut part, row);
             *cursor = Cursor::Rest {
                 least,
                 free,

@@ -1,11 +1,12 @@
 //! What a search answers, found over the postings of segments. It is the scan of the documents of their live rows.
 #![tactic(auto)]
 
+mod best;
 mod building;
 mod cursor;
 mod phrase;
+mod rank;
 mod search;
-mod tally;
 
 pub use search::answer;
 

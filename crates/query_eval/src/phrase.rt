@@ -1,10 +1,12 @@
-ghost use Rattle.std.specs.Prelude.{◌≡◌, ◌+◌, ◌<◌, ◌≤◌, ◌^◌, map, IfSome, IfNone};
+//! The words of a phrase, moved together and asked whether they stand one behind the other.
+
+ghost use Rattle.std.specs.Prelude.{ℕ, ◌≡◌, ◌+◌, ◌<◌, ◌≤◌, ◌^◌, length, map, IfSome, IfNone};
 ghost use Rattle.std.specs.List.{All};
 ghost use Rattle.postings_plain.specs.Postings.{row_of};
 ghost use Rattle.postings_plain.specs.Rows.{from_row, first_row, first_positions, IsLeastFrom};
-ghost use Rattle.query_eval.specs.Moves.{Moves, from_least};
+ghost use Rattle.query_eval.specs.Advance.{FindsRow, from_least};
 ghost use Rattle.query_eval.specs.Places.{has_place, from_place};
-ghost use Rattle.query_eval.specs.Phrases.{follow as follow_lem, stand_together as stand_together_lem, phrase_in, IsPass, AreAligned, AreFewer};
+ghost use Rattle.query_eval.specs.Phrases.{follow as follow_lem, times_together, phrase_in, phrase_times, IsPass, AreAligned, AreFewer};
 
 use postings_plain::{Positions, Postings};
 use std::marker::Model;
@@ -103,7 +105,8 @@ impl<'a> PhraseWord<'a> {
 
     // The places in the row where the word stands.
     fn positions(&self) -> Positions<'a>
-        ensures { result ≡ first_positions self.now }
+        ensures value { result ≡ first_positions self.now }
+        ensures few { length result < 2 ^ 32 }
     {
         self.hits.positions()
     }
@@ -136,20 +139,21 @@ fn follow(words: &mut [PhraseWord<'_>], place: u64) -> bool
     true
 }
 
-// Whether the words stand together in the row where they stand. Each has a reader of its own, which goes through the row once.
-fn stand_together(words: &mut [PhraseWord<'_>]) -> bool
-    ensures answer { result ≡ stand_together_lem (map first_positions words.old) }
+// How often the words stand together in the row where they stand. Each has a reader of its own, which goes through the row once.
+fn count_here(words: &mut [PhraseWord<'_>]) -> u32
+    ensures times { result ≡ times_together (map first_positions words.old) }
     ensures same { words.new ≡ words.old }
 {
     let Some(first) = words.first() else {
-        return true;
+        return 0;
     };
+    let mut times = 0;
     for place in first.positions() {
         if follow(words, u64::from(place)) {
-            return true;
+            times += 1;
         }
     }
-    false
+    times
 }
 
 // Moves each word to the row that the one before it found.
@@ -181,16 +185,27 @@ fn align(words: &mut [PhraseWord<'_>], row: u32) -> Option<u32>
 
 /// Moves the words of a phrase to the first row at or above this one, from `least` on, in which they stand together. The least
 /// rises to it.
-pub fn phrase_from(least: &mut u32, words: &mut [PhraseWord<'_>], row: u32) -> Option<u32>
-    ensures { Moves (from_least least.old (phrase_in words.old)) (from_least least.new (phrase_in words.new)) row result }
+pub fn advance_phrase(least: &mut u32, words: &mut [PhraseWord<'_>], row: u32) -> Option<u32>
+    ensures { FindsRow (from_least least.old (phrase_in words.old)) (from_least least.new (phrase_in words.new)) row result }
 {
     *least = row.max(*least);
     loop {
         let found = align(words, *least)?;
         *least = found;
-        if stand_together(words) {
+        if count_here(words) > 0 {
             return Some(found);
         }
         *least = found.checked_add(1)?;
+    }
+}
+
+/// How often a phrase stands in a row, to which its words are moved.
+pub fn count_phrase(words: &mut [PhraseWord<'_>], row: u32) -> u32
+    ensures times { result ≡ phrase_times words.old row }
+    ensures keeps { (x : ℕ) → row ≤ x → phrase_times words.new x ≡ phrase_times words.old x }
+{
+    match pass(words, row) {
+        Some(found) if found == row => count_here(words),
+        _ => 0,
     }
 }

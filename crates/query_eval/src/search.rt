@@ -1,50 +1,77 @@
-ghost use Rattle.std.specs.Prelude.{◌≡◌, ◌+◌, ◌<◌, ◌^◌, List, length, IfOk, OnOk};
+//! The live rows of segments that match, counted with their ranks.
+
+ghost use Rattle.std.specs.Prelude.{◌≡◌, ◌+◌, ◌-◌, ◌<◌, ◌^◌, List, length, min, IsTrue, IfOk, OnOk};
 ghost use Rattle.std.specs.List.{All};
 ghost use Rattle.nrt_base.specs.declared.doc.Doc.{Doc};
-ghost use Rattle.documents.specs.Matching.{scan_of};
+ghost use Rattle.documents.specs.Matching.{is_well_formed};
+ghost use Rattle.documents.specs.Ranking.{scan_of};
 ghost use Rattle.seg_reader.specs.Shown.{AreLiveDocuments};
 ghost use Rattle.seg_reader.specs.Sound.{IsSound};
-ghost use Rattle.query_eval.specs.Matching.{Counts, rows_of};
+ghost use Rattle.query_eval.specs.Matching.{CountsRow, CountsSegment, rows_of};
+ghost use Rattle.query_eval.specs.Ranks.{rank_in, KeepsRanks};
 
+use crate::best::BestHits;
 use crate::building::cursor_of;
-use crate::cursor::next_from;
-use crate::tally::Found;
-use nrt_base::NoMemory;
+use crate::cursor::advance;
+use crate::rank::Ranker;
 use documents::{Answer, Query};
+use nrt_base::NoMemory;
 use seg_reader::Segment;
 use std::alloc::Global;
 
-// Counts the live rows of a segment whose documents match.
-fn search(alloc: Global, seg: &Segment, query: &Query, found: &mut Found) -> Result<(), NoMemory>
-    requires sound { IsSound seg.now }
-    requires room { found.old.total + length seg.now.docs < 2 ^ 32 }
-    ensures { OnOk result (Counts query.now seg.now found.old found.new) }
+// Counts a row that matches, with its rank, if it is live.
+fn count_row(
+    alloc: Global,
+    seg: &Segment,
+    row: u32,
+    ranker: &mut Ranker<'_>,
+    best: &mut BestHits,
+) -> Result<(), NoMemory>
+    requires row { row < length seg.now.docs }
+    requires room { best.old.total + 1 < 2 ^ 32 }
+    ensures counts { OnOk result
+        (CountsRow seg.now row (min (rank_in ranker.old row) (2 ^ 32 - 1)) best.old best.new) }
+    ensures keeps { KeepsRanks row ranker.old ranker.new }
 {
-    let mut cursor = cursor_of(alloc, seg, query)?;
-    let rows = seg.rows();
-    let mut row = 0;
-    while let Some(at) = next_from(&mut cursor, row) {
-        if at >= rows {
-            break;
-        }
-        if seg.is_live(at) {
-            found.add(alloc, seg.key(at))?;
-        }
-        row = at + 1;
+    if seg.is_live(row) {
+        best.add(alloc, seg, row, ranker.rank(row))?;
     }
     Ok(())
 }
 
-/// How many documents of the live rows of the segments match, and the first 20 of their keys in ascending order. The segments
-/// have fewer than 2^32 rows together.
+// Counts the live rows of a segment whose documents match.
+fn search(alloc: Global, seg: &Segment, query: &Query, best: &mut BestHits) -> Result<(), NoMemory>
+    requires sound { IsSound seg.now }
+    requires well_formed { IsTrue (is_well_formed query.now) }
+    requires room { best.old.total + length seg.now.docs < 2 ^ 32 }
+    ensures { OnOk result (CountsSegment query.now seg.now best.old best.new) }
+{
+    let mut ranker = Ranker::new(alloc);
+    let mut cursor = cursor_of(alloc, seg, query, &mut ranker)?;
+    let rows = seg.rows();
+    let mut row = 0;
+    while let Some(found) = advance(&mut cursor, row) {
+        if found >= rows {
+            break;
+        }
+        count_row(alloc, seg, found, &mut ranker, best)?;
+        row = found + 1;
+    }
+    Ok(())
+}
+
+/// How many documents of the live rows of the segments match, and the first 20 of their hits: the greatest rank first, and
+/// equal ranks in ascending order of key. The segments have fewer than 2^32 rows together.
 pub fn answer(alloc: Global, segs: &[Segment], query: &Query) -> Result<Answer, NoMemory>
     requires sound { All IsSound segs.now }
     requires few { rows_of segs.now < 2 ^ 32 }
-    ensures { IfOk result (λ answer. (docs : List Doc) → AreLiveDocuments segs.now docs → answer ≡ scan_of docs query.now) }
+    requires well_formed { IsTrue (is_well_formed query.now) }
+    ensures { IfOk result
+        (λ answer. (docs : List Doc) → AreLiveDocuments segs.now docs → answer ≡ scan_of docs query.now) }
 {
-    let mut found = Found::new(alloc);
+    let mut best = BestHits::new(alloc);
     for seg in segs {
-        search(alloc, seg, query, &mut found)?;
+        search(alloc, seg, query, &mut best)?;
     }
-    Ok(found.into_answer())
+    Ok(best.into_answer())
 }

@@ -5,8 +5,8 @@ ghost use Rattle.seg_reader.specs.Sound.{IsSound};
 ghost use Rattle.query_eval.specs.Matching.{rows_of};
 
 use crate::answer;
+use documents::{Answer, scan};
 use nrt_base::{Doc, Key, NoMemory, SegNo, Text};
-use documents::scan;
 use seg_build::{Prepared, build, read_back};
 use seg_reader::Segment;
 use std::alloc::Global;
@@ -34,18 +34,18 @@ fn key_at(alloc: Global, place: usize) -> Result<Key, NoMemory> {
 // One of twelve texts, by turns.
 fn text_at(alloc: Global, place: usize) -> Result<Text, NoMemory> {
     match place % 12 {
-        0 => Text::new(alloc, b"a b c"),
-        1 => Text::new(alloc, b"a a b"),
-        2 => Text::new(alloc, b"b a"),
+        0 => Text::new(alloc, b"a b c e"),
+        1 => Text::new(alloc, b"a a b e"),
+        2 => Text::new(alloc, b"b a e"),
         3 => Text::new(alloc, b""),
-        4 => Text::new(alloc, b"C"),
-        5 => Text::new(alloc, b"a c b"),
-        6 => Text::new(alloc, b"A-b, c!"),
-        7 => Text::new(alloc, b"b b a b"),
-        8 => Text::new(alloc, b"d"),
-        9 => Text::new(alloc, b"a b"),
-        10 => Text::new(alloc, b"c a b d"),
-        _ => Text::new(alloc, b"d d"),
+        4 => Text::new(alloc, b"C e"),
+        5 => Text::new(alloc, b"a c b e"),
+        6 => Text::new(alloc, b"A-b, c! e"),
+        7 => Text::new(alloc, b"b b a b e"),
+        8 => Text::new(alloc, b"d e"),
+        9 => Text::new(alloc, b"a b e"),
+        10 => Text::new(alloc, b"c a b d e"),
+        _ => Text::new(alloc, b"d d d e"),
     }
 }
 
@@ -132,6 +132,16 @@ fn live_documents(alloc: Global) -> Result<Vec<Doc>, NoMemory>
     Ok(docs)
 }
 
+// The hits of an answer, each as the digit of its rank and its key.
+fn shown(alloc: Global, answer: &Answer) -> Result<Vec<u8>, NoMemory> {
+    let mut text = Vec::new(alloc);
+    for hit in answer.hits.as_slice() {
+        text.push(b'0' + (hit.rank % 10) as u8)?;
+        text.extend_from_slice(hit.key.as_slice())?;
+    }
+    Ok(text)
+}
+
 // Whether a search answers what the scan of the documents does.
 fn agrees(alloc: Global, segs: &[Segment], docs: &[Doc], query: &str) -> Result<bool, Fail>
     requires sound { All IsSound segs.now }
@@ -141,7 +151,10 @@ fn agrees(alloc: Global, segs: &[Segment], docs: &[Doc], query: &str) -> Result<
     let query = parse_query(alloc, query.as_bytes())?;
     let found = answer(alloc, segs, &query)?;
     let due = scan(alloc, docs, &query)?;
-    Ok(found.total == due.total && found.keys.as_slice() == due.keys.as_slice())
+    Ok(
+        found.total == due.total
+            && shown(alloc, &found)?.as_slice() == shown(alloc, &due)?.as_slice(),
+    )
 }
 
 // Asserts that each of the queries is answered as the scan of the live documents answers it.
@@ -155,37 +168,34 @@ fn all_agree(rt: &impl Abort, alloc: Global, queries: &[&str]) -> Result<(), Fai
     Ok(())
 }
 
-// How many documents a query matches, and the bytes of the keys that are answered.
+// How many documents a query matches, and the hits that are answered.
 fn answered(alloc: Global, query: &str) -> Result<(u32, Vec<u8>), Fail> {
     let segs = segments(alloc)?;
     let query = parse_query(alloc, query.as_bytes())?;
     let found = answer(alloc, &segs, &query)?;
-    let mut keys = Vec::new(alloc);
-    for key in found.keys.as_slice() {
-        keys.extend_from_slice(key.as_slice())?;
-    }
-    Ok((found.total, keys))
+    Ok((found.total, shown(alloc, &found)?))
 }
 
 #[test]
 fn worked_answers(rt: HostRuntime) -> Result<(), Fail> {
-    let rows: [(&str, u32, &[u8]); 4] = [
-        ("d", 8, b"KLUWacdm"),
-        ("\"a b\"", 12, b"BGHKTVWZ`cef"),
-        ("NOT a", 8, b"ELQUadim"),
-        ("NOT zz", 27, b"BCEFGHKLOQRTUVWZ[^`a"),
+    let rows: [(&str, u32, &[u8]); 5] = [
+        ("d", 8, b"3L3d1K1U1W1a1c1m"),
+        ("\"d d\"", 2, b"2L2d"),
+        ("e", 27, b"1B1C1E1F1G1H1K1L1O1Q1R1T1U1V1W1Z1[1^1`1a"),
+        ("NOT a", 8, b"0E0L0Q0U0a0d0i0m"),
+        ("c OR (a AND d)", 12, b"3K3W3c2F2G2R2^2e2j1E1Q1i"),
     ];
-    for (query, total, keys) in rows {
+    for (query, total, hits) in rows {
         let found = answered(rt.alloc(), query)?;
         assert_eq!(rt; found.0, total, "at {query}");
-        assert_eq!(rt; found.1.as_slice(), keys, "at {query}");
+        assert_eq!(rt; found.1.as_slice(), hits, "at {query}");
     }
     Ok(())
 }
 
 #[test]
 fn words(rt: HostRuntime) -> Result<(), Fail> {
-    all_agree(&rt, rt.alloc(), &["a", "b", "c", "d", "C", "zz", "a7"])
+    all_agree(&rt, rt.alloc(), &["a", "b", "c", "d", "e", "C", "zz", "a7"])
 }
 
 #[test]
@@ -229,6 +239,7 @@ fn conjunctions(rt: HostRuntime) -> Result<(), Fail> {
             "a AND zz",
             "d AND \"a b\"",
             "c AND c",
+            "a AND \"a b\"",
         ],
     )
 }
@@ -245,6 +256,7 @@ fn disjunctions(rt: HostRuntime) -> Result<(), Fail> {
             "zz OR yy",
             "\"a a b\" OR d",
             "a OR a OR a",
+            "\"d d\" OR d",
         ],
     )
 }
@@ -284,6 +296,38 @@ fn nested_queries(rt: HostRuntime) -> Result<(), Fail> {
             "(a OR NOT b) AND NOT (c AND NOT d)",
             "\"a b\" AND NOT \"b c\"",
             "d OR NOT (a OR b)",
+        ],
+    )
+}
+
+#[test]
+fn parts_that_do_not_match(rt: HostRuntime) -> Result<(), Fail> {
+    all_agree(
+        &rt,
+        rt.alloc(),
+        &[
+            "d OR (a AND zz)",
+            "b OR (b AND d)",
+            "c OR (a AND d)",
+            "b OR \"b b\"",
+            "a OR (\"a zz\" AND b)",
+            "b OR (d AND (a OR c))",
+        ],
+    )
+}
+
+#[test]
+fn words_under_not(rt: HostRuntime) -> Result<(), Fail> {
+    all_agree(
+        &rt,
+        rt.alloc(),
+        &[
+            "a AND NOT NOT a",
+            "d OR NOT d",
+            "a OR NOT (a AND d)",
+            "NOT (a OR d) OR a",
+            "\"a b\" OR NOT \"a b\"",
+            "b AND NOT (d AND b)",
         ],
     )
 }

@@ -6,8 +6,8 @@ ghost use Rattle.script_serving.specs.Form.{are_distinct};
 ghost use Rattle.script_serving.specs.Lines.{lines_of};
 
 use crate::printable::entries_fit;
-use script_serving::Script;
 use history_entries::History;
+use script_serving::Script;
 
 /// Two histories that serve the same script and have the same text are equal.
 /// No two lines of the script may have one number, as in every script that is in form: the text names a line by its number alone.

@@ -6,10 +6,10 @@ ghost use Rattle.file_names.specs.Names.{is_file_name};
 ghost use Rattle.nrt_base.specs.Bytes.{is_key};
 ghost use Rattle.report_text.specs.Printed.{AllFit, CauseFits, EntryFits, EventFits, IsNumber, PlanFits};
 
-use file_names::FileName;
-use nrt_base::Key;
 use documents::Answer;
+use file_names::FileName;
 use history_entries::{Cause, Entry, Event, FaultPlan, History};
+use nrt_base::Key;
 
 fn one_fits(a: u64)
     ensures { IsNumber a }

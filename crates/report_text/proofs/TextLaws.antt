@@ -5,7 +5,7 @@ use Rattle.std.specs.List.{list_all, flat_map}
 use Rattle.std.specs.Str.{bytes_eq}
 use Rattle.std.specs.Fmt.{decimal}
 use Rattle.std.proofs.lemmas.Bool.Decides.{nat_tests}
-use Rattle.std.proofs.lemmas.List.{append_assoc}
+use Rattle.std.proofs.lemmas.List.{append_assoc, append-nil}
 use Rattle.nrt_base.specs.declared.numbers.NodeNo.{NodeNo}
 use Rattle.nrt_base.specs.declared.numbers.TicketNo.{TicketNo}
 use Rattle.nrt_base.specs.declared.numbers.Version.{Version}
@@ -15,7 +15,9 @@ use Rattle.nrt_base.specs.declared.numbers.LineNo.{LineNo}
 use Rattle.nrt_base.specs.Bytes.{is_key}
 use Rattle.file_names.specs.Names.{is_file_name}
 use Rattle.file_names.specs.Base36.{base36_of}
-use Rattle.file_names.proofs.Base36Lemmas.{and_true, both_true, list_all-append, base36_apart}
+use Rattle.std.proofs.lemmas.Bool.{and_from}
+use Rattle.std.proofs.lemmas.Slice.Eq.{bytes_eq-Decides}
+use Rattle.file_names.proofs.Base36Lemmas.{base36_apart}
 use Rattle.history_entries.specs.declared.cause.Cause.{Cause}
 use Rattle.history_entries.specs.declared.cause.Cause.TheVariants.{Down, Primary, NoPrimary, PrimaryUp, ForceLow, NoTicket, Lost, Cancelled, LinkFault, Damaged, DiskFault, Nothing, Up, NameUsed, NamesSpent, TooManySegments, ForceHigh}
 use Rattle.history_entries.specs.declared.cause.FaultKind.{FaultKind}
@@ -23,133 +25,22 @@ use Rattle.history_entries.specs.declared.cause.FaultKind.TheVariants.{Link, Dam
 use Rattle.history_entries.specs.declared.cause.FaultPlan.{FaultPlan}
 use Rattle.history_entries.specs.declared.cause.FaultPlan.TheVariants.{Link as LinkPlan, Damage as DamagePlan, Disk as DiskPlan, Stop as StopPlan}
 use Rattle.documents.specs.declared.answer.Answer.{Answer}
+use Rattle.documents.specs.declared.answer.Hit.{Hit}
 use Rattle.history_entries.specs.declared.entry.Event.{Event}
 use Rattle.history_entries.specs.declared.entry.Event.TheVariants.{Accepted, Publishing, Published, Copying, Switched, Copied, Settling, Settled, Opened, Asking, Answered, Closed, Committing, Committed, Crashed, Reopened, Promoted, Merging, Drained, Files, Planned, Fault, Refused}
 use Rattle.history_entries.specs.declared.entry.Entry.{Entry}
 use Rattle.history_entries.specs.declared.entry.History.{History}
-use Rattle.report_text.specs.Texts.{spaced, worded, all_spaced, kind_text, plan_text, cause_text, event_text, text_of_entry, text_of}
-use Rattle.report_text.specs.Printed.{IsNumber, CauseFits, PlanFits, EventFits, EntryFits, AllFit, SamePrintedEvent, SamePrinted, AllSamePrinted}
-use Rattle.report_text.proofs.TextCuts.{is_token, same_words, cut_front, Behind, behind, decimal_is_token, base36_is_token, key_is_token, name_is_token, words_weaker, same_number}
-
--- ---- the words of a line
-
-abbrev plan_words : ℕ → FaultPlan → List (List ℕ)
-plan_words n (LinkPlan k) = codes "link" ∷ decimal n ∷ decimal k ∷ []
-plan_words n (DamagePlan k at) = codes "damage" ∷ decimal n ∷ decimal k ∷ decimal at ∷ []
-plan_words n (DiskPlan k) = codes "disk" ∷ decimal n ∷ decimal k ∷ []
-plan_words n (StopPlan k) = codes "stop" ∷ decimal n ∷ decimal k ∷ []
-
-abbrev cause_words : Cause → List (List ℕ)
-cause_words Down = codes "down" ∷ []
-cause_words Primary = codes "primary" ∷ []
-cause_words NoPrimary = codes "no-primary" ∷ []
-cause_words PrimaryUp = codes "primary-up" ∷ []
-cause_words (ForceLow v) = codes "force-low" ∷ decimal v.0 ∷ []
-cause_words NoTicket = codes "no-ticket" ∷ []
-cause_words Lost = codes "lost" ∷ []
-cause_words (Cancelled v) = codes "cancelled" ∷ decimal v.0 ∷ []
-cause_words LinkFault = codes "link-fault" ∷ []
-cause_words (Damaged name) = codes "damaged" ∷ name ∷ []
-cause_words DiskFault = codes "disk-fault" ∷ []
-cause_words Nothing = codes "none" ∷ []
-cause_words Up = codes "up" ∷ []
-cause_words NameUsed = codes "name-used" ∷ []
-cause_words NamesSpent = codes "names-spent" ∷ []
-cause_words TooManySegments = codes "too-many-segments" ∷ []
-cause_words ForceHigh = codes "force-high" ∷ []
-
-abbrev event_words : Event → List (List ℕ)
-event_words (Accepted seq op) = codes "accepted" ∷ decimal seq ∷ []
-event_words Publishing = codes "publishing" ∷ []
-event_words (Published g v) = codes "published" ∷ decimal g.0 ∷ decimal v.0 ∷ []
-event_words (Copying n v) = codes "copying" ∷ decimal n.0 ∷ decimal v.0 ∷ []
-event_words (Switched n v) = codes "switched" ∷ decimal n.0 ∷ decimal v.0 ∷ []
-event_words (Copied n v) = codes "copied" ∷ decimal n.0 ∷ decimal v.0 ∷ []
-event_words (Settling v) = codes "settling" ∷ decimal v.0 ∷ []
-event_words (Settled v) = codes "settled" ∷ decimal v.0 ∷ []
-event_words (Opened n t v) = codes "opened" ∷ decimal n.0 ∷ decimal t.0 ∷ decimal v.0 ∷ []
-event_words (Asking n t v) = codes "asking" ∷ decimal n.0 ∷ decimal t.0 ∷ decimal v.0 ∷ []
-event_words (Answered n t v query answer) = codes "answer" ∷ decimal n.0 ∷ decimal t.0 ∷ decimal v.0 ∷ decimal answer.total ∷ answer.keys
-event_words (Closed n t) = codes "closed" ∷ decimal n.0 ∷ decimal t.0 ∷ []
-event_words (Committing n v) = codes "committing" ∷ decimal n.0 ∷ decimal v.0 ∷ []
-event_words (Committed n v) = codes "committed" ∷ decimal n.0 ∷ decimal v.0 ∷ []
-event_words (Crashed n) = codes "crashed" ∷ decimal n.0 ∷ []
-event_words (Reopened n v) = codes "reopened" ∷ decimal n.0 ∷ decimal v.0 ∷ []
-event_words (Promoted n g forced v) = codes "promoted" ∷ decimal n.0 ∷ decimal g.0 ∷ decimal forced.0 ∷ decimal v.0 ∷ []
-event_words (Merging seg) = codes "merging" ∷ (95 ∷ base36_of seg.0) ∷ []
-event_words (Drained done most) = codes "drained" ∷ decimal done ∷ []
-event_words (Files n names) = codes "files" ∷ decimal n.0 ∷ names
-event_words (Planned n plan) = codes "planned" ∷ plan_words n.0 plan
-event_words (Fault n kind) = codes "fault" ∷ decimal n.0 ∷ kind_text kind ∷ []
-event_words (Refused cause) = codes "refused" ∷ cause_words cause
-
--- ---- the text is the words, each after a space
-
-flat_map_cat : (xs ys : List (List ℕ)) → all_spaced (xs ++ ys) ≡ all_spaced xs ++ all_spaced ys
-flat_map_cat [] ys = refl
-flat_map_cat (x ∷ xs) ys = ap (λ (t : List ℕ). 32 ∷ (x ++ t)) (flat_map_cat xs ys) ∙ ap (λ (t : List ℕ). 32 ∷ t) (sym (append_assoc x (all_spaced xs) (all_spaced ys)))
-
-no_more : (t : List ℕ) → t ++ [] ≡ t
-no_more [] = refl
-no_more (x ∷ t) = ap (λ (s : List ℕ). x ∷ s) (no_more t)
-
-plan_text-words : (n : ℕ) (plan : FaultPlan) → plan_text n plan ≡ all_spaced (plan_words n plan)
-plan_text-words n (LinkPlan k) = refl
-plan_text-words n (DamagePlan k at) = refl
-plan_text-words n (DiskPlan k) = refl
-plan_text-words n (StopPlan k) = refl
-
-cause_text-words : (cause : Cause) → cause_text cause ≡ all_spaced (cause_words cause)
-cause_text-words Down = refl
-cause_text-words Primary = refl
-cause_text-words NoPrimary = refl
-cause_text-words PrimaryUp = refl
-cause_text-words (ForceLow v) = refl
-cause_text-words NoTicket = refl
-cause_text-words Lost = refl
-cause_text-words (Cancelled v) = refl
-cause_text-words LinkFault = refl
-cause_text-words (Damaged name) = ap (λ (t : List ℕ). codes " damaged " ++ t) (sym (no_more name))
-cause_text-words DiskFault = refl
-cause_text-words Nothing = refl
-cause_text-words Up = refl
-cause_text-words NameUsed = refl
-cause_text-words NamesSpent = refl
-cause_text-words TooManySegments = refl
-cause_text-words ForceHigh = refl
-
-event_text-words : (e : Event) → event_text e ≡ all_spaced (event_words e)
-event_text-words (Accepted seq op) = refl
-event_text-words Publishing = refl
-event_text-words (Published g v) = refl
-event_text-words (Copying n v) = refl
-event_text-words (Switched n v) = refl
-event_text-words (Copied n v) = refl
-event_text-words (Settling v) = refl
-event_text-words (Settled v) = refl
-event_text-words (Opened n t v) = refl
-event_text-words (Asking n t v) = refl
-event_text-words (Answered n t v query answer) = sym (flat_map_cat (codes "answer" ∷ decimal n.0 ∷ decimal t.0 ∷ decimal v.0 ∷ decimal answer.total ∷ []) answer.keys)
-event_text-words (Closed n t) = refl
-event_text-words (Committing n v) = refl
-event_text-words (Committed n v) = refl
-event_text-words (Crashed n) = refl
-event_text-words (Reopened n v) = refl
-event_text-words (Promoted n g forced v) = refl
-event_text-words (Merging seg) = ap (λ (t : List ℕ). codes " merging _" ++ t) (sym (no_more (base36_of seg.0)))
-event_text-words (Drained done most) = refl
-event_text-words (Files n names) = sym (flat_map_cat (codes "files" ∷ decimal n.0 ∷ []) names)
-event_text-words (Planned n plan) = ap (λ (t : List ℕ). codes " planned" ++ t) (plan_text-words n.0 plan)
-event_text-words (Fault n kind) = sym (flat_map_cat (codes "fault" ∷ decimal n.0 ∷ []) (kind_text kind ∷ []) ∙ ap (λ (t : List ℕ). worded (codes "fault") (n.0 ∷ []) ++ 32 ∷ t) (no_more (kind_text kind)))
-event_text-words (Refused cause) = ap (λ (t : List ℕ). codes " refused" ++ t) (cause_text-words cause)
+use Rattle.report_text.specs.Texts.{all_spaced, with_numbers, hit_text, kind_text, plan_words, cause_words, event_words, text_of_entry, text_of}
+use Rattle.report_text.specs.Printed.{IsNumber, hit_fits, CauseFits, PlanFits, EventFits, EntryFits, AllFit, SamePrintedEvent, SamePrinted, AllSamePrinted}
+use Rattle.report_text.proofs.TextCuts.{is_token, same_words, decimal_is_token, base36_is_token, name_is_token, words_weaker, same_number, hits_are_tokens, same_hits}
 
 -- ---- each is a word
 
 more_words : (n : ℕ) (words : List (List ℕ)) → IsNumber n → list_all is_token words ≡ true → list_all is_token (decimal n ∷ words) ≡ true
-more_words n words h k = both_true (is_token (decimal n)) (list_all is_token words) (decimal_is_token n h) k
+more_words n words h k = and_from (is_token (decimal n)) (list_all is_token words) (decimal_is_token n h) k
 
 one_word : (word : List ℕ) → is_token word ≡ true → list_all is_token (word ∷ []) ≡ true
-one_word word h = both_true (is_token word) true h refl
+one_word word h = and_from (is_token word) true h refl
 
 one_is : (a : ℕ) → IsNumber a → list_all is_token (decimal a ∷ []) ≡ true
 one_is a h = more_words a [] h refl
@@ -203,10 +94,10 @@ event_words_are (Settled v) h = one_is v.0 h
 event_words_are (Opened n t v) h = three_are n.0 t.0 v.0 h.0 h.1 h.2
 event_words_are (Asking n t v) h = three_are n.0 t.0 v.0 h.0 h.1 h.2
 event_words_are (Answered n t v query answer) h =
-    more_words n.0 (decimal t.0 ∷ decimal v.0 ∷ decimal answer.total ∷ answer.keys) h.0
-    (more_words t.0 (decimal v.0 ∷ decimal answer.total ∷ answer.keys) h.1
-    (more_words v.0 (decimal answer.total ∷ answer.keys) h.2
-    (more_words answer.total answer.keys h.3 (words_weaker is_key is_token key_is_token answer.keys h.4))))
+    let hits = map hit_text answer.hits in
+    more_words n.0 (decimal t.0 ∷ decimal v.0 ∷ decimal answer.total ∷ hits) h.0
+    (more_words t.0 (decimal v.0 ∷ decimal answer.total ∷ hits) h.1
+    (more_words v.0 (decimal answer.total ∷ hits) h.2 (more_words answer.total hits h.3 (hits_are_tokens answer.hits h.4))))
 event_words_are (Closed n t) h = two_are n.0 t.0 h.0 h.1
 event_words_are (Committing n v) h = two_are n.0 v.0 h.0 h.1
 event_words_are (Committed n v) h = two_are n.0 v.0 h.0 h.1
@@ -220,150 +111,17 @@ event_words_are (Planned n plan) h = plan_words_are n.0 plan h.0 h.1
 event_words_are (Fault n kind) h = more_words n.0 (kind_text kind ∷ []) h (one_word (kind_text kind) (kind_is_word kind))
 event_words_are (Refused cause) h = cause_words_are cause h
 
--- ---- the first word tells the kind
-
--- the place of a word in a list, counted from 0
-abbrev place_of : List (List ℕ) → List ℕ → ℕ
-place_of [] word = 0
-place_of (w ∷ words) word = if bytes_eq w word then 0 else suc (place_of words word)
+-- ---- what equal words say
 
 abbrev first_of : List (List ℕ) → List ℕ
 first_of [] = []
 first_of (w ∷ words) = w
 
-abbrev table_of_events : List (List ℕ)
-table_of_events =
-    codes "accepted" ∷ codes "publishing" ∷ codes "published" ∷ codes "copying" ∷ codes "switched" ∷ codes "copied" ∷ codes "settling" ∷ codes "settled"
-    ∷ codes "opened" ∷ codes "asking" ∷ codes "answer" ∷ codes "closed" ∷ codes "committing" ∷ codes "committed" ∷ codes "crashed" ∷ codes "reopened"
-    ∷ codes "promoted" ∷ codes "merging" ∷ codes "drained" ∷ codes "files" ∷ codes "planned" ∷ codes "fault" ∷ codes "refused" ∷ []
-
-abbrev event_number : Event → ℕ
-event_number (Accepted seq op) = 0
-event_number Publishing = 1
-event_number (Published g v) = 2
-event_number (Copying n v) = 3
-event_number (Switched n v) = 4
-event_number (Copied n v) = 5
-event_number (Settling v) = 6
-event_number (Settled v) = 7
-event_number (Opened n t v) = 8
-event_number (Asking n t v) = 9
-event_number (Answered n t v query answer) = 10
-event_number (Closed n t) = 11
-event_number (Committing n v) = 12
-event_number (Committed n v) = 13
-event_number (Crashed n) = 14
-event_number (Reopened n v) = 15
-event_number (Promoted n g forced v) = 16
-event_number (Merging seg) = 17
-event_number (Drained done most) = 18
-event_number (Files n names) = 19
-event_number (Planned n plan) = 20
-event_number (Fault n kind) = 21
-event_number (Refused cause) = 22
-
-number_of_event : (e : Event) → place_of table_of_events (first_of (event_words e)) ≡ event_number e
-number_of_event (Accepted seq op) = refl
-number_of_event Publishing = refl
-number_of_event (Published g v) = refl
-number_of_event (Copying n v) = refl
-number_of_event (Switched n v) = refl
-number_of_event (Copied n v) = refl
-number_of_event (Settling v) = refl
-number_of_event (Settled v) = refl
-number_of_event (Opened n t v) = refl
-number_of_event (Asking n t v) = refl
-number_of_event (Answered n t v query answer) = refl
-number_of_event (Closed n t) = refl
-number_of_event (Committing n v) = refl
-number_of_event (Committed n v) = refl
-number_of_event (Crashed n) = refl
-number_of_event (Reopened n v) = refl
-number_of_event (Promoted n g forced v) = refl
-number_of_event (Merging seg) = refl
-number_of_event (Drained done most) = refl
-number_of_event (Files n names) = refl
-number_of_event (Planned n plan) = refl
-number_of_event (Fault n kind) = refl
-number_of_event (Refused cause) = refl
-
-same_kind : (e f : Event) → event_words e ≡ event_words f → event_number e ≡ event_number f
-same_kind e f h = sym (number_of_event e) ∙ ap (λ (ws : List (List ℕ)). place_of table_of_events (first_of ws)) h ∙ number_of_event f
-
-abbrev table_of_kinds : List (List ℕ)
-table_of_kinds = codes "link" ∷ codes "damage" ∷ codes "disk" ∷ codes "stop" ∷ []
-
-abbrev kind_number : FaultKind → ℕ
-kind_number Link = 0
-kind_number Damage = 1
-kind_number Disk = 2
-kind_number Stop = 3
-
-number_of_kind : (kind : FaultKind) → place_of table_of_kinds (kind_text kind) ≡ kind_number kind
-number_of_kind Link = refl
-number_of_kind Damage = refl
-number_of_kind Disk = refl
-number_of_kind Stop = refl
-
-abbrev plan_number : FaultPlan → ℕ
-plan_number (LinkPlan k) = 0
-plan_number (DamagePlan k at) = 1
-plan_number (DiskPlan k) = 2
-plan_number (StopPlan k) = 3
-
-number_of_plan : (n : ℕ) (plan : FaultPlan) → place_of table_of_kinds (first_of (plan_words n plan)) ≡ plan_number plan
-number_of_plan n (LinkPlan k) = refl
-number_of_plan n (DamagePlan k at) = refl
-number_of_plan n (DiskPlan k) = refl
-number_of_plan n (StopPlan k) = refl
-
-abbrev table_of_causes : List (List ℕ)
-table_of_causes =
-    codes "down" ∷ codes "primary" ∷ codes "no-primary" ∷ codes "primary-up" ∷ codes "force-low" ∷ codes "no-ticket" ∷ codes "lost" ∷ codes "cancelled" ∷ codes "link-fault"
-    ∷ codes "damaged" ∷ codes "disk-fault" ∷ codes "none" ∷ codes "up" ∷ codes "name-used" ∷ codes "names-spent" ∷ codes "too-many-segments" ∷ codes "force-high" ∷ []
-
-abbrev cause_number : Cause → ℕ
-cause_number Down = 0
-cause_number Primary = 1
-cause_number NoPrimary = 2
-cause_number PrimaryUp = 3
-cause_number (ForceLow v) = 4
-cause_number NoTicket = 5
-cause_number Lost = 6
-cause_number (Cancelled v) = 7
-cause_number LinkFault = 8
-cause_number (Damaged name) = 9
-cause_number DiskFault = 10
-cause_number Nothing = 11
-cause_number Up = 12
-cause_number NameUsed = 13
-cause_number NamesSpent = 14
-cause_number TooManySegments = 15
-cause_number ForceHigh = 16
-
-number_of_cause : (cause : Cause) → place_of table_of_causes (first_of (cause_words cause)) ≡ cause_number cause
-number_of_cause Down = refl
-number_of_cause Primary = refl
-number_of_cause NoPrimary = refl
-number_of_cause PrimaryUp = refl
-number_of_cause (ForceLow v) = refl
-number_of_cause NoTicket = refl
-number_of_cause Lost = refl
-number_of_cause (Cancelled v) = refl
-number_of_cause LinkFault = refl
-number_of_cause (Damaged name) = refl
-number_of_cause DiskFault = refl
-number_of_cause Nothing = refl
-number_of_cause Up = refl
-number_of_cause NameUsed = refl
-number_of_cause NamesSpent = refl
-number_of_cause TooManySegments = refl
-number_of_cause ForceHigh = refl
-
--- ---- what equal words say
-
-apart : (a b : ℕ) → nat_eq a b ≡ false → a ≡ b → ⊥
-apart a b h e = let same : nat_eq a a ≡ false = ap (nat_eq a) e ∙ h in grind (arith, nat_tests, same)
+-- words that differ in their first word differ
+apart : (xs ys : List (List ℕ)) → bytes_eq (first_of xs) (first_of ys) ≡ false → xs ≡ ys → ⊥
+apart xs ys other same =
+    let first = (bytes_eq-Decides (first_of xs) (first_of ys)).1 (ap first_of same) in
+    let bad : true ≡ false = sym first ∙ other in cc
 
 rest_of : (v w : List ℕ) (xs ys : List (List ℕ)) → v ∷ xs ≡ w ∷ ys → xs ≡ ys
 rest_of v w xs ys e = cc
@@ -410,64 +168,55 @@ node_ticket_version : (C : NodeNo → TicketNo → Version → Event) (n m : Nod
 node_ticket_version C n m t u v w e = ap (λ (k : ℕ). C (node k) t v) e.0 ∙ ap (λ (k : ℕ). C m (ticket k) v) e.1 ∙ ap (λ (k : ℕ). C m u (version k)) e.2
 
 same_kind_from : (a b : FaultKind) → kind_text a ≡ kind_text b → a ≡ b
-same_kind_from a b e = by_number a b (sym (number_of_kind a) ∙ ap (place_of table_of_kinds) e ∙ number_of_kind b)
-  where
-    by_number : (a b : FaultKind) → kind_number a ≡ kind_number b → a ≡ b
-    by_number Link Link h = refl
-    by_number Damage Damage h = refl
-    by_number Disk Disk h = refl
-    by_number Stop Stop h = refl
-    by_number a b h = absurd (apart (kind_number a) (kind_number b) refl h)
-
-plan_by_number : (n m : ℕ) (a b : FaultPlan) → IsNumber n → IsNumber m → PlanFits a → PlanFits b → plan_words n a ≡ plan_words m b → plan_number a ≡ plan_number b → (n ≡ m) × (a ≡ b)
-plan_by_number n m (LinkPlan k) (LinkPlan l) h i p q e f = let s = same_two (codes "link") n k m l (h, p) (i, q) e in (s.0, ap LinkPlan s.1)
-plan_by_number n m (DamagePlan k at) (DamagePlan l by) h i p q e f =
-    let s = same_three (codes "damage") n k at m l by (h, p.0, p.1) (i, q.0, q.1) e in (s.0, ap (λ (x : ℕ). DamagePlan x at) s.1 ∙ ap (DamagePlan l) s.2)
-plan_by_number n m (DiskPlan k) (DiskPlan l) h i p q e f = let s = same_two (codes "disk") n k m l (h, p) (i, q) e in (s.0, ap DiskPlan s.1)
-plan_by_number n m (StopPlan k) (StopPlan l) h i p q e f = let s = same_two (codes "stop") n k m l (h, p) (i, q) e in (s.0, ap StopPlan s.1)
-plan_by_number n m a b h i p q e f = absurd (apart (plan_number a) (plan_number b) refl f)
+same_kind_from Link Link e = refl
+same_kind_from Damage Damage e = refl
+same_kind_from Disk Disk e = refl
+same_kind_from Stop Stop e = refl
+same_kind_from a b e = absurd (apart (kind_text a ∷ []) (kind_text b ∷ []) refl (ap (λ (w : List ℕ). w ∷ []) e))
 
 same_plan : (n m : ℕ) (a b : FaultPlan) → IsNumber n → IsNumber m → PlanFits a → PlanFits b → plan_words n a ≡ plan_words m b → (n ≡ m) × (a ≡ b)
-same_plan n m a b h i p q e =
-    plan_by_number n m a b h i p q e (sym (number_of_plan n a) ∙ ap (λ (ws : List (List ℕ)). place_of table_of_kinds (first_of ws)) e ∙ number_of_plan m b)
-
-cause_by_number : (a b : Cause) → CauseFits a → CauseFits b → cause_words a ≡ cause_words b → cause_number a ≡ cause_number b → a ≡ b
-cause_by_number Down Down p q e f = refl
-cause_by_number Primary Primary p q e f = refl
-cause_by_number NoPrimary NoPrimary p q e f = refl
-cause_by_number PrimaryUp PrimaryUp p q e f = refl
-cause_by_number (ForceLow v) (ForceLow w) p q e f = ap (λ (k : ℕ). ForceLow (version k)) (same_one (codes "force-low") v.0 w.0 p q e)
-cause_by_number NoTicket NoTicket p q e f = refl
-cause_by_number Lost Lost p q e f = refl
-cause_by_number (Cancelled v) (Cancelled w) p q e f = ap (λ (k : ℕ). Cancelled (version k)) (same_one (codes "cancelled") v.0 w.0 p q e)
-cause_by_number LinkFault LinkFault p q e f = refl
-cause_by_number (Damaged a) (Damaged b) p q e f = ap Damaged (head_of a b [] [] (rest_of (codes "damaged") (codes "damaged") (a ∷ []) (b ∷ []) e))
-cause_by_number DiskFault DiskFault p q e f = refl
-cause_by_number Nothing Nothing p q e f = refl
-cause_by_number Up Up p q e f = refl
-cause_by_number NameUsed NameUsed p q e f = refl
-cause_by_number NamesSpent NamesSpent p q e f = refl
-cause_by_number TooManySegments TooManySegments p q e f = refl
-cause_by_number ForceHigh ForceHigh p q e f = refl
-cause_by_number a b p q e f = absurd (apart (cause_number a) (cause_number b) refl f)
+same_plan n m (LinkPlan k) (LinkPlan l) h i p q e = let s = same_two (codes "link") n k m l (h, p) (i, q) e in (s.0, ap LinkPlan s.1)
+same_plan n m (DamagePlan k at) (DamagePlan l by) h i p q e =
+    let s = same_three (codes "damage") n k at m l by (h, p.0, p.1) (i, q.0, q.1) e in (s.0, ap (λ (x : ℕ). DamagePlan x at) s.1 ∙ ap (DamagePlan l) s.2)
+same_plan n m (DiskPlan k) (DiskPlan l) h i p q e = let s = same_two (codes "disk") n k m l (h, p) (i, q) e in (s.0, ap DiskPlan s.1)
+same_plan n m (StopPlan k) (StopPlan l) h i p q e = let s = same_two (codes "stop") n k m l (h, p) (i, q) e in (s.0, ap StopPlan s.1)
+same_plan n m a b h i p q e = absurd (apart (plan_words n a) (plan_words m b) refl e)
 
 same_cause : (a b : Cause) → CauseFits a → CauseFits b → cause_words a ≡ cause_words b → a ≡ b
-same_cause a b p q e =
-    cause_by_number a b p q e (sym (number_of_cause a) ∙ ap (λ (ws : List (List ℕ)). place_of table_of_causes (first_of ws)) e ∙ number_of_cause b)
+same_cause Down Down p q e = refl
+same_cause Primary Primary p q e = refl
+same_cause NoPrimary NoPrimary p q e = refl
+same_cause PrimaryUp PrimaryUp p q e = refl
+same_cause (ForceLow v) (ForceLow w) p q e = ap (λ (k : ℕ). ForceLow (version k)) (same_one (codes "force-low") v.0 w.0 p q e)
+same_cause NoTicket NoTicket p q e = refl
+same_cause Lost Lost p q e = refl
+same_cause (Cancelled v) (Cancelled w) p q e = ap (λ (k : ℕ). Cancelled (version k)) (same_one (codes "cancelled") v.0 w.0 p q e)
+same_cause LinkFault LinkFault p q e = refl
+same_cause (Damaged a) (Damaged b) p q e = ap Damaged (head_of a b [] [] (rest_of (codes "damaged") (codes "damaged") (a ∷ []) (b ∷ []) e))
+same_cause DiskFault DiskFault p q e = refl
+same_cause Nothing Nothing p q e = refl
+same_cause Up Up p q e = refl
+same_cause NameUsed NameUsed p q e = refl
+same_cause NamesSpent NamesSpent p q e = refl
+same_cause TooManySegments TooManySegments p q e = refl
+same_cause ForceHigh ForceHigh p q e = refl
+same_cause a b p q e = absurd (apart (cause_words a) (cause_words b) refl e)
 
-same_answer : (n m : NodeNo) (t u : TicketNo) (v w : Version) (a b : Answer) → IsNumber n.0 × IsNumber t.0 × IsNumber v.0 × IsNumber a.total × (list_all is_key a.keys ≡ true)
-    → IsNumber m.0 × IsNumber u.0 × IsNumber w.0 × IsNumber b.total × (list_all is_key b.keys ≡ true)
-    → codes "answer" ∷ decimal n.0 ∷ decimal t.0 ∷ decimal v.0 ∷ decimal a.total ∷ a.keys ≡ codes "answer" ∷ decimal m.0 ∷ decimal u.0 ∷ decimal w.0 ∷ decimal b.total ∷ b.keys
+same_answer : (n m : NodeNo) (t u : TicketNo) (v w : Version) (a b : Answer) → IsNumber n.0 × IsNumber t.0 × IsNumber v.0 × IsNumber a.total × (list_all hit_fits a.hits ≡ true)
+    → IsNumber m.0 × IsNumber u.0 × IsNumber w.0 × IsNumber b.total × (list_all hit_fits b.hits ≡ true)
+    → decimal n.0 ∷ decimal t.0 ∷ decimal v.0 ∷ decimal a.total ∷ map hit_text a.hits ≡ decimal m.0 ∷ decimal u.0 ∷ decimal w.0 ∷ decimal b.total ∷ map hit_text b.hits
     → (n ≡ m) × (t ≡ u) × (v ≡ w) × (a ≡ b)
 same_answer n m t u v w a b p q e =
-    let s = same_number n.0 m.0 (decimal t.0 ∷ decimal v.0 ∷ decimal a.total ∷ a.keys) (decimal u.0 ∷ decimal w.0 ∷ decimal b.total ∷ b.keys) p.0 q.0 (rest_of (codes "answer") (codes "answer") (decimal n.0 ∷ decimal t.0 ∷ decimal v.0 ∷ decimal a.total ∷ a.keys) (decimal m.0 ∷ decimal u.0 ∷ decimal w.0 ∷ decimal b.total ∷ b.keys) e) in
-    let x = same_number t.0 u.0 (decimal v.0 ∷ decimal a.total ∷ a.keys) (decimal w.0 ∷ decimal b.total ∷ b.keys) p.1 q.1 s.1 in
-    let y = same_number v.0 w.0 (decimal a.total ∷ a.keys) (decimal b.total ∷ b.keys) p.2 q.2 x.1 in
-    let z = same_number a.total b.total a.keys b.keys p.3 q.3 y.1 in
-    (ap node s.0, ap ticket x.0, ap version y.0, ap (λ (k : ℕ). answer k a.keys) z.0 ∙ ap (answer b.total) z.1)
+    let xs = map hit_text a.hits in
+    let ys = map hit_text b.hits in
+    let s = same_number n.0 m.0 (decimal t.0 ∷ decimal v.0 ∷ decimal a.total ∷ xs) (decimal u.0 ∷ decimal w.0 ∷ decimal b.total ∷ ys) p.0 q.0 e in
+    let x = same_number t.0 u.0 (decimal v.0 ∷ decimal a.total ∷ xs) (decimal w.0 ∷ decimal b.total ∷ ys) p.1 q.1 s.1 in
+    let y = same_number v.0 w.0 (decimal a.total ∷ xs) (decimal b.total ∷ ys) p.2 q.2 x.1 in
+    let z = same_number a.total b.total xs ys p.3 q.3 y.1 in
+    (ap node s.0, ap ticket x.0, ap version y.0, ap (λ (k : ℕ). answer k a.hits) z.0 ∙ ap (answer b.total) (same_hits a.hits b.hits p.4 q.4 z.1))
   where
-    answer : ℕ → List (List ℕ) → Answer
-    answer total keys = record { total = total; keys = keys }
+    answer : ℕ → List Hit → Answer
+    answer total hits = record { total = total; hits = hits }
 
 same_promotion : (n m : NodeNo) (g h : Gen) (x y v w : Version) → IsNumber n.0 × IsNumber g.0 × IsNumber x.0 × IsNumber v.0 → IsNumber m.0 × IsNumber h.0 × IsNumber y.0 × IsNumber w.0
     → codes "promoted" ∷ decimal n.0 ∷ decimal g.0 ∷ decimal x.0 ∷ decimal v.0 ∷ [] ≡ codes "promoted" ∷ decimal m.0 ∷ decimal h.0 ∷ decimal y.0 ∷ decimal w.0 ∷ []
@@ -497,37 +246,39 @@ same_merging s t h k e =
     cells_rest : (xs ys : List ℕ) → 95 ∷ xs ≡ 95 ∷ ys → xs ≡ ys
     cells_rest xs ys e = cc
 
-same_event : (e f : Event) → EventFits e → EventFits f → event_words e ≡ event_words f → event_number e ≡ event_number f → SamePrintedEvent e f
-same_event (Accepted seq op) (Accepted other_seq other_op) p q h k = same_one (codes "accepted") seq other_seq p q h
-same_event Publishing Publishing p q h k = refl
-same_event (Published g v) (Published i w) p q h k =
+same_event : (e f : Event) → EventFits e → EventFits f → event_words e ≡ event_words f → SamePrintedEvent e f
+same_event (Accepted seq op) (Accepted other_seq other_op) p q h = same_one (codes "accepted") seq other_seq p q h
+same_event Publishing Publishing p q h = refl
+same_event (Published g v) (Published i w) p q h =
     let s = same_two (codes "published") g.0 v.0 i.0 w.0 p q h in
     ap (λ (j : ℕ). Published (generation j) v) s.0 ∙ ap (λ (j : ℕ). Published i (version j)) s.1
-same_event (Copying n v) (Copying m w) p q h k = node_version Copying n m v w (same_two (codes "copying") n.0 v.0 m.0 w.0 p q h)
-same_event (Switched n v) (Switched m w) p q h k = node_version Switched n m v w (same_two (codes "switched") n.0 v.0 m.0 w.0 p q h)
-same_event (Copied n v) (Copied m w) p q h k = node_version Copied n m v w (same_two (codes "copied") n.0 v.0 m.0 w.0 p q h)
-same_event (Settling v) (Settling w) p q h k = ap (λ (j : ℕ). Settling (version j)) (same_one (codes "settling") v.0 w.0 p q h)
-same_event (Settled v) (Settled w) p q h k = ap (λ (j : ℕ). Settled (version j)) (same_one (codes "settled") v.0 w.0 p q h)
-same_event (Opened n t v) (Opened m u w) p q h k = node_ticket_version Opened n m t u v w (same_three (codes "opened") n.0 t.0 v.0 m.0 u.0 w.0 p q h)
-same_event (Asking n t v) (Asking m u w) p q h k = node_ticket_version Asking n m t u v w (same_three (codes "asking") n.0 t.0 v.0 m.0 u.0 w.0 p q h)
-same_event (Answered n t v query answer) (Answered m u w other_query other_answer) p q h k = same_answer n m t u v w answer other_answer p q h
-same_event (Closed n t) (Closed m u) p q h k =
+same_event (Copying n v) (Copying m w) p q h = node_version Copying n m v w (same_two (codes "copying") n.0 v.0 m.0 w.0 p q h)
+same_event (Switched n v) (Switched m w) p q h = node_version Switched n m v w (same_two (codes "switched") n.0 v.0 m.0 w.0 p q h)
+same_event (Copied n v) (Copied m w) p q h = node_version Copied n m v w (same_two (codes "copied") n.0 v.0 m.0 w.0 p q h)
+same_event (Settling v) (Settling w) p q h = ap (λ (j : ℕ). Settling (version j)) (same_one (codes "settling") v.0 w.0 p q h)
+same_event (Settled v) (Settled w) p q h = ap (λ (j : ℕ). Settled (version j)) (same_one (codes "settled") v.0 w.0 p q h)
+same_event (Opened n t v) (Opened m u w) p q h = node_ticket_version Opened n m t u v w (same_three (codes "opened") n.0 t.0 v.0 m.0 u.0 w.0 p q h)
+same_event (Asking n t v) (Asking m u w) p q h = node_ticket_version Asking n m t u v w (same_three (codes "asking") n.0 t.0 v.0 m.0 u.0 w.0 p q h)
+same_event (Answered n t v query answer) (Answered m u w other_query other_answer) p q h =
+    same_answer n m t u v w answer other_answer p q
+    (rest_of (codes "answer") (codes "answer") (decimal n.0 ∷ decimal t.0 ∷ decimal v.0 ∷ decimal answer.total ∷ map hit_text answer.hits) (decimal m.0 ∷ decimal u.0 ∷ decimal w.0 ∷ decimal other_answer.total ∷ map hit_text other_answer.hits) h)
+same_event (Closed n t) (Closed m u) p q h =
     let s = same_two (codes "closed") n.0 t.0 m.0 u.0 p q h in
     ap (λ (j : ℕ). Closed (node j) t) s.0 ∙ ap (λ (j : ℕ). Closed m (ticket j)) s.1
-same_event (Committing n v) (Committing m w) p q h k = node_version Committing n m v w (same_two (codes "committing") n.0 v.0 m.0 w.0 p q h)
-same_event (Committed n v) (Committed m w) p q h k = node_version Committed n m v w (same_two (codes "committed") n.0 v.0 m.0 w.0 p q h)
-same_event (Crashed n) (Crashed m) p q h k = ap (λ (j : ℕ). Crashed (node j)) (same_one (codes "crashed") n.0 m.0 p q h)
-same_event (Reopened n v) (Reopened m w) p q h k = node_version Reopened n m v w (same_two (codes "reopened") n.0 v.0 m.0 w.0 p q h)
-same_event (Promoted n g x v) (Promoted m i y w) p q h k = same_promotion n m g i x y v w p q h
-same_event (Merging s) (Merging t) p q h k = same_merging s t p q h
-same_event (Drained done most) (Drained other_done other_most) p q h k = same_one (codes "drained") done other_done p q h
-same_event (Files n a) (Files m b) p q h k = same_files n m a b p.0 q.0 h
-same_event (Planned n a) (Planned m b) p q h k =
+same_event (Committing n v) (Committing m w) p q h = node_version Committing n m v w (same_two (codes "committing") n.0 v.0 m.0 w.0 p q h)
+same_event (Committed n v) (Committed m w) p q h = node_version Committed n m v w (same_two (codes "committed") n.0 v.0 m.0 w.0 p q h)
+same_event (Crashed n) (Crashed m) p q h = ap (λ (j : ℕ). Crashed (node j)) (same_one (codes "crashed") n.0 m.0 p q h)
+same_event (Reopened n v) (Reopened m w) p q h = node_version Reopened n m v w (same_two (codes "reopened") n.0 v.0 m.0 w.0 p q h)
+same_event (Promoted n g x v) (Promoted m i y w) p q h = same_promotion n m g i x y v w p q h
+same_event (Merging s) (Merging t) p q h = same_merging s t p q h
+same_event (Drained done most) (Drained other_done other_most) p q h = same_one (codes "drained") done other_done p q h
+same_event (Files n a) (Files m b) p q h = same_files n m a b p.0 q.0 h
+same_event (Planned n a) (Planned m b) p q h =
     let s = same_plan n.0 m.0 a b p.0 q.0 p.1 q.1 (rest_of (codes "planned") (codes "planned") (plan_words n.0 a) (plan_words m.0 b) h) in
     ap (λ (j : ℕ). Planned (node j) a) s.0 ∙ ap (Planned m) s.1
-same_event (Fault n a) (Fault m b) p q h k = same_fault n m a b p q h
-same_event (Refused a) (Refused b) p q h k = ap Refused (same_cause a b p q (rest_of (codes "refused") (codes "refused") (cause_words a) (cause_words b) h))
-same_event e f p q h k = absurd (apart (event_number e) (event_number f) refl k)
+same_event (Fault n a) (Fault m b) p q h = same_fault n m a b p q h
+same_event (Refused a) (Refused b) p q h = ap Refused (same_cause a b p q (rest_of (codes "refused") (codes "refused") (cause_words a) (cause_words b) h))
+same_event e f p q h = absurd (apart (event_words e) (event_words f) refl h)
 
 -- ---- lines and reports
 
@@ -539,10 +290,7 @@ line_words_are e h = more_words e.at.line.0 (event_words e.event) h.line (event_
 
 -- a line with a space before it and more text behind it, as its words
 line_cut : (e : Entry) (x : List ℕ) → 32 ∷ (text_of_entry e ++ x) ≡ all_spaced (line_words e) ++ 10 ∷ x
-line_cut e x =
-    let number : List ℕ = decimal e.at.line.0 in
-    ap (λ (t : List ℕ). 32 ∷ (number ++ t ++ 10 ∷ [] ++ x)) (event_text-words e.event)
-    ∙ ap (λ (t : List ℕ). 32 ∷ t) (append_assoc (number ++ all_spaced (event_words e.event)) (10 ∷ []) x)
+line_cut e x = ap (λ (t : List ℕ). 32 ∷ t) (append_assoc (decimal e.at.line.0 ++ all_spaced (event_words e.event)) (10 ∷ []) x)
 
 abbrev line_number : ℕ → LineNo
 line_number k = record { 0 = k }
@@ -552,11 +300,11 @@ pub same_line : (e f : Entry) (x y : List ℕ) → EntryFits e → EntryFits f �
 same_line e f x y p q h =
     let words = same_words (line_words e) (line_words f) x y (line_words_are e p) (line_words_are f q) (sym (line_cut e x) ∙ ap (λ (t : List ℕ). 32 ∷ t) h ∙ line_cut f y) in
     let number = same_number e.at.line.0 f.at.line.0 (event_words e.event) (event_words f.event) p.line q.line words.0 in
-    (record { line = ap line_number number.0; event = same_event e.event f.event p.event q.event number.1 (same_kind e.event f.event number.1) }, words.1)
+    (record { line = ap line_number number.0; event = same_event e.event f.event p.event q.event number.1 }, words.1)
 
 -- two entries with one text are printed alike
 pub same_text_of_entry : (e f : Entry) → EntryFits e → EntryFits f → text_of_entry e ≡ text_of_entry f → SamePrinted e f
-same_text_of_entry e f p q h = (same_line e f [] [] p q (no_more (text_of_entry e) ∙ h ∙ sym (no_more (text_of_entry f)))).0
+same_text_of_entry e f p q h = (same_line e f [] [] p q (append-nil (text_of_entry e) ∙ h ∙ sym (append-nil (text_of_entry f)))).0
 
 some_line : (e : Entry) (x : List ℕ) → text_of_entry e ++ x ≡ [] → ⊥
 some_line e x h = no_cell (all_spaced (event_words e.event)) x (sym (line_cut e x) ∙ ap (λ (t : List ℕ). 32 ∷ t) h)

@@ -1,8 +1,9 @@
 -- What the text of entries shows of them.
-use Rattle.std.specs.Prelude.{◌≡◌, ℕ, ◌^◌, ◌<◌, List, [], ◌∷◌, Bool, true, ⊤}
+use Rattle.std.specs.Prelude.{◌≡◌, ℕ, ◌^◌, ◌<◌, nat_lt, ◌&&◌, List, [], ◌∷◌, Bool, true, ⊤}
 use Rattle.std.specs.List.{list_all}
 use Rattle.nrt_base.specs.Bytes.{is_key}
 use Rattle.file_names.specs.Names.{is_file_name}
+use Rattle.documents.specs.declared.answer.Hit.{Hit}
 use Rattle.history_entries.specs.declared.cause.Cause.{Cause}
 use Rattle.history_entries.specs.declared.cause.Cause.TheVariants.{ForceLow, Cancelled, Damaged}
 use Rattle.history_entries.specs.declared.cause.FaultPlan.{FaultPlan}
@@ -11,10 +12,12 @@ use Rattle.history_entries.specs.declared.entry.Event.{Event}
 use Rattle.history_entries.specs.declared.entry.Event.TheVariants.{Accepted, Publishing, Published, Copying, Switched, Copied, Settling, Settled, Opened, Asking, Answered, Closed, Committing, Committed, Crashed, Reopened, Promoted, Merging, Drained, Files, Planned, Fault, Refused}
 use Rattle.history_entries.specs.declared.entry.Entry.{Entry}
 
--- the two events differ at most in what is not printed: an operation, a query, how many tasks were asked for
+-- the two events differ at most in what is not printed: an operation, a query, how many tasks were
+-- asked for
 abbrev pub SamePrintedEvent : Event → Event → Type 0
 SamePrintedEvent (Accepted seq op) (Accepted other_seq other_op) = seq ≡ other_seq
-SamePrintedEvent (Answered n t v query answer) (Answered m u w other_query other_answer) = (n ≡ m) × (t ≡ u) × (v ≡ w) × (answer ≡ other_answer)
+SamePrintedEvent (Answered n t v query answer) (Answered m u w other_query other_answer) =
+    (n ≡ m) × (t ≡ u) × (v ≡ w) × (answer ≡ other_answer)
 SamePrintedEvent (Drained done most) (Drained other_done other_most) = done ≡ other_done
 SamePrintedEvent e f = e ≡ f
 
@@ -40,13 +43,19 @@ CauseFits (Cancelled v) = IsNumber v.0
 CauseFits (Damaged name) = is_file_name name ≡ true
 CauseFits cause = ⊤
 
+-- what a planned fault prints can be printed
 abbrev pub PlanFits : FaultPlan → Type 0
 PlanFits (Link k) = IsNumber k
 PlanFits (Damage k at) = IsNumber k × IsNumber at
 PlanFits (Disk k) = IsNumber k
 PlanFits (Stop k) = IsNumber k
 
--- what an event prints can be printed: its numbers have at most 64 bits, its keys are keys and its names are names
+-- what a hit prints can be printed: its rank has at most 64 bits, and its key is one
+abbrev pub hit_fits : Hit → Bool
+hit_fits hit = nat_lt hit.rank (2 ^ 64) && is_key hit.key
+
+-- what an event prints can be printed: its numbers have at most 64 bits, its hits fit and its names
+-- are names
 abbrev pub EventFits : Event → Type 0
 EventFits (Accepted seq op) = IsNumber seq
 EventFits Publishing = ⊤
@@ -58,7 +67,9 @@ EventFits (Settling v) = IsNumber v.0
 EventFits (Settled v) = IsNumber v.0
 EventFits (Opened n t v) = IsNumber n.0 × IsNumber t.0 × IsNumber v.0
 EventFits (Asking n t v) = IsNumber n.0 × IsNumber t.0 × IsNumber v.0
-EventFits (Answered n t v query answer) = IsNumber n.0 × IsNumber t.0 × IsNumber v.0 × IsNumber answer.total × (list_all is_key answer.keys ≡ true)
+EventFits (Answered n t v query answer) =
+    IsNumber n.0 × IsNumber t.0 × IsNumber v.0 × IsNumber answer.total
+    × (list_all hit_fits answer.hits ≡ true)
 EventFits (Closed n t) = IsNumber n.0 × IsNumber t.0
 EventFits (Committing n v) = IsNumber n.0 × IsNumber v.0
 EventFits (Committed n v) = IsNumber n.0 × IsNumber v.0
@@ -77,6 +88,7 @@ pub record EntryFits (e : Entry) : Type 0 where
   pub line : IsNumber e.at.line.0
   pub event : EventFits e.event
 
+-- what each prints can be printed
 abbrev pub AllFit : List Entry → Type 0
 AllFit [] = ⊤
 AllFit (e ∷ es) = EntryFits e × AllFit es

@@ -1,8 +1,9 @@
--- The text of an entry and of a history: one line of the report for each entry.
-use Rattle.std.specs.Prelude.{ℕ, List, [], ◌∷◌, ◌++◌, codes}
+-- The text of an entry and of a history: a line for each entry, words with a space between.
+use Rattle.std.specs.Prelude.{◌≡◌, ℕ, List, [], ◌∷◌, ◌++◌, map, codes}
 use Rattle.std.specs.List.{flat_map}
 use Rattle.std.specs.Fmt.{decimal}
 use Rattle.file_names.specs.Base36.{base36_of}
+use Rattle.documents.specs.declared.answer.Hit.{Hit}
 use Rattle.history_entries.specs.declared.cause.Cause.{Cause}
 use Rattle.history_entries.specs.declared.cause.Cause.TheVariants.{Down, Primary, NoPrimary, PrimaryUp, ForceLow, NoTicket, Lost, Cancelled, LinkFault, Damaged, DiskFault, Nothing, Up, NameUsed, NamesSpent, TooManySegments, ForceHigh}
 use Rattle.history_entries.specs.declared.cause.FaultKind.{FaultKind}
@@ -14,17 +15,21 @@ use Rattle.history_entries.specs.declared.entry.Event.TheVariants.{Accepted, Pub
 use Rattle.history_entries.specs.declared.entry.Entry.{Entry}
 use Rattle.history_entries.specs.declared.entry.History.{History}
 
--- a space and a number
-abbrev pub spaced : ℕ → List ℕ
-spaced n = 32 ∷ decimal n
-
--- a word and numbers, each after a space
-abbrev pub worded : List ℕ → List ℕ → List ℕ
-worded word numbers = 32 ∷ (word ++ flat_map spaced numbers)
-
 -- each after a space
 abbrev pub all_spaced : List (List ℕ) → List ℕ
 all_spaced words = flat_map (λ word. 32 ∷ word) words
+
+-- the words were put behind what was there, each after a space
+abbrev pub AddsWords : (old new : List ℕ) → List (List ℕ) → Type 0
+AddsWords old new words = new ≡ old ++ all_spaced words
+
+-- a word, and numbers as words
+abbrev pub with_numbers : List ℕ → List ℕ → List (List ℕ)
+with_numbers word numbers = word ∷ map decimal numbers
+
+-- a hit: its rank, a colon and its key
+abbrev pub hit_text : Hit → List ℕ
+hit_text hit = decimal hit.rank ++ 58 ∷ hit.key
 
 -- the word for a kind of fault
 abbrev pub kind_text : FaultKind → List ℕ
@@ -34,61 +39,63 @@ kind_text Disk = codes "disk"
 kind_text Stop = codes "stop"
 
 -- a planned fault at a node: its kind, the node, which file or call, and for damage which byte
-abbrev pub plan_text : ℕ → FaultPlan → List ℕ
-plan_text n (LinkPlan k) = worded (codes "link") (n ∷ k ∷ [])
-plan_text n (DamagePlan k at) = worded (codes "damage") (n ∷ k ∷ at ∷ [])
-plan_text n (DiskPlan k) = worded (codes "disk") (n ∷ k ∷ [])
-plan_text n (StopPlan k) = worded (codes "stop") (n ∷ k ∷ [])
+abbrev pub plan_words : ℕ → FaultPlan → List (List ℕ)
+plan_words n (LinkPlan k) = with_numbers (codes "link") (n ∷ k ∷ [])
+plan_words n (DamagePlan k at) = with_numbers (codes "damage") (n ∷ k ∷ at ∷ [])
+plan_words n (DiskPlan k) = with_numbers (codes "disk") (n ∷ k ∷ [])
+plan_words n (StopPlan k) = with_numbers (codes "stop") (n ∷ k ∷ [])
 
 -- why a line is refused
-abbrev pub cause_text : Cause → List ℕ
-cause_text Down = codes " down"
-cause_text Primary = codes " primary"
-cause_text NoPrimary = codes " no-primary"
-cause_text PrimaryUp = codes " primary-up"
-cause_text (ForceLow v) = worded (codes "force-low") (v.0 ∷ [])
-cause_text NoTicket = codes " no-ticket"
-cause_text Lost = codes " lost"
-cause_text (Cancelled v) = worded (codes "cancelled") (v.0 ∷ [])
-cause_text LinkFault = codes " link-fault"
-cause_text (Damaged name) = codes " damaged " ++ name
-cause_text DiskFault = codes " disk-fault"
-cause_text Nothing = codes " none"
-cause_text Up = codes " up"
-cause_text NameUsed = codes " name-used"
-cause_text NamesSpent = codes " names-spent"
-cause_text TooManySegments = codes " too-many-segments"
-cause_text ForceHigh = codes " force-high"
+abbrev pub cause_words : Cause → List (List ℕ)
+cause_words Down = codes "down" ∷ []
+cause_words Primary = codes "primary" ∷ []
+cause_words NoPrimary = codes "no-primary" ∷ []
+cause_words PrimaryUp = codes "primary-up" ∷ []
+cause_words (ForceLow v) = with_numbers (codes "force-low") (v.0 ∷ [])
+cause_words NoTicket = codes "no-ticket" ∷ []
+cause_words Lost = codes "lost" ∷ []
+cause_words (Cancelled v) = with_numbers (codes "cancelled") (v.0 ∷ [])
+cause_words LinkFault = codes "link-fault" ∷ []
+cause_words (Damaged name) = codes "damaged" ∷ name ∷ []
+cause_words DiskFault = codes "disk-fault" ∷ []
+cause_words Nothing = codes "none" ∷ []
+cause_words Up = codes "up" ∷ []
+cause_words NameUsed = codes "name-used" ∷ []
+cause_words NamesSpent = codes "names-spent" ∷ []
+cause_words TooManySegments = codes "too-many-segments" ∷ []
+cause_words ForceHigh = codes "force-high" ∷ []
 
 -- what happened
-abbrev pub event_text : Event → List ℕ
-event_text (Accepted seq op) = worded (codes "accepted") (seq ∷ [])
-event_text Publishing = codes " publishing"
-event_text (Published g v) = worded (codes "published") (g.0 ∷ v.0 ∷ [])
-event_text (Copying n v) = worded (codes "copying") (n.0 ∷ v.0 ∷ [])
-event_text (Switched n v) = worded (codes "switched") (n.0 ∷ v.0 ∷ [])
-event_text (Copied n v) = worded (codes "copied") (n.0 ∷ v.0 ∷ [])
-event_text (Settling v) = worded (codes "settling") (v.0 ∷ [])
-event_text (Settled v) = worded (codes "settled") (v.0 ∷ [])
-event_text (Opened n t v) = worded (codes "opened") (n.0 ∷ t.0 ∷ v.0 ∷ [])
-event_text (Asking n t v) = worded (codes "asking") (n.0 ∷ t.0 ∷ v.0 ∷ [])
-event_text (Answered n t v query answer) = worded (codes "answer") (n.0 ∷ t.0 ∷ v.0 ∷ answer.total ∷ []) ++ all_spaced answer.keys
-event_text (Closed n t) = worded (codes "closed") (n.0 ∷ t.0 ∷ [])
-event_text (Committing n v) = worded (codes "committing") (n.0 ∷ v.0 ∷ [])
-event_text (Committed n v) = worded (codes "committed") (n.0 ∷ v.0 ∷ [])
-event_text (Crashed n) = worded (codes "crashed") (n.0 ∷ [])
-event_text (Reopened n v) = worded (codes "reopened") (n.0 ∷ v.0 ∷ [])
-event_text (Promoted n g forced v) = worded (codes "promoted") (n.0 ∷ g.0 ∷ forced.0 ∷ v.0 ∷ [])
-event_text (Merging seg) = codes " merging _" ++ base36_of seg.0
-event_text (Drained done most) = worded (codes "drained") (done ∷ [])
-event_text (Files n names) = worded (codes "files") (n.0 ∷ []) ++ all_spaced names
-event_text (Planned n plan) = codes " planned" ++ plan_text n.0 plan
-event_text (Fault n kind) = worded (codes "fault") (n.0 ∷ []) ++ 32 ∷ kind_text kind
-event_text (Refused cause) = codes " refused" ++ cause_text cause
+abbrev pub event_words : Event → List (List ℕ)
+event_words (Accepted seq op) = with_numbers (codes "accepted") (seq ∷ [])
+event_words Publishing = codes "publishing" ∷ []
+event_words (Published g v) = with_numbers (codes "published") (g.0 ∷ v.0 ∷ [])
+event_words (Copying n v) = with_numbers (codes "copying") (n.0 ∷ v.0 ∷ [])
+event_words (Switched n v) = with_numbers (codes "switched") (n.0 ∷ v.0 ∷ [])
+event_words (Copied n v) = with_numbers (codes "copied") (n.0 ∷ v.0 ∷ [])
+event_words (Settling v) = with_numbers (codes "settling") (v.0 ∷ [])
+event_words (Settled v) = with_numbers (codes "settled") (v.0 ∷ [])
+event_words (Opened n t v) = with_numbers (codes "opened") (n.0 ∷ t.0 ∷ v.0 ∷ [])
+event_words (Asking n t v) = with_numbers (codes "asking") (n.0 ∷ t.0 ∷ v.0 ∷ [])
+event_words (Answered n t v query answer) =
+    with_numbers (codes "answer") (n.0 ∷ t.0 ∷ v.0 ∷ answer.total ∷ []) ++ map hit_text answer.hits
+event_words (Closed n t) = with_numbers (codes "closed") (n.0 ∷ t.0 ∷ [])
+event_words (Committing n v) = with_numbers (codes "committing") (n.0 ∷ v.0 ∷ [])
+event_words (Committed n v) = with_numbers (codes "committed") (n.0 ∷ v.0 ∷ [])
+event_words (Crashed n) = with_numbers (codes "crashed") (n.0 ∷ [])
+event_words (Reopened n v) = with_numbers (codes "reopened") (n.0 ∷ v.0 ∷ [])
+event_words (Promoted n g forced v) =
+    with_numbers (codes "promoted") (n.0 ∷ g.0 ∷ forced.0 ∷ v.0 ∷ [])
+event_words (Merging seg) = codes "merging" ∷ (95 ∷ base36_of seg.0) ∷ []
+event_words (Drained done most) = with_numbers (codes "drained") (done ∷ [])
+event_words (Files n names) = with_numbers (codes "files") (n.0 ∷ []) ++ names
+event_words (Planned n plan) = codes "planned" ∷ plan_words n.0 plan
+event_words (Fault n kind) = with_numbers (codes "fault") (n.0 ∷ []) ++ kind_text kind ∷ []
+event_words (Refused cause) = codes "refused" ∷ cause_words cause
 
 -- the line of an entry: the number of its script line, what happened, and a line feed
 abbrev pub text_of_entry : Entry → List ℕ
-text_of_entry e = decimal e.at.line.0 ++ event_text e.event ++ 10 ∷ []
+text_of_entry e = decimal e.at.line.0 ++ all_spaced (event_words e.event) ++ 10 ∷ []
 
 -- the report of a history: the lines of its entries, in order
 abbrev pub text_of : History → List ℕ

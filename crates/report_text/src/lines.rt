@@ -1,10 +1,12 @@
+//! The line of an entry, and the report of a history.
+
 ghost use Rattle.std.specs.Prelude.{◌≡◌, ◌++◌, OnOk, IfOk};
 ghost use Rattle.report_text.specs.Texts.{text_of_entry, text_of};
 
 use crate::events::push_event;
 use crate::words::push_number;
-use nrt_base::NoMemory;
 use history_entries::{Entry, History};
+use nrt_base::NoMemory;
 use std::alloc::Global;
 
 fn push_line(out: &mut Vec<u8>, alloc: Global, entry: &Entry) -> Result<(), NoMemory>

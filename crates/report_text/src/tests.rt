@@ -1,8 +1,15 @@
+//! The line of each kind of entry, and the report of a plain path.
+
+ghost use Rattle.std.specs.Prelude.{IsTrue};
+ghost use Rattle.nrt_base.specs.Bytes.{is_key};
+
 use crate::{line, report};
+use documents::{Answer, Hit, Op, Query};
 use file_names::{SegPart, commit_name, part_name};
-use nrt_base::{At, Doc, Gen, Key, LaneNo, LineNo, List, NoMemory, NodeNo, SegNo, Text, TicketNo, Version, Word};
-use documents::{Answer, Op, Query};
 use history_entries::{Cause, Entry, Event, FaultKind, FaultPlan, History};
+use nrt_base::{
+    At, Doc, Gen, Key, LaneNo, LineNo, List, NoMemory, NodeNo, SegNo, Text, TicketNo, Version, Word,
+};
 use std::alloc::Global;
 use std::process::Abort;
 use std::test::Fail;
@@ -37,25 +44,22 @@ fn fox(alloc: Global) -> Result<Query, NoMemory> {
     Ok(Query::Word(Word::new(alloc, b"fox")?))
 }
 
-fn one_key(alloc: Global) -> Result<List<Key>, NoMemory> {
-    let mut keys = List::from_vec(Vec::new(alloc));
-    keys.push(Key::new(alloc, b"a")?)?;
-    Ok(keys)
+fn hit(alloc: Global, key: &[u8], rank: u32) -> Result<Hit, NoMemory>
+    requires { IsTrue (is_key key.now) }
+{
+    Ok(Hit {
+        key: Key::new(alloc, key)?,
+        rank,
+    })
 }
 
-fn two_keys(alloc: Global) -> Result<List<Key>, NoMemory> {
-    let mut keys = one_key(alloc)?;
-    keys.push(Key::new(alloc, b"Z!")?)?;
-    Ok(keys)
-}
-
-fn answered(alloc: Global, total: u32, keys: List<Key>) -> Result<Event, NoMemory> {
+fn answered(alloc: Global, total: u32, hits: List<Hit>) -> Result<Event, NoMemory> {
     Ok(Event::Answered {
         n: N,
         t: T,
         v: V,
         query: fox(alloc)?,
-        answer: Answer { total, keys },
+        answer: Answer { total, hits },
     })
 }
 
@@ -258,12 +262,14 @@ fn entries_with_lists(rt: HostRuntime) -> Result<(), Fail> {
         answered(alloc, 0, none)?,
         b"17 answer 2 3 4 0\n",
     )?;
-    let keys = two_keys(alloc)?;
+    let mut hits = List::from_vec(Vec::new(alloc));
+    hits.push(hit(alloc, b"a:1", 12)?)?;
+    hits.push(hit(alloc, b":", 0)?)?;
     shows(
         &rt,
         alloc,
-        answered(alloc, 21, keys)?,
-        b"17 answer 2 3 4 21 a Z!\n",
+        answered(alloc, 21, hits)?,
+        b"17 answer 2 3 4 21 12:a:1 0::\n",
     )?;
 
     let mut names = List::from_vec(Vec::new(alloc));
@@ -286,10 +292,9 @@ fn plain_path(alloc: Global) -> Result<History, NoMemory> {
         text: Text::new(alloc, b"Quick fox")?,
     };
     let (v, t) = (Version(2), TicketNo(0));
-    let answer = Answer {
-        total: 1,
-        keys: one_key(alloc)?,
-    };
+    let mut hits = List::from_vec(Vec::new(alloc));
+    hits.push(hit(alloc, b"a", 1)?)?;
+    let answer = Answer { total: 1, hits };
     let mut entries = List::from_vec(Vec::new(alloc));
     entries.push(entry(
         2,
@@ -330,7 +335,7 @@ fn report_of_the_plain_path(rt: HostRuntime) -> Result<(), Fail> {
     let text = report(rt.alloc(), &history)?;
     assert_eq!(rt;
         text.as_slice(),
-        b"2 accepted 1\n3 publishing\n3 published 1 2\n4 copying 2 2\n4 switched 2 2\n4 copied 2 2\n5 opened 2 0 2\n5 answer 2 0 2 1 a\n".as_slice(),
+        b"2 accepted 1\n3 publishing\n3 published 1 2\n4 copying 2 2\n4 switched 2 2\n4 copied 2 2\n5 opened 2 0 2\n5 answer 2 0 2 1 1:a\n".as_slice(),
     );
     Ok(())
 }

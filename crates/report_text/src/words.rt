@@ -1,10 +1,12 @@
-ghost use Rattle.std.specs.Prelude.{◌≡◌, ◌++◌, OnOk, IfOk};
-ghost use Rattle.std.specs.List.{flat_map};
-ghost use Rattle.std.specs.Fmt.{decimal};
-ghost use Rattle.report_text.specs.Texts.{spaced, worded, all_spaced};
+//! The words of a line, each behind a space.
 
+ghost use Rattle.std.specs.Prelude.{◌≡◌, ◌++◌, ◌∷◌, OnOk, map};
+ghost use Rattle.std.specs.Fmt.{decimal};
+ghost use Rattle.report_text.specs.Texts.{AddsWords, with_numbers, hit_text};
+
+use documents::Hit;
 use file_names::FileName;
-use nrt_base::{Key, NoMemory};
+use nrt_base::NoMemory;
 use std::alloc::Global;
 
 pub fn push_number(out: &mut Vec<u8>, alloc: Global, number: u64) -> Result<(), NoMemory>
@@ -13,22 +15,15 @@ pub fn push_number(out: &mut Vec<u8>, alloc: Global, number: u64) -> Result<(), 
     out.extend_from_slice(format!(in alloc; "{number}")?.as_bytes())
 }
 
-// A word and numbers, each after a space.
-pub fn push_worded(
-    out: &mut Vec<u8>,
-    alloc: Global,
-    word: &[u8],
-    numbers: &[u64],
-) -> Result<(), NoMemory>
-    ensures { OnOk result (out.new.items ≡ out.old.items ++ worded word.now numbers.now) }
+pub fn push_word(out: &mut Vec<u8>, word: &[u8]) -> Result<(), NoMemory>
+    ensures { OnOk result (out.new.items ≡ out.old.items ++ 32 ∷ word.now) }
 {
     out.push(b' ')?;
-    out.extend_from_slice(word)?;
-    push_numbers(out, alloc, numbers)
+    out.extend_from_slice(word)
 }
 
 fn push_numbers(out: &mut Vec<u8>, alloc: Global, numbers: &[u64]) -> Result<(), NoMemory>
-    ensures { OnOk result (out.new.items ≡ out.old.items ++ flat_map spaced numbers.now) }
+    ensures { OnOk result (AddsWords out.old.items out.new.items (map decimal numbers.now)) }
 {
     for number in numbers {
         out.push(b' ')?;
@@ -37,22 +32,42 @@ fn push_numbers(out: &mut Vec<u8>, alloc: Global, numbers: &[u64]) -> Result<(),
     Ok(())
 }
 
-pub fn push_keys(out: &mut Vec<u8>, keys: &[Key]) -> Result<(), NoMemory>
-    ensures { OnOk result (out.new.items ≡ out.old.items ++ all_spaced keys.now) }
+pub fn push_with_numbers(
+    out: &mut Vec<u8>,
+    alloc: Global,
+    word: &[u8],
+    numbers: &[u64],
+) -> Result<(), NoMemory>
+    ensures { OnOk result (AddsWords out.old.items out.new.items
+        (with_numbers word.now numbers.now)) }
 {
-    for key in keys {
-        out.push(b' ')?;
-        out.extend_from_slice(key.as_slice())?;
+    push_word(out, word)?;
+    push_numbers(out, alloc, numbers)
+}
+
+fn push_hit(out: &mut Vec<u8>, alloc: Global, hit: &Hit) -> Result<(), NoMemory>
+    ensures { OnOk result (out.new.items ≡ out.old.items ++ 32 ∷ hit_text hit.now) }
+{
+    out.push(b' ')?;
+    push_number(out, alloc, u64::from(hit.rank))?;
+    out.push(b':')?;
+    out.extend_from_slice(hit.key.as_slice())
+}
+
+pub fn push_hits(out: &mut Vec<u8>, alloc: Global, hits: &[Hit]) -> Result<(), NoMemory>
+    ensures { OnOk result (AddsWords out.old.items out.new.items (map hit_text hits.now)) }
+{
+    for hit in hits {
+        push_hit(out, alloc, hit)?;
     }
     Ok(())
 }
 
 pub fn push_names(out: &mut Vec<u8>, names: &[FileName]) -> Result<(), NoMemory>
-    ensures { OnOk result (out.new.items ≡ out.old.items ++ all_spaced names.now) }
+    ensures { OnOk result (AddsWords out.old.items out.new.items names.now) }
 {
     for name in names {
-        out.push(b' ')?;
-        out.extend_from_slice(name.as_slice())?;
+        push_word(out, name.as_slice())?;
     }
     Ok(())
 }

@@ -1,4 +1,5 @@
 pub mod Lines
 pub mod Form
 pub mod Refusals
+pub mod Replays
 pub mod Serves

@@ -18,6 +18,7 @@ lines_of_phase phase = flat_map (λ lane. lane.1) phase.lanes
 abbrev pub lines_of : Script → List Line
 lines_of script = flat_map lines_of_phase script.phases
 
+-- the lines that stand under a lane
 abbrev pub lines_under : ℕ → List (LaneNo × List Line) → List Line
 lines_under lane [] = []
 lines_under lane (l ∷ lanes) = if l.0.0 == lane then l.1 ++ lines_under lane lanes else lines_under lane lanes

@@ -1,30 +1,35 @@
 -- Why a line is refused before it has started, and why after.
-use Rattle.std.specs.Prelude.{ℕ, ◌+◌, ◌^◌, [], ◌∷◌, Bool, true, false, ◌&&◌, ◌||◌, not, ◌==◌, nat_lt, nat_le, length, Option, Some, None}
+use Rattle.std.specs.Prelude.{ℕ, ◌+◌, ◌^◌, [], ◌∷◌, Bool, true, false, ◌&&◌, ◌||◌, not, ◌==◌, nat_lt, nat_le, length, if◌then◌else◌, Option, Some, None}
+use Rattle.std.specs.List.{list_any}
 use Rattle.nrt_base.specs.declared.numbers.At.{At}
 use Rattle.nrt_base.specs.declared.numbers.NodeNo.{NodeNo}
 use Rattle.history_entries.specs.declared.cause.Cause.{Cause}
 use Rattle.history_entries.specs.declared.cause.Cause.TheVariants.{Down, Primary, NoPrimary, PrimaryUp, ForceLow, NoTicket, Lost, Cancelled, LinkFault, Damaged, DiskFault, Nothing, Up, NameUsed, NamesSpent, TooManySegments, ForceHigh}
 use Rattle.history_entries.specs.declared.cause.FaultKind.TheVariants.{Disk, Stop}
 use Rattle.history_entries.specs.declared.entry.Event.{Event}
-use Rattle.history_entries.specs.declared.entry.Event.TheVariants.{Published}
+use Rattle.history_entries.specs.declared.entry.Event.TheVariants.{Published, Merging}
+use Rattle.history_entries.specs.declared.entry.Entry.{Entry}
+use Rattle.history_entries.specs.Lines.{before_start}
 use Rattle.history_entries.specs.Nodes.{Past, primary_of, is_at, is_running, newest_version}
-use Rattle.history_entries.specs.Points.{cut_of, cut_has_put, names_drawn}
+use Rattle.history_entries.specs.Points.{cut_of, cut_has_put, names_drawn, documents_at}
 use Rattle.history_entries.specs.Tickets.{has_ticket}
 use Rattle.history_entries.specs.Faults.{has_fault, same_kind}
 use Rattle.script_serving.specs.declared.script.Force.{Force}
 use Rattle.script_serving.specs.declared.script.Force.TheVariants.{Auto, Exactly}
 use Rattle.script_serving.specs.declared.script.LineCommand.{LineCommand}
-use Rattle.script_serving.specs.declared.script.LineCommand.TheVariants.{Put, Delete, Publish, Copy, Settle, Search, Open, Ask, Close, Commit, Crash, Reopen, Promote, Merge, Files}
+use Rattle.script_serving.specs.declared.script.LineCommand.TheVariants.{Put, Delete, Drop, Publish, Copy, Settle, Search, Open, Ask, Close, Commit, Crash, Reopen, Promote, Merge, Drain, Files, Fault}
 
 -- the first of two causes that holds
 abbrev pub or_else : Option Cause → Option Cause → Option Cause
 or_else None later = later
 or_else (Some cause) later = Some cause
 
+-- the cause, where it holds
 abbrev pub when : Bool → Cause → Option Cause
 when true cause = Some cause
 when false cause = None
 
+-- there is no such node
 abbrev pub is_vacant : Option NodeNo → Bool
 is_vacant None = true
 is_vacant (Some n) = false
@@ -54,6 +59,7 @@ names_are_spent past = names_drawn past == 1679616
 abbrev pub refusal : LineCommand → ℕ → Past → Option Cause
 refusal (Put doc) lane past = without_primary past
 refusal (Delete key) lane past = without_primary past
+refusal (Drop word) lane past = without_primary past
 refusal Publish lane past = or_else (without_primary past) (when (cut_has_put past && names_are_spent past) NamesSpent)
 refusal (Copy n) lane past = or_else (without_node n.0 past) (or_else (without_primary past) (when (is_at (primary_of past) n.0) Primary))
 refusal Settle lane past = without_primary past
@@ -70,27 +76,41 @@ refusal (Promote n force) lane past =
     (or_else (when (nat_le (2 ^ 62) (forced_version force past)) ForceHigh)
     (when (nat_lt (forced_version force past) (newest_version past)) (ForceLow (record { 0 = newest_version past })))))
 refusal (Merge factor) lane past = without_primary past
+refusal (Drain most) lane past = None
 refusal (Files n) lane past = without_node n.0 past
-refusal command lane past = None
+refusal (Fault n plan) lane past = None
 
-abbrev pub publishes_by : Event → ℕ → ℕ
-publishes_by (Published g w) k = k + 1
-publishes_by e k = k
+abbrev pub put_publishes_by : Event → Bool → ℕ → ℕ
+put_publishes_by (Published g w) has_put k = if has_put then k + 1 else k
+put_publishes_by e has_put k = k
 
--- how many publishes there were
-abbrev pub publish_count : Past → ℕ
-publish_count [] = 0
-publish_count (e ∷ past) = publishes_by e.event (publish_count past)
+-- how many publishes had a put, and so made a segment
+abbrev pub put_publishes : Past → ℕ
+put_publishes [] = 0
+put_publishes (e ∷ past) = put_publishes_by e.event (cut_has_put (before_start e.at past)) (put_publishes past)
+
+-- the entry starts a merge
+abbrev pub is_merge : Entry → Bool
+is_merge e = starts_merge e.event
+  where
+    starts_merge : Event → Bool
+    starts_merge (Merging seg) = true
+    starts_merge event = false
+
+-- there may be 256 segments: as many publishes made one, and, where no merge was started, each still has a document
+abbrev pub may_be_full : Past → Bool
+may_be_full past = nat_le 256 (put_publishes past) && (list_any is_merge past || nat_le 256 (length (documents_at past (newest_version past))))
 
 -- what a line may be refused for that the history does not decide: segments, sizes and disks do
 abbrev pub may_be_refused : LineCommand → At → Past → Cause → Bool
 may_be_refused Publish at past Nothing = length (cut_of past) == 0
-may_be_refused Publish at past TooManySegments = cut_has_put past && nat_le 256 (publish_count past)
+may_be_refused Publish at past TooManySegments = cut_has_put past && may_be_full past
 may_be_refused (Merge factor) at past Nothing = true
 may_be_refused (Merge factor) at past NamesSpent = names_are_spent past
 may_be_refused (Reopen n) at past DiskFault = has_fault (λ m. m == n.0) (λ kind. same_kind Disk kind || same_kind Stop kind) at past
 may_be_refused command at past cause = false
 
+-- what a copy may be refused for after it has started
 abbrev pub is_copy_cause : Cause → Bool
 is_copy_cause Lost = true
 is_copy_cause (Cancelled v) = true

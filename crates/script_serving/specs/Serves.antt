@@ -1,26 +1,28 @@
 -- Which histories serve a script: they answer each line once, in order, with what it asks for.
 use Rattle.std.specs.Prelude.{ℕ, ◌≡◌, ◌≤◌, List, [], ◌∷◌, reverse, Bool, true, false, ◌||◌, ◌==◌, ⊤, Option, Some, None}
-use Rattle.std.specs.List.{AllByRecursion}
 use Rattle.nrt_base.specs.declared.numbers.At.{At}
-use Rattle.documents.specs.declared.operation.Op.TheVariants.{Put as PutOp, Delete as DeleteOp}
+use Rattle.documents.specs.declared.operation.Op.{Op}
+use Rattle.documents.specs.declared.operation.Op.TheVariants.{Put as PutOp, Delete as DeleteOp, Drop as DropOp}
 use Rattle.history_entries.specs.declared.cause.Cause.{Cause}
 use Rattle.history_entries.specs.declared.entry.Event.{Event}
 use Rattle.history_entries.specs.declared.entry.Event.TheVariants.{Accepted, Publishing, Published, Copying, Switched, Copied, Settling, Settled, Opened, Asking, Answered, Closed, Committing, Committed, Crashed, Reopened, Promoted, Merging, Drained, Files as Listed, Planned, Fault as Met, Refused}
 use Rattle.history_entries.specs.declared.entry.History.{History}
 use Rattle.history_entries.specs.Nodes.{Past}
-use Rattle.history_entries.specs.Lines.{is_answered, last_of_line}
+use Rattle.history_entries.specs.Lines.{same_at, is_answered, last_of_line}
 use Rattle.script_serving.specs.declared.script.Line.{Line}
 use Rattle.script_serving.specs.declared.script.LineCommand.{LineCommand}
-use Rattle.script_serving.specs.declared.script.LineCommand.TheVariants.{Put, Delete, Publish, Copy, Settle, Search, Open, Ask, Close, Commit, Crash, Reopen, Promote, Merge, Drain, Files, Fault}
+use Rattle.script_serving.specs.declared.script.LineCommand.TheVariants.{Put, Delete, Drop, Publish, Copy, Settle, Search, Open, Ask, Close, Commit, Crash, Reopen, Promote, Merge, Drain, Files, Fault}
 use Rattle.script_serving.specs.declared.script.Phase.{Phase}
 use Rattle.script_serving.specs.declared.script.Script.{Script}
-use Rattle.script_serving.specs.Lines.{lines_of, lines_of_lane, command_at, has_line, all_answered, earlier_answered, earlier_phases_answered}
-use Rattle.script_serving.specs.Refusals.{refusal, forced_version, may_be_refused, is_late_cause}
+use Rattle.script_serving.specs.Lines.{lines_of, lines_of_lane, command_at, all_answered, earlier_answered, earlier_phases_answered}
+use Rattle.script_serving.specs.Refusals.{refusal, forced_version, put_publishes, may_be_refused, is_late_cause}
+use Rattle.script_serving.specs.Replays.{due}
 
 -- the first entry of a line that is not refused at once: its start entry, or its reply where it has no start entry
 abbrev pub Begins : LineCommand → Past → Event → Type 0
 Begins (Put doc) past (Accepted seq op) = op ≡ PutOp doc
 Begins (Delete key) past (Accepted seq op) = op ≡ DeleteOp key
+Begins (Drop word) past (Accepted seq op) = op ≡ DropOp word
 Begins Publish past Publishing = ⊤
 Begins (Copy n) past (Copying m v) = m ≡ n
 Begins Settle past (Settling v) = ⊤
@@ -32,7 +34,7 @@ Begins (Commit n) past (Committing m v) = m ≡ n
 Begins (Crash n pick) past (Crashed m) = m ≡ n
 Begins (Reopen n) past (Reopened m v) = m ≡ n
 Begins (Promote n force) past (Promoted m g f v) = (m ≡ n) × (f.0 ≡ forced_version force past)
-Begins (Merge factor) past (Merging seg) = ⊤
+Begins (Merge factor) past (Merging seg) = factor ≤ put_publishes past
 Begins (Drain most) past (Drained done bound) = (bound ≡ most) × (done ≤ most)
 Begins (Files n) past (Listed m names) = m ≡ n
 Begins (Fault n plan) past (Planned m p) = (m ≡ n) × (p ≡ plan)
@@ -68,20 +70,36 @@ SuitsFault (Merge factor) lines at past = ⊤
 SuitsFault command lines at past = (is_answered at past ≡ false) × (earlier_answered lines at past ≡ true)
 
 -- the entry is one that its line asks for, in the line's turn
-abbrev pub Fits : List Line → Past → At → Option LineCommand → Event → Type 0
-Fits lines past at None e = ⊥
-Fits lines past at (Some command) (Met n kind) = SuitsFault command lines at past
-Fits lines past at (Some command) e = Suits command at past (last_of_line at past) e × (earlier_answered lines at past ≡ true)
+abbrev pub FitsTurn : List Line → Past → At → Option LineCommand → Event → Type 0
+FitsTurn lines past at None e = ⊥
+FitsTurn lines past at (Some command) (Met n kind) = SuitsFault command lines at past
+FitsTurn lines past at (Some command) e = Suits command at past (last_of_line at past) e × (earlier_answered lines at past ≡ true)
 
+-- the newest entry is of this line
+abbrev pub is_newest_at : At → Past → Bool
+is_newest_at at [] = false
+is_newest_at at (e ∷ past) = same_at e.at at
+
+-- the entry goes on with a replay: the line of the promotion accepts this operation again
+abbrev pub FitsReplay : Op → Past → At → Option LineCommand → Event → Type 0
+FitsReplay op past at (Some (Promote n force)) (Accepted seq again) = (again ≡ op) × (is_newest_at at past ≡ true)
+FitsReplay op past at command e = ⊥
+
+-- the entry is one that its line asks for; while operations are due to be accepted again, it is the first of them
+abbrev pub Fits : List Op → List Line → Past → At → Option LineCommand → Event → Type 0
+Fits [] lines past at command e = FitsTurn lines past at command e
+Fits (op ∷ ops) lines past at command e = FitsReplay op past at command e
+
+-- the claim is made of the entries of the lane alone
 abbrev pub OnLane : Bool → Type 0 → Type 0
 OnLane true claim = claim
 OnLane false claim = ⊤
 
--- each entry of a lane is one that its line asks for, in the line's turn
-abbrev pub ServesLane : ℕ → List Line → Past → Type 0
-ServesLane lane lines [] = ⊤
-ServesLane lane lines (e ∷ past) =
-    OnLane (e.at.lane.0 == lane) (Fits lines past e.at (command_at lines e.at) e.event) × ServesLane lane lines past
+-- each entry of a lane is one that its line asks for, in the line's turn or in the replay of a script with a log
+abbrev pub ServesLane : Bool → ℕ → List Line → Past → Type 0
+ServesLane log lane lines [] = ⊤
+ServesLane log lane lines (e ∷ past) =
+    OnLane (e.at.lane.0 == lane) (Fits (due log past) lines past e.at (command_at lines e.at) e.event) × ServesLane log lane lines past
 
 -- the entry is a fault of a merge
 abbrev pub is_merge_fault : Option LineCommand → Event → Bool
@@ -94,10 +112,10 @@ ServesPhases lines phases [] = ⊤
 ServesPhases lines phases (e ∷ past) =
     ((is_merge_fault (command_at lines e.at) e.event || earlier_phases_answered phases e.at past) ≡ true) × ServesPhases lines phases past
 
--- a history serves a script where each entry is of one of its lines, each lane's lines are answered once, in order, and phase follows phase
+-- a history serves a script where each lane's lines are answered once, in order, phase follows phase, and what a log has is accepted again behind each promotion
 pub record Serves (script : Script) (h : History) : Type 0 where
   pub nodes : h.nodes ≡ script.nodes
-  pub lines : AllByRecursion (λ e. has_line (lines_of script) e.at ≡ true) h.entries
-  pub lanes : (lane : ℕ) → ServesLane lane (lines_of_lane lane script) (reverse h.entries)
+  pub lanes : (lane : ℕ) → ServesLane script.log lane (lines_of_lane lane script) (reverse h.entries)
   pub phases : ServesPhases (lines_of script) script.phases (reverse h.entries)
   pub answered : all_answered (lines_of script) (reverse h.entries) ≡ true
+  pub replayed : due script.log (reverse h.entries) ≡ []

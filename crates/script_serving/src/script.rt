@@ -1,6 +1,6 @@
-use nrt_base::{At, Doc, Key, LaneNo, List, NodeNo, TicketNo};
 use documents::Query;
 use history_entries::FaultPlan;
+use nrt_base::{At, Doc, Key, LaneNo, List, NodeNo, TicketNo, Word};
 
 /// The version that a promotion is forced to be above.
 #[derive(Clone, Copy, Debug, PartialEq, Eq)]
@@ -18,6 +18,8 @@ pub enum LineCommand {
     Put(Doc),
     /// Delete the document of a key.
     Delete(Key),
+    /// Drop every document that has the word.
+    Drop(Word),
     /// Publish what was accepted.
     Publish,
     /// Copy the newest point to the node.
@@ -63,10 +65,12 @@ pub struct Phase {
     pub lanes: List<(LaneNo, List<Line>)>,
 }
 
-/// A script: how many nodes and workers there are, and its phases in order.
+/// A script: how many nodes and workers there are, whether operations are logged, and its phases in order.
 #[derive(Debug, Drop)]
 pub struct Script {
     pub nodes: u8,
     pub workers: u8,
+    /// Whether accepted operations are logged, so that a promotion accepts again what its point lacks.
+    pub log: bool,
     pub phases: List<Phase>,
 }

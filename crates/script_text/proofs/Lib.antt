@@ -1,10 +1,12 @@
 pub mod AnswerLaws
 pub mod CauseLemmas
 pub mod CommandLemmas
+pub mod DropLemmas
 pub mod FormLemmas
 pub mod HeaderLemmas
 pub mod LaneLineLemmas
 pub mod LineLemmas
+pub mod LogLemmas
 pub mod NumberLaws
 pub mod NumberLemmas
 pub mod OneLine
@@ -13,6 +15,7 @@ pub mod RefusalLaws
 pub mod RightForms
 pub mod RightLines
 pub mod ScriptLaws
+pub mod ServingLemmas
 pub mod ShapeLemmas
 pub mod WordLaws
 pub mod WordLemmas

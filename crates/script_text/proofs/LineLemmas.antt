@@ -1,4 +1,5 @@
 -- The lines of a text, one after the other, and which of them are statements.
+use Rattle.text_query.specs.Tokens.{is_space}
 use Rattle.std.proofs.Common.{◌≡◌, ◌<◌, ◌≤◌, ◌+◌, ◌-◌, ℕ, zero, suc, Bool, true, false, List, [], ◌∷◌, ◌==◌, not, length, take, drop, refl, ap, ◌∙◌, sym, arith}
 use Rattle.std.specs.Prelude.{take_while, ◌&&◌, Some, None}
 use Rattle.std.specs.List.{prefix_len, slice_get}
@@ -6,8 +7,8 @@ use Rattle.std.proofs.lemmas.Option.{none-some, same_Some}
 use Rattle.std.proofs.lemmas.List.{take_rest}
 use Rattle.std.proofs.lemmas.List.Folds.{length-prefix_len}
 use Rattle.script_text.proofs.WordLemmas.{words_without, first_is_none}
-use Rattle.script_text.specs.Reading.{GoesOn}
-use Rattle.script_text.specs.Grammar.{statements_from, lines_of_text, with_first, is_line_feed, is_space, is_statement, without_spaces, words_in, join_word, has_words, is_comment}
+use Rattle.script_text.specs.Reading.{IsNextStatement}
+use Rattle.script_text.specs.Grammar.{statements_from, lines_of_text, with_byte, is_line_feed, is_statement, without_spaces, words_in, join_word, has_words, is_comment}
 
 -- how many bytes stand before the first line feed
 abbrev front : List ℕ → ℕ
@@ -55,7 +56,7 @@ pub only_line : (text : List ℕ) (at : ℕ) → at ≡ length (take_while (λ b
     → lines_of_text text ≡ text ∷ []
 only_line text at e h some = whole text at (sym (length-prefix_len (λ b. not (is_line_feed b)) text) ∙ sym e) h some
 
-some_front : (b : ℕ) (words : List (List ℕ)) → (has_words (with_first b words) && not (is_comment (with_first b words))) ≡ not (b == 35)
+some_front : (b : ℕ) (words : List (List ℕ)) → (has_words (with_byte b words) && not (is_comment (with_byte b words))) ≡ not (b == 35)
 some_front b [] = refl
 some_front b (word ∷ words) = refl
 
@@ -90,7 +91,7 @@ no_statement line e = ap (λ words. has_words words && not (is_comment words)) (
 -- the next line is a statement
 pub goes_on : (from n : ℕ) (text left line rest : List ℕ) → statements_from n (lines_of_text left) ≡ statements_from from (lines_of_text text)
     → n + length left ≤ from + length text → length left ≤ length text → lines_of_text left ≡ line ∷ lines_of_text rest → length rest < length left
-    → is_statement line ≡ true → GoesOn from text n line rest
+    → is_statement line ≡ true → IsNextStatement from text n line rest
 goes_on from n text left line rest e bounded shorter split less is = record {
   statements = sym e ∙ (ap (statements_from n) split ∙ here);
   bounded = omega arith;

@@ -1,6 +1,6 @@
 -- The decimal digits of a number are a number of the text, and have its value.
 use Rattle.std.proofs.Common.{◌≡◌, ℕ, ◌+◌, ◌*◌, ◌-◌, ◌/◌, ◌%◌, ◌^◌, ◌<◌, ◌≤◌, List, [], ◌∷◌, ◌++◌, length, Bool, true, false, refl, ap, ◌∙◌, arith}
-use Rattle.std.specs.Prelude.{◌==◌, not, nat_lt, nat_eq}
+use Rattle.std.specs.Prelude.{◌==◌, not, nat_lt, nat_eq, bytes_eq}
 use Rattle.std.specs.List.{list_all}
 use Rattle.std.specs.Fmt.{decimal}
 use Rattle.std.proofs.lemmas.Fmt.{decimal_by_steps}
@@ -8,7 +8,7 @@ use Rattle.std.proofs.lemmas.List.Folds.{list_all-append}
 use Rattle.std.proofs.lemmas.Bool.Decides.{nat_tests}
 use Rattle.std.proofs.lemmas.Bool.{false≢true, lt-ltb, and_from, and_parts}
 use Rattle.nrt_base.specs.Bytes.{is_between, is_text_byte}
-use Rattle.script_text.specs.Refused.{is_word, is_digit, is_digits, is_number, value_from, value_of, is_number_in}
+use Rattle.script_text.specs.Refused.{is_digit, is_digits, is_number, value_from, value_of, is_number_in}
 
 abbrev is_zero_digit : ℕ → Bool
 is_zero_digit b = b == 48
@@ -96,7 +96,7 @@ not_same : (b c : ℕ) → is_digit b ≡ false → is_digit c ≡ true → nat_
 not_same b c h k = grind (arith, nat_tests)
 
 -- digits are no word that begins otherwise
-pub other_word : (b : ℕ) (name digits : List ℕ) → is_digit b ≡ false → list_all is_digit digits ≡ true → is_word (b ∷ name) digits ≡ false
+pub other_word : (b : ℕ) (name digits : List ℕ) → is_digit b ≡ false → list_all is_digit digits ≡ true → bytes_eq (b ∷ name) digits ≡ false
 other_word b name [] h all = refl
 other_word b name (c ∷ digits) h all =
     let digit : is_digit c ≡ true = (and_parts (is_digit c) (list_all is_digit digits) all).0 in

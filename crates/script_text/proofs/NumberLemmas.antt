@@ -9,7 +9,7 @@ use Rattle.std.proofs.lemmas.Fmt.{decimal-digits_value}
 use Rattle.std.proofs.lemmas.Str.Parse.{IsNumeralModel, numerals_by_fold}
 use Rattle.nrt_base.specs.Bytes.{is_between}
 use Rattle.script_text.specs.Refused.{is_digit, is_number, is_number_in, value_from, value_of}
-use Rattle.script_text.specs.Reading.{number_of}
+use Rattle.script_text.specs.Reading.{number_within}
 
 -- the first digit of those that are left is taken in
 pub value_from-drop : (digits : List ℕ) (i n : ℕ) → i < length digits
@@ -59,10 +59,10 @@ decimal-value_of word is small = decimal-digits_value own word (all word is) (so
 -- the two cases of a word: a number in the range, or none
 pub number_case : (low high : ℕ) (word : List ℕ) → high < 2 ^ 64 → (P : Option ℕ → Type 0)
     → ((n : ℕ) → is_number_in low high word ≡ true → decimal n ≡ word → is_between low high n ≡ true → P (Some n))
-    → (is_number_in low high word ≡ false → P None) → P (number_of low high word)
+    → (is_number_in low high word ≡ false → P None) → P (number_within low high word)
 number_case low high word small P held other = by_test (is_number_in low high word) refl
   where
-    by_test : (t : Bool) → is_number_in low high word ≡ t → P (number_of low high word)
+    by_test : (t : Bool) → is_number_in low high word ≡ t → P (number_within low high word)
     by_test true e =
         let parts = both (is_number word) (is_between low high (value_of word)) e in
         let fits : value_of word < 2 ^ 64 = let w = parts.1 in grind (arith, nat_tests) in

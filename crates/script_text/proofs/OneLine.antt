@@ -1,6 +1,6 @@
 -- A statement spells one line at most: its words and what stands behind them give the command, but for the query, which its text gives.
 use Rattle.std.proofs.Common.{◌≡◌, ℕ, ◌<◌, ◌≤◌, List, [], ◌∷◌, true, false, refl, ap, ◌∙◌, sym, subst, arith, inl, inr, Ok}
-use Rattle.std.specs.Prelude.{◌^◌, ◌-◌, codes, if◌then◌else◌}
+use Rattle.std.specs.Prelude.{◌^◌, ◌-◌, codes, if◌then◌else◌, bytes_eq}
 use Rattle.std.specs.Fmt.{decimal}
 use Rattle.std.proofs.lemmas.Bool.{and_parts}
 use Rattle.nrt_base.specs.declared.doc.Doc.{Doc}
@@ -12,16 +12,17 @@ use Rattle.documents.specs.declared.query.Query.TheVariants.{All}
 use Rattle.history_entries.specs.declared.cause.FaultPlan.{FaultPlan}
 use Rattle.history_entries.specs.declared.cause.FaultPlan.TheVariants.{Link, Damage, Disk, Stop}
 use Rattle.documents.specs.Matching.{is_well_formed}
+use Rattle.documents.specs.Words.{words_of}
 use Rattle.text_query.specs.Answers.{Parses}
 use Rattle.text_query.proofs.FaultLemmas.{query_answered}
 use Rattle.script_serving.specs.declared.script.Force.{Force}
 use Rattle.script_serving.specs.declared.script.Force.TheVariants.{Auto, Exactly}
 use Rattle.script_serving.specs.declared.script.Line.{Line}
 use Rattle.script_serving.specs.declared.script.LineCommand.{LineCommand}
-use Rattle.script_serving.specs.declared.script.LineCommand.TheVariants.{Put, Delete, Publish, Copy, Settle, Search, Open, Ask, Close, Commit, Crash, Reopen, Promote, Merge, Drain, Files, Fault}
+use Rattle.script_serving.specs.declared.script.LineCommand.TheVariants.{Put, Delete, Drop, Publish, Copy, Settle, Search, Open, Ask, Close, Commit, Crash, Reopen, Promote, Merge, Drain, Files, Fault}
 use Rattle.script_serving.specs.Form.{is_plan, is_force, is_command}
-use Rattle.script_text.specs.Grammar.{Statement, words_in, rest_behind, force_word, plan_words, command_words, Ends, SpellsLine}
-use Rattle.script_text.specs.Refused.{is_word, value_of}
+use Rattle.script_text.specs.Grammar.{Statement, words_in, word_at, rest_behind, force_word, plan_words, command_words, Ends, SpellsLine}
+use Rattle.script_text.specs.Refused.{value_of}
 use Rattle.script_text.proofs.NumberLaws.{value_of-decimal, digits_of-decimal, other_word}
 use Rattle.script_text.proofs.RightLines.{between_high, three_words}
 
@@ -36,35 +37,22 @@ data Said : Type 0 where
   -- a search of the ticket, for the query that the rest spells
   ask_of : TicketNo → Said
 
--- the first word
-abbrev pub word_first : List (List ℕ) → List ℕ
-word_first [] = []
-word_first (word ∷ words) = word
-
-abbrev pub word_second : List (List ℕ) → List ℕ
-word_second [] = []
-word_second (word ∷ words) = word_first words
-
-abbrev word_third : List (List ℕ) → List ℕ
-word_third [] = []
-word_third (word ∷ words) = word_second words
-
 abbrev node_said : List (List ℕ) → NodeNo
-node_said words = record { 0 = value_of (word_first words) }
+node_said words = record { 0 = value_of (word_at 0 words) }
 
 abbrev ticket_said : List ℕ → TicketNo
 ticket_said word = record { 0 = value_of word }
 
 abbrev force_said : List ℕ → Force
-force_said word = if is_word (codes "auto") word then Auto else Exactly (value_of word)
+force_said word = if bytes_eq (codes "auto") word then Auto else Exactly (value_of word)
 
 -- the fault that the words behind `fault` say
 abbrev plan_said : List ℕ → List (List ℕ) → FaultPlan
 plan_said kind words =
-    if is_word (codes "link") kind then Link (value_of (word_second words))
-    else if is_word (codes "damage") kind then Damage (value_of (word_second words)) (value_of (word_third words))
-    else if is_word (codes "disk") kind then Disk (value_of (word_second words))
-    else Stop (value_of (word_second words))
+    if bytes_eq (codes "link") kind then Link (value_of (word_at 1 words))
+    else if bytes_eq (codes "damage") kind then Damage (value_of (word_at 1 words)) (value_of (word_at 2 words))
+    else if bytes_eq (codes "disk") kind then Disk (value_of (word_at 1 words))
+    else Stop (value_of (word_at 1 words))
 
 abbrev fault_said : List (List ℕ) → Said
 fault_said [] = nothing
@@ -73,27 +61,28 @@ fault_said (kind ∷ words) = whole (Fault (node_said words) (plan_said kind wor
 -- what a command of two numbers or none says
 abbrev other_said : List ℕ → List (List ℕ) → Said
 other_said name words =
-    if is_word (codes "commit") name then whole (Commit (node_said words))
-    else if is_word (codes "crash") name then whole (Crash (node_said words) (value_of (word_second words)))
-    else if is_word (codes "reopen") name then whole (Reopen (node_said words))
-    else if is_word (codes "promote") name then whole (Promote (node_said words) (force_said (word_second words)))
-    else if is_word (codes "merge") name then whole (Merge (value_of (word_first words)))
-    else if is_word (codes "drain") name then whole (Drain (value_of (word_first words)))
-    else if is_word (codes "files") name then whole (Files (node_said words))
-    else if is_word (codes "fault") name then fault_said words
+    if bytes_eq (codes "commit") name then whole (Commit (node_said words))
+    else if bytes_eq (codes "crash") name then whole (Crash (node_said words) (value_of (word_at 1 words)))
+    else if bytes_eq (codes "reopen") name then whole (Reopen (node_said words))
+    else if bytes_eq (codes "promote") name then whole (Promote (node_said words) (force_said (word_at 1 words)))
+    else if bytes_eq (codes "merge") name then whole (Merge (value_of (word_at 0 words)))
+    else if bytes_eq (codes "drain") name then whole (Drain (value_of (word_at 0 words)))
+    else if bytes_eq (codes "files") name then whole (Files (node_said words))
+    else if bytes_eq (codes "fault") name then fault_said words
     else nothing
 
 abbrev said_by : List ℕ → List (List ℕ) → List ℕ → Said
 said_by name words rest =
-    if is_word (codes "put") name then whole (Put (record { key = word_first words; text = rest }))
-    else if is_word (codes "delete") name then whole (Delete (word_first words))
-    else if is_word (codes "publish") name then whole Publish
-    else if is_word (codes "copy") name then whole (Copy (node_said words))
-    else if is_word (codes "settle") name then whole Settle
-    else if is_word (codes "search") name then search_at (node_said words)
-    else if is_word (codes "open") name then whole (Open (node_said words) (ticket_said (word_second words)))
-    else if is_word (codes "ask") name then ask_of (ticket_said (word_first words))
-    else if is_word (codes "close") name then whole (Close (ticket_said (word_first words)))
+    if bytes_eq (codes "put") name then whole (Put (record { key = word_at 0 words; text = rest }))
+    else if bytes_eq (codes "delete") name then whole (Delete (word_at 0 words))
+    else if bytes_eq (codes "drop") name then whole (Drop (word_at 0 (words_of (word_at 0 words))))
+    else if bytes_eq (codes "publish") name then whole Publish
+    else if bytes_eq (codes "copy") name then whole (Copy (node_said words))
+    else if bytes_eq (codes "settle") name then whole Settle
+    else if bytes_eq (codes "search") name then search_at (node_said words)
+    else if bytes_eq (codes "open") name then whole (Open (node_said words) (ticket_said (word_at 1 words)))
+    else if bytes_eq (codes "ask") name then ask_of (ticket_said (word_at 0 words))
+    else if bytes_eq (codes "close") name then whole (Close (ticket_said (word_at 0 words)))
     else other_said name words
 
 abbrev said : List (List ℕ) → List ℕ → Said
@@ -118,7 +107,7 @@ said_force : (force : Force) → is_force force ≡ true → force_said (force_w
 said_force Auto h = refl
 said_force (Exactly f) h =
     let narrow : f < 2 ^ 64 = narrow_number 0 (2 ^ 64 - 1) f (omega arith) h in
-    let other : is_word (codes "auto") (decimal f) ≡ false = other_word 97 (codes "uto") (decimal f) refl (digits_of-decimal f narrow) in
+    let other : bytes_eq (codes "auto") (decimal f) ≡ false = other_word 97 (codes "uto") (decimal f) refl (digits_of-decimal f narrow) in
     let value : value_of (decimal f) ≡ f = value_of-decimal f narrow in
     rw other (ap Exactly value)
 
@@ -149,6 +138,8 @@ module _ (size : ℕ) (small : size ≤ 16) where
       ap (λ (words : List (List ℕ)). said words (rest_behind 3 line)) (three_words (words_in line) (decimal lane) (codes "put") doc.key ends.0)
       ∙ ap (λ (text : List ℕ). let put : Doc = record { key = doc.key; text = text } in whole (Put put)) ends.1
   said_command (Delete key) line lane ends ranges = said_whole (Delete key) line lane (rest_behind 3 line) ends refl
+  said_command (Drop word) line lane ends ranges =
+      ap (λ (words : List (List ℕ)). said words (rest_behind 3 line)) ends.words ∙ ap (λ (words : List (List ℕ)). whole (Drop (word_at 0 words))) ends.only
   said_command Publish line lane ends ranges = said_whole Publish line lane (rest_behind 3 line) ends refl
   said_command (Copy n) line lane ends ranges =
       said_whole (Copy n) line lane (rest_behind 3 line) ends (ap (λ (m : NodeNo). whole (Copy m)) (node_is n ranges))
@@ -240,17 +231,18 @@ same_lines lane other n m c d lanes numbers commands =
     ap (λ (k : ℕ). line_with k n c) lanes ∙ (ap (λ (k : ℕ). line_with other k c) numbers ∙ ap (line_with other m) commands)
 
 -- the first word of a line is its lane
-lane_word : (c : LineCommand) (line : List ℕ) (lane : ℕ) → Ends c line lane → word_first (words_in line) ≡ decimal lane
-lane_word (Put doc) line lane ends = ap word_first (three_words (words_in line) (decimal lane) (codes "put") doc.key ends.0)
-lane_word (Search n query) line lane ends = ap word_first (three_words (words_in line) (decimal lane) (codes "search") (decimal n.0) ends.0)
-lane_word (Ask t query) line lane ends = ap word_first (three_words (words_in line) (decimal lane) (codes "ask") (decimal t.0) ends.0)
-lane_word c line lane ends = ap word_first ends
+lane_word : (c : LineCommand) (line : List ℕ) (lane : ℕ) → Ends c line lane → word_at 0 (words_in line) ≡ decimal lane
+lane_word (Put doc) line lane ends = ap (word_at 0) (three_words (words_in line) (decimal lane) (codes "put") doc.key ends.0)
+lane_word (Drop word) line lane ends = ap (word_at 0) ends.words
+lane_word (Search n query) line lane ends = ap (word_at 0) (three_words (words_in line) (decimal lane) (codes "search") (decimal n.0) ends.0)
+lane_word (Ask t query) line lane ends = ap (word_at 0) (three_words (words_in line) (decimal lane) (codes "ask") (decimal t.0) ends.0)
+lane_word c line lane ends = ap (word_at 0) ends
 
 -- a spelled line begins with its lane
-pub lane_first : (size : ℕ) (statement : Statement) (line : Line) → SpellsLine size statement line → word_first (words_in statement.line) ≡ decimal line.at.lane.0
+pub lane_first : (size : ℕ) (statement : Statement) (line : Line) → SpellsLine size statement line → word_at 0 (words_in statement.line) ≡ decimal line.at.lane.0
 lane_first size statement line spells = lane_word line.command statement.line line.at.lane.0 spells.words
 
-lane_value : (size : ℕ) (statement : Statement) (line : Line) → SpellsLine size statement line → value_of (word_first (words_in statement.line)) ≡ line.at.lane.0
+lane_value : (size : ℕ) (statement : Statement) (line : Line) → SpellsLine size statement line → value_of (word_at 0 (words_in statement.line)) ≡ line.at.lane.0
 lane_value size statement line spells =
     ap value_of (lane_first size statement line spells) ∙ number_said 1 8 line.at.lane.0 (omega arith) spells.lane
 

@@ -1,11 +1,12 @@
 -- The words of a line, what stands behind them, and when a line of printable words is printable.
+use Rattle.text_query.specs.Tokens.{is_space}
 use Rattle.std.proofs.Common.{◌≡◌, ℕ, zero, suc, List, [], ◌∷◌, true, false, refl, ap, ◌∙◌, sym, arith, inl, inr}
 use Rattle.std.specs.Prelude.{◌&&◌, if◌then◌else◌}
 use Rattle.std.specs.List.{list_all}
 use Rattle.std.proofs.lemmas.Bool.Decides.{nat_tests}
 use Rattle.std.proofs.lemmas.Bool.{cases_Bool, and_from, and_parts}
 use Rattle.nrt_base.specs.Bytes.{is_text_byte}
-use Rattle.script_text.specs.Grammar.{is_space, with_first, join_word, words_in, without_spaces, without_end, behind_word, rest_behind, is_printable}
+use Rattle.script_text.specs.Grammar.{with_byte, join_word, words_in, without_spaces, without_end, behind_word, rest_behind, is_printable}
 
 -- the words without the first
 abbrev pub words_behind : List (List ℕ) → List (List ℕ)
@@ -17,7 +18,7 @@ abbrev pub words_after : ℕ → List (List ℕ) → List (List ℕ)
 words_after zero words = words
 words_after (suc n) words = words_after n (words_behind words)
 
-behind-with_first : (b : ℕ) (words : List (List ℕ)) → words_behind (with_first b words) ≡ words_behind words
+behind-with_first : (b : ℕ) (words : List (List ℕ)) → words_behind (with_byte b words) ≡ words_behind words
 behind-with_first b [] = refl
 behind-with_first b (word ∷ words) = refl
 
@@ -41,12 +42,12 @@ words_in-behind (b ∷ line) =
 some_joined : (b : ℕ) (line : List ℕ) (words : List (List ℕ)) → join_word b line words ≡ [] → ⊥
 some_joined b [] words e = cc
 some_joined b (c ∷ rest) words e =
-    elim (is_space c) as (λ t. (if t then (b ∷ []) ∷ words else with_first b words) ≡ [] → ⊥) [
+    elim (is_space c) as (λ t. (if t then (b ∷ []) ∷ words else with_byte b words) ≡ [] → ⊥) [
       | true ↦ λ none. cc
       | false ↦ some_first b words
     ] e
   where
-    some_first : (b : ℕ) (words : List (List ℕ)) → with_first b words ≡ [] → ⊥
+    some_first : (b : ℕ) (words : List (List ℕ)) → with_byte b words ≡ [] → ⊥
     some_first b [] e = cc
     some_first b (word ∷ words) e = cc
 
@@ -78,7 +79,7 @@ printable_word b word words all =
     let bytes = and_parts (is_text_byte b) (list_all is_text_byte word) parts.0 in
     record { byte = bytes.0; each = and_from (is_printable word) (list_all is_printable words) bytes.1 parts.1 }
 
-printable-with_first : (b : ℕ) (words : List (List ℕ)) → list_all is_printable (with_first b words) ≡ true → ArePrintable b words
+printable-with_first : (b : ℕ) (words : List (List ℕ)) → list_all is_printable (with_byte b words) ≡ true → ArePrintable b words
 printable-with_first b [] all =
     let parts = printable_word b [] [] all in
     record { byte = parts.byte; each = refl }
@@ -92,7 +93,7 @@ printable_alone b words all =
 printable-join_word : (b : ℕ) (line : List ℕ) (words : List (List ℕ)) → list_all is_printable (join_word b line words) ≡ true → ArePrintable b words
 printable-join_word b [] words all = printable_alone b words all
 printable-join_word b (c ∷ rest) words all =
-    elim (is_space c) as (λ t. list_all is_printable (if t then (b ∷ []) ∷ words else with_first b words) ≡ true → ArePrintable b words) [
+    elim (is_space c) as (λ t. list_all is_printable (if t then (b ∷ []) ∷ words else with_byte b words) ≡ true → ArePrintable b words) [
       | true ↦ printable_alone b words
       | false ↦ printable-with_first b words
     ] all

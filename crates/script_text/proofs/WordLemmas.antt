@@ -1,14 +1,15 @@
 -- The words of a line, one after the other, and what stands behind them.
+use Rattle.text_query.specs.Tokens.{is_space}
 use Rattle.std.proofs.Common.{◌≡◌, ◌<◌, ◌≤◌, ◌+◌, ◌-◌, ℕ, zero, suc, Bool, true, false, List, [], ◌∷◌, ◌++◌, not, length, take, drop, refl, ap, ◌∙◌, sym, arith}
 use Rattle.std.specs.Prelude.{take_while, ◌&&◌, nat_lt, nat_le, if◌then◌else◌}
 use Rattle.std.specs.List.{prefix_len, list_all}
 use Rattle.nrt_base.specs.Bytes.{is_text_byte, is_key_byte, is_text}
-use Rattle.std.proofs.lemmas.Bool.{false≢true}
+use Rattle.std.proofs.lemmas.Bool.{and_parts}
 use Rattle.std.proofs.lemmas.List.{take_rest, length-drop}
 use Rattle.std.proofs.lemmas.List.Folds.{length-prefix_len}
 use Rattle.std.proofs.lemmas.Bool.Decides.{nat_tests}
-use Rattle.script_text.specs.Grammar.{is_space, words_in, join_word, with_first, without_spaces, without_end, unless_space, behind_word, rest_behind, is_printable}
-use Rattle.script_text.specs.Reading.{word_at, is_key_word}
+use Rattle.script_text.specs.Grammar.{words_in, join_word, with_byte, without_spaces, without_end, unless_space, behind_word, rest_behind, is_printable, word_at}
+use Rattle.script_text.specs.Reading.{is_key_word}
 
 spaces_dropped : (line : List ℕ) (n : ℕ) → prefix_len is_space line ≡ n → drop n line ≡ without_spaces line
 spaces_dropped [] zero e = refl
@@ -69,10 +70,10 @@ word_split b (c ∷ line) (suc n) f e = by_test (is_space c) refl (word_split c 
     by_test false g ih =
         let z : 1 + front line ≡ suc n = rw g at e in
         let i : words_in (c ∷ line) ≡ (c ∷ take n line) ∷ words_in (drop n line) = ih g (omega arith) in
-        joined b (c ∷ line) f ∙ (joins g ∙ ap (with_first b) i)
+        joined b (c ∷ line) f ∙ (joins g ∙ ap (with_byte b) i)
       where
-        joins : is_space c ≡ false → join_word b (c ∷ line) (words_in (c ∷ line)) ≡ with_first b (words_in (c ∷ line))
-        joins h = ap (λ (u : Bool). if u then (b ∷ []) ∷ words_in (c ∷ line) else with_first b (words_in (c ∷ line))) h
+        joins : is_space c ≡ false → join_word b (c ∷ line) (words_in (c ∷ line)) ≡ with_byte b (words_in (c ∷ line))
+        joins h = ap (λ (u : Bool). if u then (b ∷ []) ∷ words_in (c ∷ line) else with_byte b (words_in (c ∷ line))) h
 
 -- the spaces at the front are in no word
 pub words_without : (line : List ℕ) → words_in line ≡ words_in (without_spaces line)
@@ -163,13 +164,9 @@ kept_at line front b e f =
     let other : is_space b ≡ false = grind (arith, nat_tests) in
     e ∙ (sym (end_kept front b other) ∙ ap without_end (sym e))
 
-both : (a b : Bool) → (a && b) ≡ true → (a ≡ true) × (b ≡ true)
-both true b e = (refl, e)
-both false b e = absurd (false≢true e)
-
 printable_without : (line : List ℕ) → is_printable line ≡ true → is_printable (without_spaces line) ≡ true
 printable_without [] p = refl
-printable_without (b ∷ line) p = by_test (is_space b) refl (printable_without line (both (is_text_byte b) (is_printable line) p).1)
+printable_without (b ∷ line) p = by_test (is_space b) refl (printable_without line (and_parts (is_text_byte b) (is_printable line) p).1)
   where
     by_test : (t : Bool) → is_space b ≡ t → is_printable (without_spaces line) ≡ true → is_printable (without_spaces (b ∷ line)) ≡ true
     by_test true f ih = rw f ih
@@ -177,7 +174,7 @@ printable_without (b ∷ line) p = by_test (is_space b) refl (printable_without 
 
 printable_behind : (line : List ℕ) → is_printable line ≡ true → is_printable (behind_word line) ≡ true
 printable_behind [] p = refl
-printable_behind (b ∷ line) p = by_test (is_space b) refl (printable_behind line (both (is_text_byte b) (is_printable line) p).1)
+printable_behind (b ∷ line) p = by_test (is_space b) refl (printable_behind line (and_parts (is_text_byte b) (is_printable line) p).1)
   where
     by_test : (t : Bool) → is_space b ≡ t → is_printable (behind_word line) ≡ true → is_printable (behind_word (b ∷ line)) ≡ true
     by_test true f ih = rw f p
@@ -186,7 +183,7 @@ printable_behind (b ∷ line) p = by_test (is_space b) refl (printable_behind li
 printable_end : (line : List ℕ) → is_printable line ≡ true → is_printable (without_end line) ≡ true
 printable_end [] p = refl
 printable_end (b ∷ line) p =
-    let h = both (is_text_byte b) (is_printable line) p in
+    let h = and_parts (is_text_byte b) (is_printable line) p in
     unless b (without_end line) h.0 (printable_end line h.1)
   where
     unless : (b : ℕ) (rest : List ℕ) → is_text_byte b ≡ true → is_printable rest ≡ true → is_printable (unless_space b rest) ≡ true
@@ -209,10 +206,6 @@ rest_is_text line rest p e short =
     let few : nat_le (length rest) 4096 ≡ true = grind (arith, nat_tests) in
     rw (few, all) refl
 
-both_true : (a b : Bool) → a ≡ true → b ≡ true → (a && b) ≡ true
-both_true true b e f = f
-both_true false b e f = e
-
 -- a byte of a word of a printable line may stand in a key
 key_byte : (b : ℕ) → is_space b ≡ false → is_text_byte b ≡ true → is_key_byte b ≡ true
 key_byte b f p = grind (arith, nat_tests)
@@ -220,14 +213,14 @@ key_byte b f p = grind (arith, nat_tests)
 words_are_full : (line : List ℕ) → is_printable line ≡ true → list_all is_key_word (words_in line) ≡ true
 words_are_full [] p = refl
 words_are_full (b ∷ line) p =
-    let h = both (is_text_byte b) (is_printable line) p in
+    let h = and_parts (is_text_byte b) (is_printable line) p in
     by_test (is_space b) refl (words_are_full line h.1) h.0
   where
-    front_full : (b : ℕ) (words : List (List ℕ)) → is_key_byte b ≡ true → list_all is_key_word words ≡ true → list_all is_key_word (with_first b words) ≡ true
+    front_full : (b : ℕ) (words : List (List ℕ)) → is_key_byte b ≡ true → list_all is_key_word words ≡ true → list_all is_key_word (with_byte b words) ≡ true
     front_full b [] f g = rw f refl
     front_full b (word ∷ words) f g =
-        let h = both (is_key_word word) (list_all is_key_word words) g in
-        let k = both (nat_lt 0 (length word)) (list_all is_key_byte word) h.0 in
+        let h = and_parts (is_key_word word) (list_all is_key_word words) g in
+        let k = and_parts (nat_lt 0 (length word)) (list_all is_key_byte word) h.0 in
         let some : nat_lt 0 (suc (length word)) ≡ true = grind (arith, nat_tests) in
         rw (some, f, k.1, h.1) refl
 
@@ -253,12 +246,12 @@ word_is_full line front words word p e is some = ap is_key_word is ∙ (at_front
   where
     dropped : (all : List (List ℕ)) → list_all is_key_word all ≡ true → list_all is_key_word (drop 1 all) ≡ true
     dropped [] h = refl
-    dropped (w ∷ all) h = (both (is_key_word w) (list_all is_key_word all) h).1
+    dropped (w ∷ all) h = (and_parts (is_key_word w) (list_all is_key_word all) h).1
 
     behind : (front words : List (List ℕ)) → list_all is_key_word (front ++ words) ≡ true → list_all is_key_word words ≡ true
     behind [] words h = h
-    behind (w ∷ front) words h = behind front words ((both (is_key_word w) (list_all is_key_word (front ++ words)) h).1)
+    behind (w ∷ front) words h = behind front words ((and_parts (is_key_word w) (list_all is_key_word (front ++ words)) h).1)
 
     at_front : (words : List (List ℕ)) → 0 < length words → list_all is_key_word words ≡ true → is_key_word (word_at 0 words) ≡ true
     at_front [] some h = absurd (omega arith)
-    at_front (w ∷ words) some h = (both (is_key_word w) (list_all is_key_word words) h).0
+    at_front (w ∷ words) some h = (and_parts (is_key_word w) (list_all is_key_word words) h).0

@@ -1,18 +1,20 @@
 -- The grammar of scripts: the lines of a text, the statements among them, and the script that they spell.
-use Rattle.std.specs.Prelude.{ℕ, zero, suc, ◌≡◌, ◌+◌, ◌≤◌, ◌⊎◌, List, [], ◌∷◌, ◌++◌, map, filter, length, take, codes, Bool, true, false, ◌&&◌, not, ◌==◌, if◌then◌else◌, IsTrue}
+use Rattle.text_query.specs.Tokens.{is_space}
+use Rattle.std.specs.Prelude.{ℕ, zero, suc, ◌≡◌, ◌+◌, ◌≤◌, ◌⊎◌, List, [], ◌∷◌, ◌++◌, map, filter, length, take, codes, Bool, true, false, ◌&&◌, not, ◌==◌, if◌then◌else◌, IsTrue, bytes_eq}
 use Rattle.std.specs.List.{list_all}
 use Rattle.std.specs.Fmt.{decimal}
-use Rattle.nrt_base.specs.Bytes.{is_between, is_key, is_text, is_text_byte}
+use Rattle.nrt_base.specs.Bytes.{is_between, is_text_byte}
 use Rattle.nrt_base.specs.declared.numbers.LaneNo.{LaneNo}
 use Rattle.text_query.specs.Answers.{Parses}
 use Rattle.documents.specs.declared.query.Query.{Query}
+use Rattle.documents.specs.Words.{is_alphanumeric, words_of}
 use Rattle.history_entries.specs.declared.cause.FaultPlan.{FaultPlan}
 use Rattle.history_entries.specs.declared.cause.FaultPlan.TheVariants.{Link, Damage, Disk, Stop}
 use Rattle.script_serving.specs.declared.script.Force.{Force}
 use Rattle.script_serving.specs.declared.script.Force.TheVariants.{Auto, Exactly}
 use Rattle.script_serving.specs.declared.script.Line.{Line}
 use Rattle.script_serving.specs.declared.script.LineCommand.{LineCommand}
-use Rattle.script_serving.specs.declared.script.LineCommand.TheVariants.{Put, Delete, Publish, Copy, Settle, Search, Open, Ask, Close, Commit, Crash, Reopen, Promote, Merge, Drain, Files, Fault}
+use Rattle.script_serving.specs.declared.script.LineCommand.TheVariants.{Put, Delete, Drop, Publish, Copy, Settle, Search, Open, Ask, Close, Commit, Crash, Reopen, Promote, Merge, Drain, Files, Fault}
 use Rattle.script_serving.specs.declared.script.Phase.{Phase}
 use Rattle.script_serving.specs.declared.script.Script.{Script}
 use Rattle.script_serving.specs.Form.{is_command}
@@ -21,29 +23,31 @@ use Rattle.script_serving.specs.Form.{is_command}
 abbrev pub is_line_feed : ℕ → Bool
 is_line_feed b = b == 10
 
--- the byte that separates words
-abbrev pub is_space : ℕ → Bool
-is_space b = b == 32
-
 -- the first piece goes on with a byte in front
-abbrev pub with_first : ℕ → List (List ℕ) → List (List ℕ)
-with_first b [] = (b ∷ []) ∷ []
-with_first b (piece ∷ pieces) = (b ∷ piece) ∷ pieces
+abbrev pub with_byte : ℕ → List (List ℕ) → List (List ℕ)
+with_byte b [] = (b ∷ []) ∷ []
+with_byte b (piece ∷ pieces) = (b ∷ piece) ∷ pieces
 
 -- the lines of a text: each ends by a line feed, which the last may lack
 abbrev pub lines_of_text : List ℕ → List (List ℕ)
 lines_of_text [] = []
-lines_of_text (b ∷ bytes) = if is_line_feed b then [] ∷ lines_of_text bytes else with_first b (lines_of_text bytes)
+lines_of_text (b ∷ bytes) = if is_line_feed b then [] ∷ lines_of_text bytes else with_byte b (lines_of_text bytes)
 
 -- the word goes on where the next byte is no space
 abbrev pub join_word : ℕ → List ℕ → List (List ℕ) → List (List ℕ)
 join_word b [] words = (b ∷ []) ∷ words
-join_word b (c ∷ rest) words = if is_space c then (b ∷ []) ∷ words else with_first b words
+join_word b (c ∷ rest) words = if is_space c then (b ∷ []) ∷ words else with_byte b words
 
 -- the words of a line: its longest runs of bytes that are no spaces
 abbrev pub words_in : List ℕ → List (List ℕ)
 words_in [] = []
 words_in (b ∷ line) = if is_space b then words_in line else join_word b line (words_in line)
+
+-- the word at this place, counted from 0, or no bytes where there is none
+abbrev pub word_at : ℕ → List (List ℕ) → List ℕ
+word_at n [] = []
+word_at zero (word ∷ words) = word
+word_at (suc n) (word ∷ words) = word_at n words
 
 -- a line without the spaces at its front
 abbrev pub without_spaces : List ℕ → List ℕ
@@ -119,6 +123,7 @@ plan_words n (Stop k) = codes "stop" ∷ decimal n ∷ decimal k ∷ []
 abbrev pub command_words : LineCommand → List (List ℕ)
 command_words (Put doc) = codes "put" ∷ doc.key ∷ []
 command_words (Delete key) = codes "delete" ∷ key ∷ []
+command_words (Drop word) = codes "drop" ∷ word ∷ []
 command_words Publish = codes "publish" ∷ []
 command_words (Copy n) = codes "copy" ∷ decimal n.0 ∷ []
 command_words Settle = codes "settle" ∷ []
@@ -139,18 +144,20 @@ command_words (Fault n plan) = codes "fault" ∷ plan_words n.0 plan
 abbrev pub IsQueryText : List ℕ → Query → Type 0
 IsQueryText text query = (length text ≤ 4096) × Parses text query
 
+-- the line drops a word: it is the only word of the text that stands behind `drop`, which has letters and digits alone
+pub record IsDrop (line : List ℕ) (lane : ℕ) (word : List ℕ) : Type 0 where
+  pub written : List ℕ
+  pub words : words_in line ≡ decimal lane ∷ codes "drop" ∷ written ∷ []
+  pub letters : IsTrue (list_all is_alphanumeric written)
+  pub only : words_of written ≡ word ∷ []
+
 -- what stands behind the words of a command: the text of a put, the query of a search, and else nothing
 abbrev pub Ends : LineCommand → List ℕ → ℕ → Type 0
 Ends (Put doc) line lane = (take 3 (words_in line) ≡ decimal lane ∷ command_words (Put doc)) × (rest_behind 3 line ≡ doc.text)
+Ends (Drop word) line lane = IsDrop line lane word
 Ends (Search n query) line lane = (take 3 (words_in line) ≡ decimal lane ∷ command_words (Search n query)) × IsQueryText (rest_behind 3 line) query
 Ends (Ask t query) line lane = (take 3 (words_in line) ≡ decimal lane ∷ command_words (Ask t query)) × IsQueryText (rest_behind 3 line) query
 Ends command line lane = words_in line ≡ decimal lane ∷ command_words command
-
--- the key and the text of a command are such
-abbrev pub has_bytes : LineCommand → Bool
-has_bytes (Put doc) = is_key doc.key && is_text doc.text
-has_bytes (Delete key) = is_key key
-has_bytes command = true
 
 -- the statement spells the line, where the nodes are 1 to the size
 pub record SpellsLine (size : ℕ) (statement : Statement) (line : Line) : Type 0 where
@@ -158,7 +165,6 @@ pub record SpellsLine (size : ℕ) (statement : Statement) (line : Line) : Type 
   pub number : line.at.line.0 ≡ statement.number
   pub lane : IsTrue (is_between 1 8 line.at.lane.0)
   pub words : Ends line.command statement.line line.at.lane.0
-  pub bytes : IsTrue (has_bytes line.command)
   pub ranges : IsTrue (is_command size line.command)
 
 -- the line goes in front of the first phase
@@ -205,22 +211,52 @@ IsNodesHeader statement nodes = (words_in statement.line ≡ codes "nodes" ∷ d
 abbrev pub IsWorkersHeader : Statement → ℕ → Type 0
 IsWorkersHeader statement workers = (words_in statement.line ≡ codes "workers" ∷ decimal workers ∷ []) × (workers ≤ 8)
 
--- the statements behind the first spell the number of workers, 0 where they do not say it, and the phases
-abbrev pub SpellsBody : ℕ → ℕ → List Statement → List (List Line) → Type 0
-SpellsBody size workers [] phases = (workers ≡ 0) × (phases ≡ [] ∷ [])
-SpellsBody size workers (statement ∷ statements) phases =
-    (IsWorkersHeader statement workers × SpellsPhases size statements phases)
-    ⊎ ((workers ≡ 0) × SpellsPhases size (statement ∷ statements) phases)
+-- the statement is the header that asks for a log
+abbrev pub IsLogHeader : Statement → Type 0
+IsLogHeader statement = words_in statement.line ≡ codes "log" ∷ []
 
--- the statements spell the script: the header, then its phases
+-- the statements behind the other headers spell whether there is a log, and the phases
+abbrev pub SpellsLogged : ℕ → Bool → List Statement → List (List Line) → Type 0
+SpellsLogged size log [] phases = (log ≡ false) × (phases ≡ [] ∷ [])
+SpellsLogged size log (statement ∷ statements) phases =
+    ((log ≡ true) × IsLogHeader statement × SpellsPhases size statements phases)
+    ⊎ ((log ≡ false) × SpellsPhases size (statement ∷ statements) phases)
+
+-- the statements behind the first spell the number of workers, 0 where they do not say it, whether there is a log, and the phases
+abbrev pub SpellsBody : ℕ → ℕ → Bool → List Statement → List (List Line) → Type 0
+SpellsBody size workers log [] phases = (workers ≡ 0) × SpellsLogged size log [] phases
+SpellsBody size workers log (statement ∷ statements) phases =
+    (IsWorkersHeader statement workers × SpellsLogged size log statements phases)
+    ⊎ ((workers ≡ 0) × SpellsLogged size log (statement ∷ statements) phases)
+
+-- the statements spell the script: the headers, then its phases
 abbrev pub SpellsStatements : List Statement → Script → Type 0
 SpellsStatements [] script = ⊥
 SpellsStatements (statement ∷ statements) script =
     IsNodesHeader statement script.nodes
-    × ((phases : List (List Line)) × SpellsBody script.nodes script.workers statements phases × (script.phases ≡ map phase_of phases))
+    × ((phases : List (List Line)) × SpellsBody script.nodes script.workers script.log statements phases × (script.phases ≡ map phase_of phases))
+
+-- how many statements a script may have
+abbrev pub most_statements : Bool → ℕ
+most_statements false = 200000
+most_statements true = 10000
+
+-- the statement promotes: its second word says so
+abbrev pub is_promotion : List (List ℕ) → Bool
+is_promotion words = bytes_eq (codes "promote") (word_at 1 words)
+
+-- how many of the statements promote
+abbrev pub promotions_among : List Statement → ℕ
+promotions_among [] = 0
+promotions_among (statement ∷ statements) = (if is_promotion (words_in statement.line) then 1 else 0) + promotions_among statements
+
+-- so many statements, of which so many promote, are no more than a script may have
+pub record AreFew (log : Bool) (n promoting : ℕ) : Type 0 where
+  pub statements : n ≤ most_statements log
+  pub promotions : log ≡ true → promoting ≤ 64
 
 -- the bytes spell the script
 pub record SpellsScript (bytes : List ℕ) (script : Script) : Type 0 where
   pub short : length bytes ≤ 16777216
-  pub few : length (statements_of bytes) ≤ 200000
+  pub few : AreFew script.log (length (statements_of bytes)) (promotions_among (statements_of bytes))
   pub statements : SpellsStatements (statements_of bytes) script

@@ -1,3 +1,4 @@
+pub mod LogLaws
 pub mod Grammar
 pub mod Refused
 pub mod Exact

@@ -1,9 +1,10 @@
 -- What the steps of reading a script tell each other: the parts of a line, the command that it names, and what was read so far.
-use Rattle.std.specs.Prelude.{ℕ, zero, suc, ◌≡◌, ◌≤◌, ◌<◌, ◌+◌, ◌-◌, ◌^◌, List, [], ◌∷◌, ◌++◌, map, length, drop, codes, Bool, true, false, ◌&&◌, ◌||◌, ◌==◌, nat_lt, nat_le, if◌then◌else◌, Option, Some, None, Result, Ok, Err}
+use Rattle.std.specs.Prelude.{ℕ, zero, suc, ◌≡◌, ◌≤◌, ◌<◌, ◌+◌, ◌-◌, ◌^◌, List, [], ◌∷◌, ◌++◌, map, length, drop, codes, Bool, true, false, ◌&&◌, ◌||◌, ◌==◌, nat_lt, nat_le, if◌then◌else◌, Option, Some, None, Result, Ok, Err, bytes_eq}
 use Rattle.std.specs.List.{list_all}
 use Rattle.std.specs.Option.{option_map, option_and_then}
 use Rattle.std.specs.Fmt.{decimal}
-use Rattle.nrt_base.specs.Bytes.{is_between, is_key, is_key_byte, is_text}
+use Rattle.nrt_base.specs.Bytes.{is_between, is_key, is_key_byte, is_text, is_word}
+use Rattle.documents.specs.Words.{is_alphanumeric, words_of}
 use Rattle.nrt_base.specs.declared.doc.Doc.{Doc}
 use Rattle.nrt_base.specs.declared.numbers.LaneNo.{LaneNo}
 use Rattle.nrt_base.specs.declared.numbers.NodeNo.{NodeNo}
@@ -29,6 +30,7 @@ use Rattle.script_serving.specs.declared.script.LineCommand.{LineCommand}
 use Rattle.script_serving.specs.declared.script.LineCommand.TheVariants as asks
 use Rattle.script_serving.specs.declared.script.Phase.{Phase}
 use Rattle.script_serving.specs.declared.script.Script.{Script}
+use Rattle.script_text.specs.declared.counted.Counted.{Counted}
 use Rattle.script_text.specs.declared.shapes.Plain.{Plain}
 use Rattle.script_text.specs.declared.shapes.Plain.TheVariants as plain
 use Rattle.script_text.specs.declared.shapes.Name.{Name}
@@ -38,45 +40,39 @@ use Rattle.script_text.specs.declared.shapes.Asked.TheVariants as found
 use Rattle.script_text.specs.declared.lane_lines.Later.{Later}
 use Rattle.script_text.specs.declared.lane_lines.Later.TheVariants as later_read
 use Rattle.script_serving.specs.Form.{is_command}
-use Rattle.script_text.specs.Grammar.{Statement, statements_from, lines_of_text, words_in, rest_behind, Ends, has_bytes, SpellsLine, SpellsPhases, SpellsBody, SpellsScript, IsNodesHeader, IsWorkersHeader, IsJoin, phase_of}
-use Rattle.script_text.specs.Refused.{number, node, force, key, nothing, text, query, Shape, shape, Asked, missing, unknown, command, first, second, later, is_number_in, value_of, is_word, command_shapes, fault_shapes, shape_named, is_asked_in_range, asks_query, IsFirstCause, IsRight, RefusesAmong, IsFirstRefused, nodes_said}
+use Rattle.script_text.specs.Grammar.{Statement, statements_from, lines_of_text, words_in, word_at, rest_behind, Ends, SpellsLine, SpellsPhases, SpellsLogged, SpellsBody, SpellsScript, IsNodesHeader, IsWorkersHeader, IsLogHeader, IsJoin, phase_of, promotions_among, AreFew}
+use Rattle.script_text.specs.Refused.{number, node, force, key, letters, nothing, text, query, Shape, shape, Asked, missing, unknown, command, first, second, third, later, none_counted, is_headed, is_kind, is_number_in, value_of, command_shapes, fault_shapes, shape_named, is_asked_in_range, asks_query, IsFirstCause, IsRight, RefusesAmong, IsFirstRefused, nodes_said}
 
 -- the fault of a script whose line of this number is refused so
 abbrev pub fault_on : ℕ → Refusal → ScriptFault
 fault_on n refusal.Memory = script_fault.Memory
 fault_on n (refusal.Cause cause) = script_fault.BadScript (record { 0 = n }) cause
 
--- the word at this place, counted from 0, or no bytes where there is none
-abbrev pub word_at : ℕ → List (List ℕ) → List ℕ
-word_at n [] = []
-word_at zero (word ∷ words) = word
-word_at (suc n) (word ∷ words) = word_at n words
-
 -- the statement at the front of a text, its line, and the rest of the text: a text whose first line has the number `from` goes on at the next line
-pub record GoesOn (from : ℕ) (bytes : List ℕ) (n : ℕ) (line rest : List ℕ) : Type 0 where
+pub record IsNextStatement (from : ℕ) (bytes : List ℕ) (n : ℕ) (line rest : List ℕ) : Type 0 where
   pub statements : statements_from from (lines_of_text bytes) ≡ record { number = n; line = line } ∷ statements_from (n + 1) (lines_of_text rest)
   pub bounded : n + 1 + length rest ≤ from + length bytes
   pub shorter : length rest < length bytes
 
 -- the number of a word that is one in the range
-abbrev pub number_of : ℕ → ℕ → List ℕ → Option ℕ
-number_of low high word = if is_number_in low high word then Some (value_of word) else None
+abbrev pub number_within : ℕ → ℕ → List ℕ → Option ℕ
+number_within low high word = if is_number_in low high word then Some (value_of word) else None
 
 -- the node that a word names, where there are so many
-abbrev pub node_of : ℕ → List ℕ → Option NodeNo
-node_of size word = option_map (λ n. record { 0 = n }) (number_of 1 size word)
+abbrev pub node_named : ℕ → List ℕ → Option NodeNo
+node_named size word = option_map (λ n. record { 0 = n }) (number_within 1 size word)
 
 -- the ticket that a word names
-abbrev pub ticket_of : List ℕ → Option TicketNo
-ticket_of word = option_map (λ n. record { 0 = n }) (number_of 1 9999 word)
+abbrev pub ticket_named : List ℕ → Option TicketNo
+ticket_named word = option_map (λ n. record { 0 = n }) (number_within 1 9999 word)
 
 -- the lane that a word names
-abbrev pub lane_of : List ℕ → Option LaneNo
-lane_of word = option_map (λ n. record { 0 = n }) (number_of 1 8 word)
+abbrev pub lane_named : List ℕ → Option LaneNo
+lane_named word = option_map (λ n. record { 0 = n }) (number_within 1 8 word)
 
 -- the forced version that a word names
-abbrev pub force_of : List ℕ → Option Force
-force_of word = if is_word (codes "auto") word then Some Auto else option_map (λ n. Exactly n) (number_of 0 (2 ^ 64 - 1) word)
+abbrev pub force_named : List ℕ → Option Force
+force_named word = if bytes_eq (codes "auto") word then Some Auto else option_map (λ n. Exactly n) (number_within 0 (2 ^ 64 - 1) word)
 
 -- the shape of a command that is read without memory
 abbrev pub plain_shape : Plain → Shape
@@ -104,6 +100,7 @@ fault_shape kind.Stop = shape (codes "stop") (node ∷ number 1 1000000 ∷ []) 
 abbrev pub shape_of : Name → Shape
 shape_of named.Put = shape (codes "put") (key ∷ []) text
 shape_of named.Delete = shape (codes "delete") (key ∷ []) nothing
+shape_of named.Drop = shape (codes "drop") (letters ∷ []) nothing
 shape_of named.Search = shape (codes "search") (node ∷ []) query
 shape_of named.Ask = shape (codes "ask") (number 1 9999 ∷ []) query
 shape_of (named.Plain p) = plain_shape p
@@ -126,7 +123,7 @@ pub record IsFaultNamed (word : List ℕ) (n : Name) : Type 0 where
 
 -- the second half of the table of commands
 abbrev pub late_shapes : List Shape
-late_shapes = drop 8 command_shapes
+late_shapes = drop 9 command_shapes
 
 -- what the words behind a lane ask for, as it was found
 abbrev pub asked_of : Found → Asked
@@ -142,35 +139,34 @@ NamesFront words f = Unit {0}
 -- the command of these words behind its name, where they are in their ranges
 abbrev pub plain_command : ℕ → Plain → List ℕ → List ℕ → List ℕ → Option LineCommand
 plain_command size plain.Publish a b c = Some asks.Publish
-plain_command size plain.Copy a b c = option_map (λ n. asks.Copy n) (node_of size a)
+plain_command size plain.Copy a b c = option_map (λ n. asks.Copy n) (node_named size a)
 plain_command size plain.Settle a b c = Some asks.Settle
-plain_command size plain.Open a b c = option_and_then (λ n. option_map (λ t. asks.Open n t) (ticket_of b)) (node_of size a)
-plain_command size plain.Close a b c = option_map (λ t. asks.Close t) (ticket_of a)
-plain_command size plain.Commit a b c = option_map (λ n. asks.Commit n) (node_of size a)
-plain_command size plain.Crash a b c = option_and_then (λ n. option_map (λ pick. asks.Crash n pick) (number_of 0 (2 ^ 64 - 1) b)) (node_of size a)
-plain_command size plain.Reopen a b c = option_map (λ n. asks.Reopen n) (node_of size a)
-plain_command size plain.Promote a b c = option_and_then (λ n. option_map (λ f. asks.Promote n f) (force_of b)) (node_of size a)
-plain_command size plain.Merge a b c = option_map (λ n. asks.Merge n) (number_of 2 16 a)
-plain_command size plain.Drain a b c = option_map (λ n. asks.Drain n) (number_of 1 1000 a)
-plain_command size plain.Files a b c = option_map (λ n. asks.Files n) (node_of size a)
+plain_command size plain.Open a b c = option_and_then (λ n. option_map (λ t. asks.Open n t) (ticket_named b)) (node_named size a)
+plain_command size plain.Close a b c = option_map (λ t. asks.Close t) (ticket_named a)
+plain_command size plain.Commit a b c = option_map (λ n. asks.Commit n) (node_named size a)
+plain_command size plain.Crash a b c = option_and_then (λ n. option_map (λ pick. asks.Crash n pick) (number_within 0 (2 ^ 64 - 1) b)) (node_named size a)
+plain_command size plain.Reopen a b c = option_map (λ n. asks.Reopen n) (node_named size a)
+plain_command size plain.Promote a b c = option_and_then (λ n. option_map (λ f. asks.Promote n f) (force_named b)) (node_named size a)
+plain_command size plain.Merge a b c = option_map (λ n. asks.Merge n) (number_within 2 16 a)
+plain_command size plain.Drain a b c = option_map (λ n. asks.Drain n) (number_within 1 1000 a)
+plain_command size plain.Files a b c = option_map (λ n. asks.Files n) (node_named size a)
 
 -- the planned fault of these words behind its node, where they are in their ranges
 abbrev pub plan_of : FaultKind → List ℕ → List ℕ → Option FaultPlan
-plan_of kind.Link b c = option_map (λ k. plan.Link k) (number_of 1 1000000 b)
-plan_of kind.Damage b c = option_and_then (λ k. option_map (λ at. plan.Damage k at) (number_of 0 (2 ^ 32 - 1) c)) (number_of 1 1000000 b)
-plan_of kind.Disk b c = option_map (λ k. plan.Disk k) (number_of 1 1000000 b)
-plan_of kind.Stop b c = option_map (λ k. plan.Stop k) (number_of 1 1000000 b)
+plan_of kind.Link b c = option_map (λ k. plan.Link k) (number_within 1 1000000 b)
+plan_of kind.Damage b c = option_and_then (λ k. option_map (λ at. plan.Damage k at) (number_within 0 (2 ^ 32 - 1) c)) (number_within 1 1000000 b)
+plan_of kind.Disk b c = option_map (λ k. plan.Disk k) (number_within 1 1000000 b)
+plan_of kind.Stop b c = option_map (λ k. plan.Stop k) (number_within 1 1000000 b)
 
 -- the command that plans a fault, where its words are in their ranges
 abbrev pub fault_command : ℕ → FaultKind → List ℕ → List ℕ → List ℕ → Option LineCommand
-fault_command size k a b c = option_and_then (λ n. option_map (λ p. asks.Fault n p) (plan_of k b c)) (node_of size a)
+fault_command size k a b c = option_and_then (λ n. option_map (λ p. asks.Fault n p) (plan_of k b c)) (node_named size a)
 
 -- the command that was read of a line, whose words behind the name are these
 pub record IsCommandOf (size : ℕ) (n : Name) (line : List ℕ) (words : List (List ℕ)) (read : LineCommand) : Type 0 where
   pub in_range : is_asked_in_range size (rest_behind 3 line) (command (shape_of n) words) ≡ true
   pub no_fault : (fault : QueryFault) → asks_query (command (shape_of n) words) ≡ true → IsFault (rest_behind 3 line) fault → ⊥
   pub ends : (lane : ℕ) → words_in line ≡ decimal lane ∷ (front_of n ++ words) → Ends read line lane
-  pub bytes : has_bytes read ≡ true
   pub ranges : is_command size read ≡ true
 
 -- a word of a line: not empty, and without spaces and unprintable bytes
@@ -206,10 +202,17 @@ IsKeyRead word (Err refusal.Memory) = Unit {0}
 IsKeyRead word (Err (refusal.Cause Range)) = nat_le (length word) 64 ≡ false
 IsKeyRead word (Err (refusal.Cause cause)) = ⊥
 
+-- what reading the word to drop gives, as it is written
+abbrev pub IsDropRead : List ℕ → Result (List ℕ) Refusal → Type 0
+IsDropRead written (Ok read) = (is_kind 0 letters written ≡ true) × (words_of written ≡ read ∷ []) × (is_word read ≡ true)
+IsDropRead written (Err refusal.Memory) = Unit {0}
+IsDropRead written (Err (refusal.Cause Range)) = is_kind 0 letters written ≡ false
+IsDropRead written (Err (refusal.Cause cause)) = ⊥
+
 -- what reading a search at the node of a word gives
 abbrev pub IsSearchRead : ℕ → List ℕ → List ℕ → Result LineCommand Refusal → Type 0
 IsSearchRead size line word (Ok read) =
-    (n : NodeNo) × (q : Query) × (node_of size word ≡ Some n) × (read ≡ asks.Search n q) × IsQueryRead line (Ok q)
+    (n : NodeNo) × (q : Query) × (node_named size word ≡ Some n) × (read ≡ asks.Search n q) × IsQueryRead line (Ok q)
 IsSearchRead size line word (Err refusal.Memory) = Unit {0}
 IsSearchRead size line word (Err (refusal.Cause Range)) = (is_number_in 1 size word && has_short_rest line) ≡ false
 IsSearchRead size line word (Err (refusal.Cause (RefusedQuery fault))) =
@@ -219,7 +222,7 @@ IsSearchRead size line word (Err (refusal.Cause cause)) = ⊥
 -- what reading a search at the ticket of a word gives
 abbrev pub IsAskRead : List ℕ → List ℕ → Result LineCommand Refusal → Type 0
 IsAskRead line word (Ok read) =
-    (t : TicketNo) × (q : Query) × (ticket_of word ≡ Some t) × (read ≡ asks.Ask t q) × IsQueryRead line (Ok q)
+    (t : TicketNo) × (q : Query) × (ticket_named word ≡ Some t) × (read ≡ asks.Ask t q) × IsQueryRead line (Ok q)
 IsAskRead line word (Err refusal.Memory) = Unit {0}
 IsAskRead line word (Err (refusal.Cause Range)) = (is_number_in 1 9999 word && has_short_rest line) ≡ false
 IsAskRead line word (Err (refusal.Cause (RefusedQuery fault))) =
@@ -241,17 +244,17 @@ IsCommandRead size n line words (Err (refusal.Cause (RefusedQuery fault))) =
 IsCommandRead size n line words (Err (refusal.Cause cause)) = ⊥
 
 -- what reading a line of a lane gives
-abbrev pub IsLineRead : ℕ → ℕ → Statement → Result Line Refusal → Type 0
-IsLineRead size before statement (Ok line) = IsRight (later size) before statement × SpellsLine size statement line
-IsLineRead size before statement (Err refusal.Memory) = Unit {0}
-IsLineRead size before statement (Err (refusal.Cause cause)) = IsFirstCause (later size) before statement cause
+abbrev pub IsLineRead : ℕ → Bool → Counted → Statement → Result Line Refusal → Type 0
+IsLineRead size log before statement (Ok line) = IsRight (later size log) before statement × SpellsLine size statement line
+IsLineRead size log before statement (Err refusal.Memory) = Unit {0}
+IsLineRead size log before statement (Err (refusal.Cause cause)) = IsFirstCause (later size log) before statement cause
 
 -- what reading a statement gives that is no header: its line, that it is a join, or the first cause
-abbrev pub IsLaterRead : ℕ → ℕ → Statement → Result Later Refusal → Type 0
-IsLaterRead size before statement (Ok later_read.Join) = IsRight (later size) before statement × IsJoin statement
-IsLaterRead size before statement (Ok (later_read.Line line)) = IsRight (later size) before statement × SpellsLine size statement line
-IsLaterRead size before statement (Err refusal.Memory) = Unit {0}
-IsLaterRead size before statement (Err (refusal.Cause cause)) = IsFirstCause (later size) before statement cause
+abbrev pub IsLaterRead : ℕ → Bool → Counted → Statement → Result Later Refusal → Type 0
+IsLaterRead size log before statement (Ok later_read.Join) = IsRight (later size log) before statement × IsJoin statement
+IsLaterRead size log before statement (Ok (later_read.Line line)) = IsRight (later size log) before statement × SpellsLine size statement line
+IsLaterRead size log before statement (Err refusal.Memory) = Unit {0}
+IsLaterRead size log before statement (Err (refusal.Cause cause)) = IsFirstCause (later size log) before statement cause
 
 -- a statement behind those of the phases that have ended and of the lines of the last phase
 abbrev pub TakesLater : Later → List Phase → List Line → List Phase → List Line → Type 0
@@ -259,18 +262,18 @@ TakesLater later_read.Join phases lines phases' lines' = (phases' ≡ phases ++ 
 TakesLater (later_read.Line line) phases lines phases' lines' = (phases' ≡ phases) × (lines' ≡ lines ++ line ∷ [])
 
 -- the phases that statements spell, which have so many statements before them
-pub record ReadsPhases (size before : ℕ) (statements : List Statement) (phases : List Phase) : Type 0 where
+pub record ReadsPhases (size : ℕ) (log : Bool) (before : Counted) (statements : List Statement) (phases : List Phase) : Type 0 where
   pub lines : List (List Line)
   pub spelled : SpellsPhases size statements lines
   pub phased : phases ≡ map phase_of lines
-  pub few : before + length statements ≤ 200000
+  pub few : AreFew log (before.statements + length statements) (before.promotions + promotions_among statements)
 
 -- what reading the statements behind the headers gives
-abbrev pub ArePhasesRead : ℕ → ℕ → List Statement → Result (List Phase) ScriptFault → Type 0
-ArePhasesRead size before statements (Ok phases) = ReadsPhases size before statements phases
-ArePhasesRead size before statements (Err script_fault.Memory) = Unit {0}
-ArePhasesRead size before statements (Err script_fault.TooLarge) = ⊥
-ArePhasesRead size before statements (Err (script_fault.BadScript n cause)) = RefusesAmong (later size) before statements n.0 cause
+abbrev pub ArePhasesRead : ℕ → Bool → Counted → List Statement → Result (List Phase) ScriptFault → Type 0
+ArePhasesRead size log before statements (Ok phases) = ReadsPhases size log before statements phases
+ArePhasesRead size log before statements (Err script_fault.Memory) = Unit {0}
+ArePhasesRead size log before statements (Err script_fault.TooLarge) = ⊥
+ArePhasesRead size log before statements (Err (script_fault.BadScript n cause)) = RefusesAmong (later size log) before statements n.0 cause
 
 -- what reading the number of a header gives, with these words behind the header's name
 abbrev pub IsHeaderRead : ℕ → ℕ → List (List ℕ) → Result ℕ LineFault → Type 0
@@ -282,52 +285,70 @@ IsHeaderRead low high words (Err cause) = ⊥
 
 -- what reading the first statement gives
 abbrev pub IsNodesRead : Statement → Result ℕ LineFault → Type 0
-IsNodesRead statement (Ok n) = IsRight first 0 statement × IsNodesHeader statement n × (n ≡ nodes_said (words_in statement.line))
-IsNodesRead statement (Err cause) = IsFirstCause first 0 statement cause
+IsNodesRead statement (Ok n) = IsRight first none_counted statement × IsNodesHeader statement n × (n ≡ nodes_said (words_in statement.line))
+IsNodesRead statement (Err cause) = IsFirstCause first none_counted statement cause
+
+-- so many headers stand before a statement
+abbrev pub headers_counted : ℕ → Counted
+headers_counted n = record { statements = n; promotions = 0 }
 
 -- what reading the statement of the workers gives, however many nodes there are
 abbrev pub IsWorkersRead : Statement → Result ℕ LineFault → Type 0
-IsWorkersRead statement (Ok n) = ((size : ℕ) → IsRight (second size) 1 statement) × IsWorkersHeader statement n
-IsWorkersRead statement (Err cause) = (size : ℕ) → IsFirstCause (second size) 1 statement cause
+IsWorkersRead statement (Ok n) = ((size : ℕ) → IsRight (second size) (headers_counted 1) statement) × IsWorkersHeader statement n
+IsWorkersRead statement (Err cause) = (size : ℕ) → IsFirstCause (second size) (headers_counted 1) statement cause
 
--- the first word is `workers`
-abbrev pub is_workers_line : List (List ℕ) → Bool
-is_workers_line [] = false
-is_workers_line (word ∷ words) = is_word (codes "workers") word
+-- what reading the statement of the log gives, behind so many headers
+abbrev pub IsLogRead : ℕ → ℕ → Statement → Result (Unit {0}) LineFault → Type 0
+IsLogRead size before statement (Ok read) = IsRight (third size) (headers_counted before) statement × IsLogHeader statement
+IsLogRead size before statement (Err cause) = IsFirstCause (third size) (headers_counted before) statement cause
 
--- the first of these statements, if there is one, is not that of the workers
-abbrev pub SaysNoWorkers : List Statement → Type 0
-SaysNoWorkers [] = Unit {0}
-SaysNoWorkers (statement ∷ statements) = is_workers_line (words_in statement.line) ≡ false
+-- the first of these statements, if there is one, has another first word
+abbrev pub SaysNoHeader : List ℕ → List Statement → Type 0
+SaysNoHeader name [] = Unit {0}
+SaysNoHeader name (statement ∷ statements) = is_headed name (words_in statement.line) ≡ false
 
--- the statement of the workers at the front of a text, what it has behind its first word, and the rest of the text
-pub record SaysWorkers (from : ℕ) (bytes : List ℕ) (n : ℕ) (line behind rest : List ℕ) : Type 0 where
-  pub goes_on : GoesOn from bytes n line rest
-  pub words : words_in line ≡ codes "workers" ∷ words_in behind
+-- the header of this name at the front of a text, what it has behind the name, and the rest of the text
+pub record SaysHeader (name : List ℕ) (from : ℕ) (bytes : List ℕ) (n : ℕ) (line behind rest : List ℕ) : Type 0 where
+  pub next : IsNextStatement from bytes n line rest
+  pub words : words_in line ≡ name ∷ words_in behind
+
+-- the log and the phases that the statements behind the other headers spell, which have so many headers before them
+pub record ReadsLogged (size before : ℕ) (statements : List Statement) (log : Bool) (phases : List Phase) : Type 0 where
+  pub lines : List (List Line)
+  pub spelled : SpellsLogged size log statements lines
+  pub phased : phases ≡ map phase_of lines
+  pub few : AreFew log (before + length statements) (promotions_among statements)
+
+-- what reading the statements behind the other headers gives
+abbrev pub IsLoggedRead : ℕ → ℕ → List Statement → Result (Bool × List Phase) ScriptFault → Type 0
+IsLoggedRead size before statements (Ok (log, phases)) = ReadsLogged size before statements log phases
+IsLoggedRead size before statements (Err script_fault.Memory) = Unit {0}
+IsLoggedRead size before statements (Err script_fault.TooLarge) = ⊥
+IsLoggedRead size before statements (Err (script_fault.BadScript n cause)) = RefusesAmong (third size) (headers_counted before) statements n.0 cause
 
 -- the script whose statements behind the first are these
 pub record ReadsBody (size : ℕ) (statements : List Statement) (script : Script) : Type 0 where
   pub lines : List (List Line)
   pub nodes : script.nodes ≡ size
-  pub spelled : SpellsBody size script.workers statements lines
+  pub spelled : SpellsBody size script.workers script.log statements lines
   pub phased : script.phases ≡ map phase_of lines
-  pub few : 1 + length statements ≤ 200000
+  pub few : AreFew script.log (1 + length statements) (promotions_among statements)
 
 -- what reading the statements behind the first gives
 abbrev pub IsBodyRead : ℕ → List Statement → Result Script ScriptFault → Type 0
 IsBodyRead size statements (Ok script) = ReadsBody size statements script
 IsBodyRead size statements (Err script_fault.Memory) = Unit {0}
 IsBodyRead size statements (Err script_fault.TooLarge) = ⊥
-IsBodyRead size statements (Err (script_fault.BadScript n cause)) = RefusesAmong (second size) 1 statements n.0 cause
+IsBodyRead size statements (Err (script_fault.BadScript n cause)) = RefusesAmong (second size) (headers_counted 1) statements n.0 cause
 
 -- what is answered to the bytes of a script; want of memory may always come
-abbrev pub IsAnswer : List ℕ → Result Script ScriptFault → Type 0
-IsAnswer bytes (Ok script) = SpellsScript bytes script
-IsAnswer bytes (Err script_fault.Memory) = length bytes ≤ 16777216
-IsAnswer bytes (Err script_fault.TooLarge) = 16777216 < length bytes
-IsAnswer bytes (Err (script_fault.BadScript n cause)) = IsFirstRefused bytes n.0 cause
+abbrev pub IsScriptAnswer : List ℕ → Result Script ScriptFault → Type 0
+IsScriptAnswer bytes (Ok script) = SpellsScript bytes script
+IsScriptAnswer bytes (Err script_fault.Memory) = length bytes ≤ 16777216
+IsScriptAnswer bytes (Err script_fault.TooLarge) = 16777216 < length bytes
+IsScriptAnswer bytes (Err (script_fault.BadScript n cause)) = IsFirstRefused bytes n.0 cause
 
 -- the program runs a line of lane 1 with these words behind the lane
 abbrev pub is_built_command : List ℕ → List ℕ → Bool
 is_built_command name next =
-    is_word (codes "put") name || is_word (codes "publish") name || (is_word (codes "copy") name && is_word (codes "2") next) || is_word (codes "search") name
+    bytes_eq (codes "put") name || bytes_eq (codes "drop") name || bytes_eq (codes "publish") name || (bytes_eq (codes "copy") name && bytes_eq (codes "2") next) || bytes_eq (codes "search") name

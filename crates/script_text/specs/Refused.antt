@@ -1,16 +1,13 @@
 -- Which line of a text is the first that is refused, and why.
-use Rattle.std.specs.Prelude.{ℕ, ◌≡◌, ◌+◌, ◌-◌, ◌*◌, ◌≤◌, ◌<◌, ◌^◌, ◌⊎◌, List, [], ◌∷◌, length, codes, nat_eq, nat_lt, nat_le, Bool, true, false, ◌&&◌, ◌||◌, not, ◌==◌, if◌then◌else◌, Option, Some, None}
+use Rattle.std.specs.Prelude.{ℕ, ◌≡◌, ◌+◌, ◌-◌, ◌*◌, ◌≤◌, ◌<◌, ◌^◌, ◌⊎◌, List, [], ◌∷◌, length, codes, nat_eq, nat_lt, nat_le, Bool, true, false, ◌&&◌, ◌||◌, not, ◌==◌, if◌then◌else◌, Option, Some, None, bytes_eq}
 use Rattle.std.specs.List.{list_all}
-use Rattle.std.specs.Cmp.Lexicographic.{pointwise}
 use Rattle.nrt_base.specs.Bytes.{is_between}
 use Rattle.text_query.specs.Answers.{IsFault}
 use Rattle.script_text.specs.declared.fault.LineFault.{LineFault}
 use Rattle.script_text.specs.declared.fault.LineFault.TheVariants.{NoNodes, Word, Count, Range, Query as RefusedQuery, Text, NotBuilt}
-use Rattle.script_text.specs.Grammar.{Statement, statements_of, lines_of_text, words_in, rest_behind, is_printable}
-
--- the two are one word
-abbrev pub is_word : List ℕ → List ℕ → Bool
-is_word name word = pointwise nat_eq name word
+use Rattle.script_text.specs.declared.counted.Counted.{Counted}
+use Rattle.documents.specs.Words.{is_alphanumeric}
+use Rattle.script_text.specs.Grammar.{Statement, statements_of, lines_of_text, words_in, word_at, rest_behind, is_printable, most_statements, is_promotion}
 
 -- the byte is a decimal digit
 abbrev pub is_digit : ℕ → Bool
@@ -39,12 +36,13 @@ value_of digits = value_from 0 digits
 abbrev pub is_number_in : ℕ → ℕ → List ℕ → Bool
 is_number_in low high word = is_number word && is_between low high (value_of word)
 
--- what a word of a command is to be: a number in a range, a node, a forced version, or a key
+-- what a word of a command is to be: a number in a range, a node, a forced version, a key, or letters and digits
 pub data Kind : Type 0 where
   number : ℕ → ℕ → Kind
   node : Kind
   force : Kind
   key : Kind
+  letters : Kind
 
 -- what may follow the words of a command
 pub data Tail : Type 0 where
@@ -67,6 +65,7 @@ abbrev pub command_shapes : List Shape
 command_shapes =
     shape (codes "put") (key ∷ []) text
     ∷ shape (codes "delete") (key ∷ []) nothing
+    ∷ shape (codes "drop") (letters ∷ []) nothing
     ∷ shape (codes "publish") [] nothing
     ∷ shape (codes "copy") (node ∷ []) nothing
     ∷ shape (codes "settle") [] nothing
@@ -95,7 +94,7 @@ fault_shapes =
 -- the shape of this name
 abbrev pub shape_named : List ℕ → List Shape → Option Shape
 shape_named name [] = None
-shape_named name (s ∷ shapes) = if is_word s.name name then Some s else shape_named name shapes
+shape_named name (s ∷ shapes) = if bytes_eq s.name name then Some s else shape_named name shapes
 
 -- what the words behind a lane ask for
 pub data Asked : Type 0 where
@@ -119,19 +118,26 @@ fault_asked (kind ∷ words) = asked_by (shape_named kind fault_shapes) words
 -- what the words behind a lane ask for
 abbrev pub asked : List (List ℕ) → Asked
 asked [] = missing
-asked (name ∷ words) = if is_word (codes "fault") name then fault_asked words else asked_by (shape_named name command_shapes) words
+asked (name ∷ words) = if bytes_eq (codes "fault") name then fault_asked words else asked_by (shape_named name command_shapes) words
 
--- the place of a statement: the first, the second, or a later one; the nodes are 1 to the size
+-- the place of a statement: the first, behind the nodes, behind the workers, or behind all headers, with a log or without; the nodes are 1 to the size
 pub data Place : Type 0 where
   first : Place
   second : ℕ → Place
-  later : ℕ → Place
+  third : ℕ → Place
+  later : ℕ → Bool → Place
+
+-- the script is known to have a log
+abbrev pub has_log : Place → Bool
+has_log (later size log) = log
+has_log place = false
 
 -- what a statement is by its first word: a header, a join, a line of a lane, or nothing that is allowed at its place
 pub data Form : Type 0 where
   no_nodes : Form
   nodes_header : List (List ℕ) → Form
   workers_header : List (List ℕ) → Form
+  log_header : List (List ℕ) → Form
   join : List (List ℕ) → Form
   lane_line : ℕ → List ℕ → List (List ℕ) → Form
   no_form : Form
@@ -139,15 +145,20 @@ pub data Form : Type 0 where
 -- what a statement behind the headers is, by its first word
 abbrev pub later_form : ℕ → List ℕ → List (List ℕ) → Form
 later_form size word words =
-    if is_word (codes "join") word then join words
+    if bytes_eq (codes "join") word then join words
     else if is_digits word then lane_line size word words else no_form
+
+-- what a statement is, by its first word, where a log may still be asked for
+abbrev pub logged_form : ℕ → List ℕ → List (List ℕ) → Form
+logged_form size word words = if bytes_eq (codes "log") word then log_header words else later_form size word words
 
 -- what a statement is at a place, by its words
 abbrev pub form_of : Place → List (List ℕ) → Form
 form_of place [] = no_form
-form_of first (word ∷ words) = if is_word (codes "nodes") word then nodes_header words else no_nodes
-form_of (second size) (word ∷ words) = if is_word (codes "workers") word then workers_header words else later_form size word words
-form_of (later size) (word ∷ words) = later_form size word words
+form_of first (word ∷ words) = if bytes_eq (codes "nodes") word then nodes_header words else no_nodes
+form_of (second size) (word ∷ words) = if bytes_eq (codes "workers") word then workers_header words else logged_form size word words
+form_of (third size) (word ∷ words) = logged_form size word words
+form_of (later size log) (word ∷ words) = later_form size word words
 
 -- the form of a statement at a place
 abbrev pub form_at : Place → Statement → Form
@@ -180,6 +191,7 @@ is_miscounted (command s words) = is_too_few_or_many s.tail (length s.words) (le
 abbrev pub has_wrong_count : Form → Bool
 has_wrong_count (nodes_header words) = not (length words == 1)
 has_wrong_count (workers_header words) = not (length words == 1)
+has_wrong_count (log_header words) = not (length words == 0)
 has_wrong_count (join words) = not (length words == 0)
 has_wrong_count (lane_line size lane words) = is_miscounted (asked words)
 has_wrong_count form = false
@@ -188,8 +200,9 @@ has_wrong_count form = false
 abbrev pub is_kind : ℕ → Kind → List ℕ → Bool
 is_kind size (number low high) word = is_number_in low high word
 is_kind size node word = is_number_in 1 size word
-is_kind size force word = is_word (codes "auto") word || is_number_in 0 (2 ^ 64 - 1) word
+is_kind size force word = bytes_eq (codes "auto") word || is_number_in 0 (2 ^ 64 - 1) word
 is_kind size key word = nat_le (length word) 64
+is_kind size letters word = is_between 1 64 (length word) && list_all is_alphanumeric word
 
 -- each of the words that there are is what it is to be
 abbrev pub are_kinds : ℕ → List Kind → List (List ℕ) → Bool
@@ -228,17 +241,22 @@ abbrev pub has_query : Form → Bool
 has_query (lane_line size lane words) = asks_query (asked words)
 has_query form = false
 
+-- a statement of these words is none too many, with so many before it: with a log there may be fewer, and 64 promotions
+abbrev pub has_room : Bool → Counted → List (List ℕ) → Bool
+has_room log before words =
+    nat_lt before.statements (most_statements log) && (not log || (nat_lt before.promotions 64 || not (is_promotion words)))
+
 -- where each cause holds of a statement that has so many before it, whatever else is wrong
-abbrev pub HasCause : Place → ℕ → Statement → LineFault → Type 0
-HasCause place before statement Text = is_printable statement.line ≡ false
-HasCause place before statement NoNodes = form_at place statement ≡ no_nodes
-HasCause place before statement Word = has_wrong_word (form_at place statement) ≡ true
-HasCause place before statement Count = has_wrong_count (form_at place statement) ≡ true
-HasCause place before statement Range =
-    (is_in_range (form_at place statement) statement.line && nat_lt before 200000) ≡ false
-HasCause place before statement (RefusedQuery fault) =
+abbrev pub CauseHolds : Place → Counted → Statement → LineFault → Type 0
+CauseHolds place before statement Text = is_printable statement.line ≡ false
+CauseHolds place before statement NoNodes = form_at place statement ≡ no_nodes
+CauseHolds place before statement Word = has_wrong_word (form_at place statement) ≡ true
+CauseHolds place before statement Count = has_wrong_count (form_at place statement) ≡ true
+CauseHolds place before statement Range =
+    (is_in_range (form_at place statement) statement.line && has_room (has_log place) before (words_in statement.line)) ≡ false
+CauseHolds place before statement (RefusedQuery fault) =
     (has_query (form_at place statement) ≡ true) × IsFault (rest_behind 3 statement.line) fault
-HasCause place before statement NotBuilt = ⊥
+CauseHolds place before statement NotBuilt = ⊥
 
 -- the order in which causes are looked for
 abbrev pub order_of : LineFault → ℕ
@@ -251,36 +269,54 @@ order_of (RefusedQuery fault) = 6
 order_of NotBuilt = 7
 
 -- the cause holds of the statement, and none before it does
-pub record IsFirstCause (place : Place) (before : ℕ) (statement : Statement) (cause : LineFault) : Type 0 where
-  pub holds : HasCause place before statement cause
-  pub first_one : (other : LineFault) → order_of other < order_of cause → HasCause place before statement other → ⊥
+pub record IsFirstCause (place : Place) (before : Counted) (statement : Statement) (cause : LineFault) : Type 0 where
+  pub holds : CauseHolds place before statement cause
+  pub first_one : (other : LineFault) → order_of other < order_of cause → CauseHolds place before statement other → ⊥
 
 -- no cause holds of the statement
-abbrev pub IsRight : Place → ℕ → Statement → Type 0
-IsRight place before statement = (cause : LineFault) → HasCause place before statement cause → ⊥
+abbrev pub IsRight : Place → Counted → Statement → Type 0
+IsRight place before statement = (cause : LineFault) → CauseHolds place before statement cause → ⊥
 
 -- how many nodes a right first statement says that there are
 abbrev pub nodes_said : List (List ℕ) → ℕ
 nodes_said (name ∷ word ∷ words) = value_of word
 nodes_said words = 0
 
+-- the first word is this
+abbrev pub is_headed : List ℕ → List (List ℕ) → Bool
+is_headed name [] = false
+is_headed name (word ∷ words) = bytes_eq name word
+
 -- the place behind a right statement
 abbrev pub next_place : Place → Statement → Place
 next_place first statement = second (nodes_said (words_in statement.line))
-next_place (second size) statement = later size
-next_place (later size) statement = later size
+next_place (second size) statement =
+    if is_headed (codes "workers") (words_in statement.line) then third size else later size (is_headed (codes "log") (words_in statement.line))
+next_place (third size) statement = later size (is_headed (codes "log") (words_in statement.line))
+next_place (later size log) statement = later size log
+
+-- a statement more
+abbrev pub counted_with : Counted → Statement → Counted
+counted_with before statement = record {
+  statements = before.statements + 1;
+  promotions = before.promotions + (if is_promotion (words_in statement.line) then 1 else 0);
+}
+
+-- no statement yet
+abbrev pub none_counted : Counted
+none_counted = record { statements = 0; promotions = 0 }
 
 -- of these statements, which have so many before them, the first that is refused has this line number and this cause
-abbrev pub RefusesAmong : Place → ℕ → List Statement → ℕ → LineFault → Type 0
+abbrev pub RefusesAmong : Place → Counted → List Statement → ℕ → LineFault → Type 0
 RefusesAmong place before [] n cause = ⊥
 RefusesAmong place before (statement ∷ statements) n cause =
     ((n ≡ statement.number) × IsFirstCause place before statement cause)
-    ⊎ (IsRight place before statement × RefusesAmong (next_place place statement) (before + 1) statements n cause)
+    ⊎ (IsRight place before statement × RefusesAmong (next_place place statement) (counted_with before statement) statements n cause)
 
 -- where there is no statement, the line after the last is refused, since the number of nodes is not said
 abbrev pub RefusesStatements : ℕ → List Statement → ℕ → LineFault → Type 0
 RefusesStatements lines [] n cause = (n ≡ lines + 1) × (cause ≡ NoNodes)
-RefusesStatements lines (statement ∷ statements) n cause = RefusesAmong first 0 (statement ∷ statements) n cause
+RefusesStatements lines (statement ∷ statements) n cause = RefusesAmong first none_counted (statement ∷ statements) n cause
 
 -- line n of the text is the first that is refused, for this cause
 pub record IsFirstRefused (bytes : List ℕ) (n : ℕ) (cause : LineFault) : Type 0 where

@@ -1,21 +1,26 @@
 ghost use Rattle.std.specs.Prelude.{◌≡◌, ◌++◌, length, drop, IsTrue, false};
+ghost use Rattle.std.specs.List.{list_all};
 ghost use Rattle.script_text.specs.Grammar.{words_in, is_printable as is_printable_lem};
-ghost use Rattle.script_text.specs.Refused.{is_too_few_or_many};
-ghost use Rattle.script_text.specs.Reading.{shape_of, front_of, plain_command, plan_of, fault_command, is_key_word, IsQueryRead, IsDocRead, IsKeyRead, IsSearchRead, IsAskRead, in_range as in_range_lem, IsCommandRead};
+ghost use Rattle.documents.specs.Words.{is_alphanumeric};
+ghost use Rattle.script_text.specs.Refused.{is_too_few_or_many, is_kind, letters};
+ghost use Rattle.script_text.specs.Reading.{shape_of, front_of, plain_command, plan_of, fault_command, is_key_word, IsQueryRead, IsDocRead, IsKeyRead, IsDropRead, IsSearchRead, IsAskRead, in_range as in_range_lem, IsCommandRead};
 
 use crate::fault::{LineFault, Refusal};
 use crate::numbers::{force, node, number_u32, number_u64, ticket};
-use script_serving::LineCommand;
 use crate::shapes::{Name, Plain};
 use crate::words::{Words, first_words, rest_behind};
-use nrt_base::{Doc, Key, Text};
-use documents::Query;
+use documents::{Query, words};
 use history_entries::{FaultKind, FaultPlan};
+use nrt_base::{Doc, Key, Text, Word};
+use script_serving::LineCommand;
 use std::alloc::Global;
 use text_query::{QueryFault, parse_query};
 
 /// The longest key, in bytes.
 const LONGEST_KEY: usize = 64;
+
+/// The longest word that a line drops, in bytes.
+const LONGEST_WORD: usize = 64;
 
 /// The longest text and the longest query, in bytes.
 const LONGEST_TEXT: usize = 4096;
@@ -105,6 +110,38 @@ fn read_key(alloc: Global, word: &[u8]) -> Result<Key, Refusal>
     Ok(Key::new(alloc, word)?)
 }
 
+fn is_letter_or_digit(byte: u8) -> bool
+    ensures { result ≡ is_alphanumeric byte }
+{
+    byte.is_ascii_alphanumeric()
+}
+
+fn are_letters(word: &[u8]) -> bool
+    ensures { result ≡ list_all is_alphanumeric word.now }
+{
+    word.iter().all(|b| is_letter_or_digit(*b))
+}
+
+/// Whether a word has letters and digits alone, and is short enough to be dropped.
+fn is_letters(word: &[u8]) -> bool
+    ensures { result ≡ is_kind 0 letters word.now }
+{
+    matches!(word.len(), 1..=LONGEST_WORD) && are_letters(word)
+}
+
+/// The word that a line drops, where it is written so.
+fn read_drop(alloc: Global, written: &[u8]) -> Result<Word, Refusal>
+    ensures { IsDropRead written.now result }
+{
+    if !is_letters(written) {
+        return Err(Refusal::Cause(LineFault::Range));
+    }
+    match words(alloc, written)?.pop() {
+        Some(word) => Ok(word),
+        None => unreachable!(),
+    }
+}
+
 /// The search at the node of this word.
 fn read_search(alloc: Global, nodes: u8, line: &[u8], word: &[u8]) -> Result<LineCommand, Refusal>
     ensures { IsSearchRead nodes line.now word.now result }
@@ -152,6 +189,7 @@ pub fn read_command(
     match name {
         Name::Put => Ok(LineCommand::Put(read_doc(alloc, line, words.first)?)),
         Name::Delete => Ok(LineCommand::Delete(read_key(alloc, words.first)?)),
+        Name::Drop => Ok(LineCommand::Drop(read_drop(alloc, words.first)?)),
         Name::Search => read_search(alloc, nodes, line, words.first),
         Name::Ask => read_ask(alloc, line, words.first),
         Name::Plain(plain) => in_range(read_plain(nodes, plain, words)),

@@ -1,20 +1,18 @@
-ghost use Rattle.std.specs.Prelude.{◌≡◌, ◌∷◌, IsTrue, true, false, codes};
+ghost use Rattle.std.specs.Prelude.{◌≡◌, ◌∷◌, IsTrue, true, false, codes, bytes_eq};
 ghost use Rattle.script_text.specs.Grammar.{words_in, is_printable as is_printable_lem};
-ghost use Rattle.script_text.specs.Refused.{is_digits as is_digits_lem, is_word as is_word_lem};
+ghost use Rattle.script_text.specs.Refused.{is_digits as is_digits_lem};
 ghost use Rattle.script_text.specs.Reading.{IsLaterRead, IsLineRead};
 
 use crate::command::read_command;
+use crate::counted::Counted;
 use crate::fault::{LineFault, Refusal};
 use crate::lines::Statement;
 use crate::numbers::{is_digits, lane};
-use script_serving::Line;
 use crate::shapes::{Asked, command_asked, is_miscounted};
 use crate::words::{is_printable, is_word, next_word, word_count};
 use nrt_base::{At, LineNo};
+use script_serving::Line;
 use std::alloc::Global;
-
-/// The most statements of a script.
-pub const MOST_STATEMENTS: u32 = 200_000;
 
 /// A statement that is no header.
 #[derive(Drop)]
@@ -29,15 +27,16 @@ pub enum Later {
 fn read_lane_line<'a>(
     alloc: Global,
     nodes: u8,
-    before: u32,
+    log: bool,
+    before: Counted,
     statement: Statement<'a>,
     lane_word: &'a [u8],
     rest: &'a [u8],
 ) -> Result<Line, Refusal>
     requires printable { IsTrue (is_printable_lem statement.line.now) }
     requires split { words_in statement.line.now ≡ lane_word.now ∷ words_in rest.now }
-    requires lane { (is_word_lem (codes "join") lane_word.now ≡ false) × (is_digits_lem lane_word.now ≡ true) }
-    ensures { IsLineRead nodes before (record { number = statement.entry.number; line = statement.entry.line.now }) result }
+    requires lane { (bytes_eq (codes "join") lane_word.now ≡ false) × (is_digits_lem lane_word.now ≡ true) }
+    ensures { IsLineRead nodes log before (record { number = statement.entry.number; line = statement.entry.line.now }) result }
 {
     let (name, rest) = match command_asked(rest) {
         Asked::Missing => return Err(Refusal::Cause(LineFault::Count)),
@@ -47,7 +46,7 @@ fn read_lane_line<'a>(
     if is_miscounted(name, word_count(rest)) {
         return Err(Refusal::Cause(LineFault::Count));
     }
-    if before >= MOST_STATEMENTS {
+    if !before.has_room(log, statement.line) {
         return Err(Refusal::Cause(LineFault::Range));
     }
     let Some(lane) = lane(lane_word) else {
@@ -61,14 +60,15 @@ fn read_lane_line<'a>(
     })
 }
 
-/// A statement that is no header, where there are so many nodes and so many statements before it.
+/// A statement that is no header, where there are so many nodes, a log or none, and so many statements before it.
 pub fn read_later(
     alloc: Global,
     nodes: u8,
-    before: u32,
+    log: bool,
+    before: Counted,
     statement: Statement<'_>,
 ) -> Result<Later, Refusal>
-    ensures { IsLaterRead nodes before (record { number = statement.entry.number; line = statement.entry.line.now }) result }
+    ensures { IsLaterRead nodes log before (record { number = statement.entry.number; line = statement.entry.line.now }) result }
 {
     if !is_printable(statement.line) {
         return Err(Refusal::Cause(LineFault::Text));
@@ -80,7 +80,7 @@ pub fn read_later(
         if word_count(rest) > 0 {
             return Err(Refusal::Cause(LineFault::Count));
         }
-        if before >= MOST_STATEMENTS {
+        if !before.has_room(log, statement.line) {
             return Err(Refusal::Cause(LineFault::Range));
         }
         return Ok(Later::Join);
@@ -88,5 +88,5 @@ pub fn read_later(
     if !is_digits(word) {
         return Err(Refusal::Cause(LineFault::Word));
     }
-    Ok(Later::Line(read_lane_line(alloc, nodes, before, statement, word, rest)?))
+    Ok(Later::Line(read_lane_line(alloc, nodes, log, before, statement, word, rest)?))
 }

@@ -2,10 +2,12 @@
 #![tactic(auto)]
 
 mod command;
+mod counted;
 mod fault;
 mod grammar_laws;
 mod lane_lines;
 mod lines;
+mod log_laws;
 mod numbers;
 mod parse;
 mod phases;
@@ -15,5 +17,6 @@ mod words;
 pub use fault::{LineFault, ScriptFault};
 pub use grammar_laws::{is_read_or_refused, one_refusal, one_script};
 pub use lines::next_statement;
+pub use log_laws::log_loses_nothing;
 pub use parse::{LONGEST, parse_script};
 pub use words::{first_words, is_word};

@@ -1,6 +1,6 @@
 ghost use Rattle.std.specs.Prelude.{◌≡◌, ◌<◌, ◌≤◌, ◌+◌, ◌^◌, ⊤, [], ◌∷◌, length, take_while, not, MatchOption};
 ghost use Rattle.script_text.specs.Grammar.{lines_of_text, statements_from, is_line_feed, is_statement as is_statement_lem};
-ghost use Rattle.script_text.specs.Reading.{GoesOn};
+ghost use Rattle.script_text.specs.Reading.{IsNextStatement};
 
 use crate::words::without_spaces;
 
@@ -49,7 +49,7 @@ fn is_statement(line: &[u8]) -> bool
 /// The first statement of a text whose first line has this number, and the rest of the text.
 pub fn next_statement(text: &[u8], number: u32) -> Option<(Statement<'_>, &[u8])>
     requires { number + length text.now < 2 ^ 32 }
-    ensures { MatchOption result (statements_from number (lines_of_text text.now) ≡ []) (λ parts. GoesOn number text.now parts.0.number parts.0.line.now parts.1.now) }
+    ensures { MatchOption result (statements_from number (lines_of_text text.now) ≡ []) (λ parts. IsNextStatement number text.now parts.0.number parts.0.line.now parts.1.now) }
 {
     let mut left = text;
     let mut number = number;

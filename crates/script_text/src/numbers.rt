@@ -1,11 +1,11 @@
 ghost use Rattle.std.specs.Prelude.{◌≡◌, ◌≤◌, ◌^◌, ℕ, IsTrue, MatchOption};
 ghost use Rattle.std.specs.List.{list_all};
 ghost use Rattle.script_text.specs.Refused.{is_digit as is_digit_lem, is_digits as is_digits_lem, is_number as is_number_lem, value_of};
-ghost use Rattle.script_text.specs.Reading.{number_of, node_of, ticket_of, force_of, lane_of};
+ghost use Rattle.script_text.specs.Reading.{number_within, node_named, ticket_named, force_named, lane_named};
 
-use script_serving::Force;
 use crate::words::is_word;
 use nrt_base::{LaneNo, NodeNo, TicketNo};
+use script_serving::Force;
 
 fn is_digit(byte: u8) -> bool
     ensures { result ≡ is_digit_lem byte }
@@ -51,7 +51,7 @@ fn value(digits: &[u8]) -> Option<u64>
 
 /// The number that a word is, where it is one in the range.
 fn number(low: u64, high: u64, word: &[u8]) -> Option<u64>
-    ensures { result ≡ number_of low high word.now }
+    ensures { result ≡ number_within low high word.now }
 {
     if !is_number(word) {
         return None;
@@ -66,49 +66,49 @@ fn number(low: u64, high: u64, word: &[u8]) -> Option<u64>
 
 /// The number of 32 bits that a word is, where it is one in the range.
 pub fn number_u32(low: u32, high: u32, word: &[u8]) -> Option<u32>
-    ensures { result ≡ number_of low high word.now }
+    ensures { result ≡ number_within low high word.now }
 {
     Some(number(u64::from(low), u64::from(high), word)? as u32)
 }
 
 /// The number of 64 bits that a word is.
 pub fn number_u64(word: &[u8]) -> Option<u64>
-    ensures { result ≡ number_of 0 18446744073709551615 word.now }
+    ensures { result ≡ number_within 0 18446744073709551615 word.now }
 {
     number(0, u64::MAX, word)
 }
 
 /// The number of eight bits that a word is, where it is one in the range.
 pub fn number_u8(low: u8, high: u8, word: &[u8]) -> Option<u8>
-    ensures { result ≡ number_of low high word.now }
+    ensures { result ≡ number_within low high word.now }
 {
     Some(number(u64::from(low), u64::from(high), word)? as u8)
 }
 
 /// The node that a word names, where there are so many nodes.
 pub fn node(nodes: u8, word: &[u8]) -> Option<NodeNo>
-    ensures { result ≡ node_of nodes word.now }
+    ensures { result ≡ node_named nodes word.now }
 {
     Some(NodeNo(number_u8(1, nodes, word)?))
 }
 
 /// The lane that a word names.
 pub fn lane(word: &[u8]) -> Option<LaneNo>
-    ensures { result ≡ lane_of word.now }
+    ensures { result ≡ lane_named word.now }
 {
     Some(LaneNo(number_u8(1, 8, word)?))
 }
 
 /// The ticket that a word names.
 pub fn ticket(word: &[u8]) -> Option<TicketNo>
-    ensures { result ≡ ticket_of word.now }
+    ensures { result ≡ ticket_named word.now }
 {
     Some(TicketNo(number_u32(1, 9999, word)? as u16))
 }
 
 /// The forced version that a word names.
 pub fn force(word: &[u8]) -> Option<Force>
-    ensures { result ≡ force_of word.now }
+    ensures { result ≡ force_named word.now }
 {
     if is_word(b"auto", word) {
         return Some(Force::Auto);

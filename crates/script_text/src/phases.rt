@@ -2,11 +2,12 @@ ghost use Rattle.std.specs.Prelude.{◌≡◌, ◌≤◌, ◌<◌, ◌+◌, ◌^
 ghost use Rattle.script_text.specs.Grammar.{of_lane, lane_entry, phase_of as phase_of_lem, statements_from, lines_of_text};
 ghost use Rattle.script_text.specs.Reading.{ArePhasesRead, TakesLater};
 
+use crate::counted::Counted;
 use crate::fault::ScriptFault;
 use crate::lane_lines::{Later, read_later};
 use crate::lines::next_statement;
-use script_serving::{Line, Phase};
 use nrt_base::{LaneNo, List, NoMemory};
+use script_serving::{Line, Phase};
 use std::alloc::Global;
 use std::mem;
 
@@ -87,18 +88,20 @@ fn all_phases(alloc: Global, phases: Vec<Phase>, lines: Vec<Line>) -> Result<Lis
     Ok(List::from_vec(phases))
 }
 
-/// The phases that the statements of a text spell, where there are so many nodes and so many statements before it.
+/// The phases that the statements of a text spell, where there are so many nodes, a log or none, and so many headers before it.
 /// The first line of the text has this number.
 pub fn read_phases(
     alloc: Global,
     nodes: u8,
-    before: u32,
+    log: bool,
+    before: Counted,
     text: &[u8],
     number: u32,
 ) -> Result<List<Phase>, ScriptFault>
     requires bounded { number + length text.now < 2 ^ 32 }
-    requires few { before ≤ 200000 }
-    ensures { ArePhasesRead nodes before (statements_from number (lines_of_text text.now)) result }
+    requires few { before.statements ≤ 3 }
+    requires none { before.promotions ≡ 0 }
+    ensures { ArePhasesRead nodes log before (statements_from number (lines_of_text text.now)) result }
 {
     let mut phases = Vec::new(alloc);
     let mut lines = Vec::new(alloc);
@@ -106,12 +109,12 @@ pub fn read_phases(
     let mut left = text;
     let mut number = number;
     while let Some((statement, rest)) = next_statement(left, number) {
-        let later = match read_later(alloc, nodes, before, statement) {
+        let later = match read_later(alloc, nodes, log, before, statement) {
             Ok(later) => later,
             Err(refusal) => return Err(refusal.on_line(statement.number)),
         };
         take_later(alloc, &mut phases, &mut lines, later)?;
-        before += 1;
+        before = before.with(statement);
         left = rest;
         number = statement.number + 1;
     }

@@ -28,6 +28,7 @@ pub enum Plain {
 pub enum Name {
     Put,
     Delete,
+    Drop,
     Search,
     Ask,
     Plain(Plain),
@@ -46,7 +47,7 @@ pub enum Asked<'a> {
     Command(Name, &'a [u8]),
 }
 
-/// The command of a name among the first eight of the table.
+/// The command of a name among the first nine of the table.
 fn early_command(word: &[u8]) -> Option<Name>
     ensures { MatchOption result (shape_named word.now command_shapes ≡ shape_named word.now late_shapes) (IsNamed word.now command_shapes) }
 {
@@ -54,6 +55,8 @@ fn early_command(word: &[u8]) -> Option<Name>
         Some(Name::Put)
     } else if is_word(b"delete", word) {
         Some(Name::Delete)
+    } else if is_word(b"drop", word) {
+        Some(Name::Drop)
     } else if is_word(b"publish", word) {
         Some(Name::Plain(Plain::Publish))
     } else if is_word(b"copy", word) {
@@ -172,7 +175,7 @@ fn word_count(name: Name) -> usize
     ensures { result ≡ length (shape_of name).words }
 {
     match name {
-        Name::Put | Name::Delete | Name::Search | Name::Ask => 1,
+        Name::Put | Name::Delete | Name::Drop | Name::Search | Name::Ask => 1,
         Name::Plain(plain) => plain_count(plain),
         Name::Fault(FaultKind::Damage) => 3,
         Name::Fault(_) => 2,
@@ -188,6 +191,6 @@ pub fn is_miscounted(name: Name, found: usize) -> bool
     match name {
         Name::Put => found < wanted,
         Name::Search | Name::Ask => found <= wanted,
-        Name::Delete | Name::Plain(_) | Name::Fault(_) => found != wanted,
+        Name::Delete | Name::Drop | Name::Plain(_) | Name::Fault(_) => found != wanted,
     }
 }

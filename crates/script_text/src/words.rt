@@ -1,9 +1,8 @@
-ghost use Rattle.std.specs.Prelude.{◌≡◌, ◌<◌, ⊤, ℕ, [], ◌∷◌, length, take_while, not, drop, MatchOption};
+ghost use Rattle.text_query.specs.Tokens.{is_space};
+ghost use Rattle.std.specs.Prelude.{◌≡◌, ◌<◌, ⊤, ℕ, [], ◌∷◌, length, take_while, not, drop, MatchOption, bytes_eq};
 ghost use Rattle.std.specs.List.{list_all};
 ghost use Rattle.nrt_base.specs.Bytes.{is_text_byte};
-ghost use Rattle.script_text.specs.Grammar.{is_space, words_in, without_spaces as without_spaces_lem, without_end as without_end_lem, behind_word as behind_word_lem, rest_behind as rest_behind_lem, is_printable as is_printable_lem};
-ghost use Rattle.script_text.specs.Refused.{is_word as is_word_lem};
-ghost use Rattle.script_text.specs.Reading.{word_at};
+ghost use Rattle.script_text.specs.Grammar.{words_in, without_spaces as without_spaces_lem, without_end as without_end_lem, behind_word as behind_word_lem, rest_behind as rest_behind_lem, is_printable as is_printable_lem, word_at};
 
 /// How many spaces a line begins with.
 fn space_len(line: &[u8]) -> usize
@@ -75,7 +74,7 @@ pub fn next_word(line: &[u8]) -> Option<(&[u8], &[u8])>
 
 /// Whether the two are one word.
 pub fn is_word(name: &[u8], word: &[u8]) -> bool
-    ensures { result ≡ is_word_lem name.now word.now }
+    ensures { result ≡ bytes_eq name.now word.now }
 {
     name == word
 }

@@ -3,9 +3,9 @@ ghost use Rattle.std.specs.List.{All};
 ghost use Rattle.seg_reader.specs.Sound.{term_row};
 ghost use Rattle.seg_build.specs.Rows.{IsPrepared, docs_of, live_of};
 
+use documents::words;
 use live_bits::LiveBits;
 use nrt_base::{Doc, List, NoMemory, Share, Word};
-use documents::words;
 use postings_plain::TermRow;
 use std::alloc::{AllocError, Global};
 

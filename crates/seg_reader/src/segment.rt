@@ -1,6 +1,7 @@
 ghost use Rattle.std.specs.Prelude.{◌≡◌, ◌↔◌, ◌<◌, ◌⊎◌, ℕ, length, slice_get, slice_index_or, false, IsTrue, IsSome, IfSome, IfOk, IfErr, MatchOption, Ok, Err};
 ghost use Rattle.std.specs.List.{All};
 ghost use Rattle.nrt_base.specs.Bytes.{is_key};
+ghost use Rattle.docs_plain.specs.Documents.{IsRow};
 ghost use Rattle.postings_plain.specs.Postings.{row_of, HitsFit};
 ghost use Rattle.postings_plain.specs.Body.{HasEntry, HasNoEntry};
 ghost use Rattle.seg_reader.specs.Shown.{Shown, key_field, word_field};
@@ -73,6 +74,7 @@ impl Segment {
         ensures docs { result ≡ length self.now.docs }
         ensures live { result ≡ length self.now.live }
         ensures some { 0 < result }
+        ensures texts { All IsRow self.now.docs }
     {
         self.docs.len()
     }

@@ -1,68 +1,16 @@
 -- The numbers of commits among names.
-use Rattle.std.proofs.Common.{◌≡◌, ℕ, zero, suc, ◌+◌, ◌^◌, ◌<◌, ◌≤◌, ◌↔◌, ◌⊎◌, Bool, true, false, cond, List, [], ◌∷◌, ◌++◌, codes, Option, Some, None, Result, Ok, Err, refl, sym, ap, subst, ◌∙◌, arith, inl, inr}
+use Rattle.std.proofs.Common.{◌≡◌, ℕ, zero, suc, ◌+◌, ◌^◌, ◌<◌, ◌≤◌, ◌↔◌, ◌⊎◌, Bool, true, false, cond, List, [], ◌∷◌, ◌++◌, Option, Some, None, refl, sym, ap, subst, ◌∙◌, arith, inl, inr}
 use Rattle.std.specs.Prelude.{max, unwrap_or, IfSome}
 use Rattle.std.specs.List.{All, Contains, filter_map, cons_option, fold, reduce}
 use Rattle.std.specs.Option.{option_map}
 use Rattle.std.proofs.Math.Nat.{le-max_left, le-max_right}
 use Rattle.std.proofs.lemmas.Bool.{cases_lt}
-use Rattle.std.proofs.lemmas.List.{append_cancel_left, append-nil}
+use Rattle.std.proofs.lemmas.List.{append-nil}
 use Rattle.std.proofs.lemmas.List.Elements.{All-append, All-cons, Contains-append_left, Contains-append_right}
 use Rattle.std.proofs.lemmas.Option.{same_Some}
-use Rattle.nrt_base.proofs.Plain.{ok_never_err, same_ok}
-use Rattle.file_names.specs.Base36.{base36_value, base36_of, SpellsBase36}
-use Rattle.file_names.specs.Names.{is_commit_number, is_commit_name, commit_number, commit_name_of, is_pending_name, pending_number, pending_name_of}
-use Rattle.file_names.specs.declared.radix.Base36Fault.{Base36Fault}
-use Rattle.file_names.proofs.Base36Lemmas.{base36_spells, only_spelling}
+use Rattle.file_names.specs.Names.{is_commit_name, commit_number, commit_name_of, is_pending_name, pending_number, pending_name_of, number_of_commit, number_of_pending}
 use Rattle.file_names.proofs.NameLaws.{commit_name_only, commit_name_is_one, commit_number-commit_name, pending_name_only, pending_name_is_one, pending_number-pending_name}
-use Rattle.segment_infos.specs.Commits.{number_of_commit, number_of_pending, commit_numbers, pending_numbers, IsGreatest, number_after, IsNext}
-
--- ---- the digits of a commit's number
-
--- digits that spell the number of a commit
-record Spell (digits : List ℕ) (n : ℕ) : Type 0 where
-  spelled : SpellsBase36 digits n
-  some : 0 < n
-  below : n < 2 ^ 62
-
-digits_spell : (digits : List ℕ) → is_commit_number digits ≡ true → Spell digits (base36_value digits)
-digits_spell digits h =
-    let e = commit_name_only (codes "segments_" ++ digits) h in
-    let n : ℕ = base36_value digits in
-    let same : digits ≡ base36_of n = append_cancel_left (codes "segments_") digits (base36_of n) e.0 in
-    record { spelled = subst (λ (d : List ℕ). SpellsBase36 d n) (sym same) (base36_spells n (omega (arith, e.2))); some = e.1; below = e.2 }
-
-spell_digits : (digits : List ℕ) (n : ℕ) → Spell digits n → is_commit_number digits ≡ true
-spell_digits digits n s = ap is_commit_number (only_spelling digits n (omega (arith, s.below)) s.spelled) ∙ commit_name_is_one n s.some s.below
-
-abbrev Answer : Type 0
-Answer = Result ℕ Base36Fault
-
-abbrev Reads : List ℕ → Answer → Type 0
-Reads digits r = (n : ℕ) → (r ≡ Ok n) ↔ (SpellsBase36 digits n × (n < 2 ^ 64))
-
-pub number_found : (digits : List ℕ) (r : Answer) (n : ℕ) → Reads digits r → r ≡ Ok n → 0 < n → n < 2 ^ 62 → Some n ≡ cond (is_commit_number digits) (Some (base36_value digits)) None
-number_found digits r n reads e some below =
-    let s = (reads n).0 e in
-    let is : is_commit_number digits ≡ true = spell_digits digits n (record { spelled = s.0; some = some; below = below }) in
-    rw is (ap (λ (m : ℕ). Some m) (sym s.0.value))
-
-no_number : (digits : List ℕ) (test : Bool) → is_commit_number digits ≡ test → (test ≡ true → ⊥) → None ≡ cond test (Some (base36_value digits)) None
-no_number digits true e never = absurd (never refl)
-no_number digits false e never = refl
-
-none_found : (digits : List ℕ) (r : Answer) → Reads digits r → ((n : ℕ) → r ≡ Ok n → 0 < n → n < 2 ^ 62 → ⊥) → None ≡ cond (is_commit_number digits) (Some (base36_value digits)) None
-none_found digits r reads never =
-    no_number digits (is_commit_number digits) refl
-    (λ h. let s = digits_spell digits h in let n : ℕ = base36_value digits in never n ((reads n).1 (s.spelled, omega (arith, s.below))) s.some s.below)
-
-pub none_spelled : (digits : List ℕ) (r : Answer) (fault : Base36Fault) → Reads digits r → r ≡ Err fault → None ≡ cond (is_commit_number digits) (Some (base36_value digits)) None
-none_spelled digits r fault reads e = none_found digits r reads (λ n f some below. ok_never_err n fault (sym f ∙ e))
-
-pub none_small : (digits : List ℕ) (r : Answer) (n : ℕ) → Reads digits r → r ≡ Ok n → n ≤ 0 → None ≡ cond (is_commit_number digits) (Some (base36_value digits)) None
-none_small digits r n reads e zero_is = none_found digits r reads (λ m f some below. omega (arith, same_ok m n (sym f ∙ e), some, zero_is))
-
-pub none_large : (digits : List ℕ) (r : Answer) (n : ℕ) → Reads digits r → r ≡ Ok n → 2 ^ 62 ≤ n → None ≡ cond (is_commit_number digits) (Some (base36_value digits)) None
-none_large digits r n reads e large = none_found digits r reads (λ m f some below. omega (arith, same_ok m n (sym f ∙ e), below, large))
+use Rattle.segment_infos.specs.Commits.{commit_numbers, pending_numbers, IsGreatest, number_after, IsNext}
 
 -- ---- the greatest number
 

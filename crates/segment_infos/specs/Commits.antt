@@ -1,25 +1,7 @@
 -- The numbers of the commits that a directory's names show.
-use Rattle.std.specs.Prelude.{◌≡◌, ℕ, ◌+◌, ◌≤◌, ◌&&◌, List, [], length, drop, nat_eq, Option, Some, None, false, if◌then◌else◌}
-use Rattle.std.specs.List.{All, Contains, filter_map, starts_with}
-use Rattle.file_names.specs.Base36.{base36_value}
-use Rattle.file_names.specs.Names.{is_commit_number, is_commit_name, commit_number, is_pending_name, pending_number}
-
--- the number that the digits spell, where it is a commit's
-abbrev pub number_in : List ℕ → Option ℕ
-number_in digits = if is_commit_number digits then Some (base36_value digits) else None
-
--- the number of a commit that stands behind these letters and ends the name
-abbrev pub number_behind : (letters name : List ℕ) → Option ℕ
-number_behind letters name =
-    if starts_with nat_eq name letters && is_commit_number (drop (length letters) name) then Some (base36_value (drop (length letters) name)) else None
-
--- the number of a commit's name, and nothing for any other name
-abbrev pub number_of_commit : List ℕ → Option ℕ
-number_of_commit name = if is_commit_name name then Some (commit_number name) else None
-
--- the number of the name of a commit in preparation, and nothing for any other name
-abbrev pub number_of_pending : List ℕ → Option ℕ
-number_of_pending name = if is_pending_name name then Some (pending_number name) else None
+use Rattle.std.specs.Prelude.{◌≡◌, ℕ, ◌+◌, ◌≤◌, List, [], false, Option, Some, None}
+use Rattle.std.specs.List.{All, Contains, filter_map}
+use Rattle.file_names.specs.Names.{number_of_commit, number_of_pending}
 
 -- the name is neither that of a commit nor that of one in preparation
 abbrev pub IsOfNoCommit : List ℕ → Type 0

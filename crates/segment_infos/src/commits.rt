@@ -1,58 +1,16 @@
 //! The numbers of the commits that a directory's names show.
 
-ghost use Rattle.std.specs.Prelude.{◌≡◌, ◌<◌, ◌≤◌, ◌^◌, ◌++◌, IfSome};
-ghost use Rattle.segment_infos.specs.Commits.{number_in, number_behind, number_of_commit, number_of_pending, commit_numbers, pending_numbers, IsGreatest, IsNext};
+ghost use Rattle.std.specs.Prelude.{◌<◌, ◌≤◌, ◌^◌, ◌++◌, IfSome};
+ghost use Rattle.segment_infos.specs.Commits.{commit_numbers, pending_numbers, IsGreatest, IsNext};
 
-use file_names::{FileName, read_base36};
-
-/// Commit numbers are below this.
-const COMMIT_NUMBERS: u64 = 1 << 62;
-
-// The number of a commit that the digits spell.
-fn number_of(digits: &[u8]) -> Option<u64>
-    ensures number { result ≡ number_in digits.now }
-    ensures below { IfSome result (λ n. n < 2 ^ 62) }
-{
-    match read_base36(digits) {
-        Ok(n) if 0 < n && n < COMMIT_NUMBERS => Some(n),
-        _ => None,
-    }
-}
-
-// The number of a commit that stands behind these letters and ends the name.
-fn number_behind(name: &[u8], letters: &[u8]) -> Option<u64>
-    ensures number { result ≡ number_behind letters.now name.now }
-    ensures below { IfSome result (λ n. n < 2 ^ 62) }
-{
-    if name.starts_with(letters) {
-        number_of(&name[letters.len()..])
-    } else {
-        None
-    }
-}
-
-// The number of a commit's name.
-fn number_of_commit(name: &FileName) -> Option<u64>
-    ensures number { result ≡ number_of_commit name.now }
-    ensures below { IfSome result (λ n. n < 2 ^ 62) }
-{
-    number_behind(name.as_slice(), b"segments_")
-}
-
-// The number of the name of a commit in preparation.
-fn number_of_pending(name: &FileName) -> Option<u64>
-    ensures number { result ≡ number_of_pending name.now }
-    ensures below { IfSome result (λ n. n < 2 ^ 62) }
-{
-    number_behind(name.as_slice(), b"pending_segments_")
-}
+use file_names::{FileName, commit_of, pending_of};
 
 /// The greatest number of a commit among the names.
 pub fn last_commit(names: &[FileName]) -> Option<u64>
     ensures greatest { IsGreatest (commit_numbers names.now) result }
     ensures below { IfSome result (λ n. n < 2 ^ 62) }
 {
-    names.iter().filter_map(number_of_commit).max()
+    names.iter().filter_map(commit_of).max()
 }
 
 // The greatest number of a commit in preparation among the names.
@@ -60,7 +18,7 @@ fn last_pending(names: &[FileName]) -> Option<u64>
     ensures greatest { IsGreatest (pending_numbers names.now) result }
     ensures below { IfSome result (λ n. n < 2 ^ 62) }
 {
-    names.iter().filter_map(number_of_pending).max()
+    names.iter().filter_map(pending_of).max()
 }
 
 /// The number for the next commit: one above the greatest number of a commit, also of one in preparation, among the names, or 1

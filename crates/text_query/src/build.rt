@@ -11,8 +11,8 @@ ghost use Rattle.text_query.specs.Syntax.{IsQuery};
 ghost use Rattle.text_query.specs.Tokens.{kinds_of};
 
 use crate::token::{Placed, Token};
-use nrt_base::{Boxed, List, NoMemory};
 use documents::Query;
+use nrt_base::{Boxed, List, NoMemory};
 use std::alloc::Global;
 use std::marker::Model;
 

@@ -9,6 +9,6 @@ mod syntax;
 mod tests;
 mod token;
 
+pub use documents::words;
 pub use fault::QueryFault;
 pub use parse::{one_tree, parse_query};
-pub use documents::words;

@@ -1,6 +1,6 @@
 use crate::{QueryFault, parse_query};
-use nrt_base::List;
 use documents::Query;
+use nrt_base::List;
 use std::alloc::{AllocError, Global};
 use std::test::Fail;
 

@@ -5,8 +5,8 @@ ghost use Rattle.std.specs.List.{list_all};
 ghost use Rattle.documents.specs.Words.{is_alphanumeric as is_alphanumeric_lem, words_of};
 ghost use Rattle.text_query.specs.Tokens.{run_of, quoted_of, token_of_run, token_of_words, token_of_quote, token_of_byte, token_at as token_at_lem, bytes_behind, tokens_of, is_quote};
 
-use nrt_base::{List, NoMemory, Word};
 use documents::words;
+use nrt_base::{List, NoMemory, Word};
 use std::alloc::Global;
 
 /// A token of a query's text.

@@ -1,9 +1,10 @@
-// The calls of a commit and of the book.
+//! The calls of a commit and of the book.
+
 ghost use Rattle.file_deleter.specs.Holdings.{AreThere, AreCounted};
-ghost use Rattle.commit_steps.specs.Book.{book_names, IsSound};
+ghost use Rattle.commit_steps.specs.Book.{book_names, IsBookSound};
 
 use super::{Site, empty_dir, infos_at};
-use crate::{Begun, Commit, CommitFault, Done, Flight};
+use crate::{Begun, Commit, Done, Flight};
 use disk_memory::MemDir;
 use disk_model::{Dir, FaultDir};
 use file_names::{commit_name, pending_name};
@@ -63,72 +64,13 @@ fn typed_calls_in_a_row(rt: HostRuntime) -> Result<(), Fail> {
     Ok(())
 }
 
-// How many steps make a commit, and the number of the last commit before and after them.
-fn steps_of_a_commit<D: FaultDir + Drop>(
-    alloc: Global,
-    site: &mut Site<D>,
-) -> Result<(u32, Option<u64>, Option<u64>), Fail>
-    requires sound { IsSound (D.cells site.old.dir) site.old.files site.old.book }
-    requires counted { AreCounted (book_names site.old.book) site.old.files }
-{
-    site.begin(alloc, 2)?;
-    let before = site.book.last();
-    if !site.book.in_flight() {
-        return Err(Fail::new("the commit is not in flight"));
-    }
-    let steps = site.commit(alloc)?;
-    if site.book.in_flight() {
-        return Err(Fail::new("the commit is still in flight"));
-    }
-    Ok((steps, before, site.book.last()))
-}
-
-#[test]
-fn a_commit_is_made_by_six_steps(rt: HostRuntime) -> Result<(), Fail> {
-    let mut site = Site::new(rt.alloc(), empty_dir(rt.alloc())?)?;
-    let found = steps_of_a_commit(rt.alloc(), &mut site);
-    drop(site);
-    let (steps, before, after) = found?;
-    assert_eq!(rt; steps, 6);
-    assert!(rt; before.is_none());
-    assert_eq!(rt; after, Some(1));
-    Ok(())
-}
-
-// The second call fails once, and the commit goes on from there: what that step answers, and how many steps follow.
-fn steps_after_a_refusal<D: FaultDir + Drop>(
-    alloc: Global,
-    site: &mut Site<D>,
-) -> Result<(Option<CommitFault>, u32), Fail>
-    requires sound { IsSound (D.cells site.old.dir) site.old.files site.old.book }
-    requires counted { AreCounted (book_names site.old.book) site.old.files }
-{
-    site.begin(alloc, 2)?;
-    site.plan(2);
-    site.step(alloc)?;
-    let refused = site.step(alloc).err();
-    let further = site.commit(alloc)?;
-    Ok((refused, further))
-}
-
-#[test]
-fn a_refused_step_is_made_again(rt: HostRuntime) -> Result<(), Fail> {
-    let mut site = Site::new(rt.alloc(), empty_dir(rt.alloc())?)?;
-    let found = steps_after_a_refusal(rt.alloc(), &mut site);
-    drop(site);
-    let (refused, further) = found?;
-    assert_eq!(rt; refused, Some(CommitFault::Failed));
-    assert_eq!(rt; further, 5);
-    Ok(())
-}
-
 // A commit, a crash, and the next commit of the book that is opened then: before and after that one the number of the last commit, and
 // how often the file of the first is counted.
 fn commits_round_a_crash<D: FaultDir + Drop>(
     alloc: Global,
     site: &mut Site<D>,
 ) -> Result<[(Option<u64>, u64); 2], Fail>
-    requires sound { IsSound (D.cells site.old.dir) site.old.files site.old.book }
+    requires sound { IsBookSound (D.cells site.old.dir) site.old.files site.old.book }
     requires counted { AreCounted (book_names site.old.book) site.old.files }
 {
     let first = commit_name(1);

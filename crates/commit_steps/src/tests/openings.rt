@@ -1,4 +1,5 @@
-// What is found in a directory.
+//! What is found in a directory.
+
 ghost use Rattle.std.specs.Prelude.{IfOk};
 ghost use Rattle.segment_infos.specs.Infos.{CanSpell};
 
@@ -7,7 +8,7 @@ use crate::{RecoverFault, recover};
 use bytes::Bytes;
 use codec_frame::{FileFault, FrameFault};
 use disk_memory::MemDir;
-use disk_model::{Dir, FaultDir};
+use disk_model::Dir;
 use file_names::{FileName, SegPart, commit_name, part_name, pending_name};
 use nrt_base::{Gen, List, NoMemory, SegNo, Version};
 use segment_infos::{Infos, SegRecord, encode};
@@ -45,14 +46,6 @@ fn fault_of(alloc: Global, dir: &mut MemDir) -> Option<RecoverFault> {
     recover(alloc, dir).err()
 }
 
-#[test]
-fn nothing_is_found(rt: HostRuntime) -> Result<(), Fail> {
-    let mut dir = MemDir::new(rt.alloc())?;
-    dir.write_new(&pending_name(1), Bytes::copy_from_slice(rt.alloc(), b"x")?)?;
-    assert!(rt; recover(rt.alloc(), &mut dir)?.is_none());
-    Ok(())
-}
-
 // By text `segments_z` is above `segments_10`.
 #[test]
 fn the_greatest_number_is_found(rt: HostRuntime) -> Result<(), Fail> {
@@ -78,24 +71,6 @@ fn the_greatest_number_is_found(rt: HostRuntime) -> Result<(), Fail> {
     let (number, infos) = recover(rt.alloc(), &mut dir)?.ok_or("no commit")?;
     assert_eq!(rt; number, 36);
     assert_eq!(rt; infos.version, Version(3));
-    Ok(())
-}
-
-// The names are listed first, then the file is loaded.
-#[test]
-fn a_call_of_the_disk_fails(rt: HostRuntime) -> Result<(), Fail> {
-    let mut dir = MemDir::new(rt.alloc())?;
-    put(
-        rt.alloc(),
-        &mut dir,
-        &commit_name(1),
-        &infos_at(rt.alloc(), 2),
-    )?;
-    dir.plan(1);
-    assert_eq!(rt; fault_of(rt.alloc(), &mut dir), Some(RecoverFault::Failed));
-    dir.plan(2);
-    assert_eq!(rt; fault_of(rt.alloc(), &mut dir), Some(RecoverFault::Failed));
-    assert_eq!(rt; fault_of(rt.alloc(), &mut dir), None);
     Ok(())
 }
 

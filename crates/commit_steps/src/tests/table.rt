@@ -1,4 +1,5 @@
-// A commit that is stopped at each call of the disk in turn, and what is found after the crash.
+//! A commit that is stopped at each call of the disk in turn, and what is found after the crash.
+
 ghost use Rattle.std.specs.Prelude.{◌<◌};
 ghost use Rattle.commit_steps.specs.Commits.{ImagesShowNothing};
 

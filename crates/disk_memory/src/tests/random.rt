@@ -1,5 +1,5 @@
-// A thousand calls over a hundred names, beside the disk of lists.
-use super::model::{Kept, Row};
+//! A thousand calls over a hundred names, beside a list of what reads under each.
+
 use super::{bytes, named};
 use crate::MemDir;
 use disk_model::{Dir, DirFault, FaultDir};
@@ -25,90 +25,41 @@ fn names(alloc: Global) -> Result<Vec<FileName>, Fail> {
     Ok(names)
 }
 
-fn rows(alloc: Global) -> Result<Vec<Row>, Fail> {
-    let mut rows = Vec::new(alloc);
-    for _ in 0..100 {
-        rows.push(Row::new(alloc))?;
+fn set(rows: &mut [Option<u8>; 100], i: usize, content: Option<u8>) {
+    if let Some(row) = rows.get_mut(i) {
+        *row = content;
     }
-    Ok(rows)
 }
 
-fn sets(row: &mut Row, kept: Kept, fails: bool) -> Result<Option<DirFault>, Fail> {
-    row.set(kept, fails)?;
-    Ok(if fails { Some(DirFault::Failed) } else { None })
-}
-
-// The answer that is due, and the rows as they are due, for a call on row i, and for a rename to row j.
+// The answer that is due to a call on row i, and for a rename to row j, with the rows as they are due.
 fn due(
-    alloc: Global,
-    rows: &mut Vec<Row>,
+    rows: &mut [Option<u8>; 100],
     call: u64,
     i: usize,
     j: usize,
     fails: bool,
-) -> Result<Option<DirFault>, Fail> {
-    let there = rows.get(i).map_or(false, |row| row.is_there());
-    let free = !rows.get(j).map_or(false, |row| row.is_there());
-    let fault = if fails { Some(DirFault::Failed) } else { None };
-    match call {
-        0 | 1 | 2 => {
-            if there {
-                return Ok(Some(DirFault::Exists));
-            }
-            let kept = Kept::Loose(bytes(alloc, &[(i % 100) as u8, (call % 10) as u8, 7])?);
-            match rows.get_mut(i) {
-                Some(row) => sets(row, kept, fails),
-                None => Ok(fault),
-            }
-        }
-        3 | 4 => {
-            if !there {
-                return Ok(Some(DirFault::Missing));
-            }
-            if let Some(row) = rows.get_mut(i) {
-                if !fails {
-                    row.flush()?;
-                }
-            }
-            Ok(fault)
-        }
-        5 => {
-            if !there {
-                return Ok(Some(DirFault::Missing));
-            }
-            match rows.get_mut(i) {
-                Some(row) => sets(row, Kept::Nothing, fails),
-                None => Ok(fault),
-            }
-        }
-        6 | 7 => {
-            if !there {
-                return Ok(Some(DirFault::Missing));
-            }
-            if !free {
-                return Ok(Some(DirFault::Exists));
-            }
-            let state = match rows.get(i) {
-                Some(row) => row.state()?,
-                None => Kept::Nothing,
-            };
-            if let Some(row) = rows.get_mut(j) {
-                row.set(state, fails)?;
-            }
-            match rows.get_mut(i) {
-                Some(row) => sets(row, Kept::Nothing, fails),
-                None => Ok(fault),
-            }
-        }
-        _ => {
-            if !fails {
-                for row in rows.iter_mut() {
-                    row.settle();
-                }
-            }
-            Ok(fault)
-        }
+) -> Option<DirFault> {
+    let here = rows.get(i).copied().flatten();
+    let there = rows.get(j).copied().flatten();
+    match (call, here, there) {
+        (0..=2, Some(_), _) => return Some(DirFault::Exists),
+        (3..=7, None, _) => return Some(DirFault::Missing),
+        (6..=7, _, Some(_)) => return Some(DirFault::Exists),
+        _ => {}
     }
+    if fails {
+        return Some(DirFault::Failed);
+    }
+    match call {
+        0..=2 => set(rows, i, Some((i % 100) as u8)),
+        5 => set(rows, i, None),
+        6..=7 => {
+            set(rows, j, here);
+            set(rows, i, None);
+        }
+        _ => {}
+    }
+    None
 }
 
 fn done(
@@ -120,79 +71,58 @@ fn done(
     i: usize,
 ) -> Result<Result<(), DirFault>, Fail> {
     Ok(match call {
-        0 | 1 | 2 => dir.write_new(
-            from,
-            bytes(alloc, &[(i % 100) as u8, (call % 10) as u8, 7])?,
-        ),
-        3 | 4 => dir.sync(&[*from]),
+        0..=2 => dir.write_new(from, bytes(alloc, &[(i % 100) as u8])?),
+        3..=4 => dir.sync(&[*from]),
         5 => dir.remove(from),
-        6 | 7 => dir.rename(from, to),
+        6..=7 => dir.rename(from, to),
         _ => dir.sync_names(),
     })
 }
 
-fn crash(dir: &mut MemDir, rows: &mut Vec<Row>, pick: u64) -> Result<(), Fail> {
-    let mut number = pick;
-    for row in rows.iter_mut() {
-        number = row.crash(pick, number)?;
-    }
-    dir.crash(pick)?;
-    Ok(())
-}
-
-fn all_read(dir: &mut MemDir, rows: &Vec<Row>, names: &Vec<FileName>) -> Result<bool, Fail> {
+fn all_read(
+    dir: &mut MemDir,
+    rows: &[Option<u8>; 100],
+    names: &Vec<FileName>,
+) -> Result<bool, Fail> {
     for (row, name) in rows.iter().zip(names.iter()) {
-        if dir.has(name) != row.is_there() || !row.reads(dir.load(name)) {
+        let loaded = match dir.load(name) {
+            Ok(bytes) => bytes.as_slice().first().copied(),
+            Err(_) => None,
+        };
+        if loaded != *row {
             return Ok(false);
         }
     }
-    Ok(dir.list()?.len() == rows.iter().filter(|row| row.is_there()).count())
-}
-
-// One call, and now and then a crash. Whether both disks agree.
-fn turn(
-    alloc: Global,
-    dir: &mut MemDir,
-    rows: &mut Vec<Row>,
-    names: &Vec<FileName>,
-    seed: &mut u64,
-) -> Result<bool, Fail> {
-    let call = next(seed) % 10;
-    let (i, j) = ((next(seed) % 100) as usize, (next(seed) % 100) as usize);
-    let fails = next(seed) % 4 == 0;
-    let (Some(from), Some(to)) = (names.get(i), names.get(j)) else {
-        return Ok(false);
-    };
-    if fails {
-        dir.plan(1);
-    } else {
-        // No call so far away is made.
-        dir.plan(1000000);
-    }
-    let due = due(alloc, rows, call, i, j, fails)?;
-    if done(alloc, dir, call, from, to, i)?.err() != due {
-        return Ok(false);
-    }
-    if next(seed) % 50 == 0 {
-        let pick = next(seed) % 4;
-        crash(dir, rows, pick)?;
-    }
-    dir.plan(1000000);
-    all_read(dir, rows, names)
+    Ok(dir.list()?.len() == rows.iter().filter(|row| row.is_some()).count())
 }
 
 #[test]
-fn a_thousand_calls_agree_with_lists(rt: HostRuntime) -> Result<(), Fail> {
+fn a_thousand_calls_agree_with_a_list(rt: HostRuntime) -> Result<(), Fail> {
     let alloc = rt.alloc();
     let names = names(alloc)?;
-    let mut rows = rows(alloc)?;
+    let mut rows = [None; 100];
     let mut dir = MemDir::new(alloc)?;
     let mut seed = 26;
     for number in 0..1000 {
-        assert!(rt;
-            turn(alloc, &mut dir, &mut rows, &names, &mut seed)?,
+        let call = next(&mut seed) % 10;
+        let (i, j) = (
+            (next(&mut seed) % 100) as usize,
+            (next(&mut seed) % 100) as usize,
+        );
+        let fails = next(&mut seed) % 4 == 0;
+        // No call so far away is made.
+        dir.plan(if fails { 1 } else { 1000000 });
+        let (Some(from), Some(to)) = (names.get(i), names.get(j)) else {
+            return Err(Fail::from("a hundred names"));
+        };
+        let answer = done(alloc, &mut dir, call, from, to, i)?;
+        assert_eq!(rt;
+            answer.err(),
+            due(&mut rows, call, i, j, fails),
             "call {number}"
         );
+        dir.plan(1000000);
+        assert!(rt; all_read(&mut dir, &rows, &names)?, "call {number}");
     }
     Ok(())
 }

@@ -7,7 +7,7 @@ use Rattle.commit_steps.proofs.advance.write_pending.Goals as goal
 pub returns-in-Ok-clause-advances : goal.returns-in-Ok-clause-advances
 returns-in-Ok-clause-advances g c =
     synced_goes (g.D.Dir.cells c.args.dir.now) (g.D.Dir.cells c.write_pending.new.dir) c.args.files.now c.args.state c.requires.stands c.written.new.self c.in-Ok.written c.in-Ok.ensures.ok c.in-Ok.ensures.cells
-    (λ q. c.written.ensures.counts q ∙ ap (λ (n : Name). count_of c.args.files.now q + times (n ∷ []) q) c.pending_name-name.ensures.name) c.written.ensures.pending
+    (λ q. c.written.ensures.counts q ∙ ap (λ (n : Name). count_of c.args.files.now q + times (n ∷ []) q) c.pending_name-name.ensures.name) c.written.ensures.due
 
 pub returns-in-Err-clause-advances : goal.returns-in-Err-clause-advances
 returns-in-Err-clause-advances g c =

@@ -1,8 +1,8 @@
 use Rattle.std.proofs.Common.{sym, subst}
+use Rattle.disk_model.specs.Disk.{reads_of}
 use Rattle.segment_infos.specs.Files.{AreFilesOf}
 use Rattle.body_forms.proofs.FileLaws.{err_of}
-use Rattle.commit_steps.specs.Found.{reads_of}
-use Rattle.commit_steps.specs.Recovery.{IsAnswer}
+use Rattle.commit_steps.specs.Recovery.{IsRecoverAnswer}
 use Rattle.commit_steps.proofs.Recovered.{nothing_found, not_loaded, all_found, one_gone}
 use Rattle.commit_steps.proofs.recovery.answer.Goals as goal
 
@@ -11,7 +11,7 @@ returns-in_default-clause-answer g c = nothing_found (g.D.Dir.cells c.args.dir.n
 
 pub returns-in_err-infos-clause-answer : goal.returns-in_err-infos-clause-answer
 returns-in_err-infos-clause-answer g c =
-    subst (IsAnswer (reads_of (g.D.Dir.cells c.args.dir.now))) (sym (err_of c.from_residual-in_err-infos.result c.in_err-infos.field-0.0 c.from_residual-in_err-infos.ensures.1))
+    subst (IsRecoverAnswer (reads_of (g.D.Dir.cells c.args.dir.now))) (sym (err_of c.from_residual-in_err-infos.result c.in_err-infos.field-0.0 c.from_residual-in_err-infos.ensures.1))
     (not_loaded (g.D.Dir.cells c.args.dir.now) (g.D.Dir.cells c.newest.new.dir) c.in_ok-number.field-0 c.in-Some.number c.in_ok-number.ensures.cells c.in_ok-number.ensures.found c.in-Some.is
     c.in_err-infos.field-0.0 c.in_err-infos.ensures.err c.in_err-infos.ensures.loaded)
 

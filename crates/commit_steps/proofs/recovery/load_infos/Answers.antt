@@ -1,5 +1,5 @@
 use Rattle.std.proofs.Common.{Some, sym, ap, ◌∙◌}
-use Rattle.commit_steps.specs.Found.{reads_of}
+use Rattle.disk_model.specs.Disk.{reads_of}
 use Rattle.commit_steps.proofs.Recovered.{loaded_infos, loaded_fault}
 use Rattle.commit_steps.proofs.recovery.load_infos.Goals as goal
 

@@ -7,5 +7,5 @@ use Rattle.file_deleter.proofs.removals.merge.Goals as goal
 pub returns-clause-times : goal.returns-clause-times
 returns-clause-times c = λ q.
     times-permutation _ _ q c.sort_unstable.ensures.permutation
-    ∙ ap (λ (ns : List Name). times ns q) (c.extend.ensures.items ∙ ap (λ (ns : List Name). c.args.pending.now.items ++ ns) c.as_slice.ensures.value)
-    ∙ times-append c.args.pending.now.items c.args.fallen.now.items q
+    ∙ ap (λ (ns : List Name). times ns q) (c.extend.ensures.items ∙ ap (λ (ns : List Name). c.args.due.now.items ++ ns) c.as_slice.ensures.value)
+    ∙ times-append c.args.due.now.items c.args.fallen.now.items q

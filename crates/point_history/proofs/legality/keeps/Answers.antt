@@ -1,9 +1,9 @@
 use Rattle.std.proofs.Common.{◌↔◌, IsTrue, reverse, subst, sym}
 use Rattle.history_entries.specs.declared.entry.Event.{Event}
-use Rattle.history_entries.specs.Legal.{Keeps}
+use Rattle.history_entries.specs.Legal.{KeepsRule}
 use Rattle.point_history.proofs.legality.keeps.Goals as goal
 
 pub returns-in_ok-may_answer-in-Answered-clause-rule : goal.returns-in_ok-may_answer-in-Answered-clause-rule
 returns-in_ok-may_answer-in-Answered-clause-rule c =
-    subst (λ (e : Event). IsTrue c.in_ok-may_answer-in-Answered.field-0 ↔ Keeps c.args.nodes (reverse c.args.before.now) c.args.entry.now.at e)
+    subst (λ (e : Event). IsTrue c.in_ok-may_answer-in-Answered.field-0 ↔ KeepsRule c.args.nodes (reverse c.args.before.now) c.args.entry.now.at e)
     (sym c.in-Answered.is) c.in_ok-may_answer-in-Answered.ensures

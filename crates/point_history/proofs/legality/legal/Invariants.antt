@@ -1,7 +1,7 @@
 use Rattle.std.proofs.Common.{◌<◌, ◌^◌, take}
 use Rattle.std.specs.Prelude.{reverse}
 use Rattle.history_entries.specs.Nodes.{accepted_count}
-use Rattle.point_history.specs.Generations.{ShowsGeneration}
+use Rattle.point_history.specs.Generations.{ShowsGeneration, ShowsDrawn}
 use Rattle.history_entries.specs.Legal.{IsLegalPast}
 use Rattle.point_history.proofs.legality.legal.Given as goal
 
@@ -9,5 +9,6 @@ abbrev pub invariant-loop-at : goal.invariant-loop-at
 invariant-loop-at l = record {
   legal : IsLegalPast l.h.nodes (reverse (take l.at l.entries));
   shown : ShowsGeneration (reverse (take l.at l.entries)) l.generation;
+  drawn : ShowsDrawn (reverse (take l.at l.entries)) l.drawn;
   few : accepted_count (reverse (take l.at l.entries)) < 2 ^ 32;
 }

@@ -3,20 +3,20 @@ use Rattle.query_eval.proofs.AnswerLemmas.{counted_none, sound_one, room_for, co
 use Rattle.query_eval.proofs.search.answer.Goals as goal
 
 pub loop-seg-init : goal.loop-seg-init
-loop-seg-init c = counted_none c.args.query.now c.args.segs.now c.new-found.result c.new-found.ensures c.requires.few
+loop-seg-init c = counted_none c.args.query.now c.args.segs.now c.new-best.result c.new-best.ensures c.requires.few
 
 pub search-requires-clause-sound : goal.search-requires-clause-sound
 search-requires-clause-sound c = sound_one c.args.segs.now c.loop-seg.seg-index c.seg-item.result c.requires.sound (omega arith) c.seg-item.is
 
 pub search-requires-clause-room : goal.search-requires-clause-room
-search-requires-clause-room c = room_for c.args.query.now c.args.segs.now c.loop-seg.seg-index c.seg-item.result c.loop-seg.found c.loop-seg.invariant (omega arith) c.seg-item.is
+search-requires-clause-room c = room_for c.args.query.now c.args.segs.now c.loop-seg.seg-index c.seg-item.result c.loop-seg.best c.loop-seg.invariant (omega arith) c.seg-item.is
 
 pub loop-seg-preserved : goal.loop-seg-preserved
 loop-seg-preserved c =
-    counted_next c.args.query.now c.args.segs.now c.loop-seg.seg-index (c.loop-seg.seg-index + 1) c.seg-item.result c.loop-seg.found c.search.new.found c.loop-seg.invariant (omega arith) c.seg-item.is refl
+    counted_next c.args.query.now c.args.segs.now c.loop-seg.seg-index (c.loop-seg.seg-index + 1) c.seg-item.result c.loop-seg.best c.search.new.best c.loop-seg.invariant (omega arith) c.seg-item.is refl
     c.in_ok-search.ensures
 
 pub returns : goal.returns
 returns c =
-    answer_is c.args.query.now c.args.segs.now c.loop-seg.seg-index (drop c.loop-seg.seg-index c.args.segs.now) c.loop-seg.found c.into_answer.result c.loop-seg.invariant (omega arith)
-    c.into_answer.ensures.total c.into_answer.ensures.keys
+    answer_is c.args.query.now c.args.segs.now c.loop-seg.seg-index (drop c.loop-seg.seg-index c.args.segs.now) c.loop-seg.best c.into_answer.result c.loop-seg.invariant (omega arith)
+    c.into_answer.ensures.total c.into_answer.ensures.hits

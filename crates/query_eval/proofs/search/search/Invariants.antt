@@ -1,14 +1,9 @@
-use Rattle.std.proofs.Common.{◌≡◌, ◌-◌, ◌^◌, ◌≤◌, length}
-use Rattle.documents.specs.Matching.{matches_doc}
-use Rattle.query_eval.specs.Moves.{StaysFrom}
-use Rattle.query_eval.specs.Cursor.{answers}
-use Rattle.query_eval.proofs.SearchLemmas.{IsCounted}
+use Rattle.std.proofs.Common.{◌≡◌, ◌-◌, ◌^◌, length}
+use Rattle.query_eval.proofs.SearchLemmas.{IsSearching}
 use Rattle.query_eval.proofs.search.search.Given as goal
 
-abbrev pub invariant-loop-at : goal.invariant-loop-at
-invariant-loop-at l =
-    (l.row ≤ length l.seg.docs) × (l.rows ≡ length l.seg.docs) × StaysFrom l.row (answers l.initial.cursor) (answers l.cursor)
-    × IsCounted (matches_doc l.query) l.seg.docs l.seg.live l.initial.found l.found l.row
+abbrev pub invariant-loop-found : goal.invariant-loop-found
+invariant-loop-found l = (l.rows ≡ length l.seg.docs) × IsSearching l.query l.seg l.initial.best l.cursor l.ranker l.best l.row
 
-abbrev pub decreases-loop-at : goal.decreases-loop-at
-decreases-loop-at l = 2 ^ 32 - l.row
+abbrev pub decreases-loop-found : goal.decreases-loop-found
+decreases-loop-found l = 2 ^ 32 - l.row

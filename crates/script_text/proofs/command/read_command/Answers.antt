@@ -3,7 +3,7 @@ use Rattle.script_text.specs.Refused.{text, nothing}
 use Rattle.script_text.specs.Grammar.{words_in}
 use Rattle.script_text.specs.Reading.{front_of}
 use Rattle.script_text.proofs.WordLemmas.{word_is_full}
-use Rattle.script_text.proofs.CommandLemmas.{some_words, plain_read, fault_read, search_read, ask_read, delete_read}
+use Rattle.script_text.proofs.CommandLemmas.{some_words, plain_read, fault_read, search_read, ask_read, delete_read, drop_read}
 use Rattle.script_text.proofs.command.read_command.Goals as goal
 
 pub read_doc-requires-clause-word : goal.read_doc-requires-clause-word
@@ -23,6 +23,12 @@ returns-in_ok-read_key-in-Delete c =
     rw c.in-Delete.is
     (delete_read c.args.nodes c.args.line.now (words_in c.args.rest.now) c.in_ok-read_key-in-Delete.field-0 (rw c.in-Delete.is at c.requires.counted)
     (rw c.first_words-words.ensures.first at c.in_ok-read_key-in-Delete.ensures))
+
+pub returns-in_ok-read_drop-in-Drop : goal.returns-in_ok-read_drop-in-Drop
+returns-in_ok-read_drop-in-Drop c =
+    rw c.in-Drop.is
+    (drop_read c.args.nodes c.args.line.now (words_in c.args.rest.now) c.in_ok-read_drop-in-Drop.field-0 (rw c.in-Drop.is at c.requires.counted)
+    (rw c.first_words-words.ensures.first at c.in_ok-read_drop-in-Drop.ensures))
 
 pub returns-in-Search : goal.returns-in-Search
 returns-in-Search c =

@@ -1,7 +1,7 @@
 use Rattle.std.proofs.Common.{rules, tests}
 use Rattle.std.proofs.lemmas.Iterator.{YieldsList-from_slice}
 use Rattle.std.proofs.lemmas.Iterator.Consumers.{YieldsList-from_filter_map, max_from_yields_List}
-use Rattle.segment_infos.specs.Commits.{number_of_pending}
+use Rattle.file_names.specs.Names.{number_of_pending}
 use Rattle.segment_infos.proofs.CommitLaws.{greatest_of}
 use Rattle.segment_infos.proofs.commits.last_pending.Goals as goal
 

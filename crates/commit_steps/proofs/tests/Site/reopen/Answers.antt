@@ -9,7 +9,7 @@ opened-requires-clause-there g c = files_found (g.D.Dir.cells c.found.new.dir) c
 pub returns-clause-sound : goal.returns-clause-sound
 returns-clause-sound g c =
     let after = c.in_ok-crash.ensures.image in
-    let shown = shows_restarted (g.D.Dir.cells c.found.new.dir) after.0 c.in_ok-number.number c.in_ok-number.infos (c.in_ok-number.ensures.cells ∙ after.2) c.in_ok-number.ensures.whole.shown in
+    let shown = shows_restarted (g.D.Dir.cells c.found.new.dir) after.0 c.in_ok-number.number c.in_ok-number.infos (c.in_ok-number.ensures.cells ∙ after.2) c.in_ok-number.ensures.whole in
     rw (c.replace.ensures.after, c.replace-2.ensures.after) (c.in_ok-book.ensures.sound shown)
 
 pub returns-clause-counted : goal.returns-clause-counted

@@ -1,6 +1,6 @@
 use Rattle.std.proofs.Common.{sym, ◌∙◌}
 use Rattle.file_deleter.proofs.NameLemmas.{none_missing}
-use Rattle.file_deleter.proofs.Keeping.{holds, pending_held}
+use Rattle.file_deleter.proofs.Keeping.{holds, due_held}
 use Rattle.file_deleter.proofs.Sounding.{apart_counts}
 use Rattle.file_deleter.proofs.deleter.FileDeleter.hold.Goals as goal
 
@@ -9,8 +9,8 @@ returns-clause-there g c = none_missing _ _ (sym c.first_missing.ensures ∙ c.i
 
 pub returns-clause-holds : goal.returns-clause-holds
 returns-clause-holds g c = rw (← c.self.view_is)
-    (holds _ _ _ _ c.in_ok-hold.ensures.adds.counts c.in_ok-hold.ensures.adds.pending (apart_counts _ _ c.in_ok-hold.ensures.sound.order) (returns-clause-there g c).each)
+    (holds _ _ _ _ c.in_ok-hold.ensures.adds.counts c.in_ok-hold.ensures.adds.due (apart_counts _ _ c.in_ok-hold.ensures.sound.order) (returns-clause-there g c).each)
 
-pub returns-clause-pending : goal.returns-clause-pending
-returns-clause-pending g c = rw (← c.self.view_is)
-    (pending_held _ _ _ c.in_ok-hold.ensures.adds (apart_counts _ _ c.self.invariant.order))
+pub returns-clause-due : goal.returns-clause-due
+returns-clause-due g c = rw (← c.self.view_is)
+    (due_held _ _ _ c.in_ok-hold.ensures.adds (apart_counts _ _ c.self.invariant.order))

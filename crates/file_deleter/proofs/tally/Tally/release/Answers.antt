@@ -24,6 +24,6 @@ returns-clause-released g c = record {
 pub returns-clause-sound : goal.returns-clause-sound
 returns-clause-sound g c = record {
   order = order_released _ _ _ _ _ (returns-clause-released g c);
-  room = record { counts = omega arith; pending = omega arith; fallen = omega arith };
+  room = record { counts = omega arith; due = omega arith; fallen = omega arith };
   fallen = c.merge.ensures.empty;
 }

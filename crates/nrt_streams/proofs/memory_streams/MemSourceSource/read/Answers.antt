@@ -1,4 +1,4 @@
-use Rattle.std.proofs.Common.{◌≡◌, ◌<◌, min, drop, take, length, ◌-◌, sym, ap, ◌∙◌, arith}
+use Rattle.std.proofs.Common.{◌≡◌, min, drop, take, length, ◌-◌, sym, ap, ◌∙◌, arith}
 use Rattle.std.proofs.lemmas.Grind.{common_steps}
 use Rattle.nrt_streams.specs.MemoryStreams.{Input}
 use Rattle.nrt_streams.proofs.StreamLemmas.{read_gives, read_ends}

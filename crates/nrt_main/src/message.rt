@@ -1,0 +1,29 @@
+//! What a message quotes of a script: a line, and the word of it that is not known.
+
+use nrt_base::LineNo;
+use std::str;
+
+/// The line of a script with this number, without a carriage return; empty where there is none, or where it is no text.
+pub fn line_of(script: &[u8], number: LineNo) -> &str {
+    let before = number.0.saturating_sub(1);
+    let line = script.split(|byte| *byte == b'\n').nth(before as usize);
+    match str::from_utf8(line.unwrap_or(&[])) {
+        Ok(text) => text.trim(),
+        Err(_) => "",
+    }
+}
+
+/// The word of a refused line that no command has: the first, or, where that is a lane, the second, or the third
+/// behind `fault`.
+pub fn unknown_word(line: &str) -> &str {
+    let mut words = line.split(' ').filter(|word| !word.is_empty());
+    let first = words.next().unwrap_or("");
+    if !first.bytes().all(|byte| byte.is_ascii_digit()) {
+        return first;
+    }
+    match words.next() {
+        Some("fault") => words.next().unwrap_or(""),
+        Some(second) => second,
+        None => "",
+    }
+}

@@ -1,0 +1,65 @@
+//! The rules of faults: where one may be met.
+
+ghost use Rattle.std.specs.Prelude.{◌≡◌, ◌↔◌, ◌⊎◌, reverse, true, false, IsTrue};
+ghost use Rattle.std.specs.Option.{option_copied};
+ghost use Rattle.history_entries.specs.Lines.{last_of_line, is_answered};
+ghost use Rattle.history_entries.specs.Rules.{copies_to, is_merging, fetches_at, MayFault};
+
+use crate::faults::{is_of_disk, is_planned};
+use crate::lines::{before_start, is_answered, last_of_line, start_entry};
+use crate::nodes::{is_at, is_node, is_running, primary_of};
+use crate::refusals::is_node_of;
+use history_entries::{Entry, Event, FaultKind};
+use nrt_base::{At, NodeNo};
+
+/// Whether a line started as a copy or a settle after these entries, and this is a node of it.
+fn copies_to(nodes: u8, start: &[Entry], begun: Option<&Event>, n: NodeNo) -> bool
+    ensures { result ≡ copies_to nodes (reverse start.now) (option_copied begun.entry) n.0 }
+{
+    match begun {
+        Some(Event::Copying { n: m, v }) => m.0 == n.0,
+        Some(Event::Settling { v }) => {
+            1 <= n.0 && n.0 <= nodes && is_running(n, start) && !is_at(primary_of(start).node, n)
+        }
+        _ => false,
+    }
+}
+
+fn is_merging(last: Option<&Event>) -> bool
+    ensures { result ≡ is_merging (option_copied last.entry) }
+{
+    match last {
+        Some(Event::Merging { .. }) => true,
+        _ => false,
+    }
+}
+
+/// Whether files are copied to the node for a line: by a copy or a settle of it, or by a merge.
+fn fetches_at(nodes: u8, at: At, entries: &[Entry], n: NodeNo) -> bool
+    ensures { result ≡ fetches_at nodes at (reverse entries.now) n.0 }
+{
+    copies_to(
+        nodes,
+        before_start(at, entries),
+        start_entry(at, entries),
+        n,
+    ) || (is_merging(last_of_line(at, entries))
+        && is_running(n, entries)
+        && !is_at(primary_of(entries).node, n))
+}
+
+/// Whether a line may meet faults: it has no reply yet, or it is a merge.
+fn is_at_work(at: At, entries: &[Entry]) -> bool
+    ensures { IsTrue result ↔ ((is_answered at (reverse entries.now) ≡ false) ⊎ (is_merging (last_of_line at (reverse entries.now)) ≡ true)) }
+{
+    !is_answered(at, entries) || is_merging(last_of_line(at, entries))
+}
+
+pub(crate) fn may_fault(nodes: u8, entries: &[Entry], at: At, n: NodeNo, kind: FaultKind) -> bool
+    ensures { IsTrue result ↔ MayFault nodes (reverse entries.now) at n kind }
+{
+    is_node(nodes, n)
+        && is_planned(n, kind, entries)
+        && is_at_work(at, entries)
+        && (is_of_disk(kind) || fetches_at(nodes, at, entries, n))
+}

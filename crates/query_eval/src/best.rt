@@ -1,0 +1,108 @@
+//! The best 20 of the hits that are counted.
+
+ghost use Rattle.std.specs.Prelude.{◌≡◌, ◌+◌, ◌<◌, ◌≤◌, ◌^◌, [], length, slice_get, IsTrue, IfSome, OnOk};
+ghost use Rattle.std.specs.Ordering.{is_lt};
+ghost use Rattle.documents.specs.Ranking.{answer_of, hit_cmp};
+ghost use Rattle.query_eval.specs.Best.{count_ahead as count_ahead_lem, hit_with, AreBest, AreBeyond, CountsHit};
+
+use documents::{Answer, Hit};
+use nrt_base::{Key, List, NoMemory};
+use seg_reader::Segment;
+use std::alloc::Global;
+use std::marker::Model;
+
+/// How many hits an answer gives at most.
+const MOST_HITS: usize = 20;
+
+/// How many documents were found, and the first 20 of their hits in order, seen as the answer that they make.
+#[derive(Drop)]
+pub struct BestHits {
+    total: u32,
+    hits: Vec<Hit>,
+}
+
+impl Model for BestHits {
+    ghost use Rattle.documents.specs.declared.answer.Answer.{Answer};
+
+    ghost Value = { Answer };
+
+    ghost view = { λ best. record { total = best.total; hits = best.hits.items } };
+}
+
+// Whether a hit stands ahead of one of this key and this rank.
+fn is_ahead(hit: &Hit, key: &[u8], rank: u32) -> bool
+    ensures { result ≡ is_lt (hit_cmp hit.now (hit_with key.now rank)) }
+{
+    rank.cmp(&hit.rank)
+        .then_with(|| hit.key.as_slice().cmp(&key))
+        .is_lt()
+}
+
+// How many of the hits stand ahead of one of this key and this rank. They are looked at from the last on, since most come
+// behind them all.
+fn count_ahead(hits: &[Hit], key: &[u8], rank: u32) -> usize
+    ensures within { result ≤ length hits.now }
+    ensures ahead { AreBest hits.now → result ≡ count_ahead_lem hits.now (hit_with key.now rank) }
+{
+    let mut place = hits.len();
+    while place > 0 {
+        if is_ahead(&hits[place - 1], key, rank) {
+            return place;
+        }
+        place -= 1;
+    }
+    0
+}
+
+// Whether there are 20 hits that all stand ahead of those of this rank, whatever their keys.
+fn are_beyond(hits: &[Hit], rank: u32) -> bool
+    ensures { IsTrue result → AreBest hits.now → AreBeyond hits.now rank }
+{
+    if hits.len() < MOST_HITS {
+        return false;
+    }
+    rank < hits[MOST_HITS - 1].rank
+}
+
+impl BestHits {
+    pub fn new(alloc: Global) -> BestHits
+        ensures { result ≡ answer_of [] }
+    {
+        BestHits {
+            total: 0,
+            hits: Vec::new(alloc),
+        }
+    }
+
+    /// Counts the document of a row, which has this rank. Its key is read only where it may come among the first 20.
+    pub fn add(&mut self, alloc: Global, seg: &Segment, row: u32, rank: u32) -> Result<(), NoMemory>
+        requires row { row < length seg.now.docs }
+        requires room { self.old.total + 1 < 2 ^ 32 }
+        ensures { OnOk result
+            (IfSome (slice_get seg.now.docs row) (λ doc. CountsHit (hit_with doc.key rank) self.old self.new)) }
+    {
+        self.total += 1;
+        if are_beyond(self.hits.as_slice(), rank) {
+            return Ok(());
+        }
+        let key = seg.key(row);
+        let place = count_ahead(self.hits.as_slice(), key, rank);
+        if place < MOST_HITS {
+            let key = Key::new(alloc, key)?;
+            self.hits.insert(place, Hit { key, rank })?;
+            self.hits.truncate(MOST_HITS);
+        }
+        Ok(())
+    }
+
+    pub fn into_answer(self) -> Answer
+        ensures total { result.total ≡ self.total }
+        ensures hits { result.hits ≡ self.hits }
+    {
+        let BestHits { total, hits } = self;
+        Answer {
+            total,
+            hits: List::from_vec(hits),
+        }
+    }
+}

@@ -1,0 +1,8 @@
+use Rattle.script_text.proofs.LogLemmas.{points_are_logged, nothing_is_lost}
+use Rattle.script_text.proofs.log_laws.log_loses_nothing.Goals as goal
+
+pub returns : goal.returns
+returns c = record {
+  points = points_are_logged c.args.script.now c.args.h.now c.requires.log c.requires.serves;
+  written = nothing_is_lost c.args.script.now c.args.h.now c.requires.log c.requires.serves;
+}
