@@ -12,7 +12,7 @@ use Rattle.live_bits.specs.LiveRows.{live_rows}
 use Rattle.segment_infos.specs.declared.infos.SegRecord.{SegRecord}
 use Rattle.seg_reader.specs.declared.parts.SegParts.{SegParts}
 use Rattle.seg_reader.specs.Shown.{Shown}
-use Rattle.seg_reader.specs.Files.{id_of, IsSegmentOf}
+use Rattle.seg_reader.specs.Files.{record_id, IsSegmentOf}
 use Rattle.seg_reader.specs.Sound.{IsSound}
 
 -- the live generation of a new segment: none where all rows are live, and else the first
@@ -58,8 +58,8 @@ pub record IsReadAs (r : SegRecord) (parts : SegParts) (docs : List Doc) (live :
 
 -- the bodies of documents and of postings have fewer than 2^32 bytes
 pub record HaveSmallBodies (r : SegRecord) (parts : SegParts) : Type 0 where
-  pub docs : (body : List ℕ) → IsFramed (documents_wanted (id_of r)) 1 (id_of r) body parts.docs → length body < 2 ^ 32
-  pub post : (body : List ℕ) → IsFramed (postings_wanted (id_of r)) 1 (id_of r) body parts.post → length body < 2 ^ 32
+  pub docs : (body : List ℕ) → IsFramed (documents_wanted (record_id r)) 1 (record_id r) body parts.docs → length body < 2 ^ 32
+  pub post : (body : List ℕ) → IsFramed (postings_wanted (record_id r)) 1 (record_id r) body parts.post → length body < 2 ^ 32
 
 -- The files are those of a new segment with these documents and these live rows: its parts under their names, which read so.
 pub record IsBuilt (r : SegRecord) (files : List File) (docs : List Doc) (live : List Bool) : Type 0 where

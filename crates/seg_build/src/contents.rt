@@ -6,7 +6,7 @@ ghost use Rattle.postings_plain.specs.Postings.{Entry};
 ghost use Rattle.postings_plain.specs.Body.{postings_wanted, IsPostingsFile};
 ghost use Rattle.postings_plain.specs.Inverting.{AreEntriesOf};
 ghost use Rattle.segment_infos.specs.SegmentInfo.{IsInfoFile};
-ghost use Rattle.seg_reader.specs.Files.{id_of, info_of, AreLiveRowsOf};
+ghost use Rattle.seg_reader.specs.Files.{record_id, info_of, AreLiveRowsOf};
 ghost use Rattle.seg_reader.specs.Sound.{term_row};
 ghost use Rattle.seg_build.specs.Rows.{IsPrepared, docs_of};
 ghost use Rattle.seg_build.specs.Built.{IsRecordOf, IsReadAs, HaveSmallBodies};
@@ -63,7 +63,7 @@ fn live_file(
     segment: &SegRecord,
     live: &LiveBits,
 ) -> Result<Option<Bytes>, NoMemory>
-    requires id { id.now ≡ id_of segment.now }
+    requires id { id.now ≡ record_id segment.now }
     requires live { IsRecordOf live.now segment.now }
     ensures given { IfOk result (λ file. IsSome file ↔ (0 < segment.now.live_gen)) }
     ensures rows { IfOk result (λ file. AreLiveRowsOf file segment.now live.now) }
