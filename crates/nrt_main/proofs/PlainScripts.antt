@@ -10,12 +10,12 @@ use Rattle.nrt_base.specs.Bytes.{is_between}
 use Rattle.documents.specs.Matching.{is_well_formed}
 use Rattle.script_serving.specs.declared.script.Line.{Line}
 use Rattle.script_serving.specs.declared.script.LineCommand.{LineCommand}
-use Rattle.script_serving.specs.declared.script.LineCommand.TheVariants.{Put, Publish, Copy, Search, Ask}
+use Rattle.script_serving.specs.declared.script.LineCommand.TheVariants.{Put, Drop, Publish, Copy, Search, Ask}
 use Rattle.script_serving.specs.declared.script.Phase.{Phase}
 use Rattle.script_serving.specs.declared.script.Script.{Script}
 use Rattle.script_serving.specs.Lines.{lines_of, lines_of_phase}
 use Rattle.script_serving.specs.Form.{is_command}
-use Rattle.script_text.specs.Grammar.{Statement, statements_of, words_in, command_words, Ends, IsNodesHeader, SpellsPhases, SpellsBody, SpellsStatements, of_lane, lane_entry, lanes_from, phase_of}
+use Rattle.script_text.specs.Grammar.{Statement, statements_of, words_in, command_words, Ends, IsNodesHeader, SpellsPhases, SpellsLogged, SpellsBody, SpellsStatements, most_statements, promotions_among, AreFew, of_lane, lane_entry, lanes_from, phase_of}
 use Rattle.script_text.specs.Refused.{is_digit, value_of}
 use Rattle.plain_run.specs.Built.{begins_with_words, is_built, first_unbuilt}
 use Rattle.script_text.proofs.NumberLaws.{value_of-decimal, digits_of-decimal, other_word}
@@ -26,7 +26,7 @@ use Rattle.nrt_main.specs.Headline.{IsRunnable}
 
 -- how the words behind the first lane begin in statements that the program runs
 abbrev command_beginnings : List (List (List ℕ))
-command_beginnings = (codes "put" ∷ []) ∷ (codes "publish" ∷ []) ∷ (codes "copy" ∷ codes "2" ∷ []) ∷ (codes "search" ∷ []) ∷ []
+command_beginnings = (codes "put" ∷ []) ∷ (codes "drop" ∷ []) ∷ (codes "publish" ∷ []) ∷ (codes "copy" ∷ codes "2" ∷ []) ∷ (codes "search" ∷ []) ∷ []
 
 abbrev is_built_command : List (List ℕ) → Bool
 is_built_command words = list_any (λ beginning. begins_with_words beginning words) command_beginnings
@@ -69,6 +69,7 @@ module _ (line : List ℕ) (lane : ℕ) (narrow : lane < 2 ^ 64) (built : is_bui
   built_command : (c : LineCommand) → Ends c line lane → is_command 2 c ≡ true → IsPlainLine lane c
   built_command (Put doc) ends ranges =
       line_of (Put doc) (codes "put" ∷ doc.key ∷ words_after 3 (words_in line)) (three_words (words_in line) (decimal lane) (codes "put") doc.key ends.0) (λ h. refl)
+  built_command (Drop word) ends ranges = line_of (Drop word) (codes "drop" ∷ ends.written ∷ []) ends.words (λ h. refl)
   built_command Publish ends ranges = line_of Publish (command_words Publish) ends (λ h. refl)
   built_command (Copy n) ends ranges =
       line_of (Copy n) (command_words (Copy n)) ends (copied_to n.0 (omega (arith, between_high 1 2 n.0 ranges)))
@@ -153,15 +154,16 @@ lines_first : (lines : List Line) → flat_map lines_of_phase (record { lanes = 
 lines_first [] = refl
 lines_first (line ∷ lines) = append-nil ((line ∷ lines) ++ []) ∙ append-nil (line ∷ lines)
 
-plain_of : (script : Script) (phases : List (List Line)) (most : ℕ) → most ≤ 200000 → script.nodes ≡ 2 → script.workers ≡ 0 → IsOnePhase most phases → script.phases ≡ map phase_of phases
+plain_of : (script : Script) (phases : List (List Line)) (most : ℕ) → most ≤ 200000 → script.nodes ≡ 2 → script.workers ≡ 0 → script.log ≡ false → IsOnePhase most phases → script.phases ≡ map phase_of phases
     → IsPlainScript script
-plain_of script phases most small nodes workers one is =
+plain_of script phases most small nodes workers no_log one is =
     let whole : script.phases ≡ record { lanes = lane_entry 1 one.lines } ∷ [] =
     is ∙ (ap (map phase_of) one.is ∙ ap (λ (phase : Phase). phase ∷ []) (phase_first one.lines one.lanes)) in
     let lines : lines_of script ≡ one.lines = ap (flat_map lines_of_phase) whole ∙ lines_first one.lines in
     record {
       nodes = nodes;
       workers = workers;
+      log = no_log;
       phase = whole ∙ ap (λ (ls : List Line). let phase : Phase = record { lanes = lane_entry 1 ls } in phase ∷ []) (sym lines);
       plain = ap (list_all (λ (line : Line). is_plain line.command)) lines ∙ one.plain;
       few = omega (arith, ap length lines, one.few);
@@ -175,20 +177,36 @@ two_nodes statement nodes header built =
       | inr apart ↦ absurd (false≢true (simp apart at said))
     ]
 
-built_body : (script : Script) (statements : List Statement) (phases : List (List Line)) → SpellsBody 2 script.workers statements phases → first_unbuilt statements ≡ None
-    → (script.workers ≡ 0) × IsOnePhase (length statements) phases
-built_body script [] phases spells built = (spells.0, record { lines = []; is = spells.1; lanes = refl; plain = refl; few = omega arith })
+-- no log is asked for, and there is one phase
+record IsPlainBody (log : Bool) (most : ℕ) (phases : List (List Line)) : Type 0 where
+  none : log ≡ false
+  one : IsOnePhase most phases
+
+built_logged : (log : Bool) (statements : List Statement) (phases : List (List Line)) → SpellsLogged 2 log statements phases → first_unbuilt statements ≡ None
+    → IsPlainBody log (length statements) phases
+built_logged log [] phases spells built = record { none = spells.0; one = record { lines = []; is = spells.1; lanes = refl; plain = refl; few = omega arith } }
+built_logged log (statement ∷ statements) phases (inl spells) built =
+    absurd (false≢true (ap is_built (sym spells.1) ∙ (built_parts statement statements built).first))
+built_logged log (statement ∷ statements) phases (inr spells) built = record { none = spells.0; one = built_phases (statement ∷ statements) phases spells.1 built }
+
+built_body : (script : Script) (statements : List Statement) (phases : List (List Line)) → SpellsBody 2 script.workers script.log statements phases → first_unbuilt statements ≡ None
+    → (script.workers ≡ 0) × IsPlainBody script.log (length statements) phases
+built_body script [] phases spells built = (spells.0, built_logged script.log [] phases spells.1 built)
 built_body script (statement ∷ statements) phases (inl spells) built =
     absurd (false≢true (ap is_built (sym spells.0.0) ∙ (built_parts statement statements built).first))
-built_body script (statement ∷ statements) phases (inr spells) built = (spells.0, built_phases (statement ∷ statements) phases spells.1 built)
+built_body script (statement ∷ statements) phases (inr spells) built = (spells.0, built_logged script.log (statement ∷ statements) phases spells.1 built)
 
-built_statements : (statements : List Statement) (script : Script) → SpellsStatements statements script → first_unbuilt statements ≡ None → length statements ≤ 200000 → IsPlainScript script
+few_plain : (log : Bool) (n promoting : ℕ) → AreFew log n promoting → log ≡ false → n ≤ 200000
+few_plain log n promoting few e = let h : n ≤ most_statements false = subst (λ (b : Bool). n ≤ most_statements b) e few.statements in h
+
+built_statements : (statements : List Statement) (script : Script) → SpellsStatements statements script → first_unbuilt statements ≡ None → AreFew script.log (length statements) (promotions_among statements) → IsPlainScript script
 built_statements [] script spells built few = absurd spells
 built_statements (statement ∷ statements) script spells built few =
     let parts = built_parts statement statements built in
     let nodes = two_nodes statement script.nodes spells.0 parts.first in
-    let body = built_body script statements spells.1.0 (subst (λ (n : ℕ). SpellsBody n script.workers statements spells.1.0) nodes spells.1.1) parts.others in
-    plain_of script spells.1.0 (length statements) (omega (arith, few)) nodes body.0 body.1 spells.1.2
+    let body = built_body script statements spells.1.0 (subst (λ (n : ℕ). SpellsBody n script.workers script.log statements spells.1.0) nodes spells.1.1) parts.others in
+    let all = few_plain script.log (length (statement ∷ statements)) (promotions_among (statement ∷ statements)) few body.1.none in
+    plain_of script spells.1.0 (length statements) (omega (arith, all)) nodes body.0 body.1.none body.1.one spells.1.2
 
 -- the engine runs the script
 pub is_plain_script : (bytes : List ℕ) (script : Script) → IsRunnable bytes script → IsPlainScript script

@@ -2,9 +2,8 @@
 use Rattle.std.proofs.Common.{◌≡◌, ℕ, Bool, true, false, List, [], ◌∷◌, refl}
 use Rattle.std.specs.Prelude.{codes, ◌&&◌, ◌||◌, bytes_eq}
 use Rattle.std.proofs.lemmas.Bool.{false≢true}
-use Rattle.plain_run.specs.Built.{is_built}
+use Rattle.plain_run.specs.Built.{is_built, is_built_command}
 use Rattle.script_text.specs.Grammar.{word_at}
-use Rattle.script_text.specs.Reading.{is_built_command}
 
 same_choice : (p d u c t s : Bool) → ((((p || d) || u) || (c && t)) || s) ≡ ((p && true) || ((d && true) || ((u && true) || ((c && (t && true)) || ((s && true) || false)))))
 same_choice true d u c t s = refl

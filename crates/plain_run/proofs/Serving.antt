@@ -2,7 +2,6 @@
 use Rattle.std.proofs.Common.{◌≡◌, ◌+◌, ◌<◌, ◌≤◌, ◌&&◌, ◌||◌, ◌==◌, ℕ, Bool, true, false, List, [], ◌∷◌, ◌++◌, length, Some, None, refl, ap, ◌∙◌, sym, subst, inl, inr, ◌⊎◌, arith, append_assoc, append-nil, reverse, not, if◌then◌else◌}
 use Rattle.std.specs.Prelude.{nat_lt, IsTrue, ⊤}
 use Rattle.std.specs.List.{AllByRecursion, list_all}
-use Rattle.std.proofs.lemmas.List.{reverse-reverse}
 use Rattle.std.proofs.Math.Bool.{or-true}
 use Rattle.std.proofs.lemmas.Bool.Decides.{nat_tests, eqb_tells}
 use Rattle.std.proofs.lemmas.Bool.{ltb-false}
@@ -10,7 +9,7 @@ use Rattle.nrt_base.specs.declared.doc.Doc.{Doc}
 use Rattle.nrt_base.specs.declared.numbers.At.{At}
 use Rattle.nrt_base.specs.declared.numbers.NodeNo.{NodeNo}
 use Rattle.nrt_base.specs.Bytes.{is_between}
-use Rattle.documents.specs.declared.operation.Op.TheVariants.{Put as PutOp}
+use Rattle.documents.specs.declared.operation.Op.TheVariants.{Put as PutOp, Drop as DropOp}
 use Rattle.documents.specs.declared.query.Query.{Query}
 use Rattle.history_entries.specs.declared.cause.Cause.TheVariants.{NamesSpent}
 use Rattle.history_entries.specs.declared.entry.Entry.{Entry}
@@ -22,12 +21,13 @@ use Rattle.history_entries.specs.Points.{cut_of, cut_has_put, names_drawn, docum
 use Rattle.documents.specs.Matching.{scan_of}
 use Rattle.script_serving.specs.declared.script.Line.{Line}
 use Rattle.script_serving.specs.declared.script.LineCommand.{LineCommand}
-use Rattle.script_serving.specs.declared.script.LineCommand.TheVariants.{Put, Publish, Copy, Search}
+use Rattle.script_serving.specs.declared.script.LineCommand.TheVariants.{Put, Drop, Publish, Copy, Search}
 use Rattle.script_serving.specs.declared.script.Phase.{Phase}
 use Rattle.script_serving.specs.declared.script.Script.{Script}
 use Rattle.script_serving.specs.Lines.{lines_of, lines_of_lane, command_at, has_line, all_answered, earlier_answered}
 use Rattle.script_text.specs.Grammar.{lane_entry}
 use Rattle.script_serving.specs.Refusals.{refusal, when, names_are_spent}
+use Rattle.script_serving.specs.Replays.{due}
 use Rattle.script_serving.specs.Serves.{ServesLane, ServesPhases, Serves}
 use Rattle.script_serving.specs.Form.{IsInForm, is_phase, are_distinct}
 use Rattle.script_serving.proofs.OneLane.{Walks, serves_one_lane}
@@ -106,6 +106,9 @@ module _ (lines : List Line) (past : Past) (at : At) (lane : at.lane.0 ≡ 1) (k
   walks_put : (doc : Doc) → command_at lines at ≡ Some (Put doc) → Walks lines (after_command (Put doc) at past)
   walks_put doc found = (lane, known, rw (found, fresh, up.primary) (refl, earlier), walks)
 
+  walks_drop : (word : List ℕ) → command_at lines at ≡ Some (Drop word) → Walks lines (after_command (Drop word) at past)
+  walks_drop word found = (lane, known, rw (found, fresh, up.primary) (refl, earlier), walks)
+
   walks_published : command_at lines at ≡ Some Publish → names_drawn past < 1679616 → Walks lines (published_next at past)
   walks_published found few =
       let began : Walks lines (publishing_entry at ∷ past) = (lane, known, rw (found, fresh, publish_free past at.lane.0 up few) (tt, earlier), walks) in
@@ -146,6 +149,7 @@ module _ (lines : List Line) (past : Past) (at : At) (lane : at.lane.0 ≡ 1) (k
 
   walks_command : (c : LineCommand) → is_plain c ≡ true → command_at lines at ≡ Some c → names_drawn past < 1679616 → Walks lines (after_command c at past)
   walks_command (Put doc) plain found few = walks_put doc found
+  walks_command (Drop word) plain found few = walks_drop word found
   walks_command Publish plain found few = walks_publish found few
   walks_command (Copy n) plain found few = walks_copy n plain found
   walks_command (Search n query) plain found few = walks_search n query plain found
@@ -166,6 +170,7 @@ module _ (at other : At) (apart : same_at at other ≡ false) (past : Past) wher
 
   pub others_keep : (c : LineCommand) → Keeps (after_command c at past)
   others_keep (Put doc) = rw apart refl
+  others_keep (Drop word) = rw apart refl
   others_keep Publish = after_by Keeps at past (rw apart refl) (rw apart refl)
   others_keep (Copy n) = copied_by Keeps at past (rw apart refl) (rw apart refl)
   others_keep (Search n query) = rw apart refl
@@ -174,6 +179,7 @@ module _ (at other : At) (apart : same_at at other ≡ false) (past : Past) wher
 -- the line has its reply
 answered_command : (c : LineCommand) (at : At) (past : Past) → is_plain c ≡ true → is_answered at (after_command c at past) ≡ true
 answered_command (Put doc) at past plain = rw (same_at_self at) refl
+answered_command (Drop word) at past plain = rw (same_at_self at) refl
 answered_command Publish at past plain = after_by (λ next. is_answered at next ≡ true) at past (rw (same_at_self at) refl) (rw (same_at_self at) refl)
 answered_command (Copy n) at past plain = copied_by (λ next. is_answered at next ≡ true) at past (rw (same_at_self at) refl) (rw (same_at_self at) refl)
 answered_command (Search n query) at past plain = rw (same_at_self at) refl
@@ -202,6 +208,7 @@ still_searched at other n query past h =
 
 answered_still : (c : LineCommand) (at other : At) (past : Past) → is_answered other past ≡ true → is_answered other (after_command c at past) ≡ true
 answered_still (Put doc) at other past h = still_answered other (accepted_entry at (accepted_count past + 1) (PutOp doc)) past h
+answered_still (Drop word) at other past h = still_answered other (accepted_entry at (accepted_count past + 1) (DropOp word)) past h
 answered_still Publish at other past h =
     after_by (λ next. is_answered other next ≡ true) at past (still_published at other past h) (still_answered other (refused_entry at) past h)
 answered_still (Copy n) at other past h =
@@ -212,6 +219,7 @@ answered_still c at other past h = h
 
 up_command : (c : LineCommand) (at : At) (past : Past) → IsUp past → IsUp (after_command c at past)
 up_command (Put doc) at past up = record { primary = up.primary; first = up.first; second = up.second }
+up_command (Drop word) at past up = record { primary = up.primary; first = up.first; second = up.second }
 up_command Publish at past up =
     after_by IsUp at past (record { primary = up.primary; first = up.first; second = up.second }) (record { primary = up.primary; first = up.first; second = up.second })
 up_command (Copy n) at past up =
@@ -225,6 +233,7 @@ names_publish past at = elim (cut_has_put past) as (λ b. (if b then names_drawn
 -- a line draws one name at most
 names_command : (c : LineCommand) (at : At) (past : Past) → names_drawn (after_command c at past) ≤ names_drawn past + 1
 names_command (Put doc) at past = omega arith
+names_command (Drop word) at past = omega arith
 names_command Publish at past = after_by (λ next. names_drawn next ≤ names_drawn past + 1) at past (names_publish past at) (omega arith)
 names_command (Copy n) at past = copied_by (λ next. names_drawn next ≤ names_drawn past + 1) at past (omega arith) (omega arith)
 names_command (Search n query) at past = omega arith
@@ -233,6 +242,7 @@ names_command c at past = omega arith
 -- a line accepts one operation at most
 pub accepted_command : (c : LineCommand) (at : At) (past : Past) → accepted_count (after_command c at past) ≤ accepted_count past + 1
 accepted_command (Put doc) at past = omega arith
+accepted_command (Drop word) at past = omega arith
 accepted_command Publish at past = after_by (λ next. accepted_count next ≤ accepted_count past + 1) at past (omega arith) (omega arith)
 accepted_command (Copy n) at past = copied_by (λ next. accepted_count next ≤ accepted_count past + 1) at past (omega arith) (omega arith)
 accepted_command (Search n query) at past = omega arith
@@ -354,28 +364,26 @@ no_walk [] walks = refl
 no_walk (e ∷ past) walks = let known : false ≡ true = walks.1 in cc
 
 -- a script without lines is served by a history without entries
-serves_none : (script : Script) (h : History) → lines_of script ≡ [] → h.nodes ≡ script.nodes → reverse h.entries ≡ [] → Serves script h
-serves_none script h none nodes past =
-    let entries : h.entries ≡ [] = sym (reverse-reverse h.entries) ∙ ap reverse past in
-    record {
-      nodes = nodes;
-      lines = subst (AllByRecursion (λ (entry : Entry). has_line (lines_of script) entry.at ≡ true)) (sym entries) tt;
-      lanes = λ lane. subst (ServesLane lane (lines_of_lane lane script)) (sym past) tt;
-      phases = subst (ServesPhases (lines_of script) script.phases) (sym past) tt;
-      answered = ap (λ (ls : List Line). all_answered ls (reverse h.entries)) none;
-    }
+serves_none : (script : Script) (h : History) → lines_of script ≡ [] → h.nodes ≡ script.nodes → script.log ≡ false → reverse h.entries ≡ [] → Serves script h
+serves_none script h none nodes no_log past = record {
+  nodes = nodes;
+  lanes = λ lane. subst (ServesLane script.log lane (lines_of_lane lane script)) (sym past) tt;
+  phases = subst (ServesPhases (lines_of script) script.phases) (sym past) tt;
+  answered = ap (λ (ls : List Line). all_answered ls (reverse h.entries)) none;
+  replayed = ap (λ (log : Bool). due log (reverse h.entries)) no_log;
+}
 
-serves_first : (script : Script) (lines : List Line) (h : History) → lines_of script ≡ lines → script.phases ≡ record { lanes = lane_entry 1 lines } ∷ [] → h.nodes ≡ script.nodes
+serves_first : (script : Script) (lines : List Line) (h : History) → lines_of script ≡ lines → script.phases ≡ record { lanes = lane_entry 1 lines } ∷ [] → h.nodes ≡ script.nodes → script.log ≡ false
     → Walks lines (reverse h.entries) → all_answered lines (reverse h.entries) ≡ true → Serves script h
-serves_first script [] h is phases nodes walks answered = serves_none script h is nodes (no_walk (reverse h.entries) walks)
-serves_first script (line ∷ lines) h is phases nodes walks answered = serves_one_lane script (line ∷ lines) h phases nodes walks answered
+serves_first script [] h is phases nodes no_log walks answered = serves_none script h is nodes no_log (no_walk (reverse h.entries) walks)
+serves_first script (line ∷ lines) h is phases nodes no_log walks answered = serves_one_lane script (line ∷ lines) h phases nodes no_log walks answered
 
 -- the history of the engine's entries serves the script
 pub served_history : (script : Script) (h : History) → IsInForm script → IsPlainScript script → h.nodes ≡ 2 → reverse h.entries ≡ after_lines (lines_of script) [] → Serves script h
 served_history script h form plain nodes entries =
     let served : IsServed (lines_of script) (reverse h.entries) =
     subst (IsServed (lines_of script)) (sym entries) (served_lines (lines_of script) (runnable_script script form plain) plain.few) in
-    serves_first script (lines_of script) h refl plain.phase (nodes ∙ sym plain.nodes) served.0 (done_all (lines_of script) (reverse h.entries) served.1)
+    serves_first script (lines_of script) h refl plain.phase (nodes ∙ sym plain.nodes) plain.log served.0 (done_all (lines_of script) (reverse h.entries) served.1)
 
 pub one_or_two : (n : ℕ) → is_between 1 2 n ≡ true → (n ≡ 1) ⊎ (n ≡ 2)
 one_or_two n h = grind (arith, nat_tests)

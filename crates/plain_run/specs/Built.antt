@@ -1,5 +1,5 @@
 -- What the program runs so far: the first statement of a script that it does not run.
-use Rattle.std.specs.Prelude.{ℕ, ◌≡◌, List, [], ◌∷◌, codes, Bool, true, false, ◌&&◌, if◌then◌else◌, Option, Some, None, bytes_eq}
+use Rattle.std.specs.Prelude.{ℕ, ◌≡◌, List, [], ◌∷◌, codes, Bool, true, false, ◌&&◌, ◌||◌, if◌then◌else◌, Option, Some, None, bytes_eq}
 use Rattle.std.specs.List.{list_any}
 use Rattle.script_text.specs.Grammar.{Statement, statements_of, words_in}
 
@@ -23,6 +23,11 @@ built_beginnings =
 -- the program runs a statement of these words
 abbrev pub is_built : List (List ℕ) → Bool
 is_built words = list_any (λ beginning. begins_with_words beginning words) built_beginnings
+
+-- the program runs a line of lane 1 with these words behind the lane
+abbrev pub is_built_command : List ℕ → List ℕ → Bool
+is_built_command name next =
+    bytes_eq (codes "put") name || bytes_eq (codes "drop") name || bytes_eq (codes "publish") name || (bytes_eq (codes "copy") name && bytes_eq (codes "2") next) || bytes_eq (codes "search") name
 
 -- the line number of the first of these statements that the program does not run
 abbrev pub first_unbuilt : List Statement → Option ℕ

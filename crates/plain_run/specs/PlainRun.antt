@@ -4,7 +4,7 @@ use Rattle.std.specs.List.{list_all}
 use Rattle.nrt_base.specs.declared.numbers.At.{At}
 use Rattle.nrt_base.specs.Bytes.{is_between}
 use Rattle.documents.specs.declared.operation.Op.{Op}
-use Rattle.documents.specs.declared.operation.Op.TheVariants.{Put as PutOp}
+use Rattle.documents.specs.declared.operation.Op.TheVariants.{Put as PutOp, Drop as DropOp}
 use Rattle.documents.specs.declared.query.Query.{Query}
 use Rattle.history_entries.specs.declared.cause.Cause.TheVariants.{Nothing}
 use Rattle.documents.specs.declared.answer.Answer.{Answer}
@@ -15,7 +15,7 @@ use Rattle.history_entries.specs.Points.{cut_of, documents_at}
 use Rattle.documents.specs.Matching.{scan_of}
 use Rattle.script_serving.specs.declared.script.Line.{Line}
 use Rattle.script_serving.specs.declared.script.LineCommand.{LineCommand}
-use Rattle.script_serving.specs.declared.script.LineCommand.TheVariants.{Put, Publish, Copy, Search}
+use Rattle.script_serving.specs.declared.script.LineCommand.TheVariants.{Put, Drop, Publish, Copy, Search}
 use Rattle.script_serving.specs.declared.script.Script.{Script}
 use Rattle.script_serving.specs.Lines.{lines_of}
 use Rattle.script_text.specs.Grammar.{lane_entry}
@@ -47,7 +47,7 @@ opened_entry at n v = record { at = at; event = Opened (record { 0 = n }) (recor
 abbrev pub answered_entry : At → ℕ → ℕ → Query → Answer → Entry
 answered_entry at n v query answer = record { at = at; event = Answered (record { 0 = n }) (record { 0 = 0 }) (record { 0 = v }) query answer }
 
--- a put is accepted with the next number
+-- an operation is accepted with the next number
 abbrev pub after_accept : At → Op → Past → Past
 after_accept at op past = accepted_entry at (accepted_count past + 1) op ∷ past
 
@@ -77,6 +77,7 @@ after_search at n query past =
 -- what the engine makes of a line
 abbrev pub after_command : LineCommand → At → Past → Past
 after_command (Put doc) at past = after_accept at (PutOp doc) past
+after_command (Drop word) at past = after_accept at (DropOp word) past
 after_command Publish at past = after_publish at past
 after_command (Copy n) at past = after_copy at past
 after_command (Search n query) at past = after_search at n.0 query past
@@ -86,18 +87,20 @@ abbrev pub after_lines : List Line → Past → Past
 after_lines [] past = past
 after_lines (line ∷ lines) past = after_lines lines (after_command line.command line.at past)
 
--- the engine runs such lines: puts, publishes, copies to node 2, and searches of node 1 or 2
+-- the engine runs such lines: puts, drops, publishes, copies to node 2, and searches of node 1 or 2
 abbrev pub is_plain : LineCommand → Bool
 is_plain (Put doc) = true
+is_plain (Drop word) = true
 is_plain Publish = true
 is_plain (Copy n) = n.0 == 2
 is_plain (Search n query) = is_between 1 2 n.0
 is_plain command = false
 
--- two nodes, no workers, and one phase, in which no lane but the first has lines: lines that the engine runs, 200,000 of them at most
+-- two nodes, no workers, no log, and one phase, in which no lane but the first has lines: lines that the engine runs, 200,000 of them at most
 pub record IsPlainScript (script : Script) : Type 0 where
   pub nodes : script.nodes ≡ 2
   pub workers : script.workers ≡ 0
+  pub log : script.log ≡ false
   pub phase : script.phases ≡ record { lanes = lane_entry 1 (lines_of script) } ∷ []
   pub plain : list_all (λ line. is_plain line.command) (lines_of script) ≡ true
   pub few : length (lines_of script) ≤ 200000

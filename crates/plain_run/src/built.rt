@@ -1,7 +1,7 @@
 ghost use Rattle.std.specs.Prelude.{◌≡◌, ◌≤◌, length, MatchOption};
 ghost use Rattle.script_text.specs.Grammar.{words_in};
 ghost use Rattle.plain_run.specs.Built.{IsFirstUnbuilt, RunsWhole, is_built as is_built_lem};
-ghost use Rattle.script_text.specs.Reading.{is_built_command as is_built_command_lem};
+ghost use Rattle.plain_run.specs.Built.{is_built_command as is_built_command_lem};
 
 use nrt_base::LineNo;
 use script_text::{LONGEST, first_words, is_word, next_statement};

@@ -33,7 +33,7 @@ use Rattle.script_serving.specs.Form.{are_distinct}
 use Rattle.script_serving.specs.Refusals.{refusal}
 use Rattle.script_serving.specs.Serves.{Begins, First, Follows, Suits, FitsTurn, FitsReplay, Fits, ServesLane, Serves}
 use Rattle.script_serving.specs.Replays.{due}
-use Rattle.script_text.proofs.ServingLemmas.{own_fits, earlier_serves, known_line}
+use Rattle.script_serving.proofs.ServingLemmas.{own_fits, earlier_serves, known_line}
 use Rattle.report_laws.specs.Determined.{TextsDetermineHistories}
 
 -- ---- what a command says of the entries of its line

@@ -3,13 +3,11 @@
 ghost use Rattle.std.specs.Prelude.{IsTrue};
 ghost use Rattle.std.specs.List.{list_all};
 ghost use Rattle.file_names.specs.Names.{is_file_name};
-ghost use Rattle.nrt_base.specs.Bytes.{is_key};
-ghost use Rattle.report_text.specs.Printed.{AllFit, CauseFits, EntryFits, EventFits, IsNumber, PlanFits};
+ghost use Rattle.report_text.specs.Printed.{AllFit, CauseFits, EntryFits, EventFits, IsNumber, PlanFits, hit_fits as hit_fits_lem};
 
-use documents::Answer;
+use documents::{Answer, Hit};
 use file_names::FileName;
 use history_entries::{Cause, Entry, Event, FaultPlan, History};
-use nrt_base::Key;
 
 fn one_fits(a: u64)
     ensures { IsNumber a }
@@ -27,17 +25,18 @@ fn four_fit(a: u64, b: u64, c: u64, d: u64)
     ensures { IsNumber a × IsNumber b × IsNumber c × IsNumber d }
 {}
 
-fn key_fits(key: &Key)
-    ensures { IsTrue (is_key key.now) }
+fn hit_fits(hit: &Hit)
+    ensures { IsTrue (hit_fits_lem hit.now) }
 {
-    key.as_slice();
+    one_fits(u64::from(hit.rank));
+    hit.key.as_slice();
 }
 
-fn keys_fit(keys: &[Key])
-    ensures { IsTrue (list_all is_key keys.now) }
+fn hits_fit(hits: &[Hit])
+    ensures { IsTrue (list_all hit_fits_lem hits.now) }
 {
-    for key in keys {
-        key_fits(key);
+    for hit in hits {
+        hit_fits(hit);
     }
 }
 
@@ -57,10 +56,10 @@ fn names_fit(names: &[FileName])
 
 fn answer_fits(answer: &Answer)
     ensures total { IsNumber answer.now.total }
-    ensures keys { IsTrue (list_all is_key answer.now.keys) }
+    ensures hits { IsTrue (list_all hit_fits_lem answer.now.hits) }
 {
     one_fits(u64::from(answer.total));
-    keys_fit(answer.keys.as_slice());
+    hits_fit(answer.hits.as_slice());
 }
 
 fn plan_fits(plan: FaultPlan)

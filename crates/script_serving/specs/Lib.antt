@@ -3,3 +3,4 @@ pub mod Form
 pub mod Refusals
 pub mod Replays
 pub mod Serves
+pub mod LogLaws

@@ -1,19 +1,18 @@
 -- Why a line is refused before it has started, and why after.
 use Rattle.std.specs.Prelude.{ℕ, ◌+◌, ◌^◌, [], ◌∷◌, Bool, true, false, ◌&&◌, ◌||◌, not, ◌==◌, nat_lt, nat_le, length, if◌then◌else◌, Option, Some, None}
-use Rattle.std.specs.List.{list_any}
 use Rattle.nrt_base.specs.declared.numbers.At.{At}
 use Rattle.nrt_base.specs.declared.numbers.NodeNo.{NodeNo}
 use Rattle.history_entries.specs.declared.cause.Cause.{Cause}
 use Rattle.history_entries.specs.declared.cause.Cause.TheVariants.{Down, Primary, NoPrimary, PrimaryUp, ForceLow, NoTicket, Lost, Cancelled, LinkFault, Damaged, DiskFault, Nothing, Up, NameUsed, NamesSpent, TooManySegments, ForceHigh}
-use Rattle.history_entries.specs.declared.cause.FaultKind.TheVariants.{Disk, Stop}
 use Rattle.history_entries.specs.declared.entry.Event.{Event}
-use Rattle.history_entries.specs.declared.entry.Event.TheVariants.{Published, Merging}
-use Rattle.history_entries.specs.declared.entry.Entry.{Entry}
+use Rattle.history_entries.specs.declared.entry.Event.TheVariants.{Published}
 use Rattle.history_entries.specs.Lines.{before_start}
 use Rattle.history_entries.specs.Nodes.{Past, primary_of, is_at, is_running, newest_version}
 use Rattle.history_entries.specs.Points.{cut_of, cut_has_put, names_drawn, documents_at}
 use Rattle.history_entries.specs.Tickets.{has_ticket}
-use Rattle.history_entries.specs.Faults.{has_fault, same_kind}
+use Rattle.history_entries.specs.Faults.{has_fault, is_of_disk}
+use Rattle.history_entries.specs.Tasks.{merge_count}
+use Rattle.nrt_base.specs.SegNumbers.{segments_of_generation}
 use Rattle.script_serving.specs.declared.script.Force.{Force}
 use Rattle.script_serving.specs.declared.script.Force.TheVariants.{Auto, Exactly}
 use Rattle.script_serving.specs.declared.script.LineCommand.{LineCommand}
@@ -53,7 +52,7 @@ forced_version (Exactly f) past = f
 
 -- every name of the generation is drawn
 abbrev pub names_are_spent : Past → Bool
-names_are_spent past = names_drawn past == 1679616
+names_are_spent past = names_drawn past == segments_of_generation
 
 -- why a line is refused before it has started: the first cause of its row that holds
 abbrev pub refusal : LineCommand → ℕ → Past → Option Cause
@@ -89,17 +88,9 @@ abbrev pub put_publishes : Past → ℕ
 put_publishes [] = 0
 put_publishes (e ∷ past) = put_publishes_by e.event (cut_has_put (before_start e.at past)) (put_publishes past)
 
--- the entry starts a merge
-abbrev pub is_merge : Entry → Bool
-is_merge e = starts_merge e.event
-  where
-    starts_merge : Event → Bool
-    starts_merge (Merging seg) = true
-    starts_merge event = false
-
 -- there may be 256 segments: as many publishes made one, and, where no merge was started, each still has a document
 abbrev pub may_be_full : Past → Bool
-may_be_full past = nat_le 256 (put_publishes past) && (list_any is_merge past || nat_le 256 (length (documents_at past (newest_version past))))
+may_be_full past = nat_le 256 (put_publishes past) && (nat_lt 0 (merge_count past) || nat_le 256 (length (documents_at past (newest_version past))))
 
 -- what a line may be refused for that the history does not decide: segments, sizes and disks do
 abbrev pub may_be_refused : LineCommand → At → Past → Cause → Bool
@@ -107,7 +98,7 @@ may_be_refused Publish at past Nothing = length (cut_of past) == 0
 may_be_refused Publish at past TooManySegments = cut_has_put past && may_be_full past
 may_be_refused (Merge factor) at past Nothing = true
 may_be_refused (Merge factor) at past NamesSpent = names_are_spent past
-may_be_refused (Reopen n) at past DiskFault = has_fault (λ m. m == n.0) (λ kind. same_kind Disk kind || same_kind Stop kind) at past
+may_be_refused (Reopen n) at past DiskFault = has_fault (λ m. m == n.0) is_of_disk at past
 may_be_refused command at past cause = false
 
 -- what a copy may be refused for after it has started

@@ -6,7 +6,6 @@ pub mod FormLemmas
 pub mod HeaderLemmas
 pub mod LaneLineLemmas
 pub mod LineLemmas
-pub mod LogLemmas
 pub mod NumberLaws
 pub mod NumberLemmas
 pub mod OneLine
@@ -15,7 +14,6 @@ pub mod RefusalLaws
 pub mod RightForms
 pub mod RightLines
 pub mod ScriptLaws
-pub mod ServingLemmas
 pub mod ShapeLemmas
 pub mod WordLaws
 pub mod WordLemmas

@@ -1,4 +1,3 @@
-pub mod LogLaws
 pub mod Grammar
 pub mod Refused
 pub mod Exact

@@ -347,8 +347,3 @@ IsScriptAnswer bytes (Ok script) = SpellsScript bytes script
 IsScriptAnswer bytes (Err script_fault.Memory) = length bytes ≤ 16777216
 IsScriptAnswer bytes (Err script_fault.TooLarge) = 16777216 < length bytes
 IsScriptAnswer bytes (Err (script_fault.BadScript n cause)) = IsFirstRefused bytes n.0 cause
-
--- the program runs a line of lane 1 with these words behind the lane
-abbrev pub is_built_command : List ℕ → List ℕ → Bool
-is_built_command name next =
-    bytes_eq (codes "put") name || bytes_eq (codes "drop") name || bytes_eq (codes "publish") name || (bytes_eq (codes "copy") name && bytes_eq (codes "2") next) || bytes_eq (codes "search") name

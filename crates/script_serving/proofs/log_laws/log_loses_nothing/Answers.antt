@@ -1,5 +1,5 @@
-use Rattle.script_text.proofs.LogLemmas.{points_are_logged, nothing_is_lost}
-use Rattle.script_text.proofs.log_laws.log_loses_nothing.Goals as goal
+use Rattle.script_serving.proofs.LogLemmas.{points_are_logged, nothing_is_lost}
+use Rattle.script_serving.proofs.log_laws.log_loses_nothing.Goals as goal
 
 pub returns : goal.returns
 returns c = record {

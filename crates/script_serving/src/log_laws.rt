@@ -1,11 +1,11 @@
 //! Laws of a log. What a law ensures is what it says; its call changes nothing.
 
 ghost use Rattle.std.specs.Prelude.{◌≡◌, true};
-ghost use Rattle.script_text.specs.LogLaws.{PointsAreLogged, NothingIsLost};
+ghost use Rattle.script_serving.specs.LogLaws.{PointsAreLogged, NothingIsLost};
 ghost use Rattle.script_serving.specs.Serves.{Serves};
 
+use crate::script::Script;
 use history_entries::History;
-use script_serving::Script;
 
 /// In a history that serves a script with a log, each point has the first of the logged operations, and none is lost.
 pub fn log_loses_nothing(script: &Script, h: &History)

@@ -20,8 +20,8 @@ use Rattle.script_serving.specs.declared.script.Script.{Script}
 use Rattle.script_serving.specs.Lines.{lines_of_lane, command_at}
 use Rattle.script_serving.specs.Replays.{logged_by, logged_operations, replay_due}
 use Rattle.script_serving.specs.Serves.{Suits, FitsTurn, FitsReplay, Fits, is_newest_at, ServesLane, Serves}
-use Rattle.script_text.specs.LogLaws.{PointsAreLogged, NothingIsLost}
-use Rattle.script_text.proofs.ServingLemmas.{own_fits, earlier_serves}
+use Rattle.script_serving.specs.LogLaws.{PointsAreLogged, NothingIsLost}
+use Rattle.script_serving.proofs.ServingLemmas.{own_fits, earlier_serves}
 
 abbrev entry : At → Event → Entry
 entry at event = record { at = at; event = event }
