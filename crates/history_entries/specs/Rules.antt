@@ -26,11 +26,11 @@ use Rattle.history_entries.specs.Commits.{has_committed, is_disk_fault, is_stuck
 use Rattle.history_entries.specs.Tasks.{merge_count, drained_count}
 use Rattle.history_entries.specs.Faults.{is_planned, has_fault, has_met_fault, same_kind, is_of_disk}
 
--- an operation is accepted while a primary runs, and counted; its line has met no fault
+-- an operation is accepted while a primary runs, and counted; its line has met no fault, or has its reply and accepts again what the log has
 pub record MayAccept (past : Past) (at : At) (seq : ℕ) : Type 0 where
   pub running : primary_of past ≢ None
   pub next : seq ≡ accepted_count past + 1
-  pub spared : has_met_fault at past ≡ false
+  pub spared : (has_met_fault at past ≡ false) ⊎ (is_answered at past ≡ true)
 
 -- a publish starts while a primary runs and no other line's publish is in flight; it takes an operation, or a merge that none took
 pub record MayStartPublish (past : Past) (at : At) : Type 0 where

@@ -9,7 +9,7 @@ use crate::faults::has_met_fault;
 use crate::generation::Generation;
 use crate::lines::{
     before_start, commit_in_flight, copy_in_flight, has_switched, highest_copy, highest_switched,
-    is_free_for, node_survives, publish_in_flight, source_survives, start_entry,
+    is_answered, is_free_for, node_survives, publish_in_flight, source_survives, start_entry,
 };
 use crate::nodes::{
     accepted_count, is_made_in_generation, is_node, is_replica, is_running, newest_version,
@@ -27,7 +27,7 @@ pub(crate) fn may_accept(entries: &[Entry], at: At, seq: u32) -> bool
     primary_of(entries).node.is_some()
         && seq != 0
         && seq as usize - 1 == accepted_count(entries)
-        && !has_met_fault(at, entries)
+        && (!has_met_fault(at, entries) || is_answered(at, entries))
 }
 
 pub(crate) fn may_start_publish(entries: &[Entry], generation: &Generation, at: At) -> bool
