@@ -9,14 +9,18 @@ use Rattle.nrt_base.specs.declared.doc.Doc.{Doc}
 use Rattle.nrt_base.specs.declared.numbers.At.{At}
 use Rattle.documents.specs.declared.operation.Op.{Op}
 use Rattle.history_entries.specs.declared.entry.Entry.{Entry}
+use Rattle.history_entries.specs.declared.entry.Event.TheVariants.{Opened, Answered}
+use Rattle.documents.specs.declared.query.Query.{Query}
+use Rattle.documents.specs.declared.answer.Answer.{Answer}
+use Rattle.std.specs.Prelude.{Bool, ◌==◌, if◌then◌else◌, Some, None}
 use Rattle.documents.specs.Documents.{key_cmp, document_of, after_op, after_ops, documents_after}
 use Rattle.history_entries.specs.Nodes.{Past, version_of, newest_version}
-use Rattle.history_entries.specs.Lines.{same_at, entries_of_line}
+use Rattle.history_entries.specs.Lines.{same_at, entries_of_line, without_at}
 use Rattle.history_entries.specs.Points.{operations_written, operations_at, published_in_generation, accepted_in_generation, adds_none, cut_of}
 use Rattle.history_entries.specs.Legal.{IsLegalPast}
 use Rattle.plain_run.specs.declared.node.Searched.{Searched}
-use Rattle.plain_run.specs.Kept.{Shows}
-use Rattle.plain_run.specs.PlainRun.{refused_entry, publishing_entry, published_entry, published_next, copying_entry, switched_entry, copied_entry, copied_newer}
+use Rattle.plain_run.specs.Kept.{IsCalm, Shows}
+use Rattle.plain_run.specs.PlainRun.{accepted_entry, copied_same, refused_entry, publishing_entry, published_entry, published_next, copying_entry, switched_entry, copied_entry, copied_newer}
 use Rattle.plain_run.proofs.FreshLines.{fresh_start}
 
 pub same_at_self : (at : At) → same_at at at ≡ true
@@ -33,6 +37,40 @@ documents_advance docs new ops all k is same e =
     e ∙ (ap (λ (d : List Doc). after_ops d (drop k all)) (is ∙ ap documents_after (sym same))
     ∙ (sym (after_ops-append [] (take k all) (drop k all)) ∙ ap documents_after (take-append-drop k all)))
 
+-- ---- no entry of the engine is a fault, and a copy ends in the step that starts it
+
+pub calm_accepted : (past : Past) (at : At) (seq : ℕ) (op : Op) → IsCalm past → IsCalm (accepted_entry at seq op ∷ past)
+calm_accepted past at seq op k = record { spared = k.spared; idle = λ v. rw (k.idle v) refl; latest = k.latest }
+
+calm_refused : (past : Past) (at : At) → IsCalm past → IsCalm (refused_entry at ∷ past)
+calm_refused past at k = record { spared = k.spared; idle = λ v. rw (k.idle v) refl; latest = k.latest }
+
+calm_published : (past : Past) (at : At) → IsCalm past → IsCalm (published_next at past)
+calm_published past at k = record { spared = k.spared; idle = λ v. rw (k.idle v) refl; latest = let h = k.latest in omega (arith, h) }
+
+pub calm_searched : (past : Past) (at : At) (n t v : ℕ) (query : Query) (answer : Answer) → IsCalm past
+    → IsCalm (record { at = at; event = Answered (record { 0 = n }) (record { 0 = t }) (record { 0 = v }) query answer } ∷ record { at = at; event = Opened (record { 0 = n }) (record { 0 = 0 }) (record { 0 = v }) } ∷ past)
+calm_searched past at n t v query answer k = record { spared = k.spared; idle = λ w. rw (k.idle w) refl; latest = k.latest }
+
+-- the copy that a line started is no longer in flight behind its reply
+copy_ended : (b : Bool) (at : At) → without_at at (if b then Some at else None) ≡ None
+copy_ended true at = rw (same_at_self at) refl
+copy_ended false at = refl
+
+pub calm_same : (past : Past) (at : At) → IsCalm past → IsCalm (copied_same at past)
+calm_same past at k = record {
+  spared = k.spared;
+  idle = λ v. rw (k.idle v) (copy_ended (newest_version past == v) at);
+  latest = let h = k.latest in omega (arith, h);
+}
+
+calm_newer : (past : Past) (at : At) → IsCalm past → IsCalm (copied_newer at past)
+calm_newer past at k = record {
+  spared = k.spared;
+  idle = λ v. rw (k.idle v) (copy_ended (newest_version past == v) at);
+  latest = let h = k.latest in omega (arith, h);
+}
+
 module _ (past : Past) (at : At) (ops : List Op) (p r : Searched) (s : Shows past ops p r) where
   shows_refused : entries_of_line at past ≡ [] → Shows (refused_entry at ∷ past) ops p r
   shows_refused fresh =
@@ -40,7 +78,8 @@ module _ (past : Past) (at : At) (ops : List Op) (p r : Searched) (s : Shows pas
       let v = s.versions in
       let o = s.operations in
       record {
-        legal = (rw (fresh_start at past fresh) tt, s.legal);
+        legal = (rw (fresh_start at past fresh) (record { met = sym (s.calm.spared at) }), s.legal);
+        calm = calm_refused past at s.calm;
         quiet = record { primary = q.primary; first = q.first; second = q.second; generation = q.generation; landed = rw q.landed refl; busy = q.busy };
         versions = record { first = v.first; one = v.one; second = v.second; made = v.made };
         operations = record { count = o.count; counted = o.counted; written = o.written; accepted = o.accepted; taken = o.taken };
@@ -62,6 +101,7 @@ module _ (past : Past) (at : At) (ops : List Op) (p r : Searched) (s : Shows pas
             node = (omega arith, omega arith);
             started = rw (same_at_self at) (refl, omega arith);
             searched = refl;
+            done = inl (rw (same_at_self at) refl);
             survives = record { node = rw (same_at_self at) refl };
             source = record { source = rw (same_at_self at) refl };
           },
@@ -71,12 +111,14 @@ module _ (past : Past) (at : At) (ops : List Op) (p r : Searched) (s : Shows pas
               replica = record { running = q.second; other = rw q.primary refl };
               made = s.versions.made below;
               above = below;
+              latest = let h = s.calm.latest in omega (arith, h);
+              ordered = rw (same_at_self at) (omega arith);
               started = rw (same_at_self at) (refl, omega arith);
               survives = record { node = rw (same_at_self at) refl };
               source = record { source = rw (same_at_self at) refl };
             },
             (
-              record { node = (omega arith, omega arith); replica = record { running = q.second; other = rw q.primary refl }; source = λ e. let n = sym q.primary ∙ e in cc; newest = refl },
+              record { node = (omega arith, omega arith); replica = record { running = q.second; other = rw q.primary refl }; source = λ e. let n = sym q.primary ∙ e in cc; newest = refl; alone = rw (s.calm.idle (newest_version past)) refl },
               s.legal,
             ),
           ),
@@ -89,6 +131,7 @@ module _ (past : Past) (at : At) (ops : List Op) (p r : Searched) (s : Shows pas
         let o = s.operations in
         record {
           legal = legal_newer;
+          calm = calm_newer past at s.calm;
           quiet = record { primary = q.primary; first = q.first; second = q.second; generation = q.generation; landed = rw q.landed refl; busy = q.busy };
           versions = record { first = v.first; one = omega (arith, v.one, v.second); second = omega arith; made = λ h. absurd (omega (arith, h)) };
           operations = record { count = o.count; counted = o.counted; written = o.written; accepted = o.accepted; taken = o.taken };
@@ -152,6 +195,7 @@ module _ (past : Past) (at : At) (ops : List Op) (p r : Searched) (s : Shows pas
         let whole : take (length ops) ops ≡ ops = take-length ops in
         record {
           legal = legal_next;
+          calm = calm_published past at s.calm;
           quiet = record { primary = q.primary; first = q.first; second = q.second; generation = q.generation; landed = rw (same_at_self at) refl; busy = rw (same_at_self at, adds_some) q.busy };
           versions = record { first = rw q.primary (sym newest_after); one = rw q.primary v.one; second = rw q.primary (omega (arith, newest_after, v.second)); made = λ h. grind (arith, nat_tests) };
           operations = record { count = o.count; counted = o.counted; written = o.written; accepted = o.accepted; taken = operations ∙ rw (same_at_self at) o.counted };

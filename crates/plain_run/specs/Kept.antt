@@ -1,10 +1,12 @@
 -- What the engine keeps: its plain values are those that the entries so far show.
-use Rattle.std.specs.Prelude.{ℕ, ◌≡◌, ◌<◌, ◌≤◌, ◌+◌, List, length, take, map, true, Some, None}
+use Rattle.std.specs.Prelude.{ℕ, ◌≡◌, ◌<◌, ◌≤◌, ◌+◌, List, length, take, map, true, false, Some, None}
+use Rattle.nrt_base.specs.declared.numbers.At.{At}
 use Rattle.std.specs.BTreeMap.{IsOrdered}
 use Rattle.documents.specs.declared.operation.Op.{Op}
 use Rattle.documents.specs.Documents.{key_cmp, document_of, documents_after}
 use Rattle.history_entries.specs.Nodes.{Past, primary_of, is_running, generation_of, version_of, newest_version, is_made_in_generation, accepted_count}
-use Rattle.history_entries.specs.Lines.{publish_in_flight}
+use Rattle.history_entries.specs.Lines.{publish_in_flight, copy_in_flight, highest_copy}
+use Rattle.history_entries.specs.Faults.{has_met_fault}
 use Rattle.history_entries.specs.Points.{operations_written, operations_at, operations_of_generation, published_in_generation, accepted_in_generation, idle_publishes}
 use Rattle.history_entries.specs.Legal.{IsLegalPast}
 use Rattle.plain_run.specs.declared.node.Searched.{Searched}
@@ -17,6 +19,12 @@ pub record IsQuiet (past : Past) : Type 0 where
   pub generation : generation_of past ≡ 1
   pub landed : publish_in_flight past ≡ None
   pub busy : idle_publishes past ≡ 0
+
+-- no line has met a fault, no copy to node 2 is in flight, and none that started was above the newest version
+pub record IsCalm (past : Past) : Type 0 where
+  pub spared : (at : At) → has_met_fault at past ≡ false
+  pub idle : (v : ℕ) → copy_in_flight 2 v past ≡ None
+  pub latest : highest_copy 2 past ≤ newest_version past
 
 -- the versions that the two nodes search
 pub record AreVersions (past : Past) : Type 0 where
@@ -45,6 +53,7 @@ pub record Searches (past : Past) (ops : List Op) (v : ℕ) (node : Searched) : 
 pub record Shows (past : Past) (ops : List Op) (primary replica : Searched) : Type 0 where
   pub legal : IsLegalPast 2 past
   pub quiet : IsQuiet past
+  pub calm : IsCalm past
   pub versions : AreVersions past
   pub operations : AreOperations past ops primary.operations
   pub first : Searches past ops (newest_version past) primary
