@@ -187,9 +187,9 @@ kept old total hits slice inserted cut place key field rank view same at spelt p
     let hit : Hit = hit_with key rank in
     counts_hit old total hits cut hit view (λ best.
     left ∙ ap (take 20) (
-      put ∙ ap (λ (k : List ℕ). insert hits place (hit_with k rank)) spelt
-      ∙ ap (λ (n : ℕ). insert hits n hit) (at (subst AreBest (sym same) best) ∙ ap (λ (hs : List Hit). count_ahead hs hit) same)
-      ∙ insert-count_ahead hits hit
+    put ∙ ap (λ (k : List ℕ). insert hits place (hit_with k rank)) spelt
+    ∙ ap (λ (n : ℕ). insert hits n hit) (at (subst AreBest (sym same) best) ∙ ap (λ (hs : List Hit). count_ahead hs hit) same)
+    ∙ insert-count_ahead hits hit
     ))
 
 -- a hit beyond the first 20 is not

@@ -5,8 +5,8 @@ ghost use Rattle.std.specs.Ordering.{is_lt};
 ghost use Rattle.documents.specs.Ranking.{answer_of, hit_cmp};
 ghost use Rattle.query_eval.specs.Best.{count_ahead as count_ahead_lem, hit_with, AreBest, AreBeyond, CountsHit};
 
-use nrt_base::{Key, List, NoMemory};
 use documents::{Answer, Hit};
+use nrt_base::{Key, List, NoMemory};
 use seg_reader::Segment;
 use std::alloc::Global;
 use std::marker::Model;

@@ -13,8 +13,8 @@ ghost use Rattle.query_eval.specs.Ranks.{AddsRank};
 use crate::cursor::Cursor;
 use crate::phrase::PhraseWord;
 use crate::rank::{Leaf, Ranker};
-use nrt_base::{List, NoMemory, Word};
 use documents::Query;
+use nrt_base::{List, NoMemory, Word};
 use seg_reader::Segment;
 use std::alloc::Global;
 

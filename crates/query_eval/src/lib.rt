@@ -5,8 +5,8 @@ mod best;
 mod building;
 mod cursor;
 mod phrase;
-mod search;
 mod rank;
+mod search;
 
 pub use search::answer;
 

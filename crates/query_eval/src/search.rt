@@ -14,8 +14,8 @@ use crate::best::BestHits;
 use crate::building::cursor_of;
 use crate::cursor::advance;
 use crate::rank::Ranker;
-use nrt_base::NoMemory;
 use documents::{Answer, Query};
+use nrt_base::NoMemory;
 use seg_reader::Segment;
 use std::alloc::Global;
 
@@ -40,12 +40,7 @@ fn count_row(
 }
 
 // Counts the live rows of a segment whose documents match.
-fn search(
-    alloc: Global,
-    seg: &Segment,
-    query: &Query,
-    best: &mut BestHits,
-) -> Result<(), NoMemory>
+fn search(alloc: Global, seg: &Segment, query: &Query, best: &mut BestHits) -> Result<(), NoMemory>
     requires sound { IsSound seg.now }
     requires well_formed { IsTrue (is_well_formed query.now) }
     requires room { best.old.total + length seg.now.docs < 2 ^ 32 }

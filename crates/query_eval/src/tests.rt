@@ -5,8 +5,8 @@ ghost use Rattle.seg_reader.specs.Sound.{IsSound};
 ghost use Rattle.query_eval.specs.Matching.{rows_of};
 
 use crate::answer;
-use nrt_base::{Doc, Key, NoMemory, SegNo, Text};
 use documents::{Answer, scan};
+use nrt_base::{Doc, Key, NoMemory, SegNo, Text};
 use seg_build::{Prepared, build, read_back};
 use seg_reader::Segment;
 use std::alloc::Global;
@@ -151,7 +151,10 @@ fn agrees(alloc: Global, segs: &[Segment], docs: &[Doc], query: &str) -> Result<
     let query = parse_query(alloc, query.as_bytes())?;
     let found = answer(alloc, segs, &query)?;
     let due = scan(alloc, docs, &query)?;
-    Ok(found.total == due.total && shown(alloc, &found)?.as_slice() == shown(alloc, &due)?.as_slice())
+    Ok(
+        found.total == due.total
+            && shown(alloc, &found)?.as_slice() == shown(alloc, &due)?.as_slice(),
+    )
 }
 
 // Asserts that each of the queries is answered as the scan of the live documents answers it.
