@@ -1,4 +1,5 @@
 use Rattle.std.proofs.Common.{◌+◌, refl, ap, ◌∙◌, arith, rules}
+use Rattle.documents.specs.declared.query.Query.TheViews.{the_lemmas}
 use Rattle.query_eval.specs.declared.cursor.Cursor.{Cursor}
 use Rattle.query_eval.specs.Cursor.{answers, all_answer, any_answers}
 use Rattle.query_eval.proofs.BuildLemmas.{all_query, any_query, not_query, all_more, any_more, all_end, any_end, ranks_more, ranks_end, all_ranks, any_ranks, not_ranks}
@@ -9,13 +10,13 @@ pub cursor_of-phrase_cursor-requires-clause-some : goal.cursor_of-phrase_cursor-
 cursor_of-phrase_cursor-requires-clause-some t c = form_phrase c.args.query.now c.in-Phrase.phrase c.in-Phrase.is c.requires.form
 
 pub cursor_of-cursor_of_all-requires : goal.cursor_of-cursor_of_all-requires
-cursor_of-cursor_of_all-requires t c = (search rules, (c.requires.sound, form_all c.args.query.now c.in-All.parts c.in-All.is c.requires.form))
+cursor_of-cursor_of_all-requires t c = (search (rules, the_lemmas), (c.requires.sound, form_all c.args.query.now c.in-All.parts c.in-All.is c.requires.form))
 
 pub cursor_of-cursor_of_any-requires : goal.cursor_of-cursor_of_any-requires
-cursor_of-cursor_of_any-requires t c = (search rules, (c.requires.sound, form_any c.args.query.now c.in-Any.parts c.in-Any.is c.requires.form))
+cursor_of-cursor_of_any-requires t c = (search (rules, the_lemmas), (c.requires.sound, form_any c.args.query.now c.in-Any.parts c.in-Any.is c.requires.form))
 
 pub cursor_of-cursor_of-requires : goal.cursor_of-cursor_of-requires
-cursor_of-cursor_of-requires t c = (search rules, (c.requires.sound, form_not c.args.query.now c.in-Not.part c.as_ref.result.now c.in-Not.is c.as_ref.ensures c.requires.form))
+cursor_of-cursor_of-requires t c = (search (rules, the_lemmas), (c.requires.sound, form_not c.args.query.now c.in-Not.part c.as_ref.result.now c.in-Not.is c.as_ref.ensures c.requires.form))
 
 pub cursor_of-returns-in-All-clause-answers : goal.cursor_of-returns-in-All-clause-answers
 cursor_of-returns-in-All-clause-answers t c = all_query c.args.seg.now.docs c.args.query.now c.in-All.parts c.in-All.is c.cursor_of_all.result c.cursor_of_all.ensures.answers
