@@ -1,5 +1,5 @@
 -- What the engine keeps is kept by each step.
-use Rattle.std.proofs.Common.{◌≡◌, ◌≢◌, ℕ, ◌+◌, ◌<◌, ◌≤◌, List, [], ◌∷◌, ◌++◌, length, take, drop, map, true, false, refl, ap, ◌∙◌, sym, arith, length-drop, reverse, subst, take-append-drop, inl}
+use Rattle.std.proofs.Common.{◌≡◌, ◌≢◌, ℕ, ◌+◌, ◌<◌, ◌≤◌, List, [], ◌∷◌, ◌++◌, length, take, drop, map, true, false, refl, ap, ◌∙◌, sym, arith, length-drop, reverse, subst, take-append-drop, inl, inr, Bool, Option, Some, None, ◌==◌, if◌then◌else◌}
 use Rattle.std.specs.BTreeMap.{IsOrdered}
 use Rattle.std.proofs.lemmas.List.{reverse-append, take-take}
 use Rattle.std.proofs.Math.Seq.{take-length}
@@ -11,16 +11,22 @@ use Rattle.documents.specs.declared.operation.Op.{Op}
 use Rattle.history_entries.specs.declared.entry.Entry.{Entry}
 use Rattle.documents.specs.Documents.{key_cmp, document_of, after_op, after_ops, documents_after}
 use Rattle.history_entries.specs.Nodes.{Past, version_of, newest_version}
-use Rattle.history_entries.specs.Lines.{same_at, entries_of_line}
+use Rattle.history_entries.specs.Lines.{same_at, entries_of_line, without_at, copy_in_flight}
 use Rattle.history_entries.specs.Points.{operations_written, operations_at, published_in_generation, accepted_in_generation, adds_none, cut_of}
+use Rattle.history_entries.specs.Rules.{MayStartCopy}
 use Rattle.history_entries.specs.Legal.{IsLegalPast}
 use Rattle.plain_run.specs.declared.node.Searched.{Searched}
 use Rattle.plain_run.specs.Kept.{Shows}
-use Rattle.plain_run.specs.PlainRun.{refused_entry, publishing_entry, published_entry, published_next, copying_entry, switched_entry, copied_entry, copied_newer}
+use Rattle.plain_run.specs.PlainRun.{refused_entry, publishing_entry, published_entry, published_next, copying_entry, switched_entry, copied_entry, copied_same, copied_newer}
 use Rattle.plain_run.proofs.FreshLines.{fresh_start}
 
 pub same_at_self : (at : At) → same_at at at ≡ true
 same_at_self at = grind (arith, nat_tests)
+
+-- a copy that ends is not in flight
+copied_lands : (at : At) (b : Bool) (old : Option At) → old ≡ None → without_at at (if b then Some at else old) ≡ None
+copied_lands at true old none = rw (same_at_self at) refl
+copied_lands at false old none = rw none refl
 
 after_ops-append : (docs : List Doc) (a b : List Op) → after_ops docs (a ++ b) ≡ after_ops (after_ops docs a) b
 after_ops-append docs [] b = refl
@@ -40,9 +46,56 @@ module _ (past : Past) (at : At) (ops : List Op) (p r : Searched) (s : Shows pas
       let v = s.versions in
       let o = s.operations in
       record {
-        legal = (rw (fresh_start at past fresh) tt, s.legal);
-        quiet = record { primary = q.primary; first = q.first; second = q.second; generation = q.generation; landed = rw q.landed refl; busy = q.busy };
-        versions = record { first = v.first; one = v.one; second = v.second; made = v.made };
+        legal = (rw (fresh_start at past fresh) (record { met = sym (q.unharmed at) }), s.legal);
+        quiet = record { primary = q.primary; first = q.first; second = q.second; generation = q.generation; landed = rw q.landed refl; busy = q.busy; uncopied = λ w. rw (q.uncopied w) refl; unharmed = q.unharmed };
+        versions = record { first = v.first; one = v.one; second = v.second; copied = v.copied; made = v.made };
+        operations = record { count = o.count; counted = o.counted; written = o.written; accepted = o.accepted; taken = o.taken };
+        first = record { version = s.first.version; within = s.first.within; point = s.first.point; documents = s.first.documents; ordered = s.first.ordered };
+        second = record { version = s.second.version; within = s.second.within; point = s.second.point; documents = s.second.documents; ordered = s.second.ordered };
+        behind = s.behind;
+        numbered = s.numbered;
+      }
+
+  start_copy : MayStartCopy 2 past at (record { 0 = 2 }) (record { 0 = newest_version past })
+  start_copy =
+      let q = s.quiet in
+      record {
+        node = (omega arith, omega arith);
+        replica = record { running = q.second; other = rw q.primary refl };
+        source = λ e. let n = sym q.primary ∙ e in cc;
+        newest = refl;
+        alone = rw (q.uncopied (newest_version past)) refl;
+      }
+
+  -- a copy of the version that node 2 searches ends without a switch
+  shows_same : version_of 2 past ≡ newest_version past → Shows (copied_same at past) ops p r
+  shows_same same =
+      let q = s.quiet in
+      let v = s.versions in
+      let o = s.operations in
+      record {
+        legal = (
+          record {
+            node = (omega arith, omega arith);
+            started = rw (same_at_self at) refl;
+            searched = sym same;
+            done = inr (rw (same_at_self at) same);
+            survives = record { node = rw (same_at_self at) refl };
+            source = record { source = rw (same_at_self at) refl };
+          },
+          (start_copy, s.legal),
+        );
+        quiet = record {
+          primary = q.primary;
+          first = q.first;
+          second = q.second;
+          generation = q.generation;
+          landed = rw q.landed refl;
+          busy = q.busy;
+          uncopied = λ w. copied_lands at (newest_version past == w) (copy_in_flight 2 w past) (q.uncopied w);
+          unharmed = q.unharmed;
+        };
+        versions = record { first = v.first; one = v.one; second = v.second; copied = omega (arith, v.copied); made = v.made };
         operations = record { count = o.count; counted = o.counted; written = o.written; accepted = o.accepted; taken = o.taken };
         first = record { version = s.first.version; within = s.first.within; point = s.first.point; documents = s.first.documents; ordered = s.first.ordered };
         second = record { version = s.second.version; within = s.second.within; point = s.second.point; documents = s.second.documents; ordered = s.second.ordered };
@@ -60,8 +113,9 @@ module _ (past : Past) (at : At) (ops : List Op) (p r : Searched) (s : Shows pas
         let q = s.quiet in (
           record {
             node = (omega arith, omega arith);
-            started = rw (same_at_self at) (refl, omega arith);
+            started = rw (same_at_self at) refl;
             searched = refl;
+            done = inl (rw (same_at_self at) refl);
             survives = record { node = rw (same_at_self at) refl };
             source = record { source = rw (same_at_self at) refl };
           },
@@ -71,14 +125,13 @@ module _ (past : Past) (at : At) (ops : List Op) (p r : Searched) (s : Shows pas
               replica = record { running = q.second; other = rw q.primary refl };
               made = s.versions.made below;
               above = below;
-              started = rw (same_at_self at) (refl, omega arith);
+              latest = omega (arith, s.versions.copied);
+              ordered = rw (same_at_self at) (omega arith);
+              started = rw (same_at_self at) (refl, refl);
               survives = record { node = rw (same_at_self at) refl };
               source = record { source = rw (same_at_self at) refl };
             },
-            (
-              record { node = (omega arith, omega arith); replica = record { running = q.second; other = rw q.primary refl }; source = λ e. let n = sym q.primary ∙ e in cc; newest = refl },
-              s.legal,
-            ),
+            (start_copy, s.legal),
           ),
         )
 
@@ -89,8 +142,8 @@ module _ (past : Past) (at : At) (ops : List Op) (p r : Searched) (s : Shows pas
         let o = s.operations in
         record {
           legal = legal_newer;
-          quiet = record { primary = q.primary; first = q.first; second = q.second; generation = q.generation; landed = rw q.landed refl; busy = q.busy };
-          versions = record { first = v.first; one = omega (arith, v.one, v.second); second = omega arith; made = λ h. absurd (omega (arith, h)) };
+          quiet = record { primary = q.primary; first = q.first; second = q.second; generation = q.generation; landed = rw q.landed refl; busy = q.busy; uncopied = λ w. copied_lands at (newest_version past == w) (copy_in_flight 2 w past) (q.uncopied w); unharmed = q.unharmed };
+          versions = record { first = v.first; one = omega (arith, v.one, v.second); second = omega arith; copied = omega (arith, v.copied); made = λ h. absurd (omega (arith, h)) };
           operations = record { count = o.count; counted = o.counted; written = o.written; accepted = o.accepted; taken = o.taken };
           first = record { version = s.first.version; within = s.first.within; point = s.first.point; documents = s.first.documents; ordered = s.first.ordered };
           second = record {
@@ -152,8 +205,8 @@ module _ (past : Past) (at : At) (ops : List Op) (p r : Searched) (s : Shows pas
         let whole : take (length ops) ops ≡ ops = take-length ops in
         record {
           legal = legal_next;
-          quiet = record { primary = q.primary; first = q.first; second = q.second; generation = q.generation; landed = rw (same_at_self at) refl; busy = rw (same_at_self at, adds_some) q.busy };
-          versions = record { first = rw q.primary (sym newest_after); one = rw q.primary v.one; second = rw q.primary (omega (arith, newest_after, v.second)); made = λ h. grind (arith, nat_tests) };
+          quiet = record { primary = q.primary; first = q.first; second = q.second; generation = q.generation; landed = rw (same_at_self at) refl; busy = rw (same_at_self at, adds_some) q.busy; uncopied = λ w. rw (q.uncopied w) refl; unharmed = q.unharmed };
+          versions = record { first = rw q.primary (sym newest_after); one = rw q.primary v.one; second = rw q.primary (omega (arith, newest_after, v.second)); copied = omega (arith, newest_after, v.copied); made = λ h. grind (arith, nat_tests) };
           operations = record { count = o.count; counted = o.counted; written = o.written; accepted = o.accepted; taken = operations ∙ rw (same_at_self at) o.counted };
           first = record {
             version = number ∙ (ap (λ (n : ℕ). n + 1) s.first.version ∙ sym newest_after);
@@ -178,6 +231,12 @@ module _ (past : Past) (at : At) (ops : List Op) (p r : Searched) (s : Shows pas
 pub refused_kept : (old new : List Entry) (at : At) (ops : List Op) (p r : Searched) → Shows (reverse old) ops p r → entries_of_line at (reverse old) ≡ []
     → new ≡ old ++ refused_entry at ∷ [] → Shows (reverse new) ops p r
 refused_kept old new at ops p r s fresh e = rw (e, reverse-append) (shows_refused (reverse old) at ops p r s fresh)
+
+pub same_kept : (old mid new : List Entry) (at : At) (v : ℕ) (ops : List Op) (p r : Searched) → Shows (reverse old) ops p r → version_of 2 (reverse old) ≡ newest_version (reverse old)
+    → v ≡ p.version → mid ≡ old ++ copying_entry at 2 v ∷ [] → new ≡ mid ++ copied_entry at 2 v ∷ [] → Shows (reverse new) ops p r
+same_kept old mid new at v ops p r s same e0 e1 e2 =
+    let is : v ≡ newest_version (reverse old) = e0 ∙ s.first.version in
+    rw (e2, e1, reverse-append, reverse-append, is) (shows_same (reverse old) at ops p r s same)
 
 pub newer_kept : (old mid last new : List Entry) (at : At) (v : ℕ) (ops : List Op) (p r r' : Searched) → Shows (reverse old) ops p r → version_of 2 (reverse old) ≢ newest_version (reverse old)
     → v ≡ p.version → mid ≡ old ++ copying_entry at 2 v ∷ [] → last ≡ mid ++ switched_entry at 2 v ∷ [] → new ≡ last ++ copied_entry at 2 v ∷ []
