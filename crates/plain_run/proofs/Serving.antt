@@ -4,7 +4,7 @@ use Rattle.std.specs.Prelude.{nat_lt, IsTrue, ⊤}
 use Rattle.std.specs.List.{AllByRecursion, list_all}
 use Rattle.std.proofs.Math.Bool.{or-true}
 use Rattle.std.proofs.lemmas.Bool.Decides.{nat_tests, eqb_tells}
-use Rattle.std.proofs.lemmas.Bool.{ltb-false}
+use Rattle.std.proofs.lemmas.Bool.{ltb-false, and_parts}
 use Rattle.nrt_base.specs.declared.doc.Doc.{Doc}
 use Rattle.nrt_base.specs.declared.numbers.At.{At}
 use Rattle.nrt_base.specs.declared.numbers.NodeNo.{NodeNo}
@@ -18,7 +18,7 @@ use Rattle.history_entries.specs.declared.entry.History.{History}
 use Rattle.history_entries.specs.Nodes.{Past, primary_of, is_running, version_of, newest_version, accepted_count}
 use Rattle.history_entries.specs.Lines.{same_at, is_reply, entries_of_line, is_answered, last_of_line}
 use Rattle.history_entries.specs.Points.{cut_of, cut_has_put, names_drawn, documents_at}
-use Rattle.documents.specs.Matching.{scan_of}
+use Rattle.documents.specs.Ranking.{scan_of}
 use Rattle.script_serving.specs.declared.script.Line.{Line}
 use Rattle.script_serving.specs.declared.script.LineCommand.{LineCommand}
 use Rattle.script_serving.specs.declared.script.LineCommand.TheVariants.{Put, Drop, Publish, Copy, Search}
@@ -29,7 +29,7 @@ use Rattle.script_text.specs.Grammar.{lane_entry}
 use Rattle.script_serving.specs.Refusals.{refusal, when, names_are_spent}
 use Rattle.script_serving.specs.Replays.{due}
 use Rattle.script_serving.specs.Serves.{ServesLane, ServesPhases, Serves}
-use Rattle.script_serving.specs.Form.{IsInForm, is_phase, are_distinct}
+use Rattle.script_serving.specs.Form.{IsInForm, is_command, is_phase, are_distinct}
 use Rattle.script_serving.proofs.OneLane.{Walks, serves_one_lane}
 use Rattle.plain_run.specs.PlainRun.{accepted_entry, publishing_entry, published_entry, published_next, refused_entry, copying_entry, switched_entry, copied_entry, copied_same, copied_newer, opened_entry, answered_entry, after_publish, after_copy, after_search, after_command, after_lines, is_plain, IsPlainScript}
 use Rattle.plain_run.proofs.FreshLines.{fresh_last, fresh_unanswered}
@@ -277,6 +277,10 @@ AreRunnable [] = ⊤
 AreRunnable (line ∷ lines) =
     AllByRecursion (λ l. same_at line.at l.at ≡ false) lines × (line.at.lane.0 ≡ 1) × (is_plain line.command ≡ true) × AreRunnable lines
 
+-- the commands are such as a script on two nodes may have
+abbrev pub AreCommands : List Line → Type 0
+AreCommands lines = AllByRecursion (λ line. is_command 2 line.command ≡ true) lines
+
 abbrev IsServed : List Line → Past → Type 0
 IsServed lines past = Walks lines past × AllByRecursion (IsDone past) lines
 
@@ -337,13 +341,14 @@ runnable_lines (line ∷ lines) distinct lanes plain =
 pub record AreLeft (lines : List Line) (past : Past) : Type 0 where
   pub fresh : AllByRecursion (IsFresh past) lines
   pub runnable : AreRunnable lines
+  pub commands : AreCommands lines
 
 pub left_next : (line : Line) (rest : List Line) (past next : Past) → AreLeft (line ∷ rest) past → next ≡ after_command line.command line.at past → AreLeft rest next
 left_next line rest past next left e =
     let fresh : AllByRecursion (IsFresh (after_command line.command line.at past)) rest =
     all_two (λ l. same_at line.at l.at ≡ false) (IsFresh past) (IsFresh (after_command line.command line.at past)) rest
     (λ l other was. others_keep line.at l.at other past line.command ∙ was) left.runnable.0 left.fresh.1 in
-    record { fresh = subst (λ (p : Past). AllByRecursion (IsFresh p) rest) (sym e) fresh; runnable = left.runnable.3 }
+    record { fresh = subst (λ (p : Past). AllByRecursion (IsFresh p) rest) (sym e) fresh; runnable = left.runnable.3; commands = left.commands.1 }
 
 lane_is_first : (lines : List Line) → list_all is_phase (record { lanes = lane_entry 1 lines } ∷ []) ≡ true → list_all (λ line. line.at.lane.0 == 1) lines ≡ true
 lane_is_first [] phases = refl
@@ -357,7 +362,16 @@ runnable_script script form plain =
 
 pub left_first : (script : Script) → IsInForm script → IsPlainScript script → AreLeft (lines_of script) []
 left_first script form plain =
-    record { fresh = all_anyway (IsFresh []) (lines_of script) (λ l. refl); runnable = runnable_script script form plain }
+    record {
+      fresh = all_anyway (IsFresh []) (lines_of script) (λ l. refl);
+      runnable = runnable_script script form plain;
+      commands = all_commands (lines_of script) (subst (λ (n : ℕ). list_all (λ (line : Line). is_command n line.command) (lines_of script) ≡ true) plain.nodes form.commands);
+    }
+  where
+    all_commands : (lines : List Line) → list_all (λ (line : Line). is_command 2 line.command) lines ≡ true → AreCommands lines
+    all_commands [] all = tt
+    all_commands (line ∷ lines) all =
+        let parts = and_parts (is_command 2 line.command) (list_all (λ (l : Line). is_command 2 l.command) lines) all in (parts.0, all_commands lines parts.1)
 
 no_walk : (past : Past) → Walks [] past → past ≡ []
 no_walk [] walks = refl

@@ -1,5 +1,5 @@
 -- What the engine keeps is kept by each step.
-use Rattle.std.proofs.Common.{◌≡◌, ◌≢◌, ℕ, ◌+◌, ◌<◌, ◌≤◌, List, [], ◌∷◌, ◌++◌, length, take, drop, map, true, false, refl, ap, ◌∙◌, sym, arith, length-drop, reverse, subst, take-append-drop, inl, inr, Bool, Option, Some, None, ◌==◌, if◌then◌else◌}
+use Rattle.std.proofs.Common.{◌≡◌, ◌≢◌, ℕ, ◌+◌, ◌<◌, ◌≤◌, List, [], ◌∷◌, ◌++◌, length, take, drop, map, true, false, refl, ap, ◌∙◌, sym, arith, length-drop, reverse, subst, take-append-drop, inl}
 use Rattle.std.specs.BTreeMap.{IsOrdered}
 use Rattle.std.proofs.lemmas.List.{reverse-append, take-take}
 use Rattle.std.proofs.Math.Seq.{take-length}
@@ -9,24 +9,22 @@ use Rattle.nrt_base.specs.declared.doc.Doc.{Doc}
 use Rattle.nrt_base.specs.declared.numbers.At.{At}
 use Rattle.documents.specs.declared.operation.Op.{Op}
 use Rattle.history_entries.specs.declared.entry.Entry.{Entry}
+use Rattle.history_entries.specs.declared.entry.Event.TheVariants.{Opened, Answered}
+use Rattle.documents.specs.declared.query.Query.{Query}
+use Rattle.documents.specs.declared.answer.Answer.{Answer}
+use Rattle.std.specs.Prelude.{Bool, ◌==◌, if◌then◌else◌, Some, None}
 use Rattle.documents.specs.Documents.{key_cmp, document_of, after_op, after_ops, documents_after}
 use Rattle.history_entries.specs.Nodes.{Past, version_of, newest_version}
-use Rattle.history_entries.specs.Lines.{same_at, entries_of_line, without_at, copy_in_flight}
+use Rattle.history_entries.specs.Lines.{same_at, entries_of_line, without_at}
 use Rattle.history_entries.specs.Points.{operations_written, operations_at, published_in_generation, accepted_in_generation, adds_none, cut_of}
-use Rattle.history_entries.specs.Rules.{MayStartCopy}
 use Rattle.history_entries.specs.Legal.{IsLegalPast}
 use Rattle.plain_run.specs.declared.node.Searched.{Searched}
-use Rattle.plain_run.specs.Kept.{Shows}
-use Rattle.plain_run.specs.PlainRun.{refused_entry, publishing_entry, published_entry, published_next, copying_entry, switched_entry, copied_entry, copied_same, copied_newer}
+use Rattle.plain_run.specs.Kept.{IsCalm, Shows}
+use Rattle.plain_run.specs.PlainRun.{accepted_entry, copied_same, refused_entry, publishing_entry, published_entry, published_next, copying_entry, switched_entry, copied_entry, copied_newer}
 use Rattle.plain_run.proofs.FreshLines.{fresh_start}
 
 pub same_at_self : (at : At) → same_at at at ≡ true
 same_at_self at = grind (arith, nat_tests)
-
--- a copy that ends is not in flight
-copied_lands : (at : At) (b : Bool) (old : Option At) → old ≡ None → without_at at (if b then Some at else old) ≡ None
-copied_lands at true old none = rw (same_at_self at) refl
-copied_lands at false old none = rw none refl
 
 after_ops-append : (docs : List Doc) (a b : List Op) → after_ops docs (a ++ b) ≡ after_ops (after_ops docs a) b
 after_ops-append docs [] b = refl
@@ -39,6 +37,40 @@ documents_advance docs new ops all k is same e =
     e ∙ (ap (λ (d : List Doc). after_ops d (drop k all)) (is ∙ ap documents_after (sym same))
     ∙ (sym (after_ops-append [] (take k all) (drop k all)) ∙ ap documents_after (take-append-drop k all)))
 
+-- ---- no entry of the engine is a fault, and a copy ends in the step that starts it
+
+pub calm_accepted : (past : Past) (at : At) (seq : ℕ) (op : Op) → IsCalm past → IsCalm (accepted_entry at seq op ∷ past)
+calm_accepted past at seq op k = record { spared = k.spared; idle = λ v. rw (k.idle v) refl; latest = k.latest }
+
+calm_refused : (past : Past) (at : At) → IsCalm past → IsCalm (refused_entry at ∷ past)
+calm_refused past at k = record { spared = k.spared; idle = λ v. rw (k.idle v) refl; latest = k.latest }
+
+calm_published : (past : Past) (at : At) → IsCalm past → IsCalm (published_next at past)
+calm_published past at k = record { spared = k.spared; idle = λ v. rw (k.idle v) refl; latest = let h = k.latest in omega (arith, h) }
+
+pub calm_searched : (past : Past) (at : At) (n t v : ℕ) (query : Query) (answer : Answer) → IsCalm past
+    → IsCalm (record { at = at; event = Answered (record { 0 = n }) (record { 0 = t }) (record { 0 = v }) query answer } ∷ record { at = at; event = Opened (record { 0 = n }) (record { 0 = 0 }) (record { 0 = v }) } ∷ past)
+calm_searched past at n t v query answer k = record { spared = k.spared; idle = λ w. rw (k.idle w) refl; latest = k.latest }
+
+-- the copy that a line started is no longer in flight behind its reply
+copy_ended : (b : Bool) (at : At) → without_at at (if b then Some at else None) ≡ None
+copy_ended true at = rw (same_at_self at) refl
+copy_ended false at = refl
+
+pub calm_same : (past : Past) (at : At) → IsCalm past → IsCalm (copied_same at past)
+calm_same past at k = record {
+  spared = k.spared;
+  idle = λ v. rw (k.idle v) (copy_ended (newest_version past == v) at);
+  latest = let h = k.latest in omega (arith, h);
+}
+
+calm_newer : (past : Past) (at : At) → IsCalm past → IsCalm (copied_newer at past)
+calm_newer past at k = record {
+  spared = k.spared;
+  idle = λ v. rw (k.idle v) (copy_ended (newest_version past == v) at);
+  latest = let h = k.latest in omega (arith, h);
+}
+
 module _ (past : Past) (at : At) (ops : List Op) (p r : Searched) (s : Shows past ops p r) where
   shows_refused : entries_of_line at past ≡ [] → Shows (refused_entry at ∷ past) ops p r
   shows_refused fresh =
@@ -46,56 +78,10 @@ module _ (past : Past) (at : At) (ops : List Op) (p r : Searched) (s : Shows pas
       let v = s.versions in
       let o = s.operations in
       record {
-        legal = (rw (fresh_start at past fresh) (record { met = sym (q.unharmed at) }), s.legal);
-        quiet = record { primary = q.primary; first = q.first; second = q.second; generation = q.generation; landed = rw q.landed refl; busy = q.busy; uncopied = λ w. rw (q.uncopied w) refl; unharmed = q.unharmed };
-        versions = record { first = v.first; one = v.one; second = v.second; copied = v.copied; made = v.made };
-        operations = record { count = o.count; counted = o.counted; written = o.written; accepted = o.accepted; taken = o.taken };
-        first = record { version = s.first.version; within = s.first.within; point = s.first.point; documents = s.first.documents; ordered = s.first.ordered };
-        second = record { version = s.second.version; within = s.second.within; point = s.second.point; documents = s.second.documents; ordered = s.second.ordered };
-        behind = s.behind;
-        numbered = s.numbered;
-      }
-
-  start_copy : MayStartCopy 2 past at (record { 0 = 2 }) (record { 0 = newest_version past })
-  start_copy =
-      let q = s.quiet in
-      record {
-        node = (omega arith, omega arith);
-        replica = record { running = q.second; other = rw q.primary refl };
-        source = λ e. let n = sym q.primary ∙ e in cc;
-        newest = refl;
-        alone = rw (q.uncopied (newest_version past)) refl;
-      }
-
-  -- a copy of the version that node 2 searches ends without a switch
-  shows_same : version_of 2 past ≡ newest_version past → Shows (copied_same at past) ops p r
-  shows_same same =
-      let q = s.quiet in
-      let v = s.versions in
-      let o = s.operations in
-      record {
-        legal = (
-          record {
-            node = (omega arith, omega arith);
-            started = rw (same_at_self at) refl;
-            searched = sym same;
-            done = inr (rw (same_at_self at) same);
-            survives = record { node = rw (same_at_self at) refl };
-            source = record { source = rw (same_at_self at) refl };
-          },
-          (start_copy, s.legal),
-        );
-        quiet = record {
-          primary = q.primary;
-          first = q.first;
-          second = q.second;
-          generation = q.generation;
-          landed = rw q.landed refl;
-          busy = q.busy;
-          uncopied = λ w. copied_lands at (newest_version past == w) (copy_in_flight 2 w past) (q.uncopied w);
-          unharmed = q.unharmed;
-        };
-        versions = record { first = v.first; one = v.one; second = v.second; copied = omega (arith, v.copied); made = v.made };
+        legal = (rw (fresh_start at past fresh) (record { met = sym (s.calm.spared at) }), s.legal);
+        calm = calm_refused past at s.calm;
+        quiet = record { primary = q.primary; first = q.first; second = q.second; generation = q.generation; landed = rw q.landed refl; busy = q.busy };
+        versions = record { first = v.first; one = v.one; second = v.second; made = v.made };
         operations = record { count = o.count; counted = o.counted; written = o.written; accepted = o.accepted; taken = o.taken };
         first = record { version = s.first.version; within = s.first.within; point = s.first.point; documents = s.first.documents; ordered = s.first.ordered };
         second = record { version = s.second.version; within = s.second.within; point = s.second.point; documents = s.second.documents; ordered = s.second.ordered };
@@ -113,7 +99,7 @@ module _ (past : Past) (at : At) (ops : List Op) (p r : Searched) (s : Shows pas
         let q = s.quiet in (
           record {
             node = (omega arith, omega arith);
-            started = rw (same_at_self at) refl;
+            started = rw (same_at_self at) (refl, omega arith);
             searched = refl;
             done = inl (rw (same_at_self at) refl);
             survives = record { node = rw (same_at_self at) refl };
@@ -125,13 +111,16 @@ module _ (past : Past) (at : At) (ops : List Op) (p r : Searched) (s : Shows pas
               replica = record { running = q.second; other = rw q.primary refl };
               made = s.versions.made below;
               above = below;
-              latest = omega (arith, s.versions.copied);
+              latest = let h = s.calm.latest in omega (arith, h);
               ordered = rw (same_at_self at) (omega arith);
-              started = rw (same_at_self at) (refl, refl);
+              started = rw (same_at_self at) (refl, omega arith);
               survives = record { node = rw (same_at_self at) refl };
               source = record { source = rw (same_at_self at) refl };
             },
-            (start_copy, s.legal),
+            (
+              record { node = (omega arith, omega arith); replica = record { running = q.second; other = rw q.primary refl }; source = λ e. let n = sym q.primary ∙ e in cc; newest = refl; alone = rw (s.calm.idle (newest_version past)) refl },
+              s.legal,
+            ),
           ),
         )
 
@@ -142,8 +131,9 @@ module _ (past : Past) (at : At) (ops : List Op) (p r : Searched) (s : Shows pas
         let o = s.operations in
         record {
           legal = legal_newer;
-          quiet = record { primary = q.primary; first = q.first; second = q.second; generation = q.generation; landed = rw q.landed refl; busy = q.busy; uncopied = λ w. copied_lands at (newest_version past == w) (copy_in_flight 2 w past) (q.uncopied w); unharmed = q.unharmed };
-          versions = record { first = v.first; one = omega (arith, v.one, v.second); second = omega arith; copied = omega (arith, v.copied); made = λ h. absurd (omega (arith, h)) };
+          calm = calm_newer past at s.calm;
+          quiet = record { primary = q.primary; first = q.first; second = q.second; generation = q.generation; landed = rw q.landed refl; busy = q.busy };
+          versions = record { first = v.first; one = omega (arith, v.one, v.second); second = omega arith; made = λ h. absurd (omega (arith, h)) };
           operations = record { count = o.count; counted = o.counted; written = o.written; accepted = o.accepted; taken = o.taken };
           first = record { version = s.first.version; within = s.first.within; point = s.first.point; documents = s.first.documents; ordered = s.first.ordered };
           second = record {
@@ -205,8 +195,9 @@ module _ (past : Past) (at : At) (ops : List Op) (p r : Searched) (s : Shows pas
         let whole : take (length ops) ops ≡ ops = take-length ops in
         record {
           legal = legal_next;
-          quiet = record { primary = q.primary; first = q.first; second = q.second; generation = q.generation; landed = rw (same_at_self at) refl; busy = rw (same_at_self at, adds_some) q.busy; uncopied = λ w. rw (q.uncopied w) refl; unharmed = q.unharmed };
-          versions = record { first = rw q.primary (sym newest_after); one = rw q.primary v.one; second = rw q.primary (omega (arith, newest_after, v.second)); copied = omega (arith, newest_after, v.copied); made = λ h. grind (arith, nat_tests) };
+          calm = calm_published past at s.calm;
+          quiet = record { primary = q.primary; first = q.first; second = q.second; generation = q.generation; landed = rw (same_at_self at) refl; busy = rw (same_at_self at, adds_some) q.busy };
+          versions = record { first = rw q.primary (sym newest_after); one = rw q.primary v.one; second = rw q.primary (omega (arith, newest_after, v.second)); made = λ h. grind (arith, nat_tests) };
           operations = record { count = o.count; counted = o.counted; written = o.written; accepted = o.accepted; taken = operations ∙ rw (same_at_self at) o.counted };
           first = record {
             version = number ∙ (ap (λ (n : ℕ). n + 1) s.first.version ∙ sym newest_after);
@@ -231,12 +222,6 @@ module _ (past : Past) (at : At) (ops : List Op) (p r : Searched) (s : Shows pas
 pub refused_kept : (old new : List Entry) (at : At) (ops : List Op) (p r : Searched) → Shows (reverse old) ops p r → entries_of_line at (reverse old) ≡ []
     → new ≡ old ++ refused_entry at ∷ [] → Shows (reverse new) ops p r
 refused_kept old new at ops p r s fresh e = rw (e, reverse-append) (shows_refused (reverse old) at ops p r s fresh)
-
-pub same_kept : (old mid new : List Entry) (at : At) (v : ℕ) (ops : List Op) (p r : Searched) → Shows (reverse old) ops p r → version_of 2 (reverse old) ≡ newest_version (reverse old)
-    → v ≡ p.version → mid ≡ old ++ copying_entry at 2 v ∷ [] → new ≡ mid ++ copied_entry at 2 v ∷ [] → Shows (reverse new) ops p r
-same_kept old mid new at v ops p r s same e0 e1 e2 =
-    let is : v ≡ newest_version (reverse old) = e0 ∙ s.first.version in
-    rw (e2, e1, reverse-append, reverse-append, is) (shows_same (reverse old) at ops p r s same)
 
 pub newer_kept : (old mid last new : List Entry) (at : At) (v : ℕ) (ops : List Op) (p r r' : Searched) → Shows (reverse old) ops p r → version_of 2 (reverse old) ≢ newest_version (reverse old)
     → v ≡ p.version → mid ≡ old ++ copying_entry at 2 v ∷ [] → last ≡ mid ++ switched_entry at 2 v ∷ [] → new ≡ last ++ copied_entry at 2 v ∷ []

@@ -1,17 +1,17 @@
 -- What the engine keeps: its plain values are those that the entries so far show.
 use Rattle.std.specs.Prelude.{ℕ, ◌≡◌, ◌<◌, ◌≤◌, ◌+◌, List, length, take, map, true, false, Some, None}
+use Rattle.nrt_base.specs.declared.numbers.At.{At}
 use Rattle.std.specs.BTreeMap.{IsOrdered}
 use Rattle.documents.specs.declared.operation.Op.{Op}
 use Rattle.documents.specs.Documents.{key_cmp, document_of, documents_after}
 use Rattle.history_entries.specs.Nodes.{Past, primary_of, is_running, generation_of, version_of, newest_version, is_made_in_generation, accepted_count}
 use Rattle.history_entries.specs.Lines.{publish_in_flight, copy_in_flight, highest_copy}
 use Rattle.history_entries.specs.Faults.{has_met_fault}
-use Rattle.nrt_base.specs.declared.numbers.At.{At}
 use Rattle.history_entries.specs.Points.{operations_written, operations_at, operations_of_generation, published_in_generation, accepted_in_generation, idle_publishes}
 use Rattle.history_entries.specs.Legal.{IsLegalPast}
 use Rattle.plain_run.specs.declared.node.Searched.{Searched}
 
--- nothing has crashed or been promoted, no publish or copy is in flight, none added nothing, and no fault was met
+-- nothing has crashed or been promoted, no publish is in flight, and none added nothing
 pub record IsQuiet (past : Past) : Type 0 where
   pub primary : primary_of past ≡ Some (record { 0 = 1 })
   pub first : is_running 1 past ≡ true
@@ -19,15 +19,18 @@ pub record IsQuiet (past : Past) : Type 0 where
   pub generation : generation_of past ≡ 1
   pub landed : publish_in_flight past ≡ None
   pub busy : idle_publishes past ≡ 0
-  pub uncopied : (v : ℕ) → copy_in_flight 2 v past ≡ None
-  pub unharmed : (at : At) → has_met_fault at past ≡ false
+
+-- no line has met a fault, no copy to node 2 is in flight, and none that started was above the newest version
+pub record IsCalm (past : Past) : Type 0 where
+  pub spared : (at : At) → has_met_fault at past ≡ false
+  pub idle : (v : ℕ) → copy_in_flight 2 v past ≡ None
+  pub latest : highest_copy 2 past ≤ newest_version past
 
 -- the versions that the two nodes search
 pub record AreVersions (past : Past) : Type 0 where
   pub first : version_of 1 past ≡ newest_version past
   pub one : 1 ≤ version_of 2 past
   pub second : version_of 2 past ≤ newest_version past
-  pub copied : highest_copy 2 past ≤ newest_version past
   pub made : version_of 2 past < newest_version past → is_made_in_generation (newest_version past) past ≡ true
 
 -- the operations so far, and how many of them are published
@@ -50,6 +53,7 @@ pub record Searches (past : Past) (ops : List Op) (v : ℕ) (node : Searched) : 
 pub record Shows (past : Past) (ops : List Op) (primary replica : Searched) : Type 0 where
   pub legal : IsLegalPast 2 past
   pub quiet : IsQuiet past
+  pub calm : IsCalm past
   pub versions : AreVersions past
   pub operations : AreOperations past ops primary.operations
   pub first : Searches past ops (newest_version past) primary

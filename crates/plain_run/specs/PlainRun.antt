@@ -12,7 +12,7 @@ use Rattle.history_entries.specs.declared.entry.Entry.{Entry}
 use Rattle.history_entries.specs.declared.entry.Event.TheVariants.{Accepted, Publishing, Published, Copying, Switched, Copied, Opened, Answered, Refused}
 use Rattle.history_entries.specs.Nodes.{Past, accepted_count, newest_version, version_of}
 use Rattle.history_entries.specs.Points.{cut_of, documents_at}
-use Rattle.documents.specs.Matching.{scan_of}
+use Rattle.documents.specs.Ranking.{scan_of}
 use Rattle.script_serving.specs.declared.script.Line.{Line}
 use Rattle.script_serving.specs.declared.script.LineCommand.{LineCommand}
 use Rattle.script_serving.specs.declared.script.LineCommand.TheVariants.{Put, Drop, Publish, Copy, Search}

@@ -2,7 +2,8 @@ ghost use Rattle.std.specs.Prelude.{◌≤◌, ◌≢◌, ◌≡◌, ◌+◌, �
 ghost use Rattle.history_entries.specs.Nodes.{accepted_count, newest_version, version_of};
 ghost use Rattle.history_entries.specs.Lines.{entries_of_line};
 ghost use Rattle.history_entries.specs.Points.{cut_of, documents_at};
-ghost use Rattle.documents.specs.Matching.{scan_of};
+ghost use Rattle.documents.specs.Matching.{is_well_formed};
+ghost use Rattle.documents.specs.Ranking.{scan_of};
 ghost use Rattle.history_entries.specs.Legal.{IsLegal};
 ghost use Rattle.plain_run.specs.PlainRun.{after_accept, published_next, refused_entry, after_copy, copied_same, copied_newer, after_search};
 
@@ -205,6 +206,7 @@ impl Engine {
         requires running { self.now.ended ≡ false }
         requires node { (n.0 ≡ 1) ⊎ (n.0 ≡ 2) }
         requires few { accepted_count self.now.past < 2 ^ 32 }
+        requires formed { IsTrue (is_well_formed query.now) }
         ensures version { IfOk result (λ found. found.0.0 ≡ version_of n.0 self.now.past) }
         ensures answer { IfOk result (λ found. found.1 ≡ scan_of (documents_at self.now.past (version_of n.0 self.now.past)) query.now) }
     {
@@ -223,6 +225,7 @@ impl Engine {
         requires running { self.old.ended ≡ false }
         requires node { (n.0 ≡ 1) ⊎ (n.0 ≡ 2) }
         requires few { accepted_count self.old.past < 2 ^ 32 }
+        requires formed { IsTrue (is_well_formed query) }
         ensures past { OnOk result (self.new.past ≡ after_search at n.0 query self.old.past) }
         ensures running { OnOk result (self.new.ended ≡ false) }
     {

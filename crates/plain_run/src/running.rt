@@ -3,7 +3,7 @@ ghost use Rattle.history_entries.specs.Nodes.{accepted_count};
 ghost use Rattle.history_entries.specs.Lines.{entries_of_line};
 ghost use Rattle.history_entries.specs.Legal.{IsLegal};
 ghost use Rattle.script_serving.specs.Lines.{lines_of as lines_of_lem};
-ghost use Rattle.script_serving.specs.Form.{IsInForm};
+ghost use Rattle.script_serving.specs.Form.{IsInForm, is_command};
 ghost use Rattle.script_serving.specs.Serves.{Serves};
 ghost use Rattle.plain_run.specs.PlainRun.{is_plain, after_command, IsPlainScript};
 
@@ -19,6 +19,7 @@ use std::alloc::Global;
 fn run_line(alloc: Global, engine: &mut Engine, line: &Line) -> Result<(), NoMemory>
     requires running { engine.old.ended ≡ false }
     requires plain { is_plain line.now.command ≡ true }
+    requires formed { is_command 2 line.now.command ≡ true }
     requires fresh { entries_of_line line.now.at engine.old.past ≡ [] }
     requires few { accepted_count engine.old.past + 1 < 2 ^ 32 }
     ensures past { OnOk result (engine.new.past ≡ after_command line.now.command line.now.at engine.old.past) }
