@@ -1,7 +1,7 @@
 ghost use Rattle.std.specs.Prelude.{◌≡◌, ◌∷◌, [], None, MatchOption, codes, length};
 ghost use Rattle.script_text.specs.Grammar.{words_in};
-ghost use Rattle.script_text.specs.Refused.{asked as asked_lem, fault_asked as fault_asked_lem, is_too_few_or_many, command_shapes, fault_shapes, shape_named};
-ghost use Rattle.script_text.specs.Reading.{plain_shape, shape_of, asked_of, NamesFront, IsNamed, IsFaultNamed, late_shapes};
+ghost use Rattle.script_text.specs.Refused.{asked as asked_lem, fault_asked as fault_asked_lem, is_too_few_or_many, command_shapes, fault_shapes, shape_named, plain_shape, shape_of};
+ghost use Rattle.script_text.specs.Reading.{asked_of, NamesFront, IsNamed, IsFaultNamed, late_shapes};
 
 use crate::words::{is_word, next_word};
 use history_entries::FaultKind;
