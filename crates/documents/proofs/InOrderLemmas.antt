@@ -1,5 +1,5 @@
 -- Items in order: the same order in whatever turn they come, and hits in theirs.
-use Rattle.std.proofs.Common.{◌≡◌, ℕ, zero, suc, ◌+◌, ◌<◌, List, [], ◌∷◌, length, get_or, set, Bool, true, false, refl, sym, ap, ◌∙◌, inl, inr, arith, add-one}
+use Rattle.std.proofs.Common.{◌≡◌, ℕ, zero, suc, ◌+◌, ◌<◌, List, [], ◌∷◌, length, get_or, set, Bool, true, false, refl, sym, ap, ◌∙◌, arith, add-one}
 use Rattle.std.specs.Prelude.{if◌then◌else◌}
 use Rattle.std.specs.List.{swap}
 use Rattle.std.specs.List.Sorted.{IsPermutation, IsSorted}
@@ -8,9 +8,7 @@ use Rattle.std.specs.Cmp.{IsTotalOrder}
 use Rattle.std.specs.Cmp.Lexicographic.{texts_ties}
 use Rattle.std.specs.declared.cmp.Ordering.{Ordering}
 use Rattle.std.specs.declared.cmp.Ordering.TheVariants.{Less, Equal, Greater}
-use Rattle.std.proofs.lemmas.Bool.{cases_eq}
 use Rattle.std.proofs.lemmas.Cmp.{ranked, nat_cmp_total, nat_list_cmp_total, on_total, back_total, then_total}
-use Rattle.std.proofs.lemmas.List.{length-set, get_or-set_same, get_or-set_other}
 use Rattle.std.proofs.lemmas.List.Sorted.{IsPermutation-keeps}
 use Rattle.std.proofs.lemmas.Slice.Eq.{bytes_eq-Decides}
 use Rattle.documents.specs.declared.answer.Hit.{Hit}
@@ -18,12 +16,30 @@ use Rattle.documents.specs.Documents.{key_cmp}
 use Rattle.documents.specs.InOrder.{with_item, in_order}
 use Rattle.documents.specs.Ranking.{hit_cmp}
 
-module _ {X : Type 0} where
-  cons_parts : {x y : X} {xs ys : List X} → x ∷ xs ≡ y ∷ ys → (x ≡ y) × (xs ≡ ys)
-  cons_parts e = (cc, cc)
+-- a relation that is reflexive and transitive, goes under a head and over two heads in turn holds along each permutation
+module _ {X : Type 0} (R : List X → List X → Type 0) (same : (xs : List X) → R xs xs)
+    (skip : (x : X) (xs ys : List X) → R xs ys → R (x ∷ xs) (x ∷ ys))
+    (turn : (x y : X) (xs : List X) → R (x ∷ y ∷ xs) (y ∷ x ∷ xs))
+    (chain : (xs ys zs : List X) → R xs ys → R ys zs → R xs zs) where
+  to_head : (xs : List X) (j : ℕ) (x d : X) → j < length xs → R (x ∷ xs) (get_or xs j d ∷ set xs j x)
+  to_head [] j x d lt = absurd (omega (arith, lt))
+  to_head (y ∷ xs) zero x d lt = turn x y xs
+  to_head (y ∷ xs) (suc j) x d lt =
+      chain _ _ _ (turn x y xs) (chain _ _ _ (skip y _ _ (to_head xs j x d (omega (arith, lt)))) (turn y (get_or xs j d) (set xs j x)))
 
-  cons_from : {x y : X} {xs ys : List X} → x ≡ y → xs ≡ ys → x ∷ xs ≡ y ∷ ys
-  cons_from e f = cc
+  exchanged : (xs : List X) (i j : ℕ) (d : X) → i < length xs → j < length xs → R xs (set (set xs i (get_or xs j d)) j (get_or xs i d))
+  exchanged [] i j d p q = absurd (omega (arith, p))
+  exchanged (x ∷ xs) zero zero d p q = same (x ∷ xs)
+  exchanged (x ∷ xs) zero (suc j) d p q = to_head xs j x d (omega (arith, q))
+  exchanged (x ∷ xs) (suc i) zero d p q = to_head xs i x d (omega (arith, p))
+  exchanged (x ∷ xs) (suc i) (suc j) d p q = skip x _ _ (exchanged xs i j d (omega (arith, p)) (omega (arith, q)))
+
+  swapped : (xs : List X) (i j : ℕ) → i < length xs → j < length xs → R xs (swap xs i j)
+  swapped [] i j p q = same []
+  swapped (x ∷ xs) i j p q = exchanged (x ∷ xs) i j x p q
+
+  pub along_permutation : (xs ys : List X) → IsPermutation xs ys → R xs ys
+  along_permutation xs = IsPermutation-keeps xs (R xs) (same xs) (λ l i j p q h. chain xs l _ h (swapped l i j p q))
 
 module _ {X : Type 0} (cmp : X → X → Ordering) (total : IsTotalOrder cmp) where
   less_of : (o : Ordering) → is_lt o ≡ true → o ≡ Less
@@ -76,59 +92,6 @@ module _ {X : Type 0} (cmp : X → X → Ordering) (total : IsTotalOrder cmp) wh
         by_test false true e f h = rw (e, f, before_too a x b e f, e) refl
         by_test false false e f h = rw (e, f, e) (two a b (x ∷ items))
 
-    -- one item in another's place
-    exchanged : (items : List X) (i : ℕ) (x d : X) → i < length items
-        → with_item cmp (in_order cmp (set items i x)) (get_or items i d) ≡ with_item cmp (in_order cmp items) x
-    exchanged [] i x d lt = absurd (omega (arith, lt))
-    exchanged (y ∷ items) zero x d lt = with_two (in_order cmp items) x y
-    exchanged (y ∷ items) (suc i) x d lt =
-        with_two (in_order cmp (set items i x)) y (get_or items i d)
-        ∙ ap (λ ys. with_item cmp ys y) (exchanged items i x d (omega (arith, lt)))
-        ∙ with_two (in_order cmp items) x y
-
-    not_itself : (x y : X) → x ≡ y → is_lt (cmp x y) ≡ true → ⊥
-    not_itself x y same lt =
-        let back : is_lt (cmp y x) ≡ false = not_behind x y lt in
-        let bad : true ≡ false = sym lt ∙ ap (λ (z : X). is_lt (cmp z y)) same ∙ ap (λ (z : X). is_lt (cmp y z)) (sym same) ∙ back in
-        cc
-
-    longer : (items : List X) (x : X) → length (with_item cmp items x) ≡ length items + 1
-    longer [] x = refl
-    longer (y ∷ items) x = by_test (is_lt (cmp y x)) refl (longer items x)
-      where
-        by_test : (b : Bool) → is_lt (cmp y x) ≡ b → length (with_item cmp items x) ≡ length items + 1 → length (with_item cmp (y ∷ items) x) ≡ length (y ∷ items) + 1
-        by_test true e h = rw e (omega (arith, h))
-        by_test false e h = rw e (omega arith)
-
-    -- lists that one more item makes the same are the same
-    without : (items others : List X) (x : X) → with_item cmp items x ≡ with_item cmp others x → items ≡ others
-    without [] [] x e = refl
-    without [] (z ∷ others) x e = let f = sym (longer [] x) ∙ ap length e ∙ longer (z ∷ others) x in absurd (omega (arith, f))
-    without (y ∷ items) [] x e = let f = sym (longer (y ∷ items) x) ∙ ap length e ∙ longer [] x in absurd (omega (arith, f))
-    without (y ∷ items) (z ∷ others) x e = by_test (is_lt (cmp y x)) (is_lt (cmp z x)) refl refl e (without items others x)
-      where
-        by_test : (s t : Bool) → is_lt (cmp y x) ≡ s → is_lt (cmp z x) ≡ t → with_item cmp (y ∷ items) x ≡ with_item cmp (z ∷ others) x
-            → (with_item cmp items x ≡ with_item cmp others x → items ≡ others) → y ∷ items ≡ z ∷ others
-        by_test true true f g h k = let cells = cons_parts (rw (f, g) at h) in cons_from cells.0 (k cells.1)
-        by_test true false f g h k = absurd (not_itself y x (cons_parts (rw (f, g) at h)).0 f)
-        by_test false true f g h k = absurd (not_itself z x (sym (cons_parts (rw (f, g) at h)).0) g)
-        by_test false false f g h k = (cons_parts (rw (f, g) at h)).1
-
-    exchange : (items : List X) (i j : ℕ) → i < length items → j < length items → in_order cmp (swap items i j) ≡ in_order cmp items
-    exchange [] i j p q = absurd (omega (arith, p))
-    exchange (d ∷ items) i j p q =
-        let all : List X = d ∷ items in
-        let a = get_or all i d in
-        let b = get_or all j d in
-        let first = set all i b in
-        let there : get_or first j d ≡ b = elim (cases_eq j i) [
-          | inl same ↦ ap (λ (n : ℕ). get_or first n d) same ∙ get_or-set_same all i b d p
-          | inr other ↦ get_or-set_other all i j b d other
-        ] in
-        let long = length-set all i b in
-        without (in_order cmp (swap all i j)) (in_order cmp all) b
-        (ap (with_item cmp (in_order cmp (set first j a))) (sym there) ∙ exchanged first j a d (omega (arith, q, long)) ∙ exchanged all i b d p)
-
     next_of : (x : X) (items : List X) (k : ℕ) (d : X) → get_or (x ∷ items) (k + 1) d ≡ get_or items k d
     next_of x items k d = rw add-one refl
 
@@ -148,8 +111,8 @@ module _ {X : Type 0} (cmp : X → X → Ordering) (total : IsTotalOrder cmp) wh
 
     -- in whatever turn items come, they are in one order
     pub in_order-permutation : (items others : List X) → IsPermutation items others → in_order cmp items ≡ in_order cmp others
-    in_order-permutation items others moved =
-        IsPermutation-keeps items (λ l. in_order cmp items ≡ in_order cmp l) refl (λ l i j p q h. h ∙ sym (exchange l i j p q)) others moved
+    in_order-permutation = along_permutation (λ items others. in_order cmp items ≡ in_order cmp others)
+        (λ items. refl) (λ x items others e. ap (λ ys. with_item cmp ys x) e) (λ x y items. with_two (in_order cmp items) y x) (λ items others last e f. e ∙ f)
 
     -- items that were sorted are in order
     pub in_order-from_sort : (items sorted : List X) → IsPermutation items sorted → IsSorted cmp sorted → sorted ≡ in_order cmp items

@@ -1,17 +1,15 @@
 -- How high a query ranks, from how high its parts do, and that no well-formed query ranks too high for 32 bits.
-use Rattle.std.proofs.Common.{◌≡◌, ℕ, ◌+◌, ◌-◌, ◌*◌, ◌^◌, ◌<◌, ◌≤◌, List, [], ◌∷◌, length, take, drop, map, max, Bool, true, false, Some, None, ltb, leb, cond, inl, inr, refl, ap, ◌∙◌, sym, subst, arith}
+use Rattle.std.proofs.Common.{◌≡◌, ℕ, ◌+◌, ◌-◌, ◌*◌, ◌^◌, ◌<◌, ◌≤◌, List, [], ◌∷◌, length, take, drop, Bool, true, false, Some, ltb, inl, inr, refl, ap, ◌∙◌, sym, arith}
 use denote.Hole.Carrier.{hidden}
-use Rattle.std.specs.Prelude.{◌&&◌, ◌||◌, nat_le, nat_lt, IsTrue, ◌==◌, ◌⊎◌, sum_by, count_by, bytes_eq, if◌then◌else◌}
+use Rattle.std.specs.Prelude.{◌&&◌, nat_le, IsTrue, ◌==◌, ◌⊎◌, sum_by, count_by, bytes_eq, if◌then◌else◌}
 use Rattle.std.specs.List.{list_any, filter}
-use Rattle.std.specs.List.Sorted.{IsPermutation, IsSorted}
-use Rattle.std.specs.Ordering.{nat_cmp, ordering_then, is_lt}
-use Rattle.std.proofs.lemmas.Bool.{and_parts, and_left, and_right, leb-true, lt-leb, ltb-false, lt-ltb, ltb-true, le-ltb, eqb-true, or_cases}
+use Rattle.std.specs.Ordering.{is_lt}
+use Rattle.std.proofs.lemmas.Bool.{and_parts, leb-true, ltb-false, lt-ltb, ltb-true, eqb-true, or_cases}
 use Rattle.std.proofs.lemmas.List.{length-map}
 use Rattle.std.proofs.lemmas.List.Sums.{sum_by-cons, count_by-le-length, length-filter}
 use Rattle.std.proofs.Math.Nat.{add-mul}
 use Rattle.std.proofs.lemmas.Nat.{mul-le}
 use Rattle.std.proofs.Math.ListN.{drop_of_length-le}
-use mathlib.Core.Former.{Count}
 use Rattle.nrt_base.specs.Bytes.{is_text}
 use Rattle.nrt_base.specs.declared.doc.Doc.{Doc}
 use Rattle.documents.specs.declared.answer.Hit.{Hit}
@@ -19,7 +17,7 @@ use Rattle.documents.specs.declared.query.Query.{Query, Word, Phrase, All, Any, 
 use Rattle.documents.specs.declared.query.Query.TheBlock.{hidden-the_row-Query-1}
 use Rattle.documents.specs.InOrder.{with_item, in_order}
 use Rattle.documents.specs.Matching.{tails, stands_at_front, matches_doc, depth_of, leaves_of, all_leaves, has_form, all_have_form, is_well_formed}
-use Rattle.documents.specs.Ranking.{times_of_word, times_of_phrase, rank_of, sum_of_ranks, matching_hits, hit_of, hit_cmp, fitting, first_rank, is_too_high}
+use Rattle.documents.specs.Ranking.{times_of_phrase, rank_of, sum_of_ranks, matching_hits, hit_of, hit_cmp, fitting, first_rank, is_too_high}
 use Rattle.documents.specs.Words.{words_of}
 use Rattle.documents.proofs.MatchingLemmas.{row_of, all_from, tails_from}
 use Rattle.documents.proofs.WordLemmas.{length-words_of-le}

@@ -1,6 +1,6 @@
 -- A word is found among the words of a text by its runs of letters and digits.
 use Rattle.std.proofs.Common.{◌≡◌, ℕ, ◌+◌, List, [], ◌∷◌, ◌++◌, map, Bool, true, false, ltb, leb, refl, sym, ap, ◌∙◌, arith, append_assoc, append-nil, length, ◌*◌, ◌≤◌}
-use Rattle.std.specs.Prelude.{◌&&◌, ◌||◌, ◌↔◌, not, IsTrue, bytes_eq}
+use Rattle.std.specs.Prelude.{◌||◌, ◌↔◌, not, IsTrue, bytes_eq}
 use Rattle.std.specs.List.{list_any, list_all, slice_split, onto_first}
 use Rattle.std.specs.Char.{to_ascii_lowercase}
 use Rattle.std.proofs.lemmas.Bool.{and_parts, ltb-true, ltb-false, leb-true, lt-leb, le-leb}

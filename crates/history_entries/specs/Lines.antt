@@ -1,5 +1,5 @@
 -- What the entries before a place show of one line of the script: how far it has come, and what happened since it began.
-use Rattle.std.specs.Prelude.{ℕ, ◌≡◌, [], ◌∷◌, Bool, true, false, ◌&&◌, ◌||◌, not, ◌==◌, max, if◌then◌else◌, Option, Some, None}
+use Rattle.std.specs.Prelude.{ℕ, ◌≡◌, [], ◌∷◌, Bool, true, false, ◌&&◌, ◌||◌, not, ◌==◌, nat_lt, max, if◌then◌else◌, Option, Some, None}
 use Rattle.nrt_base.specs.declared.numbers.At.{At}
 use Rattle.nrt_base.specs.declared.numbers.NodeNo.{NodeNo}
 use Rattle.history_entries.specs.declared.entry.Event.{Event}
@@ -132,16 +132,6 @@ abbrev pub highest_copy : ℕ → Past → ℕ
 highest_copy n [] = 1
 highest_copy n (e ∷ past) = highest_copy_by n e.event (highest_copy n past)
 
-abbrev pub switches_by : Event → Bool
-switches_by (Switched n v) = true
-switches_by e = false
-
--- the line has switched a replica since its start entry
-abbrev pub has_switched : At → Past → Bool
-has_switched at [] = false
-has_switched at (e ∷ past) =
-    if is_start e.event && same_at e.at at then false else (switches_by e.event && same_at e.at at) || has_switched at past
-
 abbrev pub switched_node_by : Event → ℕ → ℕ
 switched_node_by (Switched n v) k = max k n.0
 switched_node_by e k = k
@@ -151,3 +141,7 @@ abbrev pub highest_switched : At → Past → ℕ
 highest_switched at [] = 0
 highest_switched at (e ∷ past) =
     if same_at e.at at then (if is_start e.event then 0 else switched_node_by e.event (highest_switched at past)) else highest_switched at past
+
+-- the line has switched a replica since its start entry
+abbrev pub has_switched : At → Past → Bool
+has_switched at past = nat_lt 0 (highest_switched at past)

@@ -26,11 +26,11 @@ use Rattle.history_entries.specs.Commits.{has_committed, is_disk_fault, is_stuck
 use Rattle.history_entries.specs.Tasks.{merge_count, drained_count}
 use Rattle.history_entries.specs.Faults.{is_planned, has_fault, has_met_fault, same_kind, is_of_disk}
 
--- an operation is accepted while a primary runs, and counted; its line has met no fault
+-- an operation is accepted while a primary runs, and counted; its line has met no fault, or has its reply and accepts again what the log has
 pub record MayAccept (past : Past) (at : At) (seq : ℕ) : Type 0 where
   pub running : primary_of past ≢ None
   pub next : seq ≡ accepted_count past + 1
-  pub spared : has_met_fault at past ≡ false
+  pub spared : (has_met_fault at past ≡ false) ⊎ (is_answered at past ≡ true)
 
 -- a publish starts while a primary runs and no other line's publish is in flight; it takes an operation, or a merge that none took
 pub record MayStartPublish (past : Past) (at : At) : Type 0 where
@@ -73,15 +73,10 @@ pub record MaySwitch (size : ℕ) (past : Past) (at : At) (n : NodeNo) (v : Vers
   pub survives : NodeSurvives past at n.0
   pub source : SourceSurvives past at
 
--- the line started as a copy of this version to this node
-abbrev pub StartedCopyOf : ℕ → ℕ → Option Event → Type 0
-StartedCopyOf n v (Some (Copying m w)) = (m.0 ≡ n) × (w.0 ≡ v)
-StartedCopyOf n v e = ⊥
-
 -- a copy ends with the version of its start, which the node searches: because the copy switched it, or because it did so already
 pub record MayFinishCopy (size : ℕ) (past : Past) (at : At) (n : NodeNo) (v : Version) : Type 0 where
   pub node : IsNode size n.0
-  pub started : StartedCopyOf n.0 v.0 (start_entry at past)
+  pub started : start_entry at past ≡ Some (Copying n v)
   pub searched : v.0 ≡ version_of n.0 past
   pub done : (has_switched at past ≡ true) ⊎ (version_of n.0 (before_start at past) ≡ v.0)
   pub survives : NodeSurvives past at n.0

@@ -1,5 +1,5 @@
 -- The tickets that the entries before a place show.
-use Rattle.std.specs.Prelude.{ℕ, ◌≡◌, [], ◌∷◌, Bool, true, false, ◌&&◌, ◌==◌, if◌then◌else◌, Option, Some, None}
+use Rattle.std.specs.Prelude.{ℕ, is_some, ◌≡◌, [], ◌∷◌, Bool, true, false, ◌&&◌, ◌==◌, if◌then◌else◌, Option, Some, None}
 use Rattle.nrt_base.specs.declared.numbers.At.{At}
 use Rattle.history_entries.specs.declared.entry.Event.{Event}
 use Rattle.history_entries.specs.declared.entry.Event.TheVariants.{Opened, Closed}
@@ -32,10 +32,6 @@ while_alive past (Some ticket) = if crashes ticket.node past == ticket.life then
 -- an open ticket of a lane: it was opened, and neither was it closed nor has its node crashed since
 abbrev pub open_ticket : ℕ → ℕ → Past → Option Ticket
 open_ticket lane t past = if t == 0 then None else while_alive past (last_opened lane t past)
-
-abbrev pub is_some : Option Ticket → Bool
-is_some None = false
-is_some (Some ticket) = true
 
 -- the lane has this ticket
 abbrev pub has_ticket : ℕ → ℕ → Past → Bool

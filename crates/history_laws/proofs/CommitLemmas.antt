@@ -1,6 +1,6 @@
 -- The version at which a node of a legal history reopens: its last commit, or a later one that was begun.
 use Rattle.std.proofs.Common.{◌≡◌, ◌≤◌, ◌<◌, ◌+◌, ◌==◌, ◌||◌, ◌&&◌, ◌⊎◌, ⊎_elim, inl, inr, ℕ, List, [], ◌∷◌, Bool, true, false, true≢false, Option, Some, None, if◌then◌else◌, refl, sym, ap, ◌∙◌, subst, arith}
-use Rattle.std.proofs.lemmas.Bool.{or_cases, or_right}
+use Rattle.std.proofs.lemmas.Bool.{eqb-true, eq-eqb, or_cases, or_right}
 use Rattle.std.specs.List.{list_any}
 use Rattle.nrt_base.specs.declared.numbers.At.{At}
 use Rattle.history_entries.specs.declared.entry.Event.{Event}
@@ -11,7 +11,7 @@ use Rattle.history_entries.specs.Commits.{base_by, base_version, is_stuck, late_
 use Rattle.history_entries.specs.Rules.{StartedCommit}
 use Rattle.history_entries.specs.Legal.{KeepsRule, IsLegalPast}
 use Rattle.history_laws.specs.Laws.{is_some_line, was_searched_in_commit, IsLeftByCommits}
-use Rattle.history_laws.proofs.PastLemmas.{equal_from_test, test_same, point_low}
+use Rattle.history_laws.proofs.PastLemmas.{point_low}
 use Rattle.history_laws.proofs.NodeLemmas.{known, in_one, in_more, crashes_rise, runs_on, rises_step}
 
 started_running : (size : ℕ) (past : Past) (at : At) (e : Event) (n : ℕ) → KeepsRule size past at e → StartedCommit n (Some e) → is_running_by n e (is_running n past) ≡ true
@@ -44,7 +44,7 @@ commit_runs size at n (e ∷ past) legal started same =
     now_or v b is found =
         let found' : ((version_of n (e ∷ past) == v) || (if b then false else was_searched_since at n v past)) ≡ true =
         ap (λ (c : Bool). (version_of n (e ∷ past) == v) || (if c then false else was_searched_since at n v past)) (sym is) ∙ found in
-        ⊎_elim (λ same. inl (equal_from_test (version_of n (e ∷ past)) v same)) (λ old. inr old) (or_cases (version_of n (e ∷ past) == v) _ found')
+        ⊎_elim (λ same. inl (eqb-true (version_of n (e ∷ past)) v same)) (λ old. inr old) (or_cases (version_of n (e ∷ past) == v) _ found')
 
     since : (b : Bool) → (is_start e.event && same_at e.at at) ≡ b → StartedCommit n (if b then Some e.event else start_entry at past)
         → crashes n (e ∷ past) ≡ crashes n (if b then past else before_start at past)
@@ -73,9 +73,9 @@ more_found (Some a) w base old found = or_right (w == base) _ found
 base_step : (n : ℕ) (e : Event) (base : ℕ) (past : Past) (old : List ℕ) → list_any (λ w. w == base) old ≡ true
     → list_any (λ w. w == base_by n e base) (reopenable_by n e (primary_of past) (late_commit n past) old) ≡ true
 base_step n (Committed m w) base past old found =
-    elim (m.0 == n) as (λ b. list_any (λ u. u == (if b then w.0 else base)) (if b then w.0 ∷ [] else old) ≡ true) [ true ↦ rw (test_same w.0) refl | false ↦ found ]
+    elim (m.0 == n) as (λ b. list_any (λ u. u == (if b then w.0 else base)) (if b then w.0 ∷ [] else old) ≡ true) [ true ↦ rw (eq-eqb w.0 w.0 refl) refl | false ↦ found ]
 base_step n (Reopened m w) base past old found =
-    elim (m.0 == n) as (λ b. list_any (λ u. u == (if b then w.0 else base)) (if b then w.0 ∷ [] else old) ≡ true) [ true ↦ rw (test_same w.0) refl | false ↦ found ]
+    elim (m.0 == n) as (λ b. list_any (λ u. u == (if b then w.0 else base)) (if b then w.0 ∷ [] else old) ≡ true) [ true ↦ rw (eq-eqb w.0 w.0 refl) refl | false ↦ found ]
 base_step n (Committing m w) base past old found =
     elim (m.0 == n) as (λ b. list_any (λ u. u == base) (if b then w.0 ∷ old else old) ≡ true) [ true ↦ or_right (w.0 == base) _ found | false ↦ found ]
 base_step n (Published g w) base past old found =
@@ -113,7 +113,7 @@ running_step size past at (Committed m w) n keeps legal low runs = commit (m.0 =
   where
     commit : (b : Bool) → (m.0 == n) ≡ b → (if b then w.0 else base_version n past) ≤ version_of n past
     commit true is =
-        subst (λ (k : ℕ). w.0 ≤ version_of k past) (equal_from_test m.0 n is)
+        subst (λ (k : ℕ). w.0 ≤ version_of k past) (eqb-true m.0 n is)
         ((commit_runs size at m.0 past legal keeps.started keeps.survives.node).low w.0 keeps.searched)
     commit false is = low.running runs
 running_step size past at (Reopened m w) n keeps legal low runs = reopen (m.0 == n) runs
@@ -144,7 +144,7 @@ running_step size past at e n keeps legal low runs = low.running runs
 more_low : (flight : Option At) (w v base : ℕ) (old : List ℕ) → base ≤ w → (list_any (λ u. u == v) old ≡ true → base ≤ v)
     → list_any (λ u. u == v) (more_by flight w old) ≡ true → base ≤ v
 more_low flight w v base old high low found =
-    ⊎_elim (λ same. let is = equal_from_test w v same in omega arith) low (in_more flight w v old found)
+    ⊎_elim (λ same. let is = eqb-true w v same in omega arith) low (in_more flight w v old found)
 
 reopenable_step : (size : ℕ) (past : Past) (at : At) (e : Event) (n v : ℕ) → KeepsRule size past at e → IsLegalPast size past → Low past n
     → list_any (λ u. u == v) (reopenable_by n e (primary_of past) (late_commit n past) (reopenable_versions n past)) ≡ true
@@ -163,7 +163,7 @@ reopenable_step size past at (Committing m w) n v keeps legal low found = start 
   where
     start : (b : Bool) → (m.0 == n) ≡ b → list_any (λ u. u == v) (if b then w.0 ∷ reopenable_versions n past else reopenable_versions n past) ≡ true → base_version n past ≤ v
     start true is found =
-        let node = equal_from_test m.0 n is in
+        let node = eqb-true m.0 n is in
         let searched : w.0 ≡ version_of n past = keeps.searched ∙ ap (λ (k : ℕ). version_of k past) node in
         let runs = low.running (subst (λ (k : ℕ). is_running k past ≡ true) node keeps.running) in
         more_low (Some at) w.0 v (base_version n past) (reopenable_versions n past) (omega arith) (low.reopenable v) found
@@ -180,7 +180,7 @@ reopenable_step size past at (Switched m w) n v keeps legal low found = switch (
   where
     switch : (b : Bool) → (m.0 == n) ≡ b → list_any (λ u. u == v) (if b then more_by (late_commit n past) w.0 (reopenable_versions n past) else reopenable_versions n past) ≡ true → base_version n past ≤ v
     switch true is found =
-        let node = equal_from_test m.0 n is in
+        let node = eqb-true m.0 n is in
         let above : version_of n past < w.0 = subst (λ (k : ℕ). version_of k past < w.0) node keeps.above in
         let runs = low.running (subst (λ (k : ℕ). is_running k past ≡ true) node keeps.replica.running) in
         more_low (late_commit n past) w.0 v (base_version n past) (reopenable_versions n past) (omega arith) (low.reopenable v) found
@@ -211,7 +211,7 @@ low size (e ∷ past) n legal =
 -- what is searched now, while a commit is in flight
 searched_now : (flying : Bool) (now v : ℕ) (rest : Bool) → flying ≡ true → now ≡ v → ((flying && (now == v)) || rest) ≡ true
 searched_now flying now v rest is same =
-    let this : (flying && (now == v)) ≡ true = rw (is, same) (test_same v) in rw this refl
+    let this : (flying && (now == v)) ≡ true = rw (is, same) (eq-eqb v v refl) in rw this refl
 
 still : {P : Type 0} (now was : Bool) → P ⊎ (was ≡ true) → P ⊎ ((now || was) ≡ true)
 still now was (inl p) = inl p
@@ -220,7 +220,7 @@ still now was (inr is) = inr (or_right now was is)
 in_flight_or : (flight : Option At) (w v : ℕ) (old : List ℕ) → list_any (λ u. u == v) (more_by flight w old) ≡ true
     → ((is_some_line flight ≡ true) × (w ≡ v)) ⊎ (list_any (λ u. u == v) old ≡ true)
 in_flight_or None w v old found = inr found
-in_flight_or (Some at) w v old found = ⊎_elim (λ same. inl (refl, equal_from_test w v same)) (λ older. inr older) (or_cases (w == v) _ found)
+in_flight_or (Some at) w v old found = ⊎_elim (λ same. inl (refl, eqb-true w v same)) (λ older. inr older) (or_cases (w == v) _ found)
 
 -- a late commit is in flight
 late_flies : (stuck : Bool) (flight : Option At) → is_some_line (if stuck then flight else None) ≡ true → is_some_line flight ≡ true
@@ -261,9 +261,9 @@ origin_step size past at (Committing m w) n v keeps origin found = begin (m.0 ==
         → (v ≡ base_version n past) ⊎ ((((is_some_line (commit_in_flight n past) || is_some_line (if b then Some at else commit_in_flight n past))
         && (version_of n past == v)) || was_searched_in_commit n v past) ≡ true)
     begin true is found =
-        let searched : version_of n past ≡ w.0 = ap (λ (k : ℕ). version_of k past) (sym (equal_from_test m.0 n is)) ∙ sym keeps.searched in
+        let searched : version_of n past ≡ w.0 = ap (λ (k : ℕ). version_of k past) (sym (eqb-true m.0 n is)) ∙ sym keeps.searched in
         ⊎_elim
-        (λ same. inr (searched_now (is_some_line (commit_in_flight n past) || true) (version_of n past) v (was_searched_in_commit n v past) (or_right _ true refl) (searched ∙ equal_from_test w.0 v same)))
+        (λ same. inr (searched_now (is_some_line (commit_in_flight n past) || true) (version_of n past) v (was_searched_in_commit n v past) (or_right _ true refl) (searched ∙ eqb-true w.0 v same)))
         (λ old. still _ _ (origin old))
         (or_cases (w.0 == v) _ found)
     begin false is found = still _ _ (origin found)

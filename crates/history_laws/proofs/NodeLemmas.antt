@@ -1,6 +1,6 @@
 -- What a node of a legal history searches, and at which versions it may reopen.
 use Rattle.std.proofs.Common.{◌≡◌, ◌≤◌, ◌<◌, ◌+◌, ◌==◌, ◌&&◌, ◌⊎◌, ⊎_elim, inr, ℕ, List, [], ◌∷◌, ◌++◌, Bool, true, false, true≢false, Option, Some, None, if◌then◌else◌, refl, sym, ◌∙◌, subst, arith}
-use Rattle.std.proofs.lemmas.Bool.{or_cases}
+use Rattle.std.proofs.lemmas.Bool.{eqb-true, eq-eqb, or_cases}
 use Rattle.std.specs.List.{list_any}
 use Rattle.nrt_base.specs.declared.numbers.At.{At}
 use Rattle.nrt_base.specs.declared.numbers.NodeNo.{NodeNo}
@@ -11,7 +11,7 @@ use Rattle.history_entries.specs.Nodes.{Past, is_at, primary_of, is_running, is_
 use Rattle.history_entries.specs.Lines.{same_at, is_start}
 use Rattle.history_entries.specs.Commits.{late_commit, more_by, reopenable_by, reopenable_versions, was_searched_since}
 use Rattle.history_entries.specs.Legal.{KeepsRule, IsLegalPast}
-use Rattle.history_laws.proofs.PastLemmas.{equal_from_test, test_same, point_stays, point_low, made_point}
+use Rattle.history_laws.proofs.PastLemmas.{point_stays, point_low, made_point}
 
 -- each version that is searched, or may be reopened at, is a point
 pub record Known (past : Past) : Type 0 where
@@ -32,12 +32,12 @@ known_version : (size : ℕ) (past : Past) (at : At) (e : Event) (n : ℕ) → K
     → is_point (version_by n (primary_of past) e (version_of n past)) (record { at = at; event = e } ∷ past) ≡ true
 known_version size past at (Published g w) n keeps known =
     point_if (is_at (primary_of past) n) w.0 (version_of n past) (record { at = at; event = Published g w } ∷ past)
-    (λ is. new_point w.0 w.0 (is_point w.0 past) (test_same w.0)) (point_stays past (record { at = at; event = Published g w }) (version_of n past) (known.version n))
+    (λ is. new_point w.0 w.0 (is_point w.0 past) (eq-eqb w.0 w.0 refl)) (point_stays past (record { at = at; event = Published g w }) (version_of n past) (known.version n))
 known_version size past at (Switched m w) n keeps known =
     point_if (m.0 == n) w.0 (version_of n past) past (λ is. made_point past w.0 keeps.made) (known.version n)
 known_version size past at (Promoted m g f w) n keeps known =
     point_if (m.0 == n) w.0 (version_of n past) (record { at = at; event = Promoted m g f w } ∷ past)
-    (λ is. new_point w.0 w.0 (is_point w.0 past) (test_same w.0)) (point_stays past (record { at = at; event = Promoted m g f w }) (version_of n past) (known.version n))
+    (λ is. new_point w.0 w.0 (is_point w.0 past) (eq-eqb w.0 w.0 refl)) (point_stays past (record { at = at; event = Promoted m g f w }) (version_of n past) (known.version n))
 known_version size past at (Reopened m w) n keeps known =
     point_if (m.0 == n) w.0 (version_of n past) past (λ is. known.reopenable m.0 w.0 keeps.found) (known.version n)
 known_version size past at e n keeps known = known.version n
@@ -49,7 +49,7 @@ in_more None w v old found = inr found
 in_more (Some a) w v old found = or_cases _ _ found
 
 pub in_one : (w v : ℕ) → list_any (λ u. u == v) (w ∷ []) ≡ true → w ≡ v
-in_one w v found = ⊎_elim (λ same. equal_from_test w v same) (λ none. absurd (true≢false (sym none))) (or_cases (w == v) false found)
+in_one w v found = ⊎_elim (λ same. eqb-true w v same) (λ none. absurd (true≢false (sym none))) (or_cases (w == v) false found)
 
 known_reopenable : (size : ℕ) (past : Past) (at : At) (e : Event) (n v : ℕ) → KeepsRule size past at e → Known past
     → list_any (λ u. u == v) (reopenable_by n e (primary_of past) (late_commit n past) (reopenable_versions n past)) ≡ true
@@ -68,7 +68,7 @@ known_reopenable size past at (Committing m w) n v keeps known found = start (m.
   where
     start : (b : Bool) → list_any (λ u. u == v) (if b then w.0 ∷ reopenable_versions n past else reopenable_versions n past) ≡ true → is_point v past ≡ true
     start true found =
-        ⊎_elim (λ same. subst (λ (u : ℕ). is_point u past ≡ true) (sym keeps.searched ∙ equal_from_test w.0 v same) (known.version m.0)) (λ old. known.reopenable n v old) (or_cases (w.0 == v) _ found)
+        ⊎_elim (λ same. subst (λ (u : ℕ). is_point u past ≡ true) (sym keeps.searched ∙ eqb-true w.0 v same) (known.version m.0)) (λ old. known.reopenable n v old) (or_cases (w.0 == v) _ found)
     start false found = known.reopenable n v found
 known_reopenable size past at (Published g w) n v keeps known found = publish (is_at (primary_of past) n) found
   where
@@ -82,7 +82,7 @@ known_reopenable size past at (Switched m w) n v keeps known found = switch (m.0
     switch : (b : Bool) → list_any (λ u. u == v) (if b then more_by (late_commit n past) w.0 (reopenable_versions n past) else reopenable_versions n past) ≡ true
         → is_point v past ≡ true
     switch true found =
-        ⊎_elim (λ same. subst (λ (u : ℕ). is_point u past ≡ true) (equal_from_test w.0 v same) (made_point past w.0 keeps.made)) (λ old. known.reopenable n v old) (in_more (late_commit n past) w.0 v (reopenable_versions n past) found)
+        ⊎_elim (λ same. subst (λ (u : ℕ). is_point u past ≡ true) (eqb-true w.0 v same) (made_point past w.0 keeps.made)) (λ old. known.reopenable n v old) (in_more (late_commit n past) w.0 v (reopenable_versions n past) found)
     switch false found = known.reopenable n v found
 known_reopenable size past at (Promoted m g f w) n v keeps known found = promote (m.0 == n) found
   where
@@ -97,7 +97,7 @@ known_searched : (past : Past) (e : Entry) (at : At) (n v : ℕ) → Known past 
     → was_searched_since at n v (e ∷ past) ≡ true → is_point v (e ∷ past) ≡ true
 known_searched past e at n v known now found =
     ⊎_elim
-    (λ same. subst (λ (u : ℕ). is_point u (e ∷ past) ≡ true) (equal_from_test (version_of n (e ∷ past)) v same) now)
+    (λ same. subst (λ (u : ℕ). is_point u (e ∷ past) ≡ true) (eqb-true (version_of n (e ∷ past)) v same) now)
     (λ old. point_stays past e v (known.searched at n v (before (is_start e.event && same_at e.at at) old)))
     (or_cases _ _ found)
   where
@@ -159,7 +159,7 @@ rises_step size past at (Published g w) n keeps legal runs =
     raised (is_at (primary_of past) n) w.0 (version_of n past) (λ is. omega arith)
 rises_step size past at (Switched m w) n keeps legal runs =
     raised (m.0 == n) w.0 (version_of n past)
-    (λ is. let above : version_of n past < w.0 = subst (λ (k : ℕ). version_of k past < w.0) (equal_from_test m.0 n is) keeps.above in omega arith)
+    (λ is. let above : version_of n past < w.0 = subst (λ (k : ℕ). version_of k past < w.0) (eqb-true m.0 n is) keeps.above in omega arith)
 rises_step size past at (Promoted m g f w) n keeps legal runs =
     let above : w.0 ≡ f.0 + 1 = keeps.above in
     let high : newest_version past ≤ f.0 = keeps.high in
@@ -167,7 +167,7 @@ rises_step size past at (Promoted m g f w) n keeps legal runs =
     raised (m.0 == n) w.0 (version_of n past) (λ is. omega arith)
 rises_step size past at (Reopened m w) n keeps legal runs =
     raised (m.0 == n) w.0 (version_of n past)
-    (λ is. absurd (true≢false (sym (subst (λ (k : ℕ). is_running k past ≡ true) (sym (equal_from_test m.0 n is)) runs) ∙ keeps.down)))
+    (λ is. absurd (true≢false (sym (subst (λ (k : ℕ). is_running k past ≡ true) (sym (eqb-true m.0 n is)) runs) ∙ keeps.down)))
 rises_step size past at e n keeps legal runs = omega arith
 
 -- from a place at which a node ran, to a later one before its next crash

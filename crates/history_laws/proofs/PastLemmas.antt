@@ -1,6 +1,7 @@
 -- What holds of every past, and of every legal one.
 use Rattle.std.proofs.Common.{◌≡◌, ◌≤◌, ◌<◌, ◌+◌, ◌==◌, ℕ, List, [], ◌∷◌, ◌++◌, Bool, true, false, true≢false, Option, Some, None, if◌then◌else◌, length, take, drop, get_or, reverse, max, refl, sym, ap, ◌∙◌, subst, arith, add-one}
 use Rattle.std.proofs.Math.Seq.{take-suc}
+use Rattle.std.proofs.lemmas.Bool.{eqb-true, eq-eqb}
 use Rattle.std.proofs.lemmas.Bool.Decides.{nat_tests}
 use Rattle.std.proofs.lemmas.List.{take-append-drop, reverse-append}
 use Rattle.nrt_base.specs.declared.numbers.At.{At}
@@ -34,12 +35,6 @@ keeps_at size entries i e legal within is =
     (subst (IsLegalPast size) (sym split) legal) in
     (subst (IsLegalPast size) (past_next entries i e within is) before).0
 
-pub equal_from_test : (m n : ℕ) → (m == n) ≡ true → m ≡ n
-equal_from_test m n e = grind (arith, nat_tests)
-
-pub test_same : (n : ℕ) → (n == n) ≡ true
-test_same n = grind (arith, nat_tests)
-
 -- where the primary is one node, another is another
 at_other : (p : Option NodeNo) (m n : ℕ) → is_at p m ≡ false → is_at p n ≡ true → (m == n) ≡ false
 at_other None m n other here = absurd (true≢false (sym here))
@@ -55,7 +50,7 @@ primary_runs_step size past at (Crashed m) n keeps runs here = crash (is_at (pri
     crash true is none = absurd (true≢false (sym none))
     crash false is here = rw (at_other (primary_of past) m.0 n is here) (runs here)
 primary_runs_step size past at (Promoted m g f w) n keeps runs here =
-    subst (λ (k : ℕ). is_running k past ≡ true) (equal_from_test m.0 n here) keeps.running
+    subst (λ (k : ℕ). is_running k past ≡ true) (eqb-true m.0 n here) keeps.running
 primary_runs_step size past at (Reopened m w) n keeps runs here = reopen (m.0 == n)
   where
     reopen : (b : Bool) → (if b then true else is_running n past) ≡ true
@@ -84,7 +79,7 @@ version_primary_step size past at (Reopened m w) n legal keeps same here = reope
   where
     reopen : (b : Bool) → (m.0 == n) ≡ b → (if b then w.0 else version_of n past) ≡ newest_version past
     reopen true is =
-        absurd (true≢false (sym (subst (λ (k : ℕ). is_running k past ≡ true) (sym (equal_from_test m.0 n is)) (primary_runs size past n legal here)) ∙ keeps.down))
+        absurd (true≢false (sym (subst (λ (k : ℕ). is_running k past ≡ true) (sym (eqb-true m.0 n is)) (primary_runs size past n legal here)) ∙ keeps.down))
     reopen false is = same here
 version_primary_step size past at (Crashed m) n legal keeps same here = crash (is_at (primary_of past) m.0) here
   where
@@ -106,12 +101,12 @@ newest_made_step : (size : ℕ) (past : Past) (at : At) (e : Event) → KeepsRul
 newest_made_step size past at (Published g w) keeps made more =
     let next : w.0 ≡ newest_version past + 1 = keeps.next in
     let same : max (newest_version past) w.0 ≡ w.0 = omega arith in
-    rw (same, test_same w.0) refl
+    rw (same, eq-eqb w.0 w.0 refl) refl
 newest_made_step size past at (Promoted m g f w) keeps made more =
     let above : w.0 ≡ f.0 + 1 = keeps.above in
     let high : newest_version past ≤ f.0 = keeps.high in
     let same : max (newest_version past) w.0 ≡ w.0 = omega arith in
-    rw (same, test_same w.0) refl
+    rw (same, eq-eqb w.0 w.0 refl) refl
 newest_made_step size past at e keeps made more = made more
 
 -- the newest version was made in the present generation, but for the opening point
@@ -134,18 +129,18 @@ point_low_step : (past : Past) (e : Event) (v : ℕ) → (is_point v past ≡ tr
 point_low_step past (Published g w) v low point = made (w.0 == v) refl point
   where
     made : (b : Bool) → (w.0 == v) ≡ b → (if b then true else is_point v past) ≡ true → v ≤ max (newest_version past) w.0
-    made true is point = let same = equal_from_test w.0 v is in omega arith
+    made true is point = let same = eqb-true w.0 v is in omega arith
     made false is point = let old = low point in omega (arith, old)
 point_low_step past (Promoted m g f w) v low point = made (w.0 == v) refl point
   where
     made : (b : Bool) → (w.0 == v) ≡ b → (if b then true else is_point v past) ≡ true → v ≤ max (newest_version past) w.0
-    made true is point = let same = equal_from_test w.0 v is in omega arith
+    made true is point = let same = eqb-true w.0 v is in omega arith
     made false is point = let old = low point in omega (arith, old)
 point_low_step past e v low point = low point
 
 -- no point is above the newest version
 pub point_low : (past : Past) (v : ℕ) → is_point v past ≡ true → v ≤ newest_version past
-point_low [] v point = let same = equal_from_test v 1 point in omega arith
+point_low [] v point = let same = eqb-true v 1 point in omega arith
 point_low (e ∷ past) v point = point_low_step past e.event v (point_low past v) point
 
 made_step : (past : Past) (e : Event) (v : ℕ) → (is_made_in_generation v past ≡ true → is_point v past ≡ true)

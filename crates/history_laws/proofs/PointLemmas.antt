@@ -2,6 +2,7 @@
 use Rattle.std.proofs.Common.{◌≡◌, ◌≤◌, ◌<◌, ◌+◌, ◌==◌, ◌&&◌, ℕ, suc, zero, List, [], ◌∷◌, ◌++◌, Bool, true, false, Option, Some, if◌then◌else◌, length, map, max, refl, sym, ap, ◌∙◌, subst, arith, length-append}
 use Rattle.std.proofs.lemmas.Bool.Decides.{nat_tests}
 use Rattle.std.proofs.lemmas.List.{map-append}
+use Rattle.std.proofs.lemmas.Option.{slice_get_within}
 use Rattle.std.specs.List.{AllByRecursion, slice_get}
 use Rattle.std.specs.List.Sorted.{IsStrictlySortedBy}
 use Rattle.std.specs.Ordering.{nat_cmp, match_ordering}
@@ -123,11 +124,6 @@ got_last : {A : Type 0} (all : List A) (x : A) → slice_get (all ++ x ∷ []) (
 got_last [] x = refl
 got_last (a ∷ all) x = got_last all x
 
-got_within : {A : Type 0} (all : List A) (p : ℕ) (x : A) → slice_get all p ≡ Some x → p < length all
-got_within [] p x got = absurd (cc)
-got_within (a ∷ all) zero x got = omega arith
-got_within (a ∷ all) (suc p) x got = let within = got_within all p x got in omega arith
-
 there_more : (places : List ℕ) (ops all more : List Op) → map (slice_get all) places ≡ map Some ops → map (slice_get (all ++ more)) places ≡ map Some ops
 there_more [] ops all more there = there
 there_more (p ∷ places) [] all more there = absurd (cc)
@@ -144,7 +140,7 @@ there_within (p ∷ places) [] all there = absurd (cc)
 there_within (p ∷ places) (op ∷ ops) all there =
     let first : slice_get all p ≡ Some op = cc in
     let rest : map (slice_get all) places ≡ map Some ops = cc in
-    (got_within all p op first, there_within places ops all rest)
+    (slice_get_within all p op first, there_within places ops all rest)
 
 nowhere : (all : List Op) → StandInOrder [] all
 unfolding IsStrictlySortedBy

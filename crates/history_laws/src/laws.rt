@@ -12,7 +12,8 @@ pub fn points_are_fixed(h: &History)
     requires { IsLegal h.now }
     ensures ascending { VersionsAscend (points_of (reverse h.now.entries)) }
     ensures one { OnePointPerVersion (points_of (reverse h.now.entries)) }
-    ensures documents { HaveTheirDocuments (reverse h.now.entries) (points_of (reverse h.now.entries)) }
+    ensures documents { HaveTheirDocuments (reverse h.now.entries)
+        (points_of (reverse h.now.entries)) }
     ensures stay { DocumentsStay h.now }
 {}
 

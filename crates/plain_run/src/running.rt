@@ -27,9 +27,7 @@ fn run_line(alloc: Global, engine: &mut Engine, line: &Line) -> Result<(), NoMem
 {
     match &line.command {
         LineCommand::Put(doc) => engine.accept(alloc, line.at, Op::Put(doc.share(alloc)?)),
-        LineCommand::Drop(word) => {
-            engine.accept(alloc, line.at, Op::Drop(word.share(alloc)?))
-        }
+        LineCommand::Drop(word) => { engine.accept(alloc, line.at, Op::Drop(word.share(alloc)?)) }
         LineCommand::Publish => {
             if engine.has_cut() {
                 engine.publish(alloc, line.at)

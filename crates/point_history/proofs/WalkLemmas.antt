@@ -19,7 +19,7 @@ use Rattle.history_entries.specs.Nodes.{Past, version_of}
 use Rattle.history_entries.specs.Lines.{same_at}
 use Rattle.history_entries.specs.Points.{operations_written, operations_at, documents_at, points_of}
 use Rattle.history_entries.specs.Legal.{KeepsRule, IsLegalPast}
-use Rattle.point_history.specs.Walks.{Shows, Promotes, IsStarted, line_cmp, begun_at, made_at, searched_by}
+use Rattle.point_history.specs.Walks.{KnowsPast, Promotes, IsStarted, line_cmp, begun_at, made_at, searched_by}
 use Rattle.history_laws.proofs.PastLemmas.{keeps_at}
 use Rattle.documents.proofs.DocumentLemmas.{documents_ascend, documents_after_last}
 
@@ -32,12 +32,12 @@ unwrap_or-if true docs old = refl
 unwrap_or-if false docs old = refl
 
 -- the documents of a version ascend by key
-pub made_ascend : (past : Past) (walk : Walk) → Shows past walk → (v : ℕ) → IsAscending (made_at walk.made v)
+pub made_ascend : (past : Past) (walk : Walk) → KnowsPast past walk → (v : ℕ) → IsAscending (made_at walk.made v)
 made_ascend past walk shows v = subst IsAscending (sym (shows.made v)) (documents_ascend (operations_at past v))
 
-shows_accepted : (past : Past) (at : At) (seq : ℕ) (op : Op) (w : Walk) (texts : BTreeMap (List ℕ) (List ℕ)) → Shows past w
+shows_accepted : (past : Past) (at : At) (seq : ℕ) (op : Op) (w : Walk) (texts : BTreeMap (List ℕ) (List ℕ)) → KnowsPast past w
     → IsOrdered key_cmp texts → map document_of texts.entries ≡ after_op (map document_of w.texts.entries) op
-    → Shows (record { at = at; event = Accepted seq op } ∷ past) (record w { texts = texts })
+    → KnowsPast (record { at = at; event = Accepted seq op } ∷ past) (record w { texts = texts })
 shows_accepted past at seq op w texts shows ordered after = record {
   ordered = ordered;
   written = after ∙ ap (λ (docs : List Doc). after_op docs op) shows.written ∙ sym (documents_after_last (operations_written past) op);
@@ -50,10 +50,10 @@ shows_accepted past at seq op w texts shows ordered after = record {
 
 -- an operation was accepted
 pub shows_accept : (past : Past) (entry : Entry) (seq : ℕ) (op : Op) (w : Walk) (texts : BTreeMap (List ℕ) (List ℕ))
-    → entry.event ≡ Accepted seq op → Shows past w → IsOrdered key_cmp texts
-    → map document_of texts.entries ≡ after_op (map document_of w.texts.entries) op → Shows (entry ∷ past) (record w { texts = texts })
+    → entry.event ≡ Accepted seq op → KnowsPast past w → IsOrdered key_cmp texts
+    → map document_of texts.entries ≡ after_op (map document_of w.texts.entries) op → KnowsPast (entry ∷ past) (record w { texts = texts })
 shows_accept past entry seq op w texts is shows ordered after =
-    subst (λ (e : Event). Shows (record { at = entry.at; event = e } ∷ past) (record w { texts = texts })) (sym is)
+    subst (λ (e : Event). KnowsPast (record { at = entry.at; event = e } ∷ past) (record w { texts = texts })) (sym is)
     (shows_accepted past entry.at seq op w texts shows ordered after)
 
 made_if : (b : Bool) (docs old : List Doc) (ops others : List Op) → docs ≡ documents_after ops → old ≡ documents_after others
@@ -61,8 +61,8 @@ made_if : (b : Bool) (docs old : List Doc) (ops others : List Op) → docs ≡ d
 made_if true docs old ops others same same' = same
 made_if false docs old ops others same same' = same'
 
-shows_promoted : (past : Past) (at : At) (n : NodeNo) (g : Gen) (f v : Version) (old new : Walk) → Shows past old → Promotes old new n g v
-    → Shows (record { at = at; event = Promoted n g f v } ∷ past) new
+shows_promoted : (past : Past) (at : At) (n : NodeNo) (g : Gen) (f v : Version) (old new : Walk) → KnowsPast past old → Promotes old new n g v
+    → KnowsPast (record { at = at; event = Promoted n g f v } ∷ past) new
 shows_promoted past at n g f v old new shows done =
     let ops = operations_at past (version_of n.0 past) in
     let same : made_at old.made (searched_by old.searched n.0) ≡ documents_after ops =
@@ -84,9 +84,9 @@ shows_promoted past at n g f v old new shows done =
 
 -- a node was promoted
 pub shows_promote : (past : Past) (entry : Entry) (n : NodeNo) (g : Gen) (f v : Version) (old new : Walk)
-    → entry.event ≡ Promoted n g f v → Shows past old → Promotes old new n g v → Shows (entry ∷ past) new
+    → entry.event ≡ Promoted n g f v → KnowsPast past old → Promotes old new n g v → KnowsPast (entry ∷ past) new
 shows_promote past entry n g f v old new is shows done =
-    subst (λ (e : Event). Shows (record { at = entry.at; event = e } ∷ past) new) (sym is)
+    subst (λ (e : Event). KnowsPast (record { at = entry.at; event = e } ∷ past) new) (sym is)
     (shows_promoted past entry.at n g f v old new shows done)
 
 -- a consequence of what a call did where it answered Ok

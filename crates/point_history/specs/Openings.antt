@@ -1,12 +1,17 @@
 -- Which tickets the entries before a place opened, and what the open ones hold.
-use Rattle.std.specs.Prelude.{ℕ, ◌≡◌, List, [], ◌∷◌, Bool, true, false, ◌||◌}
+use Rattle.std.specs.Prelude.{ℕ, ◌≡◌, List, [], ◌∷◌, reverse, Bool, true, false, ◌||◌}
 use Rattle.nrt_base.specs.declared.numbers.At.{At}
 use Rattle.history_entries.specs.declared.entry.Entry.{Entry}
 use Rattle.history_entries.specs.declared.entry.Event.{Event}
 use Rattle.history_entries.specs.declared.entry.Event.TheVariants.{Opened}
-use Rattle.history_entries.specs.Nodes.{Past}
-use Rattle.history_entries.specs.Tickets.{is_ticket, open_ticket, IsTicketOf}
+use Rattle.history_entries.specs.Nodes.{Past, crashes}
+use Rattle.history_entries.specs.Tickets.{Ticket, is_ticket, open_ticket, IsTicketOf}
 use Rattle.history_entries.specs.Rules.{has_documents}
+use Rattle.point_history.specs.declared.tickets.Opening.{Opening}
+
+-- the ticket of an opening: its node and version, and how often the node had crashed before it
+abbrev pub opening_of : Opening → Ticket
+opening_of k = record { node = k.n.0; version = k.v.0; life = crashes k.n.0 (reverse k.before.now) }
 
 abbrev pub opens_by : ℕ → ℕ → At → Event → Bool
 opens_by lane t at (Opened n u v) = is_ticket at u.0 lane t

@@ -38,7 +38,7 @@ IsStarted past at (Published g v) = start_entry at past ≡ Some Publishing
 IsStarted past at e = ⊤
 
 -- a walk knows what the entries that it has passed show
-pub record Shows (past : Past) (walk : Walk) : Type 0 where
+pub record KnowsPast (past : Past) (walk : Walk) : Type 0 where
   pub ordered : IsOrdered key_cmp walk.texts
   pub written : map document_of walk.texts.entries ≡ documents_after (operations_written past)
   pub begun : (at : At) → start_entry at past ≡ Some Publishing → begun_at walk.begun at ≡ documents_after (operations_at_start at past)

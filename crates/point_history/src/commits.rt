@@ -1,4 +1,4 @@
-ghost use Rattle.std.specs.Prelude.{◌≡◌, ◌==◌, ◌∷◌, ℕ, List, reverse};
+ghost use Rattle.std.specs.Prelude.{◌≡◌, ◌==◌, ◌∷◌, ℕ, List, None, if◌then◌else◌, reverse};
 ghost use Rattle.std.specs.Option.{option_copied};
 ghost use Rattle.std.specs.List.{list_any};
 ghost use Rattle.history_entries.specs.Lines.{commit_by};
@@ -69,6 +69,13 @@ pub(crate) fn is_stuck(n: NodeNo, entries: &[Entry]) -> bool
     stuck
 }
 
+/// The line whose commit is in flight at a node, where the node is stuck.
+fn late_commit(stuck: bool, line: Option<At>) -> Option<At>
+    ensures { result ≡ (if stuck then line else None) }
+{
+    if stuck { line } else { None }
+}
+
 /// Whether a node may reopen at a version after one more event, `found` saying whether it might before, and `line` being its late commit in flight.
 fn found_after(
     n: NodeNo,
@@ -78,7 +85,8 @@ fn found_after(
     line: Option<At>,
     found: bool,
 ) -> bool
-    ensures { (old : List ℕ) → found ≡ list_any (λ w. w == version.0) old → result ≡ list_any (λ w. w == version.0) (reopenable_by n.0 event.now primary line old) }
+    ensures { (old : List ℕ) → found ≡ list_any (λ w. w == version.0) old →
+        result ≡ list_any (λ w. w == version.0) (reopenable_by n.0 event.now primary line old) }
 {
     match event {
         Event::Committed { n: m, v } | Event::Reopened { n: m, v } if m.0 == n.0 => {
@@ -96,14 +104,15 @@ fn found_after(
 
 /// Whether a node may reopen at a version: its base version, or one that a commit since may have left.
 pub(crate) fn is_reopenable(n: NodeNo, version: Version, entries: &[Entry]) -> bool
-    ensures { result ≡ list_any (λ w. w == version.0) (reopenable_versions n.0 (reverse entries.now)) }
+    ensures { result ≡ list_any (λ w. w == version.0)
+        (reopenable_versions n.0 (reverse entries.now)) }
 {
     let mut searched = Searched::new();
     let mut line = None;
     let mut stuck = false;
     let mut found = version.0 == 1;
     for (i, entry) in entries.iter().enumerate() {
-        let late = if stuck { line } else { None };
+        let late = late_commit(stuck, line);
         found = found_after(n, version, &entry.event, searched.primary, late, found);
         searched = searched.after(n, &entry.event);
         line = commit_after(n, entry, line);

@@ -15,7 +15,8 @@ pub(crate) type Drawn = BTreeMap<u64, usize>;
 
 /// Notes how many names the present generation has drawn.
 pub(crate) fn note_drawn(drawn: &mut Drawn, generation: &Generation) -> Result<(), NoMemory>
-    ensures { OnOk result ((g : ℕ) → drawn_in drawn.new g ≡ (if generation.now.number == g then generation.now.names else drawn_in drawn.old g)) }
+    ensures { OnOk result ((g : ℕ) → drawn_in drawn.new g ≡
+        (if generation.now.number == g then generation.now.names else drawn_in drawn.old g)) }
 {
     drawn.insert(generation.number, generation.names)?;
     Ok(())
@@ -33,7 +34,8 @@ fn is_drawn(drawn: &Drawn, seg: SegNo) -> bool
 
 /// Whether the name is that of a file of a segment whose name was drawn.
 pub(crate) fn is_drawn_file(drawn: &Drawn, name: &FileName) -> bool
-    ensures { (past : Past) → ShowsDrawn past drawn.now → IsTrue result ↔ IsDrawnFile past name.now }
+    ensures { (past : Past) → ShowsDrawn past drawn.now → IsTrue result ↔
+        IsDrawnFile past name.now }
 {
     match segment_of_file(name) {
         Some(seg) => is_drawn(drawn, seg),
@@ -43,7 +45,8 @@ pub(crate) fn is_drawn_file(drawn: &Drawn, name: &FileName) -> bool
 
 /// Whether the name is the temporary name of such a file.
 pub(crate) fn is_drawn_temporary(drawn: &Drawn, name: &FileName) -> bool
-    ensures { (past : Past) → ShowsDrawn past drawn.now → IsTrue result ↔ IsDrawnTemporary past name.now }
+    ensures { (past : Past) → ShowsDrawn past drawn.now → IsTrue result ↔
+        IsDrawnTemporary past name.now }
 {
     match segment_of_temporary(name) {
         Some(seg) => is_drawn(drawn, seg),

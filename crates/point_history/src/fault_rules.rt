@@ -50,7 +50,8 @@ fn fetches_at(nodes: u8, at: At, entries: &[Entry], n: NodeNo) -> bool
 
 /// Whether a line may meet faults: it has no reply yet, or it is a merge.
 fn is_at_work(at: At, entries: &[Entry]) -> bool
-    ensures { IsTrue result ↔ ((is_answered at (reverse entries.now) ≡ false) ⊎ (is_merging (last_of_line at (reverse entries.now)) ≡ true)) }
+    ensures { IsTrue result ↔ ((is_answered at (reverse entries.now) ≡ false) ⊎
+        (is_merging (last_of_line at (reverse entries.now)) ≡ true)) }
 {
     !is_answered(at, entries) || is_merging(last_of_line(at, entries))
 }

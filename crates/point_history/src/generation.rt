@@ -53,7 +53,17 @@ fn is_put(op: &Op) -> bool
 
 impl Generation {
     fn starting(number: u64) -> Self
-        ensures { result ≡ record { number = number; accepted = 0; published = 0; last_put = 0; names = 0; merges = 0; idle = 0 } }
+        ensures { result ≡
+            record {
+              number = number;
+              accepted = 0;
+              published = 0;
+              last_put = 0;
+              names = 0;
+              merges =
+                  0;
+              idle = 0;
+            } }
     {
         Generation {
             number,
@@ -75,7 +85,11 @@ impl Generation {
 
     fn accepting(self, op: &Op) -> Self
         requires { self.accepted + 1 < 2 ^ 64 }
-        ensures { result ≡ record self { accepted = self.accepted + 1; last_put = (if is_put op.now then self.accepted + 1 else self.last_put) } }
+        ensures { result ≡ record self {
+          accepted = self.accepted + 1;
+          last_put =
+              (if is_put op.now then self.accepted + 1 else self.last_put);
+        } }
     {
         let accepted = self.accepted + 1;
         let last_put = if is_put(op) { accepted } else { self.last_put };
@@ -90,7 +104,9 @@ impl Generation {
     pub(crate) fn has_merges_for_publish(&self, at: At, entries: &[Entry]) -> bool
         requires shown { ShowsGeneration (reverse entries.now) self.now }
         requires few { length entries.now + 1 < 2 ^ 64 }
-        ensures { (g : Gen) (v : Version) → IsTrue result ↔ (idle_publishes (record { at = at; event = Event.Published g v } ∷ reverse entries.now) ≤ merges_started (reverse entries.now)) }
+        ensures { (g : Gen) (v : Version) → IsTrue result ↔
+            (idle_publishes (record { at = at; event = Event.Published g v } ∷
+            reverse entries.now) ≤ merges_started (reverse entries.now)) }
     {
         let started = accepted_in_generation(before_start(at, entries));
         if started <= self.published {
@@ -103,7 +119,8 @@ impl Generation {
     /// Whether a publish would add an operation, or have a merge that no publish without operations had.
     pub(crate) fn has_something_to_publish(&self, entries: &[Entry]) -> bool
         requires shown { ShowsGeneration (reverse entries.now) self.now }
-        ensures { IsTrue result ↔ ((0 < length (cut_of (reverse entries.now))) ⊎ (idle_publishes (reverse entries.now) < merges_started (reverse entries.now))) }
+        ensures { IsTrue result ↔ ((0 < length (cut_of (reverse entries.now))) ⊎
+            (idle_publishes (reverse entries.now) < merges_started (reverse entries.now))) }
     {
         self.published < self.accepted || self.merges > self.idle
     }

@@ -61,8 +61,10 @@ fn keeps(
     requires drawn { ShowsDrawn (reverse before.now) drawn.now }
     requires few { length before.now + 1 < 2 ^ 64 }
     requires few_accepted { accepted_count (reverse before.now) < 2 ^ 32 }
-    ensures rule { IfOk result (λ kept. IsTrue kept ↔ KeepsRule nodes (reverse before.now) entry.now.at entry.now.event) }
-    ensures few { IfOk result (λ kept. IsTrue kept → accepted_count (entry.now ∷ reverse before.now) < 2 ^ 32) }
+    ensures rule { IfOk result (λ kept. IsTrue kept ↔
+        KeepsRule nodes (reverse before.now) entry.now.at entry.now.event) }
+    ensures few { IfOk result (λ kept. IsTrue kept →
+        accepted_count (entry.now ∷ reverse before.now) < 2 ^ 32) }
 {
     let at = entry.at;
     Ok(match &entry.event {

@@ -276,23 +276,6 @@ pub(crate) fn highest_copy(n: NodeNo, entries: &[Entry]) -> u64
     highest
 }
 
-/// Whether a line has switched a replica since its start entry.
-pub(crate) fn has_switched(at: At, entries: &[Entry]) -> bool
-    ensures { result ≡ has_switched at (reverse entries.now) }
-{
-    let mut switched = false;
-    for entry in entries {
-        if is_start(&entry.event) && same_at(entry.at, at) {
-            switched = false;
-        } else if let Event::Switched { .. } = &entry.event {
-            if same_at(entry.at, at) {
-                switched = true;
-            }
-        }
-    }
-    switched
-}
-
 /// The greatest node that a line has switched since its start entry, or 0.
 pub(crate) fn highest_switched(at: At, entries: &[Entry]) -> u8
     ensures { result ≡ highest_switched at (reverse entries.now) }
@@ -308,4 +291,11 @@ pub(crate) fn highest_switched(at: At, entries: &[Entry]) -> u8
         }
     }
     highest
+}
+
+/// Whether a line has switched a replica since its start entry.
+pub(crate) fn has_switched(at: At, entries: &[Entry]) -> bool
+    ensures { result ≡ has_switched at (reverse entries.now) }
+{
+    highest_switched(at, entries) > 0
 }

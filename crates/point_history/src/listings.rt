@@ -105,7 +105,9 @@ fn has_documents(alloc: Global, entries: &[Entry], v: Version) -> Result<bool, N
 
 /// Whether this entry opened a ticket that is open, at this node and at a version that has documents.
 fn holds_by(alloc: Global, n: NodeNo, entry: &Entry, entries: &[Entry]) -> Result<bool, NoMemory>
-    ensures { IfOk result (λ holds. MatchBool holds (HoldsNone (reverse entries.now) n.0 (λ lane t. true) → ⊥) (HoldsNone (reverse entries.now) n.0 (λ lane t. opens_by lane t entry.now.at entry.now.event))) }
+    ensures { IfOk result (λ holds. MatchBool holds (HoldsNone (reverse entries.now) n.0 (λ lane t.
+        true) → ⊥) (HoldsNone (reverse entries.now) n.0 (λ lane t.
+        opens_by lane t entry.now.at entry.now.event))) }
 {
     match &entry.event {
         Event::Opened { t, .. } => match open_ticket(entry.at.lane, *t, entries) {
@@ -118,7 +120,8 @@ fn holds_by(alloc: Global, n: NodeNo, entry: &Entry, entries: &[Entry]) -> Resul
 
 /// Whether a ticket at this node is at a version that has documents.
 fn holds_documents(alloc: Global, n: NodeNo, entries: &[Entry]) -> Result<bool, NoMemory>
-    ensures { IfOk result (λ holds. MatchBool holds (HoldsNone (reverse entries.now) n.0 (λ lane t. true) → ⊥) (HoldsNone (reverse entries.now) n.0 (λ lane t. true))) }
+    ensures { IfOk result (λ holds. MatchBool holds (HoldsNone (reverse entries.now) n.0 (λ lane t.
+        true) → ⊥) (HoldsNone (reverse entries.now) n.0 (λ lane t. true))) }
 {
     for entry in entries {
         if holds_by(alloc, n, entry, entries)? {
@@ -138,7 +141,8 @@ pub(crate) fn may_list_files(
     names: &[FileName],
 ) -> Result<bool, NoMemory>
     requires shown { ShowsDrawn (reverse entries.now) drawn.now }
-    ensures { IfOk result (λ may. IsTrue may ↔ MayListFiles nodes (reverse entries.now) at n names.now) }
+    ensures { IfOk result (λ may. IsTrue may ↔ MayListFiles nodes
+        (reverse entries.now) at n names.now) }
 {
     if !is_node(nodes, n) || !is_running(n, entries) || has_met_fault(at, entries) {
         return Ok(false);

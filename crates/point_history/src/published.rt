@@ -6,7 +6,7 @@ ghost use Rattle.history_entries.specs.Nodes.{Past, is_at};
 ghost use Rattle.history_entries.specs.Lines.{same_at};
 ghost use Rattle.history_entries.specs.Points.{points_of};
 ghost use Rattle.history_entries.specs.Legal.{IsLegal};
-ghost use Rattle.point_history.specs.Walks.{Shows, Promotes, IsStarted, begun_at, made_at, searched_by};
+ghost use Rattle.point_history.specs.Walks.{KnowsPast, Promotes, IsStarted, begun_at, made_at, searched_by};
 
 use documents::{Texts, change, listed, texts_of};
 use history_entries::{Entry, Event, History, Point};
@@ -24,14 +24,16 @@ type Made = BTreeMap<u64, List<Doc>>;
 type Searched = BTreeMap<u8, u64>;
 
 fn set_begun(begun: &mut Begun, at: At, docs: List<Doc>) -> Result<(), NoMemory>
-    ensures { OnOk result ((a : At) → begun_at begun.new a ≡ (if same_at at a then docs else begun_at begun.old a)) }
+    ensures { OnOk result ((a : At) → begun_at begun.new a ≡
+        (if same_at at a then docs else begun_at begun.old a)) }
 {
     begun.insert((at.lane.0, at.line.0), docs)?;
     Ok(())
 }
 
 fn set_made(made: &mut Made, version: Version, docs: List<Doc>) -> Result<(), NoMemory>
-    ensures { OnOk result ((v : ℕ) → made_at made.new v ≡ (if version.0 == v then docs else made_at made.old v)) }
+    ensures { OnOk result ((v : ℕ) → made_at made.new v ≡
+        (if version.0 == v then docs else made_at made.old v)) }
 {
     made.insert(version.0, docs)?;
     Ok(())
@@ -43,7 +45,8 @@ fn set_searched(
     node: Option<NodeNo>,
     version: Version,
 ) -> Result<(), NoMemory>
-    ensures { OnOk result ((n : ℕ) → searched_by searched.new n ≡ (if is_at node n then version.0 else searched_by searched.old n)) }
+    ensures { OnOk result ((n : ℕ) → searched_by searched.new n ≡
+        (if is_at node n then version.0 else searched_by searched.old n)) }
 {
     if let Some(node) = node {
         searched.insert(node.0, version.0)?;
@@ -94,7 +97,7 @@ struct Walk {
 
 impl Walk {
     fn new(alloc: Global) -> Result<Self, NoMemory>
-        ensures { IfOk result (λ walk. Shows [] walk) }
+        ensures { IfOk result (λ walk. KnowsPast [] walk) }
     {
         let mut points = Vec::new(alloc);
         points.push(Point {
@@ -120,9 +123,12 @@ impl Walk {
         version: Version,
         docs: List<Doc>,
     ) -> Result<(), NoMemory>
-        ensures made { OnOk result ((v : ℕ) → made_at self.new.made v ≡ (if version.0 == v then docs else made_at self.old.made v)) }
-        ensures points { OnOk result (self.new.points.items ≡ self.old.points.items ++ record { generation = generation; version = version; docs = docs } ∷ []) }
-        ensures others { OnOk result (self.new ≡ record self.old { made = self.new.made; points = self.new.points }) }
+        ensures made { OnOk result ((v : ℕ) → made_at self.new.made v ≡
+            (if version.0 == v then docs else made_at self.old.made v)) }
+        ensures points { OnOk result (self.new.points.items ≡ self.old.points.items ++
+            record { generation = generation; version = version; docs = docs } ∷ []) }
+        ensures others { OnOk result
+            (self.new ≡ record self.old { made = self.new.made; points = self.new.points }) }
     {
         set_made(&mut self.made, version, docs.share(alloc)?)?;
         self.points.push(Point {
@@ -141,10 +147,21 @@ impl Walk {
         generation: Gen,
         version: Version,
     ) -> Result<(), NoMemory>
-        ensures made { OnOk result ((v : ℕ) → made_at self.new.made v ≡ (if version.0 == v then begun_at self.old.begun at else made_at self.old.made v)) }
-        ensures points { OnOk result (self.new.points.items ≡ self.old.points.items ++ record { generation = generation; version = version; docs = begun_at self.old.begun at } ∷ []) }
-        ensures searched { OnOk result ((n : ℕ) → searched_by self.new.searched n ≡ (if is_at self.old.primary n then version.0 else searched_by self.old.searched n)) }
-        ensures others { OnOk result (self.new ≡ record self.old { made = self.new.made; points = self.new.points; searched = self.new.searched }) }
+        ensures made { OnOk result ((v : ℕ) → made_at self.new.made v ≡
+            (if version.0 == v then begun_at self.old.begun at else made_at self.old.made v)) }
+        ensures points { OnOk result (self.new.points.items ≡ self.old.points.items ++
+            record { generation = generation; version = version; docs = begun_at self.old.begun at }
+            ∷ []) }
+        ensures searched { OnOk result ((n : ℕ) → searched_by self.new.searched n ≡
+            (if is_at self.old.primary n then version.0 else searched_by self.old.searched n)) }
+        ensures others { OnOk result
+            (self.new ≡
+            record self.old {
+              made = self.new.made;
+              points = self.new.points;
+              searched =
+                  self.new.searched;
+            }) }
     {
         let docs = docs_begun(alloc, &self.begun, at)?;
         self.add_point(alloc, generation, version, docs)?;
@@ -173,7 +190,8 @@ impl Walk {
     fn pass(&mut self, alloc: Global, entry: &Entry) -> Result<(), NoMemory>
         requires ordered { IsOrdered key_cmp self.old.texts }
         requires ascending { (v : ℕ) → IsAscending (made_at self.old.made v) }
-        ensures { OnOk result ((past : Past) → Shows past self.old → IsStarted past entry.now.at entry.now.event → Shows (entry.now ∷ past) self.new) }
+        ensures { OnOk result ((past : Past) → KnowsPast past self.old →
+            IsStarted past entry.now.at entry.now.event → KnowsPast (entry.now ∷ past) self.new) }
     {
         match &entry.event {
             Event::Accepted { op, .. } => change(alloc, &mut self.texts, op),

@@ -84,7 +84,8 @@ fn is_copied_beside(
     at: At,
     entries: &[Entry],
 ) -> bool
-    ensures { result ≡ is_copied_beside (is_node_of nodes (reverse start.now) begun.now) v.0 at (reverse entries.now) }
+    ensures { result ≡ is_copied_beside (is_node_of nodes (reverse start.now) begun.now) v.0 at
+        (reverse entries.now) }
 {
     let mut copied = false;
     for entry in entries {
@@ -123,7 +124,8 @@ fn has_fault_at_node(
     at: At,
     entries: &[Entry],
 ) -> bool
-    ensures { result ≡ has_fault (is_node_of nodes (reverse start.now) begun.now) (same_kind kind) at (reverse entries.now) }
+    ensures { result ≡ has_fault (is_node_of nodes (reverse start.now) begun.now)
+        (same_kind kind) at (reverse entries.now) }
 {
     let mut met = false;
     for entry in entries {
@@ -163,7 +165,8 @@ fn may_cancel(
     begun: &Event,
     v: Version,
 ) -> bool
-    ensures { IsTrue result ↔ MayCancel nodes (reverse entries.now) at (reverse start.now) begun.now v }
+    ensures { IsTrue result ↔ MayCancel nodes (reverse entries.now) at
+        (reverse start.now) begun.now v }
 {
     is_point(v, entries)
         && is_above(v, begun)
@@ -181,7 +184,8 @@ fn may_be_damaged(
     name: &FileName,
 ) -> bool
     requires shown { ShowsDrawn (reverse entries.now) drawn.now }
-    ensures { IsTrue result ↔ MayBeDamaged nodes (reverse entries.now) at (reverse start.now) begun.now name.now }
+    ensures { IsTrue result ↔ MayBeDamaged nodes (reverse entries.now) at
+        (reverse start.now) begun.now name.now }
 {
     has_fault_at_node(nodes, start, begun, FaultKind::Damage, at, entries)
         && is_drawn_file(drawn, name)
@@ -197,7 +201,8 @@ fn may_break_off(
     cause: &Cause,
 ) -> bool
     requires shown { ShowsDrawn (reverse entries.now) drawn.now }
-    ensures { IsTrue result ↔ MayBreakOff nodes (reverse entries.now) at (reverse start.now) begun.now cause.now }
+    ensures { IsTrue result ↔ MayBreakOff nodes (reverse entries.now) at
+        (reverse start.now) begun.now cause.now }
 {
     match cause {
         Cause::Cancelled(v) => may_cancel(nodes, entries, at, start, begun, *v),
@@ -236,7 +241,8 @@ fn may_refuse(
     cause: &Cause,
 ) -> bool
     requires shown { ShowsDrawn (reverse entries.now) drawn.now }
-    ensures { IsTrue result ↔ MayRefuse nodes (reverse entries.now) at (reverse start.now) begun.now cause.now }
+    ensures { IsTrue result ↔ MayRefuse nodes (reverse entries.now) at
+        (reverse start.now) begun.now cause.now }
 {
     if is_loss(cause) != is_lost(entries, start, begun) {
         return false;
@@ -261,7 +267,8 @@ pub(crate) fn may_refuse_line(
     cause: &Cause,
 ) -> bool
     requires shown { ShowsDrawn (reverse entries.now) drawn.now }
-    ensures { IsTrue result ↔ MayRefuseLine nodes (reverse entries.now) at (start_entry at (reverse entries.now)) cause.now }
+    ensures { IsTrue result ↔ MayRefuseLine nodes (reverse entries.now) at
+        (start_entry at (reverse entries.now)) cause.now }
 {
     match start_entry(at, entries) {
         Some(begun) => {

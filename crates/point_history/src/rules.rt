@@ -2,14 +2,14 @@ ghost use Rattle.std.specs.Prelude.{◌≡◌, ◌≤◌, ◌<◌, ◌+◌, ◌^
 ghost use Rattle.history_entries.specs.Nodes.{IsNode, IsReplica, version_of, accepted_count};
 ghost use Rattle.history_entries.specs.Lines.{start_entry, before_start, has_switched, NodeSurvives};
 ghost use Rattle.point_history.specs.Generations.{ShowsGeneration};
-ghost use Rattle.history_entries.specs.Rules.{MayAccept, MayStartPublish, MayPublish, MayStartCopy, MaySwitch, MayFinishCopy, MayStartSettle, MaySettle, MayOpen, MayAsk, MayClose, MayStartCommit, MayCommit, MayCrash, MayReopen, MayPromote, MayStartMerge, MayDrain, MayPlan, StartedCopy, StartedCopyOf, StartedCommit};
+ghost use Rattle.history_entries.specs.Rules.{MayAccept, MayStartPublish, MayPublish, MayStartCopy, MaySwitch, MayFinishCopy, MayStartSettle, MaySettle, MayOpen, MayAsk, MayClose, MayStartCommit, MayCommit, MayCrash, MayReopen, MayPromote, MayStartMerge, MayDrain, MayPlan, StartedCopy, StartedCommit};
 
 use crate::commits::{is_reopenable, is_stuck, was_searched_since};
 use crate::faults::has_met_fault;
 use crate::generation::Generation;
 use crate::lines::{
     before_start, commit_in_flight, copy_in_flight, has_switched, highest_copy, highest_switched,
-    is_free_for, node_survives, publish_in_flight, source_survives, start_entry,
+    is_answered, is_free_for, node_survives, publish_in_flight, source_survives, start_entry,
 };
 use crate::nodes::{
     accepted_count, is_made_in_generation, is_node, is_replica, is_running, newest_version,
@@ -27,7 +27,7 @@ pub(crate) fn may_accept(entries: &[Entry], at: At, seq: u32) -> bool
     primary_of(entries).node.is_some()
         && seq != 0
         && seq as usize - 1 == accepted_count(entries)
-        && !has_met_fault(at, entries)
+        && (!has_met_fault(at, entries) || is_answered(at, entries))
 }
 
 pub(crate) fn may_start_publish(entries: &[Entry], generation: &Generation, at: At) -> bool
@@ -78,7 +78,8 @@ pub(crate) fn may_start_copy(nodes: u8, entries: &[Entry], at: At, n: NodeNo, v:
 }
 
 fn started_copy(n: NodeNo, v: Version, at: At, entries: &[Entry]) -> bool
-    ensures { IsTrue result ↔ StartedCopy (reverse entries.now) (before_start at (reverse entries.now)) n.0 v.0 (start_entry at (reverse entries.now)) }
+    ensures { IsTrue result ↔ StartedCopy (reverse entries.now)
+        (before_start at (reverse entries.now)) n.0 v.0 (start_entry at (reverse entries.now)) }
 {
     match start_entry(at, entries) {
         Some(Event::Copying { n: m, v: w }) => m.0 == n.0 && w.0 == v.0,
@@ -104,7 +105,7 @@ pub(crate) fn may_switch(nodes: u8, entries: &[Entry], at: At, n: NodeNo, v: Ver
 }
 
 fn started_copy_of(n: NodeNo, v: Version, at: At, entries: &[Entry]) -> bool
-    ensures { IsTrue result ↔ StartedCopyOf n.0 v.0 (start_entry at (reverse entries.now)) }
+    ensures { IsTrue result ↔ (start_entry at (reverse entries.now) ≡ Some (Event.Copying n v)) }
 {
     match start_entry(at, entries) {
         Some(Event::Copying { n: m, v: w }) => m.0 == n.0 && w.0 == v.0,
@@ -114,7 +115,8 @@ fn started_copy_of(n: NodeNo, v: Version, at: At, entries: &[Entry]) -> bool
 
 /// Whether the copy of a line has switched the node, or the node searched the version before the line started.
 fn has_brought(n: NodeNo, v: Version, at: At, entries: &[Entry]) -> bool
-    ensures { IsTrue result ↔ ((has_switched at (reverse entries.now) ≡ true) ⊎ (version_of n.0 (before_start at (reverse entries.now)) ≡ v.0)) }
+    ensures { IsTrue result ↔ ((has_switched at (reverse entries.now) ≡ true) ⊎
+        (version_of n.0 (before_start at (reverse entries.now)) ≡ v.0)) }
 {
     has_switched(at, entries) || version_of(n, before_start(at, entries)) == v.0
 }
@@ -147,7 +149,8 @@ fn started_settle(v: Version, at: At, entries: &[Entry]) -> bool
 
 /// Whether a node has no part in a settle any more, or is at its version.
 fn is_settled(n: NodeNo, v: Version, at: At, entries: &[Entry]) -> bool
-    ensures { IsTrue result ↔ (IsReplica (before_start at (reverse entries.now)) n.0 → NodeSurvives (reverse entries.now) at n.0 → v.0 ≤ version_of n.0 (reverse entries.now)) }
+    ensures { IsTrue result ↔ (IsReplica (before_start at (reverse entries.now)) n.0 →
+        NodeSurvives (reverse entries.now) at n.0 → v.0 ≤ version_of n.0 (reverse entries.now)) }
 {
     !is_replica(n, before_start(at, entries))
         || !node_survives(n, at, entries)
@@ -155,7 +158,9 @@ fn is_settled(n: NodeNo, v: Version, at: At, entries: &[Entry]) -> bool
 }
 
 fn all_settled(nodes: u8, v: Version, at: At, entries: &[Entry]) -> bool
-    ensures { IsTrue result ↔ ((n : ℕ) → IsNode nodes n → IsReplica (before_start at (reverse entries.now)) n → NodeSurvives (reverse entries.now) at n → v.0 ≤ version_of n (reverse entries.now)) }
+    ensures { IsTrue result ↔ ((n : ℕ) → IsNode nodes n →
+        IsReplica (before_start at (reverse entries.now)) n →
+        NodeSurvives (reverse entries.now) at n → v.0 ≤ version_of n (reverse entries.now)) }
 {
     for below in 0..nodes {
         if !is_settled(NodeNo(below + 1), v, at, entries) {

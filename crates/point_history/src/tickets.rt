@@ -1,5 +1,5 @@
 ghost use Rattle.std.specs.Prelude.{◌≡◌, ◌↔◌, reverse, IsTrue, MatchOption};
-ghost use Rattle.history_entries.specs.Nodes.{crashes};
+ghost use Rattle.point_history.specs.Openings.{opening_of};
 ghost use Rattle.history_entries.specs.Tickets.{last_opened, open_ticket, has_ticket, IsTicketAt, IsTicketOf};
 
 use crate::nodes::crashes;
@@ -23,7 +23,8 @@ fn is_ticket(at: At, u: TicketNo, lane: LaneNo, t: TicketNo) -> bool
 
 /// The last opening of a ticket of a lane, unless it was closed since.
 fn last_opened<'a>(lane: LaneNo, t: TicketNo, entries: &'a [Entry]) -> Option<Opening<'a>>
-    ensures { MatchOption result (last_opened lane.0 t.0 (reverse entries.now) ≡ None) (λ k. last_opened lane.0 t.0 (reverse entries.now) ≡ Some (record { node = k.n.0; version = k.v.0; life = crashes k.n.0 (reverse k.before.now) })) }
+    ensures { MatchOption result (last_opened lane.0 t.0 (reverse entries.now) ≡ None) (λ k.
+        last_opened lane.0 t.0 (reverse entries.now) ≡ Some (opening_of k)) }
 {
     let mut last = None;
     for (i, entry) in entries.iter().enumerate() {
@@ -54,7 +55,8 @@ pub(crate) fn open_ticket<'a>(
     t: TicketNo,
     entries: &'a [Entry],
 ) -> Option<Opening<'a>>
-    ensures { MatchOption result (open_ticket lane.0 t.0 (reverse entries.now) ≡ None) (λ k. open_ticket lane.0 t.0 (reverse entries.now) ≡ Some (record { node = k.n.0; version = k.v.0; life = crashes k.n.0 (reverse k.before.now) })) }
+    ensures { MatchOption result (open_ticket lane.0 t.0 (reverse entries.now) ≡ None) (λ k.
+        open_ticket lane.0 t.0 (reverse entries.now) ≡ Some (opening_of k)) }
 {
     if t.0 == 0 {
         return None;

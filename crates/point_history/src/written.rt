@@ -31,7 +31,8 @@ fn origin_after<'a>(
 ) -> Origin<'a>
     requires operations { operations_from origin ≡ operations_at (reverse entries.now) version }
     requires size { size_of origin ≤ length entries.now }
-    ensures operations { operations_from result ≡ operations_at (entry.now ∷ reverse entries.now) version }
+    ensures operations { operations_from result ≡ operations_at
+        (entry.now ∷ reverse entries.now) version }
     ensures size { size_of result ≤ length entries.now + 1 }
 {
     match &entry.event {
@@ -57,7 +58,8 @@ fn origin_of<'a>(version: u64, entries: &'a [Entry]) -> Origin<'a>
 
 /// Where the operations come from on which the present generation started.
 fn generation_origin<'a>(entries: &'a [Entry]) -> Origin<'a>
-    ensures operations { operations_from result ≡ operations_before_generation (reverse entries.now) }
+    ensures operations { operations_from result ≡ operations_before_generation
+        (reverse entries.now) }
     ensures size { size_of result ≤ length entries.now }
 {
     let mut origin = Origin::Nothing;
@@ -71,7 +73,8 @@ fn generation_origin<'a>(entries: &'a [Entry]) -> Origin<'a>
 
 /// Puts the operations that the present generation has accepted behind others.
 fn push_accepted(alloc: Global, entries: &[Entry], ops: &mut Vec<Op>) -> Result<(), NoMemory>
-    ensures { OnOk result (ops.new.items ≡ ops.old.items ++ operations_of_generation (reverse entries.now)) }
+    ensures { OnOk result (ops.new.items ≡ ops.old.items ++ operations_of_generation
+        (reverse entries.now)) }
 {
     let before = ops.len();
     for entry in entries {

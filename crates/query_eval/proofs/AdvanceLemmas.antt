@@ -2,7 +2,7 @@
 use Rattle.std.proofs.Common.{◌≡◌, ℕ, ◌^◌, ◌<◌, ◌≤◌, Bool, true, false, Some, None, refl, sym, ◌∙◌, inl, inr, max, arith}
 use Rattle.std.specs.Prelude.{nat_le}
 use Rattle.std.proofs.lemmas.Bool.{le-leb, lt-leb, cases_lt, and_right}
-use Rattle.query_eval.specs.Advance.{IsFirst, StaysFrom, both, from_least}
+use Rattle.query_eval.specs.Advance.{IsFirstFrom, StaysFrom, both, from_least}
 
 -- the rows from the least on stay in both parts, and no row from the start on and below it is answered by both
 pub record AreKept (first second first' second' : ℕ → Bool) (start least : ℕ) : Type 0 where
@@ -39,7 +39,7 @@ none_between old before row least none x ge lt = elim (cases_lt x before) [
 ]
 
 pub first_of_least : (old : ℕ → Bool) (before row found : ℕ) → max row before ≤ found → old found ≡ true → ((x : ℕ) → max row before ≤ x → x < found → old x ≡ false)
-    → IsFirst (from_least before old) row (Some found)
+    → IsFirstFrom (from_least before old) row (Some found)
 first_of_least old before row found from here none = (
   omega (arith, from),
   above_least before old found (omega (arith, from)) ∙ here,
@@ -47,7 +47,7 @@ first_of_least old before row found from here none = (
 )
 
 pub none_of_least : (old : ℕ → Bool) (before row least : ℕ) → ((x : ℕ) → max row before ≤ x → x < least → old x ≡ false) → ((x : ℕ) → least ≤ x → x < 2 ^ 32 → old x ≡ false)
-    → IsFirst (from_least before old) row None
+    → IsFirstFrom (from_least before old) row None
 none_of_least old before row least none beyond x ge fits = elim (cases_lt x least) [
   | inl lt ↦ none_between old before row least none x ge lt
   | inr le ↦ not_answered before old x (beyond x le fits)

@@ -1,11 +1,11 @@
 -- What was counted of the segments so far, and the answer that comes of it.
-use Rattle.std.proofs.Common.{◌≡◌, ℕ, zero, suc, ◌+◌, ◌^◌, ◌<◌, ◌≤◌, List, [], ◌∷◌, ◌++◌, length, map, take, drop, get_or, Bool, true, false, refl, sym, ap, subst, ◌∙◌, arith, drop-cons}
-use Rattle.std.specs.List.{All, filter}
+use Rattle.std.proofs.Common.{◌≡◌, ℕ, zero, suc, ◌+◌, ◌^◌, ◌<◌, ◌≤◌, List, [], ◌∷◌, ◌++◌, length, map, take, drop, get_or, set, append_assoc, Bool, true, false, refl, sym, ap, subst, ◌∙◌, arith, drop-cons}
+use Rattle.std.specs.List.{All, filter, swap}
 use Rattle.std.specs.List.Sorted.{IsPermutation}
 use Rattle.std.proofs.lemmas.Grind.{flat_map-append}
 use Rattle.std.proofs.lemmas.List.{append-nil, map-append}
 use Rattle.std.proofs.lemmas.List.Elements.{filter-append}
-use Rattle.std.proofs.lemmas.List.Sorted.{IsPermutation-refl, IsPermutation-cons, IsPermutation-trans, IsPermutation-append_left, IsPermutation-append_comm}
+use Rattle.std.proofs.lemmas.List.Sorted.{IsPermutation-refl, IsPermutation-keeps, IsPermutation-trans, IsPermutation-append_left, IsPermutation-append_right, IsPermutation-append_comm}
 use Rattle.std.proofs.lemmas.List.Sums.{sum_by-cons}
 use Rattle.nrt_base.specs.declared.doc.Doc.{Doc}
 use Rattle.documents.specs.declared.answer.Answer.{Answer}
@@ -13,13 +13,37 @@ use Rattle.documents.specs.declared.answer.Hit.{Hit}
 use Rattle.documents.specs.declared.query.Query.{Query}
 use Rattle.documents.specs.Matching.{matches_doc}
 use Rattle.documents.specs.Ranking.{hit_of, matching_hits, answer_of, scan_of}
-use Rattle.documents.proofs.InOrderLemmas.{along_permutation}
 use Rattle.seg_reader.specs.Shown.{Shown, live_documents, live_documents_of, AreLiveDocuments}
 use Rattle.seg_reader.specs.Sound.{IsSound}
 use Rattle.query_eval.specs.Matching.{CountsSegment, rows_of}
 use Rattle.query_eval.proofs.SearchLemmas.{answer_same}
 
 -- ---- documents in another turn
+
+-- a relation that is reflexive and transitive, goes under a head and over two heads in turn holds along each permutation
+module _ {X : Type 0} (R : List X → List X → Type 0) (same : (xs : List X) → R xs xs)
+    (skip : (x : X) (xs ys : List X) → R xs ys → R (x ∷ xs) (x ∷ ys))
+    (turn : (x y : X) (xs : List X) → R (x ∷ y ∷ xs) (y ∷ x ∷ xs))
+    (chain : (xs ys zs : List X) → R xs ys → R ys zs → R xs zs) where
+  to_head : (xs : List X) (j : ℕ) (x d : X) → j < length xs → R (x ∷ xs) (get_or xs j d ∷ set xs j x)
+  to_head [] j x d lt = absurd (omega (arith, lt))
+  to_head (y ∷ xs) zero x d lt = turn x y xs
+  to_head (y ∷ xs) (suc j) x d lt =
+      chain _ _ _ (turn x y xs) (chain _ _ _ (skip y _ _ (to_head xs j x d (omega (arith, lt)))) (turn y (get_or xs j d) (set xs j x)))
+
+  exchanged : (xs : List X) (i j : ℕ) (d : X) → i < length xs → j < length xs → R xs (set (set xs i (get_or xs j d)) j (get_or xs i d))
+  exchanged [] i j d p q = absurd (omega (arith, p))
+  exchanged (x ∷ xs) zero zero d p q = same (x ∷ xs)
+  exchanged (x ∷ xs) zero (suc j) d p q = to_head xs j x d (omega (arith, q))
+  exchanged (x ∷ xs) (suc i) zero d p q = to_head xs i x d (omega (arith, p))
+  exchanged (x ∷ xs) (suc i) (suc j) d p q = skip x _ _ (exchanged xs i j d (omega (arith, p)) (omega (arith, q)))
+
+  swapped : (xs : List X) (i j : ℕ) → i < length xs → j < length xs → R xs (swap xs i j)
+  swapped [] i j p q = same []
+  swapped (x ∷ xs) i j p q = exchanged (x ∷ xs) i j x p q
+
+  along_permutation : (xs ys : List X) → IsPermutation xs ys → R xs ys
+  along_permutation xs = IsPermutation-keeps xs (R xs) (same xs) (λ l i j p q h. chain xs l _ h (swapped l i j p q))
 
 -- a document that may match, before the hits of others
 abbrev with_doc : Query → Doc → List Hit → List Hit
@@ -35,9 +59,26 @@ hits-cons query doc docs = by_test (matches_doc query doc) refl
 hits-permutation : (query : Query) (docs others : List Doc) → IsPermutation docs others → IsPermutation (matching_hits query docs) (matching_hits query others)
 hits-permutation query = along_permutation (λ docs others. IsPermutation (matching_hits query docs) (matching_hits query others))
     (λ docs. IsPermutation-refl _)
-    (λ doc docs others moved. ?)
-    (λ a b docs. ?)
+    (λ doc docs others moved. moved_under doc docs others (IsPermutation-append_right (matching_hits query (doc ∷ [])) _ _ moved))
+    (λ a b docs. turned a b docs)
     (λ docs others last. IsPermutation-trans _ _ _)
+  where
+    moved_under : (doc : Doc) (docs others : List Doc) → IsPermutation (with_doc query doc (matching_hits query docs)) (with_doc query doc (matching_hits query others))
+        → IsPermutation (matching_hits query (doc ∷ docs)) (matching_hits query (doc ∷ others))
+    moved_under doc docs others moved =
+        subst (λ (hs : List Hit). IsPermutation hs (matching_hits query (doc ∷ others))) (sym (hits-cons query doc docs))
+        (subst (λ (hs : List Hit). IsPermutation (with_doc query doc (matching_hits query docs)) hs) (sym (hits-cons query doc others)) moved)
+
+    two : (a b : Doc) (docs : List Doc) → matching_hits query (a ∷ b ∷ docs) ≡ (matching_hits query (a ∷ []) ++ matching_hits query (b ∷ [])) ++ matching_hits query docs
+    two a b docs =
+        hits-cons query a (b ∷ docs) ∙ ap (λ (hs : List Hit). matching_hits query (a ∷ []) ++ hs) (hits-cons query b docs)
+        ∙ sym (append_assoc (matching_hits query (a ∷ [])) (matching_hits query (b ∷ [])) (matching_hits query docs))
+
+    turned : (a b : Doc) (docs : List Doc) → IsPermutation (matching_hits query (a ∷ b ∷ docs)) (matching_hits query (b ∷ a ∷ docs))
+    turned a b docs =
+        subst (λ (hs : List Hit). IsPermutation hs (matching_hits query (b ∷ a ∷ docs))) (sym (two a b docs))
+        (subst (λ (hs : List Hit). IsPermutation ((matching_hits query (a ∷ []) ++ matching_hits query (b ∷ [])) ++ matching_hits query docs) hs) (sym (two b a docs))
+        (IsPermutation-append_left (matching_hits query docs) _ _ (IsPermutation-append_comm (matching_hits query (a ∷ [])) (matching_hits query (b ∷ [])))))
 
 -- ---- the segments so far
 

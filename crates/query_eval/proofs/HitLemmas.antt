@@ -6,7 +6,7 @@ use Rattle.std.proofs.lemmas.Bool.{lt-ltb, le-ltb, cases_lt, ne_eqb, eq-eqb, or_
 use Rattle.std.proofs.lemmas.List.Folds.{list_any_none, list_any-from_Any}
 use Rattle.postings_plain.specs.Postings.{Hit, row_of}
 use Rattle.postings_plain.specs.Rows.{from_row, IsLeastFrom}
-use Rattle.query_eval.specs.Advance.{IsFirst, FindsRow}
+use Rattle.query_eval.specs.Advance.{IsFirstFrom, FindsRow}
 use Rattle.query_eval.specs.Phrases.{has_row, places_in, IsMoved}
 
 other_row : (h : Hit) (x row : ℕ) → row_of h < row → row ≤ x → nat_eq (row_of h) x ≡ false
@@ -47,7 +47,7 @@ not_there x hits none = list_any_none (λ h. nat_eq (row_of h) x) hits (λ k d l
 pub word_none : (row : ℕ) (hits : List Hit) → All (λ h. row_of h < row) hits → (x : ℕ) → row ≤ x → has_row hits x ≡ false
 word_none row hits below x le = not_there x hits (λ k d lt e. let b = below k d lt in omega (arith, b, e, le))
 
-pub word_found : (row found : ℕ) (hits : List Hit) → IsLeastFrom row hits found → IsFirst (has_row hits) row (Some found)
+pub word_found : (row found : ℕ) (hits : List Hit) → IsLeastFrom row hits found → IsFirstFrom (has_row hits) row (Some found)
 word_found row found hits is = (
   is.from,
   list_any-from_Any (λ h. nat_eq (row_of h) found) hits (is.there.0, is.there.1, is.there.2, is.there.3, eq-eqb (row_of is.there.1) found is.there.4),
@@ -55,7 +55,7 @@ word_found row found hits is = (
 )
 
 -- what moving a word's hits finds
-pub word_first : (row : ℕ) (found : Option ℕ) (hits : List Hit) → IfSome found (IsLeastFrom row hits) → IfNone found (All (λ h. row_of h < row) hits) → IsFirst (has_row hits) row found
+pub word_first : (row : ℕ) (found : Option ℕ) (hits : List Hit) → IfSome found (IsLeastFrom row hits) → IfNone found (All (λ h. row_of h < row) hits) → IsFirstFrom (has_row hits) row found
 word_first row None hits is none = λ x le fits. word_none row hits none x le
 word_first row (Some found) hits is none = word_found row found hits is
 

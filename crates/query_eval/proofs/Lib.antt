@@ -12,3 +12,4 @@ pub mod ReaderLemmas
 pub mod AnswerLemmas
 pub mod TestLaws
 pub mod RankLemmas
+pub mod FormLemmas

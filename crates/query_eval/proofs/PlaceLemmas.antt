@@ -3,7 +3,7 @@ use Rattle.std.proofs.Common.{◌≡◌, ℕ, zero, suc, ◌+◌, ◌<◌, ◌�
 use Rattle.std.specs.Prelude.{◌&&◌, ◌||◌, nat_eq, nat_le, nat_lt, slice_get, count_by, if◌then◌else◌}
 use Rattle.std.specs.List.{list_any, filter, enumerate_from}
 use Rattle.std.specs.Str.{bytes_eq}
-use Rattle.std.proofs.lemmas.Bool.{ne_eqb, eq-eqb, le-leb, lt-ltb, or_parts, and_left, and_right}
+use Rattle.std.proofs.lemmas.Bool.{ne_eqb, eq-eqb, le-leb, lt-ltb, ltb-false, or_parts, and_left, and_right}
 use Rattle.std.proofs.lemmas.Cmp.{nat_list_eq_equiv}
 use Rattle.std.proofs.lemmas.List.{length-map}
 use Rattle.std.proofs.lemmas.List.Sums.{sum_by-cons}
@@ -88,8 +88,11 @@ count_stands test p phrase (w ∷ words) n is =
 
     by_test : (b : Bool) → bytes_eq w p ≡ b → test n ≡ stands_at_front phrase words → count_by test (places_from p (n + 1) words) ≡ times_of_phrase (p ∷ phrase) words
         → count_by test (places_from p n (w ∷ words)) ≡ (if stands_at_front (p ∷ phrase) (w ∷ words) then 1 else 0) + times_of_phrase (p ∷ phrase) words
-    by_test true f g h = rw (front true f, f) (count_cons test n (places_from p (n + 1) words) ∙ rw (g, h) refl)
-    by_test false f g h = rw (front false f, f) (rw h refl)
+    by_test true f g h =
+        let more = count_cons test n (places_from p (n + 1) words) in
+        let same : ◌≡◌ {A = ℕ} (if test n then 1 else 0) (if stands_at_front phrase words then 1 else 0) = rw g refl in
+        rw (front true f, f) (omega (arith, more, same, h))
+    by_test false f g h = rw (front false f, f) (omega (arith, h))
 
 -- how often a phrase stands in words
 phrase_stands : (p : List ℕ) (phrase words : List (List ℕ)) → times_together (map (λ w. positions_of w words) (p ∷ phrase)) ≡ times_of_phrase (p ∷ phrase) words
@@ -101,8 +104,16 @@ any_counted p [] = refl
 any_counted {X} p (x ∷ xs) = by_test (p x) refl (any_counted p xs)
   where
     by_test : (b : Bool) → p x ≡ b → list_any p xs ≡ nat_lt 0 (count_by p xs) → list_any p (x ∷ xs) ≡ nat_lt 0 (count_by p (x ∷ xs))
-    by_test true e rest = rw (e, count_cons p x xs, e) (sym (lt-ltb 0 (1 + count_by p xs) (omega arith)))
-    by_test false e rest = let none : 0 + count_by p xs ≡ count_by p xs = omega arith in rw (e, count_cons p x xs, e, none) rest
+    by_test true e rest =
+        let has : list_any p (x ∷ xs) ≡ true = rw e refl in
+        let one : ◌≡◌ {A = ℕ} (if p x then 1 else 0) 1 = rw e refl in
+        let more = count_cons p x xs in
+        has ∙ sym (lt-ltb 0 (count_by p (x ∷ xs)) (omega (arith, more, one)))
+    by_test false e rest =
+        let same : list_any p (x ∷ xs) ≡ list_any p xs = rw e refl in
+        let none : ◌≡◌ {A = ℕ} (if p x then 1 else 0) 0 = rw e refl in
+        let more = count_cons p x xs in
+        same ∙ rest ∙ ap (nat_lt 0) (omega (arith, more, none))
 
 -- how often a word stands in words
 count_places : (word : List ℕ) (n : ℕ) (words : List (List ℕ)) → length (places_from word n words) ≡ times_of_word word words
@@ -201,11 +212,25 @@ no_front (p ∷ phrase) (w ∷ words) (suc i) word is lacks =
     and_right (bytes_eq p w) (stands_at_front phrase words) (no_front phrase words i word is parts.1)
 
 never_stands : (phrase words : List (List ℕ)) (i : ℕ) (word : List ℕ) → slice_get phrase i ≡ Some word → has_word word words ≡ false → times_of_phrase phrase words ≡ 0
-never_stands phrase [] i word is lacks = count_cons (stands_at_front phrase) [] [] ∙ rw (no_front phrase [] i word is lacks) refl
+never_stands phrase [] i word is lacks =
+    let more = count_cons (stands_at_front phrase) [] [] in
+    let none : ◌≡◌ {A = ℕ} (if stands_at_front phrase [] then 1 else 0) 0 = rw (no_front phrase [] i word is lacks) refl in
+    let empty : count_by (stands_at_front phrase) [] ≡ 0 = refl in
+    omega (arith, more, none, empty)
 never_stands phrase (w ∷ words) i word is lacks =
     let parts = or_parts (bytes_eq w word) (has_word word words) lacks in
-    count_cons (stands_at_front phrase) (w ∷ words) (tails words)
-    ∙ rw (no_front phrase (w ∷ words) i word is lacks) (never_stands phrase words i word is parts.1)
+    let more = count_cons (stands_at_front phrase) (w ∷ words) (tails words) in
+    let none : ◌≡◌ {A = ℕ} (if stands_at_front phrase (w ∷ words) then 1 else 0) 0 = rw (no_front phrase (w ∷ words) i word is lacks) refl in
+    let rest = never_stands phrase words i word is parts.1 in
+    omega (arith, more, none, rest)
+
+-- a word that is among no words has no places in them
+pub times_without : (shown : Shown) (word : List ℕ) → IsSound shown → HasNoEntry shown.entries 1 word
+    → (row : ℕ) (doc : Doc) → slice_get shown.docs row ≡ Some doc → times_of_word word (words_of doc.text) ≡ 0
+times_without shown word sound lacks row doc here =
+    let none : nat_lt 0 (times_of_word word (words_of doc.text)) ≡ false = sym (any_counted (λ w. bytes_eq w word) (words_of doc.text)) ∙ no_entry_rows shown word sound lacks row doc here in
+    let few = ltb-false 0 (times_of_word word (words_of doc.text)) none in
+    omega (arith, few)
 
 pub times_lacking : (shown : Shown) (phrase : List (List ℕ)) (i : ℕ) (word same : List ℕ) → IsSound shown → slice_get phrase i ≡ Some word → same ≡ word → HasNoEntry shown.entries 1 same
     → (row : ℕ) (doc : Doc) → slice_get shown.docs row ≡ Some doc → times_of_phrase phrase (words_of doc.text) ≡ 0
@@ -219,6 +244,9 @@ phrase_lacks shown phrase i word same sound is spelt lacks row doc here =
 
 -- ---- all words were found
 
+pub both_pushed : (counted words more pushed : List (List Hit)) (a b : List Hit) → counted ≡ words → a ≡ b → more ≡ counted ++ a ∷ [] → pushed ≡ words ++ b ∷ [] → more ≡ pushed
+both_pushed counted words more pushed a b same one e f = cc
+
 pub whole : (n : ℕ) (xs : List (List ℕ)) → length xs ≤ n → take n xs ≡ xs
 whole zero [] le = refl
 whole zero (x ∷ xs) le = absurd (omega (arith, le))
@@ -227,7 +255,7 @@ whole (suc n) (x ∷ xs) le = ap (λ (ys : List (List ℕ)). x ∷ ys) (whole n 
 
 pub times_placed : (docs : List Doc) (hits : List (List Hit)) (phrase so_far : List (List ℕ)) → ArePlaced docs hits so_far → so_far ≡ phrase → 0 < length phrase
     → (row : ℕ) (doc : Doc) → slice_get docs row ≡ Some doc → phrase_times hits row ≡ times_of_phrase phrase (words_of doc.text)
-times_placed docs hits [] so_far placed e some = absurd (omega (arith, some))
+times_placed docs hits [] so_far placed e some row doc here = absurd (omega (arith, some))
 times_placed docs hits (p ∷ phrase) so_far placed e some row doc here =
     ap times_together (placed row doc here ∙ ap (map (λ w. positions_of w (words_of doc.text))) e) ∙ phrase_stands p phrase (words_of doc.text)
 

@@ -2,9 +2,9 @@
 use Rattle.std.specs.Prelude.{◌≡◌, ℕ, ◌^◌, ◌<◌, ◌≤◌, Bool, true, false, ◌&&◌, ◌||◌, not, nat_le, nat_lt, min, Option, Some, None}
 
 -- the least row at or above this one that is answered; none where no row that a u32 can tell is
-abbrev pub IsFirst : (ℕ → Bool) → ℕ → Option ℕ → Type 0
-IsFirst answered row None = (x : ℕ) → row ≤ x → x < 2 ^ 32 → answered x ≡ false
-IsFirst answered row (Some found) =
+abbrev pub IsFirstFrom : (ℕ → Bool) → ℕ → Option ℕ → Type 0
+IsFirstFrom answered row None = (x : ℕ) → row ≤ x → x < 2 ^ 32 → answered x ≡ false
+IsFirstFrom answered row (Some found) =
     (row ≤ found) × (answered found ≡ true) × ((x : ℕ) → row ≤ x → x < found → answered x ≡ false)
 
 -- from this row on the same rows are answered as before
@@ -13,7 +13,7 @@ StaysFrom row old new = (x : ℕ) → row ≤ x → new x ≡ old x
 
 -- to advance to a row finds the first at or above it, and the rows from there on stay
 pub record FindsRow (old new : ℕ → Bool) (row : ℕ) (found : Option ℕ) : Type 0 where
-  pub first : IsFirst old row found
+  pub first : IsFirstFrom old row found
   pub stays : StaysFrom row old new
 
 -- the rows that are answered from the least on

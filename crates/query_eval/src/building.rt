@@ -1,7 +1,7 @@
 //! The cursor of a query in a segment, and the words and phrases that its rank counts.
 
 ghost use Rattle.std.specs.Prelude.{◌≡◌, ◌&&◌, ◌||◌, ◌<◌, ℕ, length, IsTrue, IfOk, OnOk};
-ghost use Rattle.std.specs.List.{All, sum_by};
+ghost use Rattle.std.specs.List.{list_all, sum_by};
 ghost use Rattle.documents.specs.Matching.{has_form};
 ghost use Rattle.documents.specs.Ranking.{rank_of, times_of_phrase, times_of_word};
 ghost use Rattle.documents.specs.Words.{words_of};
@@ -143,7 +143,7 @@ fn cursor_of_all<'a>(
     ranker: &mut Ranker<'a>,
 ) -> Result<Cursor<'a>, NoMemory>
     requires sound { IsSound seg.now }
-    requires form { All (λ part. IsTrue (has_form part)) parts.now }
+    requires form { IsTrue (list_all has_form parts.now) }
     ensures answers { IfOk result (AnswersAll seg.now.docs parts.now) }
     ensures ranks { OnOk result (AddsRank seg.now.docs
         (λ doc. sum_by (λ part. rank_of part (words_of doc.text)) parts.now) ranker.old ranker.new) }
@@ -164,7 +164,7 @@ fn cursor_of_any<'a>(
     ranker: &mut Ranker<'a>,
 ) -> Result<Cursor<'a>, NoMemory>
     requires sound { IsSound seg.now }
-    requires form { All (λ part. IsTrue (has_form part)) parts.now }
+    requires form { IsTrue (list_all has_form parts.now) }
     ensures answers { IfOk result (AnswersAny seg.now.docs parts.now) }
     ensures ranks { OnOk result (AddsRank seg.now.docs
         (λ doc. sum_by (λ part. rank_of part (words_of doc.text)) parts.now) ranker.old ranker.new) }

@@ -1,10 +1,11 @@
 -- A line of the report is cut into its words in one way only: no word has a space or a line feed in it.
-use Rattle.std.proofs.Common.{◌≡◌, ℕ, zero, suc, ◌+◌, ◌*◌, ◌/◌, ◌%◌, ◌^◌, ◌<◌, ◌≤◌, Bool, true, false, ◌&&◌, ◌||◌, nat_lt, nat_le, nat_eq, List, [], ◌∷◌, ◌++◌, map, refl, sym, ap, subst, ◌∙◌, arith}
-use Rattle.std.specs.List.{list_all, flat_map}
+use Rattle.std.proofs.Common.{◌≡◌, ℕ, ◌+◌, ◌%◌, ◌^◌, ◌<◌, ◌≤◌, Bool, true, false, nat_lt, List, [], ◌∷◌, ◌++◌, map, refl, sym, ap, ◌∙◌, arith}
+use Rattle.std.specs.List.{list_all}
 use Rattle.std.specs.Fmt.{decimal}
 use Rattle.std.proofs.lemmas.Bool.Decides.{nat_tests}
 use Rattle.std.proofs.lemmas.Fmt.{decimal_by_steps, decimal_injective}
 use Rattle.std.proofs.lemmas.List.{append_assoc}
+use Rattle.nrt_base.proofs.Plain.{cons_from, cons_parts}
 use Rattle.nrt_base.specs.Bytes.{is_between, is_key_byte, is_key}
 use Rattle.file_names.specs.Names.{is_name_byte, is_file_name}
 use Rattle.file_names.specs.Base36.{is_base36_digit, base36_of}
@@ -18,24 +19,18 @@ use Rattle.report_text.specs.Printed.{IsNumber, hit_fits}
 abbrev pub is_token : List ℕ → Bool
 is_token word = list_all is_key_byte word
 
-cells : (x y : ℕ) (xs ys : List ℕ) → x ∷ xs ≡ y ∷ ys → (x ≡ y) × (xs ≡ ys)
-cells x y xs ys e = (cc, cc)
-
-cells_from : (x y : ℕ) (xs ys : List ℕ) → x ≡ y → xs ≡ ys → x ∷ xs ≡ y ∷ ys
-cells_from x y xs ys e f = cc
-
 -- two texts that begin with bytes that pass a test, each before one that fails it, begin with the same bytes
 pub cut_word : (p : ℕ → Bool) (a b : List ℕ) (m n : ℕ) (x y : List ℕ) → list_all p a ≡ true → list_all p b ≡ true → p m ≡ false → p n ≡ false
     → a ++ m ∷ x ≡ b ++ n ∷ y → (a ≡ b) × (m ∷ x ≡ n ∷ y)
 cut_word p [] [] m n x y h k s t e = (refl, e)
 cut_word p [] (c ∷ b) m n x y h k s t e =
-    let bad : false ≡ true = sym s ∙ ap p (cells m c x (b ++ n ∷ y) e).0 ∙ (and_parts (p c) (list_all p b) k).0 in absurd cc
+    let bad : false ≡ true = sym s ∙ ap p (cons_parts m c x (b ++ n ∷ y) e).0 ∙ (and_parts (p c) (list_all p b) k).0 in absurd cc
 cut_word p (c ∷ a) [] m n x y h k s t e =
-    let bad : true ≡ false = sym (and_parts (p c) (list_all p a) h).0 ∙ ap p (cells c n (a ++ m ∷ x) y e).0 ∙ t in absurd cc
+    let bad : true ≡ false = sym (and_parts (p c) (list_all p a) h).0 ∙ ap p (cons_parts c n (a ++ m ∷ x) y e).0 ∙ t in absurd cc
 cut_word p (c ∷ a) (d ∷ b) m n x y h k s t e =
-    let same = cells c d (a ++ m ∷ x) (b ++ n ∷ y) e in
+    let same = cons_parts c d (a ++ m ∷ x) (b ++ n ∷ y) e in
     let rest = cut_word p a b m n x y (and_parts (p c) (list_all p a) h).1 (and_parts (p d) (list_all p b) k).1 s t same.1 in
-    (cells_from c d a b same.0 rest.0, rest.1)
+    (cons_from c d a b same.0 rest.0, rest.1)
 
 low_byte : (b : ℕ) → b ≤ 32 → is_key_byte b ≡ false
 low_byte b low = grind (arith, nat_tests)
@@ -56,24 +51,21 @@ cut_front a b xs ys p q h k e =
     let cut = cut_word is_key_byte a b p.first q.first p.others q.others h k (low_byte p.first p.low) (low_byte q.first q.low) (sym (ap (λ (t : List ℕ). a ++ t) p.whole) ∙ e ∙ ap (λ (t : List ℕ). b ++ t) q.whole) in
     (cut.0, p.whole ∙ cut.1 ∙ sym q.whole)
 
-same_words_cells : (a b : List ℕ) (xs ys : List (List ℕ)) → a ≡ b → xs ≡ ys → a ∷ xs ≡ b ∷ ys
-same_words_cells a b xs ys e f = cc
-
 -- two lines of words that begin one text are one, and so is what follows them
 pub same_words : (xs ys : List (List ℕ)) (a b : List ℕ) → list_all is_token xs ≡ true → list_all is_token ys ≡ true → all_spaced xs ++ 10 ∷ a ≡ all_spaced ys ++ 10 ∷ b → (xs ≡ ys) × (a ≡ b)
-same_words [] [] a b h k e = (refl, (cells 10 10 a b e).1)
-same_words [] (y ∷ ys) a b h k e = absurd (grind (arith, (cells 10 32 a (y ++ all_spaced ys ++ 10 ∷ b) e).0))
-same_words (x ∷ xs) [] a b h k e = absurd (grind (arith, (cells 32 10 (x ++ all_spaced xs ++ 10 ∷ a) b e).0))
+same_words [] [] a b h k e = (refl, (cons_parts 10 10 a b e).1)
+same_words [] (y ∷ ys) a b h k e = absurd (grind (arith, (cons_parts 10 32 a (y ++ all_spaced ys ++ 10 ∷ b) e).0))
+same_words (x ∷ xs) [] a b h k e = absurd (grind (arith, (cons_parts 32 10 (x ++ all_spaced xs ++ 10 ∷ a) b e).0))
 same_words (x ∷ xs) (y ∷ ys) a b h k e =
     let behind_x : List ℕ = all_spaced xs ++ 10 ∷ a in
     let behind_y : List ℕ = all_spaced ys ++ 10 ∷ b in
     let g = and_parts (is_token x) (list_all is_token xs) h in
     let f = and_parts (is_token y) (list_all is_token ys) k in
-    let first = (cells 32 32 (x ++ all_spaced xs ++ 10 ∷ a) (y ++ all_spaced ys ++ 10 ∷ b) e).1 in
+    let first = (cons_parts 32 32 (x ++ all_spaced xs ++ 10 ∷ a) (y ++ all_spaced ys ++ 10 ∷ b) e).1 in
     let joined : x ++ behind_x ≡ y ++ behind_y = sym (append_assoc x (all_spaced xs) (10 ∷ a)) ∙ first ∙ append_assoc y (all_spaced ys) (10 ∷ b) in
     let cut = cut_front x y behind_x behind_y (behind xs a) (behind ys b) g.0 f.0 joined in
     let rest = same_words xs ys a b g.1 f.1 cut.1 in
-    (same_words_cells x y xs ys cut.0 rest.0, rest.1)
+    (cons_from x y xs ys cut.0 rest.0, rest.1)
 
 -- ---- which texts are words
 
@@ -125,13 +117,9 @@ words_weaker p q w (x ∷ words) h =
 
 -- two numbers that are printed alike, before the same words, are one
 pub same_number : (a b : ℕ) (xs ys : List (List ℕ)) → IsNumber a → IsNumber b → decimal a ∷ xs ≡ decimal b ∷ ys → (a ≡ b) × (xs ≡ ys)
-same_number a b xs ys h k e = (decimal_injective a b h k (first_word (decimal a) (decimal b) xs ys e), other_words (decimal a) (decimal b) xs ys e)
-  where
-    first_word : (v w : List ℕ) (xs ys : List (List ℕ)) → v ∷ xs ≡ w ∷ ys → v ≡ w
-    first_word v w xs ys e = cc
-
-    other_words : (v w : List ℕ) (xs ys : List (List ℕ)) → v ∷ xs ≡ w ∷ ys → xs ≡ ys
-    other_words v w xs ys e = cc
+same_number a b xs ys h k e =
+    let both = cons_parts (decimal a) (decimal b) xs ys e in
+    (decimal_injective a b h k both.0, both.1)
 
 -- ---- hits
 
@@ -157,7 +145,7 @@ same_hit a b h k e =
     let p = fits_parts a h in
     let q = fits_parts b k in
     let cut = cut_word is_digit (decimal a.rank) (decimal b.rank) 58 58 a.key b.key (digits_are a.rank p.0) (digits_are b.rank q.0) refl refl e in
-    hit_from a.key b.key a.rank b.rank (cells 58 58 a.key b.key cut.1).1 (decimal_injective a.rank b.rank p.0 q.0 cut.0)
+    hit_from a.key b.key a.rank b.rank (cons_parts 58 58 a.key b.key cut.1).1 (decimal_injective a.rank b.rank p.0 q.0 cut.0)
   where
     hit_from : (k l : List ℕ) (m n : ℕ) → k ≡ l → m ≡ n → ◌≡◌ {A = Hit} (record { key = k; rank = m }) (record { key = l; rank = n })
     hit_from k l m n e f = cc
@@ -170,11 +158,5 @@ same_hits (a ∷ hits) [] h k e = absurd cc
 same_hits (a ∷ hits) (b ∷ others) h k e =
     let p = and_parts (hit_fits a) (list_all hit_fits hits) h in
     let q = and_parts (hit_fits b) (list_all hit_fits others) k in
-    let words = word_cells (hit_text a) (hit_text b) (map hit_text hits) (map hit_text others) e in
-    hit_cells (same_hit a b p.0 q.0 words.0) (same_hits hits others p.1 q.1 words.1)
-  where
-    word_cells : (v w : List ℕ) (xs ys : List (List ℕ)) → v ∷ xs ≡ w ∷ ys → (v ≡ w) × (xs ≡ ys)
-    word_cells v w xs ys e = (cc, cc)
-
-    hit_cells : {a b : Hit} {hits others : List Hit} → a ≡ b → hits ≡ others → a ∷ hits ≡ b ∷ others
-    hit_cells e f = cc
+    let words = cons_parts (hit_text a) (hit_text b) (map hit_text hits) (map hit_text others) e in
+    cons_from a b hits others (same_hit a b p.0 q.0 words.0) (same_hits hits others p.1 q.1 words.1)

@@ -1,10 +1,8 @@
 -- What the text of an entry determines of it, and that a report is cut into its lines in one way only.
-use Rattle.std.proofs.Common.{◌≡◌, ℕ, zero, suc, ◌+◌, ◌^◌, ◌<◌, ◌≤◌, Bool, true, false, ◌&&◌, ◌||◌, nat_lt, nat_le, nat_eq, List, [], ◌∷◌, ◌++◌, map, codes, refl, sym, ap, subst, ◌∙◌, arith}
-use Rattle.std.specs.Prelude.{if◌then◌else◌}
+use Rattle.std.proofs.Common.{◌≡◌, ℕ, true, false, List, [], ◌∷◌, ◌++◌, map, codes, refl, sym, ap, ◌∙◌}
 use Rattle.std.specs.List.{list_all, flat_map}
 use Rattle.std.specs.Str.{bytes_eq}
 use Rattle.std.specs.Fmt.{decimal}
-use Rattle.std.proofs.lemmas.Bool.Decides.{nat_tests}
 use Rattle.std.proofs.lemmas.List.{append_assoc, append-nil}
 use Rattle.nrt_base.specs.declared.numbers.NodeNo.{NodeNo}
 use Rattle.nrt_base.specs.declared.numbers.TicketNo.{TicketNo}
@@ -12,7 +10,7 @@ use Rattle.nrt_base.specs.declared.numbers.Version.{Version}
 use Rattle.nrt_base.specs.declared.numbers.Gen.{Gen}
 use Rattle.nrt_base.specs.declared.numbers.SegNo.{SegNo}
 use Rattle.nrt_base.specs.declared.numbers.LineNo.{LineNo}
-use Rattle.nrt_base.specs.Bytes.{is_key}
+use Rattle.nrt_base.proofs.Plain.{cons_first, cons_rest}
 use Rattle.file_names.specs.Names.{is_file_name}
 use Rattle.file_names.specs.Base36.{base36_of}
 use Rattle.std.proofs.lemmas.Bool.{and_from}
@@ -30,7 +28,7 @@ use Rattle.history_entries.specs.declared.entry.Event.{Event}
 use Rattle.history_entries.specs.declared.entry.Event.TheVariants.{Accepted, Publishing, Published, Copying, Switched, Copied, Settling, Settled, Opened, Asking, Answered, Closed, Committing, Committed, Crashed, Reopened, Promoted, Merging, Drained, Files, Planned, Fault, Refused}
 use Rattle.history_entries.specs.declared.entry.Entry.{Entry}
 use Rattle.history_entries.specs.declared.entry.History.{History}
-use Rattle.report_text.specs.Texts.{all_spaced, with_numbers, hit_text, kind_text, plan_words, cause_words, event_words, text_of_entry, text_of}
+use Rattle.report_text.specs.Texts.{all_spaced, hit_text, kind_text, plan_words, cause_words, event_words, text_of_entry, text_of}
 use Rattle.report_text.specs.Printed.{IsNumber, hit_fits, CauseFits, PlanFits, EventFits, EntryFits, AllFit, SamePrintedEvent, SamePrinted, AllSamePrinted}
 use Rattle.report_text.proofs.TextCuts.{is_token, same_words, decimal_is_token, base36_is_token, name_is_token, words_weaker, same_number, hits_are_tokens, same_hits}
 
@@ -123,25 +121,19 @@ apart xs ys other same =
     let first = (bytes_eq-Decides (first_of xs) (first_of ys)).1 (ap first_of same) in
     let bad : true ≡ false = sym first ∙ other in cc
 
-rest_of : (v w : List ℕ) (xs ys : List (List ℕ)) → v ∷ xs ≡ w ∷ ys → xs ≡ ys
-rest_of v w xs ys e = cc
-
-head_of : (v w : List ℕ) (xs ys : List (List ℕ)) → v ∷ xs ≡ w ∷ ys → v ≡ w
-head_of v w xs ys e = cc
-
 same_one : (word : List ℕ) (a b : ℕ) → IsNumber a → IsNumber b → word ∷ decimal a ∷ [] ≡ word ∷ decimal b ∷ [] → a ≡ b
-same_one word a b h k e = (same_number a b [] [] h k (rest_of word word (decimal a ∷ []) (decimal b ∷ []) e)).0
+same_one word a b h k e = (same_number a b [] [] h k (cons_rest word word (decimal a ∷ []) (decimal b ∷ []) e)).0
 
 same_two : (word : List ℕ) (a b c d : ℕ) → IsNumber a × IsNumber b → IsNumber c × IsNumber d → word ∷ decimal a ∷ decimal b ∷ [] ≡ word ∷ decimal c ∷ decimal d ∷ [] → (a ≡ c) × (b ≡ d)
 same_two word a b c d h k e =
-    let first = same_number a c (decimal b ∷ []) (decimal d ∷ []) h.0 k.0 (rest_of word word (decimal a ∷ decimal b ∷ []) (decimal c ∷ decimal d ∷ []) e) in
+    let first = same_number a c (decimal b ∷ []) (decimal d ∷ []) h.0 k.0 (cons_rest word word (decimal a ∷ decimal b ∷ []) (decimal c ∷ decimal d ∷ []) e) in
     let second = same_number b d [] [] h.1 k.1 first.1 in
     (first.0, second.0)
 
 same_three : (word : List ℕ) (a b c x y z : ℕ) → IsNumber a × IsNumber b × IsNumber c → IsNumber x × IsNumber y × IsNumber z
     → word ∷ decimal a ∷ decimal b ∷ decimal c ∷ [] ≡ word ∷ decimal x ∷ decimal y ∷ decimal z ∷ [] → (a ≡ x) × (b ≡ y) × (c ≡ z)
 same_three word a b c x y z h k e =
-    let first = same_number a x (decimal b ∷ decimal c ∷ []) (decimal y ∷ decimal z ∷ []) h.0 k.0 (rest_of word word (decimal a ∷ decimal b ∷ decimal c ∷ []) (decimal x ∷ decimal y ∷ decimal z ∷ []) e) in
+    let first = same_number a x (decimal b ∷ decimal c ∷ []) (decimal y ∷ decimal z ∷ []) h.0 k.0 (cons_rest word word (decimal a ∷ decimal b ∷ decimal c ∷ []) (decimal x ∷ decimal y ∷ decimal z ∷ []) e) in
     let second = same_number b y (decimal c ∷ []) (decimal z ∷ []) h.1 k.1 first.1 in
     let third = same_number c z [] [] h.2 k.2 second.1 in
     (first.0, second.0, third.0)
@@ -192,7 +184,7 @@ same_cause NoTicket NoTicket p q e = refl
 same_cause Lost Lost p q e = refl
 same_cause (Cancelled v) (Cancelled w) p q e = ap (λ (k : ℕ). Cancelled (version k)) (same_one (codes "cancelled") v.0 w.0 p q e)
 same_cause LinkFault LinkFault p q e = refl
-same_cause (Damaged a) (Damaged b) p q e = ap Damaged (head_of a b [] [] (rest_of (codes "damaged") (codes "damaged") (a ∷ []) (b ∷ []) e))
+same_cause (Damaged a) (Damaged b) p q e = ap Damaged (cons_first a b [] [] (cons_rest (codes "damaged") (codes "damaged") (a ∷ []) (b ∷ []) e))
 same_cause DiskFault DiskFault p q e = refl
 same_cause Nothing Nothing p q e = refl
 same_cause Up Up p q e = refl
@@ -222,7 +214,7 @@ same_promotion : (n m : NodeNo) (g h : Gen) (x y v w : Version) → IsNumber n.0
     → codes "promoted" ∷ decimal n.0 ∷ decimal g.0 ∷ decimal x.0 ∷ decimal v.0 ∷ [] ≡ codes "promoted" ∷ decimal m.0 ∷ decimal h.0 ∷ decimal y.0 ∷ decimal w.0 ∷ []
     → Promoted n g x v ≡ Promoted m h y w
 same_promotion n m g h x y v w p q e =
-    let s = same_number n.0 m.0 (decimal g.0 ∷ decimal x.0 ∷ decimal v.0 ∷ []) (decimal h.0 ∷ decimal y.0 ∷ decimal w.0 ∷ []) p.0 q.0 (rest_of (codes "promoted") (codes "promoted") (decimal n.0 ∷ decimal g.0 ∷ decimal x.0 ∷ decimal v.0 ∷ []) (decimal m.0 ∷ decimal h.0 ∷ decimal y.0 ∷ decimal w.0 ∷ []) e) in
+    let s = same_number n.0 m.0 (decimal g.0 ∷ decimal x.0 ∷ decimal v.0 ∷ []) (decimal h.0 ∷ decimal y.0 ∷ decimal w.0 ∷ []) p.0 q.0 (cons_rest (codes "promoted") (codes "promoted") (decimal n.0 ∷ decimal g.0 ∷ decimal x.0 ∷ decimal v.0 ∷ []) (decimal m.0 ∷ decimal h.0 ∷ decimal y.0 ∷ decimal w.0 ∷ []) e) in
     let a = same_number g.0 h.0 (decimal x.0 ∷ decimal v.0 ∷ []) (decimal y.0 ∷ decimal w.0 ∷ []) p.1 q.1 s.1 in
     let b = same_number x.0 y.0 (decimal v.0 ∷ []) (decimal w.0 ∷ []) p.2 q.2 a.1 in
     let c = same_number v.0 w.0 [] [] p.3 q.3 b.1 in
@@ -230,21 +222,18 @@ same_promotion n m g h x y v w p q e =
 
 same_files : (n m : NodeNo) (a b : List (List ℕ)) → IsNumber n.0 → IsNumber m.0 → codes "files" ∷ decimal n.0 ∷ a ≡ codes "files" ∷ decimal m.0 ∷ b → Files n a ≡ Files m b
 same_files n m a b h k e =
-    let s = same_number n.0 m.0 a b h k (rest_of (codes "files") (codes "files") (decimal n.0 ∷ a) (decimal m.0 ∷ b) e) in
+    let s = same_number n.0 m.0 a b h k (cons_rest (codes "files") (codes "files") (decimal n.0 ∷ a) (decimal m.0 ∷ b) e) in
     ap (λ (j : ℕ). Files (node j) a) s.0 ∙ ap (Files m) s.1
 
 same_fault : (n m : NodeNo) (a b : FaultKind) → IsNumber n.0 → IsNumber m.0 → codes "fault" ∷ decimal n.0 ∷ kind_text a ∷ [] ≡ codes "fault" ∷ decimal m.0 ∷ kind_text b ∷ [] → Fault n a ≡ Fault m b
 same_fault n m a b h k e =
-    let s = same_number n.0 m.0 (kind_text a ∷ []) (kind_text b ∷ []) h k (rest_of (codes "fault") (codes "fault") (decimal n.0 ∷ kind_text a ∷ []) (decimal m.0 ∷ kind_text b ∷ []) e) in
-    ap (λ (j : ℕ). Fault (node j) a) s.0 ∙ ap (Fault m) (same_kind_from a b (head_of (kind_text a) (kind_text b) [] [] s.1))
+    let s = same_number n.0 m.0 (kind_text a ∷ []) (kind_text b ∷ []) h k (cons_rest (codes "fault") (codes "fault") (decimal n.0 ∷ kind_text a ∷ []) (decimal m.0 ∷ kind_text b ∷ []) e) in
+    ap (λ (j : ℕ). Fault (node j) a) s.0 ∙ ap (Fault m) (same_kind_from a b (cons_first (kind_text a) (kind_text b) [] [] s.1))
 
 same_merging : (s t : SegNo) → IsNumber s.0 → IsNumber t.0 → codes "merging" ∷ (95 ∷ base36_of s.0) ∷ [] ≡ codes "merging" ∷ (95 ∷ base36_of t.0) ∷ [] → Merging s ≡ Merging t
 same_merging s t h k e =
-    let name : 95 ∷ base36_of s.0 ≡ 95 ∷ base36_of t.0 = head_of (95 ∷ base36_of s.0) (95 ∷ base36_of t.0) [] [] (rest_of (codes "merging") (codes "merging") ((95 ∷ base36_of s.0) ∷ []) ((95 ∷ base36_of t.0) ∷ []) e) in
-    ap (λ (j : ℕ). Merging (segment j)) (base36_apart s.0 t.0 h k (cells_rest (base36_of s.0) (base36_of t.0) name))
-  where
-    cells_rest : (xs ys : List ℕ) → 95 ∷ xs ≡ 95 ∷ ys → xs ≡ ys
-    cells_rest xs ys e = cc
+    let name : 95 ∷ base36_of s.0 ≡ 95 ∷ base36_of t.0 = cons_first (95 ∷ base36_of s.0) (95 ∷ base36_of t.0) [] [] (cons_rest (codes "merging") (codes "merging") ((95 ∷ base36_of s.0) ∷ []) ((95 ∷ base36_of t.0) ∷ []) e) in
+    ap (λ (j : ℕ). Merging (segment j)) (base36_apart s.0 t.0 h k (cons_rest 95 95 (base36_of s.0) (base36_of t.0) name))
 
 same_event : (e f : Event) → EventFits e → EventFits f → event_words e ≡ event_words f → SamePrintedEvent e f
 same_event (Accepted seq op) (Accepted other_seq other_op) p q h = same_one (codes "accepted") seq other_seq p q h
@@ -261,7 +250,7 @@ same_event (Opened n t v) (Opened m u w) p q h = node_ticket_version Opened n m 
 same_event (Asking n t v) (Asking m u w) p q h = node_ticket_version Asking n m t u v w (same_three (codes "asking") n.0 t.0 v.0 m.0 u.0 w.0 p q h)
 same_event (Answered n t v query answer) (Answered m u w other_query other_answer) p q h =
     same_answer n m t u v w answer other_answer p q
-    (rest_of (codes "answer") (codes "answer") (decimal n.0 ∷ decimal t.0 ∷ decimal v.0 ∷ decimal answer.total ∷ map hit_text answer.hits) (decimal m.0 ∷ decimal u.0 ∷ decimal w.0 ∷ decimal other_answer.total ∷ map hit_text other_answer.hits) h)
+    (cons_rest (codes "answer") (codes "answer") (decimal n.0 ∷ decimal t.0 ∷ decimal v.0 ∷ decimal answer.total ∷ map hit_text answer.hits) (decimal m.0 ∷ decimal u.0 ∷ decimal w.0 ∷ decimal other_answer.total ∷ map hit_text other_answer.hits) h)
 same_event (Closed n t) (Closed m u) p q h =
     let s = same_two (codes "closed") n.0 t.0 m.0 u.0 p q h in
     ap (λ (j : ℕ). Closed (node j) t) s.0 ∙ ap (λ (j : ℕ). Closed m (ticket j)) s.1
@@ -274,10 +263,10 @@ same_event (Merging s) (Merging t) p q h = same_merging s t p q h
 same_event (Drained done most) (Drained other_done other_most) p q h = same_one (codes "drained") done other_done p q h
 same_event (Files n a) (Files m b) p q h = same_files n m a b p.0 q.0 h
 same_event (Planned n a) (Planned m b) p q h =
-    let s = same_plan n.0 m.0 a b p.0 q.0 p.1 q.1 (rest_of (codes "planned") (codes "planned") (plan_words n.0 a) (plan_words m.0 b) h) in
+    let s = same_plan n.0 m.0 a b p.0 q.0 p.1 q.1 (cons_rest (codes "planned") (codes "planned") (plan_words n.0 a) (plan_words m.0 b) h) in
     ap (λ (j : ℕ). Planned (node j) a) s.0 ∙ ap (Planned m) s.1
 same_event (Fault n a) (Fault m b) p q h = same_fault n m a b p q h
-same_event (Refused a) (Refused b) p q h = ap Refused (same_cause a b p q (rest_of (codes "refused") (codes "refused") (cause_words a) (cause_words b) h))
+same_event (Refused a) (Refused b) p q h = ap Refused (same_cause a b p q (cons_rest (codes "refused") (codes "refused") (cause_words a) (cause_words b) h))
 same_event e f p q h = absurd (apart (event_words e) (event_words f) refl h)
 
 -- ---- lines and reports

@@ -6,7 +6,7 @@ use Rattle.std.proofs.Math.Bool.{or-true}
 use Rattle.std.proofs.lemmas.Bool.{cases_order, lt-ltb, and_from}
 use Rattle.text_query.specs.declared.fault.QueryFault.{QueryFault}
 use Rattle.text_query.specs.declared.fault.QueryFault.TheVariants.{Memory, Empty, Syntax, TooDeep, TooMany}
-use Rattle.text_query.specs.Answers.{IsFault, IsAnswer}
+use Rattle.text_query.specs.Answers.{IsFault, IsQueryAnswer}
 use Rattle.text_query.proofs.FaultLemmas.{fault_answered}
 use Rattle.script_text.specs.declared.fault.LineFault.{LineFault}
 use Rattle.script_text.specs.declared.fault.LineFault.TheVariants.{NoNodes, Word, Count, Range, Query as RefusedQuery, Text, NotBuilt}
@@ -139,7 +139,7 @@ pub never_both : NeverBoth
 never_both bytes script n cause spells refused =
     statements_right (length (lines_of_text bytes)) (statements_of bytes) script n cause spells.few spells.statements refused.refused
 
-answer_of : (text : List ℕ) (fault : QueryFault) → IsFault text fault → IsAnswer text (Err fault)
+answer_of : (text : List ℕ) (fault : QueryFault) → IsFault text fault → IsQueryAnswer text (Err fault)
 answer_of text Memory faulty = absurd faulty
 answer_of text Empty faulty = faulty
 answer_of text (Syntax at) faulty = faulty

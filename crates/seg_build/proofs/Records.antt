@@ -13,7 +13,7 @@ use Rattle.live_bits.specs.LiveRows.{live_rows, IsLiveFile}
 use Rattle.segment_infos.specs.declared.infos.SegRecord.{SegRecord}
 use Rattle.segment_infos.specs.SegmentInfo.{IsInfoFile}
 use Rattle.seg_reader.specs.declared.parts.SegParts.{SegParts}
-use Rattle.seg_reader.specs.Files.{id_of, info_of, AreLiveRowsOf}
+use Rattle.seg_reader.specs.Files.{record_id, info_of, AreLiveRowsOf}
 use Rattle.seg_reader.specs.Sound.{term_row}
 use Rattle.seg_build.specs.Built.{record_of, IsRecordOf, IsReadAs}
 use Rattle.seg_build.proofs.EntryRows.{row_count_of}
@@ -39,7 +39,7 @@ is_record_of seg rows = record { rows = refl; live_count = refl; all_live = λ e
 -- ---- the parts
 
 pub read_as : (r : SegRecord) (parts : SegParts) (docs : List Doc) (rows : List Bool) (es : List Entry) → 0 < length docs → length rows ≡ length docs → IsRecordOf rows r
-    → IsDocumentsFile (id_of r) docs parts.docs → AreEntriesOf (map term_row docs) es → IsPostingsFile (id_of r) es parts.post → IsInfoFile (id_of r) (info_of r) parts.info
+    → IsDocumentsFile (record_id r) docs parts.docs → AreEntriesOf (map term_row docs) es → IsPostingsFile (record_id r) es parts.post → IsInfoFile (record_id r) (info_of r) parts.info
     → IsSome parts.live ↔ (0 < r.live_gen) → AreLiveRowsOf parts.live r rows → IsReadAs r parts docs rows
 read_as r parts docs rows es some same is d are p i given l =
     let count : length docs ≡ r.rows = omega (arith, is.rows) in
@@ -54,5 +54,5 @@ read_as r parts docs rows es some same is d are p i given l =
     }
 
 -- the live rows of a segment whose record has a live generation: they are those of its live file
-pub live_file_there : (r : SegRecord) (rows : List Bool) (id bytes : List ℕ) → id ≡ id_of r → IsRecordOf rows r → IsLiveFile id r.live_gen rows bytes → AreLiveRowsOf (Some bytes) r rows
+pub live_file_there : (r : SegRecord) (rows : List Bool) (id bytes : List ℕ) → id ≡ record_id r → IsRecordOf rows r → IsLiveFile id r.live_gen rows bytes → AreLiveRowsOf (Some bytes) r rows
 live_file_there r rows id bytes e is file = (subst (λ (x : List ℕ). IsLiveFile x r.live_gen rows bytes) e file, sym is.rows, sym is.live_count)

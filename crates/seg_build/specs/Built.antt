@@ -1,10 +1,10 @@
 -- What a segment is that was built: its record, its files, and what they show.
-use Rattle.std.specs.Prelude.{◌≡◌, ℕ, ◌<◌, ◌^◌, ◌==◌, ◌↔◌, List, [], ◌∷◌, length, replicate, Bool, true, Option, Some, None, IsSome, if◌then◌else◌}
+use Rattle.std.specs.Prelude.{◌≡◌, ℕ, ◌<◌, ◌==◌, ◌↔◌, List, [], ◌∷◌, length, replicate, Bool, true, Option, Some, None, IsSome, if◌then◌else◌}
 use Rattle.file_names.specs.Names.{part_name_of, live_name_of}
 use Rattle.nrt_base.specs.declared.doc.Doc.{Doc}
 use Rattle.file_names.specs.declared.composed.SegPart.TheVariants.{Docs, Post, Info}
 use Rattle.nrt_base.specs.declared.numbers.SegNo.{SegNo}
-use Rattle.codec_frame.specs.Frame.{IsFramed}
+use Rattle.body_forms.specs.File.{HasSmallBody}
 use Rattle.docs_plain.specs.Documents.{documents_wanted}
 use Rattle.postings_plain.specs.Postings.{Entry}
 use Rattle.postings_plain.specs.Body.{postings_wanted}
@@ -12,7 +12,7 @@ use Rattle.live_bits.specs.LiveRows.{live_rows}
 use Rattle.segment_infos.specs.declared.infos.SegRecord.{SegRecord}
 use Rattle.seg_reader.specs.declared.parts.SegParts.{SegParts}
 use Rattle.seg_reader.specs.Shown.{Shown}
-use Rattle.seg_reader.specs.Files.{id_of, IsSegmentOf}
+use Rattle.seg_reader.specs.Files.{record_id, IsSegmentOf}
 use Rattle.seg_reader.specs.Sound.{IsSound}
 
 -- the live generation of a new segment: none where all rows are live, and else the first
@@ -58,8 +58,8 @@ pub record IsReadAs (r : SegRecord) (parts : SegParts) (docs : List Doc) (live :
 
 -- the bodies of documents and of postings have fewer than 2^32 bytes
 pub record HaveSmallBodies (r : SegRecord) (parts : SegParts) : Type 0 where
-  pub docs : (body : List ℕ) → IsFramed (documents_wanted (id_of r)) 1 (id_of r) body parts.docs → length body < 2 ^ 32
-  pub post : (body : List ℕ) → IsFramed (postings_wanted (id_of r)) 1 (id_of r) body parts.post → length body < 2 ^ 32
+  pub docs : HasSmallBody (documents_wanted (record_id r)) (record_id r) parts.docs
+  pub post : HasSmallBody (postings_wanted (record_id r)) (record_id r) parts.post
 
 -- The files are those of a new segment with these documents and these live rows: its parts under their names, which read so.
 pub record IsBuilt (r : SegRecord) (files : List File) (docs : List Doc) (live : List Bool) : Type 0 where
@@ -67,3 +67,7 @@ pub record IsBuilt (r : SegRecord) (files : List File) (docs : List Doc) (live :
   pub named : files ≡ files_of r parts
   pub reads : IsReadAs r parts docs live
   pub small : HaveSmallBodies r parts
+
+-- the files are those of the new segment of this number, with these live rows and these documents
+abbrev pub IsNewSegment : SegNo → (live : List Bool) → (files : List File) → (docs : List Doc) → Type 0
+IsNewSegment seg live files docs = IsBuilt (record_of seg live) files docs live

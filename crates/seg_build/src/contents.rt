@@ -1,12 +1,13 @@
-ghost use Rattle.std.specs.Prelude.{◌≡◌, ◌↔◌, ◌<◌, ◌^◌, ℕ, List, length, map, IfOk, IsSome};
+//! The contents of the files of a new segment.
+
+ghost use Rattle.std.specs.Prelude.{◌≡◌, ◌↔◌, ◌<◌, length, map, IfOk, IsSome};
 ghost use Rattle.std.specs.List.{All};
-ghost use Rattle.codec_frame.specs.Frame.{IsFramed};
+ghost use Rattle.body_forms.specs.File.{HasSmallBody};
 ghost use Rattle.docs_plain.specs.Documents.{documents_wanted, IsDocumentsFile};
-ghost use Rattle.postings_plain.specs.Postings.{Entry};
-ghost use Rattle.postings_plain.specs.Body.{postings_wanted, IsPostingsFile};
-ghost use Rattle.postings_plain.specs.Inverting.{AreEntriesOf};
+ghost use Rattle.postings_plain.specs.Body.{postings_wanted};
+ghost use Rattle.postings_plain.specs.Inverting.{IsPostingsFileOf};
 ghost use Rattle.segment_infos.specs.SegmentInfo.{IsInfoFile};
-ghost use Rattle.seg_reader.specs.Files.{id_of, info_of, AreLiveRowsOf};
+ghost use Rattle.seg_reader.specs.Files.{record_id, info_of, AreLiveRowsOf};
 ghost use Rattle.seg_reader.specs.Sound.{term_row};
 ghost use Rattle.seg_build.specs.Rows.{IsPrepared, docs_of};
 ghost use Rattle.seg_build.specs.Built.{IsRecordOf, IsReadAs, HaveSmallBodies};
@@ -26,7 +27,7 @@ const FORMAT: u8 = 1;
 fn docs_file(alloc: Global, id: &[u8; 16], rows: &[Prepared]) -> Result<Bytes, NoMemory>
     requires { 0 < length rows.now }
     ensures file { IfOk result (IsDocumentsFile id.now (docs_of rows.now)) }
-    ensures small { IfOk result (λ bytes. (body : List ℕ) → IsFramed (documents_wanted id.now) 1 id.now body bytes → length body < 2 ^ 32) }
+    ensures small { IfOk result (HasSmallBody (documents_wanted id.now) id.now) }
 {
     let docs = documents(alloc, rows)?;
     docs_plain::encode(alloc, id, docs.as_slice())
@@ -36,8 +37,8 @@ fn docs_file(alloc: Global, id: &[u8; 16], rows: &[Prepared]) -> Result<Bytes, N
 fn post_file(alloc: Global, id: &[u8; 16], rows: &[Prepared]) -> Result<Bytes, NoMemory>
     requires some { 0 < length rows.now }
     requires words { All IsPrepared rows.now }
-    ensures file { IfOk result (λ bytes. (es : List Entry) × AreEntriesOf (map term_row (docs_of rows.now)) es × IsPostingsFile id.now es bytes) }
-    ensures small { IfOk result (λ bytes. (body : List ℕ) → IsFramed (postings_wanted id.now) 1 id.now body bytes → length body < 2 ^ 32) }
+    ensures file { IfOk result (IsPostingsFileOf id.now (map term_row (docs_of rows.now))) }
+    ensures small { IfOk result (HasSmallBody (postings_wanted id.now) id.now) }
 {
     let terms = term_rows(alloc, rows)?;
     postings_plain::encode(alloc, id, terms.as_slice())
@@ -63,7 +64,7 @@ fn live_file(
     segment: &SegRecord,
     live: &LiveBits,
 ) -> Result<Option<Bytes>, NoMemory>
-    requires id { id.now ≡ id_of segment.now }
+    requires id { id.now ≡ record_id segment.now }
     requires live { IsRecordOf live.now segment.now }
     ensures given { IfOk result (λ file. IsSome file ↔ (0 < segment.now.live_gen)) }
     ensures rows { IfOk result (λ file. AreLiveRowsOf file segment.now live.now) }

@@ -1,3 +1,5 @@
+//! The files of a new segment, under their names.
+
 ghost use Rattle.std.specs.Prelude.{◌≡◌, IfOk};
 ghost use Rattle.seg_build.specs.Built.{record_of, files_of};
 

@@ -1,9 +1,12 @@
+//! The segment that is read from the files that were built.
+
 ghost use Rattle.std.specs.Prelude.{◌≡◌, List, IfOk};
 ghost use Rattle.nrt_base.specs.declared.doc.Doc.{Doc};
 ghost use Rattle.segment_infos.specs.declared.infos.SegRecord.{SegRecord};
 ghost use Rattle.seg_reader.specs.declared.parts.SegParts.{SegParts};
+ghost use Rattle.seg_reader.specs.Files.{IsSegmentOf};
 ghost use Rattle.seg_reader.specs.Sound.{IsSound};
-ghost use Rattle.seg_build.specs.Built.{record_of, files_of, IsBuilt};
+ghost use Rattle.seg_build.specs.Built.{record_of, files_of, IsNewSegment};
 
 use crate::files::{SegFiles, first_record};
 use bytes::Bytes;
@@ -15,7 +18,8 @@ use std::alloc::{AllocError, Global};
 // The parts of a segment, from its files.
 fn parts_in(alloc: Global, files: &[(FileName, Bytes)]) -> Result<SegParts, NoMemory>
     requires { (r : SegRecord) × (parts : SegParts) × (files.now ≡ files_of r parts) }
-    ensures { (r : SegRecord) (parts : SegParts) → files.now ≡ files_of r parts → IfOk result (λ read. read ≡ parts) }
+    ensures { (r : SegRecord) (parts : SegParts) → files.now ≡ files_of r parts
+        → IfOk result (λ read. read ≡ parts) }
 {
     let [docs, post, info, rest @ ..] = files else {
         unreachable!()
@@ -38,11 +42,16 @@ fn parts_in(alloc: Global, files: &[(FileName, Bytes)]) -> Result<SegParts, NoMe
 /// Reads the segment from the files that were built: it shows what they were built from. The files are shared, and the bits
 /// of the live rows are copied.
 pub fn read_back(alloc: Global, built: &SegFiles) -> Result<Segment, NoMemory>
-    requires { (docs : List Doc) × IsBuilt (record_of built.now.seg built.now.live) built.now.files docs built.now.live }
-    ensures docs { (docs : List Doc) → IsBuilt (record_of built.now.seg built.now.live) built.now.files docs built.now.live
+    requires { (docs : List Doc) × IsNewSegment built.now.seg built.now.live built.now.files docs }
+    ensures docs { (docs : List Doc) → IsNewSegment built.now.seg built.now.live built.now.files docs
         → IfOk result (λ segment. segment.docs ≡ docs) }
     ensures live { IfOk result (λ segment. segment.live ≡ built.now.live) }
     ensures sound { IfOk result IsSound }
+
+    // It is what the files that were built show under the segment's record.
+    ensures segment { (docs : List Doc)
+        (is : IsNewSegment built.now.seg built.now.live built.now.files docs)
+        → IfOk result (IsSegmentOf is.parts (record_of built.now.seg built.now.live)) }
 {
     let record = first_record(built.seg, &built.live);
     let parts = parts_in(alloc, built.files.as_slice())?;

@@ -1,3 +1,5 @@
+//! The rows that a segment is built from.
+
 ghost use Rattle.std.specs.Prelude.{◌≡◌, map, IfOk};
 ghost use Rattle.std.specs.List.{All};
 ghost use Rattle.seg_reader.specs.Sound.{term_row};
@@ -58,7 +60,7 @@ pub fn term_rows(alloc: Global, rows: &[Prepared]) -> Result<Vec<TermRow>, NoMem
     Ok(terms)
 }
 
-/// The live rows: all but those that are marked dead. 2^32 rows or more are want of memory.
+/// The live rows: all but those that are marked dead. 2^32 rows or more are out of memory.
 pub fn live_except(alloc: Global, dead: &[bool]) -> Result<LiveBits, NoMemory>
     ensures { IfOk result (λ live. live ≡ live_of dead.now) }
 {

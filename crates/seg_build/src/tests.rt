@@ -132,12 +132,12 @@ fn live_file_of_a_dead_row(rt: HostRuntime) -> Result<(), Fail> {
 }
 
 #[test]
-fn three_hundred_rows_as_a_scan(rt: HostRuntime) -> Result<(), Fail> {
-    let rows = rows_to(rt.alloc(), 300)?;
-    let dead = thirds(rt.alloc(), 300)?;
+fn thirty_rows_as_a_scan(rt: HostRuntime) -> Result<(), Fail> {
+    let rows = rows_to(rt.alloc(), 30)?;
+    let dead = thirds(rt.alloc(), 30)?;
     let built = build(rt.alloc(), FIRST, &rows, &dead)?;
     let segment = read_back(rt.alloc(), &built)?;
-    assert_eq!(rt; segment.rows(), 300);
+    assert_eq!(rt; segment.rows(), 30);
     for word in [b"x".as_slice(), b"y", b"z", b"y7"] {
         assert!(rt; is_word_scanned(&segment, &rows, word), "{word:?}");
     }

@@ -3,6 +3,7 @@ use Rattle.std.proofs.Common.{◌≡◌, ℕ, Bool, true, List, length, Option, 
 use Rattle.std.proofs.lemmas.List.{length-replicate}
 use Rattle.std.specs.Prelude.{◌⊎◌, replicate}
 use Rattle.std.specs.List.{find}
+use Rattle.nrt_base.proofs.Plain.{ok_never_err, same_ok, same_err}
 use Rattle.nrt_base.specs.declared.doc.Doc.{Doc}
 use Rattle.codec_frame.specs.declared.frame.FileFault.{FileFault}
 use Rattle.postings_plain.specs.Postings.{Entry}
@@ -16,14 +17,10 @@ use Rattle.seg_reader.specs.declared.parts.SegFault.{SegFault}
 use Rattle.seg_reader.specs.declared.parts.SegFault.TheVariants.{Memory, File, Disagrees}
 use Rattle.seg_reader.specs.declared.reading.Contents.{Contents}
 use Rattle.seg_reader.specs.Shown.{Shown}
-use Rattle.seg_reader.specs.Files.{id_of, info_of, AreLiveRowsOf, IsSegmentOf}
-use Rattle.seg_reader.specs.Faults.{SaysLive, HaveContents, Number, number, differs, numbers_of, IsFirstDifference, IsFault}
-use Rattle.seg_reader.specs.Reading.{IsOr, IsRead, IsLiveOrAll, compared, IsAnswer}
-use Rattle.seg_reader.proofs.Files.{same_ok, same_err}
+use Rattle.seg_reader.specs.Files.{record_id, info_of, AreLiveRowsOf, IsSegmentOf}
+use Rattle.seg_reader.specs.Faults.{SaysLive, HaveContents, Number, number, differs, numbers_of, IsFirstDifference, IsSegmentFault}
+use Rattle.seg_reader.specs.Reading.{IsOr, IsRead, IsLiveOrAll, compared, IsSegmentAnswer}
 use Rattle.seg_reader.proofs.Numbers.{LiveAgrees, Agree, agree, agreeing}
-
-clash : {X E : Type 0} (x : X) (e : E) → ◌≡◌ {A = Result X E} (Ok x) (Err e) → ⊥
-clash x e same = cc
 
 -- ---- contents that agree are those of a segment
 
@@ -35,9 +32,9 @@ same_info : (seg seg2 rows rows2 format format2 : ℕ) → seg ≡ seg2 → rows
     → ◌≡◌ {A = SegInfo} (record { seg = record { 0 = seg }; rows = rows; format = format }) (record { seg = record { 0 = seg2 }; rows = rows2; format = format2 })
 same_info seg seg2 rows rows2 format format2 a b c = cc
 
-info_is : (r : SegRecord) (bytes : List ℕ) (info : SegInfo) → IsInfoFile (id_of r) info bytes → r.seg.0 ≡ info.seg.0 → r.rows ≡ info.rows → IsInfoFile (id_of r) (info_of r) bytes
+info_is : (r : SegRecord) (bytes : List ℕ) (info : SegInfo) → IsInfoFile (record_id r) info bytes → r.seg.0 ≡ info.seg.0 → r.rows ≡ info.rows → IsInfoFile (record_id r) (info_of r) bytes
 info_is r bytes info is seg rows =
-    subst (λ (x : SegInfo). IsInfoFile (id_of r) x bytes) (same_info info.seg.0 r.seg.0 info.rows r.rows info.format 1 (sym seg) (sym rows) is.spelled.can.format) is
+    subst (λ (x : SegInfo). IsInfoFile (record_id r) x bytes) (same_info info.seg.0 r.seg.0 info.rows r.rows info.format 1 (sym seg) (sym rows) is.spelled.can.format) is
 
 live_is : (bytes : Option (List ℕ)) (r : SegRecord) (given : Option (List Bool)) (live : List Bool) → SaysLive bytes r given → LiveAgrees r given → IsLiveOrAll r.rows given live → AreLiveRowsOf bytes r live
 live_is None r None live says agrees is = is
@@ -95,39 +92,39 @@ one_shown r contents others live other e a b =
 -- ---- each answer
 
 got : {X : Type 0} (x y : X) → ◌⊎◌ (◌≡◌ {A = Result X SegFault} (Ok x) (Err Memory)) (◌≡◌ {A = Result X SegFault} (Ok x) (Ok y)) → x ≡ y
-got x y (inl e) = absurd (clash _ _ e)
+got x y (inl e) = absurd (ok_never_err _ _ e)
 got x y (inr e) = same_ok _ _ e
 
 never_both : {X : Type 0} (x : X) (fault : SegFault) → ◌⊎◌ (◌≡◌ {A = Result X SegFault} (Ok x) (Err Memory)) (◌≡◌ {A = Result X SegFault} (Ok x) (Err fault)) → ⊥
-never_both x fault (inl e) = clash _ _ e
-never_both x fault (inr e) = clash _ _ e
+never_both x fault (inl e) = ok_never_err _ _ e
+never_both x fault (inr e) = ok_never_err _ _ e
 
 module _ (parts : SegParts) (r : SegRecord) where
-  pub no_memory : IsAnswer parts r (Err Memory)
+  pub no_memory : IsSegmentAnswer parts r (Err Memory)
   no_memory = record {
-    segment = λ shown e. absurd (clash _ _ (sym e));
+    segment = λ shown e. absurd (ok_never_err _ _ (sym e));
     fault = λ fault e. inl (sym (same_err _ _ e));
     each_segment = λ shown is. inl refl;
     each_fault = λ fault is. inl refl;
   }
 
   -- reading answered a fault, and so does the whole
-  pub refused : (fault : SegFault) → IsRead parts r (Err fault) → IsAnswer parts r (Err fault)
+  pub refused : (fault : SegFault) → IsRead parts r (Err fault) → IsSegmentAnswer parts r (Err fault)
   refused fault k = record {
-    segment = λ shown e. absurd (clash _ _ (sym e));
-    fault = λ other e. subst (λ (x : SegFault). (x ≡ Memory) ⊎ IsFault parts r x) (same_err _ _ e) (own fault k);
+    segment = λ shown e. absurd (ok_never_err _ _ (sym e));
+    fault = λ other e. subst (λ (x : SegFault). (x ≡ Memory) ⊎ IsSegmentFault parts r x) (same_err _ _ e) (own fault k);
     each_segment = λ shown is. memory_alone shown (contents_of parts r shown) (k.each_value (contents_of parts r shown) (have_contents parts r shown is));
     each_fault = by_fault;
   }
     where
-      own : (e : SegFault) → IsRead parts r (Err e) → (e ≡ Memory) ⊎ IsFault parts r e
+      own : (e : SegFault) → IsRead parts r (Err e) → (e ≡ Memory) ⊎ IsSegmentFault parts r e
       own Memory k = inl refl
       own (File part f) k = inr (k.fault part f refl)
       own (Disagrees part want found) k = absurd (k.only part want found refl)
 
       memory_alone : (x : Shown) (c : Contents) → IsOr {X = Contents} (Err fault) (Ok c) → IsOr {X = Shown} (Err fault) (Ok x)
       memory_alone x c (inl e) = inl (ap Err (same_err _ _ e))
-      memory_alone x c (inr e) = absurd (clash _ _ (sym e))
+      memory_alone x c (inr e) = absurd (ok_never_err _ _ (sym e))
 
       same_here : (other : SegFault) → IsOr {X = Contents} (Err fault) (Err other) → IsOr {X = Shown} (Err fault) (Err other)
       same_here other (inl e) = inl (ap Err (same_err _ _ e))
@@ -135,18 +132,18 @@ module _ (parts : SegParts) (r : SegRecord) where
 
       memory_then : (other : SegFault) (c : Contents) → IsOr {X = Contents} (Err fault) (Ok c) → IsOr {X = Shown} (Err fault) (Err other)
       memory_then other c (inl e) = inl (ap Err (same_err _ _ e))
-      memory_then other c (inr e) = absurd (clash _ _ (sym e))
+      memory_then other c (inr e) = absurd (ok_never_err _ _ (sym e))
 
-      by_fault : (other : SegFault) → IsFault parts r other → IsOr {X = Shown} (Err fault) (Err other)
+      by_fault : (other : SegFault) → IsSegmentFault parts r other → IsOr {X = Shown} (Err fault) (Err other)
       by_fault Memory is = absurd is
       by_fault (File part f) is = same_here (File part f) (k.each_fault part f is)
       by_fault (Disagrees part want found) is = memory_then (Disagrees part want found) is.contents (k.each_value is.contents is.have)
 
   -- a number differs
-  pub differing : (contents : Contents) (n : Number) → IsRead parts r (Ok contents) → find differs (numbers_of r contents) ≡ Some n → IsAnswer parts r (Err (Disagrees n.part n.want n.found))
+  pub differing : (contents : Contents) (n : Number) → IsRead parts r (Ok contents) → find differs (numbers_of r contents) ≡ Some n → IsSegmentAnswer parts r (Err (Disagrees n.part n.want n.found))
   differing contents n k e = record {
-    segment = λ shown f. absurd (clash _ _ (sym f));
-    fault = λ fault f. inr (subst (IsFault parts r) (same_err _ _ f) (record { contents = contents; have = k.value contents refl; first = e }));
+    segment = λ shown f. absurd (ok_never_err _ _ (sym f));
+    fault = λ fault f. inr (subst (IsSegmentFault parts r) (same_err _ _ f) (record { contents = contents; have = k.value contents refl; first = e }));
     each_segment = λ shown is. absurd (no_segment shown is);
     each_fault = by_fault;
   }
@@ -162,7 +159,7 @@ module _ (parts : SegParts) (r : SegRecord) where
       joined : (x y : Option Number) (m : Number) → x ≡ y → x ≡ Some n → y ≡ Some m → n ≡ m
       joined x y m a b c = cc
 
-      by_fault : (other : SegFault) → IsFault parts r other → IsOr {X = Shown} (Err (Disagrees n.part n.want n.found)) (Err other)
+      by_fault : (other : SegFault) → IsSegmentFault parts r other → IsOr {X = Shown} (Err (Disagrees n.part n.want n.found)) (Err other)
       by_fault Memory is = absurd is
       by_fault (File part f) is = absurd (never_both contents (File part f) (k.each_fault part f is))
       by_fault (Disagrees part want found) is =
@@ -172,10 +169,10 @@ module _ (parts : SegParts) (r : SegRecord) where
 
   -- all is as infos want
   pub answered : (contents : Contents) (live : List Bool) → IsRead parts r (Ok contents) → find differs (numbers_of r contents) ≡ None → IsLiveOrAll r.rows contents.live live
-      → IsAnswer parts r (Ok (shown_by contents live))
+      → IsSegmentAnswer parts r (Ok (shown_by contents live))
   answered contents live k e is = record {
     segment = λ shown f. subst (IsSegmentOf parts r) (same_ok _ _ f) (segment_of parts r contents live (k.value contents refl) (agree r contents e) is);
-    fault = λ fault f. absurd (clash _ _ f);
+    fault = λ fault f. absurd (ok_never_err _ _ f);
     each_segment = λ shown other.
         let same = got contents (contents_of parts r shown) (k.each_value (contents_of parts r shown) (have_contents parts r shown other)) in
         inr (ap Ok (one_shown r contents (contents_of parts r shown) live shown.live same is (is_given parts.live r shown.live other.live)));
@@ -185,7 +182,7 @@ module _ (parts : SegParts) (r : SegRecord) where
       none_some : (x y : Option Number) (m : Number) → x ≡ y → x ≡ None → y ≡ Some m → ⊥
       none_some x y m a b c = cc
 
-      by_fault : (other : SegFault) → IsFault parts r other → IsOr {X = Shown} (Ok (shown_by contents live)) (Err other)
+      by_fault : (other : SegFault) → IsSegmentFault parts r other → IsOr {X = Shown} (Ok (shown_by contents live)) (Err other)
       by_fault Memory is = absurd is
       by_fault (File part f) is = absurd (never_both contents (File part f) (k.each_fault part f is))
       by_fault (Disagrees part want found) is =
@@ -210,16 +207,16 @@ kept parts r contents live k e is =
 
 none_of : (found : Option Number) → Ok tt ≡ compared found → found ≡ None
 none_of None e = refl
-none_of (Some n) e = absurd (clash _ _ e)
+none_of (Some n) e = absurd (ok_never_err _ _ e)
 
 some_of : (found : Option Number) (fault : SegFault) → Err fault ≡ compared found → (n : Number) × (found ≡ Some n) × (fault ≡ Disagrees n.part n.want n.found)
-some_of None fault e = absurd (clash _ _ (sym e))
+some_of None fault e = absurd (ok_never_err _ _ (sym e))
 some_of (Some n) fault e = (n, refl, same_err _ _ e)
 
 pub all_agree : (r : SegRecord) (contents : Contents) → Ok tt ≡ compared (find differs (numbers_of r contents)) → find differs (numbers_of r contents) ≡ None
 all_agree r contents e = none_of _ e
 
-pub one_differs : (parts : SegParts) (r : SegRecord) (contents : Contents) (fault : SegFault) → IsRead parts r (Ok contents) → Err fault ≡ compared (find differs (numbers_of r contents)) → IsAnswer parts r (Err fault)
+pub one_differs : (parts : SegParts) (r : SegRecord) (contents : Contents) (fault : SegFault) → IsRead parts r (Ok contents) → Err fault ≡ compared (find differs (numbers_of r contents)) → IsSegmentAnswer parts r (Err fault)
 one_differs parts r contents fault k e =
     let x = some_of (find differs (numbers_of r contents)) fault e in
-    subst (λ (f : SegFault). IsAnswer parts r (Err f)) (sym x.2) (differing parts r contents x.0 k x.1)
+    subst (λ (f : SegFault). IsSegmentAnswer parts r (Err f)) (sym x.2) (differing parts r contents x.0 k x.1)

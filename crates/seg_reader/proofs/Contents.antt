@@ -1,6 +1,7 @@
 -- What reading all files answers.
 use Rattle.std.proofs.Common.{◌≡◌, ℕ, ◌<◌, ◌≤◌, Bool, List, Option, Result, Ok, Err, refl, sym, ap, subst, ◌∙◌, inl, inr, arith}
 use Rattle.std.specs.Prelude.{◌⊎◌}
+use Rattle.nrt_base.proofs.Plain.{ok_never_err, same_ok, same_err}
 use Rattle.nrt_base.specs.declared.doc.Doc.{Doc}
 use Rattle.codec_frame.specs.declared.frame.FileFault.{FileFault}
 use Rattle.postings_plain.specs.Postings.{Entry}
@@ -14,15 +15,12 @@ use Rattle.seg_reader.specs.declared.parts.SegFile.TheVariants.{Docs, Post, Info
 use Rattle.seg_reader.specs.declared.parts.SegFault.{SegFault}
 use Rattle.seg_reader.specs.declared.parts.SegFault.TheVariants.{Memory, File, Disagrees}
 use Rattle.seg_reader.specs.declared.reading.Contents.{Contents}
-use Rattle.seg_reader.specs.Faults.{HasFault, IsInGrammar, HaveContents, number_of, IsFirstOutside}
+use Rattle.seg_reader.specs.Faults.{HasFault, IsInGrammar, HaveContents, file_place, IsFirstOutside}
 use Rattle.seg_reader.specs.Reading.{IsOr, IsLiveRead, IsRead}
-use Rattle.seg_reader.proofs.Files.{same_ok, Judged, DocsAnswers, PostAnswers, InfoAnswers, docs_judged, post_judged, info_judged, live_judged}
-
-clash : {X E : Type 0} (x : X) (e : E) → ◌≡◌ {A = Result X E} (Ok x) (Err e) → ⊥
-clash x e same = cc
+use Rattle.seg_reader.proofs.Files.{Judged, DocsAnswers, PostAnswers, InfoAnswers, docs_judged, post_judged, info_judged, live_judged}
 
 -- a file has one place in the order
-same_part : (p q : SegFile) → number_of p ≡ number_of q → p ≡ q
+same_part : (p q : SegFile) → file_place p ≡ file_place q → p ≡ q
 same_part Docs Docs e = refl
 same_part Docs Post e = absurd (omega arith)
 same_part Docs Info e = absurd (omega arith)
@@ -48,7 +46,7 @@ in_grammar parts r contents have Live = (contents.live, have.live)
 
 -- the files up to this one were looked at
 abbrev JudgedTo : SegParts → SegRecord → SegFile → Type 0
-JudgedTo parts r part = (other : SegFile) → number_of other ≤ number_of part → Judged parts r other
+JudgedTo parts r part = (other : SegFile) → file_place other ≤ file_place part → Judged parts r other
 
 order : (m n : ℕ) → (m < n) ⊎ ((m ≡ n) ⊎ (n < m))
 order m n = grind arith
@@ -58,9 +56,9 @@ same_fault p q a b e f = cc
 
 one_first : (parts : SegParts) (r : SegRecord) (part other : SegFile) (fault another : FileFault) → JudgedTo parts r part → IsFirstOutside parts r part fault → IsFirstOutside parts r other another
     → ◌≡◌ {A = SegFault} (File part fault) (File other another)
-one_first parts r part other fault another judged first second = by_order (order (number_of other) (number_of part))
+one_first parts r part other fault another judged first second = by_order (order (file_place other) (file_place part))
   where
-    by_order : (number_of other < number_of part) ⊎ ((number_of other ≡ number_of part) ⊎ (number_of part < number_of other)) → ◌≡◌ {A = SegFault} (File part fault) (File other another)
+    by_order : (file_place other < file_place part) ⊎ ((file_place other ≡ file_place part) ⊎ (file_place part < file_place other)) → ◌≡◌ {A = SegFault} (File part fault) (File other another)
     by_order (inl h) = absurd ((judged other (omega arith)).apart (first.before other h) another second.has)
     by_order (inr (inl h)) =
         let same : other ≡ part = same_part other part h in
@@ -71,15 +69,12 @@ one_first parts r part other fault another judged first second = by_order (order
 split_file : (p q : SegFile) (a b : FileFault) → ◌≡◌ {A = SegFault} (File p a) (File q b) → (p ≡ q) × (a ≡ b)
 split_file p q a b e = (cc, cc)
 
-same_err : {X E : Type 0} (a b : E) → ◌≡◌ {A = Result X E} (Err a) (Err b) → a ≡ b
-same_err a b same = cc
-
 not_numbers : (p q : SegFile) (a : FileFault) (want found : ℕ) → ◌≡◌ {A = SegFault} (File p a) (Disagrees q want found) → ⊥
 not_numbers p q a want found e = cc
 
 refused : (parts : SegParts) (r : SegRecord) (part : SegFile) (fault : FileFault) → JudgedTo parts r part → IsFirstOutside parts r part fault → IsRead parts r (Err (File part fault))
 refused parts r part fault judged first = record {
-  value = λ contents e. absurd (clash _ _ (sym e));
+  value = λ contents e. absurd (ok_never_err _ _ (sym e));
   fault = λ other another e.
       let same = split_file part other fault another (same_err _ _ e) in
       subst (λ (q : SegFile). IsFirstOutside parts r q another) same.0 (subst (λ (f : FileFault). IsFirstOutside parts r part f) same.1 first);
@@ -100,7 +95,7 @@ module _ (parts : SegParts) (r : SegRecord) where
       judged Info h = absurd (omega arith)
       judged Live h = absurd (omega arith)
 
-      before : (other : SegFile) → number_of other < 1 → IsInGrammar parts r other
+      before : (other : SegFile) → file_place other < 1 → IsInGrammar parts r other
       before Docs h = absurd (omega arith)
       before Post h = absurd (omega arith)
       before Info h = absurd (omega arith)
@@ -115,7 +110,7 @@ module _ (parts : SegParts) (r : SegRecord) where
       judged Info h = absurd (omega arith)
       judged Live h = absurd (omega arith)
 
-      before : (other : SegFile) → number_of other < 2 → IsInGrammar parts r other
+      before : (other : SegFile) → file_place other < 2 → IsInGrammar parts r other
       before Docs h = (docs, (d.value docs).0 refl)
       before Post h = absurd (omega arith)
       before Info h = absurd (omega arith)
@@ -130,7 +125,7 @@ module _ (parts : SegParts) (r : SegRecord) where
       judged Info h = info_judged parts r _ i
       judged Live h = absurd (omega arith)
 
-      before : (other : SegFile) → number_of other < 3 → IsInGrammar parts r other
+      before : (other : SegFile) → file_place other < 3 → IsInGrammar parts r other
       before Docs h = (docs, (d.value docs).0 refl)
       before Post h = (es, (p.value es).0 refl)
       before Info h = absurd (omega arith)
@@ -145,7 +140,7 @@ module _ (parts : SegParts) (r : SegRecord) where
 
   pub no_memory : IsRead parts r (Err Memory)
   no_memory = record {
-    value = λ contents e. absurd (clash _ _ (sym e));
+    value = λ contents e. absurd (ok_never_err _ _ (sym e));
     fault = λ part fault e. absurd (cc);
     only = λ part want found e. cc;
     each_value = λ contents have. inl refl;
@@ -156,7 +151,7 @@ module _ (parts : SegParts) (r : SegRecord) where
       → IsLiveRead parts.live r (Err e) → IsRead parts r (Err e)
   live_refused docs es info e d p i l = by_kind (l.only e refl)
     where
-      before : (other : SegFile) → number_of other < 4 → IsInGrammar parts r other
+      before : (other : SegFile) → file_place other < 4 → IsInGrammar parts r other
       before Docs h = (docs, (d.value docs).0 refl)
       before Post h = (es, (p.value es).0 refl)
       before Info h = (info, (i.value info).0 refl)
@@ -173,15 +168,15 @@ module _ (parts : SegParts) (r : SegRecord) where
   same_contents docs docs2 es es2 n n2 info info2 live live2 a b c d e = cc
 
   ok_of : (live other : Option (List Bool)) → IsOr (Ok live) (Ok other) → live ≡ other
-  ok_of live other (inl e) = absurd (clash _ _ e)
+  ok_of live other (inl e) = absurd (ok_never_err _ _ e)
   ok_of live other (inr e) = same_ok _ _ e
 
   pub read_whole : (docs : List Doc) (es : List Entry) (n : ℕ) (info : SegInfo) (live : Option (List Bool)) → DocsAnswers parts r (Ok docs) → PostAnswers parts r (Ok es) → IsRowCount es n → InfoAnswers parts r (Ok info)
       → IsLiveRead parts.live r (Ok live) → IsRead parts r (Ok (record { docs = docs; post = es; post_rows = n; info = info; live = live }))
   read_whole docs es n info live d p count i l = record {
     value = λ contents e. subst (HaveContents parts r) (same_ok _ _ e) have;
-    fault = λ part fault e. absurd (clash _ _ e);
-    only = λ part want found e. clash _ _ e;
+    fault = λ part fault e. absurd (ok_never_err _ _ e);
+    only = λ part want found e. ok_never_err _ _ e;
     each_value = λ contents other. inr (ap Ok (one contents other));
     each_fault = λ part fault first. absurd ((judged_all docs es info (Ok live) d p i l part).apart (in_grammar parts r _ have part) fault first.has);
   }

@@ -3,21 +3,23 @@ use Rattle.std.proofs.Common.{◌≡◌, ℕ, ◌<◌, Bool, List, [], ◌∷◌
 use Rattle.std.specs.List.{AllZip}
 use Rattle.nrt_base.specs.declared.doc.Doc.{Doc}
 use Rattle.disk_model.specs.Disk.{Name, Content}
-use Rattle.docs_plain.proofs.FileLaws.{one_file_list as one_docs_list}
+use Rattle.nrt_base.proofs.Plain.{cons_from}
+use Rattle.body_forms.proofs.FileLaws.{one_value_of}
+use Rattle.docs_plain.proofs.FileLaws.{documents_kind}
 use Rattle.postings_plain.specs.Postings.{Entry}
-use Rattle.postings_plain.proofs.FileLaws.{one_file_list as one_entries_list}
-use Rattle.live_bits.proofs.FileLaws.{one_file_list as one_rows_list}
+use Rattle.postings_plain.proofs.FileLaws.{postings_kind}
+use Rattle.live_bits.proofs.FileLaws.{live_kind}
 use Rattle.segment_infos.specs.declared.infos.SegRecord.{SegRecord}
 use Rattle.segment_infos.specs.declared.infos.Infos.{Infos}
 use Rattle.seg_reader.specs.declared.parts.SegParts.{SegParts}
 use Rattle.seg_reader.specs.Shown.{Shown, AreLiveDocuments}
-use Rattle.seg_reader.specs.Files.{id_of, AreLiveRowsOf, IsSegmentOf}
+use Rattle.seg_reader.specs.Files.{record_id, AreLiveRowsOf, IsSegmentOf}
 use Rattle.seg_reader.specs.Stands.{IsLiveFileIn, ArePartsIn, IsSegmentIn, StandsFor}
 use Rattle.seg_reader.proofs.SortedLists.{one_live_list}
 
 one_live : (bytes : Option (List ℕ)) (r : SegRecord) (live other : List Bool) → AreLiveRowsOf bytes r live → AreLiveRowsOf bytes r other → live ≡ other
 one_live None r live other a b = a ∙ sym b
-one_live (Some bytes) r live other a b = one_rows_list (id_of r) bytes r.live_gen live other a.0 b.0
+one_live (Some bytes) r live other a b = one_value_of (live_kind (record_id r) r.live_gen) bytes live other a.0 b.0
 
 same_shown : (docs docs2 : List Doc) (live live2 : List Bool) (es es2 : List Entry) → docs ≡ docs2 → live ≡ live2 → es ≡ es2
     → ◌≡◌ {A = Shown} (record { docs = docs; live = live; entries = es }) (record { docs = docs2; live = live2; entries = es2 })
@@ -26,8 +28,8 @@ same_shown docs docs2 live live2 es es2 a b c = cc
 -- files show one segment at most
 pub one_segment : (parts : SegParts) (r : SegRecord) (shown other : Shown) → IsSegmentOf parts r shown → IsSegmentOf parts r other → shown ≡ other
 one_segment parts r shown other a b =
-    same_shown shown.docs other.docs shown.live other.live shown.entries other.entries (one_docs_list (id_of r) parts.docs shown.docs other.docs a.docs b.docs)
-    (one_live parts.live r shown.live other.live a.live b.live) (one_entries_list (id_of r) parts.post shown.entries other.entries a.post b.post)
+    same_shown shown.docs other.docs shown.live other.live shown.entries other.entries (one_value_of (documents_kind (record_id r)) parts.docs shown.docs other.docs a.docs b.docs)
+    (one_live parts.live r shown.live other.live a.live b.live) (one_value_of (postings_kind (record_id r)) parts.post shown.entries other.entries a.post b.post)
 
 -- ---- directories
 
@@ -55,16 +57,13 @@ module _ (reads : Name → Content) where
       let first : IsSegmentOf y.parts r a = subst (λ (p : SegParts). IsSegmentOf p r a) same x.segment in
       one_segment y.parts r a b first y.segment
 
-  cells : (x y : Shown) (xs ys : List Shown) → x ≡ y → xs ≡ ys → x ∷ xs ≡ y ∷ ys
-  cells x y xs ys e f = cc
-
   one_segs : (records : List SegRecord) (a b : List Shown) → AllZip (IsSegmentIn reads) records a → AllZip (IsSegmentIn reads) records b → a ≡ b
   one_segs [] [] [] x y = refl
   one_segs [] [] (b ∷ bs) x y = absurd y
   one_segs [] (a ∷ as') b x y = absurd x
   one_segs (r ∷ rs) [] b x y = absurd x
   one_segs (r ∷ rs) (a ∷ as') [] x y = absurd y
-  one_segs (r ∷ rs) (a ∷ as') (b ∷ bs) x y = cells a b as' bs (one_shown r a b x.0 y.0) (one_segs rs as' bs x.1 y.1)
+  one_segs (r ∷ rs) (a ∷ as') (b ∷ bs) x y = cons_from a b as' bs (one_shown r a b x.0 y.0) (one_segs rs as' bs x.1 y.1)
 
   -- a directory stands for one list of documents at most
   pub one_list_of_documents : (infos : Infos) (docs others : List Doc) → StandsFor reads infos docs → StandsFor reads infos others → docs ≡ others

@@ -19,7 +19,7 @@ use Rattle.seg_reader.specs.declared.parts.SegFile.TheVariants.{Docs, Post, Info
 use Rattle.seg_reader.specs.declared.parts.SegFault.{SegFault}
 use Rattle.seg_reader.specs.declared.parts.SegFault.TheVariants.{Memory, File, Disagrees}
 use Rattle.seg_reader.specs.declared.reading.Contents.{Contents}
-use Rattle.seg_reader.specs.Files.{id_of}
+use Rattle.seg_reader.specs.Files.{record_id}
 
 -- the bytes have this fault as a file of some values: that of their frame, or the frame is right and the body spells no value
 abbrev pub IsFaultOf : {X : Type 0} → (X → Type 0) → Wanted → List ℕ → FileFault → Type 0
@@ -29,13 +29,13 @@ IsFaultOf {X} IsFileOf want bytes Body = IsFramedAs want bytes × ((x : X) → I
 -- there is a live file, and it has the fault
 abbrev pub HasLiveFault : Option (List ℕ) → SegRecord → FileFault → Type 0
 HasLiveFault None r fault = ⊥
-HasLiveFault (Some bytes) r fault = IsFaultOf (λ live. IsLiveFile (id_of r) r.live_gen live bytes) (live_wanted (id_of r) r.live_gen) bytes fault
+HasLiveFault (Some bytes) r fault = IsFaultOf (λ live. IsLiveFile (record_id r) r.live_gen live bytes) (live_wanted (record_id r) r.live_gen) bytes fault
 
 -- the fault of each file, whatever the others are
 abbrev pub HasFault : SegParts → SegRecord → SegFile → FileFault → Type 0
-HasFault parts r Docs fault = IsFaultOf (λ docs. IsDocumentsFile (id_of r) docs parts.docs) (documents_wanted (id_of r)) parts.docs fault
-HasFault parts r Post fault = IsFaultOf (λ es. IsPostingsFile (id_of r) es parts.post) (postings_wanted (id_of r)) parts.post fault
-HasFault parts r Info fault = IsFaultOf (λ info. IsInfoFile (id_of r) info parts.info) (info_wanted (id_of r)) parts.info fault
+HasFault parts r Docs fault = IsFaultOf (λ docs. IsDocumentsFile (record_id r) docs parts.docs) (documents_wanted (record_id r)) parts.docs fault
+HasFault parts r Post fault = IsFaultOf (λ es. IsPostingsFile (record_id r) es parts.post) (postings_wanted (record_id r)) parts.post fault
+HasFault parts r Info fault = IsFaultOf (λ info. IsInfoFile (record_id r) info parts.info) (info_wanted (record_id r)) parts.info fault
 HasFault parts r Live fault = HasLiveFault parts.live r fault
 
 -- the live file is in its grammar and has these live rows, where there is one
@@ -43,34 +43,34 @@ abbrev pub SaysLive : Option (List ℕ) → SegRecord → Option (List Bool) →
 SaysLive None r None = Unit {0}
 SaysLive None r (Some live) = ⊥
 SaysLive (Some bytes) r None = ⊥
-SaysLive (Some bytes) r (Some live) = IsLiveFile (id_of r) r.live_gen live bytes
+SaysLive (Some bytes) r (Some live) = IsLiveFile (record_id r) r.live_gen live bytes
 
 -- each file is in its grammar and has these contents; the rows of postings are one above the greatest in them
 pub record HaveContents (parts : SegParts) (r : SegRecord) (contents : Contents) : Type 0 where
-  pub docs : IsDocumentsFile (id_of r) contents.docs parts.docs
-  pub post : IsPostingsFile (id_of r) contents.post parts.post
+  pub docs : IsDocumentsFile (record_id r) contents.docs parts.docs
+  pub post : IsPostingsFile (record_id r) contents.post parts.post
   pub post_rows : IsRowCount contents.post contents.post_rows
-  pub info : IsInfoFile (id_of r) contents.info parts.info
+  pub info : IsInfoFile (record_id r) contents.info parts.info
   pub live : SaysLive parts.live r contents.live
 
 -- a file is in its grammar
 abbrev pub IsInGrammar : SegParts → SegRecord → SegFile → Type 0
-IsInGrammar parts r Docs = (docs : List Doc) × IsDocumentsFile (id_of r) docs parts.docs
-IsInGrammar parts r Post = (es : List Entry) × IsPostingsFile (id_of r) es parts.post
-IsInGrammar parts r Info = (info : SegInfo) × IsInfoFile (id_of r) info parts.info
+IsInGrammar parts r Docs = (docs : List Doc) × IsDocumentsFile (record_id r) docs parts.docs
+IsInGrammar parts r Post = (es : List Entry) × IsPostingsFile (record_id r) es parts.post
+IsInGrammar parts r Info = (info : SegInfo) × IsInfoFile (record_id r) info parts.info
 IsInGrammar parts r Live = (live : Option (List Bool)) × SaysLive parts.live r live
 
 -- the order in which files are looked at
-abbrev pub number_of : SegFile → ℕ
-number_of Docs = 1
-number_of Post = 2
-number_of Info = 3
-number_of Live = 4
+abbrev pub file_place : SegFile → ℕ
+file_place Docs = 1
+file_place Post = 2
+file_place Info = 3
+file_place Live = 4
 
 -- the file has the fault, and each file before it is in its grammar
 pub record IsFirstOutside (parts : SegParts) (r : SegRecord) (part : SegFile) (fault : FileFault) : Type 0 where
   pub has : HasFault parts r part fault
-  pub before : (other : SegFile) → number_of other < number_of part → IsInGrammar parts r other
+  pub before : (other : SegFile) → file_place other < file_place part → IsInGrammar parts r other
 
 -- a number that infos and a file both give: which file it is, the infos' number and the file's
 pub record Number : Type 0 where
@@ -78,9 +78,11 @@ pub record Number : Type 0 where
   pub want : ℕ
   pub found : ℕ
 
+-- a number that infos want of a file, and what it has
 abbrev pub number : SegFile → (want found : ℕ) → Number
 number part want found = record { part = part; want = want; found = found }
 
+-- the file has another number than infos want
 abbrev pub differs : Number → Bool
 differs n = not (n.want == n.found)
 
@@ -104,8 +106,8 @@ pub record IsFirstDifference (parts : SegParts) (r : SegRecord) (n : Number) : T
   pub have : HaveContents parts r contents
   pub first : find differs (numbers_of r contents) ≡ Some n
 
--- the fault of the files, want of memory apart
-abbrev pub IsFault : SegParts → SegRecord → SegFault → Type 0
-IsFault parts r (File part fault) = IsFirstOutside parts r part fault
-IsFault parts r (Disagrees part want found) = IsFirstDifference parts r (number part want found)
-IsFault parts r Memory = ⊥
+-- the fault of the files
+abbrev pub IsSegmentFault : SegParts → SegRecord → SegFault → Type 0
+IsSegmentFault parts r (File part fault) = IsFirstOutside parts r part fault
+IsSegmentFault parts r (Disagrees part want found) = IsFirstDifference parts r (number part want found)
+IsSegmentFault parts r Memory = ⊥

@@ -1,5 +1,6 @@
 -- The files of a segment: its id, and what they say where each is in its grammar.
-use Rattle.std.specs.Prelude.{◌≡◌, ℕ, ◌/◌, ◌%◌, List, ◌++◌, length, replicate, Bool, true, Option, Some, None}
+use Rattle.std.specs.Prelude.{◌≡◌, ℕ, List, ◌++◌, length, replicate, Bool, true, Option, Some, None}
+use Rattle.nrt_base.specs.SegNumbers.{segment_generation, segment_place}
 use Rattle.nrt_base.specs.declared.doc.Doc.{Doc}
 use Rattle.body_forms.specs.Numbers.{u64_bytes}
 use Rattle.docs_plain.specs.Documents.{IsDocumentsFile}
@@ -11,13 +12,13 @@ use Rattle.segment_infos.specs.SegmentInfo.{IsInfoFile}
 use Rattle.seg_reader.specs.declared.parts.SegParts.{SegParts}
 use Rattle.seg_reader.specs.Shown.{Shown}
 
--- the id of a segment: its generation and its n, eight bytes each
+-- the id of a segment: its generation and its place there, eight bytes each
 abbrev pub segment_id : ℕ → List ℕ
-segment_id seg = u64_bytes (seg / 1679616) ++ u64_bytes (seg % 1679616)
+segment_id seg = u64_bytes (segment_generation seg) ++ u64_bytes (segment_place seg)
 
 -- the id of the segment of a record
-abbrev pub id_of : SegRecord → List ℕ
-id_of r = segment_id r.seg.0
+abbrev pub record_id : SegRecord → List ℕ
+record_id r = segment_id r.seg.0
 
 -- what the info file of a record's segment says
 abbrev pub info_of : SegRecord → SegInfo
@@ -26,13 +27,13 @@ info_of r = record { seg = r.seg; rows = r.rows; format = 1 }
 -- the live rows are those of the live file, which has as many rows and live rows as the record; without one all rows are live
 abbrev pub AreLiveRowsOf : Option (List ℕ) → SegRecord → List Bool → Type 0
 AreLiveRowsOf None r live = live ≡ replicate r.rows true
-AreLiveRowsOf (Some bytes) r live = IsLiveFile (id_of r) r.live_gen live bytes × (length live ≡ r.rows) × (live_rows live ≡ r.live)
+AreLiveRowsOf (Some bytes) r live = IsLiveFile (record_id r) r.live_gen live bytes × (length live ≡ r.rows) × (live_rows live ≡ r.live)
 
 -- each file is that of its part of what is shown, and the numbers in it are the record's
 pub record IsSegmentOf (parts : SegParts) (r : SegRecord) (shown : Shown) : Type 0 where
-  pub docs : IsDocumentsFile (id_of r) shown.docs parts.docs
+  pub docs : IsDocumentsFile (record_id r) shown.docs parts.docs
   pub docs_rows : length shown.docs ≡ r.rows
-  pub post : IsPostingsFile (id_of r) shown.entries parts.post
+  pub post : IsPostingsFile (record_id r) shown.entries parts.post
   pub post_rows : IsRowCount shown.entries r.rows
-  pub info : IsInfoFile (id_of r) (info_of r) parts.info
+  pub info : IsInfoFile (record_id r) (info_of r) parts.info
   pub live : AreLiveRowsOf parts.live r shown.live

@@ -10,9 +10,9 @@ use Rattle.seg_reader.specs.declared.parts.SegFault.TheVariants.{Memory, File, D
 use Rattle.seg_reader.specs.declared.reading.Contents.{Contents}
 use Rattle.seg_reader.specs.Shown.{Shown}
 use Rattle.seg_reader.specs.Files.{IsSegmentOf}
-use Rattle.seg_reader.specs.Faults.{HasLiveFault, SaysLive, HaveContents, IsFirstOutside, Number, IsFault}
+use Rattle.seg_reader.specs.Faults.{HasLiveFault, SaysLive, HaveContents, IsFirstOutside, Number, IsSegmentFault}
 
--- memory was wanting, or this was answered
+-- this was answered, unless memory ran out
 abbrev pub IsOr : {X : Type 0} → Result X SegFault → Result X SegFault → Type 0
 IsOr result due = (result ≡ Err Memory) ⊎ (result ≡ due)
 
@@ -36,12 +36,12 @@ abbrev pub compared : Option Number → Result (Unit {0}) SegFault
 compared None = Ok tt
 compared (Some n) = Err (Disagrees n.part n.want n.found)
 
--- the whole
-pub record IsAnswer (parts : SegParts) (r : SegRecord) (result : Result Shown SegFault) : Type 0 where
+-- reading a segment
+pub record IsSegmentAnswer (parts : SegParts) (r : SegRecord) (result : Result Shown SegFault) : Type 0 where
   pub segment : (shown : Shown) → result ≡ Ok shown → IsSegmentOf parts r shown
-  pub fault : (fault : SegFault) → result ≡ Err fault → (fault ≡ Memory) ⊎ IsFault parts r fault
+  pub fault : (fault : SegFault) → result ≡ Err fault → (fault ≡ Memory) ⊎ IsSegmentFault parts r fault
   pub each_segment : (shown : Shown) → IsSegmentOf parts r shown → IsOr result (Ok shown)
-  pub each_fault : (fault : SegFault) → IsFault parts r fault → IsOr result (Err fault)
+  pub each_fault : (fault : SegFault) → IsSegmentFault parts r fault → IsOr result (Err fault)
 
 -- the live rows of the file, or all rows where there is none
 abbrev pub IsLiveOrAll : ℕ → Option (List Bool) → List Bool → Type 0

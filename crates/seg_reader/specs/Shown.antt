@@ -12,10 +12,15 @@ pub record Shown : Type 0 where
   pub live : List Bool
   pub entries : List Entry
 
--- the field of keys in postings, and that of words
+-- the same segment with other live rows
+abbrev pub shown_with : Shown → List Bool → Shown
+shown_with shown live = record shown { live = live }
+
+-- the field of keys in postings
 abbrev pub key_field : ℕ
 key_field = 0
 
+-- the field of words in postings
 abbrev pub word_field : ℕ
 word_field = 1
 

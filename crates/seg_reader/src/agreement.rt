@@ -1,3 +1,5 @@
+//! Whether the numbers in the files are those of infos.
+
 ghost use Rattle.std.specs.Prelude.{◌≡◌, [], ◌∷◌};
 ghost use Rattle.std.specs.List.{find};
 ghost use Rattle.seg_reader.specs.Faults.{number, differs, live_numbers, numbers_of};

@@ -1,3 +1,5 @@
+//! The files of a segment, and why they are refused.
+
 ghost use Rattle.std.specs.Prelude.{◌≡◌};
 ghost use Rattle.seg_reader.specs.declared.parts.SegFault.TheVariants.{Memory};
 
@@ -27,7 +29,7 @@ pub enum SegFile {
 /// Why files are not those of a segment.
 #[derive(Clone, Copy, Debug, PartialEq, Eq)]
 pub enum SegFault {
-    /// Memory was wanting.
+    /// The reader is out of memory.
     Memory,
     /// This file is the first outside its grammar.
     File(SegFile, FileFault),

@@ -1,5 +1,7 @@
+//! What the files of a segment say.
+
 ghost use Rattle.std.specs.Prelude.{◌≡◌, Some};
-ghost use Rattle.seg_reader.specs.Files.{id_of};
+ghost use Rattle.seg_reader.specs.Files.{record_id};
 ghost use Rattle.seg_reader.specs.Reading.{IsLiveRead, IsRead};
 
 use crate::id::segment_id;
@@ -32,7 +34,7 @@ fn read_live_rows(
     id: &[u8; 16],
     record: &SegRecord,
 ) -> Result<Option<LiveBits>, SegFault>
-    requires { id.now ≡ id_of record.now }
+    requires { id.now ≡ record_id record.now }
     ensures { IsLiveRead (Some bytes.now) record.now result }
 {
     match read_live(alloc, bytes, id, record.live_gen) {
@@ -49,7 +51,7 @@ fn read_live_file(
     id: &[u8; 16],
     record: &SegRecord,
 ) -> Result<Option<LiveBits>, SegFault>
-    requires { id.now ≡ id_of record.now }
+    requires { id.now ≡ record_id record.now }
     ensures { IsLiveRead bytes record.now result }
 {
     match bytes {

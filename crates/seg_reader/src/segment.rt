@@ -1,13 +1,15 @@
+//! A segment that is read.
+
 ghost use Rattle.std.specs.Prelude.{◌≡◌, ◌↔◌, ◌<◌, ◌⊎◌, ℕ, length, slice_get, slice_index_or, false, IsTrue, IsSome, IfSome, IfOk, IfErr, MatchOption, Ok, Err};
 ghost use Rattle.std.specs.List.{All};
-ghost use Rattle.nrt_base.specs.Bytes.{is_key};
+ghost use Rattle.nrt_base.specs.Bytes.{is_key, is_text};
 ghost use Rattle.docs_plain.specs.Documents.{IsRow};
 ghost use Rattle.postings_plain.specs.Postings.{row_of, HitsFit};
 ghost use Rattle.postings_plain.specs.Body.{HasEntry, HasNoEntry};
-ghost use Rattle.seg_reader.specs.Shown.{Shown, key_field, word_field};
+ghost use Rattle.seg_reader.specs.Shown.{Shown, shown_with, key_field, word_field};
 ghost use Rattle.seg_reader.specs.Files.{IsSegmentOf};
-ghost use Rattle.seg_reader.specs.Faults.{IsFault};
-ghost use Rattle.seg_reader.specs.Reading.{IsLiveOrAll, IsAnswer};
+ghost use Rattle.seg_reader.specs.Faults.{IsSegmentFault};
+ghost use Rattle.seg_reader.specs.Reading.{IsLiveOrAll, IsSegmentAnswer};
 
 use crate::agreement::compare_numbers;
 use crate::parts::{SegFault, SegParts};
@@ -58,12 +60,13 @@ impl Segment {
 
         // What is answered.
         ensures segment { IfOk result (IsSegmentOf parts record.now) }
-        ensures fault { IfErr result (λ fault. (fault ≡ SegFault.Memory) ⊎ IsFault parts record.now fault) }
+        ensures fault { IfErr result (λ fault. (fault ≡ SegFault.Memory)
+            ⊎ IsSegmentFault parts record.now fault) }
 
         // Each segment and each fault is answered, unless memory runs out.
         ensures each_segment { (shown : Shown) → IsSegmentOf parts record.now shown
             → (result ≡ Err SegFault.Memory) ⊎ (result ≡ Ok shown) }
-        ensures each_fault { (fault : SegFault) → IsFault parts record.now fault
+        ensures each_fault { (fault : SegFault) → IsSegmentFault parts record.now fault
             → (result ≡ Err SegFault.Memory) ⊎ (result ≡ Err fault) }
     {
         answer(alloc, parts, record)
@@ -99,14 +102,36 @@ impl Segment {
     /// The text of the document in a row.
     pub fn text(&self, row: u32) -> &[u8]
         requires { row < length self.now.docs }
-        ensures { IfSome (slice_get self.now.docs row) (λ doc. result.now ≡ doc.text) }
+        ensures value { IfSome (slice_get self.now.docs row) (λ doc. result.now ≡ doc.text) }
+        ensures kind { IfSome (slice_get self.now.docs row) (λ doc. IsTrue (is_text doc.text)) }
     {
         self.docs.text(row)
     }
 
+    /// Which rows are live.
+    pub fn live_rows(&self) -> &LiveBits
+        ensures live { result.now ≡ self.now.live }
+        ensures rows { length result.now ≡ length self.now.docs }
+    {
+        &self.live
+    }
+
+    /// The same segment with other live rows. The bytes of its files are shared, and none is read again.
+    pub fn with_live_rows(&self, alloc: Global, live: LiveBits) -> Result<Segment, NoMemory>
+        requires { length live ≡ length self.now.docs }
+        ensures { IfOk result (λ segment. segment ≡ shown_with self.now live) }
+    {
+        Ok(Segment {
+            docs: self.docs.share(alloc)?,
+            post: self.post.share(alloc)?,
+            live,
+        })
+    }
+
     /// The rows whose text has a word, with its positions, dead rows among them. None comes exactly where no row has it.
     pub fn word(&self, word: &[u8]) -> Option<Postings<'_>>
-        ensures found { MatchOption result (HasNoEntry self.now.entries word_field word.now) (HasEntry self.now.entries word_field word.now) }
+        ensures found { MatchOption result (HasNoEntry self.now.entries word_field word.now)
+            (HasEntry self.now.entries word_field word.now) }
         ensures fit { IfSome result (HitsFit word_field) }
         ensures below { IfSome result (All (λ h. row_of h < length self.now.docs)) }
     {
@@ -115,7 +140,8 @@ impl Segment {
 
     /// The rows of a key, dead rows among them. None comes exactly where no row has it.
     pub fn rows_of_key(&self, key: &[u8]) -> Option<Postings<'_>>
-        ensures found { MatchOption result (HasNoEntry self.now.entries key_field key.now) (HasEntry self.now.entries key_field key.now) }
+        ensures found { MatchOption result (HasNoEntry self.now.entries key_field key.now)
+            (HasEntry self.now.entries key_field key.now) }
         ensures fit { IfSome result (HitsFit key_field) }
         ensures below { IfSome result (All (λ h. row_of h < length self.now.docs)) }
     {
@@ -135,7 +161,7 @@ fn live_or_all(alloc: Global, live: Option<LiveBits>, rows: u32) -> Result<LiveB
 
 // The segment of the files, or why there is none.
 fn answer(alloc: Global, parts: SegParts, record: &SegRecord) -> Result<Segment, SegFault>
-    ensures { IsAnswer parts record.now result }
+    ensures { IsSegmentAnswer parts record.now result }
 {
     let contents = read_contents(alloc, parts, record)?;
     compare_numbers(&contents, record)?;

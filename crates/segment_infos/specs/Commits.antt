@@ -1,7 +1,7 @@
 -- The numbers of the commits that a directory's names show.
 use Rattle.std.specs.Prelude.{◌≡◌, ℕ, ◌+◌, ◌≤◌, List, [], false, Option, Some, None}
 use Rattle.std.specs.List.{All, Contains, filter_map}
-use Rattle.file_names.specs.Names.{number_of_commit, number_of_pending}
+use Rattle.file_names.specs.Names.{is_commit_name, is_pending_name, number_of_commit, number_of_pending}
 
 -- the name is neither that of a commit nor that of one in preparation
 abbrev pub IsOfNoCommit : List ℕ → Type 0

@@ -13,9 +13,9 @@ use Rattle.text_query.specs.declared.token.Token.{Token}
 use Rattle.text_query.specs.declared.token.Placed.{Placed}
 use Rattle.text_query.specs.Tokens.{is_leaf, is_space, token_at, bytes_behind, tokens_from, tokens_of, kinds_of}
 use Rattle.text_query.specs.Grammar.{ReadsAs, SpellsQuery}
-use Rattle.text_query.specs.Syntax.{IsQuery, GoesOn, IsBadToken, IsFirstBadPlace, IsFirstBadToken}
+use Rattle.text_query.specs.Syntax.{IsQuery, BeginsQuery, IsBadToken, IsFirstBadPlace, IsFirstBadToken}
 use Rattle.text_query.specs.States.{state}
-use Rattle.text_query.specs.Answers.{is_blank, most_open, depth_with, Parses, IsFault, IsAnswer}
+use Rattle.text_query.specs.Answers.{is_blank, most_open, depth_with, Parses, IsFault, IsQueryAnswer}
 use Rattle.text_query.proofs.SyntaxLemmas.{state_from_query}
 use Rattle.text_query.proofs.ReadingLemmas.{tree_of, reads_as_tree}
 use Rattle.text_query.proofs.AnswerLemmas.{reads_only, leaves-tree_of, well_formed}
@@ -81,20 +81,20 @@ blank_spells_none : (text : List ℕ) (query : Query) → IsTrue (is_blank text)
 blank_spells_none text query blank (q, e, t) = no_tokens (q, e ∙ ap kinds_of (blank_tokens zero text blank))
 
 -- a query goes on from the front of a query's beginning
-goes_on_front : (front rest : List Token) → GoesOn (front ++ rest) → GoesOn front
+goes_on_front : (front rest : List Token) → BeginsQuery (front ++ rest) → BeginsQuery front
 goes_on_front front rest (more, q) = (rest ++ more, subst IsQuery (append_assoc front rest more) q)
 
 -- no query goes on from tokens that have a bad one
-stops_on : (before rest all : List Placed) (bad : Placed) → (GoesOn (kinds_of before ++ bad.token ∷ []) → ⊥) → all ≡ before ++ bad ∷ rest → GoesOn (kinds_of all) → ⊥
+stops_on : (before rest all : List Placed) (bad : Placed) → (BeginsQuery (kinds_of before ++ bad.token ∷ []) → ⊥) → all ≡ before ++ bad ∷ rest → BeginsQuery (kinds_of all) → ⊥
 stops_on before rest all bad stops split on =
     stops (goes_on_front (kinds_of before ++ bad.token ∷ []) (kinds_of rest)
-    (subst GoesOn (ap kinds_of split ∙ (map-append (λ (p : Placed). p.token) before (bad ∷ rest)
+    (subst BeginsQuery (ap kinds_of split ∙ (map-append (λ (p : Placed). p.token) before (bad ∷ rest)
     ∙ sym (append_assoc (kinds_of before) (bad.token ∷ []) (kinds_of rest)))) on))
 
-bad_stops : (tokens : List Placed) (at : ℕ) → IsBadToken tokens at → GoesOn (kinds_of tokens) → ⊥
+bad_stops : (tokens : List Placed) (at : ℕ) → IsBadToken tokens at → BeginsQuery (kinds_of tokens) → ⊥
 bad_stops tokens at b on = stops_on b.before b.behind tokens b.bad b.stops b.split on
 
-query_goes_on : (tokens : List Token) → IsQuery tokens → GoesOn tokens
+query_goes_on : (tokens : List Token) → IsQuery tokens → BeginsQuery tokens
 query_goes_on tokens q = ([], subst IsQuery (sym (append-nil tokens)) q)
 
 -- a text that spells a query has no bad place
@@ -194,7 +194,7 @@ parses_no_fault text query (Syntax at) p q = spells_no_fault text query at p.0 q
 parses_no_fault text query TooDeep p (b, q, deep) = deep_not text query b p.0 q p.1 deep
 parses_no_fault text query TooMany p (b, q, shallow, many) = many_not text query b p.0 q p.2 many
 
-fault_of : (text : List ℕ) (fault : QueryFault) → IsAnswer text (Err fault) → (fault ≡ Memory) ⊎ IsFault text fault
+fault_of : (text : List ℕ) (fault : QueryFault) → IsQueryAnswer text (Err fault) → (fault ≡ Memory) ⊎ IsFault text fault
 fault_of text Memory a = inl refl
 fault_of text Empty a = inr a
 fault_of text (Syntax at) a = inr a
@@ -207,7 +207,7 @@ query_case : (text : List ℕ) (query : Query) (fault : QueryFault) → Parses t
 query_case text query fault p (inl e) = inl (ap Err e)
 query_case text query fault p (inr q) = absurd (parses_no_fault text query fault p q)
 
-pub query_answered : (text : List ℕ) (answer : Result Query QueryFault) (query : Query) → IsAnswer text answer → Parses text query
+pub query_answered : (text : List ℕ) (answer : Result Query QueryFault) (query : Query) → IsQueryAnswer text answer → Parses text query
     → (answer ≡ Err Memory) ⊎ (answer ≡ Ok query)
 query_answered text (Ok other) query a p = inr (ap Ok (same_tree text other query a.0 p.0))
 query_answered text (Err fault) query a p = query_case text query fault p (fault_of text fault a)
@@ -218,12 +218,12 @@ fault_case text fault other p (inl e) = inl (ap Err e)
 fault_case text fault other p (inr q) = inr (ap Err (same_fault text other fault q p))
 
 -- the fault of a text is answered, unless memory runs out
-pub fault_answered : (text : List ℕ) (answer : Result Query QueryFault) (fault : QueryFault) → IsAnswer text answer → IsFault text fault
+pub fault_answered : (text : List ℕ) (answer : Result Query QueryFault) (fault : QueryFault) → IsQueryAnswer text answer → IsFault text fault
     → (answer ≡ Err Memory) ⊎ (answer ≡ Err fault)
 fault_answered text (Ok query) fault a p = absurd (parses_no_fault text query fault a p)
 fault_answered text (Err other) fault a p = fault_case text fault other p (fault_of text other a)
 
-pub well_formed_answer : (text : List ℕ) (answer : Result Query QueryFault) → IsAnswer text answer → IfOk answer (λ query. IsTrue (is_well_formed query))
+pub well_formed_answer : (text : List ℕ) (answer : Result Query QueryFault) → IsQueryAnswer text answer → IfOk answer (λ query. IsTrue (is_well_formed query))
 well_formed_answer text (Ok query) (spells, depth, leaves) = well_formed text query spells (tree_depth _ _ depth) leaves
   where
     tree_depth : (n m : ℕ) → max n m ≤ 32 → m ≤ 32

@@ -1,5 +1,6 @@
 -- What is put together from the tokens of a query is its tree.
 use Rattle.std.proofs.Common.{◌≡◌, ℕ, zero, suc, ◌+◌, ◌<◌, ◌≤◌, max, List, [], ◌∷◌, ◌++◌, Bool, true, false, Option, Some, None, refl, ap, ◌∙◌, sym, append_assoc, add-one, arith}
+use Rattle.std.proofs.Math.Nat.{le_trans}
 use Rattle.std.proofs.lemmas.List.{append-nil}
 use Rattle.documents.specs.declared.query.Query.{Query, Word, Phrase, Not}
 use Rattle.documents.specs.Matching.{depth_of}
@@ -96,9 +97,6 @@ close_grows level (around ∷ outer) e =
     let tree = level_tree level in
     omega (arith, tree_grows level e, operand_grows around tree, operand_depth around tree, negated_depth around.nots tree)
 
-le_trans : (a b c : ℕ) → a ≤ b → b ≤ c → a ≤ c
-le_trans a b c p q = omega arith
-
 -- no NOT waits for its operand where an operator is expected
 abbrev pub IsPending : Bool → ℕ → Type 0
 IsPending true n = Unit {0}
@@ -128,25 +126,25 @@ pub depth_grows : (tokens : List Token) (expects : Bool) (n : ℕ) (levels : Lev
     → state_after (state expects n) tokens ≡ Some (state false zero) → levels_depth levels ≤ levels_depth (levels_after levels tokens)
 depth_grows [] expects n levels pending e = omega arith
 depth_grows (token.Word w ∷ ts) true n levels pending e =
-    le_trans _ _ _ (leaf_grows levels (Word w)) (depth_grows ts false n (with_operand levels.0 (Word w), levels.1) refl e)
+    le_trans (leaf_grows levels (Word w)) (depth_grows ts false n (with_operand levels.0 (Word w), levels.1) refl e)
 depth_grows (token.Word w ∷ ts) false n levels pending e = no_state zero e
 depth_grows (token.Phrase words ∷ ts) true n levels pending e =
-    le_trans _ _ _ (leaf_grows levels (Phrase words)) (depth_grows ts false n (with_operand levels.0 (Phrase words), levels.1) refl e)
+    le_trans (leaf_grows levels (Phrase words)) (depth_grows ts false n (with_operand levels.0 (Phrase words), levels.1) refl e)
 depth_grows (token.Phrase words ∷ ts) false n levels pending e = no_state zero e
 depth_grows (token.Open ∷ ts) true n levels pending e =
-    le_trans _ _ _ (open_grows levels) (depth_grows ts true (suc n) (empty_level, levels.0 ∷ levels.1) tt e)
+    le_trans (open_grows levels) (depth_grows ts true (suc n) (empty_level, levels.0 ∷ levels.1) tt e)
 depth_grows (token.Open ∷ ts) false n levels pending e = no_state zero e
 depth_grows (token.Close ∷ ts) true n levels pending e = no_state zero e
 depth_grows (token.Close ∷ ts) false zero levels pending e = no_state zero e
 depth_grows (token.Close ∷ ts) false (suc n) levels pending e =
-    le_trans _ _ _ (close_grows levels.0 levels.1 pending) (depth_grows ts false n (closed_level levels.0 levels.1) (closed_pending levels.0 levels.1 pending) e)
+    le_trans (close_grows levels.0 levels.1 pending) (depth_grows ts false n (closed_level levels.0 levels.1) (closed_pending levels.0 levels.1 pending) e)
 depth_grows (token.And ∷ ts) true n levels pending e = no_state zero e
 depth_grows (token.And ∷ ts) false n levels pending e = depth_grows ts true n levels tt e
 depth_grows (token.Or ∷ ts) true n levels pending e = no_state zero e
 depth_grows (token.Or ∷ ts) false n levels pending e =
-    le_trans _ _ _ (or_step levels) (depth_grows ts true n (with_or levels.0, levels.1) tt e)
+    le_trans (or_step levels) (depth_grows ts true n (with_or levels.0, levels.1) tt e)
 depth_grows (token.Not ∷ ts) true n levels pending e =
-    le_trans _ _ _ (not_grows levels) (depth_grows ts true n (levels_behind levels token.Not) tt e)
+    le_trans (not_grows levels) (depth_grows ts true n (levels_behind levels token.Not) tt e)
 depth_grows (token.Not ∷ ts) false n levels pending e = no_state zero e
 depth_grows (token.Stray ∷ ts) expects n levels pending e = no_state zero e
 

@@ -8,7 +8,7 @@ use Rattle.text_query.specs.declared.syntax.State.{State}
 use Rattle.text_query.specs.declared.token.Token.{Token}
 use Rattle.text_query.specs.declared.token.Token.TheVariants.{Word, Phrase, Open, Close, And, Or, Not, Stray}
 use Rattle.text_query.specs.Grammar.{QueryReading, ConjReading, UnaryReading, last_conj, conj_or, last_unary, unary_and, not_unary, word, phrase, parenthesised, query_tokens, conj_tokens, unary_tokens}
-use Rattle.text_query.specs.Syntax.{IsQuery, GoesOn}
+use Rattle.text_query.specs.Syntax.{IsQuery, BeginsQuery}
 use Rattle.text_query.proofs.Suffixes.{query_from_state}
 use Rattle.text_query.specs.States.{state, state_behind, state_after}
 
@@ -58,7 +58,7 @@ state-ending true n = state-closing n
 state-ending false n = state-closing n
 
 -- where there is a state, a query goes on
-pub goes_on_from_state : (tokens : List Token) (s : State) → state_after (state true zero) tokens ≡ Some s → GoesOn tokens
+pub goes_on_from_state : (tokens : List Token) (s : State) → state_after (state true zero) tokens ≡ Some s → BeginsQuery tokens
 goes_on_from_state tokens s e =
     let more = ending s.expects_operand s.opened in (
       more,
@@ -74,7 +74,7 @@ no_state : (s : State) → None ≡ Some s → ⊥
 no_state s e = cc
 
 -- where there is no state, no query goes on
-pub stops_from_state : (tokens : List Token) → state_after (state true zero) tokens ≡ None → GoesOn tokens → ⊥
+pub stops_from_state : (tokens : List Token) → state_after (state true zero) tokens ≡ None → BeginsQuery tokens → ⊥
 stops_from_state tokens e (more, q) =
     no_state (state false zero) (ap (option_and_then (λ r. state_after r more)) (sym e) ∙ (sym (state_after-append (state true zero) tokens more) ∙ state_from_query (tokens ++ more) q))
 

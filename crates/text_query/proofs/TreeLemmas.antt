@@ -4,6 +4,7 @@ use Rattle.std.specs.Prelude.{◌&&◌, nat_le}
 use Rattle.std.specs.List.{list_all}
 use denote.Hole.Carrier.{hidden}
 use mathlib.Core.Former.{Count}
+use Rattle.std.proofs.Math.Bool.{and-true}
 use Rattle.documents.specs.declared.query.Query.{Query, All, Any, Not, All', Any', Not', Row_of-Query, end_of-Query, more_of-Query, items-the_row-Query, items_hidden-the_row-Query-0}
 use Rattle.documents.specs.declared.query.Query.TheBlock.{hidden-the_row-Query-1}
 use Rattle.documents.specs.Matching.{depth_of, deepest, leaves_of, all_leaves, count_parts, has_form, all_have_form}
@@ -78,10 +79,6 @@ form_any parts =
     ap (λ (k : ℕ). nat_le 2 k && all_have_form row.1) (count_parts-row row.0 row.1 ∙ ap length same)
     ∙ ap (λ (b : Bool). nat_le 2 (length parts) && b) (all_have_form-row row.0 row.1 ∙ ap (list_all has_form) same)
 
-and_true : (b : Bool) → (b && true) ≡ b
-and_true true = refl
-and_true false = refl
-
 pub form_not : (part : Query) → has_form (Not part) ≡ has_form part
 unfolding hidden-the_row-Query-1 hidden
-form_not part = and_true (has_form part)
+form_not part = and-true (has_form part)

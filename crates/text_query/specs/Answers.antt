@@ -34,7 +34,7 @@ depth_with text query = max (most_open 0 (kinds_of (tokens_of text))) (depth_of 
 abbrev pub Parses : List ℕ → Query → Type 0
 Parses text query = SpellsQuery text query × (depth_with text query ≤ 32) × (leaves_of query ≤ 64)
 
--- the fault of a text, want of memory apart
+-- the fault of a text
 abbrev pub IsFault : List ℕ → QueryFault → Type 0
 IsFault text Empty = IsTrue (is_blank text)
 IsFault text (Syntax at) = IsTrue (not (is_blank text)) × IsFirstBadToken text at
@@ -43,11 +43,11 @@ IsFault text TooMany =
     (query : Query) × SpellsQuery text query × (depth_with text query ≤ 32) × (64 < leaves_of query)
 IsFault text Memory = ⊥
 
--- what is answered to a text; want of memory may always come
-abbrev pub IsAnswer : List ℕ → Result Query QueryFault → Type 0
-IsAnswer text (Ok query) = Parses text query
-IsAnswer text (Err Memory) = Unit {0}
-IsAnswer text (Err Empty) = IsFault text Empty
-IsAnswer text (Err (Syntax at)) = IsFault text (Syntax at)
-IsAnswer text (Err TooDeep) = IsFault text TooDeep
-IsAnswer text (Err TooMany) = IsFault text TooMany
+-- what is answered to a text: the reader may always be out of memory
+abbrev pub IsQueryAnswer : List ℕ → Result Query QueryFault → Type 0
+IsQueryAnswer text (Ok query) = Parses text query
+IsQueryAnswer text (Err Memory) = Unit {0}
+IsQueryAnswer text (Err Empty) = IsFault text Empty
+IsQueryAnswer text (Err (Syntax at)) = IsFault text (Syntax at)
+IsQueryAnswer text (Err TooDeep) = IsFault text TooDeep
+IsQueryAnswer text (Err TooMany) = IsFault text TooMany

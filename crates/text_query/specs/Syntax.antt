@@ -9,9 +9,9 @@ use Rattle.text_query.specs.Grammar.{QueryReading, query_tokens}
 abbrev pub IsQuery : List Token → Type 0
 IsQuery tokens = (q : QueryReading) × (query_tokens q ≡ tokens)
 
--- a query goes on from these tokens: with some more behind them they are those of a query
-abbrev pub GoesOn : List Token → Type 0
-GoesOn tokens = (more : List Token) × IsQuery (tokens ++ more)
+-- the tokens begin a query: with some more behind them they are those of one
+abbrev pub BeginsQuery : List Token → Type 0
+BeginsQuery tokens = (more : List Token) × IsQuery (tokens ++ more)
 
 -- a query goes on up to the token at this place, and not with it
 pub record IsBadToken (tokens : List Placed) (at : ℕ) : Type 0 where
@@ -19,13 +19,13 @@ pub record IsBadToken (tokens : List Placed) (at : ℕ) : Type 0 where
   pub bad : Placed
   pub behind : List Placed
   pub split : tokens ≡ before ++ bad ∷ behind
-  pub goes_on : GoesOn (kinds_of before)
-  pub stops : GoesOn (kinds_of before ++ bad.token ∷ []) → ⊥
+  pub goes_on : BeginsQuery (kinds_of before)
+  pub stops : BeginsQuery (kinds_of before ++ bad.token ∷ []) → ⊥
   pub place : at ≡ bad.at
 
 -- a query goes on from all the tokens, and they are none: a token is missing at the end
 pub record IsMissingToken (tokens : List Placed) (end : ℕ) (at : ℕ) : Type 0 where
-  pub goes_on : GoesOn (kinds_of tokens)
+  pub goes_on : BeginsQuery (kinds_of tokens)
   pub stops : IsQuery (kinds_of tokens) → ⊥
   pub place : at ≡ end
 

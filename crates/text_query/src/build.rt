@@ -1,3 +1,5 @@
+//! Trees of queries, built from their tokens.
+
 ghost use Rattle.std.specs.Prelude.{◌≡◌, ◌≢◌, ◌+◌, ◌<◌, ◌≤◌, ◌++◌, ◌∷◌, [], length, IfOk, OnOk, MatchOption};
 ghost use Rattle.documents.specs.declared.query.Query.{Query};
 ghost use Rattle.documents.specs.Matching.{depth_of};
@@ -274,7 +276,8 @@ impl Builder {
     }
 
     fn opened(self, alloc: Global) -> Result<Builder, NoMemory>
-        ensures { IfOk result (λ builder. levels_of builder ≡ (empty_level, self.inner ∷ (levels_of self).1)) }
+        ensures { IfOk result (λ builder. levels_of builder
+            ≡ (empty_level, self.inner ∷ (levels_of self).1)) }
     {
         let Builder { inner, mut outer } = self;
         outer.push(inner)?;

@@ -1,3 +1,5 @@
+//! Why a text is no query.
+
 ghost use Rattle.std.specs.Prelude.{◌≡◌};
 ghost use Rattle.text_query.specs.declared.fault.QueryFault.TheVariants.{Memory};
 

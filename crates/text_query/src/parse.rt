@@ -1,8 +1,10 @@
+//! The query that a text spells, or why there is none.
+
 ghost use Rattle.std.specs.Prelude.{◌≡◌, ◌⊎◌, ℕ, List, IfOk, IfErr, IsTrue};
 ghost use Rattle.documents.specs.declared.query.Query.{Query};
 ghost use Rattle.documents.specs.Matching.{is_well_formed};
 ghost use Rattle.text_query.specs.declared.fault.QueryFault.{QueryFault};
-ghost use Rattle.text_query.specs.Answers.{is_blank as is_blank_lem, Parses, IsFault, IsAnswer};
+ghost use Rattle.text_query.specs.Answers.{is_blank as is_blank_lem, Parses, IsFault, IsQueryAnswer};
 ghost use Rattle.text_query.specs.Grammar.{SpellsQuery};
 
 use crate::build::build;
@@ -26,7 +28,7 @@ fn is_blank(text: &[u8]) -> bool
 
 /// The answer to a text.
 fn answer(alloc: Global, text: &[u8]) -> Result<Query, QueryFault>
-    ensures { IsAnswer text.now result }
+    ensures { IsQueryAnswer text.now result }
 {
     if is_blank(text) {
         return Err(QueryFault::Empty);
@@ -70,5 +72,6 @@ pub fn parse_query(alloc: Global, text: &[u8]) -> Result<Query, QueryFault>
 
 /// A text spells one query at most.
 pub fn one_tree()
-    ensures { (text : List ℕ) (first second : Query) → SpellsQuery text first → SpellsQuery text second → first ≡ second }
+    ensures { (text : List ℕ) (first second : Query) → SpellsQuery text first
+        → SpellsQuery text second → first ≡ second }
 {}

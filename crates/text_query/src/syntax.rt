@@ -1,3 +1,5 @@
+//! Where the tokens of a text stop being a query.
+
 ghost use Rattle.std.specs.Prelude.{◌≡◌, ◌+◌, ◌<◌, ◌^◌, OnOk, IfErr, count_by};
 ghost use Rattle.text_query.specs.Tokens.{kinds_of, is_leaf as is_leaf_lem};
 ghost use Rattle.text_query.specs.Syntax.{IsQuery, IsFirstBadPlace};

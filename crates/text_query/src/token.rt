@@ -1,3 +1,5 @@
+//! The tokens of a text.
+
 ghost use Rattle.std.specs.Prelude.{◌≡◌, ◌+◌, ◌<◌, length, IfOk, IsTrue};
 ghost use Rattle.std.specs.List.{list_all};
 ghost use Rattle.documents.specs.Words.{is_alphanumeric as is_alphanumeric_lem, words_of};

@@ -3,7 +3,6 @@ use Rattle.std.specs.Ordering.{is_lt}
 use Rattle.std.proofs.lemmas.List.Sorted.{ranks_by, answers_always}
 use Rattle.documents.specs.declared.answer.Answer.{Answer}
 use Rattle.documents.specs.declared.answer.Hit.{Hit}
-use Rattle.documents.specs.InOrder.{in_order}
 use Rattle.documents.specs.Ranking.{hit_cmp}
 use Rattle.documents.proofs.InOrderLemmas.{in_order-from_sort, hit_cmp_total, hit_ties}
 use Rattle.documents.proofs.ranking.answer_of.Goals as goal

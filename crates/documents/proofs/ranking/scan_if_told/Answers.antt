@@ -1,5 +1,3 @@
-use Rattle.std.proofs.Common.{arith, ap, length, subst, sym}
-use Rattle.std.specs.Prelude.{MatchOption}
 use Rattle.documents.proofs.RankLemmas.{few_hits}
 use Rattle.documents.proofs.ranking.scan_if_told.Goals as goal
 

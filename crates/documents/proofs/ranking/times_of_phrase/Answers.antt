@@ -1,5 +1,4 @@
-use Rattle.std.proofs.Common.{◌≡◌, ◌+◌, ℕ, Bool, arith, sym, ◌∙◌}
-use Rattle.std.specs.Prelude.{if◌then◌else◌}
+use Rattle.std.proofs.Common.{arith}
 use Rattle.documents.proofs.RankLemmas.{one_place}
 use Rattle.documents.proofs.ranking.times_of_phrase.Goals as goal
 use Rattle.documents.proofs.ranking.times_of_phrase.Goals.{then-starts_with, else-starts_with}

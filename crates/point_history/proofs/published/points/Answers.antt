@@ -2,7 +2,7 @@ use Rattle.std.proofs.Common.{List, reverse, take, subst, sym}
 use Rattle.history_entries.specs.declared.entry.Entry.{Entry}
 use Rattle.history_entries.specs.Nodes.{Past}
 use Rattle.history_entries.specs.Legal.{IsLegalPast}
-use Rattle.point_history.specs.Walks.{Shows}
+use Rattle.point_history.specs.Walks.{KnowsPast}
 use Rattle.history_laws.proofs.PastLemmas.{past_next}
 use Rattle.point_history.proofs.WalkLemmas.{made_ascend, is_started}
 use Rattle.point_history.proofs.published.points.Goals as goal
@@ -18,5 +18,5 @@ loop-entry-preserved c =
     let legal : IsLegalPast c.args.h.now.nodes (reverse entries) =
     subst (λ (es : List Entry). IsLegalPast c.args.h.now.nodes (reverse es)) (sym c.as_slice-entry-items.ensures) c.requires in
     let started = is_started c.args.h.now.nodes entries i entry legal c.loop-entry-test.true c.entry-item.is in
-    subst (λ (past : Past). Shows past c.pass.new.self) (sym (past_next entries i entry c.loop-entry-test.true c.entry-item.is))
+    subst (λ (past : Past). KnowsPast past c.pass.new.self) (sym (past_next entries i entry c.loop-entry-test.true c.entry-item.is))
     (c.in_ok-pass.ensures (reverse (take i entries)) c.loop-entry.invariant started)

@@ -9,6 +9,7 @@ loop-leaf-preserved c = record {
       (get_or c.loop-leaf.leaves c.loop-leaf.leaf-index c.leaf-item.result) c.times.new.self (omega arith) (ap (get_or c.loop-leaf.leaves c.loop-leaf.leaf-index) c.leaf-item.is) refl
       c.times.ensures.times c.saturating_add-times.ensures
       ∙ c.loop-leaf.invariant.counted;
+  low = let least = c.saturating_add-times.ensures in omega (arith, least);
   keeps = λ x le.
       count_kept c.loop-leaf.leaves c.loop-leaf.leaf-index x (get_or c.loop-leaf.leaves c.loop-leaf.leaf-index c.leaf-item.result) c.times.new.self (omega arith)
       (ap (get_or c.loop-leaf.leaves c.loop-leaf.leaf-index) c.leaf-item.is) (c.times.ensures.keeps x le)
@@ -17,4 +18,4 @@ loop-leaf-preserved c = record {
 
 pub returns-clause-times : goal.returns-clause-times
 returns-clause-times c =
-    count_end c.loop-leaf.leaves c.loop-leaf.leaf-index c.args.row c.loop-leaf.times (2 ^ 32 - 1) (omega arith) (omega arith) ∙ c.loop-leaf.invariant.counted
+    count_end c.loop-leaf.leaves c.loop-leaf.leaf-index c.args.row c.loop-leaf.times (2 ^ 32 - 1) (omega arith) c.loop-leaf.invariant.low ∙ c.loop-leaf.invariant.counted

@@ -1,4 +1,7 @@
 use Rattle.std.proofs.Common.{◌∙◌, ap, sym, subst}
+use Rattle.segment_infos.specs.declared.infos.SegRecord.{SegRecord}
+use Rattle.seg_reader.specs.declared.parts.SegParts.{SegParts}
+use Rattle.seg_reader.specs.Files.{IsSegmentOf}
 use Rattle.seg_reader.specs.Shown.{Shown}
 use Rattle.seg_reader.specs.Sound.{IsSound}
 use Rattle.seg_build.specs.Built.{record_of}
@@ -30,3 +33,10 @@ returns-in-Ok-clause-sound c =
     let same = c.in_ok-parts.ensures r b.parts (c.as_slice.ensures ∙ b.named) in
     let x = what_is_read r c.first_record-record.result c.in_ok-parts.parts built.files c.requires.0 built.live c.in-Ok.segment c.first_record-record.ensures b same c.in-Ok.ensures.each_segment in
     subst IsSound (sym x.1) x.0.sound
+
+pub returns-in-Ok-clause-segment : goal.returns-in-Ok-clause-segment
+returns-in-Ok-clause-segment c docs b =
+    let built = c.args.built.now in
+    let r = record_of built.seg built.live in
+    let same = c.in_ok-parts.ensures r b.parts (c.as_slice.ensures ∙ b.named) in
+    subst (λ (p : SegParts). IsSegmentOf p r c.in-Ok.segment) same (subst (λ (k : SegRecord). IsSegmentOf c.in_ok-parts.parts k c.in-Ok.segment) c.first_record-record.ensures c.in-Ok.ensures.segment)
