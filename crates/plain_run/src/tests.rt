@@ -5,6 +5,9 @@ use nrt_base::LineNo;
 
 #[test]
 fn first_line_that_is_not_built(rt: HostRuntime) {
-    assert_eq!(rt; first_not_built(b"nodes 2\n1 drop x\n1 settle"), Some(LineNo(3)));
+    assert_eq!(rt;
+        first_not_built(b"nodes 2\n1 drop x\n1 settle"),
+        Some(LineNo(3))
+    );
     assert_eq!(rt; first_not_built(b"nodes 2\nlog"), Some(LineNo(2)));
 }

@@ -40,7 +40,7 @@ use Rattle.script_text.specs.declared.shapes.Asked.TheVariants as found
 use Rattle.script_text.specs.declared.lane_lines.Later.{Later}
 use Rattle.script_text.specs.declared.lane_lines.Later.TheVariants as later_read
 use Rattle.script_serving.specs.Form.{is_command}
-use Rattle.script_text.specs.Grammar.{Statement, statements_from, lines_of_text, words_in, word_at, rest_behind, Ends, SpellsLine, SpellsPhases, SpellsLogged, SpellsBody, SpellsScript, IsNodesHeader, IsWorkersHeader, IsLogHeader, IsJoin, phase_of, promotions_among, AreFew}
+use Rattle.script_text.specs.Grammar.{Statement, statements_from, lines_of_text, words_in, word_at, rest_behind, Ends, SpellsLine, SpellsPhases, SpellsLogged, SpellsBody, SpellsScript, IsNodesHeader, IsWorkersHeader, IsLogHeader, IsJoin, phase_of, promotions_among, AreAllowed}
 use Rattle.script_text.specs.Refused.{letters, text, query, Shape, Asked, missing, unknown, command, first, second, third, later, none_counted, is_headed, is_kind, is_number_in, value_of, command_shapes, fault_shapes, shape_named, fault_shape, shape_of, is_asked_in_range, asks_query, IsFirstCause, IsRight, RefusesAmong, IsFirstRefused, nodes_said}
 
 -- the fault of a script whose line of this number is refused so
@@ -234,7 +234,7 @@ pub record ReadsPhases (size : ℕ) (log : Bool) (before : Counted) (statements 
   pub lines : List (List Line)
   pub spelled : SpellsPhases size statements lines
   pub phased : phases ≡ map phase_of lines
-  pub few : AreFew log (before.statements + length statements) (before.promotions + promotions_among statements)
+  pub few : AreAllowed log (before.statements + length statements) (before.promotions + promotions_among statements)
 
 -- what reading the statements behind the headers gives
 abbrev pub ArePhasesRead : ℕ → Bool → Counted → List Statement → Result (List Phase) ScriptFault → Type 0
@@ -285,7 +285,7 @@ pub record ReadsLogged (size before : ℕ) (statements : List Statement) (log : 
   pub lines : List (List Line)
   pub spelled : SpellsLogged size log statements lines
   pub phased : phases ≡ map phase_of lines
-  pub few : AreFew log (before + length statements) (promotions_among statements)
+  pub few : AreAllowed log (before + length statements) (promotions_among statements)
 
 -- what reading the statements behind the other headers gives
 abbrev pub IsLoggedRead : ℕ → ℕ → List Statement → Result (Bool × List Phase) ScriptFault → Type 0
@@ -300,7 +300,7 @@ pub record ReadsBody (size : ℕ) (statements : List Statement) (script : Script
   pub nodes : script.nodes ≡ size
   pub spelled : SpellsBody size script.workers script.log statements lines
   pub phased : script.phases ≡ map phase_of lines
-  pub few : AreFew script.log (1 + length statements) (promotions_among statements)
+  pub few : AreAllowed script.log (1 + length statements) (promotions_among statements)
 
 -- what reading the statements behind the first gives
 abbrev pub IsBodyRead : ℕ → List Statement → Result Script ScriptFault → Type 0
