@@ -44,6 +44,6 @@ fault_of Memory = DirMemory
 fault_of Failed = DirFailed
 
 -- what the directory answered to a typed state's call
-abbrev pub answer_of : {S E : Type 0} → Result S (Stopped E) → Result (Unit {0}) DirFault
-answer_of (Ok s) = Ok tt
-answer_of (Err s) = Err (fault_of s.fault)
+abbrev pub call_answer : {S E : Type 0} → Result S (Stopped E) → Result (Unit {0}) DirFault
+call_answer (Ok s) = Ok tt
+call_answer (Err s) = Err (fault_of s.fault)

@@ -3,7 +3,7 @@
 ghost use Rattle.std.specs.Prelude.{◌≡◌, ◌<◌, ℕ, Ok, Err, IsSome};
 ghost use Rattle.disk_model.specs.Faults.{CountsFaults};
 ghost use Rattle.file_deleter.specs.Holdings.{Holdings, AreThere};
-ghost use Rattle.commit_steps.specs.Flights.{pending_name, answer_of};
+ghost use Rattle.commit_steps.specs.Flights.{pending_name, call_answer};
 ghost use Rattle.commit_steps.specs.Calls.{StandsBegun, StandsSynced, StandsWritten, StandsPending, StandsNamed, StandsRenamed};
 ghost use Rattle.commit_steps.specs.Book.{Stands, Advances};
 
@@ -19,7 +19,7 @@ fn sync_files<D: Dir>(state: Begun, dir: &mut D) -> Result<Progress, Stopped<Sta
     requires { AreThere (D.cells dir.old) state.0.commit.files }
     ensures advances { (holdings : Holdings) → StandsBegun (D.cells dir.old) holdings state.0
         → Advances (D.cells dir.old) (D.cells dir.new) holdings holdings (Stage.Begun state) result }
-    ensures faults { CountsFaults (D.faults dir.old) (D.faults dir.new) (answer_of result) }
+    ensures faults { CountsFaults (D.faults dir.old) (D.faults dir.new) (call_answer result) }
 {
     match state.sync_files(dir) {
         Ok(synced) => Ok(Progress::Going(Stage::Synced(synced))),
@@ -41,7 +41,7 @@ fn write_pending<D: Dir>(
     requires stands { StandsSynced (D.cells dir.old) files.old state.0 }
     ensures advances { Advances (D.cells dir.old) (D.cells dir.new)
         files.old files.new (Stage.Synced state) result }
-    ensures faults { CountsFaults (D.faults dir.old) (D.faults dir.new) (answer_of result) }
+    ensures faults { CountsFaults (D.faults dir.old) (D.faults dir.new) (call_answer result) }
 {
     let name = pending_name(state.0.commit.number);
     match state.write_pending(alloc, dir) {
@@ -61,7 +61,7 @@ fn sync_pending<D: Dir>(state: Written, dir: &mut D) -> Result<Progress, Stopped
     requires { IsSome (D.cells dir.old (pending_name state.0.commit)).now }
     ensures advances { (holdings : Holdings) → StandsWritten (D.cells dir.old) holdings state.0
         → Advances (D.cells dir.old) (D.cells dir.new) holdings holdings (Stage.Written state) result }
-    ensures faults { CountsFaults (D.faults dir.old) (D.faults dir.new) (answer_of result) }
+    ensures faults { CountsFaults (D.faults dir.old) (D.faults dir.new) (call_answer result) }
 {
     match state.sync_pending(dir) {
         Ok(pending) => Ok(Progress::Going(Stage::Pending(pending))),
@@ -76,7 +76,7 @@ fn sync_pending<D: Dir>(state: Written, dir: &mut D) -> Result<Progress, Stopped
 fn sync_first_names<D: Dir>(state: Pending, dir: &mut D) -> Result<Progress, Stopped<Stage>>
     ensures advances { (holdings : Holdings) → StandsPending (D.cells dir.old) holdings state.0
         → Advances (D.cells dir.old) (D.cells dir.new) holdings holdings (Stage.Pending state) result }
-    ensures faults { CountsFaults (D.faults dir.old) (D.faults dir.new) (answer_of result) }
+    ensures faults { CountsFaults (D.faults dir.old) (D.faults dir.new) (call_answer result) }
 {
     match state.sync_names(dir) {
         Ok(named) => Ok(Progress::Going(Stage::Named(named))),
@@ -97,7 +97,7 @@ fn rename<D: Dir>(
     requires stands { StandsNamed (D.cells dir.old) files.old state.0 }
     ensures advances { Advances (D.cells dir.old) (D.cells dir.new)
         files.old files.new (Stage.Named state) result }
-    ensures faults { CountsFaults (D.faults dir.old) (D.faults dir.new) (answer_of result) }
+    ensures faults { CountsFaults (D.faults dir.old) (D.faults dir.new) (call_answer result) }
 {
     let pending = pending_name(state.0.commit.number);
     let own = commit_name(state.0.commit.number);
@@ -117,7 +117,7 @@ fn rename<D: Dir>(
 fn sync_last_names<D: Dir>(state: Renamed, dir: &mut D) -> Result<Progress, Stopped<Stage>>
     ensures advances { (holdings : Holdings) → StandsRenamed (D.cells dir.old) holdings state.0
         → Advances (D.cells dir.old) (D.cells dir.new) holdings holdings (Stage.Renamed state) result }
-    ensures faults { CountsFaults (D.faults dir.old) (D.faults dir.new) (answer_of result) }
+    ensures faults { CountsFaults (D.faults dir.old) (D.faults dir.new) (call_answer result) }
 {
     match state.sync_names(dir) {
         Ok(done) => Ok(Progress::Made(done.0.commit)),
@@ -138,7 +138,7 @@ pub fn advance<D: Dir>(
     requires room { 0 < files.old.room }
     requires stands { Stands (D.cells dir.old) files.old stage }
     ensures advances { Advances (D.cells dir.old) (D.cells dir.new) files.old files.new stage result }
-    ensures faults { CountsFaults (D.faults dir.old) (D.faults dir.new) (answer_of result) }
+    ensures faults { CountsFaults (D.faults dir.old) (D.faults dir.new) (call_answer result) }
 {
     match stage {
         Stage::Begun(state) => sync_files(state, dir),

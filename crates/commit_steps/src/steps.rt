@@ -4,7 +4,7 @@ ghost use Rattle.std.specs.Prelude.{◌≡◌, None, Some, IsSome, Ok, Err, [], 
 ghost use Rattle.disk_model.specs.Disk.{after_sync, after_write, after_rename, after_sync_names};
 ghost use Rattle.disk_model.specs.Faults.{CountsFaults, FailsByPlans, IsMemoryOrFailed};
 ghost use Rattle.file_deleter.specs.Holdings.{AreThere};
-ghost use Rattle.commit_steps.specs.Flights.{own_name, pending_name, fault_of, answer_of};
+ghost use Rattle.commit_steps.specs.Flights.{own_name, pending_name, fault_of, call_answer};
 
 use crate::states::{Begun, CommitFault, Done, Named, Pending, Renamed, Stopped, Synced, Written};
 use disk_model::{Dir, DirFault};
@@ -33,9 +33,9 @@ impl Begun {
         ensures err { IfErr result
             (λ stopped. (stopped.state ≡ self) × (stopped.fault ≡ CommitFault.Failed)) }
         ensures cells { D.cells dir.new
-            ≡ after_sync (D.cells dir.old) self.0.commit.files (answer_of result) }
-        ensures faults { CountsFaults (D.faults dir.old) (D.faults dir.new) (answer_of result) }
-        ensures plans { FailsByPlans (D.plans dir.old) (D.plans dir.new) (answer_of result) }
+            ≡ after_sync (D.cells dir.old) self.0.commit.files (call_answer result) }
+        ensures faults { CountsFaults (D.faults dir.old) (D.faults dir.new) (call_answer result) }
+        ensures plans { FailsByPlans (D.plans dir.old) (D.plans dir.new) (call_answer result) }
     {
         match dir.sync(self.0.commit.files.as_slice()) {
             Ok(()) => Ok(Synced(self.0)),
@@ -58,9 +58,9 @@ impl Synced {
         ensures ok { IfOk result (λ written. written.0 ≡ self.0) }
         ensures err { IfErr result (λ stopped. stopped.state ≡ self) }
         ensures cells { D.cells dir.new ≡ after_write (D.cells dir.old)
-            (pending_name self.0.commit) self.0.bytes (answer_of result) }
-        ensures faults { CountsFaults (D.faults dir.old) (D.faults dir.new) (answer_of result) }
-        ensures plans { FailsByPlans (D.plans dir.old) (D.plans dir.new) (answer_of result) }
+            (pending_name self.0.commit) self.0.bytes (call_answer result) }
+        ensures faults { CountsFaults (D.faults dir.old) (D.faults dir.new) (call_answer result) }
+        ensures plans { FailsByPlans (D.plans dir.old) (D.plans dir.new) (call_answer result) }
     {
         let Ok(bytes) = self.0.bytes.share(alloc) else {
             return Err(Stopped {
@@ -98,9 +98,9 @@ impl Written {
         ensures err { IfErr result
             (λ stopped. (stopped.state ≡ self) × (stopped.fault ≡ CommitFault.Failed)) }
         ensures cells { D.cells dir.new ≡ after_sync (D.cells dir.old)
-            (pending_name self.0.commit ∷ []) (answer_of result) }
-        ensures faults { CountsFaults (D.faults dir.old) (D.faults dir.new) (answer_of result) }
-        ensures plans { FailsByPlans (D.plans dir.old) (D.plans dir.new) (answer_of result) }
+            (pending_name self.0.commit ∷ []) (call_answer result) }
+        ensures faults { CountsFaults (D.faults dir.old) (D.faults dir.new) (call_answer result) }
+        ensures plans { FailsByPlans (D.plans dir.old) (D.plans dir.new) (call_answer result) }
     {
         match sync_one(dir, &pending_name(self.0.commit.number)) {
             Ok(()) => Ok(Pending(self.0)),
@@ -118,9 +118,9 @@ impl Pending {
         ensures ok { IfOk result (λ named. named.0 ≡ self.0) }
         ensures err { IfErr result
             (λ stopped. (stopped.state ≡ self) × (stopped.fault ≡ CommitFault.Failed)) }
-        ensures cells { D.cells dir.new ≡ after_sync_names (D.cells dir.old) (answer_of result) }
-        ensures faults { CountsFaults (D.faults dir.old) (D.faults dir.new) (answer_of result) }
-        ensures plans { FailsByPlans (D.plans dir.old) (D.plans dir.new) (answer_of result) }
+        ensures cells { D.cells dir.new ≡ after_sync_names (D.cells dir.old) (call_answer result) }
+        ensures faults { CountsFaults (D.faults dir.old) (D.faults dir.new) (call_answer result) }
+        ensures plans { FailsByPlans (D.plans dir.old) (D.plans dir.new) (call_answer result) }
     {
         match dir.sync_names() {
             Ok(()) => Ok(Named(self.0)),
@@ -140,9 +140,9 @@ impl Named {
         ensures ok { IfOk result (λ renamed. renamed.0 ≡ self.0) }
         ensures err { IfErr result (λ stopped. stopped.state ≡ self) }
         ensures cells { D.cells dir.new ≡ after_rename (D.cells dir.old)
-            (pending_name self.0.commit) (own_name self.0.commit) (answer_of result) }
-        ensures faults { CountsFaults (D.faults dir.old) (D.faults dir.new) (answer_of result) }
-        ensures plans { FailsByPlans (D.plans dir.old) (D.plans dir.new) (answer_of result) }
+            (pending_name self.0.commit) (own_name self.0.commit) (call_answer result) }
+        ensures faults { CountsFaults (D.faults dir.old) (D.faults dir.new) (call_answer result) }
+        ensures plans { FailsByPlans (D.plans dir.old) (D.plans dir.new) (call_answer result) }
     {
         let number = self.0.commit.number;
         match dir.rename(&pending_name(number), &commit_name(number)) {
@@ -161,9 +161,9 @@ impl Renamed {
         ensures ok { IfOk result (λ done. done.0 ≡ self.0) }
         ensures err { IfErr result
             (λ stopped. (stopped.state ≡ self) × (stopped.fault ≡ CommitFault.Failed)) }
-        ensures cells { D.cells dir.new ≡ after_sync_names (D.cells dir.old) (answer_of result) }
-        ensures faults { CountsFaults (D.faults dir.old) (D.faults dir.new) (answer_of result) }
-        ensures plans { FailsByPlans (D.plans dir.old) (D.plans dir.new) (answer_of result) }
+        ensures cells { D.cells dir.new ≡ after_sync_names (D.cells dir.old) (call_answer result) }
+        ensures faults { CountsFaults (D.faults dir.old) (D.faults dir.new) (call_answer result) }
+        ensures plans { FailsByPlans (D.plans dir.old) (D.plans dir.new) (call_answer result) }
     {
         match dir.sync_names() {
             Ok(()) => Ok(Done(self.0)),

@@ -15,7 +15,7 @@ use Rattle.script_serving.specs.declared.script.Phase.{Phase}
 use Rattle.script_serving.specs.declared.script.Script.{Script}
 use Rattle.script_serving.specs.Lines.{lines_of, lines_of_phase}
 use Rattle.script_serving.specs.Form.{is_command}
-use Rattle.script_text.specs.Grammar.{Statement, statements_of, words_in, command_words, Ends, IsNodesHeader, SpellsPhases, SpellsLogged, SpellsBody, SpellsStatements, most_statements, promotions_among, AreFew, of_lane, lane_entry, lanes_from, phase_of}
+use Rattle.script_text.specs.Grammar.{Statement, statements_of, words_in, command_words, Ends, IsNodesHeader, SpellsPhases, SpellsLogged, SpellsBody, SpellsStatements, most_statements, promotions_among, AreAllowed, of_lane, lane_entry, lanes_from, phase_of}
 use Rattle.script_text.specs.Refused.{is_digit, value_of}
 use Rattle.plain_run.specs.Built.{begins_with_words, is_built, first_unbuilt}
 use Rattle.script_text.proofs.NumberLaws.{value_of-decimal, digits_of-decimal, other_word}
@@ -196,10 +196,10 @@ built_body script (statement ∷ statements) phases (inl spells) built =
     absurd (false≢true (ap is_built (sym spells.0.0) ∙ (built_parts statement statements built).first))
 built_body script (statement ∷ statements) phases (inr spells) built = (spells.0, built_logged script.log (statement ∷ statements) phases spells.1 built)
 
-few_plain : (log : Bool) (n promoting : ℕ) → AreFew log n promoting → log ≡ false → n ≤ 200000
+few_plain : (log : Bool) (n promoting : ℕ) → AreAllowed log n promoting → log ≡ false → n ≤ 200000
 few_plain log n promoting few e = let h : n ≤ most_statements false = subst (λ (b : Bool). n ≤ most_statements b) e few.statements in h
 
-built_statements : (statements : List Statement) (script : Script) → SpellsStatements statements script → first_unbuilt statements ≡ None → AreFew script.log (length statements) (promotions_among statements) → IsPlainScript script
+built_statements : (statements : List Statement) (script : Script) → SpellsStatements statements script → first_unbuilt statements ≡ None → AreAllowed script.log (length statements) (promotions_among statements) → IsPlainScript script
 built_statements [] script spells built few = absurd spells
 built_statements (statement ∷ statements) script spells built few =
     let parts = built_parts statement statements built in

@@ -22,11 +22,16 @@ const PIECE: usize = 4096;
 
 /// Reads a source to its end, in at most as many turns as a script has bytes, and two more.
 pub fn read_all<S: Source>(alloc: Global, source: &mut S) -> Result<Vec<u8>, ReadEnd>
-    ensures read { IfOk result (λ bytes. Consumes (S.left source.old) (S.left source.new) bytes.items × IsAtEnd (S.left source.new) × (length bytes.items ≤ LONGEST)) }
+    ensures read { IfOk result (λ bytes. Consumes (S.left source.old)
+        (S.left source.new) bytes.items × IsAtEnd (S.left source.new) ×
+        (length bytes.items ≤ LONGEST)) }
     ensures later { S.fault_count source.old ≤ S.fault_count source.new }
-    ensures fault { result ≡ Err ReadEnd.Fault → Rose (S.fault_count source.old) (S.fault_count source.new) }
-    ensures within { result ≡ Err ReadEnd.Fault → (taken : List ℕ) × Consumes (S.left source.old) (S.left source.new) taken × (length taken ≤ LONGEST) }
-    ensures large { result ≡ Err ReadEnd.TooLarge → (taken : List ℕ) × Consumes (S.left source.old) (S.left source.new) taken × (LONGEST < length taken) }
+    ensures fault { result ≡ Err ReadEnd.Fault → Rose (S.fault_count source.old)
+        (S.fault_count source.new) }
+    ensures within { result ≡ Err ReadEnd.Fault → (taken : List ℕ) × Consumes (S.left source.old)
+        (S.left source.new) taken × (length taken ≤ LONGEST) }
+    ensures large { result ≡ Err ReadEnd.TooLarge → (taken : List ℕ) × Consumes (S.left source.old)
+        (S.left source.new) taken × (LONGEST < length taken) }
 {
     let mut bytes = Vec::new(alloc);
     let mut piece = [0; PIECE];

@@ -10,7 +10,7 @@ use text_query::QueryFault;
 const PLAIN: &[u8] = b"nodes 2\n1 put a Quick fox\n1 publish\n1 copy 2\n1 search 2 fox\n";
 
 const REPORT: &[u8] =
-    b"2 accepted 1\n3 publishing\n3 published 1 2\n4 copying 2 2\n4 switched 2 2\n4 copied 2 2\n5 opened 2 0 2\n5 answer 2 0 2 1 a\n";
+    b"2 accepted 1\n3 publishing\n3 published 1 2\n4 copying 2 2\n4 switched 2 2\n4 copied 2 2\n5 opened 2 0 2\n5 answer 2 0 2 1 1:a\n";
 
 fn words(alloc: Global, texts: &[&[u8]]) -> Result<Vec<Arg>, Fail> {
     let mut words = Vec::new(alloc);
@@ -70,6 +70,15 @@ fn replica_never_copied(rt: HostRuntime) -> Result<(), Fail> {
 }
 
 #[test]
+fn dropped_word(rt: HostRuntime) -> Result<(), Fail> {
+    let script = b"nodes 2\n1 put a x\n1 put b y\n1 drop X\n1 publish\n1 search 1 x OR y";
+    let (status, text) = run(rt.alloc(), &[b"run"], script, &[], &[])?;
+    assert_eq!(rt; status, Status::Done);
+    assert!(rt; text.ends_with(b"6 answer 1 0 2 1 1:b\n"));
+    Ok(())
+}
+
+#[test]
 fn nothing_to_publish(rt: HostRuntime) -> Result<(), Fail> {
     let script = b"nodes 2\n1 put a x\n1 publish\n1 publish\n1 put b y\n1 publish\n";
     let (status, text) = run(rt.alloc(), &[b"run"], script, &[], &[])?;
@@ -115,6 +124,7 @@ fn lines_not_built(rt: HostRuntime) -> Result<(), Fail> {
     let rows: &[(&[u8], u32)] = &[
         (b"nodes 3", 1),
         (b"nodes 2\nworkers 0", 2),
+        (b"nodes 2\nlog", 2),
         (b"nodes 2\n1 put a x\njoin", 3),
         (b"nodes 2\n# x\n2 publish", 3),
         (b"nodes 2\n1 copy 1", 2),

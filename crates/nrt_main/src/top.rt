@@ -52,12 +52,16 @@ fn run_report(alloc: Global, script: &Script) -> Result<Vec<u8>, NoMemory>
 fn run_bytes<K: Sink>(alloc: Global, bytes: &[u8], sink: &mut K) -> Status
     requires { length bytes.now ≤ longest }
     ensures done { result ≡ Status.Done → Answers bytes.now (K.held sink.old) (K.held sink.new) }
-    ensures part { result ≡ Status.WriteFault → AnswersInPart bytes.now (K.held sink.old) (K.held sink.new) }
-    ensures bad { (n : LineNo) (cause : LineFault) → result ≡ Status.BadScript n cause → RefusesLine bytes.now n.0 cause }
+    ensures part { result ≡ Status.WriteFault → AnswersInPart bytes.now (K.held sink.old)
+        (K.held sink.new) }
+    ensures bad { (n : LineNo) (cause : LineFault) → result ≡ Status.BadScript n cause
+        → RefusesLine bytes.now n.0 cause }
     ensures answers { result ≢ Status.Memory → IsAnswer bytes.now result }
-    ensures write { result ≡ Status.WriteFault → Rose (K.fault_count sink.old) (K.fault_count sink.new) }
+    ensures write { result ≡ Status.WriteFault → Rose (K.fault_count sink.old)
+        (K.fault_count sink.new) }
     ensures kept { result ≢ Status.Done → result ≢ Status.WriteFault → sink.new ≡ sink.old }
-    ensures others { (result ≢ Status.Usage) × (result ≢ Status.ReadFault) × (result ≢ Status.TooLarge) }
+    ensures others { (result ≢ Status.Usage) × (result ≢ Status.ReadFault) ×
+        (result ≢ Status.TooLarge) }
 {
     let script = match read_script(alloc, bytes) {
         Ok(script) => script,
@@ -101,16 +105,21 @@ pub fn run_nrt<S: Source, K: Sink>(
 ) -> Status
     requires reads { S.fault_count source.old < 2 ^ 64 - 1 }
     requires writes { K.fault_count sink.old < 2 ^ 64 - 1 }
-    ensures done { result ≡ Status.Done → Ran (S.left source.old) (S.left source.new) (K.held sink.old) (K.held sink.new) }
-    ensures part { result ≡ Status.WriteFault → RanInPart (S.left source.old) (S.left source.new) (K.held sink.old) (K.held sink.new) }
+    ensures done { result ≡ Status.Done → Ran (S.left source.old) (S.left source.new)
+        (K.held sink.old) (K.held sink.new) }
+    ensures part { result ≡ Status.WriteFault → RanInPart (S.left source.old) (S.left source.new)
+        (K.held sink.old) (K.held sink.new) }
     ensures usage { result ≡ Status.Usage ↔ ¬ IsRun words.now }
     ensures unread { result ≡ Status.Usage → source.new ≡ source.old }
-    ensures bad { (n : LineNo) (cause : LineFault) → result ≡ Status.BadScript n cause → Refuses (S.left source.old) (S.left source.new) n.0 cause }
-    ensures answers { result ≢ Status.Usage → result ≢ Status.ReadFault → result ≢ Status.TooLarge → result ≢ Status.Memory → AnswersWhole (S.left source.old) (S.left source.new) result }
+    ensures bad { (n : LineNo) (cause : LineFault) → result ≡ Status.BadScript n cause → Refuses
+        (S.left source.old) (S.left source.new) n.0 cause }
+    ensures answers { result ≢ Status.Usage → result ≢ Status.ReadFault → result ≢ Status.TooLarge
+        → result ≢ Status.Memory → AnswersWhole (S.left source.old) (S.left source.new) result }
     ensures read { result ≡ Status.ReadFault → S.fault_count source.old < S.fault_count source.new }
     ensures write { result ≡ Status.WriteFault → K.fault_count sink.old < K.fault_count sink.new }
     ensures large { result ≡ Status.TooLarge → TakesMore (S.left source.old) (S.left source.new) }
-    ensures small { result ≢ Status.TooLarge → result ≢ Status.Memory → result ≢ Status.Usage → TakesWithin (S.left source.old) (S.left source.new) }
+    ensures small { result ≢ Status.TooLarge → result ≢ Status.Memory → result ≢ Status.Usage
+        → TakesWithin (S.left source.old) (S.left source.new) }
     ensures kept { result ≢ Status.Done → result ≢ Status.WriteFault → sink.new ≡ sink.old }
 {
     if !is_run(words) {

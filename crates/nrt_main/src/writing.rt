@@ -8,7 +8,8 @@ use nrt_streams::{Failed, Sink};
 #[tactic(auto, using(crate::proofs::Writes::appends_more))]
 pub fn write_all<K: Sink>(sink: &mut K, bytes: &[u8]) -> Result<(), Failed>
     ensures written { OnOk result (Appends (K.held sink.old) (K.held sink.new) bytes.now) }
-    ensures prefix { OnErr result ((n : ℕ) × (n ≤ length bytes.now) × Appends (K.held sink.old) (K.held sink.new) (take n bytes.now)) }
+    ensures prefix { OnErr result ((n : ℕ) × (n ≤ length bytes.now) × Appends (K.held sink.old)
+        (K.held sink.new) (take n bytes.now)) }
     ensures cause { HasCause (K.fault_count sink.old) (K.fault_count sink.new) result }
 {
     let mut at = 0;

@@ -208,7 +208,8 @@ impl Engine {
         requires few { accepted_count self.now.past < 2 ^ 32 }
         requires formed { IsTrue (is_well_formed query.now) }
         ensures version { IfOk result (λ found. found.0.0 ≡ version_of n.0 self.now.past) }
-        ensures answer { IfOk result (λ found. found.1 ≡ scan_of (documents_at self.now.past (version_of n.0 self.now.past)) query.now) }
+        ensures answer { IfOk result (λ found. found.1 ≡ scan_of (documents_at self.now.past
+            (version_of n.0 self.now.past)) query.now) }
     {
         let node = if n.0 == 1 {
             &self.primary

@@ -16,7 +16,8 @@ pub struct Searched {
 
 fn change_all(alloc: Global, texts: &mut Texts, ops: &[Op]) -> Result<(), NoMemory>
     requires { IsOrdered key_cmp texts.old }
-    ensures after { OnOk result (map document_of texts.new.entries ≡ after_ops (map document_of texts.old.entries) ops.now) }
+    ensures after { OnOk result (map document_of texts.new.entries ≡ after_ops
+        (map document_of texts.old.entries) ops.now) }
     ensures ordered { OnOk result (IsOrdered key_cmp texts.new) }
 {
     for op in ops {
@@ -43,8 +44,10 @@ impl Searched {
     pub fn advance(&mut self, alloc: Global, ops: &[Op], version: u64) -> Result<(), NoMemory>
         requires ordered { IsOrdered key_cmp self.old.texts }
         requires within { self.old.operations ≤ length ops.now }
-        ensures numbers { OnOk result ((self.new.version ≡ version) × (self.new.operations ≡ length ops.now)) }
-        ensures after { OnOk result (map document_of self.new.texts.entries ≡ after_ops (map document_of self.old.texts.entries) (drop self.old.operations ops.now)) }
+        ensures numbers { OnOk result ((self.new.version ≡ version) × (self.new.operations
+            ≡ length ops.now)) }
+        ensures after { OnOk result (map document_of self.new.texts.entries ≡ after_ops
+            (map document_of self.old.texts.entries) (drop self.old.operations ops.now)) }
         ensures ordered { OnOk result (IsOrdered key_cmp self.new.texts) }
     {
         change_all(alloc, &mut self.texts, &ops[self.operations..])?;

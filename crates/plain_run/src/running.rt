@@ -22,7 +22,8 @@ fn run_line(alloc: Global, engine: &mut Engine, line: &Line) -> Result<(), NoMem
     requires formed { is_command 2 line.now.command ≡ true }
     requires fresh { entries_of_line line.now.at engine.old.past ≡ [] }
     requires few { accepted_count engine.old.past + 1 < 2 ^ 32 }
-    ensures past { OnOk result (engine.new.past ≡ after_command line.now.command line.now.at engine.old.past) }
+    ensures past { OnOk result (engine.new.past
+        ≡ after_command line.now.command line.now.at engine.old.past) }
     ensures running { OnOk result (engine.new.ended ≡ false) }
 {
     match &line.command {

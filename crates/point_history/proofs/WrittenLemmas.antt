@@ -4,17 +4,16 @@ use Rattle.std.specs.Prelude.{Bool, true, false, ◌&&◌, if◌then◌else◌}
 use Rattle.std.proofs.lemmas.Grind.{common_steps}
 use Rattle.nrt_base.specs.declared.numbers.At.{At}
 use Rattle.documents.specs.declared.operation.Op.{Op}
-use Rattle.history_entries.specs.declared.entry.Entry.{Entry}
 use Rattle.history_entries.specs.declared.entry.Event.{Event}
 use Rattle.history_entries.specs.declared.entry.Event.TheVariants.{Accepted, Promoted}
 use Rattle.history_entries.specs.Nodes.{Past}
 use Rattle.history_entries.specs.Lines.{same_at, is_start, before_start}
 use Rattle.history_entries.specs.Points.{written_by, accepted_ops_by, operations_written, operations_at_start, operations_at, operations_of_generation}
-use Rattle.point_history.specs.Origins.{base_by, operations_before_generation}
+use Rattle.point_history.specs.Origins.{operations_base_by, operations_before_generation}
 use Rattle.history_laws.proofs.PointLemmas.{length-documents_at-le}
 
 written_step : (e : Event) (past : Past) (points : ℕ → List Op) (base own written : List Op) → written ≡ base ++ own
-    → written_by e past points written ≡ base_by e past points base ++ accepted_ops_by e own
+    → written_by e past points written ≡ operations_base_by e past points base ++ accepted_ops_by e own
 written_step (Accepted seq op) past points base own written is = grind (arith, common_steps)
 written_step (Promoted m g f w) past points base own written is = grind (arith, common_steps)
 written_step e past points base own written is = is

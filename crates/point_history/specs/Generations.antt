@@ -5,7 +5,7 @@ use Rattle.std.specs.List.{list_any}
 use Rattle.std.specs.Ordering.{nat_cmp}
 use Rattle.point_history.specs.declared.generation.Generation.{Generation}
 use Rattle.history_entries.specs.Nodes.{Past, generation_of}
-use Rattle.history_entries.specs.Points.{accepted_in_generation, published_in_generation, operations_of_generation, is_put, names_drawn, names_drawn_in, merges_started, idle_publishes}
+use Rattle.history_entries.specs.Points.{published_in_generation, operations_of_generation, is_put, names_drawn, names_drawn_in, merges_started, idle_publishes}
 
 -- the numbers are those of the present generation, and none is above the number of entries
 pub record ShowsGeneration (past : Past) (g : Generation) : Type 0 where

@@ -1,7 +1,6 @@
 -- Which tickets the entries before a place opened, and what the open ones hold.
-use Rattle.std.specs.Prelude.{ℕ, ◌≡◌, List, [], ◌∷◌, reverse, Bool, true, false, ◌||◌}
+use Rattle.std.specs.Prelude.{ℕ, ◌≡◌, [], ◌∷◌, reverse, Bool, true, false, ◌||◌}
 use Rattle.nrt_base.specs.declared.numbers.At.{At}
-use Rattle.history_entries.specs.declared.entry.Entry.{Entry}
 use Rattle.history_entries.specs.declared.entry.Event.{Event}
 use Rattle.history_entries.specs.declared.entry.Event.TheVariants.{Opened}
 use Rattle.history_entries.specs.Nodes.{Past, crashes}

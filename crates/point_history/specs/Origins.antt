@@ -20,11 +20,11 @@ size_of Nothing = 0
 size_of (Written before) = length before.now + 1
 size_of (Searched n before) = length before.now + 1
 
-abbrev pub base_by : Event → Past → (ℕ → List Op) → List Op → List Op
-base_by (Promoted m g f w) past points base = points (version_of m.0 past)
-base_by e past points base = base
+abbrev pub operations_base_by : Event → Past → (ℕ → List Op) → List Op → List Op
+operations_base_by (Promoted m g f w) past points base = points (version_of m.0 past)
+operations_base_by e past points base = base
 
 -- the operations on which the generation started
 abbrev pub operations_before_generation : Past → List Op
 operations_before_generation [] = []
-operations_before_generation (e ∷ past) = base_by e.event past (operations_at past) (operations_before_generation past)
+operations_before_generation (e ∷ past) = operations_base_by e.event past (operations_at past) (operations_before_generation past)

@@ -210,6 +210,7 @@ const CASES: &str = "\
 0 stopped: 1 9 committing 2 3; 1 9 fault 2 stop; 1 9 refused disk-fault; 1 10 committing 2 3; 2 11 accepted 3 put_b; 2 12 publishing; 2 12 published 1 4; 2 13 copying 2 4; 2 13 switched 2 4; 2 14 crashed 2; 2 15 reopened 2 4
 0 copied: 1 5 committing 2 2; 2 6 crashed 2; 2 7 reopened 2 2; 2 8 files 2 _10000.docs segments_1
 0 down: 1 6 planned disk 2 1; 1 7 fault 2 disk; 1 7 refused disk-fault; 1 8 reopened 2 1
+0 vacant: 1 6 planned stop 2 1; 1 7 fault 2 stop; 1 7 promoted 2 2 2 3; 1 7 accepted 2 put_b
 0 published: 1 4 files 1 _10000.docs _10000.docs_1.tmp _10000.post _10000.si _10000_1.liv pending_segments_1 segments_1
 0 promoted: 1 7 accepted 2 put_b; 1 8 publishing; 1 8 published 2 4; 1 9 files 2 _10000.docs _20000.docs
 0 two: 1 7 planned link 2 1; 1 8 merging 1679618; 1 9 publishing; 1 9 published 1 4; 1 8 fault 2 link; 1 10 drained 3 9; 1 11 drained 1 9

@@ -8,7 +8,7 @@ use Rattle.text_query.specs.Answers.{IsFault}
 use Rattle.script_text.specs.declared.fault.LineFault.{LineFault}
 use Rattle.script_text.specs.declared.fault.LineFault.TheVariants.{NoNodes, Word, Count, Range, Query as RefusedQuery, Text, NotBuilt}
 use Rattle.script_text.specs.declared.counted.Counted.{Counted}
-use Rattle.script_text.specs.Grammar.{Statement, words_in, rest_behind, is_printable, most_statements, is_promotion, AreFew}
+use Rattle.script_text.specs.Grammar.{Statement, words_in, rest_behind, is_printable, most_statements, is_promotion, AreAllowed}
 use Rattle.script_text.specs.Refused.{Place, later, Form, no_nodes, join, lane_line, no_form, form_of, form_at, is_digits, has_wrong_word, has_wrong_count, is_in_range, has_query, has_log, has_room, counted_with, CauseHolds, order_of, IsFirstCause, IsRight}
 
 -- no cause before the k-th holds
@@ -109,8 +109,8 @@ module _ (place : Place) (before : Counted) (statement : Statement) (form : Form
       below NotBuilt = omega arith
 
 -- a statement that has room is none too many
-room_left : (log : Bool) (before : Counted) (statement : Statement) → has_room log before (words_in statement.line) ≡ true → AreFew log before.statements before.promotions
-    → AreFew log (counted_with before statement).statements (counted_with before statement).promotions
+room_left : (log : Bool) (before : Counted) (statement : Statement) → has_room log before (words_in statement.line) ≡ true → AreAllowed log before.statements before.promotions
+    → AreAllowed log (counted_with before statement).statements (counted_with before statement).promotions
 room_left log before statement room few =
     let parts = and_parts (nat_lt before.statements (most_statements log)) (not log || (nat_lt before.promotions 64 || not (is_promotion (words_in statement.line)))) room in
     record {
@@ -138,8 +138,8 @@ right_has_room place before statement right = by_test (has_room (has_log place) 
         late true h = h
         late false h = refl
 
-pub right_is_few : (place : Place) (before : Counted) (statement : Statement) → IsRight place before statement → AreFew (has_log place) before.statements before.promotions
-    → AreFew (has_log place) (counted_with before statement).statements (counted_with before statement).promotions
+pub right_is_few : (place : Place) (before : Counted) (statement : Statement) → IsRight place before statement → AreAllowed (has_log place) before.statements before.promotions
+    → AreAllowed (has_log place) (counted_with before statement).statements (counted_with before statement).promotions
 right_is_few place before statement right few = room_left (has_log place) before statement (right_has_room place before statement right) few
 
 -- a statement whose first word is `join` is one

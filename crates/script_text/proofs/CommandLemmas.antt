@@ -31,8 +31,8 @@ use Rattle.script_text.specs.declared.shapes.Name.{Name}
 use Rattle.script_text.specs.declared.shapes.Name.TheVariants as named
 use Rattle.script_serving.specs.Form.{is_command, is_force}
 use Rattle.script_text.specs.Grammar.{words_in, rest_behind, command_words, force_word, Ends, word_at}
-use Rattle.script_text.specs.Refused.{Kind, number, node, force, Tail, nothing, text, query, command, is_number_in, is_kind, are_kinds, is_short, is_too_few_or_many, is_asked_in_range, asks_query}
-use Rattle.script_text.specs.Reading.{number_within, node_named, ticket_named, force_named, plain_shape, fault_shape, shape_of, front_of, plain_command, plan_of, fault_command, in_range, has_short_rest, IsDocRead, IsKeyRead, IsDropRead, IsSearchRead, IsAskRead, IsCommandOf, IsCommandRead}
+use Rattle.script_text.specs.Refused.{Kind, number, node, force, Tail, nothing, text, query, command, is_number_in, is_kind, are_kinds, is_short, is_too_few_or_many, is_asked_in_range, asks_query, plain_shape, fault_shape, shape_of}
+use Rattle.script_text.specs.Reading.{number_within, node_named, ticket_named, force_named, front_of, plain_command, plan_of, fault_command, in_range, has_short_rest, IsDocRead, IsKeyRead, IsDropRead, IsSearchRead, IsAskRead, IsCommandOf, IsCommandRead}
 use Rattle.script_text.proofs.DropLemmas.{word_length}
 use Rattle.script_text.proofs.NumberLemmas.{number_case}
 use Rattle.script_text.proofs.ShapeLemmas.{plain_tail, plain_few, fault_tail, fault_few}

@@ -16,7 +16,7 @@ use Rattle.script_serving.specs.declared.script.Line.{Line}
 use Rattle.script_serving.specs.declared.script.Phase.{Phase}
 use Rattle.script_serving.specs.declared.script.Script.{Script}
 use Rattle.script_serving.specs.Form.{IsInForm}
-use Rattle.script_text.specs.Grammar.{Statement, words_in, word_at, statements_of, lines_of_text, is_promotion, promotions_among, AreFew, IsNodesHeader, IsWorkersHeader, IsLogHeader, SpellsPhases, SpellsLogged, SpellsBody, SpellsStatements, SpellsScript}
+use Rattle.script_text.specs.Grammar.{Statement, words_in, word_at, statements_of, lines_of_text, is_promotion, promotions_among, AreAllowed, IsNodesHeader, IsWorkersHeader, IsLogHeader, SpellsPhases, SpellsLogged, SpellsBody, SpellsStatements, SpellsScript}
 use Rattle.script_text.specs.Refused.{Place, first, second, third, later, has_log, has_room, is_headed, next_place, none_counted, counted_with, nodes_said, Form, has_wrong_word, has_wrong_count, is_in_range, has_query, form_of, form_at, is_number_in, value_of, CauseHolds, IsRight, RefusesAmong, RefusesStatements, IsFirstRefused}
 use Rattle.script_text.specs.Reading.{number_within, headers_counted, SaysNoHeader, ReadsPhases, ArePhasesRead, ReadsLogged, IsLoggedRead, ReadsBody, IsBodyRead, IsScriptAnswer}
 use Rattle.script_text.proofs.NumberLemmas.{number_case}
@@ -107,8 +107,8 @@ no_statements size [] s = absurd s
 no_statements size (phase ∷ []) s = ap (λ (p : List Line). p ∷ []) s
 no_statements size (phase ∷ next ∷ phases) s = absurd s
 
-few_promotions : (log : Bool) (n m p q : ℕ) → n ≡ m → p ≡ q → AreFew log n p → AreFew log m q
-few_promotions log n m p q e f few = subst (λ (k : ℕ). AreFew log k q) e (subst (AreFew log n) f few)
+few_promotions : (log : Bool) (n m p q : ℕ) → n ≡ m → p ≡ q → AreAllowed log n p → AreAllowed log m q
+few_promotions log n m p q e f few = subst (λ (k : ℕ). AreAllowed log k q) e (subst (AreAllowed log n) f few)
 
 -- the phases of a text without the header of a log
 pub phases_without : (size before : ℕ) (statements : List Statement) (phases : List Phase) → SaysNoHeader (codes "log") statements
@@ -223,7 +223,7 @@ pub answer_spells : (bytes : List ℕ) (header : Statement) (statements : List S
     → statements_of bytes ≡ header ∷ statements → IsNodesHeader header nodes → ReadsBody nodes statements script → SpellsScript bytes script
 answer_spells bytes header statements nodes script short split is reads = record {
   short = short;
-  few = subst (λ (all : List Statement). AreFew script.log (length all) (promotions_among all)) (sym split)
+  few = subst (λ (all : List Statement). AreAllowed script.log (length all) (promotions_among all)) (sym split)
       (few_promotions script.log (1 + length statements) (length (header ∷ statements)) (promotions_among statements) (promotions_among (header ∷ statements)) (omega arith)
       (none (is_promotion (words_in header.line)) (number_header header nodes (codes "nodes") is.0 (omega (arith, between_high 2 16 nodes is.1)))) reads.few);
   statements = subst (λ (all : List Statement). SpellsStatements all script) (sym split) (

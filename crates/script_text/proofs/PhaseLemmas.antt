@@ -10,7 +10,7 @@ use Rattle.script_serving.specs.declared.script.Line.{Line}
 use Rattle.script_serving.specs.declared.script.Phase.{Phase}
 use Rattle.script_text.specs.declared.lane_lines.Later.{Later}
 use Rattle.script_text.specs.declared.lane_lines.Later.TheVariants as later_read
-use Rattle.script_text.specs.Grammar.{Statement, SpellsLine, SpellsPhases, IsJoin, of_lane, lane_entry, lanes_from, phase_of, words_in, is_promotion, promotions_among, AreFew}
+use Rattle.script_text.specs.Grammar.{Statement, SpellsLine, SpellsPhases, IsJoin, of_lane, lane_entry, lanes_from, phase_of, words_in, is_promotion, promotions_among, AreAllowed}
 use Rattle.script_text.specs.Refused.{later, counted_with, IsFirstCause, IsRight, RefusesAmong}
 use Rattle.script_text.specs.Reading.{TakesLater, IsLaterRead, ReadsPhases}
 use Rattle.script_text.proofs.CauseLemmas.{right_is_few}
@@ -58,10 +58,10 @@ pub record SoFar (size : ℕ) (log : Bool) (start : Counted) (all : List Stateme
   pub refused : (n : ℕ) (cause : LineFault) → RefusesAmong (later size log) before left n cause → RefusesAmong (later size log) start all n cause
   pub counted : start.statements + length all ≡ before.statements + length left
   pub promoted : start.promotions + promotions_among all ≡ before.promotions + promotions_among left
-  pub few : AreFew log before.statements before.promotions
+  pub few : AreAllowed log before.statements before.promotions
   pub within : before.promotions ≤ before.statements
 
-headers_few : (log : Bool) (statements promotions : ℕ) → statements ≤ 3 → promotions ≡ 0 → AreFew log statements promotions
+headers_few : (log : Bool) (statements promotions : ℕ) → statements ≤ 3 → promotions ≡ 0 → AreAllowed log statements promotions
 headers_few true statements promotions few none = record { statements = omega (arith, few); promotions = λ e. omega (arith, none) }
 headers_few false statements promotions few none = record { statements = omega (arith, few); promotions = λ e. omega (arith, none) }
 
@@ -88,7 +88,7 @@ promotions_on false start all before left e = omega (arith, e)
 
 module _ (size : ℕ) (log : Bool) (start before : Counted) (all left : List Statement) (statement : Statement) (phases phases' : List Phase) (lines lines' : List Line)
     (so : SoFar size log start all before (statement ∷ left) phases lines) (right : IsRight (later size log) before statement) where
-  few_next : AreFew log (counted_with before statement).statements (counted_with before statement).promotions
+  few_next : AreAllowed log (counted_with before statement).statements (counted_with before statement).promotions
   few_next = right_is_few (later size log) before statement right so.few
 
   within_next : (counted_with before statement).promotions ≤ (counted_with before statement).statements

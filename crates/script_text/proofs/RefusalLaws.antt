@@ -13,7 +13,7 @@ use Rattle.script_text.specs.declared.fault.LineFault.TheVariants.{NoNodes, Word
 use Rattle.script_text.specs.declared.counted.Counted.{Counted}
 use Rattle.script_serving.specs.declared.script.Line.{Line}
 use Rattle.script_serving.specs.declared.script.Script.{Script}
-use Rattle.script_text.specs.Grammar.{Statement, lines_of_text, statements_of, words_in, word_at, rest_behind, IsNodesHeader, SpellsLine, SpellsPhases, SpellsLogged, SpellsBody, SpellsStatements, most_statements, is_promotion, promotions_among, AreFew}
+use Rattle.script_text.specs.Grammar.{Statement, lines_of_text, statements_of, words_in, word_at, rest_behind, IsNodesHeader, SpellsLine, SpellsPhases, SpellsLogged, SpellsBody, SpellsStatements, most_statements, is_promotion, promotions_among, AreAllowed}
 use Rattle.script_text.specs.Refused.{Place, first as first_place, second as second_place, third as third_place, later as later_place, has_room, none_counted, counted_with, is_headed, CauseHolds, order_of, IsFirstCause, nodes_said, next_place, RefusesAmong, RefusesStatements}
 use Rattle.script_text.specs.Exact.{NeverBoth, OneRefusal}
 use Rattle.script_text.proofs.NumberLaws.{value_of-decimal, digits_of-decimal, other_word}
@@ -24,7 +24,7 @@ use Rattle.script_text.proofs.RightLines.{between_high, right_spelled}
 
 -- so many statements more are no more than a script may have
 abbrev AreFewMore : Bool → Counted → List Statement → Type 0
-AreFewMore log before statements = AreFew log (before.statements + length statements) (before.promotions + promotions_among statements)
+AreFewMore log before statements = AreAllowed log (before.statements + length statements) (before.promotions + promotions_among statements)
 
 -- where the statements are no more than a script may have, the first of them has room
 first_has_room : (log : Bool) (before : Counted) (statement : Statement) (statements : List Statement) → AreFewMore log before (statement ∷ statements)
@@ -111,7 +111,7 @@ module _ (size : ℕ) (small : size ≤ 16) (n : ℕ) (cause : LineFault) where
   body_right nodes workers log (statement ∷ statements) phases same few (inr spells) refused =
       logged_right log (statement ∷ statements) (second_place nodes) 1 phases same (omega arith) few spells.1 refused
 
-few_all : (log : Bool) (statements : List Statement) → AreFew log (length statements) (promotions_among statements) → AreFewMore log none_counted statements
+few_all : (log : Bool) (statements : List Statement) → AreAllowed log (length statements) (promotions_among statements) → AreFewMore log none_counted statements
 few_all log statements few = record {
   statements = let h = few.statements in omega (arith, h);
   promotions = λ e. let h = few.promotions e in omega (arith, h);
@@ -121,7 +121,7 @@ said_nodes : (statement : Statement) (nodes : ℕ) → IsNodesHeader statement n
 said_nodes statement nodes header =
     ap nodes_said header.0 ∙ value_of-decimal nodes (omega (arith, between_high 2 16 nodes header.1))
 
-statements_right : (lines : ℕ) (statements : List Statement) (script : Script) (n : ℕ) (cause : LineFault) → AreFew script.log (length statements) (promotions_among statements)
+statements_right : (lines : ℕ) (statements : List Statement) (script : Script) (n : ℕ) (cause : LineFault) → AreAllowed script.log (length statements) (promotions_among statements)
     → SpellsStatements statements script → RefusesStatements lines statements n cause → ⊥
 statements_right lines [] script n cause few spells refused = spells
 statements_right lines (statement ∷ statements) script n cause few spells (inl refused) =

@@ -5,8 +5,8 @@ use Rattle.history_entries.specs.declared.cause.FaultKind.TheVariants as kind
 use Rattle.script_text.specs.declared.shapes.Plain.{Plain}
 use Rattle.script_text.specs.declared.shapes.Plain.TheVariants as plain
 use Rattle.script_text.specs.declared.shapes.Name.{Name}
-use Rattle.script_text.specs.Refused.{nothing, shape_named, command_shapes}
-use Rattle.script_text.specs.Reading.{plain_shape, fault_shape, late_shapes, IsNamed}
+use Rattle.script_text.specs.Refused.{nothing, shape_named, command_shapes, plain_shape, fault_shape}
+use Rattle.script_text.specs.Reading.{late_shapes, IsNamed}
 
 pub plain_tail : (p : Plain) → (plain_shape p).tail ≡ nothing
 plain_tail plain.Publish = refl

@@ -113,11 +113,11 @@ force_word Auto = codes "auto"
 force_word (Exactly f) = decimal f
 
 -- the words of a planned fault at a node
-abbrev pub plan_words : ℕ → FaultPlan → List (List ℕ)
-plan_words n (Link k) = codes "link" ∷ decimal n ∷ decimal k ∷ []
-plan_words n (Damage k at) = codes "damage" ∷ decimal n ∷ decimal k ∷ decimal at ∷ []
-plan_words n (Disk k) = codes "disk" ∷ decimal n ∷ decimal k ∷ []
-plan_words n (Stop k) = codes "stop" ∷ decimal n ∷ decimal k ∷ []
+abbrev pub fault_words : ℕ → FaultPlan → List (List ℕ)
+fault_words n (Link k) = codes "link" ∷ decimal n ∷ decimal k ∷ []
+fault_words n (Damage k at) = codes "damage" ∷ decimal n ∷ decimal k ∷ decimal at ∷ []
+fault_words n (Disk k) = codes "disk" ∷ decimal n ∷ decimal k ∷ []
+fault_words n (Stop k) = codes "stop" ∷ decimal n ∷ decimal k ∷ []
 
 -- the words of a command that is not followed by a text or a query
 abbrev pub command_words : LineCommand → List (List ℕ)
@@ -138,7 +138,7 @@ command_words (Promote n force) = codes "promote" ∷ decimal n.0 ∷ force_word
 command_words (Merge factor) = codes "merge" ∷ decimal factor ∷ []
 command_words (Drain most) = codes "drain" ∷ decimal most ∷ []
 command_words (Files n) = codes "files" ∷ decimal n.0 ∷ []
-command_words (Fault n plan) = codes "fault" ∷ plan_words n.0 plan
+command_words (Fault n plan) = codes "fault" ∷ fault_words n.0 plan
 
 -- the text is a query's, no longer than one may be, with this tree
 abbrev pub IsQueryText : List ℕ → Query → Type 0
@@ -251,12 +251,12 @@ promotions_among [] = 0
 promotions_among (statement ∷ statements) = (if is_promotion (words_in statement.line) then 1 else 0) + promotions_among statements
 
 -- so many statements, of which so many promote, are no more than a script may have
-pub record AreFew (log : Bool) (n promoting : ℕ) : Type 0 where
+pub record AreAllowed (log : Bool) (n promoting : ℕ) : Type 0 where
   pub statements : n ≤ most_statements log
   pub promotions : log ≡ true → promoting ≤ 64
 
 -- the bytes spell the script
 pub record SpellsScript (bytes : List ℕ) (script : Script) : Type 0 where
   pub short : length bytes ≤ 16777216
-  pub few : AreFew script.log (length (statements_of bytes)) (promotions_among (statements_of bytes))
+  pub few : AreAllowed script.log (length (statements_of bytes)) (promotions_among (statements_of bytes))
   pub statements : SpellsStatements (statements_of bytes) script

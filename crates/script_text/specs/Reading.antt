@@ -40,8 +40,8 @@ use Rattle.script_text.specs.declared.shapes.Asked.TheVariants as found
 use Rattle.script_text.specs.declared.lane_lines.Later.{Later}
 use Rattle.script_text.specs.declared.lane_lines.Later.TheVariants as later_read
 use Rattle.script_serving.specs.Form.{is_command}
-use Rattle.script_text.specs.Grammar.{Statement, statements_from, lines_of_text, words_in, word_at, rest_behind, Ends, SpellsLine, SpellsPhases, SpellsLogged, SpellsBody, SpellsScript, IsNodesHeader, IsWorkersHeader, IsLogHeader, IsJoin, phase_of, promotions_among, AreFew}
-use Rattle.script_text.specs.Refused.{number, node, force, key, letters, nothing, text, query, Shape, shape, Asked, missing, unknown, command, first, second, third, later, none_counted, is_headed, is_kind, is_number_in, value_of, command_shapes, fault_shapes, shape_named, is_asked_in_range, asks_query, IsFirstCause, IsRight, RefusesAmong, IsFirstRefused, nodes_said}
+use Rattle.script_text.specs.Grammar.{Statement, statements_from, lines_of_text, words_in, word_at, rest_behind, Ends, SpellsLine, SpellsPhases, SpellsLogged, SpellsBody, SpellsScript, IsNodesHeader, IsWorkersHeader, IsLogHeader, IsJoin, phase_of, promotions_among, AreAllowed}
+use Rattle.script_text.specs.Refused.{letters, text, query, Shape, Asked, missing, unknown, command, first, second, third, later, none_counted, is_headed, is_kind, is_number_in, value_of, command_shapes, fault_shapes, shape_named, fault_shape, shape_of, is_asked_in_range, asks_query, IsFirstCause, IsRight, RefusesAmong, IsFirstRefused, nodes_said}
 
 -- the fault of a script whose line of this number is refused so
 abbrev pub fault_on : ℕ → Refusal → ScriptFault
@@ -73,38 +73,6 @@ lane_named word = option_map (λ n. record { 0 = n }) (number_within 1 8 word)
 -- the forced version that a word names
 abbrev pub force_named : List ℕ → Option Force
 force_named word = if bytes_eq (codes "auto") word then Some Auto else option_map (λ n. Exactly n) (number_within 0 (2 ^ 64 - 1) word)
-
--- the shape of a command that is read without memory
-abbrev pub plain_shape : Plain → Shape
-plain_shape plain.Publish = shape (codes "publish") [] nothing
-plain_shape plain.Copy = shape (codes "copy") (node ∷ []) nothing
-plain_shape plain.Settle = shape (codes "settle") [] nothing
-plain_shape plain.Open = shape (codes "open") (node ∷ number 1 9999 ∷ []) nothing
-plain_shape plain.Close = shape (codes "close") (number 1 9999 ∷ []) nothing
-plain_shape plain.Commit = shape (codes "commit") (node ∷ []) nothing
-plain_shape plain.Crash = shape (codes "crash") (node ∷ number 0 (2 ^ 64 - 1) ∷ []) nothing
-plain_shape plain.Reopen = shape (codes "reopen") (node ∷ []) nothing
-plain_shape plain.Promote = shape (codes "promote") (node ∷ force ∷ []) nothing
-plain_shape plain.Merge = shape (codes "merge") (number 2 16 ∷ []) nothing
-plain_shape plain.Drain = shape (codes "drain") (number 1 1000 ∷ []) nothing
-plain_shape plain.Files = shape (codes "files") (node ∷ []) nothing
-
--- the shape of a planned fault
-abbrev pub fault_shape : FaultKind → Shape
-fault_shape kind.Link = shape (codes "link") (node ∷ number 1 1000000 ∷ []) nothing
-fault_shape kind.Damage = shape (codes "damage") (node ∷ number 1 1000000 ∷ number 0 (2 ^ 32 - 1) ∷ []) nothing
-fault_shape kind.Disk = shape (codes "disk") (node ∷ number 1 1000000 ∷ []) nothing
-fault_shape kind.Stop = shape (codes "stop") (node ∷ number 1 1000000 ∷ []) nothing
-
--- the shape of a named command
-abbrev pub shape_of : Name → Shape
-shape_of named.Put = shape (codes "put") (key ∷ []) text
-shape_of named.Delete = shape (codes "delete") (key ∷ []) nothing
-shape_of named.Drop = shape (codes "drop") (letters ∷ []) nothing
-shape_of named.Search = shape (codes "search") (node ∷ []) query
-shape_of named.Ask = shape (codes "ask") (number 1 9999 ∷ []) query
-shape_of (named.Plain p) = plain_shape p
-shape_of (named.Fault k) = fault_shape k
 
 -- the words that name a command: two of a planned fault, and one of every other
 abbrev pub front_of : Name → List (List ℕ)
@@ -266,7 +234,7 @@ pub record ReadsPhases (size : ℕ) (log : Bool) (before : Counted) (statements 
   pub lines : List (List Line)
   pub spelled : SpellsPhases size statements lines
   pub phased : phases ≡ map phase_of lines
-  pub few : AreFew log (before.statements + length statements) (before.promotions + promotions_among statements)
+  pub few : AreAllowed log (before.statements + length statements) (before.promotions + promotions_among statements)
 
 -- what reading the statements behind the headers gives
 abbrev pub ArePhasesRead : ℕ → Bool → Counted → List Statement → Result (List Phase) ScriptFault → Type 0
@@ -317,7 +285,7 @@ pub record ReadsLogged (size before : ℕ) (statements : List Statement) (log : 
   pub lines : List (List Line)
   pub spelled : SpellsLogged size log statements lines
   pub phased : phases ≡ map phase_of lines
-  pub few : AreFew log (before + length statements) (promotions_among statements)
+  pub few : AreAllowed log (before + length statements) (promotions_among statements)
 
 -- what reading the statements behind the other headers gives
 abbrev pub IsLoggedRead : ℕ → ℕ → List Statement → Result (Bool × List Phase) ScriptFault → Type 0
@@ -332,7 +300,7 @@ pub record ReadsBody (size : ℕ) (statements : List Statement) (script : Script
   pub nodes : script.nodes ≡ size
   pub spelled : SpellsBody size script.workers script.log statements lines
   pub phased : script.phases ≡ map phase_of lines
-  pub few : AreFew script.log (1 + length statements) (promotions_among statements)
+  pub few : AreAllowed script.log (1 + length statements) (promotions_among statements)
 
 -- what reading the statements behind the first gives
 abbrev pub IsBodyRead : ℕ → List Statement → Result Script ScriptFault → Type 0

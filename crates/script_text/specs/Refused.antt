@@ -1,10 +1,16 @@
 -- Which line of a text is the first that is refused, and why.
-use Rattle.std.specs.Prelude.{ℕ, ◌≡◌, ◌+◌, ◌-◌, ◌*◌, ◌≤◌, ◌<◌, ◌^◌, ◌⊎◌, List, [], ◌∷◌, length, codes, nat_eq, nat_lt, nat_le, Bool, true, false, ◌&&◌, ◌||◌, not, ◌==◌, if◌then◌else◌, Option, Some, None, bytes_eq}
+use Rattle.std.specs.Prelude.{ℕ, ◌≡◌, ◌+◌, ◌-◌, ◌*◌, ◌≤◌, ◌<◌, ◌^◌, ◌⊎◌, List, [], ◌∷◌, map, length, codes, nat_eq, nat_lt, nat_le, Bool, true, false, ◌&&◌, ◌||◌, not, ◌==◌, if◌then◌else◌, Option, Some, None, bytes_eq}
 use Rattle.std.specs.List.{list_all}
 use Rattle.nrt_base.specs.Bytes.{is_between}
 use Rattle.text_query.specs.Answers.{IsFault}
 use Rattle.script_text.specs.declared.fault.LineFault.{LineFault}
 use Rattle.script_text.specs.declared.fault.LineFault.TheVariants.{NoNodes, Word, Count, Range, Query as RefusedQuery, Text, NotBuilt}
+use Rattle.history_entries.specs.declared.cause.FaultKind.{FaultKind}
+use Rattle.history_entries.specs.declared.cause.FaultKind.TheVariants as kind
+use Rattle.script_text.specs.declared.shapes.Plain.{Plain}
+use Rattle.script_text.specs.declared.shapes.Plain.TheVariants as plain
+use Rattle.script_text.specs.declared.shapes.Name.{Name}
+use Rattle.script_text.specs.declared.shapes.Name.TheVariants as named
 use Rattle.script_text.specs.declared.counted.Counted.{Counted}
 use Rattle.documents.specs.Words.{is_alphanumeric}
 use Rattle.script_text.specs.Grammar.{Statement, statements_of, lines_of_text, words_in, word_at, rest_behind, is_printable, most_statements, is_promotion}
@@ -60,36 +66,67 @@ pub record Shape : Type 0 where
 abbrev pub shape : List ℕ → List Kind → Tail → Shape
 shape name words tail = record { name = name; words = words; tail = tail }
 
+-- the shape of a command that is read without memory
+abbrev pub plain_shape : Plain → Shape
+plain_shape plain.Publish = shape (codes "publish") [] nothing
+plain_shape plain.Copy = shape (codes "copy") (node ∷ []) nothing
+plain_shape plain.Settle = shape (codes "settle") [] nothing
+plain_shape plain.Open = shape (codes "open") (node ∷ number 1 9999 ∷ []) nothing
+plain_shape plain.Close = shape (codes "close") (number 1 9999 ∷ []) nothing
+plain_shape plain.Commit = shape (codes "commit") (node ∷ []) nothing
+plain_shape plain.Crash = shape (codes "crash") (node ∷ number 0 (2 ^ 64 - 1) ∷ []) nothing
+plain_shape plain.Reopen = shape (codes "reopen") (node ∷ []) nothing
+plain_shape plain.Promote = shape (codes "promote") (node ∷ force ∷ []) nothing
+plain_shape plain.Merge = shape (codes "merge") (number 2 16 ∷ []) nothing
+plain_shape plain.Drain = shape (codes "drain") (number 1 1000 ∷ []) nothing
+plain_shape plain.Files = shape (codes "files") (node ∷ []) nothing
+
+-- the shape of a planned fault
+abbrev pub fault_shape : FaultKind → Shape
+fault_shape kind.Link = shape (codes "link") (node ∷ number 1 1000000 ∷ []) nothing
+fault_shape kind.Damage = shape (codes "damage") (node ∷ number 1 1000000 ∷ number 0 (2 ^ 32 - 1) ∷ []) nothing
+fault_shape kind.Disk = shape (codes "disk") (node ∷ number 1 1000000 ∷ []) nothing
+fault_shape kind.Stop = shape (codes "stop") (node ∷ number 1 1000000 ∷ []) nothing
+
+-- the shape of a named command
+abbrev pub shape_of : Name → Shape
+shape_of named.Put = shape (codes "put") (key ∷ []) text
+shape_of named.Delete = shape (codes "delete") (key ∷ []) nothing
+shape_of named.Drop = shape (codes "drop") (letters ∷ []) nothing
+shape_of named.Search = shape (codes "search") (node ∷ []) query
+shape_of named.Ask = shape (codes "ask") (number 1 9999 ∷ []) query
+shape_of (named.Plain p) = plain_shape p
+shape_of (named.Fault k) = fault_shape k
+
+-- the names of the commands of a lane, but for faults
+abbrev pub command_names : List Name
+command_names =
+    named.Put
+    ∷ named.Delete
+    ∷ named.Drop
+    ∷ named.Plain plain.Publish
+    ∷ named.Plain plain.Copy
+    ∷ named.Plain plain.Settle
+    ∷ named.Search
+    ∷ named.Plain plain.Open
+    ∷ named.Ask
+    ∷ named.Plain plain.Close
+    ∷ named.Plain plain.Commit
+    ∷ named.Plain plain.Crash
+    ∷ named.Plain plain.Reopen
+    ∷ named.Plain plain.Promote
+    ∷ named.Plain plain.Merge
+    ∷ named.Plain plain.Drain
+    ∷ named.Plain plain.Files
+    ∷ []
+
 -- the commands of a lane, but for faults
 abbrev pub command_shapes : List Shape
-command_shapes =
-    shape (codes "put") (key ∷ []) text
-    ∷ shape (codes "delete") (key ∷ []) nothing
-    ∷ shape (codes "drop") (letters ∷ []) nothing
-    ∷ shape (codes "publish") [] nothing
-    ∷ shape (codes "copy") (node ∷ []) nothing
-    ∷ shape (codes "settle") [] nothing
-    ∷ shape (codes "search") (node ∷ []) query
-    ∷ shape (codes "open") (node ∷ number 1 9999 ∷ []) nothing
-    ∷ shape (codes "ask") (number 1 9999 ∷ []) query
-    ∷ shape (codes "close") (number 1 9999 ∷ []) nothing
-    ∷ shape (codes "commit") (node ∷ []) nothing
-    ∷ shape (codes "crash") (node ∷ number 0 (2 ^ 64 - 1) ∷ []) nothing
-    ∷ shape (codes "reopen") (node ∷ []) nothing
-    ∷ shape (codes "promote") (node ∷ force ∷ []) nothing
-    ∷ shape (codes "merge") (number 2 16 ∷ []) nothing
-    ∷ shape (codes "drain") (number 1 1000 ∷ []) nothing
-    ∷ shape (codes "files") (node ∷ []) nothing
-    ∷ []
+command_shapes = map shape_of command_names
 
 -- the kinds of planned faults, whose word stands behind `fault`
 abbrev pub fault_shapes : List Shape
-fault_shapes =
-    shape (codes "link") (node ∷ number 1 1000000 ∷ []) nothing
-    ∷ shape (codes "damage") (node ∷ number 1 1000000 ∷ number 0 (2 ^ 32 - 1) ∷ []) nothing
-    ∷ shape (codes "disk") (node ∷ number 1 1000000 ∷ []) nothing
-    ∷ shape (codes "stop") (node ∷ number 1 1000000 ∷ []) nothing
-    ∷ []
+fault_shapes = map fault_shape (kind.Link ∷ kind.Damage ∷ kind.Disk ∷ kind.Stop ∷ [])
 
 -- the shape of this name
 abbrev pub shape_named : List ℕ → List Shape → Option Shape

@@ -2,8 +2,8 @@ ghost use Rattle.std.specs.Prelude.{◌≡◌, ◌++◌, length, drop, IsTrue, f
 ghost use Rattle.std.specs.List.{list_all};
 ghost use Rattle.script_text.specs.Grammar.{words_in, is_printable as is_printable_lem};
 ghost use Rattle.documents.specs.Words.{is_alphanumeric};
-ghost use Rattle.script_text.specs.Refused.{is_too_few_or_many, is_kind, letters};
-ghost use Rattle.script_text.specs.Reading.{shape_of, front_of, plain_command, plan_of, fault_command, is_key_word, IsQueryRead, IsDocRead, IsKeyRead, IsDropRead, IsSearchRead, IsAskRead, in_range as in_range_lem, IsCommandRead};
+ghost use Rattle.script_text.specs.Refused.{is_too_few_or_many, is_kind, letters, shape_of};
+ghost use Rattle.script_text.specs.Reading.{front_of, plain_command, plan_of, fault_command, is_key_word, IsQueryRead, IsDocRead, IsKeyRead, IsDropRead, IsSearchRead, IsAskRead, in_range as in_range_lem, IsCommandRead};
 
 use crate::fault::{LineFault, Refusal};
 use crate::numbers::{force, node, number_u32, number_u64, ticket};
@@ -30,7 +30,9 @@ const MOST_PLANNED: u32 = 1_000_000;
 
 /// A command that is read without memory, where its words are in their ranges.
 fn read_plain(nodes: u8, plain: Plain, words: Words<'_>) -> Option<LineCommand>
-    ensures { result ≡ plain_command nodes plain words.entry.first.now words.entry.second.now words.entry.third.now }
+    ensures { result
+        ≡ plain_command nodes plain
+            words.entry.first.now words.entry.second.now words.entry.third.now }
 {
     Some(match plain {
         Plain::Publish => LineCommand::Publish,
@@ -63,7 +65,9 @@ fn read_plan(kind: FaultKind, number: &[u8], at: &[u8]) -> Option<FaultPlan>
 
 /// The command that plans a fault, where its words are in their ranges.
 fn read_fault(nodes: u8, kind: FaultKind, words: Words<'_>) -> Option<LineCommand>
-    ensures { result ≡ fault_command nodes kind words.entry.first.now words.entry.second.now words.entry.third.now }
+    ensures { result
+        ≡ fault_command nodes kind
+            words.entry.first.now words.entry.second.now words.entry.third.now }
 {
     let node = node(nodes, words.first)?;
     Some(LineCommand::Fault(node, read_plan(kind, words.second, words.third)?))
@@ -182,7 +186,8 @@ pub fn read_command(
 ) -> Result<LineCommand, Refusal>
     requires printable { IsTrue (is_printable_lem line.now) }
     requires front { drop 1 (words_in line.now) ≡ front_of name ++ words_in rest.now }
-    requires counted { is_too_few_or_many (shape_of name).tail (length (shape_of name).words) (length (words_in rest.now)) ≡ false }
+    requires counted { is_too_few_or_many (shape_of name).tail (length (shape_of name).words)
+        (length (words_in rest.now)) ≡ false }
     ensures { IsCommandRead nodes name line.now (words_in rest.now) result }
 {
     let words = first_words(rest);

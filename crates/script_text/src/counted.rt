@@ -55,7 +55,8 @@ impl Counted {
     pub fn with(self, statement: Statement<'_>) -> Counted
         requires statements { self.statements + 1 < 2 ^ 32 }
         requires promotions { self.promotions + 1 < 2 ^ 32 }
-        ensures { result ≡ counted_with self (record { number = statement.entry.number; line = statement.entry.line.now }) }
+        ensures { result ≡ counted_with self
+            (record { number = statement.entry.number; line = statement.entry.line.now }) }
     {
         let promotions = if is_promotion(statement.line) {
             self.promotions + 1

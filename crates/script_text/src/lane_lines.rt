@@ -35,8 +35,10 @@ fn read_lane_line<'a>(
 ) -> Result<Line, Refusal>
     requires printable { IsTrue (is_printable_lem statement.line.now) }
     requires split { words_in statement.line.now ≡ lane_word.now ∷ words_in rest.now }
-    requires lane { (bytes_eq (codes "join") lane_word.now ≡ false) × (is_digits_lem lane_word.now ≡ true) }
-    ensures { IsLineRead nodes log before (record { number = statement.entry.number; line = statement.entry.line.now }) result }
+    requires lane { (bytes_eq (codes "join") lane_word.now ≡ false) × (is_digits_lem lane_word.now
+        ≡ true) }
+    ensures { IsLineRead nodes log before
+        (record { number = statement.entry.number; line = statement.entry.line.now }) result }
 {
     let (name, rest) = match command_asked(rest) {
         Asked::Missing => return Err(Refusal::Cause(LineFault::Count)),
@@ -68,7 +70,8 @@ pub fn read_later(
     before: Counted,
     statement: Statement<'_>,
 ) -> Result<Later, Refusal>
-    ensures { IsLaterRead nodes log before (record { number = statement.entry.number; line = statement.entry.line.now }) result }
+    ensures { IsLaterRead nodes log before
+        (record { number = statement.entry.number; line = statement.entry.line.now }) result }
 {
     if !is_printable(statement.line) {
         return Err(Refusal::Cause(LineFault::Text));

@@ -21,7 +21,8 @@ fn line_len(text: &[u8]) -> usize
 /// The first line of a text, without its line feed, and what follows it.
 #[tactic(auto, using(crate::proofs::LineLemmas::first_line, crate::proofs::LineLemmas::only_line))]
 fn next_line(text: &[u8]) -> Option<(&[u8], &[u8])>
-    ensures lines { MatchOption result (lines_of_text text.now ≡ []) (λ parts. lines_of_text text.now ≡ parts.0.now ∷ lines_of_text parts.1.now) }
+    ensures lines { MatchOption result (lines_of_text text.now ≡ [])
+        (λ parts. lines_of_text text.now ≡ parts.0.now ∷ lines_of_text parts.1.now) }
     ensures shorter { MatchOption result ⊤ (λ parts. length parts.1.now < length text.now) }
 {
     if text.is_empty() {
@@ -49,7 +50,8 @@ fn is_statement(line: &[u8]) -> bool
 /// The first statement of a text whose first line has this number, and the rest of the text.
 pub fn next_statement(text: &[u8], number: u32) -> Option<(Statement<'_>, &[u8])>
     requires { number + length text.now < 2 ^ 32 }
-    ensures { MatchOption result (statements_from number (lines_of_text text.now) ≡ []) (λ parts. IsNextStatement number text.now parts.0.number parts.0.line.now parts.1.now) }
+    ensures { MatchOption result (statements_from number (lines_of_text text.now) ≡ [])
+        (λ parts. IsNextStatement number text.now parts.0.number parts.0.line.now parts.1.now) }
 {
     let mut left = text;
     let mut number = number;

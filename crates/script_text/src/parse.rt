@@ -35,7 +35,8 @@ fn header_number(low: u8, high: u8, rest: &[u8]) -> Result<u8, LineFault>
 
 /// How many nodes the first statement says that there are.
 fn read_nodes(statement: Statement<'_>) -> Result<u8, LineFault>
-    ensures { IsNodesRead (record { number = statement.entry.number; line = statement.entry.line.now }) result }
+    ensures { IsNodesRead
+        (record { number = statement.entry.number; line = statement.entry.line.now }) result }
 {
     if !is_printable(statement.line) {
         return Err(LineFault::Text);
@@ -57,7 +58,10 @@ fn header_statement<'a>(
     number: u32,
 ) -> Option<(Statement<'a>, &'a [u8], &'a [u8])>
     requires { number + length text.now < 2 ^ 32 }
-    ensures { MatchOption result (SaysNoHeader name.now (statements_from number (lines_of_text text.now))) (λ parts. SaysHeader name.now number text.now parts.0.number parts.0.line.now parts.1.now parts.2.now) }
+    ensures { MatchOption result
+        (SaysNoHeader name.now (statements_from number (lines_of_text text.now)))
+        (λ parts. SaysHeader name.now number text.now
+            parts.0.number parts.0.line.now parts.1.now parts.2.now) }
 {
     let (statement, rest) = next_statement(text, number)?;
     let (word, behind) = next_word(statement.line)?;
@@ -71,7 +75,8 @@ fn header_statement<'a>(
 /// How many workers the second statement says that there are, where it has this behind its first word.
 fn read_workers(statement: Statement<'_>, behind: &[u8]) -> Result<u8, LineFault>
     requires { words_in statement.line.now ≡ codes "workers" ∷ words_in behind.now }
-    ensures { IsWorkersRead (record { number = statement.entry.number; line = statement.entry.line.now }) result }
+    ensures { IsWorkersRead
+        (record { number = statement.entry.number; line = statement.entry.line.now }) result }
 {
     if !is_printable(statement.line) {
         return Err(LineFault::Text);
@@ -88,7 +93,8 @@ fn read_log(
 ) -> Result<(), LineFault>
     requires words { words_in statement.line.now ≡ codes "log" ∷ words_in behind.now }
     requires few { before ≤ 2 }
-    ensures { IsLogRead nodes before (record { number = statement.entry.number; line = statement.entry.line.now }) result }
+    ensures { IsLogRead nodes before
+        (record { number = statement.entry.number; line = statement.entry.line.now }) result }
 {
     if !is_printable(statement.line) {
         return Err(LineFault::Text);
@@ -182,7 +188,8 @@ pub fn parse_script(alloc: Global, bytes: &[u8]) -> Result<Script, ScriptFault>
     // What is answered.
     ensures script { IfOk result (SpellsScript bytes.now) }
     ensures form { IfOk result IsInForm }
-    ensures bad { (n : LineNo) (cause : LineFault) → IsErrOf result (ScriptFault.BadScript n cause) → IsFirstRefused bytes.now n.0 cause }
+    ensures bad { (n : LineNo) (cause : LineFault) → IsErrOf result (ScriptFault.BadScript n cause)
+        → IsFirstRefused bytes.now n.0 cause }
     ensures large { IsErrOf result ScriptFault.TooLarge ↔ (LONGEST < length bytes.now) }
 
     // Each script and each refusal is answered, unless memory runs out.

@@ -16,7 +16,8 @@ const LANES: u8 = 8;
 
 /// The lines of a lane, and the lines of the others.
 fn split_lane(alloc: Global, lane: u8, lines: Vec<Line>) -> Result<(Vec<Line>, Vec<Line>), NoMemory>
-    ensures { IfOk result (λ parts. (parts.0.items ≡ of_lane lane lines.items) × (parts.1.items ≡ filter (λ line. not (line.at.lane.0 == lane)) lines.items)) }
+    ensures { IfOk result (λ parts. (parts.0.items ≡ of_lane lane lines.items) × (parts.1.items
+        ≡ filter (λ line. not (line.at.lane.0 == lane)) lines.items)) }
 {
     let mut mine = Vec::new(alloc);
     let mut others = Vec::new(alloc);
@@ -67,7 +68,8 @@ fn take_later(
     lines: &mut Vec<Line>,
     later: Later,
 ) -> Result<(), NoMemory>
-    ensures { OnOk result (TakesLater later phases.old.items lines.old.items phases.new.items lines.new.items) }
+    ensures { OnOk result
+        (TakesLater later phases.old.items lines.old.items phases.new.items lines.new.items) }
 {
     match later {
         Later::Join => {
@@ -101,7 +103,8 @@ pub fn read_phases(
     requires bounded { number + length text.now < 2 ^ 32 }
     requires few { before.statements ≤ 3 }
     requires none { before.promotions ≡ 0 }
-    ensures { ArePhasesRead nodes log before (statements_from number (lines_of_text text.now)) result }
+    ensures { ArePhasesRead nodes log before (statements_from number
+        (lines_of_text text.now)) result }
 {
     let mut phases = Vec::new(alloc);
     let mut lines = Vec::new(alloc);

@@ -1,7 +1,7 @@
 ghost use Rattle.std.specs.Prelude.{◌≡◌, ◌∷◌, [], None, MatchOption, codes, length};
 ghost use Rattle.script_text.specs.Grammar.{words_in};
-ghost use Rattle.script_text.specs.Refused.{asked as asked_lem, fault_asked as fault_asked_lem, is_too_few_or_many, command_shapes, fault_shapes, shape_named};
-ghost use Rattle.script_text.specs.Reading.{plain_shape, shape_of, asked_of, NamesFront, IsNamed, IsFaultNamed, late_shapes};
+ghost use Rattle.script_text.specs.Refused.{asked as asked_lem, fault_asked as fault_asked_lem, is_too_few_or_many, command_shapes, fault_shapes, shape_named, plain_shape, shape_of};
+ghost use Rattle.script_text.specs.Reading.{asked_of, NamesFront, IsNamed, IsFaultNamed, late_shapes};
 
 use crate::words::{is_word, next_word};
 use history_entries::FaultKind;
@@ -49,7 +49,9 @@ pub enum Asked<'a> {
 
 /// The command of a name among the first nine of the table.
 fn early_command(word: &[u8]) -> Option<Name>
-    ensures { MatchOption result (shape_named word.now command_shapes ≡ shape_named word.now late_shapes) (IsNamed word.now command_shapes) }
+    ensures { MatchOption result
+        (shape_named word.now command_shapes ≡ shape_named word.now late_shapes)
+        (IsNamed word.now command_shapes) }
 {
     if is_word(b"put", word) {
         Some(Name::Put)
@@ -76,7 +78,8 @@ fn early_command(word: &[u8]) -> Option<Name>
 
 /// The command of a name among the others of the table.
 fn late_command(word: &[u8]) -> Option<Name>
-    ensures { MatchOption result (shape_named word.now late_shapes ≡ None) (IsNamed word.now late_shapes) }
+    ensures { MatchOption result (shape_named word.now late_shapes ≡ None)
+        (IsNamed word.now late_shapes) }
 {
     if is_word(b"close", word) {
         Some(Name::Plain(Plain::Close))
@@ -102,7 +105,8 @@ fn late_command(word: &[u8]) -> Option<Name>
 /// The command of a name.
 #[tactic(auto, using(crate::proofs::ShapeLemmas::named_late))]
 fn command_named(word: &[u8]) -> Option<Name>
-    ensures { MatchOption result (shape_named word.now command_shapes ≡ None) (IsNamed word.now command_shapes) }
+    ensures { MatchOption result (shape_named word.now command_shapes ≡ None)
+        (IsNamed word.now command_shapes) }
 {
     match early_command(word) {
         Some(name) => Some(name),
@@ -112,7 +116,8 @@ fn command_named(word: &[u8]) -> Option<Name>
 
 /// The planned fault of a name.
 fn fault_named(word: &[u8]) -> Option<Name>
-    ensures { MatchOption result (shape_named word.now fault_shapes ≡ None) (IsFaultNamed word.now) }
+    ensures { MatchOption result (shape_named word.now fault_shapes ≡ None)
+        (IsFaultNamed word.now) }
 {
     if is_word(b"link", word) {
         Some(Name::Fault(FaultKind::Link))
@@ -185,7 +190,8 @@ fn word_count(name: Name) -> usize
 /// Whether so many words behind a command's name are too few or too many.
 #[tactic(auto, using(crate::proofs::ShapeLemmas::plain_tail, crate::proofs::ShapeLemmas::fault_tail))]
 pub fn is_miscounted(name: Name, found: usize) -> bool
-    ensures { result ≡ is_too_few_or_many (shape_of name).tail (length (shape_of name).words) found }
+    ensures { result
+        ≡ is_too_few_or_many (shape_of name).tail (length (shape_of name).words) found }
 {
     let wanted = word_count(name);
     match name {

@@ -61,7 +61,8 @@ pub fn rest_behind(line: &[u8]) -> &[u8]
 /// The first word of a line, and what follows it.
 #[tactic(auto, using(crate::proofs::WordLemmas::split_word, crate::proofs::WordLemmas::no_word))]
 pub fn next_word(line: &[u8]) -> Option<(&[u8], &[u8])>
-    ensures words { MatchOption result (words_in line.now ≡ []) (λ parts. words_in line.now ≡ parts.0.now ∷ words_in parts.1.now) }
+    ensures words { MatchOption result (words_in line.now ≡ []) (λ parts. words_in line.now
+        ≡ parts.0.now ∷ words_in parts.1.now) }
     ensures shorter { MatchOption result ⊤ (λ parts. length parts.1.now < length line.now) }
 {
     let line = without_spaces(line);
