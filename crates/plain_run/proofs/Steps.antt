@@ -99,7 +99,7 @@ module _ (past : Past) (at : At) (ops : List Op) (p r : Searched) (s : Shows pas
         let q = s.quiet in (
           record {
             node = (omega arith, omega arith);
-            started = rw (same_at_self at) (refl, omega arith);
+            started = rw (same_at_self at) refl;
             searched = refl;
             done = inl (rw (same_at_self at) refl);
             survives = record { node = rw (same_at_self at) refl };

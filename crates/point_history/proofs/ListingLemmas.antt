@@ -4,8 +4,8 @@ use Rattle.std.specs.Prelude.{true, reverse}
 use Rattle.std.proofs.lemmas.List.{take_all}
 use Rattle.file_names.specs.Names.{is_ascending}
 use Rattle.history_entries.specs.Nodes.{Past}
-use Rattle.point_history.specs.Openings.{was_opened, HoldsNone}
-use Rattle.point_history.proofs.TicketLemmas.{held_was_opened}
+use Rattle.history_facts.specs.Openings.{was_opened, HoldsNone}
+use Rattle.history_facts.proofs.TicketLemmas.{held_was_opened}
 
 -- one name alone is in order
 pub short_ascending : (names : List (List ℕ)) → length names ≤ 1 → is_ascending names ≡ true

@@ -1,4 +1,1 @@
-pub mod Generations
-pub mod Origins
-pub mod Openings
 pub mod Walks

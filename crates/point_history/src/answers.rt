@@ -5,11 +5,9 @@ ghost use Rattle.history_entries.specs.Lines.{start_entry};
 ghost use Rattle.history_entries.specs.Points.{documents_at};
 ghost use Rattle.history_entries.specs.Rules.{StartedSearch, MayAnswer};
 
-use crate::lines::{node_survives, start_entry};
-use crate::nodes::is_node;
-use crate::written::documents_at;
 use documents::{Answer, Hit, Query, scan_if_told};
 use history_entries::{Entry, Event};
+use history_facts::{documents_at, is_node, node_survives, start_entry};
 use nrt_base::{At, NoMemory, NodeNo, TicketNo, Version};
 use std::alloc::Global;
 

@@ -5,11 +5,12 @@ ghost use Rattle.std.specs.Option.{option_copied};
 ghost use Rattle.history_entries.specs.Lines.{last_of_line, is_answered};
 ghost use Rattle.history_entries.specs.Rules.{copies_to, is_merging, fetches_at, MayFault};
 
-use crate::faults::{is_of_disk, is_planned};
-use crate::lines::{before_start, is_answered, last_of_line, start_entry};
-use crate::nodes::{is_at, is_node, is_running, primary_of};
 use crate::refusals::is_node_of;
 use history_entries::{Entry, Event, FaultKind};
+use history_facts::{
+    before_start, is_answered, is_at, is_node, is_of_disk, is_planned, is_running, last_of_line,
+    primary_of, start_entry,
+};
 use nrt_base::{At, NodeNo};
 
 /// Whether a line started as a copy or a settle after these entries, and this is a node of it.

@@ -1,12 +1,10 @@
 ghost use Rattle.std.specs.Prelude.{◌≡◌, ◌<◌, ◌+◌, ◌^◌, ◌∷◌, ◌↔◌, reverse, length, IfOk, IsTrue};
 ghost use Rattle.history_entries.specs.Nodes.{accepted_count};
-ghost use Rattle.point_history.specs.Generations.{ShowsGeneration, ShowsDrawn};
+ghost use Rattle.history_facts.specs.Generations.{ShowsGeneration, ShowsDrawn};
 ghost use Rattle.history_entries.specs.Legal.{KeepsRule, rule_number, IsVerdict};
 
 use crate::answers::may_answer;
-use crate::drawn::{Drawn, note_drawn};
 use crate::fault_rules::may_fault;
-use crate::generation::Generation;
 use crate::listings::may_list_files;
 use crate::refusals::may_refuse_line;
 use crate::rules::{
@@ -15,6 +13,7 @@ use crate::rules::{
     may_start_merge, may_start_publish, may_start_settle, may_switch,
 };
 use history_entries::{Entry, Event, History, Verdict};
+use history_facts::{Drawn, Generation, note_drawn};
 use nrt_base::NoMemory;
 use std::alloc::Global;
 

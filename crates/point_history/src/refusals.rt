@@ -2,17 +2,17 @@
 
 ghost use Rattle.std.specs.Prelude.{◌≡◌, ◌↔◌, reverse, IsTrue};
 ghost use Rattle.history_entries.specs.Faults.{same_kind, has_fault};
-ghost use Rattle.point_history.specs.Generations.{ShowsDrawn};
+ghost use Rattle.history_facts.specs.Generations.{ShowsDrawn};
 ghost use Rattle.history_entries.specs.Lines.{start_entry};
 ghost use Rattle.history_entries.specs.Rules.{is_node_of, is_source_of, is_lost, version_in, is_above, is_copied_beside, is_settled_beside, is_copy, is_loss, has_disk_fault, MayCancel, MayBeDamaged, MayBreakOff, MayRefuse, MayRefuseAtOnce, MayRefuseLine};
 
-use crate::commits::is_disk_fault;
-use crate::drawn::{Drawn, is_drawn_file};
-use crate::faults::{has_met_fault, is_of_disk, same_kind};
-use crate::lines::{before_start, has_switched, is_answered, is_start, same_at, start_entry};
-use crate::nodes::{crashes, is_at, is_point, is_running, primary_of};
 use file_names::FileName;
 use history_entries::{Cause, Entry, Event, FaultKind};
+use history_facts::{
+    Drawn, before_start, crashes, has_met_fault, has_switched, is_answered, is_at, is_disk_fault,
+    is_drawn_file, is_of_disk, is_point, is_running, is_start, primary_of, same_at, same_kind,
+    start_entry,
+};
 use nrt_base::{At, NodeNo, Version};
 
 /// Whether a node is one of a line that started with this event after these entries.

@@ -1,23 +1,17 @@
 ghost use Rattle.std.specs.Prelude.{◌≡◌, ◌≤◌, ◌<◌, ◌+◌, ◌^◌, ◌↔◌, ◌⊎◌, ℕ, reverse, length, IsTrue, true};
 ghost use Rattle.history_entries.specs.Nodes.{IsNode, IsReplica, version_of, accepted_count};
 ghost use Rattle.history_entries.specs.Lines.{start_entry, before_start, has_switched, NodeSurvives};
-ghost use Rattle.point_history.specs.Generations.{ShowsGeneration};
+ghost use Rattle.history_facts.specs.Generations.{ShowsGeneration};
 ghost use Rattle.history_entries.specs.Rules.{MayAccept, MayStartPublish, MayPublish, MayStartCopy, MaySwitch, MayFinishCopy, MayStartSettle, MaySettle, MayOpen, MayAsk, MayClose, MayStartCommit, MayCommit, MayCrash, MayReopen, MayPromote, MayStartMerge, MayDrain, MayPlan, StartedCopy, StartedCommit};
 
-use crate::commits::{is_reopenable, is_stuck, was_searched_since};
-use crate::faults::has_met_fault;
-use crate::generation::Generation;
-use crate::lines::{
-    before_start, commit_in_flight, copy_in_flight, has_switched, highest_copy, highest_switched,
-    is_answered, is_free_for, node_survives, publish_in_flight, source_survives, start_entry,
-};
-use crate::nodes::{
-    accepted_count, is_made_in_generation, is_node, is_replica, is_running, newest_version,
-    primary_of, version_of,
-};
-use crate::tasks::{drained_count, merge_count};
-use crate::tickets::{has_ticket, is_ticket_at, is_ticket_of};
 use history_entries::{Entry, Event};
+use history_facts::{
+    Generation, accepted_count, before_start, commit_in_flight, copy_in_flight, drained_count,
+    has_met_fault, has_switched, has_ticket, highest_copy, highest_switched, is_answered,
+    is_free_for, is_made_in_generation, is_node, is_reopenable, is_replica, is_running, is_stuck,
+    is_ticket_at, is_ticket_of, merge_count, newest_version, node_survives, primary_of,
+    publish_in_flight, source_survives, start_entry, version_of, was_searched_since,
+};
 use nrt_base::{At, Gen, NodeNo, SegNo, TicketNo, Version};
 
 pub(crate) fn may_accept(entries: &[Entry], at: At, seq: u32) -> bool

@@ -11,9 +11,11 @@ answers Nothing row = false
 answers Every row = true
 answers (Word hits) row = has_row hits row
 answers (Phrase least words) row = from_least least (phrase_in words.items) row
-answers (Both' least p first q second) row = nat_le least row && (answers first row && answers second row)
+answers (Both' least p first q second) row =
+    nat_le least row && (answers first row && answers second row)
 answers (Either' p first q second) row = answers first row || answers second row
-answers (Rest' least free rows p part) row = nat_le least row && (nat_lt row rows && (nat_lt row free || not (answers part row)))
+answers (Rest' least free rows p part) row =
+    nat_le least row && (nat_lt row rows && (nat_lt row free || not (answers part row)))
 
 -- a cursor, or none, which leaves each row to the others
 abbrev pub all_answer : Option Cursor → ℕ → Bool

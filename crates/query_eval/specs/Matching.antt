@@ -28,7 +28,8 @@ AnswersWord docs word cursor = AnswersTest docs (λ doc. has_word word (words_of
 
 -- those in whose text the phrase stands
 abbrev pub AnswersPhrase : List Doc → List (List ℕ) → Cursor → Type 0
-AnswersPhrase docs phrase cursor = AnswersTest docs (λ doc. stands_in phrase (words_of doc.text)) cursor
+AnswersPhrase docs phrase cursor =
+    AnswersTest docs (λ doc. stands_in phrase (words_of doc.text)) cursor
 
 -- those that every part matches
 abbrev pub AnswersAll : List Doc → List Query → Cursor → Type 0
@@ -48,7 +49,8 @@ rows_of segs = sum_by (λ seg. length seg.docs) segs
 abbrev pub CountsRow : Shown → (row rank : ℕ) → (old new : Answer) → Type 0
 CountsRow seg row rank old new =
     IfSome (slice_get seg.docs row)
-    (λ doc. MatchBool (slice_index_or seg.live row false) (CountsHit (hit_with doc.key rank) old new) (new ≡ old))
+    (λ doc. MatchBool (slice_index_or seg.live row false)
+    (CountsHit (hit_with doc.key rank) old new) (new ≡ old))
 
 -- the live rows of a segment whose documents match were counted over what was found before
 pub record CountsSegment (query : Query) (seg : Shown) (old new : Answer) : Type 0 where

@@ -23,4 +23,5 @@ KeepsRanks row old new = (x : ℕ) → row ≤ x → rank_in new x ≡ rank_in o
 -- in the row of each document so much more is counted
 abbrev pub AddsRank : List Doc → (Doc → ℕ) → (old new : Ranker) → Type 0
 AddsRank docs more old new =
-    (row : ℕ) (doc : Doc) → slice_get docs row ≡ Some doc → rank_in new row ≡ rank_in old row + more doc
+    (row : ℕ) (doc : Doc) → slice_get docs row ≡ Some doc
+    → rank_in new row ≡ rank_in old row + more doc

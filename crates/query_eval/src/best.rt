@@ -79,7 +79,8 @@ impl BestHits {
         requires row { row < length seg.now.docs }
         requires room { self.old.total + 1 < 2 ^ 32 }
         ensures { OnOk result
-            (IfSome (slice_get seg.now.docs row) (λ doc. CountsHit (hit_with doc.key rank) self.old self.new)) }
+            (IfSome (slice_get seg.now.docs row)
+            (λ doc. CountsHit (hit_with doc.key rank) self.old self.new)) }
     {
         self.total += 1;
         if are_beyond(self.hits.as_slice(), rank) {

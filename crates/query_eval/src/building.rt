@@ -26,8 +26,8 @@ fn word_cursor<'a>(
 ) -> Result<Cursor<'a>, NoMemory>
     requires { IsSound seg.now }
     ensures answers { IfOk result (AnswersWord seg.now.docs word.now) }
-    ensures ranks { OnOk result
-        (AddsRank seg.now.docs (λ doc. times_of_word word.now (words_of doc.text)) ranker.old ranker.new) }
+    ensures ranks { OnOk result (AddsRank seg.now.docs
+        (λ doc. times_of_word word.now (words_of doc.text)) ranker.old ranker.new) }
 {
     match seg.word(word.as_slice()) {
         Some(hits) => {
@@ -48,8 +48,8 @@ fn phrase_cursor<'a>(
     requires sound { IsSound seg.now }
     requires some { 0 < length phrase.now }
     ensures answers { IfOk result (AnswersPhrase seg.now.docs phrase.now) }
-    ensures ranks { OnOk result
-        (AddsRank seg.now.docs (λ doc. times_of_phrase phrase.now (words_of doc.text)) ranker.old ranker.new) }
+    ensures ranks { OnOk result (AddsRank seg.now.docs
+        (λ doc. times_of_phrase phrase.now (words_of doc.text)) ranker.old ranker.new) }
 {
     let mut words = Vec::with_capacity(alloc, phrase.as_slice().len())?;
     let mut counted = Vec::with_capacity(alloc, phrase.as_slice().len())?;
@@ -73,7 +73,8 @@ fn both<'a>(
     next: Cursor<'a>,
 ) -> Result<Cursor<'a>, NoMemory>
     ensures { IfOk result
-        (λ cursor. (row : ℕ) → answers cursor row ≡ (all_answer before.entry row && answers next.entry row)) }
+        (λ cursor. (row : ℕ)
+        → answers cursor row ≡ (all_answer before.entry row && answers next.entry row)) }
 {
     match before {
         Some(before) => Ok(Cursor::Both {
@@ -92,7 +93,8 @@ fn either<'a>(
     next: Cursor<'a>,
 ) -> Result<Cursor<'a>, NoMemory>
     ensures { IfOk result
-        (λ cursor. (row : ℕ) → answers cursor row ≡ (any_answers before.entry row || answers next.entry row)) }
+        (λ cursor. (row : ℕ)
+        → answers cursor row ≡ (any_answers before.entry row || answers next.entry row)) }
 {
     match before {
         Some(before) => Ok(Cursor::Either {
@@ -114,8 +116,8 @@ pub fn cursor_of<'a>(
     requires sound { IsSound seg.now }
     requires form { IsTrue (has_form query.now) }
     ensures answers { IfOk result (AnswersQuery seg.now.docs query.now) }
-    ensures ranks { OnOk result
-        (AddsRank seg.now.docs (λ doc. rank_of query.now (words_of doc.text)) ranker.old ranker.new) }
+    ensures ranks { OnOk result (AddsRank seg.now.docs
+        (λ doc. rank_of query.now (words_of doc.text)) ranker.old ranker.new) }
 {
     match query {
         Query::Word(word) => word_cursor(seg, word, ranker),
@@ -146,7 +148,8 @@ fn cursor_of_all<'a>(
     requires form { IsTrue (list_all has_form parts.now) }
     ensures answers { IfOk result (AnswersAll seg.now.docs parts.now) }
     ensures ranks { OnOk result (AddsRank seg.now.docs
-        (λ doc. sum_by (λ part. rank_of part (words_of doc.text)) parts.now) ranker.old ranker.new) }
+        (λ doc. sum_by (λ part. rank_of part (words_of doc.text)) parts.now)
+        ranker.old ranker.new) }
 {
     let mut all = None;
     for part in parts.as_slice() {
@@ -167,7 +170,8 @@ fn cursor_of_any<'a>(
     requires form { IsTrue (list_all has_form parts.now) }
     ensures answers { IfOk result (AnswersAny seg.now.docs parts.now) }
     ensures ranks { OnOk result (AddsRank seg.now.docs
-        (λ doc. sum_by (λ part. rank_of part (words_of doc.text)) parts.now) ranker.old ranker.new) }
+        (λ doc. sum_by (λ part. rank_of part (words_of doc.text)) parts.now)
+        ranker.old ranker.new) }
 {
     let mut any = None;
     for part in parts.as_slice() {

@@ -186,7 +186,8 @@ fn align(words: &mut [PhraseWord<'_>], row: u32) -> Option<u32>
 /// Moves the words of a phrase to the first row at or above this one, from `least` on, in which they stand together. The least
 /// rises to it.
 pub fn advance_phrase(least: &mut u32, words: &mut [PhraseWord<'_>], row: u32) -> Option<u32>
-    ensures { FindsRow (from_least least.old (phrase_in words.old)) (from_least least.new (phrase_in words.new)) row result }
+    ensures { FindsRow (from_least least.old (phrase_in words.old))
+        (from_least least.new (phrase_in words.new)) row result }
 {
     *least = row.max(*least);
     loop {

@@ -83,7 +83,8 @@ impl<'a> Ranker<'a> {
 
     /// Counts one more word or phrase.
     pub fn push(&mut self, leaf: Leaf<'a>) -> Result<(), NoMemory>
-        ensures { OnOk result ((row : ℕ) → rank_in self.new row ≡ rank_in self.old row + times_in leaf.entry row) }
+        ensures { OnOk result ((row : ℕ)
+            → rank_in self.new row ≡ rank_in self.old row + times_in leaf.entry row) }
     {
         self.leaves.push(leaf)?;
         Ok(())

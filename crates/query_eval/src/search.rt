@@ -67,7 +67,8 @@ pub fn answer(alloc: Global, segs: &[Segment], query: &Query) -> Result<Answer, 
     requires few { rows_of segs.now < 2 ^ 32 }
     requires well_formed { IsTrue (is_well_formed query.now) }
     ensures { IfOk result
-        (λ answer. (docs : List Doc) → AreLiveDocuments segs.now docs → answer ≡ scan_of docs query.now) }
+        (λ answer. (docs : List Doc) → AreLiveDocuments segs.now docs
+        → answer ≡ scan_of docs query.now) }
 {
     let mut best = BestHits::new(alloc);
     for seg in segs {

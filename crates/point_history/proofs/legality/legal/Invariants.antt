@@ -1,7 +1,7 @@
 use Rattle.std.proofs.Common.{◌<◌, ◌^◌, take}
 use Rattle.std.specs.Prelude.{reverse}
 use Rattle.history_entries.specs.Nodes.{accepted_count}
-use Rattle.point_history.specs.Generations.{ShowsGeneration, ShowsDrawn}
+use Rattle.history_facts.specs.Generations.{ShowsGeneration, ShowsDrawn}
 use Rattle.history_entries.specs.Legal.{IsLegalPast}
 use Rattle.point_history.proofs.legality.legal.Given as goal
 

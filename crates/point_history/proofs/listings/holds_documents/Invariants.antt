@@ -1,6 +1,6 @@
 use Rattle.std.proofs.Common.{take}
 use Rattle.std.specs.Prelude.{reverse}
-use Rattle.point_history.specs.Openings.{was_opened, HoldsNone}
+use Rattle.history_facts.specs.Openings.{was_opened, HoldsNone}
 use Rattle.point_history.proofs.listings.holds_documents.Given as goal
 
 abbrev pub invariant-loop-entry : goal.invariant-loop-entry

@@ -1,0 +1,3 @@
+pub mod DrawnLemmas
+pub mod TicketLemmas
+pub mod WrittenLemmas

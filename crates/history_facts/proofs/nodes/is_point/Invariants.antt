@@ -1,0 +1,7 @@
+use Rattle.std.proofs.Common.{◌≡◌, take}
+use Rattle.std.specs.Prelude.{reverse}
+use Rattle.history_entries.specs.Nodes.{is_point}
+use Rattle.history_facts.proofs.nodes.is_point.Given as goal
+
+abbrev pub invariant-loop-entry : goal.invariant-loop-entry
+invariant-loop-entry l = l.made ≡ is_point l.version.0 (reverse (take l.entry-index l.entries))

@@ -1,0 +1,140 @@
+ghost use Rattle.std.specs.Prelude.{◌≡◌, ◌==◌, ◌∷◌, ℕ, List, None, if◌then◌else◌, reverse};
+ghost use Rattle.std.specs.Option.{option_copied};
+ghost use Rattle.std.specs.List.{list_any};
+ghost use Rattle.history_entries.specs.Lines.{commit_by};
+ghost use Rattle.history_entries.specs.Commits.{has_committed, is_disk_fault, starts_commit, is_stuck_by, is_stuck, reopenable_by, reopenable_versions, was_searched_since};
+
+use crate::lines::{commit_after, is_start, same_at, start_entry};
+use crate::nodes::{Searched, is_at};
+use history_entries::{Cause, Entry, Event};
+use nrt_base::{At, NodeNo, Version};
+
+/// Whether a commit of the node was acknowledged, or found by a reopening.
+pub fn has_committed(n: NodeNo, entries: &[Entry]) -> bool
+    ensures { result ≡ has_committed n.0 (reverse entries.now) }
+{
+    let mut committed = false;
+    for entry in entries {
+        match &entry.event {
+            Event::Committed { n: m, .. } if m.0 == n.0 => committed = true,
+            Event::Reopened { n: m, v } if m.0 == n.0 && 1 < v.0 => committed = true,
+            _ => {}
+        }
+    }
+    committed
+}
+
+/// Whether the cause is a fault of a disk.
+pub fn is_disk_fault(cause: &Cause) -> bool
+    ensures { result ≡ is_disk_fault cause.now }
+{
+    match cause {
+        Cause::DiskFault => true,
+        _ => false,
+    }
+}
+
+/// Whether a line started as a commit at this node.
+fn starts_commit(n: NodeNo, start: Option<&Event>) -> bool
+    ensures { result ≡ starts_commit n.0 (option_copied start.entry) }
+{
+    match start {
+        Some(Event::Committing { n: m, .. }) => m.0 == n.0,
+        _ => false,
+    }
+}
+
+/// Whether a node is stuck after one more entry than these.
+fn is_stuck_after(n: NodeNo, entries: &[Entry], entry: &Entry, stuck: bool) -> bool
+    requires { stuck ≡ is_stuck n.0 (reverse entries.now) }
+    ensures { result ≡ is_stuck n.0 (entry.now ∷ reverse entries.now) }
+{
+    match &entry.event {
+        Event::Committed { n: m, .. } | Event::Reopened { n: m, .. } if m.0 == n.0 => false,
+        Event::Refused { cause } => {
+            stuck || (is_disk_fault(cause) && starts_commit(n, start_entry(entry.at, entries)))
+        }
+        _ => stuck,
+    }
+}
+
+/// Whether a disk fault refused a commit of the node, and neither was one acknowledged since nor did it reopen.
+pub fn is_stuck(n: NodeNo, entries: &[Entry]) -> bool
+    ensures { result ≡ is_stuck n.0 (reverse entries.now) }
+{
+    let mut stuck = false;
+    for (i, entry) in entries.iter().enumerate() {
+        stuck = is_stuck_after(n, &entries[..i], entry, stuck);
+    }
+    stuck
+}
+
+/// The line whose commit is in flight at a node, where the node is stuck.
+fn late_commit(stuck: bool, line: Option<At>) -> Option<At>
+    ensures { result ≡ (if stuck then line else None) }
+{
+    if stuck { line } else { None }
+}
+
+/// Whether a node may reopen at a version after one more event, `found` saying whether it might before, and `line` being its late commit in flight.
+fn found_after(
+    n: NodeNo,
+    version: Version,
+    event: &Event,
+    primary: Option<NodeNo>,
+    line: Option<At>,
+    found: bool,
+) -> bool
+    ensures { (old : List ℕ) → found ≡ list_any (λ w. w == version.0) old →
+        result ≡ list_any (λ w. w == version.0) (reopenable_by n.0 event.now primary line old) }
+{
+    match event {
+        Event::Committed { n: m, v } | Event::Reopened { n: m, v } if m.0 == n.0 => {
+            v.0 == version.0
+        }
+        Event::Committing { n: m, v } if m.0 == n.0 => v.0 == version.0 || found,
+        Event::Published { v, .. } if is_at(primary, n) && line.is_some() => {
+            v.0 == version.0 || found
+        }
+        Event::Switched { n: m, v } | Event::Promoted { n: m, v, .. }
+            if m.0 == n.0 && line.is_some() => { v.0 == version.0 || found }
+        _ => found,
+    }
+}
+
+/// Whether a node may reopen at a version: its base version, or one that a commit since may have left.
+pub fn is_reopenable(n: NodeNo, version: Version, entries: &[Entry]) -> bool
+    ensures { result ≡ list_any (λ w. w == version.0)
+        (reopenable_versions n.0 (reverse entries.now)) }
+{
+    let mut searched = Searched::new();
+    let mut line = None;
+    let mut stuck = false;
+    let mut found = version.0 == 1;
+    for (i, entry) in entries.iter().enumerate() {
+        let late = late_commit(stuck, line);
+        found = found_after(n, version, &entry.event, searched.primary, late, found);
+        searched = searched.after(n, &entry.event);
+        line = commit_after(n, entry, line);
+        stuck = is_stuck_after(n, &entries[..i], entry, stuck);
+    }
+    found
+}
+
+/// Whether a node searched the version at the start entry of a line, or later.
+pub fn was_searched_since(at: At, n: NodeNo, version: Version, entries: &[Entry]) -> bool
+    ensures { result ≡ was_searched_since at n.0 version.0 (reverse entries.now) }
+{
+    let mut searched = Searched::new();
+    let mut was = false;
+    for entry in entries {
+        searched = searched.after(n, &entry.event);
+        if is_start(&entry.event) && same_at(entry.at, at) {
+            was = false;
+        }
+        if searched.version == version.0 {
+            was = true;
+        }
+    }
+    was
+}

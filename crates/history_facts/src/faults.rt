@@ -1,0 +1,88 @@
+ghost use Rattle.std.specs.Prelude.{◌≡◌, reverse};
+ghost use Rattle.history_entries.specs.Faults.{kind_of, same_kind, is_of_disk, is_lasting, is_planned, has_met_fault};
+
+use crate::lines::same_at;
+use history_entries::{Entry, Event, FaultKind, FaultPlan};
+use nrt_base::{At, NodeNo};
+
+fn kind_of(plan: FaultPlan) -> FaultKind
+    ensures { result ≡ kind_of plan }
+{
+    match plan {
+        FaultPlan::Link(_) => FaultKind::Link,
+        FaultPlan::Damage(_, _) => FaultKind::Damage,
+        FaultPlan::Disk(_) => FaultKind::Disk,
+        FaultPlan::Stop(_) => FaultKind::Stop,
+    }
+}
+
+pub fn same_kind(a: FaultKind, b: FaultKind) -> bool
+    ensures { result ≡ same_kind a b }
+{
+    match (a, b) {
+        (FaultKind::Link, FaultKind::Link)
+        | (FaultKind::Damage, FaultKind::Damage)
+        | (FaultKind::Disk, FaultKind::Disk)
+        | (FaultKind::Stop, FaultKind::Stop) => true,
+        _ => false,
+    }
+}
+
+/// Whether it is a fault of a disk: of one call, or of a call and all after it.
+pub fn is_of_disk(kind: FaultKind) -> bool
+    ensures { result ≡ is_of_disk kind }
+{
+    same_kind(FaultKind::Disk, kind) || same_kind(FaultKind::Stop, kind)
+}
+
+fn is_lasting(kind: FaultKind) -> bool
+    ensures { result ≡ is_lasting kind }
+{
+    match kind {
+        FaultKind::Stop => true,
+        _ => false,
+    }
+}
+
+/// Whether a fault of this kind is planned at a node.
+pub fn is_planned(n: NodeNo, kind: FaultKind, entries: &[Entry]) -> bool
+    ensures { result ≡ is_planned n.0 kind (reverse entries.now) }
+{
+    let mut planned = false;
+    for entry in entries {
+        match &entry.event {
+            Event::Planned { n: m, plan } => {
+                if m.0 == n.0 && same_kind(kind_of(*plan), kind) {
+                    planned = true;
+                }
+            }
+            Event::Crashed { n: m } => {
+                if m.0 == n.0 {
+                    planned = false;
+                }
+            }
+            Event::Fault { n: m, kind: met } => {
+                if m.0 == n.0 && same_kind(*met, kind) {
+                    planned = is_lasting(kind) && planned;
+                }
+            }
+            _ => {}
+        }
+    }
+    planned
+}
+
+/// Whether a line has met a fault, of any kind, at any node.
+pub fn has_met_fault(at: At, entries: &[Entry]) -> bool
+    ensures { result ≡ has_met_fault at (reverse entries.now) }
+{
+    let mut met = false;
+    for entry in entries {
+        if let Event::Fault { .. } = &entry.event {
+            if same_at(entry.at, at) {
+                met = true;
+            }
+        }
+    }
+    met
+}

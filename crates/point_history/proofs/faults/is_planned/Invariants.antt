@@ -1,7 +1,0 @@
-use Rattle.std.proofs.Common.{◌≡◌, take}
-use Rattle.std.specs.Prelude.{reverse}
-use Rattle.history_entries.specs.Faults.{is_planned}
-use Rattle.point_history.proofs.faults.is_planned.Given as goal
-
-abbrev pub invariant-loop-entry : goal.invariant-loop-entry
-invariant-loop-entry l = l.planned ≡ is_planned l.n.0 l.kind (reverse (take l.entry-index l.entries))

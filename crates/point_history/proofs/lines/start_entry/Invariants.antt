@@ -1,8 +1,0 @@
-use Rattle.std.proofs.Common.{◌≡◌, take}
-use Rattle.std.specs.Prelude.{reverse}
-use Rattle.history_entries.specs.Lines.{start_entry}
-use Rattle.std.specs.Option.{option_copied}
-use Rattle.point_history.proofs.lines.start_entry.Given as goal
-
-abbrev pub invariant-loop-entry : goal.invariant-loop-entry
-invariant-loop-entry l = option_copied l.start ≡ start_entry l.at (reverse (take l.entry-index l.entries))

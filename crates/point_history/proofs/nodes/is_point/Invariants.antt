@@ -1,7 +1,0 @@
-use Rattle.std.proofs.Common.{◌≡◌, take}
-use Rattle.std.specs.Prelude.{reverse}
-use Rattle.history_entries.specs.Nodes.{is_point}
-use Rattle.point_history.proofs.nodes.is_point.Given as goal
-
-abbrev pub invariant-loop-entry : goal.invariant-loop-entry
-invariant-loop-entry l = l.made ≡ is_point l.version.0 (reverse (take l.entry-index l.entries))

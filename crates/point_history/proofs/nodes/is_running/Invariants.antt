@@ -1,7 +1,0 @@
-use Rattle.std.proofs.Common.{◌≡◌, take}
-use Rattle.std.specs.Prelude.{reverse}
-use Rattle.history_entries.specs.Nodes.{is_running}
-use Rattle.point_history.proofs.nodes.is_running.Given as goal
-
-abbrev pub invariant-loop-entry : goal.invariant-loop-entry
-invariant-loop-entry l = l.running ≡ is_running l.n.0 (reverse (take l.entry-index l.entries))

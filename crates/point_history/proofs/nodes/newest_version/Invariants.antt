@@ -1,7 +1,0 @@
-use Rattle.std.proofs.Common.{◌≡◌, take}
-use Rattle.std.specs.Prelude.{reverse}
-use Rattle.history_entries.specs.Nodes.{newest_version}
-use Rattle.point_history.proofs.nodes.newest_version.Given as goal
-
-abbrev pub invariant-loop-entry : goal.invariant-loop-entry
-invariant-loop-entry l = l.newest ≡ newest_version (reverse (take l.entry-index l.entries))
