@@ -1,12 +1,13 @@
 -- A refused line is one, and is no line of a script that is run; so each answer is the answer to its bytes.
-use Rattle.std.proofs.Common.{◌≡◌, ◌≢◌, ◌+◌, ℕ, List, [], ◌∷◌, length, refl, ap, ◌∙◌, sym, inl, inr, Some, None}
+use Rattle.std.proofs.Common.{◌≡◌, ◌≢◌, ℕ, List, [], ◌∷◌, length, refl, ap, ◌∙◌, sym, inl, inr, Some, None}
 use Rattle.std.specs.Prelude.{◌⊎◌}
 use Rattle.nrt_base.specs.declared.numbers.LineNo.{LineNo}
+use Rattle.script_text.specs.declared.counted.Counted.{Counted}
 use Rattle.script_text.specs.declared.fault.LineFault.{LineFault}
 use Rattle.script_text.specs.declared.fault.LineFault.TheVariants.{NoNodes, NotBuilt}
 use Rattle.script_serving.specs.declared.script.Script.{Script}
 use Rattle.script_text.specs.Grammar.{Statement, lines_of_text, statements_of, SpellsScript}
-use Rattle.script_text.specs.Refused.{Place, first as first_place, next_place, RefusesAmong, RefusesStatements, IsFirstRefused}
+use Rattle.script_text.specs.Refused.{Place, first as first_place, next_place, none_counted, counted_with, RefusesAmong, RefusesStatements, IsFirstRefused}
 use Rattle.plain_run.specs.Built.{IsFirstUnbuilt}
 use Rattle.script_text.proofs.RefusalLaws.{never_both, one_refusal}
 use Rattle.nrt_main.specs.declared.status.Status.{Status}
@@ -14,14 +15,14 @@ use Rattle.nrt_main.specs.declared.status.Status.TheVariants.{Done, BadScript, W
 use Rattle.nrt_main.specs.Headline.{RefusesLine, IsRunnable, IsAnswer}
 use Rattle.nrt_main.specs.TopCalls.{IsRefusal}
 
-none_unbuilt : (statements : List Statement) (place : Place) (before n : ℕ) → RefusesAmong place before statements n NotBuilt → ⊥
+none_unbuilt : (statements : List Statement) (place : Place) (before : Counted) (n : ℕ) → RefusesAmong place before statements n NotBuilt → ⊥
 none_unbuilt [] place before n refused = refused
 none_unbuilt (statement ∷ statements) place before n (inl refused) = refused.1.holds
-none_unbuilt (statement ∷ statements) place before n (inr refused) = none_unbuilt statements (next_place place statement) (before + 1) n refused.1
+none_unbuilt (statement ∷ statements) place before n (inr refused) = none_unbuilt statements (next_place place statement) (counted_with before statement) n refused.1
 
 no_statements : (lines : ℕ) (statements : List Statement) (n : ℕ) → RefusesStatements lines statements n NotBuilt → ⊥
 no_statements lines [] n refused = let e : NotBuilt ≡ NoNodes = refused.1 in cc
-no_statements lines (statement ∷ statements) n refused = none_unbuilt (statement ∷ statements) first_place 0 n refused
+no_statements lines (statement ∷ statements) n refused = none_unbuilt (statement ∷ statements) first_place none_counted n refused
 
 -- the grammar refuses no line as not built
 never_unbuilt : (bytes : List ℕ) (n : ℕ) → IsFirstRefused bytes n NotBuilt → ⊥

@@ -3,8 +3,6 @@
 
 mod answers;
 mod fault_rules;
-#[cfg(test)]
-mod legal_cases;
 mod legality;
 mod listings;
 mod published;

@@ -3,6 +3,8 @@
 ghost use Rattle.std.specs.Prelude.{IsTrue};
 ghost use Rattle.nrt_base.specs.Bytes.{is_key, is_text};
 
+mod legal_cases;
+
 use crate::points;
 use documents::Op;
 use history_entries::{Entry, Event, History};

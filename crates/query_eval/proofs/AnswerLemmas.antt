@@ -49,15 +49,15 @@ module _ {X : Type 0} (R : List X → List X → Type 0) (same : (xs : List X) �
 abbrev with_doc : Query → Doc → List Hit → List Hit
 with_doc query doc hits = matching_hits query (doc ∷ []) ++ hits
 
-hits-cons : (query : Query) (doc : Doc) (docs : List Doc) → matching_hits query (doc ∷ docs) ≡ with_doc query doc (matching_hits query docs)
-hits-cons query doc docs = by_test (matches_doc query doc) refl
+matching_hits-cons : (query : Query) (doc : Doc) (docs : List Doc) → matching_hits query (doc ∷ docs) ≡ with_doc query doc (matching_hits query docs)
+matching_hits-cons query doc docs = by_test (matches_doc query doc) refl
   where
     by_test : (b : Bool) → matches_doc query doc ≡ b → matching_hits query (doc ∷ docs) ≡ with_doc query doc (matching_hits query docs)
     by_test true e = rw e refl
     by_test false e = rw e refl
 
-hits-permutation : (query : Query) (docs others : List Doc) → IsPermutation docs others → IsPermutation (matching_hits query docs) (matching_hits query others)
-hits-permutation query = along_permutation (λ docs others. IsPermutation (matching_hits query docs) (matching_hits query others))
+matching_hits-permutation : (query : Query) (docs others : List Doc) → IsPermutation docs others → IsPermutation (matching_hits query docs) (matching_hits query others)
+matching_hits-permutation query = along_permutation (λ docs others. IsPermutation (matching_hits query docs) (matching_hits query others))
     (λ docs. IsPermutation-refl _)
     (λ doc docs others moved. moved_under doc docs others (IsPermutation-append_right (matching_hits query (doc ∷ [])) _ _ moved))
     (λ a b docs. turned a b docs)
@@ -66,12 +66,12 @@ hits-permutation query = along_permutation (λ docs others. IsPermutation (match
     moved_under : (doc : Doc) (docs others : List Doc) → IsPermutation (with_doc query doc (matching_hits query docs)) (with_doc query doc (matching_hits query others))
         → IsPermutation (matching_hits query (doc ∷ docs)) (matching_hits query (doc ∷ others))
     moved_under doc docs others moved =
-        subst (λ (hs : List Hit). IsPermutation hs (matching_hits query (doc ∷ others))) (sym (hits-cons query doc docs))
-        (subst (λ (hs : List Hit). IsPermutation (with_doc query doc (matching_hits query docs)) hs) (sym (hits-cons query doc others)) moved)
+        subst (λ (hs : List Hit). IsPermutation hs (matching_hits query (doc ∷ others))) (sym (matching_hits-cons query doc docs))
+        (subst (λ (hs : List Hit). IsPermutation (with_doc query doc (matching_hits query docs)) hs) (sym (matching_hits-cons query doc others)) moved)
 
     two : (a b : Doc) (docs : List Doc) → matching_hits query (a ∷ b ∷ docs) ≡ (matching_hits query (a ∷ []) ++ matching_hits query (b ∷ [])) ++ matching_hits query docs
     two a b docs =
-        hits-cons query a (b ∷ docs) ∙ ap (λ (hs : List Hit). matching_hits query (a ∷ []) ++ hs) (hits-cons query b docs)
+        matching_hits-cons query a (b ∷ docs) ∙ ap (λ (hs : List Hit). matching_hits query (a ∷ []) ++ hs) (matching_hits-cons query b docs)
         ∙ sym (append_assoc (matching_hits query (a ∷ [])) (matching_hits query (b ∷ [])) (matching_hits query docs))
 
     turned : (a b : Doc) (docs : List Doc) → IsPermutation (matching_hits query (a ∷ b ∷ docs)) (matching_hits query (b ∷ a ∷ docs))
@@ -152,4 +152,4 @@ pub answer_is : (query : Query) (segs : List Shown) (n : ℕ) (left : List Shown
     → (docs : List Doc) → AreLiveDocuments segs docs → answer ≡ scan_of docs query
 answer_is query segs n left found answer k all total hits docs are =
     same_answer answer found total hits ∙ k.is ∙ ap (λ (ss : List Shown). answer_of (matching_hits query (live_documents ss))) (take_whole n segs all)
-    ∙ answer_same (matching_hits query (live_documents segs)) (matching_hits query docs) (hits-permutation query (live_documents segs) docs are.same)
+    ∙ answer_same (matching_hits query (live_documents segs)) (matching_hits query docs) (matching_hits-permutation query (live_documents segs) docs are.same)

@@ -1,5 +1,5 @@
 -- What is answered by a cursor that is put together of those of parts.
-use Rattle.std.proofs.Common.{◌≡◌, ℕ, zero, suc, ◌+◌, ◌<◌, ◌≤◌, List, [], ◌∷◌, length, drop, get_or, Bool, true, false, Result, Ok, Err, Option, Some, None, refl, sym, ap, ◌∙◌, arith, drop-cons}
+use Rattle.std.proofs.Common.{◌≡◌, ℕ, zero, suc, ◌+◌, ◌<◌, ◌≤◌, List, [], ◌∷◌, length, drop, get_or, Bool, Result, Ok, Err, Option, Some, None, refl, sym, ap, ◌∙◌, arith, drop-cons}
 use Rattle.std.specs.Prelude.{◌&&◌, ◌||◌, not, nat_le, nat_lt, slice_get, IfOk, OnOk}
 use Rattle.std.specs.List.{list_any, list_all, sum_by}
 use Rattle.std.specs.Option.{unwrap_or}
@@ -13,7 +13,7 @@ use Rattle.documents.specs.declared.query.Query.{Query, All, Any, Not}
 use Rattle.documents.specs.Matching.{matches, matches_doc}
 use Rattle.documents.specs.Ranking.{rank_of}
 use Rattle.documents.proofs.MatchingLemmas.{matches_all, matches_any, matches_not}
-use Rattle.documents.proofs.RankLemmas.{rank_all, rank_any, rank_not}
+use Rattle.documents.proofs.RankLemmas.{rank_all, rank_any}
 use Rattle.query_eval.specs.declared.cursor.Cursor.{Cursor}
 use Rattle.query_eval.specs.declared.cursor.Cursor.TheVariants.{Nothing, Every}
 use Rattle.query_eval.specs.Advance.{rest_of}
@@ -142,8 +142,3 @@ pub any_ranks : {E : Type 0} (docs : List Doc) (query : Query) (parts : List Que
 any_ranks docs query parts before now e (Ok cursor) h =
     ranks_same docs query before now (λ doc. sum_by (λ part. rank_of part (words_of doc.text)) parts) (λ doc. ap (λ (q : Query). rank_of q (words_of doc.text)) e ∙ rank_any parts (words_of doc.text)) h
 any_ranks docs query parts before now e (Err none) h = tt
-
-pub not_ranks : (docs : List Doc) (query part : Query) (before : Ranker) → query ≡ Not part → AddsRank docs (λ doc. rank_of query (words_of doc.text)) before before
-not_ranks docs query part before e row doc is =
-    let none : rank_of query (words_of doc.text) ≡ 0 = ap (λ (q : Query). rank_of q (words_of doc.text)) e ∙ rank_not part (words_of doc.text) in
-    omega (arith, none)

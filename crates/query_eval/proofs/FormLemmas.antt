@@ -1,5 +1,5 @@
 -- The parts of a query that has its form have theirs.
-use Rattle.std.proofs.Common.{◌≡◌, ℕ, zero, suc, ◌<◌, List, [], ◌∷◌, length, get_or, Bool, true, false, refl, sym, ap, ◌∙◌, arith}
+use Rattle.std.proofs.Common.{◌≡◌, ℕ, ◌<◌, List, length, Bool, refl, sym, ap, ◌∙◌, arith}
 use denote.Hole.Carrier.{hidden}
 use Rattle.std.specs.Prelude.{◌&&◌, nat_le, IsTrue}
 use Rattle.std.specs.List.{list_all}
@@ -7,7 +7,7 @@ use Rattle.std.proofs.Math.Bool.{and-true}
 use Rattle.std.proofs.lemmas.Bool.{and_parts, leb-true}
 use Rattle.documents.specs.declared.query.Query.{Query, Phrase, All, Any, Not, Row_of-Query, end_of-Query, more_of-Query, items-the_row-Query, items_hidden-the_row-Query-0}
 use Rattle.documents.specs.declared.query.Query.TheBlock.{hidden-the_row-Query-1}
-use Rattle.documents.specs.Matching.{has_form, all_have_form, count_parts, depth_of, leaves_of, is_well_formed}
+use Rattle.documents.specs.Matching.{has_form, all_have_form, count_parts}
 use Rattle.documents.proofs.MatchingLemmas.{row_of}
 
 all_have_form-row : (n : _) (row : Row_of-Query n) → all_have_form row ≡ list_all has_form (items-the_row-Query n row)
@@ -36,14 +36,3 @@ form_not query part same e s form = ap has_form s ∙ sym (not_form part) ∙ sy
 -- a phrase is not empty
 pub form_phrase : (query : Query) (phrase : List (List ℕ)) → query ≡ Phrase phrase → IsTrue (has_form query) → 0 < length phrase
 form_phrase query phrase e form = let two = leb-true 2 (length phrase) (sym (ap has_form e) ∙ form) in omega (arith, two)
-
--- each part has its form
-pub form_at : (parts : List Query) (i : ℕ) (part : Query) → IsTrue (list_all has_form parts) → i < length parts → part ≡ get_or parts i part → IsTrue (has_form part)
-form_at [] i part form lt item = absurd (omega (arith, lt))
-form_at (q ∷ parts) zero part form lt item = ap has_form item ∙ (and_parts (has_form q) (list_all has_form parts) form).0
-form_at (q ∷ parts) (suc i) part form lt item = form_at parts i part (and_parts (has_form q) (list_all has_form parts) form).1 (omega (arith, lt)) item
-
-pub form_of : (query : Query) → IsTrue (is_well_formed query) → IsTrue (has_form query)
-form_of query formed =
-    let outer = and_parts (has_form query && nat_le (depth_of query) 32) (nat_le (leaves_of query) 64) formed in
-    (and_parts (has_form query) (nat_le (depth_of query) 32) outer.0).0

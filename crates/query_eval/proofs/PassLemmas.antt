@@ -137,32 +137,5 @@ pass_fewer i old now row at w v k lt item left =
     (are_fewer at old (set now i (from_row at w))
     (are_moved_on at at old now (set now i (from_row at w)) (omega arith) k.moved (set_moved at now i w (from_row at w) (drop (suc i) now) here (is_moved at w))))
 
-same_length : (row : ℕ) (a b : List (List Hit)) → AreMoved row a b → length a ≡ length b
-same_length row [] [] m = refl
-same_length row [] (y ∷ b) m = absurd m
-same_length row (x ∷ a) [] m = absurd m
-same_length row (x ∷ a) (y ∷ b) m = let h = same_length row a b m.1 in omega (arith, h)
-
-take_whole : (n : ℕ) (xs : List (List Hit)) → length xs ≤ n → take n xs ≡ xs
-take_whole zero [] le = refl
-take_whole zero (x ∷ xs) le = absurd (omega (arith, le))
-take_whole (suc n) [] le = refl
-take_whole (suc n) (x ∷ xs) le = ap (λ (ys : List (List Hit)). x ∷ ys) (take_whole n xs (omega (arith, le)))
-
--- each word was moved
-pub pass_found : (n : ℕ) (old now : List (List Hit)) (row at : ℕ) → IsPassing n old now row at → length now ≤ n → IsPass old now row (Some at)
-pass_found n old now row at k le =
-    let len = same_length at old now k.moved in
-    let olds : take n old ≡ old = take_whole n old (omega (arith, le, len)) in
-    let nows : take n now ≡ now = take_whole n now le in (
-      k.from,
-      k.moved,
-      k.between,
-      λ e. (
-        ap (λ (ws : List (List Hit)). all_have ws row) (sym olds) ∙ k.all e,
-        subst (λ (ws : List (List Hit)). map first_positions ws ≡ map (places_in row) ws) nows (k.stand e),
-      ),
-    )
-
 pub pass_found_fewer : (n : ℕ) (old now : List (List Hit)) (row at : ℕ) → IsPassing n old now row at → AreFewer old now
 pass_found_fewer n old now row at k = are_fewer at old now k.moved

@@ -129,7 +129,3 @@ first_counts (w ∷ words) first places is e =
   where
     same_word : (a b : List Hit) → ◌≡◌ {A = Option (List Hit)} (Some a) (Some b) → a ≡ b
     same_word a b f = cc
-
--- one more place was asked for
-pub count_next : (f : ℕ → Bool) (p : ℕ) (places : List ℕ) (times more : ℕ) → (more ≡ times + (if f p then 1 else 0)) → more + count_by f places ≡ times + count_by f (p ∷ places)
-count_next f p places times more e = let here = sum_by-cons (λ (q : ℕ). if f q then 1 else 0) p places in omega (arith, e, here)

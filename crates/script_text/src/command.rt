@@ -32,7 +32,7 @@ const MOST_PLANNED: u32 = 1_000_000;
 fn read_plain(nodes: u8, plain: Plain, words: Words<'_>) -> Option<LineCommand>
     ensures { result
         ≡ plain_command nodes plain
-            words.entry.first.now words.entry.second.now words.entry.third.now }
+        words.entry.first.now words.entry.second.now words.entry.third.now }
 {
     Some(match plain {
         Plain::Publish => LineCommand::Publish,
@@ -67,7 +67,7 @@ fn read_plan(kind: FaultKind, number: &[u8], at: &[u8]) -> Option<FaultPlan>
 fn read_fault(nodes: u8, kind: FaultKind, words: Words<'_>) -> Option<LineCommand>
     ensures { result
         ≡ fault_command nodes kind
-            words.entry.first.now words.entry.second.now words.entry.third.now }
+        words.entry.first.now words.entry.second.now words.entry.third.now }
 {
     let node = node(nodes, words.first)?;
     Some(LineCommand::Fault(node, read_plan(kind, words.second, words.third)?))

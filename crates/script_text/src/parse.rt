@@ -61,7 +61,7 @@ fn header_statement<'a>(
     ensures { MatchOption result
         (SaysNoHeader name.now (statements_from number (lines_of_text text.now)))
         (λ parts. SaysHeader name.now number text.now
-            parts.0.number parts.0.line.now parts.1.now parts.2.now) }
+        parts.0.number parts.0.line.now parts.1.now parts.2.now) }
 {
     let (statement, rest) = next_statement(text, number)?;
     let (word, behind) = next_word(statement.line)?;

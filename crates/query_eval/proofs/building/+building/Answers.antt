@@ -2,8 +2,8 @@ use Rattle.std.proofs.Common.{◌+◌, refl, ap, ◌∙◌, arith, rules}
 use Rattle.documents.specs.declared.query.Query.TheViews.{the_lemmas}
 use Rattle.query_eval.specs.declared.cursor.Cursor.{Cursor}
 use Rattle.query_eval.specs.Cursor.{answers, all_answer, any_answers}
-use Rattle.query_eval.proofs.BuildLemmas.{all_query, any_query, not_query, all_more, any_more, all_end, any_end, ranks_more, ranks_end, all_ranks, any_ranks, not_ranks}
-use Rattle.query_eval.proofs.FormLemmas.{form_all, form_any, form_not, form_phrase, form_at}
+use Rattle.query_eval.proofs.BuildLemmas.{all_query, any_query, not_query, all_more, any_more, all_end, any_end, ranks_more, ranks_end, all_ranks, any_ranks}
+use Rattle.query_eval.proofs.FormLemmas.{form_all, form_any, form_not, form_phrase}
 use Rattle.query_eval.proofs.building.+building.Goals as goal
 
 pub cursor_of-phrase_cursor-requires-clause-some : goal.cursor_of-phrase_cursor-requires-clause-some

@@ -1,4 +1,4 @@
-use Rattle.std.proofs.Common.{ℕ, ◌+◌, Option, subst, arith}
+use Rattle.std.proofs.Common.{ℕ, Option, subst, arith}
 use Rattle.query_eval.specs.Advance.{FindsRow}
 use Rattle.query_eval.specs.Cursor.{answers}
 use Rattle.query_eval.proofs.SearchLemmas.{search_start, search_step, search_beyond, search_none}
