@@ -70,11 +70,16 @@ fn replica_never_copied(rt: HostRuntime) -> Result<(), Fail> {
 }
 
 #[test]
-fn dropped_word(rt: HostRuntime) -> Result<(), Fail> {
-    let script = b"nodes 2\n1 put a x\n1 put b y\n1 drop X\n1 publish\n1 search 1 x OR y";
+fn drop_and_ranks(rt: HostRuntime) -> Result<(), Fail> {
+    let script =
+        b"nodes 2\n1 put a red fox red\n1 put b red hen\n1 put c blue hen\n1 publish\n1 search 1 red OR hen\n1 drop red\n1 put d red owl\n1 publish\n1 search 1 red OR hen";
     let (status, text) = run(rt.alloc(), &[b"run"], script, &[], &[])?;
     assert_eq!(rt; status, Status::Done);
-    assert!(rt; text.ends_with(b"6 answer 1 0 2 1 1:b\n"));
+    assert!(rt;
+        text.ends_with(
+            b"6 answer 1 0 2 3 2:a 2:b 1:c\n7 accepted 4\n8 accepted 5\n9 publishing\n9 published 1 3\n10 opened 1 0 3\n10 answer 1 0 3 2 1:c 1:d\n"
+        )
+    );
     Ok(())
 }
 
