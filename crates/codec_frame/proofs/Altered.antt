@@ -97,7 +97,7 @@ not_both front back A B x y fa fb ea eb =
           byte_at_seam s.0 back x y (sym s.2 ∙ ap tail_of s.1 ∙ s.3)
     ]
 
-one_byte_shows : (a b : List ℕ) → AreBytes a → AreBytes b → IsSealed a → IsSealed b → DifferInOne a b → ⊥
+pub one_byte_shows : (a b : List ℕ) → AreBytes a → AreBytes b → IsSealed a → IsSealed b → DifferInOne a b → ⊥
 one_byte_shows a b fa fb sa sb d =
     d.6 (not_both d.0 d.1 sa.0 sb.0 d.2 d.3 (AreBytes-front sa.0 (tail_of sa.0) (subst AreBytes sa.1 fa)) (AreBytes-front sb.0 (tail_of sb.0) (subst AreBytes sb.1 fb)) (sym d.4 ∙ sa.1) (sym d.5 ∙ sb.1))
 

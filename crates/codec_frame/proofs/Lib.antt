@@ -7,4 +7,4 @@ mod Fields
 pub mod FrameLaws
 mod FaultLaws
 pub mod CheckLaws
-mod Altered
+pub mod Altered

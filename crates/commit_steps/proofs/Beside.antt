@@ -21,22 +21,22 @@ use Rattle.commit_steps.specs.Beside.{IsBeside}
 use Rattle.commit_steps.proofs.Safe.{among_of, own_is, pending_is, images_of_safe, file_along, same_kept}
 
 -- ---- names
-first : (x : Name) (xs : List Name) → is_among (x ∷ xs) x ≡ true
+pub first : (x : Name) (xs : List Name) → is_among (x ∷ xs) x ≡ true
 first x xs = ap (λ b. b || is_among xs x) (same_self x)
 
-behind : (x : Name) (xs : List Name) (q : Name) → is_among xs q ≡ true → is_among (x ∷ xs) q ≡ true
+pub behind : (x : Name) (xs : List Name) (q : Name) → is_among xs q ≡ true → is_among (x ∷ xs) q ≡ true
 behind x xs q there = ap (λ b. same x q || b) there ∙ or-true (same x q)
 
-in_front : (xs ys : List Name) (q : Name) → is_among xs q ≡ true → is_among (xs ++ ys) q ≡ true
+pub in_front : (xs ys : List Name) (q : Name) → is_among xs q ≡ true → is_among (xs ++ ys) q ≡ true
 in_front xs ys q there = among-append xs ys q ∙ ap (λ b. b || is_among ys q) there
 
-in_rear : (xs ys : List Name) (q : Name) → is_among ys q ≡ true → is_among (xs ++ ys) q ≡ true
+pub in_rear : (xs ys : List Name) (q : Name) → is_among ys q ≡ true → is_among (xs ++ ys) q ≡ true
 in_rear xs ys q there = among-append xs ys q ∙ ap (λ b. is_among xs q || b) there ∙ or-true (is_among xs q)
 
 own_among : (c : Commit) → IsCommit c → is_among c.names (own_name c) ≡ true
 own_among c is = ap (λ (ns : List Name). is_among ns (own_name c)) is.names ∙ in_rear c.files (own_name c ∷ []) (own_name c) (first (own_name c) [])
 
-file_among : (c : Commit) → IsCommit c → (q : Name) → is_among c.files q ≡ true → is_among c.names q ≡ true
+pub file_among : (c : Commit) → IsCommit c → (q : Name) → is_among c.files q ≡ true → is_among c.names q ≡ true
 file_among c is q there = ap (λ (ns : List Name). is_among ns q) is.names ∙ in_front c.files (own_name c ∷ []) q there
 
 -- ---- names that stay as they are

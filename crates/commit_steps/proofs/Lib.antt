@@ -4,6 +4,6 @@ mod Advancing
 mod Books
 mod Beginning
 mod Recovering
-mod Recovered
+pub mod Recovered
 pub mod Beside
 mod TestLaws

@@ -49,7 +49,7 @@ module _ (image : Image) where
   order : (m n : ℕ) → (m < n) ⊎ ((m ≡ n) ⊎ (n < m))
   order m n = grind arith
 
-  one_number : (m n : ℕ) → IsNewestNumber image m → IsNewestNumber image n → m ≡ n
+  pub one_number : (m n : ℕ) → IsNewestNumber image m → IsNewestNumber image n → m ≡ n
   one_number m n a b = elim (order m n) [
     | inl less ↦ absurd (not_above m n a b less)
     | inr rest ↦ elim rest [ inl same ↦ same | inr more ↦ absurd (not_above n m b a more) ]

@@ -158,7 +158,7 @@ pub put_next : (docs : List Doc) (i : ℕ) (x : Doc) → IsAscending docs → i 
 put_next docs i x ascending within =
     put_last (take i docs) (get_or docs i x) (below_at docs i x ascending within) ∙ rw add-one (sym (take-suc docs i x within))
 
-above_passing : (test : Doc → Bool) (key : List ℕ) (docs : List Doc) → AreAbove key docs → AreAbove key (filter test docs)
+pub above_passing : (test : Doc → Bool) (key : List ℕ) (docs : List Doc) → AreAbove key docs → AreAbove key (filter test docs)
 above_passing test key [] all = tt
 above_passing test key (d ∷ docs) all =
     elim (test d) as (λ b. AreAbove key (cond b (d ∷ filter test docs) (filter test docs))) [
@@ -167,7 +167,7 @@ above_passing test key (d ∷ docs) all =
     ]
 
 -- documents that pass a test are in the same order
-ascending_passing : (test : Doc → Bool) (docs : List Doc) → IsAscending docs → IsAscending (filter test docs)
+pub ascending_passing : (test : Doc → Bool) (docs : List Doc) → IsAscending docs → IsAscending (filter test docs)
 unfolding IsStrictlySortedBy
 ascending_passing test [] ascending = tt
 ascending_passing test (d ∷ docs) ascending =
@@ -176,7 +176,7 @@ ascending_passing test (d ∷ docs) ascending =
       | false ↦ ascending_passing test docs ascending.1
     ]
 
-above_with : (key : List ℕ) (docs : List Doc) (doc : Doc) → key_cmp key doc.key ≡ Less → AreAbove key docs → AreAbove key (with_doc docs doc)
+pub above_with : (key : List ℕ) (docs : List Doc) (doc : Doc) → key_cmp key doc.key ≡ Less → AreAbove key docs → AreAbove key (with_doc docs doc)
 above_with key [] doc less all = (less, tt)
 above_with key (d ∷ docs) doc less all =
     elim (is_lt (key_cmp d.key doc.key)) as (λ b. AreAbove key (cond b (d ∷ with_doc docs doc) (doc ∷ d ∷ docs))) [
@@ -192,19 +192,19 @@ put_ascends d docs doc Equal is ascending rest = (above_same doc.key d.key docs 
 put_ascends d docs doc Greater is ascending rest =
     (above_with d.key (remaining (Put doc) docs) doc (less doc.key d.key is) (above_passing (λ e. not (removes (Put doc) e)) d.key docs ascending.0), rest)
 
-ascending_put : (docs : List Doc) (doc : Doc) → IsAscending docs → IsAscending (after_op docs (Put doc))
+pub ascending_put : (docs : List Doc) (doc : Doc) → IsAscending docs → IsAscending (after_op docs (Put doc))
 unfolding IsStrictlySortedBy
 ascending_put [] doc ascending = (tt, tt)
 ascending_put (d ∷ docs) doc ascending =
     let o = key_cmp doc.key d.key in
     subst IsAscending (sym (put_step d docs doc o refl ascending)) (put_ascends d docs doc o refl ascending (ascending_put docs doc ascending.1))
 
-ascending_after : (docs : List Doc) (op : Op) → IsAscending docs → IsAscending (after_op docs op)
+pub ascending_after : (docs : List Doc) (op : Op) → IsAscending docs → IsAscending (after_op docs op)
 ascending_after docs (Put doc) ascending = ascending_put docs doc ascending
 ascending_after docs (Delete key) ascending = ascending_passing (λ d. not (removes (Delete key) d)) docs ascending
 ascending_after docs (Drop word) ascending = ascending_passing (λ d. not (removes (Drop word) d)) docs ascending
 
-ascending_after_all : (docs : List Doc) (ops : List Op) → IsAscending docs → IsAscending (after_ops docs ops)
+pub ascending_after_all : (docs : List Doc) (ops : List Op) → IsAscending docs → IsAscending (after_ops docs ops)
 ascending_after_all docs [] ascending = ascending
 ascending_after_all docs (op ∷ ops) ascending = ascending_after_all (after_op docs op) ops (ascending_after docs op ascending)
 

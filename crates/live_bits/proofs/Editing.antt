@@ -91,7 +91,7 @@ clear_holds n live old new row lt set_before h k =
 
 -- ---- all rows are live
 
-all_live : (n : ℕ) → live_rows (replicate n true) ≡ n
+pub all_live : (n : ℕ) → live_rows (replicate n true) ≡ n
 all_live zero = refl
 all_live (suc n) = sum_by-cons (λ (b : Bool). cond b 1 0) true (replicate n true) ∙ omega (arith, all_live n)
 

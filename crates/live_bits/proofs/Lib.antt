@@ -1,5 +1,5 @@
 mod BitLaws
 mod Packing
-mod Editing
+pub mod Editing
 mod Bodies
 pub mod FileLaws

@@ -1,4 +1,5 @@
-ghost use Rattle.std.specs.Prelude.{◌≡◌, ◌++◌, ◌∷◌, [], OnOk, OnErr};
+ghost use Rattle.std.specs.Prelude.{◌≡◌, ◌<◌, ◌≤◌, ◌-◌, ◌++◌, ◌∷◌, [], Some, length, take, drop, slice_get, slice_set, OnOk, OnErr};
+ghost use Rattle.std.specs.List.{remove};
 
 use crate::NoMemory;
 use crate::share::Share;
@@ -23,6 +24,15 @@ impl<T> Model for List<T> {
 }
 
 impl<T> List<T> {
+    /// A list without items. It takes no memory.
+    pub fn new(alloc: Global) -> Self
+        ensures { result ≡ [] }
+    {
+        List {
+            items: Vec::new(alloc),
+        }
+    }
+
     pub fn from_vec(v: Vec<T>) -> Self
         ensures { result ≡ v.items }
     {
@@ -40,6 +50,15 @@ impl<T> List<T> {
     {
         self.items
     }
+
+    /// Takes the item at a place out. Those behind it move up.
+    pub fn remove(&mut self, at: usize) -> T
+        requires { at < length self.old }
+        ensures rest { self.new ≡ remove self.old at }
+        ensures item { Some result ≡ slice_get self.old at }
+    {
+        self.items.remove(at)
+    }
 }
 
 impl<T: Drop> List<T> {
@@ -50,6 +69,32 @@ impl<T: Drop> List<T> {
     {
         self.items.push(item)?;
         Ok(())
+    }
+
+    /// Puts an item in the place of another, which is dropped.
+    pub fn set(&mut self, at: usize, item: T)
+        requires { at < length self.old }
+        ensures { self.new ≡ slice_set self.old at item }
+    {
+        self.items[at] = item;
+    }
+
+    /// Drops the last item.
+    pub fn cut_last(&mut self)
+        requires { 0 < length self.old }
+        ensures { self.new ≡ take (length self.old - 1) self.old }
+    {
+        self.items.truncate(self.items.len() - 1);
+    }
+
+    /// Drops the first items. Those behind them move up.
+    pub fn cut_first(&mut self, count: usize)
+        requires { count ≤ length self.old }
+        ensures { self.new ≡ drop count self.old }
+    {
+        let rest = self.items.len() - count;
+        self.items.as_mut_slice().rotate_left(count);
+        self.items.truncate(rest);
     }
 }
 

@@ -47,17 +47,17 @@ module _ (reads : Name → Content) where
       → ◌≡◌ {A = SegParts} (record { docs = docs; post = post; info = info; live = live }) (record { docs = docs2; post = post2; info = info2; live = live2 })
   same_parts docs docs2 post post2 info info2 live live2 a b c d = cc
 
-  one_parts : (r : SegRecord) (a b : SegParts) → ArePartsIn reads r a → ArePartsIn reads r b → a ≡ b
+  pub one_parts : (r : SegRecord) (a b : SegParts) → ArePartsIn reads r a → ArePartsIn reads r b → a ≡ b
   one_parts r a b x y =
       same_parts a.docs b.docs a.post b.post a.info b.info a.live b.live (same_some _ _ _ x.docs y.docs) (same_some _ _ _ x.post y.post) (same_some _ _ _ x.info y.info) (one_live_file r a.live b.live x.live y.live)
 
-  one_shown : (r : SegRecord) (a b : Shown) → IsSegmentIn reads r a → IsSegmentIn reads r b → a ≡ b
+  pub one_shown : (r : SegRecord) (a b : Shown) → IsSegmentIn reads r a → IsSegmentIn reads r b → a ≡ b
   one_shown r a b x y =
       let same = one_parts r x.parts y.parts x.files y.files in
       let first : IsSegmentOf y.parts r a = subst (λ (p : SegParts). IsSegmentOf p r a) same x.segment in
       one_segment y.parts r a b first y.segment
 
-  one_segs : (records : List SegRecord) (a b : List Shown) → AllZip (IsSegmentIn reads) records a → AllZip (IsSegmentIn reads) records b → a ≡ b
+  pub one_segs : (records : List SegRecord) (a b : List Shown) → AllZip (IsSegmentIn reads) records a → AllZip (IsSegmentIn reads) records b → a ≡ b
   one_segs [] [] [] x y = refl
   one_segs [] [] (b ∷ bs) x y = absurd y
   one_segs [] (a ∷ as') b x y = absurd x
@@ -68,5 +68,5 @@ module _ (reads : Name → Content) where
   -- a directory stands for one list of documents at most
   pub one_list_of_documents : (infos : Infos) (docs others : List Doc) → StandsFor reads infos docs → StandsFor reads infos others → docs ≡ others
   one_list_of_documents infos docs others a b =
-      let same = one_segs infos.segs a.segs b.segs a.each b.each in
-      one_live_list b.segs docs others b.apart (subst (λ (segs : List Shown). AreLiveDocuments segs docs) same a.documents) b.documents
+      let same = one_segs infos.segs a.segs b.segs a.stands.each b.stands.each in
+      one_live_list b.segs docs others b.stands.stand.apart (subst (λ (segs : List Shown). AreLiveDocuments segs docs) same a.stands.stand.documents) b.stands.stand.documents

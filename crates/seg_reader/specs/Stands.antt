@@ -32,11 +32,19 @@ pub record IsSegmentIn (reads : Name → Content) (r : SegRecord) (shown : Shown
   pub segment : IsSegmentOf parts r shown
   pub live : live_rows shown.live ≡ r.live
 
--- Where files read so, the infos are of these documents: each segment is there and is sound, no two live rows have one key, and
--- the live rows in order of key are the documents.
-pub record StandsFor (reads : Name → Content) (infos : Infos) (docs : List Doc) : Type 0 where
-  pub segs : List Shown
-  pub each : AllZip (IsSegmentIn reads) infos.segs segs
+-- The segments are of these documents: each is sound, no two live rows have one key, and the live rows in order of key are the
+-- documents.
+pub record AreSegmentsOf (docs : List Doc) (segs : List Shown) : Type 0 where
   pub sound : All IsSound segs
   pub apart : AllPairs (λ d e. d.key ≢ e.key) (live_documents segs)
   pub documents : AreLiveDocuments segs docs
+
+-- Where files read so, the infos are of these segments, which are of these documents: each segment of the infos is there.
+pub record StandsWith (reads : Name → Content) (infos : Infos) (segs : List Shown) (docs : List Doc) : Type 0 where
+  pub each : AllZip (IsSegmentIn reads) infos.segs segs
+  pub stand : AreSegmentsOf docs segs
+
+-- where files read so, the infos are of these documents, by some segments
+pub record StandsFor (reads : Name → Content) (infos : Infos) (docs : List Doc) : Type 0 where
+  pub segs : List Shown
+  pub stands : StandsWith reads infos segs docs
