@@ -1,0 +1,5 @@
+mod RecordLaws
+mod FileLaws
+mod LogNames
+mod Appending
+mod LogFound

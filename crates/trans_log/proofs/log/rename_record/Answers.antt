@@ -1,0 +1,15 @@
+use Rattle.std.proofs.Common.{◌≡◌, Result, Err, refl, sym, ap, subst, ◌∙◌}
+use Rattle.disk_model.specs.Disk.{Name, Cells, after_rename}
+use Rattle.disk_model.specs.declared.dir.DirFault.{DirFault}
+use Rattle.trans_log.specs.Names.{log_name_of, pending_log_name_of}
+use Rattle.trans_log.specs.Logs.{dir_answer_of}
+use Rattle.trans_log.proofs.log.rename_record.Goals as goal
+
+renamed : (before after : Cells) (p l from to : Name) (a b : Result (Unit {0}) DirFault) → after ≡ after_rename before p l a → p ≡ from → l ≡ to → b ≡ a → after ≡ after_rename before from to b
+renamed before after p l from to a b e f g h =
+    e ∙ ap (λ (x : Name). after_rename before x l a) f ∙ ap (λ (x : Name). after_rename before from x a) g ∙ ap (after_rename before from to) (sym h)
+
+pub returns-in-Err-clause-cells : goal.returns-in-Err-clause-cells
+returns-in-Err-clause-cells g c =
+    renamed (g.D.Dir.cells c.args.dir.now) (g.D.Dir.cells c.rename.new.self) c.pending_log_name.result c.log_name.result (pending_log_name_of c.args.number) (log_name_of c.args.number)
+    (Err c.in-Err.fault) (dir_answer_of (Err c.refusal.result)) c.in-Err.ensures.cells c.pending_log_name.ensures c.log_name.ensures c.refusal.ensures.answer

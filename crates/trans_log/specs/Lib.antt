@@ -1,0 +1,5 @@
+pub mod Records
+pub mod Reading
+pub mod Names
+pub mod Logs
+pub mod Opening
