@@ -16,9 +16,9 @@ use Rattle.commit_steps.specs.declared.stage.CommitBook.{CommitBook}
 use Rattle.commit_steps.specs.Flights.{own_name, pending_name, IsCommit}
 use Rattle.commit_steps.specs.Book.{flying_names, last_names, book_names, Stands, IsBookSound, book_after, HasBegun, IsBegun}
 use Rattle.commit_steps.proofs.Safe.{own_is, pending_is}
-use Rattle.node_files.specs.Node.{IsNode, AddsOnly, HoldsNoMore}
+use Rattle.node_files.specs.Node.{IsWholeNode, AddsOnly, HoldsNoMore}
 
-pub no_more_beside : (before after : Cells) (old new : Holdings) (hs more : List Name) (book : CommitBook) → IsNode before old hs book → IsNode after new more book → AddsOnly [] hs more → HoldsNoMore old new
+pub no_more_beside : (before after : Cells) (old new : Holdings) (hs more : List Name) (book : CommitBook) → IsWholeNode before old hs book → IsWholeNode after new more book → AddsOnly [] hs more → HoldsNoMore old new
 no_more_beside before after old new hs more book a b only = record {
   each = λ q c e none. omega (arith, none, a.counts q, b.counts q, only.each q (omega (arith, none, a.counts q)) refl);
 }
@@ -58,7 +58,7 @@ module _ (q : Name) (plain : is_commit_name q ≡ false) (not_pending : is_pendi
         let named : times c.names q ≡ times c.files q + times (own_name c ∷ []) q = ap (λ (ns : List Name). times ns q) is.names ∙ times-append c.files (own_name c ∷ []) q in
         omega (arith, none, all, nil, named, times_rest (own_name c) [] (not_own c is), times_rest (own_name c) c.files (not_own c is), times-append (last_names last) (own_name c ∷ c.files) q)
 
-pub no_more_step : (before after : Cells) (old new : Holdings) (hs : List Name) (was now : CommitBook) → IsNode before old hs was → IsNode after new hs now → now ≡ book_after was → HoldsNoMore old new
+pub no_more_step : (before after : Cells) (old new : Holdings) (hs : List Name) (was now : CommitBook) → IsWholeNode before old hs was → IsWholeNode after new hs now → now ≡ book_after was → HoldsNoMore old new
 no_more_step before after old new hs was now a b e = record {
   each = λ q plain not_pending none.
       let gone : times (book_names was) q ≡ 0 = omega (arith, none, a.counts q) in
@@ -77,7 +77,7 @@ begun_names cells holdings infos number names (Some (Pending x)) files b s = abs
 begun_names cells holdings infos number names (Some (Named x)) files b s = absurd b
 begun_names cells holdings infos number names (Some (Renamed x)) files b s = absurd b
 
-pub no_more_begun : (cells : Cells) (old new : Holdings) (hs : List Name) (was now : CommitBook) (infos : Infos) (names : List Name) → IsNode cells old hs was → IsNode cells new hs now → HasBegun infos was now
+pub no_more_begun : (cells : Cells) (old new : Holdings) (hs : List Name) (was now : CommitBook) (infos : Infos) (names : List Name) → IsWholeNode cells old hs was → IsWholeNode cells new hs now → HasBegun infos was now
     → AreFilesOf infos names → ((q : Name) → times hs q ≡ 0 → times names q ≡ 0) → HoldsNoMore old new
 no_more_begun cells old new hs was now infos names a b begun files within = record {
   each = λ q plain not_pending none.

@@ -18,7 +18,7 @@ pub record HasNoPending (names : List Name) : Type 0 where
 -- The node's files: each count is the number of its holders, the names in the directory are just the counted and the pending ones,
 -- the commits are as the book's calls left them, nobody else holds a file of a commit in preparation, and the names of the commits to come are free.
 -- `others` are the names, with repeats, that hold beside the commits.
-pub record IsNode (cells : Cells) (holdings : Holdings) (others : List Name) (book : CommitBook) : Type 0 where
+pub record IsWholeNode (cells : Cells) (holdings : Holdings) (others : List Name) (book : CommitBook) : Type 0 where
   pub counts : (q : Name) → count_of holdings q ≡ times others q + times (book_names book) q
   pub whole : IsWhole cells holdings
   pub sound : IsBookSound cells holdings book

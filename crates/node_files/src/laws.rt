@@ -10,7 +10,7 @@ ghost use Rattle.segment_infos.specs.Files.{files_of_segment, AreFilesOf};
 ghost use Rattle.seg_reader.specs.Stands.{StandsFor};
 ghost use Rattle.commit_steps.specs.Commits.{ImagesAre};
 ghost use Rattle.commit_steps.specs.Book.{shown_by, book_after, HasBegun};
-ghost use Rattle.node_files.specs.Node.{IsNode, HoldsNoMore};
+ghost use Rattle.node_files.specs.Node.{IsWholeNode, HoldsNoMore};
 ghost use Rattle.node_files.specs.Standing.{IsStanding, ImagesStand};
 
 use commit_steps::CommitBook;
@@ -18,13 +18,13 @@ use commit_steps::CommitBook;
 /// Each image of a node's directory shows the last commit, or the one in flight, or nothing where there is no last one.
 pub fn images()
     ensures { (cells : Cells) (holdings : Holdings) (others : List Name) (book : CommitBook)
-        → IsNode cells holdings others book → ImagesAre cells book.last (shown_by book.stage) }
+        → IsWholeNode cells holdings others book → ImagesAre cells book.last (shown_by book.stage) }
 {}
 
 /// Each such image is of the documents that the directory now has of its commit.
 pub fn images_stand()
     ensures { (cells : Cells) (holdings : Holdings) (others : List Name) (book : CommitBook)
-        → IsNode cells holdings others book → IsStanding (reads_of cells) book
+        → IsWholeNode cells holdings others book → IsStanding (reads_of cells) book
         → ImagesStand cells book.last (shown_by book.stage) }
 {}
 
@@ -39,11 +39,11 @@ pub fn stands_along()
 /// nobody held.
 pub fn holds_no_more()
     ensures step { (before after : Cells) (old new : Holdings) (hs : List Name) (was now : CommitBook)
-        → IsNode before old hs was → IsNode after new hs now → now ≡ book_after was
+        → IsWholeNode before old hs was → IsWholeNode after new hs now → now ≡ book_after was
         → HoldsNoMore old new }
     ensures begun { (cells : Cells) (old new : Holdings) (hs : List Name) (was now : CommitBook)
         (infos : Infos) (names : List Name)
-        → IsNode cells old hs was → IsNode cells new hs now → HasBegun infos was now
+        → IsWholeNode cells old hs was → IsWholeNode cells new hs now → HasBegun infos was now
         → AreFilesOf infos names → ((q : Name) → times hs q ≡ 0 → times names q ≡ 0)
         → HoldsNoMore old new }
 {}
