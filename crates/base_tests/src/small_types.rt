@@ -49,3 +49,14 @@ fn lists_and_boxes_hold_their_items(rt: HostRuntime) -> Result<(), Fail> {
     assert_eq!(rt; boxed.as_ref().as_slice().len(), 2);
     Ok(())
 }
+
+#[test]
+fn lists_give_and_take_items(rt: HostRuntime) -> Result<(), Fail> {
+    let mut numbers = List::from_vec(vec![in rt.alloc(); 1u32, 2, 3, 4, 5]?);
+    numbers.set(1, 20);
+    assert_eq!(rt; numbers.remove(3), 4);
+    numbers.cut_first(1);
+    numbers.cut_last();
+    assert_eq!(rt; numbers.as_slice(), [20, 3].as_slice());
+    Ok(())
+}
