@@ -34,9 +34,6 @@ none_of (Some x) e = absurd (true≢false e)
 none_not : {X : Type 0} (o : Option X) → o ≡ None → IsSome o → ⊥
 none_not o e h = true≢false (sym h ∙ ap (λ x. is_some x) e)
 
-same_self : (q : Name) → same q q ≡ true
-same_self q = nat_list_eq_equiv.refl q
-
 -- ---- names
 
 pub among_more : (names : List Name) (i : ℕ) (x q : Name) → i < length names → x ≡ get_or names i x → is_among (take (i + 1) names) q ≡ (is_among (take i names) q || (same x q || false))
@@ -48,7 +45,7 @@ module _ (names : List Name) (i : ℕ) (x : Name) (last new : ℕ) (lt : i < len
   still q h = among_more names i x q lt is ∙ ap (λ b. b || (same x q || false)) h
 
   here : (q : Name) → x ≡ q → is_among (take (i + 1) names) q ≡ true
-  here q e = among_more names i x q lt is ∙ ap (λ b. is_among (take i names) q || (b || false)) (ap (λ (n : Name). same n q) e ∙ same_self q) ∙ or-true (is_among (take i names) q)
+  here q e = among_more names i x q lt is ∙ ap (λ b. is_among (take i names) q || (b || false)) (ap (λ (n : Name). same n q) e ∙ nat_list_eq_equiv.refl q) ∙ or-true (is_among (take i names) q)
 
   there : (new ≡ last) ⊎ IsLogName new x → (last ≡ 0) ⊎ (IsRecordNumber last × (is_among (take i names) (log_name_of last) ≡ true)) → (new ≡ 0) ⊎ (IsRecordNumber new × (is_among (take (i + 1) names) (log_name_of new) ≡ true))
   there (inl e) (inl z) = inl (e ∙ z)
@@ -243,7 +240,7 @@ put_none cells name new q keep none = by (same name q) refl
   where
     by : (b : Bool) → same name q ≡ b → (put cells name new q).now ≡ None
     by true e = let is = same_true name q e in ap (λ (x : Name). (put cells name new x).now) (sym is) ∙ ap (λ (c : Cell). c.now) (put_here cells name new) ∙ keep (ap (λ (x : Name). (cells x).now) is ∙ none)
-    by false e = ap (λ (c : Cell). c.now) (put_apart cells name new q (λ is. true≢false (sym (ap (λ (x : Name). same name x) (sym is) ∙ same_self name) ∙ e))) ∙ none
+    by false e = ap (λ (c : Cell). c.now) (put_apart cells name new q (λ is. true≢false (sym (ap (λ (x : Name). same name x) (sym is) ∙ nat_list_eq_equiv.refl name) ∙ e))) ∙ none
 
 pub removed_none : (cells : Cells) (name : Name) (a : Result (Unit {0}) DirFault) (q : Name) → (cells q).now ≡ None → (after_remove cells name a q).now ≡ None
 removed_none cells name (Ok x) q = put_none cells name (removed (cells name)) q (λ _. refl)

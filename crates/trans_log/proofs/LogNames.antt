@@ -1,5 +1,5 @@
 -- The names of the log are names of files, and no two are one.
-use Rattle.std.proofs.Common.{◌≡◌, ℕ, suc, zero, ◌≤◌, ◌<◌, ◌^◌, Bool, true, false, not, List, [], ◌∷◌, ◌++◌, length, get_or, Option, Some, None, Result, Err, refl, sym, ap, subst, ◌∙◌, arith}
+use Rattle.std.proofs.Common.{◌≡◌, ℕ, suc, zero, ◌≤◌, ◌<◌, ◌^◌, Bool, true, false, not, List, [], ◌∷◌, ◌++◌, length, get_or, Some, Result, Err, refl, sym, ap, subst, ◌∙◌, arith}
 use Rattle.std.specs.Prelude.{codes, ◌↔◌, position, IsErrOf}
 use Rattle.std.specs.List.{list_all}
 use Rattle.std.proofs.lemmas.Bool.{and_parts, and_from, leb-true}
@@ -69,11 +69,3 @@ not_refused bytes r (Byte at) is e empty long byte =
     let p = position-Some (λ b. not (is_name_byte b)) bytes at 0 found in
     let good : is_name_byte (get_or bytes at 0) ≡ true = each_passes is_name_byte bytes at 0 (and_parts _ (list_all is_name_byte bytes) is).1 p.0 in
     let bad : false ≡ true = sym (ap not good) ∙ p.1 in cc
-
--- ---- numbers that are read
-
-pub same_number : (m n : ℕ) → ◌≡◌ {A = Option ℕ} (Some m) (Some n) → m ≡ n
-same_number m n e = cc
-
-pub none_never : (n : ℕ) → ◌≡◌ {A = Option ℕ} None (Some n) → ⊥
-none_never n e = cc
