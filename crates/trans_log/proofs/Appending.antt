@@ -1,18 +1,15 @@
 -- What an append does to the directory, and what a crash leaves of it.
-use Rattle.std.proofs.Common.{◌≡◌, ◌≢◌, ◌⊎◌, ℕ, zero, suc, ◌+◌, ◌<◌, ◌≤◌, ◌^◌, ◌||◌, Bool, true, false, List, [], ◌∷◌, ◌++◌, length, Option, Some, None, Result, Ok, Err, refl, sym, ap, subst, ◌∙◌, arith, inl, inr}
+use Rattle.std.proofs.Common.{◌≡◌, ◌≢◌, ◌⊎◌, ℕ, suc, ◌+◌, ◌<◌, ◌≤◌, ◌^◌, Bool, true, false, List, [], ◌∷◌, ◌++◌, length, Option, Some, None, Result, Ok, Err, refl, sym, ap, subst, ◌∙◌, arith, inl, inr}
 use Rattle.std.specs.Prelude.{IsSomeAnd, OnOk, IsErr}
 use Rattle.std.proofs.lemmas.List.{length-append}
 use Rattle.std.specs.Prelude.{nat_lt}
 use Rattle.std.proofs.lemmas.Bool.{cases_eq, lt-ltb, ltb-true, true≢false}
-use Rattle.disk_model.specs.Disk.{Name, Content, Cell, Cells, Image, IsImage, IsKept, may_leave, put, settled, removed, replaced, after_rename, after_sync_names}
+use Rattle.disk_model.specs.Disk.{Name, Cell, Cells, Image, IsImage, IsKept, may_leave, put, settled, removed, replaced, after_rename, after_sync_names}
 use Rattle.disk_model.specs.declared.dir.DirFault.{DirFault}
-use Rattle.disk_model.specs.declared.dir.DirFault.TheVariants.{Memory as DirMemory, Missing, Exists, Failed as DirFailed}
 use Rattle.disk_model.proofs.CellLemmas.{put_here, put_apart, left_synced, leaves_now, settled_kept, rename_others, rename_target}
 use Rattle.trans_log.specs.declared.record.LogOp.{LogOp}
-use Rattle.trans_log.specs.declared.log.LogFault.{LogFault}
-use Rattle.trans_log.specs.Records.{IsRecordFile}
 use Rattle.trans_log.specs.Names.{IsRecordNumber, log_name_of, pending_log_name_of}
-use Rattle.trans_log.specs.Logs.{Numbered, IsFileContent, HasRecord, ReadsRecords, ImagesRead, KeepsRecord, IsLogSafe, IsClear, IsOpenLog, dir_answer_of, in_flight, IsWritten, IsPublished, MayShow, KeepsOthers, Appends}
+use Rattle.trans_log.specs.Logs.{Numbered, IsFileContent, HasRecord, ReadsRecords, ImagesRead, KeepsRecord, IsLogSafe, IsOpenLog, in_flight, IsWritten, IsPublished, MayShow, KeepsOthers, Appends}
 use Rattle.trans_log.proofs.LogNames.{log_name_apart, pending_log_name_apart, log_not_pending}
 
 -- ---- lists of records with their numbers

@@ -14,11 +14,10 @@ use Rattle.codec_frame.proofs.CheckLaws.{not_framed}
 use Rattle.codec_frame.proofs.ByteLaws.{AreBytes-take}
 use Rattle.body_forms.proofs.Formats.{AreBytes-drop}
 use Rattle.body_forms.specs.Numbers.{u32_bytes, u64_bytes}
-use Rattle.body_forms.specs.Format.{Read}
 use Rattle.body_forms.specs.File.{IsFileAnswer, AddsSpelling}
 use Rattle.body_forms.specs.declared.read_fault.ReadFault.{ReadFault}
 use Rattle.body_forms.specs.declared.read_fault.ReadFault.TheVariants.{File, Memory}
-use Rattle.body_forms.proofs.FileLaws.{IsFileKind, OneVersion, body_of, Tells, framed_file, frame_refused, body_refused, cut_short, file_read, stands_in}
+use Rattle.body_forms.proofs.FileLaws.{IsFileKind, body_of, Tells, framed_file, frame_refused, body_refused, cut_short, file_read, stands_in, files_one_to_one}
 use Rattle.trans_log.specs.declared.record.LogOp.{LogOp}
 use Rattle.trans_log.specs.declared.parts.Fields.{Fields}
 use Rattle.trans_log.specs.Records.{op_bytes, OpFits, record_body, SpellsRecord, log_file_id, log_wanted, record_wanted, IsRecordFile}
@@ -101,3 +100,7 @@ whole_file number bytes (Ok x) r fits a file = tt
 whole_file number bytes (Err Memory) r fits a file = refl
 whole_file number bytes (Err (File (Frame fault))) r fits a file = absurd (not_framed (record_wanted number) bytes fault fits (λ _. omega arith) ((a.frame fault).0 refl) 1 (log_file_id number) file.body file.framed)
 whole_file number bytes (Err (File Body)) r fits a file = absurd ((a.body.0 refl).1 r file)
+
+-- the bytes are the file of one record
+pub one_record : (number : ℕ) (bytes : List ℕ) (x y : LogOp) → IsRecordFile number x bytes → IsRecordFile number y bytes → x ≡ y
+one_record number bytes x y = (files_one_to_one (log_kind (log_file_id number))).one_value bytes x y

@@ -3,3 +3,4 @@ mod FileLaws
 mod LogNames
 mod Appending
 mod LogFound
+mod TestLaws

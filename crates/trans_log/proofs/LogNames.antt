@@ -1,16 +1,15 @@
 -- The names of the log are names of files, and no two are one.
-use Rattle.std.proofs.Common.{◌≡◌, ◌≢◌, ℕ, suc, zero, ◌+◌, ◌≤◌, ◌<◌, ◌^◌, Bool, true, false, not, List, [], ◌∷◌, ◌++◌, length, get_or, Option, Some, None, Result, Ok, Err, refl, sym, ap, subst, ◌∙◌, arith}
-use Rattle.std.specs.Prelude.{codes, ◌&&◌, ◌↔◌, nat_eq, nat_le, position, IsErrOf}
+use Rattle.std.proofs.Common.{◌≡◌, ℕ, suc, zero, ◌≤◌, ◌<◌, ◌^◌, Bool, true, false, not, List, [], ◌∷◌, ◌++◌, length, get_or, Some, Result, Err, refl, sym, ap, subst, ◌∙◌, arith}
+use Rattle.std.specs.Prelude.{codes, ◌↔◌, position, IsErrOf}
 use Rattle.std.specs.List.{list_all}
 use Rattle.std.proofs.lemmas.Bool.{and_parts, and_from, leb-true}
 use Rattle.std.proofs.lemmas.List.Quantifiers.{position-Some}
 use Rattle.std.proofs.lemmas.Bool.Decides.{nat_tests}
 use Rattle.std.proofs.lemmas.List.{length-append, append_cancel_left}
 use Rattle.file_names.specs.Names.{is_name_byte, is_file_name}
-use Rattle.file_names.specs.Base36.{is_base36_digit, base36_of, SpellsBase36}
+use Rattle.file_names.specs.Base36.{is_base36_digit, base36_of}
 use Rattle.file_names.specs.declared.names.NameFault.{NameFault}
 use Rattle.file_names.specs.declared.names.NameFault.TheVariants.{Empty, Long, Byte}
-use Rattle.file_names.specs.declared.radix.Base36Fault.{Base36Fault}
 use Rattle.file_names.proofs.Base36Lemmas.{spelling_of, list_all-append, base36_apart}
 use Rattle.trans_log.specs.Names.{log_name_of, pending_log_name_of}
 
@@ -70,11 +69,3 @@ not_refused bytes r (Byte at) is e empty long byte =
     let p = position-Some (λ b. not (is_name_byte b)) bytes at 0 found in
     let good : is_name_byte (get_or bytes at 0) ≡ true = each_passes is_name_byte bytes at 0 (and_parts _ (list_all is_name_byte bytes) is).1 p.0 in
     let bad : false ≡ true = sym (ap not good) ∙ p.1 in cc
-
--- ---- numbers that are read
-
-pub same_number : (m n : ℕ) → ◌≡◌ {A = Option ℕ} (Some m) (Some n) → m ≡ n
-same_number m n e = cc
-
-pub none_never : (n : ℕ) → ◌≡◌ {A = Option ℕ} None (Some n) → ⊥
-none_never n e = cc

@@ -1,11 +1,11 @@
 -- The log in a directory: which records its files are, and what a crash leaves of them.
-use Rattle.std.specs.Prelude.{◌≡◌, ◌≢◌, ◌⊎◌, ℕ, suc, ◌+◌, ◌<◌, ◌^◌, true, List, [], ◌∷◌, ◌++◌, length, Option, Some, None, IsSomeAnd, OnOk, Result, Ok, Err}
+use Rattle.std.specs.Prelude.{◌≡◌, ◌≢◌, ◌⊎◌, ℕ, suc, ◌<◌, true, List, [], ◌∷◌, ◌++◌, length, Option, Some, None, IsSomeAnd, OnOk, Result, Ok, Err}
 use Rattle.disk_model.specs.Disk.{Name, Content, Cell, Cells, Image, IsImage, IsKept, may_leave}
 use Rattle.disk_model.specs.declared.dir.DirFault.{DirFault}
 use Rattle.disk_model.specs.declared.dir.DirFault.TheVariants.{Memory as DirMemory, Failed as DirFailed}
 use Rattle.trans_log.specs.declared.record.LogOp.{LogOp}
 use Rattle.trans_log.specs.declared.log.LogFault.{LogFault}
-use Rattle.trans_log.specs.declared.log.LogFault.TheVariants.{Memory, Failed, Broken, Gap}
+use Rattle.trans_log.specs.declared.log.LogFault.TheVariants.{Failed}
 use Rattle.trans_log.specs.Records.{IsRecordFile}
 use Rattle.trans_log.specs.Names.{IsRecordNumber, log_name_of, pending_log_name_of}
 

@@ -1,5 +1,5 @@
 -- What an opening of the log finds.
-use Rattle.std.specs.Prelude.{◌≡◌, ◌≢◌, ◌⊎◌, ℕ, suc, ◌<◌, ◌≤◌, true, false, List, length, Option, Some, None, IsSome, IsSomeAnd}
+use Rattle.std.specs.Prelude.{◌≡◌, ◌⊎◌, ℕ, suc, ◌<◌, ◌≤◌, true, false, List, [], ◌∷◌, ◌++◌, length, Option, Some, None, IsSome, IsSomeAnd}
 use Rattle.codec_frame.specs.Checking.{IsFirstFault}
 use Rattle.codec_frame.specs.declared.frame.FileFault.{FileFault}
 use Rattle.codec_frame.specs.declared.frame.FileFault.TheVariants.{Frame, Body}
@@ -9,7 +9,7 @@ use Rattle.trans_log.specs.declared.record.LogOp.{LogOp}
 use Rattle.trans_log.specs.declared.log.LogFault.{LogFault}
 use Rattle.trans_log.specs.declared.log.LogFault.TheVariants.{Memory, Failed, Broken, Gap}
 use Rattle.trans_log.specs.Records.{SpellsRecord, log_file_id, record_wanted}
-use Rattle.trans_log.specs.Names.{IsRecordNumber, log_name_of, IsLogName}
+use Rattle.trans_log.specs.Names.{IsRecordNumber, log_name_of, IsPendingLogName}
 use Rattle.trans_log.specs.Logs.{Numbered, HasRecord}
 
 -- each number up to this one has a file
@@ -35,8 +35,14 @@ IsRefusedAt image number name fault = (name ≡ log_name_of number) × ((bytes :
 -- the file that has this name is refused, and those of the lesser numbers are of records
 pub record IsBrokenRecord (image : Image) (name : Name) (fault : FileFault) : Type 0 where
   pub before : List LogOp
+  pub number : IsRecordNumber (suc (length before))
   pub reads : Numbered (HasRecord image) 0 before
   pub refused : IsRefusedAt image (suc (length before)) name fault
+
+-- the first file that is refused has this name, and no number is missing below one that has a file
+pub record IsBrokenLog (image : Image) (name : Name) (fault : FileFault) : Type 0 where
+  pub first : IsBrokenRecord image name fault
+  pub gapless : (n : ℕ) → IsGap image n → ⊥
 
 -- the call was cut off: out of memory, or the disk failed
 abbrev pub IsLogCutOff : LogFault → Type 0
@@ -44,6 +50,10 @@ IsLogCutOff Memory = Unit {0}
 IsLogCutOff Failed = Unit {0}
 IsLogCutOff (Broken name fault) = ⊥
 IsLogCutOff (Gap n) = ⊥
+
+-- the fault is this one, unless the call was cut off
+abbrev pub IsFaultOrCutOff : LogFault → LogFault → Type 0
+IsFaultOrCutOff want found = IsLogCutOff found ⊎ (found ≡ want)
 
 -- what refuses the record of this number
 abbrev pub SaysRecord : Image → ℕ → LogFault → Type 0
@@ -63,8 +73,12 @@ SaysRecords image (Gap n) = ⊥
 abbrev pub SaysLog : Image → LogFault → Type 0
 SaysLog image Memory = Unit {0}
 SaysLog image Failed = Unit {0}
-SaysLog image (Broken name fault) = IsBrokenRecord image name fault × ((n : ℕ) → IsGap image n → ⊥)
+SaysLog image (Broken name fault) = IsBrokenLog image name fault
 SaysLog image (Gap n) = IsGap image n
+
+-- after a crash the log has these records, or the one in flight behind them
+abbrev pub IsAfterCrash : List LogOp → Option LogOp → List LogOp → Type 0
+IsAfterCrash records flight found = (found ≡ records) ⊎ IsSomeAnd flight (λ r. found ≡ records ++ r ∷ [])
 
 -- ---- what the steps of an opening find
 -- the greatest number of a record that has one of the names; 0 where none has
@@ -77,6 +91,6 @@ abbrev pub IsFirstGap : Image → ℕ → Option ℕ → Type 0
 IsFirstGap image last None = HasEach image last
 IsFirstGap image last (Some n) = (0 < n) × (n ≤ last) × (image (log_name_of n) ≡ None) × ((m : ℕ) → 0 < m → m < n → IsSome (image (log_name_of m)))
 
--- the files of the records stay as they are
-abbrev pub KeepsLogs : Cells → Cells → Type 0
-KeepsLogs before after = (n : ℕ) → after (log_name_of n) ≡ before (log_name_of n)
+-- all names stay as they are but the pending names of records
+abbrev pub KeepsButPending : Cells → Cells → Type 0
+KeepsButPending before after = (q : Name) → ((m : ℕ) → IsPendingLogName m q → ⊥) → after q ≡ before q

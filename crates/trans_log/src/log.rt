@@ -1,6 +1,6 @@
 //! The log: its records, appended by four calls of the directory each.
 
-ghost use Rattle.std.specs.Prelude.{◌≡◌, ◌≢◌, ◌+◌, ◌-◌, ◌<◌, ◌≤◌, ◌^◌, ◌↔◌, ◌++◌, ◌∷◌, [], ℕ, List, length, true, false, None, Some, IsSome, Ok, Err, OnOk, OnErr, IfOk, IsErr, IsErrOf, IsTrue, drop};
+ghost use Rattle.std.specs.Prelude.{◌≡◌, ◌≢◌, ◌+◌, ◌-◌, ◌<◌, ◌≤◌, ◌^◌, ◌↔◌, ◌++◌, ◌∷◌, [], ℕ, suc, List, length, true, false, None, Some, IsSome, Ok, Err, OnOk, OnErr, IfOk, IsErr, IsErrOf, IsTrue, drop};
 ghost use Rattle.nrt_base.specs.Causes.{Rose};
 ghost use Rattle.disk_model.specs.Disk.{after_rename};
 ghost use Rattle.disk_model.specs.Faults.{IsMemoryOrFailed, CountsFaults};
@@ -46,6 +46,7 @@ pub struct TransLog<D> {
     pub(crate) dir: D,
     pub(crate) records: Vec<LogOp>,
     pub(crate) ended: bool,
+    ghost few: { length records.items < 2 ^ 32 },
 }
 
 // A fault of the directory.
@@ -66,17 +67,17 @@ pub(crate) fn refusal(fault: DirFault) -> LogFault
 fn write_record<D: Dir>(
     alloc: Global,
     number: u32,
-    record: &LogOp,
+    entry: &LogOp,
     dir: &mut D,
 ) -> Result<(), LogFault>
     requires { (D.cells dir.old (pending_log_name_of number)).now ≡ None }
-    ensures ok { OnOk result (IsFileContent number record.now
+    ensures ok { OnOk result (IsFileContent number entry.now
         (D.cells dir.new (pending_log_name_of number)).now) }
     ensures others { (q : List ℕ) → pending_log_name_of number ≢ q → D.cells dir.new q ≡ D.cells dir.old q }
     ensures failed { IsErrOf result LogFault.Failed → Rose (D.faults dir.old) (D.faults dir.new) }
     ensures later { D.faults dir.old ≤ D.faults dir.new }
 {
-    let bytes = encode(alloc, number, record)?;
+    let bytes = encode(alloc, number, entry)?;
     match dir.write_new(&pending_log_name(number), bytes) {
         Ok(()) => Ok(()),
         Err(fault) => Err(refusal(fault)),
@@ -117,18 +118,18 @@ fn rename_record<D: Dir>(number: u32, dir: &mut D) -> Result<(), LogFault>
 fn write_pending<D: Dir>(
     alloc: Global,
     number: u32,
-    record: &LogOp,
+    entry: &LogOp,
     dir: &mut D,
 ) -> Result<(), LogFault>
     requires { (D.cells dir.old (pending_log_name_of number)).now ≡ None }
-    ensures ok { OnOk result (IsWritten number record.now
+    ensures ok { OnOk result (IsWritten number entry.now
         (D.cells dir.new (pending_log_name_of number))) }
     ensures others { (q : List ℕ) → pending_log_name_of number ≢ q
         → D.cells dir.new q ≡ D.cells dir.old q }
     ensures failed { IsErrOf result LogFault.Failed → Rose (D.faults dir.old) (D.faults dir.new) }
     ensures later { D.faults dir.old ≤ D.faults dir.new }
 {
-    write_record(alloc, number, record, dir)?;
+    write_record(alloc, number, entry, dir)?;
     sync_one(dir, &pending_log_name(number))
 }
 
@@ -152,16 +153,16 @@ fn publish<D: Dir>(number: u32, dir: &mut D) -> Result<(), LogFault>
 fn append_file<D: Dir>(
     alloc: Global,
     number: u32,
-    record: &LogOp,
+    entry: &LogOp,
     dir: &mut D,
 ) -> Result<(), LogFault>
     requires clear { (D.cells dir.old (pending_log_name_of number)).now ≡ None }
     requires free { (D.cells dir.old (log_name_of number)).now ≡ None }
-    ensures appends { Appends number record.now (D.cells dir.old) (D.cells dir.new) result }
+    ensures appends { Appends number entry.now (D.cells dir.old) (D.cells dir.new) result }
     ensures failed { IsErrOf result LogFault.Failed → Rose (D.faults dir.old) (D.faults dir.new) }
     ensures later { D.faults dir.old ≤ D.faults dir.new }
 {
-    write_pending(alloc, number, record, dir)?;
+    write_pending(alloc, number, entry, dir)?;
     publish(number, dir)
 }
 
@@ -170,8 +171,8 @@ fn copies(alloc: Global, records: &[LogOp]) -> Result<Vec<LogOp>, NoMemory>
     ensures { IfOk result (λ copies. copies.items ≡ records.now) }
 {
     let mut copies = Vec::new(alloc);
-    for record in records {
-        copies.push(record.share(alloc)?)?;
+    for entry in records {
+        copies.push(entry.share(alloc)?)?;
     }
     Ok(copies)
 }
@@ -179,7 +180,6 @@ fn copies(alloc: Global, records: &[LogOp]) -> Result<Vec<LogOp>, NoMemory>
 impl<D: Dir> TransLog<D> {
     /// How many records the log has.
     pub fn len(&self) -> u32
-        requires { length self.now.records.items < 2 ^ 32 }
         ensures { result ≡ length self.now.records.items }
     {
         self.records.len() as u32
@@ -205,13 +205,13 @@ impl<D: Dir> TransLog<D> {
     /// At each answer each image of the directory reads as the log's records, in order, followed at most by the one whose
     /// append was refused.
     #[tactic(auto, using(crate::proofs::Appending::images_of_safe))]
-    pub fn append(&mut self, record: &LogOp) -> Result<(), LogFault>
+    pub fn append(&mut self, entry: &LogOp) -> Result<(), LogFault>
         requires open { self.old.ended ≡ false }
         requires few { length self.old.records.items < 2 ^ 32 - 1 }
         requires log { IsOpenLog (D.cells self.old.dir) self.old.records.items }
 
         // What is answered.
-        ensures ok { OnOk result (self.new.records.items ≡ self.old.records.items ++ record.now ∷ []) }
+        ensures ok { OnOk result (self.new.records.items ≡ self.old.records.items ++ entry.now ∷ []) }
         ensures err { OnErr result (self.new.records.items ≡ self.old.records.items) }
         ensures ended { IsTrue self.new.ended ↔ IsErr result }
         ensures failed { IsErrOf result LogFault.Failed
@@ -219,17 +219,19 @@ impl<D: Dir> TransLog<D> {
         ensures later { D.faults self.old.dir ≤ D.faults self.new.dir }
 
         // What the directory has.
+        ensures others { KeepsOthers (suc (length self.old.records.items)) (D.cells self.old.dir)
+            (D.cells self.new.dir) }
         ensures log { OnOk result (IsOpenLog (D.cells self.new.dir) self.new.records.items) }
         ensures safe { IsLogSafe (D.cells self.old.dir) self.old.records.items None
-            → IsLogSafe (D.cells self.new.dir) self.new.records.items (in_flight result record.now) }
+            → IsLogSafe (D.cells self.new.dir) self.new.records.items (in_flight result entry.now) }
         ensures images { IsLogSafe (D.cells self.old.dir) self.old.records.items None
-            → ImagesRead (D.cells self.new.dir) self.new.records.items (in_flight result record.now) }
+            → ImagesRead (D.cells self.new.dir) self.new.records.items (in_flight result entry.now) }
     {
         let number = self.records.len() as u32 + 1;
         self.ended = true;
-        let copy = record.share(self.alloc)?;
+        let copy = entry.share(self.alloc)?;
         self.records.reserve(1)?;
-        append_file(self.alloc, number, record, &mut self.dir)?;
+        append_file(self.alloc, number, entry, &mut self.dir)?;
         self.records.push_reserved(copy);
         self.ended = false;
         Ok(())

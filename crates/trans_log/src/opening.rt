@@ -1,16 +1,17 @@
 //! The log that a directory holds.
 
-ghost use Rattle.std.specs.Prelude.{◌≡◌, ◌≢◌, ◌⊎◌, ◌++◌, ◌∷◌, [], ◌<◌, ◌≤◌, ◌^◌, ℕ, List, length, true, false, None, Some, IsSome, is_some, OnOk, IfOk, IfErr, IsErrOf};
+ghost use Rattle.std.specs.Prelude.{◌≡◌, ◌≢◌, ◌⊎◌, ◌++◌, ◌∷◌, [], ◌<◌, ◌≤◌, ◌^◌, ℕ, List, length, true, false, None, Some, IsSome, is_some, OnOk, IfOk, IfErr, IsErrOf, IsErrAnd, MatchResult};
 ghost use Rattle.nrt_base.specs.Causes.{Rose};
 ghost use Rattle.disk_model.specs.Disk.{is_among, reads_of, after_remove};
 ghost use Rattle.trans_log.specs.Names.{IsRecordNumber, log_name_of, pending_log_name_of, IsLogName, IsPendingLogName};
 ghost use Rattle.trans_log.specs.Logs.{HasRecord, Numbered, ReadsRecords, IsOpenLog, IsLogSafe, SameLogs, IsClear, dir_answer_of};
-ghost use Rattle.trans_log.specs.Opening.{IsLastNumber, IsFirstGap, HasEach, IsLogCutOff, SaysRecord, SaysRecords, SaysLog, KeepsLogs};
+ghost use Rattle.trans_log.specs.Opening.{IsLastNumber, IsFirstGap, HasEach, IsLogCutOff, IsFaultOrCutOff, IsRefusedAt, IsBrokenRecord, IsBrokenLog, IsGap, SaysRecord, SaysRecords, SaysLog, KeepsButPending};
 
 use crate::log::{LogFault, TransLog, refusal};
 use crate::names::{log_name, log_of, pending_log_of};
 use crate::record::{LogOp, decode};
 use body_forms::ReadFault;
+use codec_frame::FileFault;
 use disk_model::Dir;
 use file_names::FileName;
 use std::alloc::Global;
@@ -64,6 +65,9 @@ fn read_record<D: Dir>(alloc: Global, number: u32, dir: &mut D) -> Result<LogOp,
     ensures err { IfErr result (SaysRecord (reads_of (D.cells dir.old)) number) }
     ensures whole { (r : LogOp) → HasRecord (reads_of (D.cells dir.old)) number r
         → IfErr result IsLogCutOff }
+    ensures refused { (name : List ℕ) (fault : FileFault)
+        → IsRefusedAt (reads_of (D.cells dir.old)) number name fault
+        → IsErrAnd result (IsFaultOrCutOff (LogFault.Broken name fault)) }
     ensures cells { D.cells dir.new ≡ D.cells dir.old }
     ensures failed { IsErrOf result LogFault.Failed → Rose (D.faults dir.old) (D.faults dir.new) }
     ensures later { D.faults dir.old ≤ D.faults dir.new }
@@ -99,6 +103,9 @@ fn read_records<D: Dir>(alloc: Global, last: u32, dir: &mut D) -> Result<Vec<Log
     ensures err { IfErr result (SaysRecords (reads_of (D.cells dir.old))) }
     ensures whole { (rs : List LogOp) → last ≤ length rs
         → Numbered (HasRecord (reads_of (D.cells dir.old))) 0 rs → IfErr result IsLogCutOff }
+    ensures broken { (name : List ℕ) (fault : FileFault)
+        (b : IsBrokenRecord (reads_of (D.cells dir.old)) name fault) → length b.before < last
+        → IsErrAnd result (IsFaultOrCutOff (LogFault.Broken name fault)) }
     ensures cells { D.cells dir.new ≡ D.cells dir.old }
     ensures failed { IsErrOf result LogFault.Failed → Rose (D.faults dir.old) (D.faults dir.new) }
     ensures later { D.faults dir.old ≤ D.faults dir.new }
@@ -134,6 +141,9 @@ fn find<D: Dir>(alloc: Global, names: &[FileName], dir: &mut D) -> Result<Vec<Lo
     ensures err { IfErr result (SaysLog (reads_of (D.cells dir.old))) }
     ensures whole { (rs : List LogOp) → ReadsRecords (reads_of (D.cells dir.old)) rs
         → IfErr result IsLogCutOff }
+    ensures broken { (name : List ℕ) (fault : FileFault)
+        → IsBrokenLog (reads_of (D.cells dir.old)) name fault
+        → IsErrAnd result (IsFaultOrCutOff (LogFault.Broken name fault)) }
     ensures cells { D.cells dir.new ≡ D.cells dir.old }
     ensures failed { IsErrOf result LogFault.Failed → Rose (D.faults dir.old) (D.faults dir.new) }
     ensures later { D.faults dir.old ≤ D.faults dir.new }
@@ -165,7 +175,7 @@ fn remove_pending<D: Dir>(name: &FileName, dir: &mut D) -> Result<(), LogFault>
         → (D.cells dir.new name.now).now ≡ None) }
     ensures none { (q : List ℕ) → (D.cells dir.old q).now ≡ None
         → (D.cells dir.new q).now ≡ None }
-    ensures logs { KeepsLogs (D.cells dir.old) (D.cells dir.new) }
+    ensures others { KeepsButPending (D.cells dir.old) (D.cells dir.new) }
     ensures err { IfErr result IsLogCutOff }
     ensures failed { IsErrOf result LogFault.Failed → Rose (D.faults dir.old) (D.faults dir.new) }
     ensures later { D.faults dir.old ≤ D.faults dir.new }
@@ -186,7 +196,7 @@ fn sweep<D: Dir>(names: &[FileName], dir: &mut D) -> Result<(), LogFault>
         → (D.cells dir.new (pending_log_name_of m)).now ≡ None) }
     ensures none { (q : List ℕ) → (D.cells dir.old q).now ≡ None
         → (D.cells dir.new q).now ≡ None }
-    ensures logs { KeepsLogs (D.cells dir.old) (D.cells dir.new) }
+    ensures others { KeepsButPending (D.cells dir.old) (D.cells dir.new) }
     ensures err { IfErr result IsLogCutOff }
     ensures failed { IsErrOf result LogFault.Failed → Rose (D.faults dir.old) (D.faults dir.new) }
     ensures later { D.faults dir.old ≤ D.faults dir.new }
@@ -204,8 +214,11 @@ fn read_log<D: Dir>(alloc: Global, dir: &mut D) -> Result<Vec<LogOp>, LogFault>
     ensures err { IfErr result (SaysLog (reads_of (D.cells dir.old))) }
     ensures whole { (rs : List LogOp) → ReadsRecords (reads_of (D.cells dir.old)) rs
         → IfErr result IsLogCutOff }
+    ensures broken { (name : List ℕ) (fault : FileFault)
+        → IsBrokenLog (reads_of (D.cells dir.old)) name fault
+        → IsErrAnd result (IsFaultOrCutOff (LogFault.Broken name fault)) }
     ensures clear { OnOk result (IsClear (D.cells dir.new) 0) }
-    ensures logs { KeepsLogs (D.cells dir.old) (D.cells dir.new) }
+    ensures others { KeepsButPending (D.cells dir.old) (D.cells dir.new) }
     ensures failed { IsErrOf result LogFault.Failed → Rose (D.faults dir.old) (D.faults dir.new) }
     ensures later { D.faults dir.old ≤ D.faults dir.new }
 {
@@ -218,25 +231,34 @@ fn read_log<D: Dir>(alloc: Global, dir: &mut D) -> Result<Vec<LogOp>, LogFault>
 impl<D: Dir> TransLog<D> {
     /// Opens the log of a directory: it reads its records, and removes the files that have the pending name of a record.
     ///
-    /// A gap is looked at before a broken file. A refusal leaves the files of the records as they are.
+    /// A gap is looked at before a broken file. All other files stay as they are.
     pub fn start(alloc: Global, mut dir: D) -> Result<TransLog<D>, LogRefused<D>>
-        // What is opened.
+        // What is opened, or what refuses it.
         ensures ok { IfOk result (λ log. ReadsRecords (reads_of (D.cells dir)) log.records.items) }
-        ensures few { IfOk result (λ log. length log.records.items < 2 ^ 32) }
+        ensures err { IfErr result (λ refused. SaysLog (reads_of (D.cells dir)) refused.fault) }
+        ensures failed { IfErr result (λ refused. refused.fault ≡ LogFault.Failed
+            → Rose (D.faults dir) (D.faults refused.dir)) }
+
+        // Each of these is answered, unless the call is out of memory or the disk fails.
+        ensures whole { (rs : List LogOp) → length rs < 2 ^ 32 → ReadsRecords (reads_of (D.cells dir)) rs
+            → MatchResult result (λ log. log.records.items ≡ rs) (λ refused. IsLogCutOff refused.fault) }
+        ensures gap { (n : ℕ) → IsGap (reads_of (D.cells dir)) n
+            → IsErrAnd result (λ refused. IsFaultOrCutOff (LogFault.Gap n) refused.fault) }
+        ensures broken { (name : List ℕ) (fault : FileFault)
+            → IsBrokenLog (reads_of (D.cells dir)) name fault
+            → IsErrAnd result (λ refused. IsFaultOrCutOff (LogFault.Broken name fault) refused.fault) }
+
+        // What stays.
+        ensures others { MatchResult result (λ log. KeepsButPending (D.cells dir) (D.cells log.dir))
+            (λ refused. KeepsButPending (D.cells dir) (D.cells refused.dir)) }
+        ensures later { MatchResult result (λ log. D.faults dir ≤ D.faults log.dir)
+            (λ refused. D.faults dir ≤ D.faults refused.dir) }
+
+        // The log that is opened.
         ensures ended { IfOk result (λ log. log.ended ≡ false) }
         ensures log { IfOk result (λ log. IsOpenLog (D.cells log.dir) log.records.items) }
         ensures safe { SameLogs (D.cells dir)
             → IfOk result (λ log. IsLogSafe (D.cells log.dir) log.records.items None) }
-        ensures later { IfOk result (λ log. D.faults dir ≤ D.faults log.dir) }
-
-        // What is refused.
-        ensures err { IfErr result (λ refused. SaysLog (reads_of (D.cells dir)) refused.fault) }
-        ensures whole { (rs : List LogOp) → ReadsRecords (reads_of (D.cells dir)) rs
-            → IfErr result (λ refused. IsLogCutOff refused.fault) }
-        ensures logs { IfErr result (λ refused. KeepsLogs (D.cells dir) (D.cells refused.dir)) }
-        ensures failed { IfErr result (λ refused. refused.fault ≡ LogFault.Failed
-            → Rose (D.faults dir) (D.faults refused.dir)) }
-        ensures err_later { IfErr result (λ refused. D.faults dir ≤ D.faults refused.dir) }
     {
         match read_log(alloc, &mut dir) {
             Ok(records) => Ok(TransLog {

@@ -80,23 +80,23 @@ fn push_op(out: &mut Vec<u8>, op: &Op) -> Result<(), NoMemory>
 }
 
 // Puts the body of a record at the end.
-fn push_body(out: &mut Vec<u8>, record: &LogOp) -> Result<(), NoMemory>
-    ensures { OnOk result (AddsSpelling SpellsRecord record.now out.old.items out.new.items) }
+fn push_body(out: &mut Vec<u8>, entry: &LogOp) -> Result<(), NoMemory>
+    ensures { OnOk result (AddsSpelling SpellsRecord entry.now out.old.items out.new.items) }
 {
-    push_u64(out, record.generation.0)?;
-    push_u32(out, record.seq)?;
-    push_op(out, &record.op)?;
+    push_u64(out, entry.generation.0)?;
+    push_u32(out, entry.seq)?;
+    push_op(out, &entry.op)?;
     Ok(())
 }
 
 /// The file of a record, which has this number in the log.
-pub fn encode(alloc: Global, number: u32, record: &LogOp) -> Result<Bytes, NoMemory>
-    ensures { IfOk result (IsRecordFile number record.now) }
+pub fn encode(alloc: Global, number: u32, entry: &LogOp) -> Result<Bytes, NoMemory>
+    ensures { IfOk result (IsRecordFile number entry.now) }
 {
     let mut out = Vec::new(alloc);
     let id = id_of(number);
     write_index_header(&mut out, NAME, VERSION, &id, b"")?;
-    push_body(&mut out, record)?;
+    push_body(&mut out, entry)?;
     write_footer(&mut out)?;
     Ok(Bytes::from_vec(out)?)
 }

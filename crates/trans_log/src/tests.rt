@@ -1,9 +1,10 @@
 //! A log that is stopped at each call of an append, a gap, and the bytes of a file.
 
-ghost use Rattle.std.specs.Prelude.{◌≡◌, ◌<◌, ◌^◌, length, true, false, Ok, IfOk, OnOk};
+ghost use Rattle.std.specs.Prelude.{◌≡◌, ◌<◌, ◌-◌, ◌^◌, length, true, Option, None, Ok, IfOk, MatchResult};
 ghost use Rattle.disk_memory.specs.Table.{cells_of};
 ghost use Rattle.disk_memory.specs.Memory.{table_of};
-ghost use Rattle.trans_log.specs.Logs.{IsOpenLog};
+ghost use Rattle.trans_log.specs.Logs.{IsOpenLog, IsLogSafe, ImagesRead};
+ghost use Rattle.trans_log.specs.Opening.{IsLogCutOff, IsAfterCrash};
 
 use crate::names::log_name;
 use crate::record::{decode, encode};
@@ -31,9 +32,7 @@ fn put(alloc: Global, seq: u32) -> Result<LogOp, NoMemory> {
 
 // The log of a directory.
 fn opened<D: Dir + Drop>(alloc: Global, dir: D) -> Result<TransLog<D>, Fail>
-    ensures few { IfOk result (λ log. length log.records.items < 2 ^ 32) }
-    ensures ended { IfOk result (λ log. log.ended ≡ false) }
-    ensures log { IfOk result (λ log. IsOpenLog (D.cells log.dir) log.records.items) }
+    ensures { IfOk result (λ log. IsOpenLog (D.cells log.dir) log.records.items) }
 {
     match TransLog::start(alloc, dir) {
         Ok(log) => Ok(log),
@@ -43,10 +42,8 @@ fn opened<D: Dir + Drop>(alloc: Global, dir: D) -> Result<TransLog<D>, Fail>
 
 // Whether an append is answered, where the log has room.
 fn add<D: Dir>(log: &mut TransLog<D>, entry: &LogOp) -> Result<bool, Fail>
-    requires few { length log.old.records.items < 2 ^ 32 }
-    requires log { IsOpenLog (D.cells log.old.dir) log.old.records.items }
-    ensures few { length log.new.records.items < 2 ^ 32 }
-    ensures log { result ≡ Ok true → IsOpenLog (D.cells log.new.dir) log.new.records.items }
+    requires { IsOpenLog (D.cells log.old.dir) log.old.records.items }
+    ensures { result ≡ Ok true → IsOpenLog (D.cells log.new.dir) log.new.records.items }
 {
     if log.ended() || log.len() == u32::MAX {
         return Err(Fail::new("the log has ended"));
@@ -56,14 +53,33 @@ fn add<D: Dir>(log: &mut TransLog<D>, entry: &LogOp) -> Result<bool, Fail>
 
 // A log of one record, in an empty directory.
 fn log_of_one(alloc: Global) -> Result<TransLog<MemDir>, Fail>
-    ensures few { IfOk result (λ log. length log.records.items < 2 ^ 32) }
-    ensures log { IfOk result (λ log. IsOpenLog (cells_of (table_of log.dir)) log.records.items) }
+    ensures { IfOk result (λ log. IsOpenLog (cells_of (table_of log.dir)) log.records.items) }
 {
     let mut log = opened(alloc, MemDir::new(alloc)?)?;
     if !add(&mut log, &put(alloc, 1)?)? {
         return Err(Fail::new("the first append is refused"));
     }
     Ok(log)
+}
+
+// The log of a directory after a crash. It has the records, followed at most by the one in flight, and no file of it is
+// refused or missing. The next crash leaves it so.
+fn opened_again<D: FaultDir + Drop>(
+    alloc: Global,
+    log: TransLog<D>,
+    pick: u64,
+) -> Result<TransLog<D>, LogFault>
+    ensures found { (flight : Option LogOp) → length log.records.items < 2 ^ 32 - 1
+        → ImagesRead (D.cells log.dir) log.records.items flight → MatchResult result
+        (λ again. IsAfterCrash log.records.items flight again.records.items) IsLogCutOff }
+    ensures safe { IfOk result (λ again. IsLogSafe (D.cells again.dir) again.records.items None) }
+{
+    let mut dir = log.into_dir();
+    dir.crash(pick)?;
+    match TransLog::start(alloc, dir) {
+        Ok(again) => Ok(again),
+        Err(refused) => Err(refused.fault),
+    }
 }
 
 // A second append is stopped at its k-th call. Whether it is answered, and how many records are found after a crash.
@@ -73,9 +89,7 @@ fn found_after(alloc: Global, k: u64, pick: u64) -> Result<(bool, u32), Fail>
     let mut log = log_of_one(alloc)?;
     log.dir.stop_at(k);
     let answered = add(&mut log, &put(alloc, 2)?)?;
-    let mut dir = log.into_dir();
-    dir.crash(pick)?;
-    Ok((answered, opened(alloc, dir)?.len()))
+    Ok((answered, opened_again(alloc, log, pick)?.len()))
 }
 
 #[test]

@@ -1,4 +1,6 @@
-use Rattle.std.proofs.Common.{Err, rules, refl}
+use Rattle.std.proofs.Common.{Result, Err, rules, refl, ap, ◌∙◌}
+use Rattle.disk_model.specs.Disk.{after_sync_names}
+use Rattle.disk_model.specs.declared.dir.DirFault.{DirFault}
 use Rattle.trans_log.proofs.Appending.{rename_refused, names_refused, names_synced}
 use Rattle.trans_log.specs.Logs.{dir_answer_of}
 use Rattle.trans_log.proofs.log.publish.Goals as goal
@@ -9,8 +11,10 @@ returns-in_err-rename_record-clause-appends g c r w =
 
 pub returns-in-Ok-clause-appends : goal.returns-in-Ok-clause-appends
 returns-in-Ok-clause-appends g c r w =
-    names_synced (g.D.Dir.cells c.args.dir.now) c.args.number r w (g.D.Dir.cells c.sync_names.new.self) (g.D.Dir.cells c.rename_record.new.dir) c.in_ok-rename_record.ensures.cells c.in-Ok.ensures.cells
+    names_synced (g.D.Dir.cells c.args.dir.now) c.args.number r w (g.D.Dir.cells c.sync_names.new.self) (g.D.Dir.cells c.rename_record.new.dir) c.in_ok-rename_record.ensures.cells
+    (c.sync_names.ensures.cells ∙ ap (λ (r : Result (Unit {0}) DirFault). after_sync_names (g.D.Dir.cells c.rename_record.new.dir) r) c.in-Ok.is)
 
 pub returns-in-Err-clause-appends : goal.returns-in-Err-clause-appends
 returns-in-Err-clause-appends g c r w =
-    names_refused (g.D.Dir.cells c.args.dir.now) c.args.number r w (Err c.refusal.result) refl (g.D.Dir.cells c.sync_names.new.self) (g.D.Dir.cells c.rename_record.new.dir) c.in_ok-rename_record.ensures.cells c.in-Err.ensures.cells
+    names_refused (g.D.Dir.cells c.args.dir.now) c.args.number r w (Err c.refusal.result) refl (g.D.Dir.cells c.sync_names.new.self) (g.D.Dir.cells c.rename_record.new.dir) c.in_ok-rename_record.ensures.cells
+    (c.sync_names.ensures.cells ∙ ap (λ (r : Result (Unit {0}) DirFault). after_sync_names (g.D.Dir.cells c.rename_record.new.dir) r) c.in-Err.is)

@@ -1,4 +1,4 @@
-use Rattle.std.proofs.Common.{◌≡◌, Result, Err, refl, sym, ap, subst, ◌∙◌}
+use Rattle.std.proofs.Common.{◌≡◌, Result, Err, sym, ap, ◌∙◌}
 use Rattle.disk_model.specs.Disk.{Name, Cells, after_rename}
 use Rattle.disk_model.specs.declared.dir.DirFault.{DirFault}
 use Rattle.trans_log.specs.Names.{log_name_of, pending_log_name_of}

@@ -10,7 +10,7 @@ loop-name-preserved g c = record {
   gone = gone_more c.args.names.now c.loop-name.name-index c.name-item.result (g.D.Dir.cells c.loop-name.dir) (g.D.Dir.cells c.remove_pending.new.dir) c.loop-name-test.true c.name-item.is
       c.loop-name.invariant.gone c.in_ok-remove_pending.ensures.here c.remove_pending.ensures.none;
   none = λ q e. c.remove_pending.ensures.none q (c.loop-name.invariant.none q e);
-  logs = λ n. c.remove_pending.ensures.logs n ∙ c.loop-name.invariant.logs n;
+  others = λ q never. c.remove_pending.ensures.others q never ∙ c.loop-name.invariant.others q never;
   later = omega (arith, c.remove_pending.ensures.later, c.loop-name.invariant.later);
 }
 

@@ -1,7 +1,7 @@
 use Rattle.std.proofs.Common.{◌≡◌, ◌≤◌, ℕ, List, take, true, None}
 use Rattle.disk_model.specs.Disk.{is_among}
 use Rattle.trans_log.specs.Names.{IsRecordNumber, pending_log_name_of}
-use Rattle.trans_log.specs.Opening.{KeepsLogs}
+use Rattle.trans_log.specs.Opening.{KeepsButPending}
 use Rattle.trans_log.proofs.opening.sweep.Given as goal
 
 -- no file has one of the pending names so far
@@ -9,6 +9,6 @@ abbrev pub invariant-loop-name : goal.invariant-loop-name
 invariant-loop-name g l = record {
   gone : (m : ℕ) → IsRecordNumber m → is_among (take l.name-index l.names) (pending_log_name_of m) ≡ true → (g.D.Dir.cells l.dir (pending_log_name_of m)).now ≡ None;
   none : (q : List ℕ) → (g.D.Dir.cells l.initial.dir q).now ≡ None → (g.D.Dir.cells l.dir q).now ≡ None;
-  logs : KeepsLogs (g.D.Dir.cells l.initial.dir) (g.D.Dir.cells l.dir);
+  others : KeepsButPending (g.D.Dir.cells l.initial.dir) (g.D.Dir.cells l.dir);
   later : g.D.Dir.faults l.initial.dir ≤ g.D.Dir.faults l.dir;
 }
