@@ -28,14 +28,12 @@ abbrev pub primary_of : Past → Option NodeNo
 primary_of [] = Some (record { 0 = 1 })
 primary_of (e ∷ past) = primary_by e.event (primary_of past)
 
-abbrev pub primary_crashes_by : Event → Option NodeNo → ℕ → ℕ
-primary_crashes_by (Crashed m) p k = if is_at p m.0 then k + 1 else k
-primary_crashes_by e p k = k
-
 -- how often a running primary has crashed
 abbrev pub primary_crashes : Past → ℕ
 primary_crashes [] = 0
-primary_crashes (e ∷ past) = primary_crashes_by e.event (primary_of past) (primary_crashes past)
+primary_crashes (e ∷ past) =
+    elim e.event [ Crashed m ↦ if is_at (primary_of past) m.0 then primary_crashes past + 1 else primary_crashes past
+                 | _ ↦ primary_crashes past ]
 
 abbrev pub is_running_by : ℕ → Event → Bool → Bool
 is_running_by n (Crashed m) b = if m.0 == n then false else b
@@ -61,14 +59,10 @@ pub record IsReplica (past : Past) (n : ℕ) : Type 0 where
   pub running : is_running n past ≡ true
   pub other : is_at (primary_of past) n ≡ false
 
-abbrev pub generation_by : Event → ℕ → ℕ
-generation_by (Promoted m g f w) k = g.0
-generation_by e k = k
-
 -- the generation: that of the last promotion, or 1
 abbrev pub generation_of : Past → ℕ
 generation_of [] = 1
-generation_of (e ∷ past) = generation_by e.event (generation_of past)
+generation_of (e ∷ past) = elim e.event [ Promoted m g f w ↦ g.0 | _ ↦ generation_of past ]
 
 abbrev pub version_by : ℕ → Option NodeNo → Event → ℕ → ℕ
 version_by n p (Published g w) v = if is_at p n then w.0 else v
