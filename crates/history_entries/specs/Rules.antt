@@ -22,7 +22,7 @@ use Rattle.history_entries.specs.Nodes.{Past, IsNode, IsReplica, is_at, primary_
 use Rattle.history_entries.specs.Lines.{same_at, is_start, start_entry, before_start, last_of_line, is_answered, NodeSurvives, SourceSurvives, publish_in_flight, commit_in_flight, copy_in_flight, is_free_for, highest_copy, has_switched, highest_switched}
 use Rattle.history_entries.specs.Points.{documents_at, names_drawn, IsDrawnFile, IsDrawnTemporary, merges_started, cut_of, idle_publishes}
 use Rattle.history_entries.specs.Tickets.{open_ticket, has_ticket, IsTicketAt, IsTicketOf}
-use Rattle.history_entries.specs.Commits.{has_committed, is_disk_fault, is_stuck, reopenable_versions, was_searched_since}
+use Rattle.history_entries.specs.Commits.{has_committed, is_disk_fault, starts_commit, is_stuck, reopenable_versions, was_searched_since}
 use Rattle.history_entries.specs.Tasks.{merge_count, drained_count}
 use Rattle.history_entries.specs.Faults.{is_planned, has_fault, has_met_fault, same_kind, is_of_disk}
 
@@ -131,15 +131,10 @@ pub record MayStartCommit (size : ℕ) (past : Past) (at : At) (n : NodeNo) (v :
   pub searched : v.0 ≡ version_of n.0 past
   pub alone : is_free_for at (commit_in_flight n.0 past) ≡ true
 
--- the line started as a commit at this node
-abbrev pub StartedCommit : ℕ → Option Event → Type 0
-StartedCommit n (Some (Committing m w)) = m.0 ≡ n
-StartedCommit n e = ⊥
-
 -- a commit is acknowledged for the version of its start; where the node is stuck, for one that it searched then or later
 pub record MayCommit (size : ℕ) (past : Past) (at : At) (n : NodeNo) (v : Version) : Type 0 where
   pub node : IsNode size n.0
-  pub started : StartedCommit n.0 (start_entry at past)
+  pub started : starts_commit n.0 (start_entry at past) ≡ true
   pub survives : NodeSurvives past at n.0
   pub searched : was_searched_since at n.0 v.0 past ≡ true
   pub exact : is_stuck n.0 past ≡ false → start_entry at past ≡ Some (Committing n v)
@@ -264,26 +259,19 @@ abbrev pub is_above : ℕ → Option ℕ → Bool
 is_above v None = false
 is_above v (Some w) = nat_lt w v
 
-abbrev pub copies_by : (ℕ → Bool) → ℕ → Event → Bool
-copies_by node v (Copying n w) = node n.0 && (w.0 == v)
-copies_by node v e = false
-
 -- since the start entry of a line another line started a copy at this version to such a node
 abbrev pub is_copied_beside : (ℕ → Bool) → ℕ → At → Past → Bool
 is_copied_beside node v at [] = false
 is_copied_beside node v at (e ∷ past) =
     if is_start e.event && same_at e.at at then false
-    else (copies_by node v e.event && not (same_at e.at at)) || is_copied_beside node v at past
-
-abbrev pub settles_by : Event → Bool
-settles_by (Settling v) = true
-settles_by e = false
+    else (elim e.event [ Copying n w ↦ node n.0 && (w.0 == v) | _ ↦ false ] && not (same_at e.at at))
+         || is_copied_beside node v at past
 
 -- another line started a settle, and had no reply before this line's start
 abbrev pub is_settled_beside : Past → At → Past → Bool
-is_settled_beside start at [] = false
-is_settled_beside start at (e ∷ past) =
-    (settles_by e.event && not (same_at e.at at) && not (is_answered e.at start)) || is_settled_beside start at past
+is_settled_beside start at past =
+    list_any (λ e. elim e.event [ Settling v ↦ true | _ ↦ false ]
+                   && not (same_at e.at at) && not (is_answered e.at start)) past
 
 abbrev pub is_copy : Event → Bool
 is_copy (Copying n v) = true
