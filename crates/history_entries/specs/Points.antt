@@ -14,21 +14,13 @@ use Rattle.documents.specs.Documents.{documents_after}
 use Rattle.history_entries.specs.Nodes.{Past, generation_of, version_of}
 use Rattle.history_entries.specs.Lines.{same_at, is_start, before_start}
 
-abbrev pub written_by : Event → Past → (ℕ → List Op) → List Op → List Op
-written_by (Accepted seq op) past points ops = ops ++ op ∷ []
-written_by (Promoted m g f w) past points ops = points (version_of m.0 past)
-written_by e past points ops = ops
-
-abbrev pub operations_by : Event → Past → (ℕ → List Op) → List Op → ℕ → List Op
-operations_by (Published g w) past points cut v = if w.0 == v then cut else points v
-operations_by (Promoted m g f w) past points cut v = if w.0 == v then points (version_of m.0 past) else points v
-operations_by e past points cut v = points v
-
 abbrev mutual
   -- the operations on which the generation started, and those that it accepted since
   pub operations_written : Past → List Op
   operations_written [] = []
-  operations_written (e ∷ past) = written_by e.event past (operations_at past) (operations_written past)
+  operations_written (e ∷ past) = let ops = operations_written past in
+      elim e.event [ Accepted seq op ↦ ops ++ op ∷ []
+                   | Promoted m g f w ↦ operations_at past (version_of m.0 past) | _ ↦ ops ]
 
   -- the same at the start entry of a line
   pub operations_at_start : At → Past → List Op
@@ -38,7 +30,10 @@ abbrev mutual
   -- the operations of the point of a version: what a publish found written when it started, or what the promoted node had
   pub operations_at : Past → ℕ → List Op
   operations_at [] v = []
-  operations_at (e ∷ past) v = operations_by e.event past (operations_at past) (operations_at_start e.at past) v
+  operations_at (e ∷ past) v = let points = operations_at past in
+      elim e.event [ Published g w ↦ if w.0 == v then operations_at_start e.at past else points v
+                   | Promoted m g f w ↦ if w.0 == v then points (version_of m.0 past) else points v
+                   | _ ↦ points v ]
 
 -- the documents of the point of a version
 abbrev pub documents_at : Past → ℕ → List Doc
