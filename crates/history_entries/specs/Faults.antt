@@ -1,15 +1,22 @@
 -- The faults that the entries before a place show.
-use Rattle.std.specs.Prelude.{ℕ, [], ◌∷◌, Bool, true, false, ◌&&◌, ◌||◌, ◌==◌, if◌then◌else◌}
+use Rattle.std.specs.Prelude.{ℕ, List, [], ◌∷◌, map, codes, Bool, true, false, ◌&&◌, ◌||◌, ◌==◌, if◌then◌else◌}
 use Rattle.std.specs.List.{list_any}
+use Rattle.std.specs.Fmt.{decimal}
 use Rattle.nrt_base.specs.declared.numbers.At.{At}
 use Rattle.history_entries.specs.declared.cause.FaultKind.{FaultKind}
 use Rattle.history_entries.specs.declared.cause.FaultKind.TheVariants.{Link, Damage, Disk, Stop}
 use Rattle.history_entries.specs.declared.cause.FaultPlan.{FaultPlan}
 use Rattle.history_entries.specs.declared.cause.FaultPlan.TheVariants.{Link as LinkPlan, Damage as DamagePlan, Disk as DiskPlan, Stop as StopPlan}
-use Rattle.history_entries.specs.declared.entry.Event.{Event}
 use Rattle.history_entries.specs.declared.entry.Event.TheVariants.{Planned, Fault, Crashed}
 use Rattle.history_entries.specs.Nodes.{Past}
 use Rattle.history_entries.specs.Lines.{same_at}
+
+-- the words of a planned fault at a node: its kind, the node, which file or call, and for damage which byte
+abbrev pub plan_words : ℕ → FaultPlan → List (List ℕ)
+plan_words n (LinkPlan k) = codes "link" ∷ map decimal (n ∷ k ∷ [])
+plan_words n (DamagePlan k at) = codes "damage" ∷ map decimal (n ∷ k ∷ at ∷ [])
+plan_words n (DiskPlan k) = codes "disk" ∷ map decimal (n ∷ k ∷ [])
+plan_words n (StopPlan k) = codes "stop" ∷ map decimal (n ∷ k ∷ [])
 
 -- the kind of a planned fault
 abbrev pub kind_of : FaultPlan → FaultKind

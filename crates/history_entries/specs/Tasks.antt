@@ -1,6 +1,5 @@
 -- The merges that the entries before a place show, and the tasks that were done for them.
 use Rattle.std.specs.Prelude.{ℕ, ◌+◌, [], ◌∷◌}
-use Rattle.history_entries.specs.declared.entry.Event.{Event}
 use Rattle.history_entries.specs.declared.entry.Event.TheVariants.{Merging, Drained}
 use Rattle.history_entries.specs.Nodes.{Past}
 

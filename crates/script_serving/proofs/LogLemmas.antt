@@ -11,20 +11,26 @@ use Rattle.history_entries.specs.declared.entry.Event.TheVariants.{Accepted, Pub
 use Rattle.history_entries.specs.declared.entry.Entry.{Entry}
 use Rattle.history_entries.specs.declared.entry.History.{History}
 use Rattle.history_entries.specs.Nodes.{Past, version_of}
-use Rattle.history_entries.specs.Lines.{same_at, is_start, is_reply, is_answered, last_by, last_of_line}
+use Rattle.history_entries.specs.Lines.{same_at, is_start, is_reply, is_answered, last_of_line}
 use Rattle.history_entries.specs.Points.{operations_written, operations_at_start, operations_at}
 use Rattle.script_serving.specs.declared.script.Line.{Line}
 use Rattle.script_serving.specs.declared.script.LineCommand.{LineCommand}
 use Rattle.script_serving.specs.declared.script.LineCommand.TheVariants.{Promote}
 use Rattle.script_serving.specs.declared.script.Script.{Script}
 use Rattle.script_serving.specs.Lines.{lines_of_lane, command_at}
-use Rattle.script_serving.specs.Replays.{logged_by, logged_operations, replay_due}
+use Rattle.script_serving.specs.Replays.{logged_operations, replay_due}
 use Rattle.script_serving.specs.Serves.{Suits, FitsTurn, FitsReplay, Fits, is_newest_at, ServesLane, Serves}
 use Rattle.script_serving.specs.LogLaws.{PointsAreLogged, NothingIsLost}
 use Rattle.script_serving.proofs.ServingLemmas.{own_fits, earlier_serves}
 
 abbrev entry : At → Event → Entry
 entry at event = record { at = at; event = event }
+
+abbrev last_by : Event → Option Event → Option Event
+last_by e last = elim e [ Fault n kind ↦ last | event ↦ Some event ]
+
+abbrev logged_by : Event → Bool → List Op → List Op
+logged_by e answered ops = elim e [ Accepted seq op ↦ if answered then ops else ops ++ op ∷ [] | _ ↦ ops ]
 
 -- ---- when a line has its reply
 
