@@ -1,5 +1,5 @@
 -- The commits that the entries before a place show, and what a reopening may find of them.
-use Rattle.std.specs.Prelude.{ℕ, List, [], ◌∷◌, Bool, true, false, ◌&&◌, ◌||◌, ◌==◌, nat_lt, if◌then◌else◌, Option, Some, None}
+use Rattle.std.specs.Prelude.{ℕ, is_some, List, [], ◌∷◌, Bool, true, false, ◌&&◌, ◌||◌, ◌==◌, nat_lt, if◌then◌else◌, Option, Some, None}
 use Rattle.nrt_base.specs.declared.numbers.At.{At}
 use Rattle.history_entries.specs.declared.entry.Event.{Event}
 use Rattle.history_entries.specs.declared.entry.Event.TheVariants.{Published, Switched, Committing, Committed, Reopened, Promoted, Refused}
@@ -23,7 +23,7 @@ abbrev pub has_committed : ℕ → Past → Bool
 has_committed n [] = false
 has_committed n (e ∷ past) = let b = has_committed n past in
     elim e.event [ Committed m w ↦ if m.0 == n then true else b
-                 | Reopened m w ↦ if m.0 == n then b || nat_lt 1 w.0 else b | _ ↦ b ]
+      | Reopened m w ↦ if m.0 == n then b || nat_lt 1 w.0 else b | _ ↦ b ]
 
 -- the cause is a fault of a disk
 abbrev pub is_disk_fault : Cause → Bool
@@ -40,9 +40,9 @@ abbrev pub is_stuck : ℕ → Past → Bool
 is_stuck n [] = false
 is_stuck n (e ∷ past) = let b = is_stuck n past in
     elim e.event [ Committed m w ↦ if m.0 == n then false else b
-                 | Reopened m w ↦ if m.0 == n then false else b
-                 | Refused cause ↦ (is_disk_fault cause && starts_commit n (start_entry e.at past)) || b
-                 | _ ↦ b ]
+      | Reopened m w ↦ if m.0 == n then false else b
+      | Refused cause ↦ (is_disk_fault cause && starts_commit n (start_entry e.at past)) || b
+      | _ ↦ b ]
 
 -- the line whose commit at a node may be begun later than the line: it is in flight, and the node is stuck
 abbrev pub late_commit : ℕ → Past → Option At
@@ -50,8 +50,7 @@ late_commit n past = if is_stuck n past then commit_in_flight n past else None
 
 -- one version more where such a commit is in flight
 abbrev pub more_by : Option At → ℕ → List ℕ → List ℕ
-more_by None v old = old
-more_by (Some at) v old = v ∷ old
+more_by flight v old = if is_some flight then v ∷ old else old
 
 -- the versions at which a node may reopen: its base version, that of each commit started since,
 -- and what it searched since while a late one was in flight
@@ -59,12 +58,13 @@ abbrev pub reopenable_versions : ℕ → Past → List ℕ
 reopenable_versions n [] = 1 ∷ []
 reopenable_versions n (e ∷ past) = let old = reopenable_versions n past in
     elim e.event [ Committed m w ↦ if m.0 == n then w.0 ∷ [] else old
-                 | Reopened m w ↦ if m.0 == n then w.0 ∷ [] else old
-                 | Committing m w ↦ if m.0 == n then w.0 ∷ old else old
-                 | Published g w ↦ if is_at (primary_of past) n then more_by (late_commit n past) w.0 old else old
-                 | Switched m w ↦ if m.0 == n then more_by (late_commit n past) w.0 old else old
-                 | Promoted m g f w ↦ if m.0 == n then more_by (late_commit n past) w.0 old else old
-                 | _ ↦ old ]
+      | Reopened m w ↦ if m.0 == n then w.0 ∷ [] else old
+      | Committing m w ↦ if m.0 == n then w.0 ∷ old else old
+      | Published g w ↦
+          if is_at (primary_of past) n then more_by (late_commit n past) w.0 old else old
+      | Switched m w ↦ if m.0 == n then more_by (late_commit n past) w.0 old else old
+      | Promoted m g f w ↦ if m.0 == n then more_by (late_commit n past) w.0 old else old
+      | _ ↦ old ]
 
 -- the version was searched by a node at the start entry of a line, or later
 abbrev pub was_searched_since : At → ℕ → ℕ → Past → Bool

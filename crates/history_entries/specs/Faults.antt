@@ -11,7 +11,8 @@ use Rattle.history_entries.specs.declared.entry.Event.TheVariants.{Planned, Faul
 use Rattle.history_entries.specs.Nodes.{Past}
 use Rattle.history_entries.specs.Lines.{same_at}
 
--- the words of a planned fault at a node: its kind, the node, which file or call, and for damage which byte
+-- the words of a planned fault at a node: its kind, the node, which file or call,
+-- and for damage which byte
 abbrev pub plan_words : ℕ → FaultPlan → List (List ℕ)
 plan_words n (LinkPlan k) = codes "link" ∷ map decimal (n ∷ k ∷ [])
 plan_words n (DamagePlan k at) = codes "damage" ∷ map decimal (n ∷ k ∷ at ∷ [])
@@ -42,14 +43,15 @@ abbrev pub is_planned : ℕ → FaultKind → Past → Bool
 is_planned n kind [] = false
 is_planned n kind (e ∷ past) = let b = is_planned n kind past in
     elim e.event [ Planned m plan ↦ if (m.0 == n) && same_kind (kind_of plan) kind then true else b
-                 | Crashed m ↦ if m.0 == n then false else b
-                 | Fault m met ↦ if (m.0 == n) && same_kind met kind then same_kind Stop kind && b else b
-                 | _ ↦ b ]
+      | Crashed m ↦ if m.0 == n then false else b
+      | Fault m met ↦ if (m.0 == n) && same_kind met kind then same_kind Stop kind && b else b
+      | _ ↦ b ]
 
 -- the line has met a fault of such a kind at such a node
 abbrev pub has_fault : (ℕ → Bool) → (FaultKind → Bool) → At → Past → Bool
 has_fault node kind at past =
-    list_any (λ e. elim e.event [ Fault m met ↦ node m.0 && kind met | _ ↦ false ] && same_at e.at at) past
+    list_any (λ e. elim e.event [ Fault m met ↦ node m.0 && kind met | _ ↦ false ]
+      && same_at e.at at) past
 
 -- the line has met a fault, of any kind, at any node
 abbrev pub has_met_fault : At → Past → Bool

@@ -256,14 +256,14 @@ abbrev pub is_copied_beside : (ℕ → Bool) → ℕ → At → Past → Bool
 is_copied_beside node v at [] = false
 is_copied_beside node v at (e ∷ past) =
     if is_start e.event && same_at e.at at then false
-    else (elim e.event [ Copying n w ↦ node n.0 && (w.0 == v) | _ ↦ false ] && not (same_at e.at at))
-         || is_copied_beside node v at past
+    else elim e.event [ Copying n w ↦ node n.0 && (w.0 == v) | _ ↦ false ] && not (same_at e.at at)
+      || is_copied_beside node v at past
 
 -- another line started a settle, and had no reply before this line's start
 abbrev pub is_settled_beside : Past → At → Past → Bool
 is_settled_beside start at past =
     list_any (λ e. elim e.event [ Settling v ↦ true | _ ↦ false ]
-                   && not (same_at e.at at) && not (is_answered e.at start)) past
+      && not (same_at e.at at) && not (is_answered e.at start)) past
 
 abbrev pub is_copy : Event → Bool
 is_copy (Copying n v) = true
@@ -279,12 +279,14 @@ pub record MayCancel (size : ℕ) (past : Past) (at : At) (start : Past) (begun 
 abbrev pub has_disk_fault : ℕ → Past → Event → At → Past → Bool
 has_disk_fault size start begun at past = has_fault (λ n. is_node_of size start begun n || is_source_of start begun n) is_of_disk at past
 
--- why a line that has started, and whose nodes run on, may be refused; a name of damage is of a file of a segment that was drawn
+-- why a line that has started, and whose nodes run on, may be refused; a damaged file is of a segment
+-- whose name was drawn
 abbrev pub MayBreakOff : ℕ → Past → At → Past → Event → Cause → Type 0
 MayBreakOff size past at start begun (Cancelled v) = MayCancel size past at start begun v
 MayBreakOff size past at start begun LinkFault = has_fault (is_node_of size start begun) (same_kind Link) at past ≡ true
 MayBreakOff size past at start begun (Damaged name) =
-    (has_fault (is_node_of size start begun) (same_kind Damage) at past ≡ true) × IsDrawnFile past name
+    (has_fault (is_node_of size start begun) (same_kind Damage) at past ≡ true)
+    × IsDrawnFile past name
 MayBreakOff size past at start begun DiskFault = has_disk_fault size start begun at past ≡ true
 MayBreakOff size past at start begun cause = ⊥
 
@@ -299,7 +301,8 @@ pub record MayRefuse (size : ℕ) (past : Past) (at : At) (start : Past) (begun 
   pub met : is_loss cause ≡ false → MayBreakOff size past at start begun cause
   pub unswitched : (is_copy begun && has_switched at past) ≡ false
 
--- a line is refused as its start entry has it; before it has one, for a fault of a disk exactly where it has met a fault
+-- a line is refused as its start entry has it; before it has one, for a fault of a disk exactly where
+-- it has met a fault
 abbrev pub MayRefuseLine : ℕ → Past → At → Option Event → Cause → Type 0
 MayRefuseLine size past at None cause = is_disk_fault cause ≡ has_met_fault at past
 MayRefuseLine size past at (Some begun) cause = MayRefuse size past at (before_start at past) begun cause

@@ -11,4 +11,5 @@ merge_count (e ∷ past) = elim e.event [ Merging seg ↦ merge_count past + 1 |
 -- how many tasks all drains together did
 abbrev pub drained_count : Past → ℕ
 drained_count [] = 0
-drained_count (e ∷ past) = elim e.event [ Drained done most ↦ drained_count past + done | _ ↦ drained_count past ]
+drained_count (e ∷ past) = let k = drained_count past in
+    elim e.event [ Drained done most ↦ k + done | _ ↦ k ]

@@ -1,4 +1,5 @@
--- What one more entry does to what the past shows, for proofs by cases on its event. Each word is a step of the word that it is called after.
+-- What one more entry does to what the past shows, for proofs by cases on its event. Each word is the
+-- step of the word that it is called after.
 use Rattle.std.specs.Prelude.{ℕ, ◌+◌, List, [], ◌∷◌, ◌++◌, Bool, true, false, ◌&&◌, ◌||◌, ◌==◌, max, if◌then◌else◌, Option, Some, None}
 use Rattle.nrt_base.specs.declared.numbers.At.{At}
 use Rattle.nrt_base.specs.declared.numbers.NodeNo.{NodeNo}

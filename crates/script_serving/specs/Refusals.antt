@@ -2,10 +2,8 @@
 use Rattle.std.specs.Prelude.{ℕ, ◌+◌, ◌^◌, [], ◌∷◌, Bool, true, false, ◌&&◌, ◌||◌, not, ◌==◌, nat_lt, nat_le, length, if◌then◌else◌, Option, Some, None, is_some, is_none}
 use Rattle.std.specs.Option.{option_or}
 use Rattle.nrt_base.specs.declared.numbers.At.{At}
-use Rattle.nrt_base.specs.declared.numbers.NodeNo.{NodeNo}
 use Rattle.history_entries.specs.declared.cause.Cause.{Cause}
 use Rattle.history_entries.specs.declared.cause.Cause.TheVariants.{Down, Primary, NoPrimary, PrimaryUp, ForceLow, NoTicket, Lost, Cancelled, LinkFault, Damaged, DiskFault, Nothing, Up, NameUsed, NamesSpent, TooManySegments, ForceHigh}
-use Rattle.history_entries.specs.declared.entry.Event.{Event}
 use Rattle.history_entries.specs.declared.entry.Event.TheVariants.{Published}
 use Rattle.history_entries.specs.Lines.{before_start}
 use Rattle.history_entries.specs.Nodes.{Past, primary_of, is_at, is_running, newest_version}
@@ -23,8 +21,7 @@ use Rattle.script_serving.specs.declared.script.LineCommand.TheVariants.{Put, De
 
 -- the cause, where it holds
 abbrev pub when : Bool → Cause → Option Cause
-when true cause = Some cause
-when false cause = None
+when holds cause = if holds then Some cause else None
 
 -- no primary runs
 abbrev pub without_primary : Past → Option Cause
@@ -33,10 +30,6 @@ without_primary past = when (is_none (primary_of past)) NoPrimary
 -- the node does not run
 abbrev pub without_node : ℕ → Past → Option Cause
 without_node n past = when (not (is_running n past)) Down
-
--- the lane has no such ticket
-abbrev pub without_ticket : ℕ → ℕ → Past → Option Cause
-without_ticket lane t past = when (not (has_ticket lane t past)) NoTicket
 
 -- the forced version: the newest, or the one that is named
 abbrev pub forced_version : Force → Past → ℕ
@@ -57,8 +50,8 @@ refusal (Copy n) lane past = option_or (without_node n.0 past) (option_or (witho
 refusal Settle lane past = without_primary past
 refusal (Search n query) lane past = without_node n.0 past
 refusal (Open n t) lane past = option_or (when (has_ticket lane t.0 past) NameUsed) (without_node n.0 past)
-refusal (Ask t query) lane past = without_ticket lane t.0 past
-refusal (Close t) lane past = without_ticket lane t.0 past
+refusal (Ask t query) lane past = when (not (has_ticket lane t.0 past)) NoTicket
+refusal (Close t) lane past = when (not (has_ticket lane t.0 past)) NoTicket
 refusal (Commit n) lane past = without_node n.0 past
 refusal (Crash n pick) lane past = without_node n.0 past
 refusal (Reopen n) lane past = when (is_running n.0 past) Up
@@ -76,7 +69,8 @@ refusal (Fault n plan) lane past = None
 abbrev pub put_publishes : Past → ℕ
 put_publishes [] = 0
 put_publishes (e ∷ past) = let k = put_publishes past in
-    elim e.event [ Published g w ↦ if cut_has_put (before_start e.at past) then k + 1 else k | _ ↦ k ]
+    elim e.event [ Published g w ↦ if cut_has_put (before_start e.at past) then k + 1 else k
+      | _ ↦ k ]
 
 -- there may be 256 segments: as many publishes made one, and, where no merge was started, each still has a document
 abbrev pub may_be_full : Past → Bool
