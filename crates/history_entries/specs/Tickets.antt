@@ -1,5 +1,5 @@
 -- The tickets that the entries before a place show.
-use Rattle.std.specs.Prelude.{ℕ, is_some, IsSomeAnd, ◌≡◌, [], ◌∷◌, Bool, ◌&&◌, ◌==◌, if◌then◌else◌, Option, Some, None}
+use Rattle.std.specs.Prelude.{ℕ, is_some, ◌≡◌, [], ◌∷◌, Bool, ◌&&◌, ◌==◌, if◌then◌else◌, Option, Some, None}
 use Rattle.nrt_base.specs.declared.numbers.At.{At}
 use Rattle.history_entries.specs.declared.entry.Event.{Event}
 use Rattle.history_entries.specs.declared.entry.Event.TheVariants.{Opened, Closed}
@@ -39,4 +39,5 @@ has_ticket lane t past = is_some (open_ticket lane t past)
 
 -- it is a ticket at this node, at this version
 abbrev pub IsTicketOf : ℕ → ℕ → Option Ticket → Type 0
-IsTicketOf n v opened = IsSomeAnd opened (λ ticket. (ticket.node ≡ n) × (ticket.version ≡ v))
+IsTicketOf n v None = ⊥
+IsTicketOf n v (Some ticket) = (ticket.node ≡ n) × (ticket.version ≡ v)
