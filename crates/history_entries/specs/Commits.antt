@@ -22,8 +22,11 @@ base_version n (e ∷ past) = base_by n e.event (base_version n past)
 abbrev pub has_committed : ℕ → Past → Bool
 has_committed n [] = false
 has_committed n (e ∷ past) = let b = has_committed n past in
-    elim e.event [ Committed m w ↦ if m.0 == n then true else b
-      | Reopened m w ↦ if m.0 == n then b || nat_lt 1 w.0 else b | _ ↦ b ]
+    elim e.event [
+      | Committed m w ↦ if m.0 == n then true else b
+      | Reopened m w ↦ if m.0 == n then b || nat_lt 1 w.0 else b
+      | _ ↦ b
+    ]
 
 -- the cause is a fault of a disk
 abbrev pub is_disk_fault : Cause → Bool
@@ -39,10 +42,12 @@ starts_commit n e = false
 abbrev pub is_stuck : ℕ → Past → Bool
 is_stuck n [] = false
 is_stuck n (e ∷ past) = let b = is_stuck n past in
-    elim e.event [ Committed m w ↦ if m.0 == n then false else b
+    elim e.event [
+      | Committed m w ↦ if m.0 == n then false else b
       | Reopened m w ↦ if m.0 == n then false else b
       | Refused cause ↦ (is_disk_fault cause && starts_commit n (start_entry e.at past)) || b
-      | _ ↦ b ]
+      | _ ↦ b
+    ]
 
 -- the line whose commit at a node may be begun later than the line: it is in flight, and the node is stuck
 abbrev pub late_commit : ℕ → Past → Option At
@@ -57,14 +62,16 @@ more_by flight v old = if is_some flight then v ∷ old else old
 abbrev pub reopenable_versions : ℕ → Past → List ℕ
 reopenable_versions n [] = 1 ∷ []
 reopenable_versions n (e ∷ past) = let old = reopenable_versions n past in
-    elim e.event [ Committed m w ↦ if m.0 == n then w.0 ∷ [] else old
+    elim e.event [
+      | Committed m w ↦ if m.0 == n then w.0 ∷ [] else old
       | Reopened m w ↦ if m.0 == n then w.0 ∷ [] else old
       | Committing m w ↦ if m.0 == n then w.0 ∷ old else old
       | Published g w ↦
           if is_at (primary_of past) n then more_by (late_commit n past) w.0 old else old
       | Switched m w ↦ if m.0 == n then more_by (late_commit n past) w.0 old else old
       | Promoted m g f w ↦ if m.0 == n then more_by (late_commit n past) w.0 old else old
-      | _ ↦ old ]
+      | _ ↦ old
+    ]
 
 -- the version was searched by a node at the start entry of a line, or later
 abbrev pub was_searched_since : At → ℕ → ℕ → Past → Bool

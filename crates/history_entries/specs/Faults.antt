@@ -42,16 +42,18 @@ is_of_disk kind = same_kind Disk kind || same_kind Stop kind
 abbrev pub is_planned : ℕ → FaultKind → Past → Bool
 is_planned n kind [] = false
 is_planned n kind (e ∷ past) = let b = is_planned n kind past in
-    elim e.event [ Planned m plan ↦ if (m.0 == n) && same_kind (kind_of plan) kind then true else b
+    elim e.event [
+      | Planned m plan ↦ if (m.0 == n) && same_kind (kind_of plan) kind then true else b
       | Crashed m ↦ if m.0 == n then false else b
       | Fault m met ↦ if (m.0 == n) && same_kind met kind then same_kind Stop kind && b else b
-      | _ ↦ b ]
+      | _ ↦ b
+    ]
 
 -- the line has met a fault of such a kind at such a node
 abbrev pub has_fault : (ℕ → Bool) → (FaultKind → Bool) → At → Past → Bool
 has_fault node kind at past =
     list_any (λ e. elim e.event [ Fault m met ↦ node m.0 && kind met | _ ↦ false ]
-      && same_at e.at at) past
+    && same_at e.at at) past
 
 -- the line has met a fault, of any kind, at any node
 abbrev pub has_met_fault : At → Past → Bool

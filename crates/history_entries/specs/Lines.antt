@@ -88,26 +88,32 @@ without_at at (Some a) = if same_at at a then None else Some a
 abbrev pub publish_in_flight : Past → Option At
 publish_in_flight [] = None
 publish_in_flight (e ∷ past) = let old = publish_in_flight past in
-    elim e.event [ Publishing ↦ Some e.at
+    elim e.event [
+      | Publishing ↦ Some e.at
       | Crashed m ↦ if is_at (primary_of past) m.0 then None else without_at e.at old
-      | event ↦ if is_reply event then without_at e.at old else old ]
+      | event ↦ if is_reply event then without_at e.at old else old
+    ]
 
 -- the line whose commit at a node is between its start and its reply, the node not crashed since
 abbrev pub commit_in_flight : ℕ → Past → Option At
 commit_in_flight n [] = None
 commit_in_flight n (e ∷ past) = let old = commit_in_flight n past in
-    elim e.event [ Committing m v ↦ if m.0 == n then Some e.at else old
+    elim e.event [
+      | Committing m v ↦ if m.0 == n then Some e.at else old
       | Crashed m ↦ if m.0 == n then None else without_at e.at old
-      | event ↦ if is_reply event then without_at e.at old else old ]
+      | event ↦ if is_reply event then without_at e.at old else old
+    ]
 
 -- the line whose copy of a version to a node is between its start and its reply,
 -- neither the node nor the primary crashed since
 abbrev pub copy_in_flight : ℕ → ℕ → Past → Option At
 copy_in_flight n v [] = None
 copy_in_flight n v (e ∷ past) = let old = copy_in_flight n v past in
-    elim e.event [ Copying m w ↦ if (m.0 == n) && (w.0 == v) then Some e.at else old
+    elim e.event [
+      | Copying m w ↦ if (m.0 == n) && (w.0 == v) then Some e.at else old
       | Crashed m ↦ if (m.0 == n) || is_at (primary_of past) m.0 then None else without_at e.at old
-      | event ↦ if is_reply event then without_at e.at old else old ]
+      | event ↦ if is_reply event then without_at e.at old else old
+    ]
 
 -- no line but this one is in flight
 abbrev pub is_free_for : At → Option At → Bool
@@ -125,7 +131,7 @@ abbrev pub highest_switched : At → Past → ℕ
 highest_switched at [] = 0
 highest_switched at (e ∷ past) = let k = highest_switched at past in
     if same_at e.at at then
-      (if is_start e.event then 0 else elim e.event [ Switched n v ↦ max k n.0 | _ ↦ k ]) else k
+    (if is_start e.event then 0 else elim e.event [ Switched n v ↦ max k n.0 | _ ↦ k ]) else k
 
 -- the line has switched a replica since its start entry
 abbrev pub has_switched : At → Past → Bool

@@ -38,8 +38,11 @@ primary_crashes (e ∷ past) = let k = primary_crashes past in
 abbrev pub is_running : ℕ → Past → Bool
 is_running n [] = true
 is_running n (e ∷ past) = let b = is_running n past in
-    elim e.event [ Crashed m ↦ if m.0 == n then false else b
-      | Reopened m v ↦ if m.0 == n then true else b | _ ↦ b ]
+    elim e.event [
+      | Crashed m ↦ if m.0 == n then false else b
+      | Reopened m v ↦ if m.0 == n then true else b
+      | _ ↦ b
+    ]
 
 -- how often a node has crashed
 abbrev pub crashes : ℕ → Past → ℕ
@@ -62,10 +65,13 @@ generation_of (e ∷ past) = elim e.event [ Promoted m g f w ↦ g.0 | _ ↦ gen
 abbrev pub version_of : ℕ → Past → ℕ
 version_of n [] = 1
 version_of n (e ∷ past) = let v = version_of n past in
-    elim e.event [ Published g w ↦ if is_at (primary_of past) n then w.0 else v
+    elim e.event [
+      | Published g w ↦ if is_at (primary_of past) n then w.0 else v
       | Switched m w ↦ if m.0 == n then w.0 else v
       | Promoted m g f w ↦ if m.0 == n then w.0 else v
-      | Reopened m w ↦ if m.0 == n then w.0 else v | _ ↦ v ]
+      | Reopened m w ↦ if m.0 == n then w.0 else v
+      | _ ↦ v
+    ]
 
 -- the greatest version that was published or promoted, or 1
 abbrev pub newest_version : Past → ℕ
@@ -77,15 +83,21 @@ newest_version (e ∷ past) = let v = newest_version past in
 abbrev pub is_made_in_generation : ℕ → Past → Bool
 is_made_in_generation v [] = false
 is_made_in_generation v (e ∷ past) = let b = is_made_in_generation v past in
-    elim e.event [ Published g w ↦ if w.0 == v then true else b
-      | Promoted m g f w ↦ w.0 == v | _ ↦ b ]
+    elim e.event [
+      | Published g w ↦ if w.0 == v then true else b
+      | Promoted m g f w ↦ w.0 == v
+      | _ ↦ b
+    ]
 
 -- there is a point of this version: the opening point, of version 1, or one that was published or promoted
 abbrev pub is_point : ℕ → Past → Bool
 is_point v [] = v == 1
 is_point v (e ∷ past) = let b = is_point v past in
-    elim e.event [ Published g w ↦ if w.0 == v then true else b
-      | Promoted m g f w ↦ if w.0 == v then true else b | _ ↦ b ]
+    elim e.event [
+      | Published g w ↦ if w.0 == v then true else b
+      | Promoted m g f w ↦ if w.0 == v then true else b
+      | _ ↦ b
+    ]
 
 -- how many operations were accepted
 abbrev pub accepted_count : Past → ℕ

@@ -19,8 +19,11 @@ abbrev mutual
   pub operations_written : Past → List Op
   operations_written [] = []
   operations_written (e ∷ past) = let ops = operations_written past in
-      elim e.event [ Accepted seq op ↦ ops ++ op ∷ []
-        | Promoted m g f w ↦ operations_at past (version_of m.0 past) | _ ↦ ops ]
+      elim e.event [
+        | Accepted seq op ↦ ops ++ op ∷ []
+        | Promoted m g f w ↦ operations_at past (version_of m.0 past)
+        | _ ↦ ops
+      ]
 
   -- the same at the start entry of a line
   pub operations_at_start : At → Past → List Op
@@ -31,9 +34,11 @@ abbrev mutual
   pub operations_at : Past → ℕ → List Op
   operations_at [] v = []
   operations_at (e ∷ past) v = let points = operations_at past in
-      elim e.event [ Published g w ↦ if w.0 == v then operations_at_start e.at past else points v
+      elim e.event [
+        | Published g w ↦ if w.0 == v then operations_at_start e.at past else points v
         | Promoted m g f w ↦ if w.0 == v then points (version_of m.0 past) else points v
-        | _ ↦ points v ]
+        | _ ↦ points v
+      ]
 
 -- the documents of the point of a version
 abbrev pub documents_at : Past → ℕ → List Doc
@@ -83,8 +88,12 @@ cut_has_put past = list_any is_put (cut_of past)
 abbrev pub names_drawn : Past → ℕ
 names_drawn [] = 0
 names_drawn (e ∷ past) = let k = names_drawn past in
-    elim e.event [ Publishing ↦ if cut_has_put past then k + 1 else k
-      | Merging seg ↦ k + 1 | Promoted m g f w ↦ 0 | _ ↦ k ]
+    elim e.event [
+      | Publishing ↦ if cut_has_put past then k + 1 else k
+      | Merging seg ↦ k + 1
+      | Promoted m g f w ↦ 0
+      | _ ↦ k
+    ]
 
 -- how many segment names a generation has drawn, or had when it was the present one
 abbrev pub names_drawn_in : ℕ → Past → ℕ
@@ -117,5 +126,5 @@ adds_none at past = nat_le (accepted_at_start at past) (published_in_generation 
 abbrev pub idle_publishes : Past → ℕ
 idle_publishes [] = 0
 idle_publishes (e ∷ past) = let k = idle_publishes past in
-    elim e.event [ Published g w ↦ if adds_none e.at past then k + 1 else k
-      | Promoted m g f w ↦ 0 | _ ↦ k ]
+    let idle = adds_none e.at past in
+    elim e.event [ Published g w ↦ if idle then k + 1 else k | Promoted m g f w ↦ 0 | _ ↦ k ]

@@ -257,13 +257,13 @@ is_copied_beside node v at [] = false
 is_copied_beside node v at (e ∷ past) =
     if is_start e.event && same_at e.at at then false
     else elim e.event [ Copying n w ↦ node n.0 && (w.0 == v) | _ ↦ false ] && not (same_at e.at at)
-      || is_copied_beside node v at past
+    || is_copied_beside node v at past
 
 -- another line started a settle, and had no reply before this line's start
 abbrev pub is_settled_beside : Past → At → Past → Bool
 is_settled_beside start at past =
     list_any (λ e. elim e.event [ Settling v ↦ true | _ ↦ false ]
-      && not (same_at e.at at) && not (is_answered e.at start)) past
+    && not (same_at e.at at) && not (is_answered e.at start)) past
 
 abbrev pub is_copy : Event → Bool
 is_copy (Copying n v) = true

@@ -119,7 +119,15 @@ pub fn is_reopenable(n: NodeNo, version: Version, entries: &[Entry]) -> bool
     let mut found = version.0 == 1;
     for (i, entry) in entries.iter().enumerate() {
         let late = late_line(stuck, line);
-        found = found_after(n, version, &entries[..i], entry, searched.primary, late, found);
+        found = found_after(
+            n,
+            version,
+            &entries[..i],
+            entry,
+            searched.primary,
+            late,
+            found,
+        );
         searched = searched.after(n, &entry.event);
         line = commit_after(n, entry, line);
         stuck = is_stuck_after(n, &entries[..i], entry, stuck);

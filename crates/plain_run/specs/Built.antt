@@ -8,7 +8,7 @@ use Rattle.script_text.specs.Grammar.{Statement, statements_of, words_in}
 abbrev pub built_beginnings : List (List (List ℕ))
 built_beginnings =
     map words_in (codes "nodes 2" ∷ codes "1 put" ∷ codes "1 drop" ∷ codes "1 publish"
-      ∷ codes "1 copy 2" ∷ codes "1 search" ∷ [])
+    ∷ codes "1 copy 2" ∷ codes "1 search" ∷ [])
 
 -- the program runs a statement of these words
 abbrev pub is_built : List (List ℕ) → Bool

@@ -69,8 +69,8 @@ refusal (Fault n plan) lane past = None
 abbrev pub put_publishes : Past → ℕ
 put_publishes [] = 0
 put_publishes (e ∷ past) = let k = put_publishes past in
-    elim e.event [ Published g w ↦ if cut_has_put (before_start e.at past) then k + 1 else k
-      | _ ↦ k ]
+    let has_put = cut_has_put (before_start e.at past) in
+    elim e.event [ Published g w ↦ if has_put then k + 1 else k | _ ↦ k ]
 
 -- there may be 256 segments: as many publishes made one, and, where no merge was started, each still has a document
 abbrev pub may_be_full : Past → Bool

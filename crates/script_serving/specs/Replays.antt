@@ -17,9 +17,12 @@ logged_operations (e ∷ past) = let ops = logged_operations past in
 abbrev pub replay_due : Past → List Op
 replay_due [] = []
 replay_due (e ∷ past) = let left = replay_due past in
-    elim e.event [ Promoted m g f v ↦
-        drop (length (operations_at (e ∷ past) v.0)) (logged_operations past)
-      | Accepted seq op ↦ drop 1 left | _ ↦ left ]
+    elim e.event [
+      | Promoted m g f v ↦
+          drop (length (operations_at (e ∷ past) v.0)) (logged_operations past)
+      | Accepted seq op ↦ drop 1 left
+      | _ ↦ left
+    ]
 
 -- the operations that are due to be accepted again, where there is a log
 abbrev pub due : Bool → Past → List Op
