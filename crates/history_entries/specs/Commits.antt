@@ -1,7 +1,6 @@
 -- The commits that the entries before a place show, and what a reopening may find of them.
-use Rattle.std.specs.Prelude.{ℕ, List, [], ◌∷◌, Bool, true, false, ◌&&◌, ◌||◌, ◌==◌, nat_lt, if◌then◌else◌, Option, Some, None}
+use Rattle.std.specs.Prelude.{ℕ, is_some, List, [], ◌∷◌, Bool, true, false, ◌&&◌, ◌||◌, ◌==◌, nat_lt, if◌then◌else◌, Option, Some, None}
 use Rattle.nrt_base.specs.declared.numbers.At.{At}
-use Rattle.nrt_base.specs.declared.numbers.NodeNo.{NodeNo}
 use Rattle.history_entries.specs.declared.entry.Event.{Event}
 use Rattle.history_entries.specs.declared.entry.Event.TheVariants.{Published, Switched, Committing, Committed, Reopened, Promoted, Refused}
 use Rattle.history_entries.specs.declared.cause.Cause.{Cause}
@@ -19,15 +18,15 @@ abbrev pub base_version : ℕ → Past → ℕ
 base_version n [] = 1
 base_version n (e ∷ past) = base_by n e.event (base_version n past)
 
-abbrev pub has_committed_by : ℕ → Event → Bool → Bool
-has_committed_by n (Committed m w) b = if m.0 == n then true else b
-has_committed_by n (Reopened m w) b = if m.0 == n then b || nat_lt 1 w.0 else b
-has_committed_by n e b = b
-
 -- a commit of the node was acknowledged, or found by a reopening
 abbrev pub has_committed : ℕ → Past → Bool
 has_committed n [] = false
-has_committed n (e ∷ past) = has_committed_by n e.event (has_committed n past)
+has_committed n (e ∷ past) = let b = has_committed n past in
+    elim e.event [
+      | Committed m w ↦ if m.0 == n then true else b
+      | Reopened m w ↦ if m.0 == n then b || nat_lt 1 w.0 else b
+      | _ ↦ b
+    ]
 
 -- the cause is a fault of a disk
 abbrev pub is_disk_fault : Cause → Bool
@@ -39,16 +38,16 @@ abbrev pub starts_commit : ℕ → Option Event → Bool
 starts_commit n (Some (Committing m w)) = m.0 == n
 starts_commit n e = false
 
-abbrev pub is_stuck_by : ℕ → Event → Option Event → Bool → Bool
-is_stuck_by n (Committed m w) start b = if m.0 == n then false else b
-is_stuck_by n (Reopened m w) start b = if m.0 == n then false else b
-is_stuck_by n (Refused cause) start b = (is_disk_fault cause && starts_commit n start) || b
-is_stuck_by n e start b = b
-
 -- a node is stuck where a disk fault refused a commit of it, and neither was one acknowledged since nor did it reopen
 abbrev pub is_stuck : ℕ → Past → Bool
 is_stuck n [] = false
-is_stuck n (e ∷ past) = is_stuck_by n e.event (start_entry e.at past) (is_stuck n past)
+is_stuck n (e ∷ past) = let b = is_stuck n past in
+    elim e.event [
+      | Committed m w ↦ if m.0 == n then false else b
+      | Reopened m w ↦ if m.0 == n then false else b
+      | Refused cause ↦ (is_disk_fault cause && starts_commit n (start_entry e.at past)) || b
+      | _ ↦ b
+    ]
 
 -- the line whose commit at a node may be begun later than the line: it is in flight, and the node is stuck
 abbrev pub late_commit : ℕ → Past → Option At
@@ -56,23 +55,23 @@ late_commit n past = if is_stuck n past then commit_in_flight n past else None
 
 -- one version more where such a commit is in flight
 abbrev pub more_by : Option At → ℕ → List ℕ → List ℕ
-more_by None v old = old
-more_by (Some at) v old = v ∷ old
+more_by flight v old = if is_some flight then v ∷ old else old
 
-abbrev pub reopenable_by : ℕ → Event → Option NodeNo → Option At → List ℕ → List ℕ
-reopenable_by n (Committed m w) p flight old = if m.0 == n then w.0 ∷ [] else old
-reopenable_by n (Reopened m w) p flight old = if m.0 == n then w.0 ∷ [] else old
-reopenable_by n (Committing m w) p flight old = if m.0 == n then w.0 ∷ old else old
-reopenable_by n (Published g w) p flight old = if is_at p n then more_by flight w.0 old else old
-reopenable_by n (Switched m w) p flight old = if m.0 == n then more_by flight w.0 old else old
-reopenable_by n (Promoted m g f w) p flight old = if m.0 == n then more_by flight w.0 old else old
-reopenable_by n e p flight old = old
-
--- the versions at which a node may reopen: its base version, that of each commit started since, and what it searched since while a late one was in flight
+-- the versions at which a node may reopen: its base version, that of each commit started since,
+-- and what it searched since while a late one was in flight
 abbrev pub reopenable_versions : ℕ → Past → List ℕ
 reopenable_versions n [] = 1 ∷ []
-reopenable_versions n (e ∷ past) =
-    reopenable_by n e.event (primary_of past) (late_commit n past) (reopenable_versions n past)
+reopenable_versions n (e ∷ past) = let old = reopenable_versions n past in
+    elim e.event [
+      | Committed m w ↦ if m.0 == n then w.0 ∷ [] else old
+      | Reopened m w ↦ if m.0 == n then w.0 ∷ [] else old
+      | Committing m w ↦ if m.0 == n then w.0 ∷ old else old
+      | Published g w ↦
+          if is_at (primary_of past) n then more_by (late_commit n past) w.0 old else old
+      | Switched m w ↦ if m.0 == n then more_by (late_commit n past) w.0 old else old
+      | Promoted m g f w ↦ if m.0 == n then more_by (late_commit n past) w.0 old else old
+      | _ ↦ old
+    ]
 
 -- the version was searched by a node at the start entry of a line, or later
 abbrev pub was_searched_since : At → ℕ → ℕ → Past → Bool

@@ -1,14 +1,23 @@
 -- The faults that the entries before a place show.
-use Rattle.std.specs.Prelude.{ℕ, [], ◌∷◌, Bool, true, false, ◌&&◌, ◌||◌, ◌==◌, if◌then◌else◌}
+use Rattle.std.specs.Prelude.{ℕ, List, [], ◌∷◌, map, codes, Bool, true, false, ◌&&◌, ◌||◌, ◌==◌, if◌then◌else◌}
+use Rattle.std.specs.List.{list_any}
+use Rattle.std.specs.Fmt.{decimal}
 use Rattle.nrt_base.specs.declared.numbers.At.{At}
 use Rattle.history_entries.specs.declared.cause.FaultKind.{FaultKind}
 use Rattle.history_entries.specs.declared.cause.FaultKind.TheVariants.{Link, Damage, Disk, Stop}
 use Rattle.history_entries.specs.declared.cause.FaultPlan.{FaultPlan}
 use Rattle.history_entries.specs.declared.cause.FaultPlan.TheVariants.{Link as LinkPlan, Damage as DamagePlan, Disk as DiskPlan, Stop as StopPlan}
-use Rattle.history_entries.specs.declared.entry.Event.{Event}
 use Rattle.history_entries.specs.declared.entry.Event.TheVariants.{Planned, Fault, Crashed}
 use Rattle.history_entries.specs.Nodes.{Past}
 use Rattle.history_entries.specs.Lines.{same_at}
+
+-- the words of a planned fault at a node: its kind, the node, which file or call,
+-- and for damage which byte
+abbrev pub plan_words : ℕ → FaultPlan → List (List ℕ)
+plan_words n (LinkPlan k) = codes "link" ∷ map decimal (n ∷ k ∷ [])
+plan_words n (DamagePlan k at) = codes "damage" ∷ map decimal (n ∷ k ∷ at ∷ [])
+plan_words n (DiskPlan k) = codes "disk" ∷ map decimal (n ∷ k ∷ [])
+plan_words n (StopPlan k) = codes "stop" ∷ map decimal (n ∷ k ∷ [])
 
 -- the kind of a planned fault
 abbrev pub kind_of : FaultPlan → FaultKind
@@ -28,30 +37,23 @@ same_kind a b = false
 abbrev pub is_of_disk : FaultKind → Bool
 is_of_disk kind = same_kind Disk kind || same_kind Stop kind
 
--- a plan of this kind lasts when it is met
-abbrev pub is_lasting : FaultKind → Bool
-is_lasting Stop = true
-is_lasting kind = false
-
-abbrev pub is_planned_by : ℕ → FaultKind → Event → Bool → Bool
-is_planned_by n kind (Planned m plan) b = if (m.0 == n) && same_kind (kind_of plan) kind then true else b
-is_planned_by n kind (Crashed m) b = if m.0 == n then false else b
-is_planned_by n kind (Fault m met) b = if (m.0 == n) && same_kind met kind then is_lasting kind && b else b
-is_planned_by n kind e b = b
-
--- a fault of this kind is planned at a node: neither has the node crashed since the plan, nor was it used up
+-- a fault of this kind is planned at a node: neither has the node crashed since the plan,
+-- nor was it used up, as each but a stop is when it is met
 abbrev pub is_planned : ℕ → FaultKind → Past → Bool
 is_planned n kind [] = false
-is_planned n kind (e ∷ past) = is_planned_by n kind e.event (is_planned n kind past)
-
-abbrev pub is_fault_by : (ℕ → Bool) → (FaultKind → Bool) → Event → Bool
-is_fault_by node kind (Fault m met) = node m.0 && kind met
-is_fault_by node kind e = false
+is_planned n kind (e ∷ past) = let b = is_planned n kind past in
+    elim e.event [
+      | Planned m plan ↦ if (m.0 == n) && same_kind (kind_of plan) kind then true else b
+      | Crashed m ↦ if m.0 == n then false else b
+      | Fault m met ↦ if (m.0 == n) && same_kind met kind then same_kind Stop kind && b else b
+      | _ ↦ b
+    ]
 
 -- the line has met a fault of such a kind at such a node
 abbrev pub has_fault : (ℕ → Bool) → (FaultKind → Bool) → At → Past → Bool
-has_fault node kind at [] = false
-has_fault node kind at (e ∷ past) = (is_fault_by node kind e.event && same_at e.at at) || has_fault node kind at past
+has_fault node kind at past =
+    list_any (λ e. elim e.event [ Fault m met ↦ node m.0 && kind met | _ ↦ false ]
+    && same_at e.at at) past
 
 -- the line has met a fault, of any kind, at any node
 abbrev pub has_met_fault : At → Past → Bool

@@ -1,5 +1,5 @@
 -- Which histories are legal.
-use Rattle.std.specs.Prelude.{ℕ, ◌≡◌, [], ◌∷◌, reverse, take, ⊤, Some, slice_get}
+use Rattle.std.specs.Prelude.{ℕ, ◌≡◌, [], ◌∷◌, false, reverse, take, ⊤, Some, slice_get}
 use Rattle.nrt_base.specs.declared.numbers.At.{At}
 use Rattle.history_entries.specs.declared.entry.Entry.{Entry}
 use Rattle.history_entries.specs.declared.entry.Event.{Event}
@@ -9,7 +9,8 @@ use Rattle.history_entries.specs.declared.point.Verdict.{Verdict}
 use Rattle.history_entries.specs.declared.point.Verdict.TheVariants.{Legal, Broken}
 use Rattle.history_entries.specs.Nodes.{Past}
 use Rattle.history_entries.specs.Lines.{start_entry}
-use Rattle.history_entries.specs.Rules.{MayAccept, MayStartPublish, MayPublish, MayStartCopy, MaySwitch, MayFinishCopy, MayStartSettle, MaySettle, MayOpen, MayAsk, MayAnswer, MayClose, MayStartCommit, MayCommit, MayCrash, MayReopen, MayPromote, MayStartMerge, MayDrain, MayListFiles, MayPlan, MayFault, MayRefuseLine}
+use Rattle.history_entries.specs.Faults.{has_met_fault}
+use Rattle.history_entries.specs.Rules.{MayAccept, MayStartPublish, MayPublish, MayStartCopy, MaySwitch, MayFinishCopy, MayStartSettle, MaySettle, MayOpen, MayAsk, MayAnswer, MayClose, MayStartCommit, MayCommit, MayCrash, MayReopen, MayPromote, MayStartMerge, MayDrain, MayListFiles, MayFault, MayRefuseLine}
 
 -- the rule of an entry of this line, over the entries before it
 abbrev pub KeepsRule : ℕ → Past → At → Event → Type 0
@@ -33,7 +34,7 @@ KeepsRule size past at (Promoted n g f v) = MayPromote size past n g f v
 KeepsRule size past at (Merging seg) = MayStartMerge past at seg
 KeepsRule size past at (Drained done most) = MayDrain size past at done
 KeepsRule size past at (Files n names) = MayListFiles size past at n names
-KeepsRule size past at (Planned n plan) = MayPlan past at
+KeepsRule size past at (Planned n plan) = has_met_fault at past ≡ false
 KeepsRule size past at (Fault n kind) = MayFault size past at n kind
 KeepsRule size past at (Refused cause) = MayRefuseLine size past at (start_entry at past) cause
 

@@ -1,7 +1,7 @@
 -- What the entries before a place show of one line of the script: how far it has come, and what happened since it began.
 use Rattle.std.specs.Prelude.{ℕ, ◌≡◌, [], ◌∷◌, Bool, true, false, ◌&&◌, ◌||◌, not, ◌==◌, nat_lt, max, if◌then◌else◌, Option, Some, None}
+use Rattle.std.specs.List.{list_any}
 use Rattle.nrt_base.specs.declared.numbers.At.{At}
-use Rattle.nrt_base.specs.declared.numbers.NodeNo.{NodeNo}
 use Rattle.history_entries.specs.declared.entry.Event.{Event}
 use Rattle.history_entries.specs.declared.entry.Event.TheVariants.{Accepted, Publishing, Published, Copying, Switched, Copied, Settling, Settled, Opened, Asking, Answered, Closed, Committing, Committed, Crashed, Reopened, Promoted, Merging, Drained, Files, Planned, Fault, Refused}
 use Rattle.history_entries.specs.Nodes.{Past, primary_of, is_at, crashes, primary_crashes}
@@ -51,19 +51,15 @@ abbrev pub entries_of_line : At → Past → Past
 entries_of_line at [] = []
 entries_of_line at (e ∷ past) = if same_at e.at at then e ∷ entries_of_line at past else entries_of_line at past
 
-abbrev pub last_by : Event → Option Event → Option Event
-last_by (Fault n kind) last = last
-last_by e last = Some e
-
 -- the newest entry of a line that is no fault: how far the line has come
 abbrev pub last_of_line : At → Past → Option Event
 last_of_line at [] = None
-last_of_line at (e ∷ past) = if same_at e.at at then last_by e.event (last_of_line at past) else last_of_line at past
+last_of_line at (e ∷ past) = let last = last_of_line at past in
+    if same_at e.at at then elim e.event [ Fault n kind ↦ last | event ↦ Some event ] else last
 
 -- the line has its reply
 abbrev pub is_answered : At → Past → Bool
-is_answered at [] = false
-is_answered at (e ∷ past) = (is_reply e.event && same_at e.at at) || is_answered at past
+is_answered at past = list_any (λ e. is_reply e.event && same_at e.at at) past
 
 -- the start entry of a line, the last where there are several
 abbrev pub start_entry : At → Past → Option Event
@@ -88,59 +84,54 @@ abbrev pub without_at : At → Option At → Option At
 without_at at None = None
 without_at at (Some a) = if same_at at a then None else Some a
 
-abbrev pub publish_by : At → Event → Option NodeNo → Option At → Option At
-publish_by at Publishing p old = Some at
-publish_by at (Crashed m) p old = if is_at p m.0 then None else without_at at old
-publish_by at e p old = if is_reply e then without_at at old else old
-
 -- the line whose publish is between its start and its reply, its primary not crashed since
 abbrev pub publish_in_flight : Past → Option At
 publish_in_flight [] = None
-publish_in_flight (e ∷ past) = publish_by e.at e.event (primary_of past) (publish_in_flight past)
-
-abbrev pub commit_by : ℕ → At → Event → Option At → Option At
-commit_by n at (Committing m v) old = if m.0 == n then Some at else old
-commit_by n at (Crashed m) old = if m.0 == n then None else without_at at old
-commit_by n at e old = if is_reply e then without_at at old else old
+publish_in_flight (e ∷ past) = let old = publish_in_flight past in
+    elim e.event [
+      | Publishing ↦ Some e.at
+      | Crashed m ↦ if is_at (primary_of past) m.0 then None else without_at e.at old
+      | event ↦ if is_reply event then without_at e.at old else old
+    ]
 
 -- the line whose commit at a node is between its start and its reply, the node not crashed since
 abbrev pub commit_in_flight : ℕ → Past → Option At
 commit_in_flight n [] = None
-commit_in_flight n (e ∷ past) = commit_by n e.at e.event (commit_in_flight n past)
+commit_in_flight n (e ∷ past) = let old = commit_in_flight n past in
+    elim e.event [
+      | Committing m v ↦ if m.0 == n then Some e.at else old
+      | Crashed m ↦ if m.0 == n then None else without_at e.at old
+      | event ↦ if is_reply event then without_at e.at old else old
+    ]
 
-abbrev pub copy_by : ℕ → ℕ → At → Event → Option NodeNo → Option At → Option At
-copy_by n v at (Copying m w) p old = if (m.0 == n) && (w.0 == v) then Some at else old
-copy_by n v at (Crashed m) p old = if (m.0 == n) || is_at p m.0 then None else without_at at old
-copy_by n v at e p old = if is_reply e then without_at at old else old
-
--- the line whose copy of a version to a node is between its start and its reply, neither the node nor the primary crashed since
+-- the line whose copy of a version to a node is between its start and its reply,
+-- neither the node nor the primary crashed since
 abbrev pub copy_in_flight : ℕ → ℕ → Past → Option At
 copy_in_flight n v [] = None
-copy_in_flight n v (e ∷ past) = copy_by n v e.at e.event (primary_of past) (copy_in_flight n v past)
+copy_in_flight n v (e ∷ past) = let old = copy_in_flight n v past in
+    elim e.event [
+      | Copying m w ↦ if (m.0 == n) && (w.0 == v) then Some e.at else old
+      | Crashed m ↦ if (m.0 == n) || is_at (primary_of past) m.0 then None else without_at e.at old
+      | event ↦ if is_reply event then without_at e.at old else old
+    ]
 
 -- no line but this one is in flight
 abbrev pub is_free_for : At → Option At → Bool
 is_free_for at None = true
 is_free_for at (Some a) = same_at at a
 
-abbrev pub highest_copy_by : ℕ → Event → ℕ → ℕ
-highest_copy_by n (Copying m w) v = if m.0 == n then max v w.0 else v
-highest_copy_by n e v = v
-
 -- the greatest version of a copy to a node that was started, or 1
 abbrev pub highest_copy : ℕ → Past → ℕ
 highest_copy n [] = 1
-highest_copy n (e ∷ past) = highest_copy_by n e.event (highest_copy n past)
-
-abbrev pub switched_node_by : Event → ℕ → ℕ
-switched_node_by (Switched n v) k = max k n.0
-switched_node_by e k = k
+highest_copy n (e ∷ past) = let v = highest_copy n past in
+    elim e.event [ Copying m w ↦ if m.0 == n then max v w.0 else v | _ ↦ v ]
 
 -- the greatest node that the line has switched since its start entry, or 0
 abbrev pub highest_switched : At → Past → ℕ
 highest_switched at [] = 0
-highest_switched at (e ∷ past) =
-    if same_at e.at at then (if is_start e.event then 0 else switched_node_by e.event (highest_switched at past)) else highest_switched at past
+highest_switched at (e ∷ past) = let k = highest_switched at past in
+    if same_at e.at at then
+    (if is_start e.event then 0 else elim e.event [ Switched n v ↦ max k n.0 | _ ↦ k ]) else k
 
 -- the line has switched a replica since its start entry
 abbrev pub has_switched : At → Past → Bool

@@ -28,95 +28,79 @@ abbrev pub primary_of : Past → Option NodeNo
 primary_of [] = Some (record { 0 = 1 })
 primary_of (e ∷ past) = primary_by e.event (primary_of past)
 
-abbrev pub primary_crashes_by : Event → Option NodeNo → ℕ → ℕ
-primary_crashes_by (Crashed m) p k = if is_at p m.0 then k + 1 else k
-primary_crashes_by e p k = k
-
 -- how often a running primary has crashed
 abbrev pub primary_crashes : Past → ℕ
 primary_crashes [] = 0
-primary_crashes (e ∷ past) = primary_crashes_by e.event (primary_of past) (primary_crashes past)
-
-abbrev pub is_running_by : ℕ → Event → Bool → Bool
-is_running_by n (Crashed m) b = if m.0 == n then false else b
-is_running_by n (Reopened m v) b = if m.0 == n then true else b
-is_running_by n e b = b
+primary_crashes (e ∷ past) = let k = primary_crashes past in
+    elim e.event [ Crashed m ↦ if is_at (primary_of past) m.0 then k + 1 else k | _ ↦ k ]
 
 -- a node runs unless the last of its crashes and reopenings is a crash
 abbrev pub is_running : ℕ → Past → Bool
 is_running n [] = true
-is_running n (e ∷ past) = is_running_by n e.event (is_running n past)
-
-abbrev pub crashes_by : ℕ → Event → ℕ → ℕ
-crashes_by n (Crashed m) k = if m.0 == n then k + 1 else k
-crashes_by n e k = k
+is_running n (e ∷ past) = let b = is_running n past in
+    elim e.event [
+      | Crashed m ↦ if m.0 == n then false else b
+      | Reopened m v ↦ if m.0 == n then true else b
+      | _ ↦ b
+    ]
 
 -- how often a node has crashed
 abbrev pub crashes : ℕ → Past → ℕ
 crashes n [] = 0
-crashes n (e ∷ past) = crashes_by n e.event (crashes n past)
+crashes n (e ∷ past) = let k = crashes n past in
+    elim e.event [ Crashed m ↦ if m.0 == n then k + 1 else k | _ ↦ k ]
 
 -- the node runs, and is not the primary
 pub record IsReplica (past : Past) (n : ℕ) : Type 0 where
   pub running : is_running n past ≡ true
   pub other : is_at (primary_of past) n ≡ false
 
-abbrev pub generation_by : Event → ℕ → ℕ
-generation_by (Promoted m g f w) k = g.0
-generation_by e k = k
-
 -- the generation: that of the last promotion, or 1
 abbrev pub generation_of : Past → ℕ
 generation_of [] = 1
-generation_of (e ∷ past) = generation_by e.event (generation_of past)
+generation_of (e ∷ past) = elim e.event [ Promoted m g f w ↦ g.0 | _ ↦ generation_of past ]
 
-abbrev pub version_by : ℕ → Option NodeNo → Event → ℕ → ℕ
-version_by n p (Published g w) v = if is_at p n then w.0 else v
-version_by n p (Switched m w) v = if m.0 == n then w.0 else v
-version_by n p (Promoted m g f w) v = if m.0 == n then w.0 else v
-version_by n p (Reopened m w) v = if m.0 == n then w.0 else v
-version_by n p e v = v
-
--- the version that a node searches: that of the last point that it published, switched to, was promoted to or reopened at, or 1
+-- the version that a node searches: that of the last point that it published, switched to,
+-- was promoted to or reopened at, or 1
 abbrev pub version_of : ℕ → Past → ℕ
 version_of n [] = 1
-version_of n (e ∷ past) = version_by n (primary_of past) e.event (version_of n past)
-
-abbrev pub newest_by : Event → ℕ → ℕ
-newest_by (Published g w) v = max v w.0
-newest_by (Promoted m g f w) v = max v w.0
-newest_by e v = v
+version_of n (e ∷ past) = let v = version_of n past in
+    elim e.event [
+      | Published g w ↦ if is_at (primary_of past) n then w.0 else v
+      | Switched m w ↦ if m.0 == n then w.0 else v
+      | Promoted m g f w ↦ if m.0 == n then w.0 else v
+      | Reopened m w ↦ if m.0 == n then w.0 else v
+      | _ ↦ v
+    ]
 
 -- the greatest version that was published or promoted, or 1
 abbrev pub newest_version : Past → ℕ
 newest_version [] = 1
-newest_version (e ∷ past) = newest_by e.event (newest_version past)
-
-abbrev pub is_made_by : ℕ → Event → Bool → Bool
-is_made_by v (Published g w) b = if w.0 == v then true else b
-is_made_by v (Promoted m g f w) b = w.0 == v
-is_made_by v e b = b
+newest_version (e ∷ past) = let v = newest_version past in
+    elim e.event [ Published g w ↦ max v w.0 | Promoted m g f w ↦ max v w.0 | _ ↦ v ]
 
 -- the version was published or promoted in the present generation
 abbrev pub is_made_in_generation : ℕ → Past → Bool
 is_made_in_generation v [] = false
-is_made_in_generation v (e ∷ past) = is_made_by v e.event (is_made_in_generation v past)
-
-abbrev pub is_point_by : ℕ → Event → Bool → Bool
-is_point_by v (Published g w) b = if w.0 == v then true else b
-is_point_by v (Promoted m g f w) b = if w.0 == v then true else b
-is_point_by v e b = b
+is_made_in_generation v (e ∷ past) = let b = is_made_in_generation v past in
+    elim e.event [
+      | Published g w ↦ if w.0 == v then true else b
+      | Promoted m g f w ↦ w.0 == v
+      | _ ↦ b
+    ]
 
 -- there is a point of this version: the opening point, of version 1, or one that was published or promoted
 abbrev pub is_point : ℕ → Past → Bool
 is_point v [] = v == 1
-is_point v (e ∷ past) = is_point_by v e.event (is_point v past)
-
-abbrev pub accepted_by : Event → ℕ → ℕ
-accepted_by (Accepted seq op) n = n + 1
-accepted_by e n = n
+is_point v (e ∷ past) = let b = is_point v past in
+    elim e.event [
+      | Published g w ↦ if w.0 == v then true else b
+      | Promoted m g f w ↦ if w.0 == v then true else b
+      | _ ↦ b
+    ]
 
 -- how many operations were accepted
 abbrev pub accepted_count : Past → ℕ
 accepted_count [] = 0
-accepted_count (e ∷ past) = accepted_by e.event (accepted_count past)
+accepted_count (e ∷ past) = let k = accepted_count past in
+    elim e.event [ Accepted seq op ↦ k + 1 | _ ↦ k ]

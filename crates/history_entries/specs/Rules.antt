@@ -1,5 +1,5 @@
 -- The rule of each kind of entry: what the entries before it must show. The nodes are 1 to `size`.
-use Rattle.std.specs.Prelude.{ℕ, ◌≡◌, ◌+◌, ◌*◌, ◌≤◌, ◌<◌, ◌^◌, ◌≢◌, ◌⊎◌, List, [], ◌∷◌, Bool, true, false, ◌&&◌, ◌||◌, not, ◌==◌, nat_lt, nat_le, length, if◌then◌else◌, ⊤, Option, Some, None}
+use Rattle.std.specs.Prelude.{ℕ, IsSomeAnd, ◌≡◌, ◌+◌, ◌*◌, ◌≤◌, ◌<◌, ◌^◌, ◌≢◌, ◌⊎◌, List, [], ◌∷◌, Bool, true, false, ◌&&◌, ◌||◌, not, ◌==◌, nat_lt, nat_le, length, if◌then◌else◌, Option, Some, None}
 use Rattle.std.specs.List.{All, list_any}
 use Rattle.nrt_base.specs.declared.numbers.At.{At}
 use Rattle.nrt_base.specs.declared.numbers.Gen.{Gen}
@@ -14,15 +14,15 @@ use Rattle.documents.specs.declared.answer.Answer.{Answer}
 use Rattle.history_entries.specs.declared.cause.Cause.{Cause}
 use Rattle.history_entries.specs.declared.cause.Cause.TheVariants.{Lost, Cancelled, LinkFault, Damaged, DiskFault}
 use Rattle.history_entries.specs.declared.cause.FaultKind.{FaultKind}
-use Rattle.history_entries.specs.declared.cause.FaultKind.TheVariants.{Link, Damage, Disk, Stop}
+use Rattle.history_entries.specs.declared.cause.FaultKind.TheVariants.{Link, Damage}
 use Rattle.history_entries.specs.declared.entry.Event.{Event}
 use Rattle.history_entries.specs.declared.entry.Event.TheVariants.{Publishing, Published, Copying, Settling, Opened, Asking, Committing, Merging}
 use Rattle.documents.specs.Ranking.{scan_of}
 use Rattle.history_entries.specs.Nodes.{Past, IsNode, IsReplica, is_at, primary_of, primary_crashes, is_running, crashes, generation_of, version_of, newest_version, is_made_in_generation, is_point, accepted_count}
 use Rattle.history_entries.specs.Lines.{same_at, is_start, start_entry, before_start, last_of_line, is_answered, NodeSurvives, SourceSurvives, publish_in_flight, commit_in_flight, copy_in_flight, is_free_for, highest_copy, has_switched, highest_switched}
 use Rattle.history_entries.specs.Points.{documents_at, names_drawn, IsDrawnFile, IsDrawnTemporary, merges_started, cut_of, idle_publishes}
-use Rattle.history_entries.specs.Tickets.{open_ticket, has_ticket, IsTicketAt, IsTicketOf}
-use Rattle.history_entries.specs.Commits.{has_committed, is_disk_fault, is_stuck, reopenable_versions, was_searched_since}
+use Rattle.history_entries.specs.Tickets.{open_ticket, has_ticket, IsTicketOf}
+use Rattle.history_entries.specs.Commits.{has_committed, is_disk_fault, starts_commit, is_stuck, reopenable_versions, was_searched_since}
 use Rattle.history_entries.specs.Tasks.{merge_count, drained_count}
 use Rattle.history_entries.specs.Faults.{is_planned, has_fault, has_met_fault, same_kind, is_of_disk}
 
@@ -122,7 +122,7 @@ pub record MayAnswer (size : ℕ) (past : Past) (at : At) (n : NodeNo) (t : Tick
 -- a ticket of the lane is closed
 pub record MayClose (size : ℕ) (past : Past) (at : At) (n : NodeNo) (t : TicketNo) : Type 0 where
   pub node : IsNode size n.0
-  pub held : IsTicketAt n.0 (open_ticket at.lane.0 t.0 past)
+  pub held : IsSomeAnd (open_ticket at.lane.0 t.0 past) (λ ticket. ticket.node ≡ n.0)
 
 -- a commit of the version that the running node searches starts, and no other line's commit there is in flight
 pub record MayStartCommit (size : ℕ) (past : Past) (at : At) (n : NodeNo) (v : Version) : Type 0 where
@@ -131,15 +131,10 @@ pub record MayStartCommit (size : ℕ) (past : Past) (at : At) (n : NodeNo) (v :
   pub searched : v.0 ≡ version_of n.0 past
   pub alone : is_free_for at (commit_in_flight n.0 past) ≡ true
 
--- the line started as a commit at this node
-abbrev pub StartedCommit : ℕ → Option Event → Type 0
-StartedCommit n (Some (Committing m w)) = m.0 ≡ n
-StartedCommit n e = ⊥
-
 -- a commit is acknowledged for the version of its start; where the node is stuck, for one that it searched then or later
 pub record MayCommit (size : ℕ) (past : Past) (at : At) (n : NodeNo) (v : Version) : Type 0 where
   pub node : IsNode size n.0
-  pub started : StartedCommit n.0 (start_entry at past)
+  pub started : starts_commit n.0 (start_entry at past) ≡ true
   pub survives : NodeSurvives past at n.0
   pub searched : was_searched_since at n.0 v.0 past ≡ true
   pub exact : is_stuck n.0 past ≡ false → start_entry at past ≡ Some (Committing n v)
@@ -197,10 +192,6 @@ pub record MayListFiles (size : ℕ) (past : Past) (at : At) (n : NodeNo) (names
   pub held : (lane t v : ℕ) → IsTicketOf n.0 v (open_ticket lane t past) → has_documents past v ≡ true → list_any is_documents_name names ≡ true
   pub spared : has_met_fault at past ≡ false
 
--- a fault is planned by a line that met none
-pub record MayPlan (past : Past) (at : At) : Type 0 where
-  pub spared : has_met_fault at past ≡ false
-
 -- a node of a line that started with this event after this past: the replica of a copy, each replica of a settle, the primary of a publish
 abbrev pub is_node_of : ℕ → Past → Event → ℕ → Bool
 is_node_of size start Publishing n = is_at (primary_of start) n
@@ -251,39 +242,28 @@ is_lost past start (Asking n t v) = not (crashes n.0 past == crashes n.0 start)
 is_lost past start (Committing n v) = not (crashes n.0 past == crashes n.0 start)
 is_lost past start e = false
 
--- the version in a start entry
-abbrev pub version_in : Event → Option ℕ
-version_in (Copying n v) = Some v.0
-version_in (Settling v) = Some v.0
-version_in (Opened n t v) = Some v.0
-version_in (Asking n t v) = Some v.0
-version_in (Committing n v) = Some v.0
-version_in e = None
-
-abbrev pub is_above : ℕ → Option ℕ → Bool
-is_above v None = false
-is_above v (Some w) = nat_lt w v
-
-abbrev pub copies_by : (ℕ → Bool) → ℕ → Event → Bool
-copies_by node v (Copying n w) = node n.0 && (w.0 == v)
-copies_by node v e = false
+-- the version is above the one in a start entry
+abbrev pub is_above : ℕ → Event → Bool
+is_above v (Copying n w) = nat_lt w.0 v
+is_above v (Settling w) = nat_lt w.0 v
+is_above v (Opened n t w) = nat_lt w.0 v
+is_above v (Asking n t w) = nat_lt w.0 v
+is_above v (Committing n w) = nat_lt w.0 v
+is_above v e = false
 
 -- since the start entry of a line another line started a copy at this version to such a node
 abbrev pub is_copied_beside : (ℕ → Bool) → ℕ → At → Past → Bool
 is_copied_beside node v at [] = false
 is_copied_beside node v at (e ∷ past) =
     if is_start e.event && same_at e.at at then false
-    else (copies_by node v e.event && not (same_at e.at at)) || is_copied_beside node v at past
-
-abbrev pub settles_by : Event → Bool
-settles_by (Settling v) = true
-settles_by e = false
+    else elim e.event [ Copying n w ↦ node n.0 && (w.0 == v) | _ ↦ false ] && not (same_at e.at at)
+    || is_copied_beside node v at past
 
 -- another line started a settle, and had no reply before this line's start
 abbrev pub is_settled_beside : Past → At → Past → Bool
-is_settled_beside start at [] = false
-is_settled_beside start at (e ∷ past) =
-    (settles_by e.event && not (same_at e.at at) && not (is_answered e.at start)) || is_settled_beside start at past
+is_settled_beside start at past =
+    list_any (λ e. elim e.event [ Settling v ↦ true | _ ↦ false ]
+    && not (same_at e.at at) && not (is_answered e.at start)) past
 
 abbrev pub is_copy : Event → Bool
 is_copy (Copying n v) = true
@@ -292,23 +272,21 @@ is_copy e = false
 -- a job for this later point, at a node of the line, may have been started by another line
 pub record MayCancel (size : ℕ) (past : Past) (at : At) (start : Past) (begun : Event) (v : Version) : Type 0 where
   pub point : is_point v.0 past ≡ true
-  pub above : is_above v.0 (version_in begun) ≡ true
+  pub above : is_above v.0 begun ≡ true
   pub beside : (is_copied_beside (is_node_of size start begun) v.0 at past || is_settled_beside start at past) ≡ true
-
--- the line has met damage at a node of its own, and this is the name of a file of a segment that was drawn
-pub record MayBeDamaged (size : ℕ) (past : Past) (at : At) (start : Past) (begun : Event) (name : List ℕ) : Type 0 where
-  pub met : has_fault (is_node_of size start begun) (same_kind Damage) at past ≡ true
-  pub file : IsDrawnFile past name
 
 -- the line has met a fault of a disk at a node of its own, or at its source
 abbrev pub has_disk_fault : ℕ → Past → Event → At → Past → Bool
 has_disk_fault size start begun at past = has_fault (λ n. is_node_of size start begun n || is_source_of start begun n) is_of_disk at past
 
--- why a line that has started, and whose nodes run on, may be refused
+-- why a line that has started, and whose nodes run on, may be refused; a damaged file is of a segment
+-- whose name was drawn
 abbrev pub MayBreakOff : ℕ → Past → At → Past → Event → Cause → Type 0
 MayBreakOff size past at start begun (Cancelled v) = MayCancel size past at start begun v
 MayBreakOff size past at start begun LinkFault = has_fault (is_node_of size start begun) (same_kind Link) at past ≡ true
-MayBreakOff size past at start begun (Damaged name) = MayBeDamaged size past at start begun name
+MayBreakOff size past at start begun (Damaged name) =
+    (has_fault (is_node_of size start begun) (same_kind Damage) at past ≡ true)
+    × IsDrawnFile past name
 MayBreakOff size past at start begun DiskFault = has_disk_fault size start begun at past ≡ true
 MayBreakOff size past at start begun cause = ⊥
 
@@ -323,11 +301,8 @@ pub record MayRefuse (size : ℕ) (past : Past) (at : At) (start : Past) (begun 
   pub met : is_loss cause ≡ false → MayBreakOff size past at start begun cause
   pub unswitched : (is_copy begun && has_switched at past) ≡ false
 
--- a line that has not started is refused for a fault of a disk exactly where it has met a fault
-pub record MayRefuseAtOnce (past : Past) (at : At) (cause : Cause) : Type 0 where
-  pub met : is_disk_fault cause ≡ has_met_fault at past
-
--- a line is refused as its start entry has it, or before it has one
+-- a line is refused as its start entry has it; before it has one, for a fault of a disk exactly where
+-- it has met a fault
 abbrev pub MayRefuseLine : ℕ → Past → At → Option Event → Cause → Type 0
-MayRefuseLine size past at None cause = MayRefuseAtOnce past at cause
+MayRefuseLine size past at None cause = is_disk_fault cause ≡ has_met_fault at past
 MayRefuseLine size past at (Some begun) cause = MayRefuse size past at (before_start at past) begun cause

@@ -1,5 +1,5 @@
 -- The tickets that the entries before a place show.
-use Rattle.std.specs.Prelude.{ℕ, is_some, ◌≡◌, [], ◌∷◌, Bool, true, false, ◌&&◌, ◌==◌, if◌then◌else◌, Option, Some, None}
+use Rattle.std.specs.Prelude.{ℕ, is_some, ◌≡◌, [], ◌∷◌, Bool, ◌&&◌, ◌==◌, if◌then◌else◌, Option, Some, None}
 use Rattle.nrt_base.specs.declared.numbers.At.{At}
 use Rattle.history_entries.specs.declared.entry.Event.{Event}
 use Rattle.history_entries.specs.declared.entry.Event.TheVariants.{Opened, Closed}
@@ -36,11 +36,6 @@ open_ticket lane t past = if t == 0 then None else while_alive past (last_opened
 -- the lane has this ticket
 abbrev pub has_ticket : ℕ → ℕ → Past → Bool
 has_ticket lane t past = is_some (open_ticket lane t past)
-
--- it is a ticket at this node
-abbrev pub IsTicketAt : ℕ → Option Ticket → Type 0
-IsTicketAt n None = ⊥
-IsTicketAt n (Some ticket) = ticket.node ≡ n
 
 -- it is a ticket at this node, at this version
 abbrev pub IsTicketOf : ℕ → ℕ → Option Ticket → Type 0

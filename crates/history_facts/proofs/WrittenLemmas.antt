@@ -8,7 +8,8 @@ use Rattle.history_entries.specs.declared.entry.Event.{Event}
 use Rattle.history_entries.specs.declared.entry.Event.TheVariants.{Accepted, Promoted}
 use Rattle.history_entries.specs.Nodes.{Past}
 use Rattle.history_entries.specs.Lines.{same_at, is_start, before_start}
-use Rattle.history_entries.specs.Points.{written_by, accepted_ops_by, operations_written, operations_at_start, operations_at, operations_of_generation}
+use Rattle.history_entries.specs.Points.{operations_written, operations_at_start, operations_at, operations_of_generation}
+use Rattle.history_laws.specs.Steps.{written_by, accepted_ops_by}
 use Rattle.history_facts.specs.Origins.{operations_base_by, operations_before_generation}
 use Rattle.history_laws.proofs.PointLemmas.{length-documents_at-le}
 

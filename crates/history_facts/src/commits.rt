@@ -1,8 +1,9 @@
 ghost use Rattle.std.specs.Prelude.{◌≡◌, ◌==◌, ◌∷◌, ℕ, List, None, if◌then◌else◌, reverse};
 ghost use Rattle.std.specs.Option.{option_copied};
 ghost use Rattle.std.specs.List.{list_any};
-ghost use Rattle.history_entries.specs.Lines.{commit_by};
-ghost use Rattle.history_entries.specs.Commits.{has_committed, is_disk_fault, starts_commit, is_stuck_by, is_stuck, reopenable_by, reopenable_versions, was_searched_since};
+ghost use Rattle.history_entries.specs.Nodes.{primary_of};
+ghost use Rattle.history_entries.specs.Commits.{has_committed, is_disk_fault, starts_commit, is_stuck, late_commit, reopenable_versions, was_searched_since};
+ghost use Rattle.history_laws.specs.Steps.{commit_by, is_stuck_by};
 
 use crate::lines::{commit_after, is_start, same_at, start_entry};
 use crate::nodes::{Searched, is_at};
@@ -70,25 +71,30 @@ pub fn is_stuck(n: NodeNo, entries: &[Entry]) -> bool
 }
 
 /// The line whose commit is in flight at a node, where the node is stuck.
-fn late_commit(stuck: bool, line: Option<At>) -> Option<At>
+fn late_line(stuck: bool, line: Option<At>) -> Option<At>
     ensures { result ≡ (if stuck then line else None) }
 {
     if stuck { line } else { None }
 }
 
-/// Whether a node may reopen at a version after one more event, `found` saying whether it might before, and `line` being its late commit in flight.
+/// Whether a node may reopen at a version after one more entry than these, `found` saying whether it might before, and `line` being its late commit in flight.
 fn found_after(
     n: NodeNo,
     version: Version,
-    event: &Event,
+    entries: &[Entry],
+    entry: &Entry,
     primary: Option<NodeNo>,
     line: Option<At>,
     found: bool,
 ) -> bool
-    ensures { (old : List ℕ) → found ≡ list_any (λ w. w == version.0) old →
-        result ≡ list_any (λ w. w == version.0) (reopenable_by n.0 event.now primary line old) }
+    requires primary { primary ≡ primary_of (reverse entries.now) }
+    requires line { line ≡ late_commit n.0 (reverse entries.now) }
+    requires found { found ≡ list_any (λ w. w == version.0)
+        (reopenable_versions n.0 (reverse entries.now)) }
+    ensures { result ≡ list_any (λ w. w == version.0)
+        (reopenable_versions n.0 (entry.now ∷ reverse entries.now)) }
 {
-    match event {
+    match &entry.event {
         Event::Committed { n: m, v } | Event::Reopened { n: m, v } if m.0 == n.0 => {
             v.0 == version.0
         }
@@ -112,8 +118,16 @@ pub fn is_reopenable(n: NodeNo, version: Version, entries: &[Entry]) -> bool
     let mut stuck = false;
     let mut found = version.0 == 1;
     for (i, entry) in entries.iter().enumerate() {
-        let late = late_commit(stuck, line);
-        found = found_after(n, version, &entry.event, searched.primary, late, found);
+        let late = late_line(stuck, line);
+        found = found_after(
+            n,
+            version,
+            &entries[..i],
+            entry,
+            searched.primary,
+            late,
+            found,
+        );
         searched = searched.after(n, &entry.event);
         line = commit_after(n, entry, line);
         stuck = is_stuck_after(n, &entries[..i], entry, stuck);

@@ -1,5 +1,5 @@
 ghost use Rattle.std.specs.Prelude.{◌≡◌, reverse};
-ghost use Rattle.history_entries.specs.Faults.{kind_of, same_kind, is_of_disk, is_lasting, is_planned, has_met_fault};
+ghost use Rattle.history_entries.specs.Faults.{kind_of, same_kind, is_of_disk, is_planned, has_met_fault};
 
 use crate::lines::same_at;
 use history_entries::{Entry, Event, FaultKind, FaultPlan};
@@ -35,15 +35,6 @@ pub fn is_of_disk(kind: FaultKind) -> bool
     same_kind(FaultKind::Disk, kind) || same_kind(FaultKind::Stop, kind)
 }
 
-fn is_lasting(kind: FaultKind) -> bool
-    ensures { result ≡ is_lasting kind }
-{
-    match kind {
-        FaultKind::Stop => true,
-        _ => false,
-    }
-}
-
 /// Whether a fault of this kind is planned at a node.
 pub fn is_planned(n: NodeNo, kind: FaultKind, entries: &[Entry]) -> bool
     ensures { result ≡ is_planned n.0 kind (reverse entries.now) }
@@ -63,7 +54,7 @@ pub fn is_planned(n: NodeNo, kind: FaultKind, entries: &[Entry]) -> bool
             }
             Event::Fault { n: m, kind: met } => {
                 if m.0 == n.0 && same_kind(*met, kind) {
-                    planned = is_lasting(kind) && planned;
+                    planned = same_kind(FaultKind::Stop, kind) && planned;
                 }
             }
             _ => {}

@@ -1,7 +1,7 @@
 ghost use Rattle.std.specs.Prelude.{◌≡◌, ◌≤◌, ◌<◌, ◌+◌, ◌^◌, ◌↔◌, ◌⊎◌, ◌∷◌, [], IsTrue, if◌then◌else◌, reverse, length};
 ghost use Rattle.nrt_base.specs.SegNumbers.{segment_number};
 ghost use Rattle.nrt_base.specs.declared.numbers.Version.{Version};
-ghost use Rattle.history_entries.specs.Points.{accepted_in_generation, is_put, cut_of, idle_publishes, merges_started};
+ghost use Rattle.history_entries.specs.Points.{operations_of_generation, is_put, cut_of, idle_publishes, merges_started};
 ghost use Rattle.history_facts.specs.Generations.{ShowsGeneration};
 
 use crate::lines::before_start;
@@ -29,7 +29,7 @@ pub struct Generation {
 
 /// How many operations the present generation has accepted.
 fn accepted_in_generation(entries: &[Entry]) -> usize
-    ensures { result ≡ accepted_in_generation (reverse entries.now) }
+    ensures { result ≡ length (operations_of_generation (reverse entries.now)) }
 {
     let mut count = 0;
     for entry in entries {

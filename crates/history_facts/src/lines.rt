@@ -1,6 +1,7 @@
 ghost use Rattle.std.specs.Prelude.{◌≡◌, ◌↔◌, ◌≤◌, reverse, length, IsTrue};
 ghost use Rattle.std.specs.Option.{option_copied};
-ghost use Rattle.history_entries.specs.Lines.{same_at, is_start, is_reply, is_answered, start_entry, before_start, last_of_line, without_at, publish_in_flight, commit_by, commit_in_flight, copy_by, copy_in_flight, is_free_for, highest_copy, has_switched, highest_switched, NodeSurvives, SourceSurvives};
+ghost use Rattle.history_entries.specs.Lines.{same_at, is_start, is_reply, is_answered, start_entry, before_start, last_of_line, without_at, publish_in_flight, commit_in_flight, copy_in_flight, is_free_for, highest_copy, has_switched, highest_switched, NodeSurvives, SourceSurvives};
+ghost use Rattle.history_laws.specs.Steps.{commit_by, copy_by};
 
 use crate::nodes::{Searched, crashes, is_at, primary_of};
 use history_entries::{Entry, Event};

@@ -1,6 +1,6 @@
-ghost use Rattle.std.specs.Prelude.{◌≡◌, ◌↔◌, reverse, IsTrue, MatchOption};
+ghost use Rattle.std.specs.Prelude.{◌≡◌, ◌↔◌, reverse, IsTrue, IsSomeAnd, MatchOption};
 ghost use Rattle.history_facts.specs.Openings.{opening_of};
-ghost use Rattle.history_entries.specs.Tickets.{last_opened, open_ticket, has_ticket, IsTicketAt, IsTicketOf};
+ghost use Rattle.history_entries.specs.Tickets.{last_opened, open_ticket, has_ticket, IsTicketOf};
 
 use crate::nodes::crashes;
 use history_entries::{Entry, Event};
@@ -81,7 +81,8 @@ pub fn has_ticket(lane: LaneNo, t: TicketNo, entries: &[Entry]) -> bool
 
 /// Whether the lane has this ticket, and it is at this node.
 pub fn is_ticket_at(n: NodeNo, lane: LaneNo, t: TicketNo, entries: &[Entry]) -> bool
-    ensures { IsTrue result ↔ IsTicketAt n.0 (open_ticket lane.0 t.0 (reverse entries.now)) }
+    ensures { IsTrue result ↔ IsSomeAnd (open_ticket lane.0 t.0 (reverse entries.now))
+        (λ ticket. ticket.node ≡ n.0) }
 {
     match open_ticket(lane, t, entries) {
         Some(opening) => opening.n.0 == n.0,

@@ -5,18 +5,18 @@ use Rattle.std.specs.List.{list_any}
 use Rattle.nrt_base.specs.declared.numbers.At.{At}
 use Rattle.history_entries.specs.declared.entry.Event.{Event}
 use Rattle.history_entries.specs.declared.entry.Event.TheVariants.{Published, Switched, Committing, Committed, Crashed, Reopened, Promoted}
-use Rattle.history_entries.specs.Nodes.{Past, is_at, primary_of, is_running, is_running_by, crashes, version_of, version_by, newest_version}
+use Rattle.history_entries.specs.Nodes.{Past, is_at, primary_of, is_running, crashes, version_of, newest_version}
 use Rattle.history_entries.specs.Lines.{same_at, is_start, start_entry, before_start, commit_in_flight}
-use Rattle.history_entries.specs.Commits.{base_by, base_version, is_stuck, late_commit, more_by, reopenable_by, reopenable_versions, was_searched_since}
-use Rattle.history_entries.specs.Rules.{StartedCommit}
+use Rattle.history_entries.specs.Commits.{base_by, base_version, starts_commit, is_stuck, late_commit, more_by, reopenable_versions, was_searched_since}
 use Rattle.history_entries.specs.Legal.{KeepsRule, IsLegalPast}
+use Rattle.history_laws.specs.Steps.{is_running_by, version_by, reopenable_by}
 use Rattle.history_laws.specs.Laws.{is_some_line, was_searched_in_commit, IsLeftByCommits}
 use Rattle.history_laws.proofs.PastLemmas.{point_low}
 use Rattle.history_laws.proofs.NodeLemmas.{known, in_one, in_more, crashes_rise, runs_on, rises_step}
 
-started_running : (size : ℕ) (past : Past) (at : At) (e : Event) (n : ℕ) → KeepsRule size past at e → StartedCommit n (Some e) → is_running_by n e (is_running n past) ≡ true
-started_running size past at (Committing m w) n keeps started = subst (λ (k : ℕ). is_running k past ≡ true) started keeps.running
-started_running size past at e n keeps started = absurd started
+started_running : (size : ℕ) (past : Past) (at : At) (e : Event) (n : ℕ) → KeepsRule size past at e → starts_commit n (Some e) ≡ true → is_running_by n e (is_running n past) ≡ true
+started_running size past at (Committing m w) n keeps started = subst (λ (k : ℕ). is_running k past ≡ true) (eqb-true m.0 n started) keeps.running
+started_running size past at e n keeps started = absurd (true≢false (sym started))
 
 crashes_since : (at : At) (n : ℕ) (past : Past) → crashes n (before_start at past) ≤ crashes n past
 crashes_since at n [] = omega arith
@@ -33,9 +33,9 @@ pub record CommitRuns (at : At) (n : ℕ) (past : Past) : Type 0 where
   pub running : is_running n past ≡ true
   pub low : (v : ℕ) → was_searched_since at n v past ≡ true → v ≤ version_of n past
 
-commit_runs : (size : ℕ) (at : At) (n : ℕ) (past : Past) → IsLegalPast size past → StartedCommit n (start_entry at past)
+commit_runs : (size : ℕ) (at : At) (n : ℕ) (past : Past) → IsLegalPast size past → starts_commit n (start_entry at past) ≡ true
     → crashes n past ≡ crashes n (before_start at past) → CommitRuns at n past
-commit_runs size at n [] legal started same = absurd started
+commit_runs size at n [] legal started same = absurd (true≢false (sym started))
 commit_runs size at n (e ∷ past) legal started same =
     since (is_start e.event && same_at e.at at) refl started same (λ begun alive. commit_runs size at n past legal.1 begun alive)
   where
@@ -46,9 +46,9 @@ commit_runs size at n (e ∷ past) legal started same =
         ap (λ (c : Bool). (version_of n (e ∷ past) == v) || (if c then false else was_searched_since at n v past)) (sym is) ∙ found in
         ⊎_elim (λ same. inl (eqb-true (version_of n (e ∷ past)) v same)) (λ old. inr old) (or_cases (version_of n (e ∷ past) == v) _ found')
 
-    since : (b : Bool) → (is_start e.event && same_at e.at at) ≡ b → StartedCommit n (if b then Some e.event else start_entry at past)
+    since : (b : Bool) → (is_start e.event && same_at e.at at) ≡ b → starts_commit n (if b then Some e.event else start_entry at past) ≡ true
         → crashes n (e ∷ past) ≡ crashes n (if b then past else before_start at past)
-        → (StartedCommit n (start_entry at past) → crashes n past ≡ crashes n (before_start at past) → CommitRuns at n past)
+        → (starts_commit n (start_entry at past) ≡ true → crashes n past ≡ crashes n (before_start at past) → CommitRuns at n past)
         → CommitRuns at n (e ∷ past)
     since true is started same earlier = record {
       running = started_running size past e.at e.event n legal.0 started;

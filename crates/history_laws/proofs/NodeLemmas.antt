@@ -7,10 +7,11 @@ use Rattle.nrt_base.specs.declared.numbers.NodeNo.{NodeNo}
 use Rattle.history_entries.specs.declared.entry.Entry.{Entry}
 use Rattle.history_entries.specs.declared.entry.Event.{Event}
 use Rattle.history_entries.specs.declared.entry.Event.TheVariants.{Published, Switched, Committing, Committed, Crashed, Reopened, Promoted}
-use Rattle.history_entries.specs.Nodes.{Past, is_at, primary_of, is_running, is_running_by, crashes, crashes_by, version_of, version_by, newest_version, is_point, is_point_by}
+use Rattle.history_entries.specs.Nodes.{Past, is_at, primary_of, is_running, crashes, version_of, newest_version, is_point}
 use Rattle.history_entries.specs.Lines.{same_at, is_start}
-use Rattle.history_entries.specs.Commits.{late_commit, more_by, reopenable_by, reopenable_versions, was_searched_since}
+use Rattle.history_entries.specs.Commits.{late_commit, more_by, reopenable_versions, was_searched_since}
 use Rattle.history_entries.specs.Legal.{KeepsRule, IsLegalPast}
+use Rattle.history_laws.specs.Steps.{is_running_by, crashes_by, version_by, is_point_by, reopenable_by}
 use Rattle.history_laws.proofs.PastLemmas.{point_stays, point_low, made_point}
 
 -- each version that is searched, or may be reopened at, is a point

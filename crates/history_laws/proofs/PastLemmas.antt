@@ -9,8 +9,9 @@ use Rattle.nrt_base.specs.declared.numbers.NodeNo.{NodeNo}
 use Rattle.history_entries.specs.declared.entry.Entry.{Entry}
 use Rattle.history_entries.specs.declared.entry.Event.{Event}
 use Rattle.history_entries.specs.declared.entry.Event.TheVariants.{Published, Switched, Crashed, Reopened, Promoted}
-use Rattle.history_entries.specs.Nodes.{Past, is_at, primary_of, primary_by, is_running, is_running_by, version_of, version_by, newest_version, newest_by, is_made_in_generation, is_made_by, is_point, is_point_by}
+use Rattle.history_entries.specs.Nodes.{Past, is_at, primary_of, primary_by, is_running, version_of, newest_version, is_made_in_generation, is_point}
 use Rattle.history_entries.specs.Legal.{KeepsRule, IsLegalPast}
+use Rattle.history_laws.specs.Steps.{is_running_by, version_by, newest_by, is_made_by, is_point_by}
 
 -- what stood before an entry of a legal past was legal
 pub legal_before : (size : ℕ) (newer past : Past) → IsLegalPast size (newer ++ past) → IsLegalPast size past

@@ -14,10 +14,11 @@ use Rattle.history_entries.specs.declared.entry.Entry.{Entry}
 use Rattle.history_entries.specs.declared.entry.Event.{Event}
 use Rattle.history_entries.specs.declared.entry.Event.TheVariants.{Accepted, Published, Promoted}
 use Rattle.documents.specs.Documents.{documents_after}
-use Rattle.history_entries.specs.Nodes.{Past, version_of, newest_version, newest_by, accepted_count, accepted_by}
+use Rattle.history_entries.specs.Nodes.{Past, version_of, newest_version, accepted_count}
 use Rattle.history_entries.specs.Lines.{same_at, is_start}
-use Rattle.history_entries.specs.Points.{operations_written, operations_at_start, operations_at, written_by, operations_by, documents_at, points_of}
+use Rattle.history_entries.specs.Points.{operations_written, operations_at_start, operations_at, documents_at, points_of}
 use Rattle.history_entries.specs.Legal.{KeepsRule, IsLegalPast}
+use Rattle.history_laws.specs.Steps.{newest_by, accepted_by, written_by, operations_by}
 use Rattle.documents.proofs.DocumentLemmas.{length-documents_after-le}
 use Rattle.history_laws.specs.Laws.{VersionsAscend, accepted_operations, all_accepted_by, StandInOrder}
 

@@ -1,7 +1,7 @@
 -- A script of which the program runs every statement, the engine runs: two nodes, and one phase of lines of the first lane.
 use Rattle.std.proofs.Common.{◌≡◌, ◌<◌, ◌≤◌, ◌^◌, ◌==◌, ◌++◌, ℕ, suc, Bool, true, false, List, [], ◌∷◌, length, map, Some, None, refl, ap, ◌∙◌, sym, subst, arith, inl, inr, append-nil}
 use Rattle.std.specs.Prelude.{codes, bytes_eq}
-use Rattle.std.specs.List.{list_all, list_any, flat_map}
+use Rattle.std.specs.List.{list_all, list_any, flat_map, starts_with}
 use Rattle.std.specs.Cmp.Lexicographic.{same_text}
 use Rattle.std.specs.Fmt.{decimal}
 use Rattle.std.proofs.lemmas.Bool.{false≢true, cases_Bool, eqb-true, eq-eqb, and_from, and_parts}
@@ -17,7 +17,7 @@ use Rattle.script_serving.specs.Lines.{lines_of, lines_of_phase}
 use Rattle.script_serving.specs.Form.{is_command}
 use Rattle.script_text.specs.Grammar.{Statement, statements_of, words_in, command_words, Ends, IsNodesHeader, SpellsPhases, SpellsLogged, SpellsBody, SpellsStatements, most_statements, promotions_among, AreAllowed, of_lane, lane_entry, lanes_from, phase_of}
 use Rattle.script_text.specs.Refused.{is_digit, value_of}
-use Rattle.plain_run.specs.Built.{begins_with_words, is_built, first_unbuilt}
+use Rattle.plain_run.specs.Built.{is_built, first_unbuilt}
 use Rattle.script_text.proofs.NumberLaws.{value_of-decimal, digits_of-decimal, other_word}
 use Rattle.script_text.proofs.WordLaws.{words_after}
 use Rattle.script_text.proofs.RightLines.{between_high, three_words}
@@ -29,7 +29,7 @@ abbrev command_beginnings : List (List (List ℕ))
 command_beginnings = (codes "put" ∷ []) ∷ (codes "drop" ∷ []) ∷ (codes "publish" ∷ []) ∷ (codes "copy" ∷ codes "2" ∷ []) ∷ (codes "search" ∷ []) ∷ []
 
 abbrev is_built_command : List (List ℕ) → Bool
-is_built_command words = list_any (λ beginning. begins_with_words beginning words) command_beginnings
+is_built_command words = list_any (λ beginning. starts_with bytes_eq words beginning) command_beginnings
 
 -- the line is of the first lane, and the command behind it is one that the program runs
 record IsOfFirst (lane : List ℕ) (words : List (List ℕ)) : Type 0 where

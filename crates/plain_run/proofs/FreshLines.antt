@@ -1,8 +1,13 @@
 -- A line without an entry has neither started nor been answered.
-use Rattle.std.proofs.Common.{◌≡◌, true, false, ◌&&◌, ◌||◌, [], ◌∷◌, Some, None, refl, if◌then◌else◌}
+use Rattle.std.proofs.Common.{◌≡◌, true, false, ◌&&◌, ◌||◌, [], ◌∷◌, Option, Some, None, refl, if◌then◌else◌}
 use Rattle.nrt_base.specs.declared.numbers.At.{At}
+use Rattle.history_entries.specs.declared.entry.Event.{Event}
+use Rattle.history_entries.specs.declared.entry.Event.TheVariants.{Fault}
 use Rattle.history_entries.specs.Nodes.{Past}
-use Rattle.history_entries.specs.Lines.{same_at, is_start, is_reply, entries_of_line, start_entry, last_of_line, last_by, is_answered}
+use Rattle.history_entries.specs.Lines.{same_at, is_start, is_reply, entries_of_line, start_entry, last_of_line, is_answered}
+
+abbrev last_by : Event → Option Event → Option Event
+last_by e last = elim e [ Fault n kind ↦ last | event ↦ Some event ]
 
 pub fresh_start : (at : At) (past : Past) → entries_of_line at past ≡ [] → start_entry at past ≡ None
 fresh_start at [] fresh = refl

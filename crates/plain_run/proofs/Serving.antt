@@ -28,7 +28,7 @@ use Rattle.script_serving.specs.Lines.{lines_of, lines_of_lane, command_at, has_
 use Rattle.script_text.specs.Grammar.{lane_entry}
 use Rattle.script_serving.specs.Refusals.{refusal, when, names_are_spent}
 use Rattle.script_serving.specs.Replays.{due}
-use Rattle.script_serving.specs.Serves.{ServesLane, ServesPhases, Serves}
+use Rattle.script_serving.specs.Serves.{ServesLanes, ServesPhases, Serves}
 use Rattle.script_serving.specs.Form.{IsInForm, is_command, is_phase, are_distinct}
 use Rattle.script_serving.proofs.OneLane.{Walks, serves_one_lane}
 use Rattle.plain_run.specs.PlainRun.{accepted_entry, publishing_entry, published_entry, published_next, refused_entry, copying_entry, switched_entry, copied_entry, copied_same, copied_newer, opened_entry, answered_entry, after_publish, after_copy, after_search, after_command, after_lines, is_plain, IsPlainScript}
@@ -381,7 +381,7 @@ no_walk (e ∷ past) walks = let known : false ≡ true = walks.1 in cc
 serves_none : (script : Script) (h : History) → lines_of script ≡ [] → h.nodes ≡ script.nodes → script.log ≡ false → reverse h.entries ≡ [] → Serves script h
 serves_none script h none nodes no_log past = record {
   nodes = nodes;
-  lanes = λ lane. subst (ServesLane script.log lane (lines_of_lane lane script)) (sym past) tt;
+  lanes = subst (ServesLanes script) (sym past) tt;
   phases = subst (ServesPhases (lines_of script) script.phases) (sym past) tt;
   answered = ap (λ (ls : List Line). all_answered ls (reverse h.entries)) none;
   replayed = ap (λ (log : Bool). due log (reverse h.entries)) no_log;

@@ -12,11 +12,11 @@ use Rattle.history_entries.specs.declared.entry.Entry.{Entry}
 use Rattle.history_entries.specs.declared.entry.Event.TheVariants.{Opened, Answered}
 use Rattle.documents.specs.declared.query.Query.{Query}
 use Rattle.documents.specs.declared.answer.Answer.{Answer}
-use Rattle.std.specs.Prelude.{Bool, ◌==◌, if◌then◌else◌, Some, None}
+use Rattle.std.specs.Prelude.{Bool, ◌==◌, nat_le, if◌then◌else◌, Some, None}
 use Rattle.documents.specs.Documents.{key_cmp, document_of, after_op, after_ops, documents_after}
 use Rattle.history_entries.specs.Nodes.{Past, version_of, newest_version}
 use Rattle.history_entries.specs.Lines.{same_at, entries_of_line, without_at}
-use Rattle.history_entries.specs.Points.{operations_written, operations_at, published_in_generation, accepted_in_generation, adds_none, cut_of}
+use Rattle.history_entries.specs.Points.{operations_written, operations_at, operations_of_generation, published_in_generation, adds_none, cut_of}
 use Rattle.history_entries.specs.Legal.{IsLegalPast}
 use Rattle.plain_run.specs.declared.node.Searched.{Searched}
 use Rattle.plain_run.specs.Kept.{IsCalm, Shows}
@@ -78,11 +78,11 @@ module _ (past : Past) (at : At) (ops : List Op) (p r : Searched) (s : Shows pas
       let v = s.versions in
       let o = s.operations in
       record {
-        legal = (rw (fresh_start at past fresh) (record { met = sym (s.calm.spared at) }), s.legal);
+        legal = (rw (fresh_start at past fresh) (sym (s.calm.spared at)), s.legal);
         calm = calm_refused past at s.calm;
         quiet = record { primary = q.primary; first = q.first; second = q.second; generation = q.generation; landed = rw q.landed refl; busy = q.busy };
         versions = record { first = v.first; one = v.one; second = v.second; made = v.made };
-        operations = record { count = o.count; counted = o.counted; written = o.written; accepted = o.accepted; taken = o.taken };
+        operations = record { count = o.count; written = o.written; accepted = o.accepted; taken = o.taken };
         first = record { version = s.first.version; within = s.first.within; point = s.first.point; documents = s.first.documents; ordered = s.first.ordered };
         second = record { version = s.second.version; within = s.second.within; point = s.second.point; documents = s.second.documents; ordered = s.second.ordered };
         behind = s.behind;
@@ -134,7 +134,7 @@ module _ (past : Past) (at : At) (ops : List Op) (p r : Searched) (s : Shows pas
           calm = calm_newer past at s.calm;
           quiet = record { primary = q.primary; first = q.first; second = q.second; generation = q.generation; landed = rw q.landed refl; busy = q.busy };
           versions = record { first = v.first; one = omega (arith, v.one, v.second); second = omega arith; made = λ h. absurd (omega (arith, h)) };
-          operations = record { count = o.count; counted = o.counted; written = o.written; accepted = o.accepted; taken = o.taken };
+          operations = record { count = o.count; written = o.written; accepted = o.accepted; taken = o.taken };
           first = record { version = s.first.version; within = s.first.within; point = s.first.point; documents = s.first.documents; ordered = s.first.ordered };
           second = record {
             version = number;
@@ -156,9 +156,10 @@ module _ (past : Past) (at : At) (ops : List Op) (p r : Searched) (s : Shows pas
         let cut : 0 < length (drop p.operations ops) = subst (λ (n : ℕ). 0 < length (drop n ops)) (sym s.operations.taken) (subst (λ (all : List Op). 0 < length (drop (published_in_generation past) all)) (sym s.operations.accepted) some) in
         omega (arith, cut, length-drop p.operations ops)
 
-    adds_some : adds_none (accepted_in_generation past) (published_in_generation past) ≡ false
+    adds_some : nat_le (length (operations_of_generation past)) (published_in_generation past) ≡ false
     adds_some =
-        let fewer : published_in_generation past < accepted_in_generation past = omega (arith, more, s.operations.taken, s.operations.counted) in
+        let counted : length ops ≡ length (operations_of_generation past) = ap length s.operations.accepted in
+        let fewer : published_in_generation past < length (operations_of_generation past) = omega (arith, more, s.operations.taken, counted) in
         grind (arith, nat_tests, fewer)
 
     abbrev after : Past
@@ -198,7 +199,7 @@ module _ (past : Past) (at : At) (ops : List Op) (p r : Searched) (s : Shows pas
           calm = calm_published past at s.calm;
           quiet = record { primary = q.primary; first = q.first; second = q.second; generation = q.generation; landed = rw (same_at_self at) refl; busy = rw (same_at_self at, adds_some) q.busy };
           versions = record { first = rw q.primary (sym newest_after); one = rw q.primary v.one; second = rw q.primary (omega (arith, newest_after, v.second)); made = λ h. grind (arith, nat_tests) };
-          operations = record { count = o.count; counted = o.counted; written = o.written; accepted = o.accepted; taken = operations ∙ rw (same_at_self at) o.counted };
+          operations = record { count = o.count; written = o.written; accepted = o.accepted; taken = operations ∙ rw (same_at_self at) (ap length o.accepted) };
           first = record {
             version = number ∙ (ap (λ (n : ℕ). n + 1) s.first.version ∙ sym newest_after);
             within = omega (arith, operations);

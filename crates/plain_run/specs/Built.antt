@@ -1,28 +1,18 @@
 -- What the program runs so far: the first statement of a script that it does not run.
-use Rattle.std.specs.Prelude.{ℕ, ◌≡◌, List, [], ◌∷◌, codes, Bool, true, false, ◌&&◌, ◌||◌, if◌then◌else◌, Option, Some, None, bytes_eq}
-use Rattle.std.specs.List.{list_any}
+use Rattle.std.specs.Prelude.{ℕ, ◌≡◌, List, [], ◌∷◌, map, codes, Bool, true, false, ◌&&◌, ◌||◌, if◌then◌else◌, Option, Some, None, bytes_eq}
+use Rattle.std.specs.List.{list_any, starts_with}
 use Rattle.script_text.specs.Grammar.{Statement, statements_of, words_in}
 
--- the words begin with these
-abbrev pub begins_with_words : List (List ℕ) → List (List ℕ) → Bool
-begins_with_words [] words = true
-begins_with_words (name ∷ names) [] = false
-begins_with_words (name ∷ names) (word ∷ words) = bytes_eq name word && begins_with_words names words
-
--- the statements that the program runs: two nodes, and of lane 1 a put, a drop, a publish, a copy to node 2 and a search
+-- how the statements begin that the program runs: two nodes, and of lane 1 a put, a drop, a publish,
+-- a copy to node 2 and a search
 abbrev pub built_beginnings : List (List (List ℕ))
 built_beginnings =
-    (codes "nodes" ∷ codes "2" ∷ [])
-    ∷ (codes "1" ∷ codes "put" ∷ [])
-    ∷ (codes "1" ∷ codes "drop" ∷ [])
-    ∷ (codes "1" ∷ codes "publish" ∷ [])
-    ∷ (codes "1" ∷ codes "copy" ∷ codes "2" ∷ [])
-    ∷ (codes "1" ∷ codes "search" ∷ [])
-    ∷ []
+    map words_in (codes "nodes 2" ∷ codes "1 put" ∷ codes "1 drop" ∷ codes "1 publish"
+    ∷ codes "1 copy 2" ∷ codes "1 search" ∷ [])
 
 -- the program runs a statement of these words
 abbrev pub is_built : List (List ℕ) → Bool
-is_built words = list_any (λ beginning. begins_with_words beginning words) built_beginnings
+is_built words = list_any (λ beginning. starts_with bytes_eq words beginning) built_beginnings
 
 -- the program runs a line of lane 1 with these words behind the lane
 abbrev pub is_built_command : List ℕ → List ℕ → Bool

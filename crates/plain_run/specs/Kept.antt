@@ -7,7 +7,7 @@ use Rattle.documents.specs.Documents.{key_cmp, document_of, documents_after}
 use Rattle.history_entries.specs.Nodes.{Past, primary_of, is_running, generation_of, version_of, newest_version, is_made_in_generation, accepted_count}
 use Rattle.history_entries.specs.Lines.{publish_in_flight, copy_in_flight, highest_copy}
 use Rattle.history_entries.specs.Faults.{has_met_fault}
-use Rattle.history_entries.specs.Points.{operations_written, operations_at, operations_of_generation, published_in_generation, accepted_in_generation, idle_publishes}
+use Rattle.history_entries.specs.Points.{operations_written, operations_at, operations_of_generation, published_in_generation, idle_publishes}
 use Rattle.history_entries.specs.Legal.{IsLegalPast}
 use Rattle.plain_run.specs.declared.node.Searched.{Searched}
 
@@ -36,7 +36,6 @@ pub record AreVersions (past : Past) : Type 0 where
 -- the operations so far, and how many of them are published
 pub record AreOperations (past : Past) (ops : List Op) (published : ℕ) : Type 0 where
   pub count : length ops ≡ accepted_count past
-  pub counted : length ops ≡ accepted_in_generation past
   pub written : ops ≡ operations_written past
   pub accepted : ops ≡ operations_of_generation past
   pub taken : published ≡ published_in_generation past

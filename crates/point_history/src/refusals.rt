@@ -1,10 +1,13 @@
 //! The rule of a refusal.
 
-ghost use Rattle.std.specs.Prelude.{◌≡◌, ◌↔◌, reverse, IsTrue};
-ghost use Rattle.history_entries.specs.Faults.{same_kind, has_fault};
+ghost use Rattle.std.specs.Prelude.{◌≡◌, ◌↔◌, true, reverse, IsTrue};
+ghost use Rattle.history_entries.specs.declared.cause.FaultKind.TheVariants.{Damage};
+ghost use Rattle.history_entries.specs.Commits.{is_disk_fault};
+ghost use Rattle.history_entries.specs.Faults.{same_kind, has_fault, has_met_fault};
+ghost use Rattle.history_entries.specs.Points.{IsDrawnFile};
 ghost use Rattle.history_facts.specs.Generations.{ShowsDrawn};
 ghost use Rattle.history_entries.specs.Lines.{start_entry};
-ghost use Rattle.history_entries.specs.Rules.{is_node_of, is_source_of, is_lost, version_in, is_above, is_copied_beside, is_settled_beside, is_copy, is_loss, has_disk_fault, MayCancel, MayBeDamaged, MayBreakOff, MayRefuse, MayRefuseAtOnce, MayRefuseLine};
+ghost use Rattle.history_entries.specs.Rules.{is_node_of, is_source_of, is_lost, is_above, is_copied_beside, is_settled_beside, is_copy, is_loss, has_disk_fault, MayCancel, MayBreakOff, MayRefuse, MayRefuseLine};
 
 use file_names::FileName;
 use history_entries::{Cause, Entry, Event, FaultKind};
@@ -63,7 +66,7 @@ fn is_lost(entries: &[Entry], start: &[Entry], begun: &Event) -> bool
 
 /// Whether the version is above the one in a start entry.
 fn is_above(v: Version, begun: &Event) -> bool
-    ensures { result ≡ is_above v.0 (version_in begun.now) }
+    ensures { result ≡ is_above v.0 begun.now }
 {
     match begun {
         Event::Copying { v: w, .. }
@@ -184,8 +187,8 @@ fn may_be_damaged(
     name: &FileName,
 ) -> bool
     requires shown { ShowsDrawn (reverse entries.now) drawn.now }
-    ensures { IsTrue result ↔ MayBeDamaged nodes (reverse entries.now) at
-        (reverse start.now) begun.now name.now }
+    ensures { IsTrue result ↔ ((has_fault (is_node_of nodes (reverse start.now) begun.now)
+        (same_kind Damage) at (reverse entries.now) ≡ true) × IsDrawnFile (reverse entries.now) name.now) }
 {
     has_fault_at_node(nodes, start, begun, FaultKind::Damage, at, entries)
         && is_drawn_file(drawn, name)
@@ -254,7 +257,7 @@ fn may_refuse(
 }
 
 fn may_refuse_at_once(entries: &[Entry], at: At, cause: &Cause) -> bool
-    ensures { IsTrue result ↔ MayRefuseAtOnce (reverse entries.now) at cause.now }
+    ensures { IsTrue result ↔ (is_disk_fault cause.now ≡ has_met_fault at (reverse entries.now)) }
 {
     is_disk_fault(cause) == has_met_fault(at, entries)
 }

@@ -1,8 +1,10 @@
-ghost use Rattle.std.specs.Prelude.{◌≡◌, ◌≤◌, ◌<◌, ◌+◌, ◌^◌, ◌↔◌, ◌⊎◌, ℕ, reverse, length, IsTrue, true};
+ghost use Rattle.std.specs.Prelude.{◌≡◌, ◌≤◌, ◌<◌, ◌+◌, ◌^◌, ◌↔◌, ◌⊎◌, ℕ, reverse, length, IsTrue, true, false};
 ghost use Rattle.history_entries.specs.Nodes.{IsNode, IsReplica, version_of, accepted_count};
 ghost use Rattle.history_entries.specs.Lines.{start_entry, before_start, has_switched, NodeSurvives};
+ghost use Rattle.history_entries.specs.Commits.{starts_commit};
+ghost use Rattle.history_entries.specs.Faults.{has_met_fault};
 ghost use Rattle.history_facts.specs.Generations.{ShowsGeneration};
-ghost use Rattle.history_entries.specs.Rules.{MayAccept, MayStartPublish, MayPublish, MayStartCopy, MaySwitch, MayFinishCopy, MayStartSettle, MaySettle, MayOpen, MayAsk, MayClose, MayStartCommit, MayCommit, MayCrash, MayReopen, MayPromote, MayStartMerge, MayDrain, MayPlan, StartedCopy, StartedCommit};
+ghost use Rattle.history_entries.specs.Rules.{MayAccept, MayStartPublish, MayPublish, MayStartCopy, MaySwitch, MayFinishCopy, MayStartSettle, MaySettle, MayOpen, MayAsk, MayClose, MayStartCommit, MayCommit, MayCrash, MayReopen, MayPromote, MayStartMerge, MayDrain, StartedCopy};
 
 use history_entries::{Entry, Event};
 use history_facts::{
@@ -218,7 +220,7 @@ pub(crate) fn may_start_commit(nodes: u8, entries: &[Entry], at: At, n: NodeNo, 
 }
 
 fn started_commit(n: NodeNo, at: At, entries: &[Entry]) -> bool
-    ensures { IsTrue result ↔ StartedCommit n.0 (start_entry at (reverse entries.now)) }
+    ensures { result ≡ starts_commit n.0 (start_entry at (reverse entries.now)) }
 {
     match start_entry(at, entries) {
         Some(Event::Committing { n: m, .. }) => m.0 == n.0,
@@ -304,7 +306,7 @@ pub(crate) fn may_drain(nodes: u8, entries: &[Entry], at: At, done: u32) -> bool
 }
 
 pub(crate) fn may_plan(entries: &[Entry], at: At) -> bool
-    ensures { IsTrue result ↔ MayPlan (reverse entries.now) at }
+    ensures { IsTrue result ↔ (has_met_fault at (reverse entries.now) ≡ false) }
 {
     !has_met_fault(at, entries)
 }

@@ -31,9 +31,9 @@ use Rattle.script_serving.specs.declared.script.Script.{Script}
 use Rattle.script_serving.specs.Lines.{lines_of, lines_of_lane, command_at, has_line}
 use Rattle.script_serving.specs.Form.{are_distinct}
 use Rattle.script_serving.specs.Refusals.{refusal}
-use Rattle.script_serving.specs.Serves.{Begins, First, Follows, Suits, FitsTurn, FitsReplay, Fits, ServesLane, Serves}
+use Rattle.script_serving.specs.Serves.{Begins, First, Follows, Suits, FitsTurn, FitsReplay, Fits, ServesLanes, Serves}
 use Rattle.script_serving.specs.Replays.{due}
-use Rattle.script_serving.proofs.ServingLemmas.{own_fits, earlier_serves, known_line}
+use Rattle.script_serving.proofs.ServingLemmas.{known_line}
 use Rattle.report_laws.specs.Determined.{TextsDetermineHistories}
 
 -- ---- what a command says of the entries of its line
@@ -263,10 +263,10 @@ record IsTold (script : Script) (ops : List Op) (e : Entry) : Type 0 where
   known : has_line (lines_of script) e.at ≡ true
   unprinted : Unprinted ops (command_at (lines_of_lane e.at.lane.0 script) e.at) e.event
 
-told : (script : Script) (e : Entry) (past : Past) → ((lane : ℕ) → ServesLane script.log lane (lines_of_lane lane script) (e ∷ past)) → IsTold script (due script.log past) e
+told : (script : Script) (e : Entry) (past : Past) → ServesLanes script (e ∷ past) → IsTold script (due script.log past) e
 told script e past serves = record {
-  known = known_line script script.log e past serves;
-  unprinted = fits_unprinted (due script.log past) (lines_of_lane e.at.lane.0 script) past e.at (command_at (lines_of_lane e.at.lane.0 script) e.at) e.event (own_fits script script.log e past serves);
+  known = known_line script e past serves;
+  unprinted = fits_unprinted (due script.log past) (lines_of_lane e.at.lane.0 script) past e.at (command_at (lines_of_lane e.at.lane.0 script) e.at) e.event serves.0;
 }
 
 one_entry : (script : Script) (ops : List Op) (e f : Entry) → are_distinct (lines_of script) ≡ true → SamePrinted e f → IsTold script ops e → IsTold script ops f → e ≡ f
@@ -277,12 +277,12 @@ one_entry script ops e f d same p q =
 
 -- what serves a script and is printed alike is one
 one_past : (script : Script) (past other : Past) → are_distinct (lines_of script) ≡ true → AllSamePrinted past other
-    → ((lane : ℕ) → ServesLane script.log lane (lines_of_lane lane script) past) → ((lane : ℕ) → ServesLane script.log lane (lines_of_lane lane script) other) → past ≡ other
+    → ServesLanes script past → ServesLanes script other → past ≡ other
 one_past script [] [] d same p q = refl
 one_past script [] (f ∷ other) d same p q = absurd same
 one_past script (e ∷ past) [] d same p q = absurd same
 one_past script (e ∷ past) (f ∷ other) d same p q =
-    let rest : past ≡ other = one_past script past other d same.1 (earlier_serves script script.log e past p) (earlier_serves script script.log f other q) in
+    let rest : past ≡ other = one_past script past other d same.1 p.1 q.1 in
     let second : IsTold script (due script.log past) f = subst (λ (before : Past). IsTold script (due script.log before) f) (sym rest) (told script f other q) in
     cons_from e f past other (one_entry script (due script.log past) e f d same.0 (told script e past p) second) rest
   where

@@ -28,7 +28,8 @@ use Rattle.history_entries.specs.declared.entry.Event.{Event}
 use Rattle.history_entries.specs.declared.entry.Event.TheVariants.{Accepted, Publishing, Published, Copying, Switched, Copied, Settling, Settled, Opened, Asking, Answered, Closed, Committing, Committed, Crashed, Reopened, Promoted, Merging, Drained, Files, Planned, Fault, Refused}
 use Rattle.history_entries.specs.declared.entry.Entry.{Entry}
 use Rattle.history_entries.specs.declared.entry.History.{History}
-use Rattle.report_text.specs.Texts.{all_spaced, hit_text, kind_text, plan_words, cause_words, event_words, text_of_entry, text_of}
+use Rattle.report_text.specs.Texts.{all_spaced, hit_text, kind_text, cause_words, event_words, text_of_entry, text_of}
+use Rattle.history_entries.specs.Faults.{plan_words}
 use Rattle.report_text.specs.Printed.{IsNumber, hit_fits, CauseFits, PlanFits, EventFits, EntryFits, AllFit, SamePrintedEvent, SamePrinted, AllSamePrinted}
 use Rattle.report_text.proofs.TextCuts.{is_token, same_words, decimal_is_token, base36_is_token, name_is_token, words_weaker, same_number, hits_are_tokens, same_hits}
 

@@ -8,12 +8,11 @@ use Rattle.history_entries.specs.declared.cause.Cause.{Cause}
 use Rattle.history_entries.specs.declared.cause.Cause.TheVariants.{Down, Primary, NoPrimary, PrimaryUp, ForceLow, NoTicket, Lost, Cancelled, LinkFault, Damaged, DiskFault, Nothing, Up, NameUsed, NamesSpent, TooManySegments, ForceHigh}
 use Rattle.history_entries.specs.declared.cause.FaultKind.{FaultKind}
 use Rattle.history_entries.specs.declared.cause.FaultKind.TheVariants.{Link, Damage, Disk, Stop}
-use Rattle.history_entries.specs.declared.cause.FaultPlan.{FaultPlan}
-use Rattle.history_entries.specs.declared.cause.FaultPlan.TheVariants.{Link as LinkPlan, Damage as DamagePlan, Disk as DiskPlan, Stop as StopPlan}
 use Rattle.history_entries.specs.declared.entry.Event.{Event}
 use Rattle.history_entries.specs.declared.entry.Event.TheVariants.{Accepted, Publishing, Published, Copying, Switched, Copied, Settling, Settled, Opened, Asking, Answered, Closed, Committing, Committed, Crashed, Reopened, Promoted, Merging, Drained, Files, Planned, Fault, Refused}
 use Rattle.history_entries.specs.declared.entry.Entry.{Entry}
 use Rattle.history_entries.specs.declared.entry.History.{History}
+use Rattle.history_entries.specs.Faults.{plan_words}
 
 -- each after a space
 abbrev pub all_spaced : List (List ℕ) → List ℕ
@@ -37,13 +36,6 @@ kind_text Link = codes "link"
 kind_text Damage = codes "damage"
 kind_text Disk = codes "disk"
 kind_text Stop = codes "stop"
-
--- a planned fault at a node: its kind, the node, which file or call, and for damage which byte
-abbrev pub plan_words : ℕ → FaultPlan → List (List ℕ)
-plan_words n (LinkPlan k) = with_numbers (codes "link") (n ∷ k ∷ [])
-plan_words n (DamagePlan k at) = with_numbers (codes "damage") (n ∷ k ∷ at ∷ [])
-plan_words n (DiskPlan k) = with_numbers (codes "disk") (n ∷ k ∷ [])
-plan_words n (StopPlan k) = with_numbers (codes "stop") (n ∷ k ∷ [])
 
 -- why a line is refused
 abbrev pub cause_words : Cause → List (List ℕ)

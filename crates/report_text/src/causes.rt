@@ -1,7 +1,8 @@
 //! Why a line is refused, and which faults are planned, as words.
 
 ghost use Rattle.std.specs.Prelude.{◌≡◌, ◌++◌, ◌∷◌, [], OnOk, codes};
-ghost use Rattle.report_text.specs.Texts.{AddsWords, kind_text, plan_words, cause_words};
+ghost use Rattle.report_text.specs.Texts.{AddsWords, kind_text, cause_words};
+ghost use Rattle.history_entries.specs.Faults.{plan_words};
 
 use crate::words::{push_with_numbers, push_word};
 use file_names::FileName;

@@ -11,20 +11,25 @@ use Rattle.history_entries.specs.declared.entry.Event.TheVariants.{Accepted, Pub
 use Rattle.history_entries.specs.declared.entry.Entry.{Entry}
 use Rattle.history_entries.specs.declared.entry.History.{History}
 use Rattle.history_entries.specs.Nodes.{Past, version_of}
-use Rattle.history_entries.specs.Lines.{same_at, is_start, is_reply, is_answered, last_by, last_of_line}
+use Rattle.history_entries.specs.Lines.{same_at, is_start, is_reply, is_answered, last_of_line}
 use Rattle.history_entries.specs.Points.{operations_written, operations_at_start, operations_at}
 use Rattle.script_serving.specs.declared.script.Line.{Line}
 use Rattle.script_serving.specs.declared.script.LineCommand.{LineCommand}
 use Rattle.script_serving.specs.declared.script.LineCommand.TheVariants.{Promote}
 use Rattle.script_serving.specs.declared.script.Script.{Script}
 use Rattle.script_serving.specs.Lines.{lines_of_lane, command_at}
-use Rattle.script_serving.specs.Replays.{logged_by, logged_operations, replay_due}
-use Rattle.script_serving.specs.Serves.{Suits, FitsTurn, FitsReplay, Fits, is_newest_at, ServesLane, Serves}
+use Rattle.script_serving.specs.Replays.{logged_operations, replay_due, due}
+use Rattle.script_serving.specs.Serves.{Suits, FitsTurn, FitsReplay, Fits, is_newest_at, ServesLanes, Serves}
 use Rattle.script_serving.specs.LogLaws.{PointsAreLogged, NothingIsLost}
-use Rattle.script_serving.proofs.ServingLemmas.{own_fits, earlier_serves}
 
 abbrev entry : At → Event → Entry
 entry at event = record { at = at; event = event }
+
+abbrev last_by : Event → Option Event → Option Event
+last_by e last = elim e [ Fault n kind ↦ last | event ↦ Some event ]
+
+abbrev logged_by : Event → Bool → List Op → List Op
+logged_by e answered ops = elim e [ Accepted seq op ↦ if answered then ops else ops ++ op ∷ [] | _ ↦ ops ]
 
 -- ---- when a line has its reply
 
@@ -207,19 +212,20 @@ module _ (past : Past) (at : At) (logged : IsLogged past) where
       never op (Some command) h = h
 
 -- what serves a script with a log has it whole
-all_logged : (script : Script) (past : Past) → ((lane : ℕ) → ServesLane true lane (lines_of_lane lane script) past) → IsLogged past
-all_logged script [] serves = none_logged
-all_logged script (e ∷ past) serves =
-    next past e.at (all_logged script past (earlier_serves script true e past serves)) e.event
+all_logged : (script : Script) (past : Past) → script.log ≡ true → ServesLanes script past → IsLogged past
+all_logged script [] log serves = none_logged
+all_logged script (e ∷ past) log serves =
+    let lines : List Line = lines_of_lane e.at.lane.0 script in
+    next past e.at (all_logged script past log serves.1) e.event
     (record {
       lines = lines_of_lane e.at.lane.0 script;
       command = command_at (lines_of_lane e.at.lane.0 script) e.at;
-      fits = own_fits script true e past serves;
+      fits = subst (λ (b : Bool). Fits (due b past) lines past e.at (command_at lines e.at) e.event) log serves.0;
     })
 
 serves_with_log : (script : Script) (h : History) → script.log ≡ true → Serves script h → IsLogged (reverse h.entries)
 serves_with_log script h log serves =
-    all_logged script (reverse h.entries) (λ lane. subst (λ (b : Bool). ServesLane b lane (lines_of_lane lane script) (reverse h.entries)) log (serves.lanes lane))
+    all_logged script (reverse h.entries) log serves.lanes
 
 -- the operations of each point are the first of those that the log has
 pub points_are_logged : (script : Script) (h : History) → script.log ≡ true → Serves script h → PointsAreLogged h

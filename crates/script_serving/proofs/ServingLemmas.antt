@@ -1,39 +1,22 @@
 -- What a history that serves a script shows of each of its entries: its line is one of the script, and it is one that the line asks for.
-use Rattle.std.proofs.Common.{◌≡◌, ℕ, Bool, true, false, ◌||◌, ◌==◌, nat_eq, List, [], ◌∷◌, ◌++◌, Option, Some, None, refl, sym, ap, subst, ◌∙◌, arith}
+use Rattle.std.proofs.Common.{◌≡◌, ℕ, Bool, true, false, ◌||◌, ◌==◌, List, [], ◌∷◌, ◌++◌, Option, Some, None, refl}
 use Rattle.std.specs.Prelude.{⊤, if◌then◌else◌}
 use Rattle.std.specs.List.{flat_map}
-use Rattle.std.proofs.lemmas.Bool.{false≢true, eq-eqb}
+use Rattle.std.proofs.lemmas.Bool.{false≢true}
 use Rattle.nrt_base.specs.declared.numbers.At.{At}
 use Rattle.nrt_base.specs.declared.numbers.LaneNo.{LaneNo}
 use Rattle.documents.specs.declared.operation.Op.{Op}
 use Rattle.history_entries.specs.declared.entry.Event.{Event}
-use Rattle.history_entries.specs.declared.entry.Event.TheVariants.{Accepted}
 use Rattle.history_entries.specs.declared.entry.Entry.{Entry}
 use Rattle.history_entries.specs.Nodes.{Past}
 use Rattle.history_entries.specs.Lines.{same_at}
 use Rattle.script_serving.specs.declared.script.Line.{Line}
 use Rattle.script_serving.specs.declared.script.LineCommand.{LineCommand}
-use Rattle.script_serving.specs.declared.script.LineCommand.TheVariants.{Promote}
 use Rattle.script_serving.specs.declared.script.Phase.{Phase}
 use Rattle.script_serving.specs.declared.script.Script.{Script}
 use Rattle.script_serving.specs.Lines.{lines_of, lines_of_phase, lines_under, lines_of_lane, command_at, has_line}
 use Rattle.script_serving.specs.Replays.{due}
-use Rattle.script_serving.specs.Serves.{Fits, FitsTurn, FitsReplay, OnLane, ServesLane}
-
--- a claim on the entries of a lane holds of one of that lane
-pub on_own : (lane : ℕ) (claim : Type 0) → OnLane (lane == lane) claim → claim
-on_own lane claim h = subst (λ (b : Bool). OnLane b claim) (eq-eqb lane lane refl) h
-
--- an entry is one that its own lane's line asks for
-pub own_fits : (script : Script) (log : Bool) (e : Entry) (past : Past) → ((lane : ℕ) → ServesLane log lane (lines_of_lane lane script) (e ∷ past))
-    → Fits (due log past) (lines_of_lane e.at.lane.0 script) past e.at (command_at (lines_of_lane e.at.lane.0 script) e.at) e.event
-own_fits script log e past serves =
-    on_own e.at.lane.0 (Fits (due log past) (lines_of_lane e.at.lane.0 script) past e.at (command_at (lines_of_lane e.at.lane.0 script) e.at) e.event) (serves e.at.lane.0).0
-
--- the entries before one are such as well
-pub earlier_serves : (script : Script) (log : Bool) (e : Entry) (past : Past) → ((lane : ℕ) → ServesLane log lane (lines_of_lane lane script) (e ∷ past))
-    → (lane : ℕ) → ServesLane log lane (lines_of_lane lane script) past
-earlier_serves script log e past serves lane = (serves lane).1
+use Rattle.script_serving.specs.Serves.{Fits, FitsTurn, FitsReplay, ServesLanes}
 
 -- there is a command
 abbrev IsKnown : Option LineCommand → Type 0
@@ -108,10 +91,8 @@ in_phases lane (phase ∷ phases) at h =
     (λ g. behind (lines_of_phase phase) (flat_map lines_of_phase phases) at (in_phases lane phases at g))
 
 -- the line of an entry is one of the script
-pub known_line : (script : Script) (log : Bool) (e : Entry) (past : Past) → ((lane : ℕ) → ServesLane log lane (lines_of_lane lane script) (e ∷ past))
-    → has_line (lines_of script) e.at ≡ true
-known_line script log e past serves =
-    let fits = own_fits script log e past serves in
+pub known_line : (script : Script) (e : Entry) (past : Past) → ServesLanes script (e ∷ past) → has_line (lines_of script) e.at ≡ true
+known_line script e past serves =
     in_phases e.at.lane.0 script.phases e.at
     (known_at (lines_of_lane e.at.lane.0 script) e.at
-    (known_command (due log past) (lines_of_lane e.at.lane.0 script) past e.at (command_at (lines_of_lane e.at.lane.0 script) e.at) e.event fits))
+    (known_command (due script.log past) (lines_of_lane e.at.lane.0 script) past e.at (command_at (lines_of_lane e.at.lane.0 script) e.at) e.event serves.0))

@@ -1,6 +1,6 @@
 -- The lines of a script, and where each stands.
-use Rattle.std.specs.Prelude.{ℕ, List, [], ◌∷◌, ◌++◌, Bool, true, false, ◌&&◌, ◌||◌, ◌==◌, if◌then◌else◌, Option, Some, None}
-use Rattle.std.specs.List.{flat_map}
+use Rattle.std.specs.Prelude.{ℕ, List, [], ◌∷◌, ◌++◌, Bool, true, ◌&&◌, ◌==◌, if◌then◌else◌, Option, Some, None}
+use Rattle.std.specs.List.{flat_map, list_all, list_any}
 use Rattle.nrt_base.specs.declared.numbers.At.{At}
 use Rattle.nrt_base.specs.declared.numbers.LaneNo.{LaneNo}
 use Rattle.history_entries.specs.Nodes.{Past}
@@ -34,13 +34,11 @@ command_at (line ∷ lines) at = if same_at line.at at then Some line.command el
 
 -- there is a line at this place
 abbrev pub has_line : List Line → At → Bool
-has_line [] at = false
-has_line (line ∷ lines) at = same_at line.at at || has_line lines at
+has_line lines at = list_any (λ line. same_at line.at at) lines
 
 -- every line has its reply
 abbrev pub all_answered : List Line → Past → Bool
-all_answered [] past = true
-all_answered (line ∷ lines) past = is_answered line.at past && all_answered lines past
+all_answered lines past = list_all (λ line. is_answered line.at past) lines
 
 -- every line before the one at this place has its reply
 abbrev pub earlier_answered : List Line → At → Past → Bool

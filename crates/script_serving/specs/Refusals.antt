@@ -1,49 +1,35 @@
 -- Why a line is refused before it has started, and why after.
-use Rattle.std.specs.Prelude.{ℕ, ◌+◌, ◌^◌, [], ◌∷◌, Bool, true, false, ◌&&◌, ◌||◌, not, ◌==◌, nat_lt, nat_le, length, if◌then◌else◌, Option, Some, None}
+use Rattle.std.specs.Prelude.{ℕ, ◌+◌, ◌^◌, [], ◌∷◌, Bool, true, false, ◌&&◌, ◌||◌, not, ◌==◌, nat_lt, nat_le, length, if◌then◌else◌, Option, Some, None, is_some, is_none}
+use Rattle.std.specs.Option.{option_or}
 use Rattle.nrt_base.specs.declared.numbers.At.{At}
-use Rattle.nrt_base.specs.declared.numbers.NodeNo.{NodeNo}
 use Rattle.history_entries.specs.declared.cause.Cause.{Cause}
 use Rattle.history_entries.specs.declared.cause.Cause.TheVariants.{Down, Primary, NoPrimary, PrimaryUp, ForceLow, NoTicket, Lost, Cancelled, LinkFault, Damaged, DiskFault, Nothing, Up, NameUsed, NamesSpent, TooManySegments, ForceHigh}
-use Rattle.history_entries.specs.declared.entry.Event.{Event}
 use Rattle.history_entries.specs.declared.entry.Event.TheVariants.{Published}
 use Rattle.history_entries.specs.Lines.{before_start}
 use Rattle.history_entries.specs.Nodes.{Past, primary_of, is_at, is_running, newest_version}
 use Rattle.history_entries.specs.Points.{cut_of, cut_has_put, names_drawn, documents_at}
 use Rattle.history_entries.specs.Tickets.{has_ticket}
 use Rattle.history_entries.specs.Faults.{has_fault, is_of_disk}
+use Rattle.history_entries.specs.Commits.{is_disk_fault}
 use Rattle.history_entries.specs.Tasks.{merge_count}
+use Rattle.history_entries.specs.Rules.{is_loss}
 use Rattle.nrt_base.specs.SegNumbers.{segments_of_generation}
 use Rattle.script_serving.specs.declared.script.Force.{Force}
 use Rattle.script_serving.specs.declared.script.Force.TheVariants.{Auto, Exactly}
 use Rattle.script_serving.specs.declared.script.LineCommand.{LineCommand}
 use Rattle.script_serving.specs.declared.script.LineCommand.TheVariants.{Put, Delete, Drop, Publish, Copy, Settle, Search, Open, Ask, Close, Commit, Crash, Reopen, Promote, Merge, Drain, Files, Fault}
 
--- the first of two causes that holds
-abbrev pub or_else : Option Cause → Option Cause → Option Cause
-or_else None later = later
-or_else (Some cause) later = Some cause
-
 -- the cause, where it holds
 abbrev pub when : Bool → Cause → Option Cause
-when true cause = Some cause
-when false cause = None
-
--- there is no such node
-abbrev pub is_vacant : Option NodeNo → Bool
-is_vacant None = true
-is_vacant (Some n) = false
+when holds cause = if holds then Some cause else None
 
 -- no primary runs
 abbrev pub without_primary : Past → Option Cause
-without_primary past = when (is_vacant (primary_of past)) NoPrimary
+without_primary past = when (is_none (primary_of past)) NoPrimary
 
 -- the node does not run
 abbrev pub without_node : ℕ → Past → Option Cause
 without_node n past = when (not (is_running n past)) Down
-
--- the lane has no such ticket
-abbrev pub without_ticket : ℕ → ℕ → Past → Option Cause
-without_ticket lane t past = when (not (has_ticket lane t past)) NoTicket
 
 -- the forced version: the newest, or the one that is named
 abbrev pub forced_version : Force → Past → ℕ
@@ -54,39 +40,37 @@ forced_version (Exactly f) past = f
 abbrev pub names_are_spent : Past → Bool
 names_are_spent past = names_drawn past == segments_of_generation
 
--- why a line is refused before it has started: the first cause of its row that holds
+-- why a line is refused before it has started: the first cause of its row that holds (`option_or` takes the first of two)
 abbrev pub refusal : LineCommand → ℕ → Past → Option Cause
 refusal (Put doc) lane past = without_primary past
 refusal (Delete key) lane past = without_primary past
 refusal (Drop word) lane past = without_primary past
-refusal Publish lane past = or_else (without_primary past) (when (cut_has_put past && names_are_spent past) NamesSpent)
-refusal (Copy n) lane past = or_else (without_node n.0 past) (or_else (without_primary past) (when (is_at (primary_of past) n.0) Primary))
+refusal Publish lane past = option_or (without_primary past) (when (cut_has_put past && names_are_spent past) NamesSpent)
+refusal (Copy n) lane past = option_or (without_node n.0 past) (option_or (without_primary past) (when (is_at (primary_of past) n.0) Primary))
 refusal Settle lane past = without_primary past
 refusal (Search n query) lane past = without_node n.0 past
-refusal (Open n t) lane past = or_else (when (has_ticket lane t.0 past) NameUsed) (without_node n.0 past)
-refusal (Ask t query) lane past = without_ticket lane t.0 past
-refusal (Close t) lane past = without_ticket lane t.0 past
+refusal (Open n t) lane past = option_or (when (has_ticket lane t.0 past) NameUsed) (without_node n.0 past)
+refusal (Ask t query) lane past = when (not (has_ticket lane t.0 past)) NoTicket
+refusal (Close t) lane past = when (not (has_ticket lane t.0 past)) NoTicket
 refusal (Commit n) lane past = without_node n.0 past
 refusal (Crash n pick) lane past = without_node n.0 past
 refusal (Reopen n) lane past = when (is_running n.0 past) Up
 refusal (Promote n force) lane past =
-    or_else (without_node n.0 past)
-    (or_else (when (not (is_vacant (primary_of past))) PrimaryUp)
-    (or_else (when (nat_le (2 ^ 62) (forced_version force past)) ForceHigh)
+    option_or (without_node n.0 past)
+    (option_or (when (is_some (primary_of past)) PrimaryUp)
+    (option_or (when (nat_le (2 ^ 62) (forced_version force past)) ForceHigh)
     (when (nat_lt (forced_version force past) (newest_version past)) (ForceLow (record { 0 = newest_version past })))))
 refusal (Merge factor) lane past = without_primary past
 refusal (Drain most) lane past = None
 refusal (Files n) lane past = without_node n.0 past
 refusal (Fault n plan) lane past = None
 
-abbrev pub put_publishes_by : Event → Bool → ℕ → ℕ
-put_publishes_by (Published g w) has_put k = if has_put then k + 1 else k
-put_publishes_by e has_put k = k
-
 -- how many publishes had a put, and so made a segment
 abbrev pub put_publishes : Past → ℕ
 put_publishes [] = 0
-put_publishes (e ∷ past) = put_publishes_by e.event (cut_has_put (before_start e.at past)) (put_publishes past)
+put_publishes (e ∷ past) = let k = put_publishes past in
+    let has_put = cut_has_put (before_start e.at past) in
+    elim e.event [ Published g w ↦ if has_put then k + 1 else k | _ ↦ k ]
 
 -- there may be 256 segments: as many publishes made one, and, where no merge was started, each still has a document
 abbrev pub may_be_full : Past → Bool
@@ -112,12 +96,10 @@ is_copy_cause cause = false
 
 -- what a line may be refused for after it has started
 abbrev pub is_late_cause : LineCommand → Cause → Bool
-is_late_cause Publish Lost = true
-is_late_cause Publish DiskFault = true
+is_late_cause Publish cause = is_loss cause || is_disk_fault cause
 is_late_cause (Copy n) cause = is_copy_cause cause
 is_late_cause Settle cause = is_copy_cause cause
-is_late_cause (Search n query) Lost = true
-is_late_cause (Ask t query) Lost = true
-is_late_cause (Commit n) Lost = true
-is_late_cause (Commit n) DiskFault = true
+is_late_cause (Search n query) cause = is_loss cause
+is_late_cause (Ask t query) cause = is_loss cause
+is_late_cause (Commit n) cause = is_loss cause || is_disk_fault cause
 is_late_cause command cause = false

@@ -1,5 +1,5 @@
 -- Which histories serve a script: they answer each line once, in order, with what it asks for.
-use Rattle.std.specs.Prelude.{ℕ, ◌≡◌, ◌≤◌, List, [], ◌∷◌, reverse, Bool, true, false, ◌||◌, ◌==◌, ⊤, Option, Some, None}
+use Rattle.std.specs.Prelude.{◌≡◌, ◌≤◌, List, [], ◌∷◌, reverse, Bool, true, false, ◌||◌, ⊤, Option, Some, None}
 use Rattle.nrt_base.specs.declared.numbers.At.{At}
 use Rattle.documents.specs.declared.operation.Op.{Op}
 use Rattle.documents.specs.declared.operation.Op.TheVariants.{Put as PutOp, Delete as DeleteOp, Drop as DropOp}
@@ -90,16 +90,13 @@ abbrev pub Fits : List Op → List Line → Past → At → Option LineCommand �
 Fits [] lines past at command e = FitsTurn lines past at command e
 Fits (op ∷ ops) lines past at command e = FitsReplay op past at command e
 
--- the claim is made of the entries of the lane alone
-abbrev pub OnLane : Bool → Type 0 → Type 0
-OnLane true claim = claim
-OnLane false claim = ⊤
-
--- each entry of a lane is one that its line asks for, in the line's turn or in the replay of a script with a log
-abbrev pub ServesLane : Bool → ℕ → List Line → Past → Type 0
-ServesLane log lane lines [] = ⊤
-ServesLane log lane lines (e ∷ past) =
-    OnLane (e.at.lane.0 == lane) (Fits (due log past) lines past e.at (command_at lines e.at) e.event) × ServesLane log lane lines past
+-- each entry is one that its line asks for, in the line's turn in its lane or in the replay of a script
+-- with a log
+abbrev pub ServesLanes : Script → Past → Type 0
+ServesLanes script [] = ⊤
+ServesLanes script (e ∷ past) = let lines = lines_of_lane e.at.lane.0 script in
+    Fits (due script.log past) lines past e.at (command_at lines e.at) e.event
+    × ServesLanes script past
 
 -- the entry is a fault of a merge
 abbrev pub is_merge_fault : Option LineCommand → Event → Bool
@@ -115,7 +112,7 @@ ServesPhases lines phases (e ∷ past) =
 -- a history serves a script where each lane's lines are answered once, in order, phase follows phase, and what a log has is accepted again behind each promotion
 pub record Serves (script : Script) (h : History) : Type 0 where
   pub nodes : h.nodes ≡ script.nodes
-  pub lanes : (lane : ℕ) → ServesLane script.log lane (lines_of_lane lane script) (reverse h.entries)
+  pub lanes : ServesLanes script (reverse h.entries)
   pub phases : ServesPhases (lines_of script) script.phases (reverse h.entries)
   pub answered : all_answered (lines_of script) (reverse h.entries) ≡ true
   pub replayed : due script.log (reverse h.entries) ≡ []

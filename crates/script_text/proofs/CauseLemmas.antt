@@ -8,8 +8,8 @@ use Rattle.text_query.specs.Answers.{IsFault}
 use Rattle.script_text.specs.declared.fault.LineFault.{LineFault}
 use Rattle.script_text.specs.declared.fault.LineFault.TheVariants.{NoNodes, Word, Count, Range, Query as RefusedQuery, Text, NotBuilt}
 use Rattle.script_text.specs.declared.counted.Counted.{Counted}
-use Rattle.script_text.specs.Grammar.{Statement, words_in, rest_behind, is_printable, most_statements, is_promotion, AreAllowed}
-use Rattle.script_text.specs.Refused.{Place, later, Form, no_nodes, join, lane_line, no_form, form_of, form_at, is_digits, has_wrong_word, has_wrong_count, is_in_range, has_query, has_log, has_room, counted_with, CauseHolds, order_of, IsFirstCause, IsRight}
+use Rattle.script_text.specs.Grammar.{Statement, words_in, rest_behind, most_statements, is_promotion, AreAllowed}
+use Rattle.script_text.specs.Refused.{Place, later, Form, no_nodes, join, lane_line, no_form, form_of, form_at, is_digits, has_wrong_word, has_wrong_count, is_in_range, has_query, has_log, has_room, counted_with, CauseHolds, order_of, IsFirstCause, IsRight, is_printable}
 
 -- no cause before the k-th holds
 no_earlier : (place : Place) (before : Counted) (statement : Statement) (k : ℕ)

@@ -10,8 +10,8 @@ use Rattle.nrt_base.specs.declared.numbers.LaneNo.{LaneNo}
 use Rattle.script_text.specs.declared.counted.Counted.{Counted}
 use Rattle.script_serving.specs.declared.script.LineCommand.{LineCommand}
 use Rattle.script_text.specs.declared.shapes.Name.{Name}
-use Rattle.script_text.specs.Grammar.{Statement, words_in, rest_behind, is_printable, SpellsLine}
-use Rattle.script_text.specs.Refused.{command, lane_line, later, is_digits, asked, is_unknown, is_miscounted, is_number_in, is_asked_in_range, asks_query, has_room, IsRight, shape_of}
+use Rattle.script_text.specs.Grammar.{Statement, words_in, rest_behind, SpellsLine}
+use Rattle.script_text.specs.Refused.{command, lane_line, later, is_digits, asked, is_unknown, is_miscounted, is_number_in, is_asked_in_range, asks_query, has_room, IsRight, shape_of, is_printable}
 use Rattle.script_text.specs.Reading.{front_of, lane_named, IsCommandOf}
 use Rattle.script_text.proofs.NumberLemmas.{number_case}
 use Rattle.script_text.proofs.CauseLemmas.{lane_form, no_cause}

@@ -1,19 +1,19 @@
-pub mod AnswerLaws
-pub mod CauseLemmas
-pub mod CommandLemmas
-pub mod DropLemmas
-pub mod FormLemmas
-pub mod HeaderLemmas
-pub mod LaneLineLemmas
-pub mod LineLemmas
+mod AnswerLaws
+mod CauseLemmas
+mod CommandLemmas
+mod DropLemmas
+mod FormLemmas
+mod HeaderLemmas
+mod LaneLineLemmas
+mod LineLemmas
 pub mod NumberLaws
-pub mod NumberLemmas
-pub mod OneLine
-pub mod PhaseLemmas
+mod NumberLemmas
+mod OneLine
+mod PhaseLemmas
 pub mod RefusalLaws
-pub mod RightForms
+mod RightForms
 pub mod RightLines
-pub mod ScriptLaws
-pub mod ShapeLemmas
+mod ScriptLaws
+mod ShapeLemmas
 pub mod WordLaws
-pub mod WordLemmas
+mod WordLemmas

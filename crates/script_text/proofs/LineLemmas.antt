@@ -7,8 +7,9 @@ use Rattle.std.proofs.lemmas.Option.{none-some, same_Some}
 use Rattle.std.proofs.lemmas.List.{take_rest}
 use Rattle.std.proofs.lemmas.List.Folds.{length-prefix_len}
 use Rattle.script_text.proofs.WordLemmas.{words_without, first_is_none}
-use Rattle.script_text.specs.Reading.{IsNextStatement}
-use Rattle.script_text.specs.Grammar.{statements_from, lines_of_text, with_byte, is_line_feed, is_statement, without_spaces, words_in, join_word, has_words, is_comment}
+use Rattle.script_text.specs.Reading.{IsNextStatement, is_line_feed}
+use Rattle.script_text.specs.Grammar.{statements_from, lines_of_text, is_statement, without_spaces, words_in, join_word, has_words, is_comment}
+use Rattle.std.specs.List.{onto_first}
 
 -- how many bytes stand before the first line feed
 abbrev front : List ℕ → ℕ
@@ -56,7 +57,7 @@ pub only_line : (text : List ℕ) (at : ℕ) → at ≡ length (take_while (λ b
     → lines_of_text text ≡ text ∷ []
 only_line text at e h some = whole text at (sym (length-prefix_len (λ b. not (is_line_feed b)) text) ∙ sym e) h some
 
-some_front : (b : ℕ) (words : List (List ℕ)) → (has_words (with_byte b words) && not (is_comment (with_byte b words))) ≡ not (b == 35)
+some_front : (b : ℕ) (words : List (List ℕ)) → (has_words (onto_first b words) && not (is_comment (onto_first b words))) ≡ not (b == 35)
 some_front b [] = refl
 some_front b (word ∷ words) = refl
 

@@ -21,7 +21,8 @@ use Rattle.script_serving.specs.declared.script.Line.{Line}
 use Rattle.script_serving.specs.declared.script.LineCommand.{LineCommand}
 use Rattle.script_serving.specs.declared.script.LineCommand.TheVariants.{Put, Delete, Drop, Publish, Copy, Settle, Search, Open, Ask, Close, Commit, Crash, Reopen, Promote, Merge, Drain, Files, Fault}
 use Rattle.script_serving.specs.Form.{is_plan, is_force, is_command}
-use Rattle.script_text.specs.Grammar.{Statement, words_in, word_at, rest_behind, force_word, fault_words, command_words, Ends, SpellsLine}
+use Rattle.script_text.specs.Grammar.{Statement, words_in, word_at, rest_behind, force_word, command_words, Ends, SpellsLine}
+use Rattle.history_entries.specs.Faults.{plan_words}
 use Rattle.script_text.specs.Refused.{value_of}
 use Rattle.script_text.proofs.NumberLaws.{value_of-decimal, digits_of-decimal, other_word}
 use Rattle.script_text.proofs.RightLines.{between_high, three_words}
@@ -112,7 +113,7 @@ said_force (Exactly f) h =
     rw other (ap Exactly value)
 
 -- a plan of one number
-said_plan : (n : ℕ) (plan : FaultPlan) → is_plan plan ≡ true → fault_said (fault_words n plan) ≡ whole (Fault (record { 0 = value_of (decimal n) }) plan)
+said_plan : (n : ℕ) (plan : FaultPlan) → is_plan plan ≡ true → fault_said (plan_words n plan) ≡ whole (Fault (record { 0 = value_of (decimal n) }) plan)
 said_plan n (Link k) h = ap (λ (m : ℕ). whole (Fault (record { 0 = value_of (decimal n) }) (Link m))) (number_said 1 1000000 k (omega arith) h)
 said_plan n (Damage k at) h =
     let parts = and_parts (is_between 1 1000000 k) (is_between 0 (2 ^ 32 - 1) at) h in

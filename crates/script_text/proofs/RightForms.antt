@@ -10,10 +10,10 @@ use Rattle.text_query.specs.declared.fault.QueryFault.{QueryFault}
 use Rattle.text_query.specs.Answers.{Parses, IsFault}
 use Rattle.text_query.proofs.FaultLemmas.{fault_answered}
 use Rattle.script_text.specs.declared.fault.LineFault.TheVariants.{NoNodes, Word, Count, Range, Query as RefusedQuery, Text, NotBuilt}
-use Rattle.script_text.specs.Grammar.{Statement, words_in, rest_behind, is_printable, IsNodesHeader, IsWorkersHeader, IsLogHeader, IsJoin, is_promotion}
+use Rattle.script_text.specs.Grammar.{Statement, words_in, rest_behind, IsNodesHeader, IsWorkersHeader, IsLogHeader, IsJoin, is_promotion}
 use Rattle.script_text.specs.declared.counted.Counted.{Counted}
 use Rattle.script_text.specs.Reading.{headers_counted}
-use Rattle.script_text.specs.Refused.{is_digits, is_digit, is_number_in, Shape, command, asked, is_unknown, is_too_few_or_many, is_miscounted, are_kinds, is_short, is_asked_in_range, asks_query, Place, first as first_place, second as second_place, third as third_place, later as later_place, has_log, has_room, is_headed, next_place, none_counted, counted_with, log_header, logged_form, Form, no_nodes, nodes_header, workers_header, join, lane_line, later_form, form_of, form_at, has_wrong_word, has_wrong_count, is_in_range, has_query, IsRight}
+use Rattle.script_text.specs.Refused.{is_digits, is_digit, is_number_in, Shape, command, asked, is_unknown, is_too_few_or_many, is_miscounted, are_kinds, is_short, is_asked_in_range, asks_query, Place, first as first_place, second as second_place, third as third_place, later as later_place, has_log, has_room, is_headed, next_place, none_counted, counted_with, log_header, logged_form, Form, no_nodes, nodes_header, workers_header, join, lane_line, later_form, form_of, form_at, has_wrong_word, has_wrong_count, is_in_range, has_query, IsRight, is_printable}
 use Rattle.script_text.proofs.NumberLaws.{number_in, digits_of-decimal, other_word, printable_digits}
 use Rattle.script_text.proofs.WordLaws.{printable_line}
 

@@ -18,7 +18,8 @@ use Rattle.script_serving.specs.declared.script.Line.{Line}
 use Rattle.script_serving.specs.declared.script.LineCommand.{LineCommand}
 use Rattle.script_serving.specs.declared.script.LineCommand.TheVariants.{Put, Delete, Drop, Publish, Copy, Settle, Search, Open, Ask, Close, Commit, Crash, Reopen, Promote, Merge, Drain, Files, Fault}
 use Rattle.script_serving.specs.Form.{is_plan, is_force, is_command}
-use Rattle.script_text.specs.Grammar.{Statement, words_in, rest_behind, force_word, fault_words, command_words, IsQueryText, Ends, SpellsLine}
+use Rattle.script_text.specs.Grammar.{Statement, words_in, rest_behind, force_word, command_words, IsQueryText, Ends, SpellsLine}
+use Rattle.history_entries.specs.Faults.{plan_words}
 use Rattle.script_text.specs.Refused.{is_number_in, Kind, number as number_kind, node as node_kind, force as force_kind, key as key_kind, letters as letters_kind, nothing, text as text_tail, query as query_tail, Shape, shape as shape_with, command, asked, is_kind, are_kinds, is_short, is_too_few_or_many, lane_line, Place, has_room, IsRight}
 use Rattle.script_text.proofs.NumberLaws.{number_in, digits_of-decimal, is_digits-decimal}
 use Rattle.script_text.proofs.WordLaws.{words_after, nothing_behind}
@@ -123,21 +124,21 @@ module _ (size : ℕ) (small : size ≤ 16) where
         searched = λ searches. record { query = query; parses = text.1 };
       }
 
-  right_fault : (n : ℕ) (plan : FaultPlan) (rest : List ℕ) → is_between 1 size n ≡ true → is_plan plan ≡ true → AreRight size (codes "fault" ∷ fault_words n plan) rest
+  right_fault : (n : ℕ) (plan : FaultPlan) (rest : List ℕ) → is_between 1 size n ≡ true → is_plan plan ≡ true → AreRight size (codes "fault" ∷ plan_words n plan) rest
   right_fault n (Link k) rest h p =
-      plain size (shape_with (codes "link") (node_kind ∷ number_kind 1 1000000 ∷ []) nothing) (decimal n ∷ decimal k ∷ []) (codes "fault" ∷ fault_words n (Link k)) rest refl refl refl
+      plain size (shape_with (codes "link") (node_kind ∷ number_kind 1 1000000 ∷ []) nothing) (decimal n ∷ decimal k ∷ []) (codes "fault" ∷ plan_words n (Link k)) rest refl refl refl
       (two_kinds size node_kind (number_kind 1 1000000) (decimal n) (decimal k) (node_is n h) (number_is size 1 1000000 k (omega arith) p))
   right_fault n (Damage k at) rest h p =
       let parts = and_parts (is_between 1 1000000 k) (is_between 0 (2 ^ 32 - 1) at) p in
       plain size (shape_with (codes "damage") (node_kind ∷ number_kind 1 1000000 ∷ number_kind 0 (2 ^ 32 - 1) ∷ []) nothing) (decimal n ∷ decimal k ∷ decimal at ∷ [])
-      (codes "fault" ∷ fault_words n (Damage k at)) rest refl refl refl
+      (codes "fault" ∷ plan_words n (Damage k at)) rest refl refl refl
       (three_kinds size node_kind (number_kind 1 1000000) (number_kind 0 (2 ^ 32 - 1)) (decimal n) (decimal k) (decimal at)
       (node_is n h) (number_is size 1 1000000 k (omega arith) parts.0) (number_is size 0 (2 ^ 32 - 1) at (omega arith) parts.1))
   right_fault n (Disk k) rest h p =
-      plain size (shape_with (codes "disk") (node_kind ∷ number_kind 1 1000000 ∷ []) nothing) (decimal n ∷ decimal k ∷ []) (codes "fault" ∷ fault_words n (Disk k)) rest refl refl refl
+      plain size (shape_with (codes "disk") (node_kind ∷ number_kind 1 1000000 ∷ []) nothing) (decimal n ∷ decimal k ∷ []) (codes "fault" ∷ plan_words n (Disk k)) rest refl refl refl
       (two_kinds size node_kind (number_kind 1 1000000) (decimal n) (decimal k) (node_is n h) (number_is size 1 1000000 k (omega arith) p))
   right_fault n (Stop k) rest h p =
-      plain size (shape_with (codes "stop") (node_kind ∷ number_kind 1 1000000 ∷ []) nothing) (decimal n ∷ decimal k ∷ []) (codes "fault" ∷ fault_words n (Stop k)) rest refl refl refl
+      plain size (shape_with (codes "stop") (node_kind ∷ number_kind 1 1000000 ∷ []) nothing) (decimal n ∷ decimal k ∷ []) (codes "fault" ∷ plan_words n (Stop k)) rest refl refl refl
       (two_kinds size node_kind (number_kind 1 1000000) (decimal n) (decimal k) (node_is n h) (number_is size 1 1000000 k (omega arith) p))
 
   -- a line of a command whose words are all there are

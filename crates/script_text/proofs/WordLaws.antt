@@ -6,7 +6,9 @@ use Rattle.std.specs.List.{list_all}
 use Rattle.std.proofs.lemmas.Bool.Decides.{nat_tests}
 use Rattle.std.proofs.lemmas.Bool.{cases_Bool, and_from, and_parts}
 use Rattle.nrt_base.specs.Bytes.{is_text_byte}
-use Rattle.script_text.specs.Grammar.{with_byte, join_word, words_in, without_spaces, without_end, behind_word, rest_behind, is_printable}
+use Rattle.script_text.specs.Grammar.{join_word, words_in, without_spaces, without_end, behind_word, rest_behind}
+use Rattle.script_text.specs.Refused.{is_printable}
+use Rattle.std.specs.List.{onto_first}
 
 -- the words without the first
 abbrev pub words_behind : List (List ℕ) → List (List ℕ)
@@ -18,7 +20,7 @@ abbrev pub words_after : ℕ → List (List ℕ) → List (List ℕ)
 words_after zero words = words
 words_after (suc n) words = words_after n (words_behind words)
 
-behind-with_first : (b : ℕ) (words : List (List ℕ)) → words_behind (with_byte b words) ≡ words_behind words
+behind-with_first : (b : ℕ) (words : List (List ℕ)) → words_behind (onto_first b words) ≡ words_behind words
 behind-with_first b [] = refl
 behind-with_first b (word ∷ words) = refl
 
@@ -42,12 +44,12 @@ words_in-behind (b ∷ line) =
 some_joined : (b : ℕ) (line : List ℕ) (words : List (List ℕ)) → join_word b line words ≡ [] → ⊥
 some_joined b [] words e = cc
 some_joined b (c ∷ rest) words e =
-    elim (is_space c) as (λ t. (if t then (b ∷ []) ∷ words else with_byte b words) ≡ [] → ⊥) [
+    elim (is_space c) as (λ t. (if t then (b ∷ []) ∷ words else onto_first b words) ≡ [] → ⊥) [
       | true ↦ λ none. cc
       | false ↦ some_first b words
     ] e
   where
-    some_first : (b : ℕ) (words : List (List ℕ)) → with_byte b words ≡ [] → ⊥
+    some_first : (b : ℕ) (words : List (List ℕ)) → onto_first b words ≡ [] → ⊥
     some_first b [] e = cc
     some_first b (word ∷ words) e = cc
 
@@ -79,7 +81,7 @@ printable_word b word words all =
     let bytes = and_parts (is_text_byte b) (list_all is_text_byte word) parts.0 in
     record { byte = bytes.0; each = and_from (is_printable word) (list_all is_printable words) bytes.1 parts.1 }
 
-printable-with_first : (b : ℕ) (words : List (List ℕ)) → list_all is_printable (with_byte b words) ≡ true → ArePrintable b words
+printable-with_first : (b : ℕ) (words : List (List ℕ)) → list_all is_printable (onto_first b words) ≡ true → ArePrintable b words
 printable-with_first b [] all =
     let parts = printable_word b [] [] all in
     record { byte = parts.byte; each = refl }
@@ -93,7 +95,7 @@ printable_alone b words all =
 printable-join_word : (b : ℕ) (line : List ℕ) (words : List (List ℕ)) → list_all is_printable (join_word b line words) ≡ true → ArePrintable b words
 printable-join_word b [] words all = printable_alone b words all
 printable-join_word b (c ∷ rest) words all =
-    elim (is_space c) as (λ t. list_all is_printable (if t then (b ∷ []) ∷ words else with_byte b words) ≡ true → ArePrintable b words) [
+    elim (is_space c) as (λ t. list_all is_printable (if t then (b ∷ []) ∷ words else onto_first b words) ≡ true → ArePrintable b words) [
       | true ↦ printable_alone b words
       | false ↦ printable-with_first b words
     ] all

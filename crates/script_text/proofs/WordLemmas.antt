@@ -8,7 +8,9 @@ use Rattle.std.proofs.lemmas.Bool.{and_parts}
 use Rattle.std.proofs.lemmas.List.{take_rest, length-drop}
 use Rattle.std.proofs.lemmas.List.Folds.{length-prefix_len}
 use Rattle.std.proofs.lemmas.Bool.Decides.{nat_tests}
-use Rattle.script_text.specs.Grammar.{words_in, join_word, with_byte, without_spaces, without_end, unless_space, behind_word, rest_behind, is_printable, word_at}
+use Rattle.script_text.specs.Grammar.{words_in, join_word, without_spaces, without_end, unless_space, behind_word, rest_behind, word_at}
+use Rattle.script_text.specs.Refused.{is_printable}
+use Rattle.std.specs.List.{onto_first}
 use Rattle.script_text.specs.Reading.{is_key_word}
 
 spaces_dropped : (line : List ℕ) (n : ℕ) → prefix_len is_space line ≡ n → drop n line ≡ without_spaces line
@@ -70,10 +72,10 @@ word_split b (c ∷ line) (suc n) f e = by_test (is_space c) refl (word_split c 
     by_test false g ih =
         let z : 1 + front line ≡ suc n = rw g at e in
         let i : words_in (c ∷ line) ≡ (c ∷ take n line) ∷ words_in (drop n line) = ih g (omega arith) in
-        joined b (c ∷ line) f ∙ (joins g ∙ ap (with_byte b) i)
+        joined b (c ∷ line) f ∙ (joins g ∙ ap (onto_first b) i)
       where
-        joins : is_space c ≡ false → join_word b (c ∷ line) (words_in (c ∷ line)) ≡ with_byte b (words_in (c ∷ line))
-        joins h = ap (λ (u : Bool). if u then (b ∷ []) ∷ words_in (c ∷ line) else with_byte b (words_in (c ∷ line))) h
+        joins : is_space c ≡ false → join_word b (c ∷ line) (words_in (c ∷ line)) ≡ onto_first b (words_in (c ∷ line))
+        joins h = ap (λ (u : Bool). if u then (b ∷ []) ∷ words_in (c ∷ line) else onto_first b (words_in (c ∷ line))) h
 
 -- the spaces at the front are in no word
 pub words_without : (line : List ℕ) → words_in line ≡ words_in (without_spaces line)
@@ -216,7 +218,7 @@ words_are_full (b ∷ line) p =
     let h = and_parts (is_text_byte b) (is_printable line) p in
     by_test (is_space b) refl (words_are_full line h.1) h.0
   where
-    front_full : (b : ℕ) (words : List (List ℕ)) → is_key_byte b ≡ true → list_all is_key_word words ≡ true → list_all is_key_word (with_byte b words) ≡ true
+    front_full : (b : ℕ) (words : List (List ℕ)) → is_key_byte b ≡ true → list_all is_key_word words ≡ true → list_all is_key_word (onto_first b words) ≡ true
     front_full b [] f g = rw f refl
     front_full b (word ∷ words) f g =
         let h = and_parts (is_key_word word) (list_all is_key_word words) g in

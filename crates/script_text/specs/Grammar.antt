@@ -1,15 +1,14 @@
 -- The grammar of scripts: the lines of a text, the statements among them, and the script that they spell.
 use Rattle.text_query.specs.Tokens.{is_space}
 use Rattle.std.specs.Prelude.{ℕ, zero, suc, ◌≡◌, ◌+◌, ◌≤◌, ◌⊎◌, List, [], ◌∷◌, ◌++◌, map, filter, length, take, codes, Bool, true, false, ◌&&◌, not, ◌==◌, if◌then◌else◌, IsTrue, bytes_eq}
-use Rattle.std.specs.List.{list_all}
+use Rattle.std.specs.List.{list_all, onto_first}
 use Rattle.std.specs.Fmt.{decimal}
 use Rattle.nrt_base.specs.Bytes.{is_between, is_text_byte}
 use Rattle.nrt_base.specs.declared.numbers.LaneNo.{LaneNo}
 use Rattle.text_query.specs.Answers.{Parses}
 use Rattle.documents.specs.declared.query.Query.{Query}
 use Rattle.documents.specs.Words.{is_alphanumeric, words_of}
-use Rattle.history_entries.specs.declared.cause.FaultPlan.{FaultPlan}
-use Rattle.history_entries.specs.declared.cause.FaultPlan.TheVariants.{Link, Damage, Disk, Stop}
+use Rattle.history_entries.specs.Faults.{plan_words}
 use Rattle.script_serving.specs.declared.script.Force.{Force}
 use Rattle.script_serving.specs.declared.script.Force.TheVariants.{Auto, Exactly}
 use Rattle.script_serving.specs.declared.script.Line.{Line}
@@ -19,24 +18,15 @@ use Rattle.script_serving.specs.declared.script.Phase.{Phase}
 use Rattle.script_serving.specs.declared.script.Script.{Script}
 use Rattle.script_serving.specs.Form.{is_command}
 
--- the byte that ends a line
-abbrev pub is_line_feed : ℕ → Bool
-is_line_feed b = b == 10
-
--- the first piece goes on with a byte in front
-abbrev pub with_byte : ℕ → List (List ℕ) → List (List ℕ)
-with_byte b [] = (b ∷ []) ∷ []
-with_byte b (piece ∷ pieces) = (b ∷ piece) ∷ pieces
-
 -- the lines of a text: each ends by a line feed, which the last may lack
 abbrev pub lines_of_text : List ℕ → List (List ℕ)
 lines_of_text [] = []
-lines_of_text (b ∷ bytes) = if is_line_feed b then [] ∷ lines_of_text bytes else with_byte b (lines_of_text bytes)
+lines_of_text (b ∷ bytes) = if b == 10 then [] ∷ lines_of_text bytes else onto_first b (lines_of_text bytes)
 
 -- the word goes on where the next byte is no space
 abbrev pub join_word : ℕ → List ℕ → List (List ℕ) → List (List ℕ)
 join_word b [] words = (b ∷ []) ∷ words
-join_word b (c ∷ rest) words = if is_space c then (b ∷ []) ∷ words else with_byte b words
+join_word b (c ∷ rest) words = if is_space c then (b ∷ []) ∷ words else onto_first b words
 
 -- the words of a line: its longest runs of bytes that are no spaces
 abbrev pub words_in : List ℕ → List (List ℕ)
@@ -103,21 +93,10 @@ statements_from n (line ∷ lines) =
 abbrev pub statements_of : List ℕ → List Statement
 statements_of bytes = statements_from 1 (lines_of_text bytes)
 
--- every byte of a statement is printable
-abbrev pub is_printable : List ℕ → Bool
-is_printable line = list_all is_text_byte line
-
 -- the word of a forced version
 abbrev pub force_word : Force → List ℕ
 force_word Auto = codes "auto"
 force_word (Exactly f) = decimal f
-
--- the words of a planned fault at a node
-abbrev pub fault_words : ℕ → FaultPlan → List (List ℕ)
-fault_words n (Link k) = codes "link" ∷ decimal n ∷ decimal k ∷ []
-fault_words n (Damage k at) = codes "damage" ∷ decimal n ∷ decimal k ∷ decimal at ∷ []
-fault_words n (Disk k) = codes "disk" ∷ decimal n ∷ decimal k ∷ []
-fault_words n (Stop k) = codes "stop" ∷ decimal n ∷ decimal k ∷ []
 
 -- the words of a command that is not followed by a text or a query
 abbrev pub command_words : LineCommand → List (List ℕ)
@@ -138,7 +117,7 @@ command_words (Promote n force) = codes "promote" ∷ decimal n.0 ∷ force_word
 command_words (Merge factor) = codes "merge" ∷ decimal factor ∷ []
 command_words (Drain most) = codes "drain" ∷ decimal most ∷ []
 command_words (Files n) = codes "files" ∷ decimal n.0 ∷ []
-command_words (Fault n plan) = codes "fault" ∷ fault_words n.0 plan
+command_words (Fault n plan) = codes "fault" ∷ plan_words n.0 plan
 
 -- the text is a query's, no longer than one may be, with this tree
 abbrev pub IsQueryText : List ℕ → Query → Type 0
@@ -161,7 +140,7 @@ Ends command line lane = words_in line ≡ decimal lane ∷ command_words comman
 
 -- the statement spells the line, where the nodes are 1 to the size
 pub record SpellsLine (size : ℕ) (statement : Statement) (line : Line) : Type 0 where
-  pub printable : IsTrue (is_printable statement.line)
+  pub printable : IsTrue (list_all is_text_byte statement.line)
   pub number : line.at.line.0 ≡ statement.number
   pub lane : IsTrue (is_between 1 8 line.at.lane.0)
   pub words : Ends line.command statement.line line.at.lane.0
@@ -178,12 +157,11 @@ IsJoin statement = words_in statement.line ≡ codes "join" ∷ []
 
 -- the statements spell the lines of these phases; each `join` ends one
 abbrev pub SpellsPhases : ℕ → List Statement → List (List Line) → Type 0
-SpellsPhases size [] [] = ⊥
 SpellsPhases size [] (phase ∷ []) = phase ≡ []
-SpellsPhases size [] (phase ∷ next ∷ phases) = ⊥
-SpellsPhases size (statement ∷ statements) [] = ⊥
 SpellsPhases size (statement ∷ statements) ([] ∷ phases) = IsJoin statement × SpellsPhases size statements phases
-SpellsPhases size (statement ∷ statements) ((line ∷ phase) ∷ phases) = SpellsLine size statement line × SpellsPhases size statements (phase ∷ phases)
+SpellsPhases size (statement ∷ statements) ((line ∷ phase) ∷ phases) =
+    SpellsLine size statement line × SpellsPhases size statements (phase ∷ phases)
+SpellsPhases size statements phases = ⊥
 
 -- the lines of a lane among those of a phase
 abbrev pub of_lane : ℕ → List Line → List Line
@@ -238,8 +216,7 @@ SpellsStatements (statement ∷ statements) script =
 
 -- how many statements a script may have
 abbrev pub most_statements : Bool → ℕ
-most_statements false = 200000
-most_statements true = 10000
+most_statements log = if log then 10000 else 200000
 
 -- the statement promotes: its second word says so
 abbrev pub is_promotion : List (List ℕ) → Bool

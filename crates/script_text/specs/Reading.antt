@@ -43,6 +43,10 @@ use Rattle.script_serving.specs.Form.{is_command}
 use Rattle.script_text.specs.Grammar.{Statement, statements_from, lines_of_text, words_in, word_at, rest_behind, Ends, SpellsLine, SpellsPhases, SpellsLogged, SpellsBody, SpellsScript, IsNodesHeader, IsWorkersHeader, IsLogHeader, IsJoin, phase_of, promotions_among, AreAllowed}
 use Rattle.script_text.specs.Refused.{letters, text, query, Shape, Asked, missing, unknown, command, first, second, third, later, none_counted, is_headed, is_kind, is_number_in, value_of, command_shapes, fault_shapes, shape_named, fault_shape, shape_of, is_asked_in_range, asks_query, IsFirstCause, IsRight, RefusesAmong, IsFirstRefused, nodes_said}
 
+-- the byte that ends a line
+abbrev pub is_line_feed : ℕ → Bool
+is_line_feed b = b == 10
+
 -- the fault of a script whose line of this number is refused so
 abbrev pub fault_on : ℕ → Refusal → ScriptFault
 fault_on n refusal.Memory = script_fault.Memory

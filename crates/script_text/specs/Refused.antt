@@ -1,7 +1,7 @@
 -- Which line of a text is the first that is refused, and why.
 use Rattle.std.specs.Prelude.{ℕ, ◌≡◌, ◌+◌, ◌-◌, ◌*◌, ◌≤◌, ◌<◌, ◌^◌, ◌⊎◌, List, [], ◌∷◌, map, length, codes, nat_eq, nat_lt, nat_le, Bool, true, false, ◌&&◌, ◌||◌, not, ◌==◌, if◌then◌else◌, Option, Some, None, bytes_eq}
 use Rattle.std.specs.List.{list_all}
-use Rattle.nrt_base.specs.Bytes.{is_between}
+use Rattle.nrt_base.specs.Bytes.{is_between, is_text_byte}
 use Rattle.text_query.specs.Answers.{IsFault}
 use Rattle.script_text.specs.declared.fault.LineFault.{LineFault}
 use Rattle.script_text.specs.declared.fault.LineFault.TheVariants.{NoNodes, Word, Count, Range, Query as RefusedQuery, Text, NotBuilt}
@@ -13,7 +13,11 @@ use Rattle.script_text.specs.declared.shapes.Name.{Name}
 use Rattle.script_text.specs.declared.shapes.Name.TheVariants as named
 use Rattle.script_text.specs.declared.counted.Counted.{Counted}
 use Rattle.documents.specs.Words.{is_alphanumeric}
-use Rattle.script_text.specs.Grammar.{Statement, statements_of, lines_of_text, words_in, word_at, rest_behind, is_printable, most_statements, is_promotion}
+use Rattle.script_text.specs.Grammar.{Statement, statements_of, lines_of_text, words_in, word_at, rest_behind, most_statements, is_promotion}
+
+-- every byte of a statement is printable
+abbrev pub is_printable : List ℕ → Bool
+is_printable line = list_all is_text_byte line
 
 -- the byte is a decimal digit
 abbrev pub is_digit : ℕ → Bool

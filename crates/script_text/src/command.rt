@@ -1,8 +1,8 @@
 ghost use Rattle.std.specs.Prelude.{◌≡◌, ◌++◌, length, drop, IsTrue, false};
 ghost use Rattle.std.specs.List.{list_all};
-ghost use Rattle.script_text.specs.Grammar.{words_in, is_printable as is_printable_lem};
+ghost use Rattle.script_text.specs.Grammar.{words_in};
 ghost use Rattle.documents.specs.Words.{is_alphanumeric};
-ghost use Rattle.script_text.specs.Refused.{is_too_few_or_many, is_kind, letters, shape_of};
+ghost use Rattle.script_text.specs.Refused.{is_too_few_or_many, is_kind, letters, shape_of, is_printable as is_printable_lem};
 ghost use Rattle.script_text.specs.Reading.{front_of, plain_command, plan_of, fault_command, is_key_word, IsQueryRead, IsDocRead, IsKeyRead, IsDropRead, IsSearchRead, IsAskRead, in_range as in_range_lem, IsCommandRead};
 
 use crate::fault::{LineFault, Refusal};

@@ -1,6 +1,6 @@
 ghost use Rattle.std.specs.Prelude.{◌≡◌, ◌∷◌, IsTrue, true, false, codes, bytes_eq};
-ghost use Rattle.script_text.specs.Grammar.{words_in, is_printable as is_printable_lem};
-ghost use Rattle.script_text.specs.Refused.{is_digits as is_digits_lem};
+ghost use Rattle.script_text.specs.Grammar.{words_in};
+ghost use Rattle.script_text.specs.Refused.{is_digits as is_digits_lem, is_printable as is_printable_lem};
 ghost use Rattle.script_text.specs.Reading.{IsLaterRead, IsLineRead};
 
 use crate::command::read_command;

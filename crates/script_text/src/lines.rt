@@ -1,6 +1,6 @@
 ghost use Rattle.std.specs.Prelude.{◌≡◌, ◌<◌, ◌≤◌, ◌+◌, ◌^◌, ⊤, [], ◌∷◌, length, take_while, not, MatchOption};
-ghost use Rattle.script_text.specs.Grammar.{lines_of_text, statements_from, is_line_feed, is_statement as is_statement_lem};
-ghost use Rattle.script_text.specs.Reading.{IsNextStatement};
+ghost use Rattle.script_text.specs.Grammar.{lines_of_text, statements_from, is_statement as is_statement_lem};
+ghost use Rattle.script_text.specs.Reading.{IsNextStatement, is_line_feed};
 
 use crate::words::without_spaces;
 

@@ -2,7 +2,8 @@ ghost use Rattle.text_query.specs.Tokens.{is_space};
 ghost use Rattle.std.specs.Prelude.{◌≡◌, ◌<◌, ⊤, ℕ, [], ◌∷◌, length, take_while, not, drop, MatchOption, bytes_eq};
 ghost use Rattle.std.specs.List.{list_all};
 ghost use Rattle.nrt_base.specs.Bytes.{is_text_byte};
-ghost use Rattle.script_text.specs.Grammar.{words_in, without_spaces as without_spaces_lem, without_end as without_end_lem, behind_word as behind_word_lem, rest_behind as rest_behind_lem, is_printable as is_printable_lem, word_at};
+ghost use Rattle.script_text.specs.Grammar.{words_in, without_spaces as without_spaces_lem, without_end as without_end_lem, behind_word as behind_word_lem, rest_behind as rest_behind_lem, word_at};
+ghost use Rattle.script_text.specs.Refused.{is_printable as is_printable_lem};
 
 /// How many spaces a line begins with.
 fn space_len(line: &[u8]) -> usize

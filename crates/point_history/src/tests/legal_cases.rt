@@ -45,7 +45,11 @@ const CASES: &str = "\
 5 published: 1 4 copying 3 2; 2 5 accepted 2 put_b; 2 6 publishing; 2 6 published 1 3; 1 4 switched 3 3
 5 two: 1 7 settling 3; 1 7 switched 3 2
 5 down: 1 6 settling 2; 2 7 reopened 2 1; 1 6 switched 2 2
+5 two: 1 7 crashed 3; 1 8 settling 3; 2 9 reopened 3 1; 1 8 switched 3 3
+5 promoted: 1 7 settling 3; 2 8 reopened 1 1; 1 7 switched 1 3
 5 copied: 1 5 settling 2; 2 6 accepted 2 put_b; 2 7 publishing; 2 7 published 1 3; 1 5 switched 2 3
+5 published: 1 4 settling 2; 2 5 copying 2 2; 2 5 switched 2 2; 2 6 accepted 2 put_b; 2 7 publishing; 2 7 published 1 3; 1 4 switched 2 3
+5 published: 1 4 settling 2; 2 5 copying 3 2; 2 5 switched 3 2; 2 6 accepted 2 put_b; 2 7 publishing; 2 7 published 1 3; 1 4 switched 3 3
 5 published: 1 4 copying 2 2; 2 5 accepted 2 put_b; 2 6 publishing; 2 6 published 1 3; 2 7 copying 2 3; 1 4 switched 2 2
 5 published: 1 4 copying 3 2; 2 5 accepted 2 put_b; 2 6 publishing; 2 6 published 1 3; 2 7 copying 3 3; 1 4 switched 3 2
 5 published: 1 4 settling 2; 2 5 accepted 2 put_b; 2 6 publishing; 2 6 published 1 3; 2 7 copying 2 3; 1 4 switched 2 2
@@ -53,6 +57,7 @@ const CASES: &str = "\
 5 promoted: 1 7 reopened 1 1; 1 8 settling 3; 1 8 switched 3 3; 1 8 switched 1 3
 5 promoted: 1 7 reopened 1 1; 1 8 accepted 2 put_b; 1 9 publishing; 1 9 published 2 4; 2 10 settling 4; 2 10 switched 3 4; 2 10 switched 1 4
 6 published: 1 4 copying 2 2; 1 4 copied 2 1
+6 published: 1 4 copying 3 2; 1 4 copied 3 1
 6 published: 1 4 copying 2 2; 1 4 copied 2 2
 6 copied: 1 5 copied 2 2
 6 published: 1 4 copying 2 2; 1 4 switched 2 2; 2 5 crashed 2; 1 4 copied 2 2
