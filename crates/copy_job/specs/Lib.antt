@@ -1,0 +1,5 @@
+pub mod Copying
+pub mod Parts
+pub mod Placing
+pub mod Jobs
+pub mod Held

@@ -1,0 +1,55 @@
+//! Why copies are refused.
+
+use copy_state::FileMetaData;
+use link_model::LinkFault;
+use file_names::FileName;
+use nrt_base::NoMemory;
+
+/// Why a copy is refused.
+#[derive(Debug, Drop)]
+pub enum JobFault {
+    /// Memory was wanting.
+    Memory,
+    /// The link failed.
+    LinkFailed,
+    /// The bytes that arrived are not those of the file.
+    Damaged {
+        name: FileName,
+        /// The checksum of the file's metadata.
+        want: u64,
+        /// The CRC-32 of what arrived before the checksum, or else the checksum that arrived.
+        found: u64,
+    },
+    /// The disk failed.
+    DirFailed,
+    /// A held file of that name has other metadata.
+    NameClash {
+        name: FileName,
+        ours: FileMetaData,
+        theirs: FileMetaData,
+    },
+}
+
+impl From<NoMemory> for JobFault {
+    ghost use Rattle.std.specs.Prelude.{◌≡◌};
+    ghost use Rattle.copy_job.specs.declared.fault.JobFault.TheVariants.{Memory};
+
+    ghost from_gives = { λ _ e. e ≡ Memory };
+
+    fn from(_: NoMemory) -> Self {
+        JobFault::Memory
+    }
+}
+
+impl From<LinkFault> for JobFault {
+    ghost use Rattle.copy_job.specs.Copying.{IsOfLink};
+
+    ghost from_gives = { IsOfLink };
+
+    fn from(fault: LinkFault) -> Self {
+        match fault {
+            LinkFault::Memory => JobFault::Memory,
+            LinkFault::Failed => JobFault::LinkFailed,
+        }
+    }
+}

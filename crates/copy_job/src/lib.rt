@@ -1,0 +1,16 @@
+//! Copies of files from one node to another.
+#![tactic(auto)]
+
+mod arriving;
+mod copying;
+mod fault;
+mod job;
+pub mod laws;
+mod part;
+mod placing;
+mod sorting;
+
+pub use copying::{Part, copy_file};
+pub use fault::JobFault;
+pub use job::CopyJob;
+pub use part::{JobKind, JobPart};
