@@ -2,7 +2,7 @@
 #![tactic(auto)]
 
 ghost use Rattle.std.specs.Prelude.{◌≡◌, ◌↔◌, ◌+◌, ◌≤◌, ◌<◌, length, IsTrue, MatchOption};
-ghost use Rattle.merge_choice.specs.Choice.{IsClass, IsRun, IsFirstRange, HasNoRange};
+ghost use Rattle.merge_choice.specs.Choice.{IsClass, IsRange, IsFirstRange, HasNoRange};
 
 // The class of a size: the greatest power of the factor that it reaches, and 0 for 0.
 fn class_of(size: u32, factor: u32) -> u32
@@ -22,7 +22,7 @@ fn class_of(size: u32, factor: u32) -> u32
 fn is_range(sizes: &[Option<u32>], at: usize, factor: u32) -> bool
     requires some { 2 ≤ factor }
     requires within { at < length sizes.now }
-    ensures { IsTrue result ↔ IsRun factor sizes.now at (at + factor) }
+    ensures { IsTrue result ↔ IsRange factor sizes.now at (at + factor) }
 {
     if sizes.len() - at < factor as usize {
         return false;
