@@ -1,0 +1,10 @@
+pub mod Holding
+pub mod Keeping
+pub mod Writing
+pub mod Publishing
+pub mod Starting
+pub mod StateLemmas
+pub mod Opening
+pub mod NextNames
+pub mod NextRecords
+pub mod Framing

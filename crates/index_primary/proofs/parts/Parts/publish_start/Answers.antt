@@ -1,0 +1,14 @@
+use Rattle.std.proofs.Common.{length, ap, arith, ◌≤◌, ◌≡◌, List, Option, Some, Result, Ok, Bool, true}
+use Rattle.documents.specs.declared.operation.Op.{Op}
+use Rattle.index_primary.proofs.Starting.{primary_starts}
+use Rattle.index_primary.proofs.parts.Parts.publish_start.Goals as goal
+
+judged : {E : Type 0} (r : Result (Option Bool) E) (o : Option Bool) (b : Bool) → r ≡ Ok o → o ≡ Some b → b ≡ true → r ≡ Ok (Some true)
+judged r o b a c d = cc
+
+pub returns-clause-whole : goal.returns-clause-whole
+returns-clause-whole g c =
+    let is = judged c.judge.result c.in-Ok-Some.field-0 c.in-Ok-Some.has_put c.in-Ok-Some.is c.in-Ok-Some.field-0-is c.if-not-has_put.false in
+    primary_starts g.D.Dir.cells c.args.self.now (length c.as_slice-count.result.now) c.requires.whole c.requires.none
+    (let e : length c.as_slice-count.result.now ≡ length c.args.self.now.waiting = ap (λ (ops : List Op). length ops) c.as_slice-count.ensures in omega (arith, e))
+    (c.judge.ensures.counter is) (c.judge.ensures.few is)

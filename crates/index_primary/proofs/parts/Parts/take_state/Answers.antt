@@ -1,0 +1,20 @@
+use Rattle.std.proofs.Common.{◌≡◌, ◌∙◌, sym, subst, List}
+use Rattle.disk_model.specs.Disk.{Name, Cells, reads_of}
+use Rattle.index_primary.proofs.Framing.{held_framed}
+use Rattle.file_deleter.specs.Holdings.{AreThere}
+use Rattle.file_deleter.specs.Moves.{MovesCounts}
+use Rattle.index_primary.proofs.Keeping.{point_names_there, primary_read, primary_states}
+use Rattle.index_primary.proofs.parts.Parts.take_state.Goals as goal
+
+pub metas_of-requires : goal.metas_of-requires
+metas_of-requires g c = rw (c.as_slice.ensures, c.in_ok-names.ensures) (held_framed (reads_of (g.D.Dir.cells c.args.self.now.dir)) c.args.self.now.point_infos c.args.self.now.searchers.point.readers c.args.self.now.searchers.point.names
+    c.requires.searched c.in_ok-infos.ensures.spelled.fit.records)
+
+pub lend-requires-clause-there : goal.lend-requires-clause-there
+lend-requires-clause-there g c = rw (c.as_slice-2.ensures, c.in_ok-names.ensures)
+    (subst (λ (k : Cells). AreThere k c.args.self.now.searchers.point.names) (sym c.in-Ok.ensures.cells) (point_names_there g.D.Dir.cells c.args.self.now c.requires))
+
+pub returns-in-Ok-lend-clause-whole : goal.returns-in-Ok-lend-clause-whole
+returns-in-Ok-lend-clause-whole g c =
+    primary_states g.D.Dir.cells (record c.args.self.now { dir = c.metas_of.new.dir }) (primary_read g.D.Dir.cells c.args.self.now c.requires c.metas_of.new.dir c.in-Ok.ensures.cells)
+    c.metas_of.new.dir c.lend.new.files c.lend.new.states c.in-Ok-lend.ensures.moves (rw (c.as_slice-2.ensures, c.in_ok-names.ensures) at c.in-Ok-lend.ensures.only)

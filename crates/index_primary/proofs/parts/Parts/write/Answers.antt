@@ -1,0 +1,28 @@
+use Rattle.std.proofs.Common.{◌≡◌, ◌≤◌, ◌+◌, true, sym, subst, List, ℕ}
+use Rattle.disk_model.specs.Disk.{Name, is_among}
+use Rattle.file_deleter.specs.Holdings.{count_of, times, AreThere}
+use Rattle.file_deleter.specs.Moves.{KeepsFiles, HoldsFiles, LetsGo}
+use Rattle.index_primary.proofs.Publishing.{fresh, once, twice_there, has_written, primary_unheld, primary_unwritten}
+use Rattle.index_primary.proofs.parts.Parts.write.Goals as goal
+
+pub write_all-requires-clause-fresh : goal.write_all-requires-clause-fresh
+write_all-requires-clause-fresh g c = rw c.as_slice.ensures (fresh g.D.Dir.cells c.args.self.now c.args.ready.now c.requires.whole c.requires.ready)
+
+pub write_all-requires-clause-once : goal.write_all-requires-clause-once
+write_all-requires-clause-once g c = rw c.as_slice.ensures (once g.D.Dir.cells c.args.self.now c.args.ready.now c.requires.whole c.requires.ready)
+
+pub returns-in-Err-clause-whole : goal.returns-in-Err-clause-whole
+returns-in-Err-clause-whole g c = primary_unwritten g.D.Dir.cells c.args.self.now c.args.ready.now c.requires.whole c.requires.ready c.write_all.new.dir c.write_all.new.files c.in-Err.ensures.same (rw c.as_slice.ensures at c.in-Err.ensures.keeps)
+
+pub hold_there-requires : goal.hold_there-requires
+hold_there-requires g c = rw c.as_slice-3.ensures (twice_there g.D.Dir.cells c.args.self.now c.args.ready.now c.requires.whole c.requires.ready c.write_all.new.dir c.write_all.new.files
+    (rw c.as_slice.ensures at c.in-Ok.ensures.counts) (rw c.as_slice.ensures at c.in-Ok.ensures.keeps))
+
+pub returns-in-Ok-hold_there-clause-written : goal.returns-in-Ok-hold_there-clause-written
+returns-in-Ok-hold_there-clause-written g c = has_written g.D.Dir.cells c.args.self.now c.args.ready.now c.requires.whole c.requires.ready c.write_all.new.dir c.write_all.new.files
+    (rw c.as_slice.ensures at c.in-Ok.ensures.counts) (rw c.as_slice.ensures at c.in-Ok.ensures.keeps) c.hold_there.new.self (rw c.as_slice-3.ensures at c.in-Ok-hold_there.ensures.holds) (rw c.as_slice-2.ensures at c.in-Ok.ensures.reads)
+
+pub returns-in-Err-hold_there-clause-whole : goal.returns-in-Err-hold_there-clause-whole
+returns-in-Err-hold_there-clause-whole g c = primary_unheld g.D.Dir.cells c.args.self.now c.args.ready.now c.requires.whole c.requires.ready c.write_all.new.dir c.write_all.new.files
+    (rw c.as_slice.ensures at c.in-Ok.ensures.counts) (rw c.as_slice.ensures at c.in-Ok.ensures.keeps) c.release.new.dir c.release.new.self
+    (rw (c.in-Err-hold_there.ensures.err, c.as_slice-in-Err-hold_there.ensures) at c.release.ensures.lets_go)

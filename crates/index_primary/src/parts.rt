@@ -1,0 +1,662 @@
+// A primary's parts.
+ghost use Rattle.std.specs.Prelude.{◌≡◌, ◌+◌, drop, ◌<◌, ◌≤◌, ◌^◌, ℕ, List, [], ◌∷◌, ◌++◌, Some, None, true, false, is_some, length, OnOk, OnErr, IfOk, IfErr, IfSome, IsSome, IsErrOf, Ok, Err, ◌⊎◌, ◌↔◌};
+ghost use Rattle.nrt_base.specs.Causes.{Rose};
+ghost use Rattle.std.specs.List.Sorted.{IsStrictlySortedBy};
+ghost use Rattle.std.specs.Ordering.{nat_cmp};
+ghost use Rattle.std.specs.Cmp.Lexicographic.{slice_cmp};
+ghost use Rattle.disk_model.specs.Disk.{Cells, is_among};
+ghost use Rattle.file_deleter.specs.Holdings.{times};
+ghost use Rattle.disk_model.specs.Disk.{reads_of};
+ghost use Rattle.index_primary.specs.States.{state_names, is_out, out_of, states_without, IsStateOf};
+ghost use Rattle.copy_state.specs.States.{AreShortNames, IsCopyState};
+ghost use Rattle.history_entries.specs.Points.{is_put};
+ghost use Rattle.index_primary.specs.Cut.{last_number, has_put, noted, IsIdle, AreSpent, AreTooMany};
+ghost use Rattle.commit_steps.specs.Commits.{ImagesHave};
+ghost use Rattle.commit_steps.specs.Book.{commit_of, shown_by, book_after, is_last_step, HasBegun};
+ghost use Rattle.searcher_switch.specs.Tickets.{ticket_at, tickets_without};
+ghost use Rattle.disk_model.specs.Faults.{IsMemoryOrFailed};
+ghost use Rattle.node_files.specs.Node.{IsWholeNode, KeepsCounts};
+ghost use Rattle.index_primary.specs.Cut.{after_cut};
+ghost use Rattle.node_files.specs.Standing.{IsStanding, ImagesStand};
+ghost use Rattle.nrt_base.specs.declared.doc.Doc.{Doc};
+ghost use Rattle.segment_infos.specs.Infos.{CanSpell};
+ghost use Rattle.segment_infos.specs.Files.{AreFilesOf};
+
+use crate::next::{FlushTask, NextSegments, Ready};
+use crate::states::{Merging, Out, give_back, lend, metas_of};
+use crate::write::{joined, names_in, write_all};
+use bytes::Bytes;
+use commit_steps::{CommitBook, CommitFault};
+use copy_state::CopyState;
+use disk_model::{Dir, DirFault};
+use documents::Op;
+use file_deleter::FileDeleter;
+use file_names::FileName;
+use nrt_base::{List, NoMemory, SegNo, Share, Version};
+use searcher_switch::{Lease, Searchers, Ticket};
+use seg_reader::Segment;
+use segment_infos::{Infos, encode, files_of};
+use std::alloc::Global;
+
+/// Why a call of a primary is refused.
+#[derive(Clone, Copy, Debug, PartialEq, Eq)]
+pub enum PrimaryFault {
+    /// Memory was wanting.
+    Memory,
+    /// The disk failed.
+    Failed,
+}
+
+impl From<NoMemory> for PrimaryFault {
+    ghost use Rattle.index_primary.specs.declared.parts.PrimaryFault.TheVariants.{Memory};
+
+    ghost from_gives = { λ _ e. e ≡ Memory };
+
+    fn from(_: NoMemory) -> Self {
+        PrimaryFault::Memory
+    }
+}
+
+/// Why a publish does not start.
+#[derive(Clone, Copy, Debug, PartialEq, Eq)]
+pub enum PublishFault {
+    /// Memory was wanting.
+    Memory,
+    /// A name is needed, and the generation has drawn all.
+    NamesSpent,
+    /// There is a put, and there are as many segments as there may be.
+    TooManySegments,
+}
+
+impl From<NoMemory> for PublishFault {
+    ghost use Rattle.index_primary.specs.declared.parts.PublishFault.TheVariants.{Memory};
+
+    ghost from_gives = { λ _ e. e ≡ Memory };
+
+    fn from(_: NoMemory) -> Self {
+        PublishFault::Memory
+    }
+}
+
+/// How many names a generation can draw.
+const NAMES: u32 = 1_679_616;
+
+/// How many segments infos may have.
+const SEGMENTS: usize = 256;
+
+/// A publish in flight: the number of the segment that it drew, and how many operations it takes.
+#[derive(Drop)]
+pub struct Publish {
+    pub seg: Option<u64>,
+    pub count: usize,
+}
+
+#[derive(Drop)]
+pub struct Parts<D> {
+    pub dir: D,
+    pub files: FileDeleter,
+    pub searchers: Searchers<Segment>,
+    pub commits: CommitBook,
+    /// The infos of the point that is searched.
+    pub point_infos: Infos,
+    /// The writer's infos, what reads their segments, and the names of their files.
+    pub infos: Infos,
+    pub segs: List<Segment>,
+    pub names: List<FileName>,
+    /// The copy states that are out.
+    pub states: List<Out>,
+    /// The merges in flight.
+    pub merges: List<Merging>,
+    /// The operations that are accepted and not published.
+    pub waiting: List<Op>,
+    pub accepted: u32,
+    pub publish: Option<Publish>,
+    /// Whether a merge was cut over since the last point.
+    pub has_cut_over: bool,
+    /// The files of the merges that were cut over in this generation.
+    pub completed: List<FileName>,
+}
+
+impl<D: Dir> Parts<D> {
+    ghost use Rattle.index_primary.specs.Primary.{IsPrimary, PartsStay, rest_loose, loose_of};
+    ghost use Rattle.searcher_switch.specs.Searching.{searcher_names};
+    ghost use Rattle.index_primary.specs.Held.{IsHeld, AreUndrawn, AreNumbered};
+    ghost use Rattle.index_primary.specs.Publishing.{IsStep, IsReady, HasWritten, next_infos};
+
+    // The writer's infos are those of the searchers' point: their files are held once more, and they are searched from now on.
+    fn open(&mut self, alloc: Global) -> Result<(), NoMemory>
+        requires node { IsWholeNode (D.cells self.old.dir) self.old.files (searcher_names self.old.searchers) self.old.commits }
+        requires standing { IsStanding (reads_of (D.cells self.old.dir)) self.old.commits }
+        requires held { IsHeld (reads_of (D.cells self.old.dir)) self.old.infos self.old.segs self.old.searchers.point.names }
+        requires undrawn { AreUndrawn self.old.files self.old.infos [] }
+        requires numbered { AreNumbered self.old.infos [] }
+        requires states { self.old.states ≡ [] }
+        requires merges { self.old.merges ≡ [] }
+        requires publish { self.old.publish ≡ None }
+        requires completed { AreShortNames self.old.completed }
+        ensures whole { OnOk result (IsPrimary D.cells self.new) }
+        ensures point { OnOk result ((self.new.searchers.point.version ≡ self.old.infos.version) × (self.new.searchers.point.readers ≡ self.old.segs) × (self.new.searchers.tickets ≡ self.old.searchers.tickets) × (self.new.point_infos ≡ self.old.infos)) }
+        ensures others { self.new ≡ record self.old { files = self.new.files; searchers = self.new.searchers; point_infos = self.new.point_infos; names = self.new.names } }
+    {
+        let names = List::from_vec(files_of(alloc, &self.infos)?);
+        let point_names = names.share(alloc)?;
+        let readers = self.segs.share(alloc)?;
+        let point_infos = self.infos.share(alloc)?;
+        self.files.hold_there(names.as_slice(), &self.dir)?;
+        let version = point_infos.version;
+        let _former = self.searchers.replace(version, point_names, readers);
+        self.point_infos = point_infos;
+        self.names = names;
+        Ok(())
+    }
+
+    /// The primary of a directory, whose deleter counts just the files of the searchers and of the commits, and whose
+    /// searchers have the files of these infos. It searches them from now on, at their version.
+    pub fn from_parts(
+        alloc: Global,
+        dir: D,
+        files: FileDeleter,
+        searchers: Searchers<Segment>,
+        commits: CommitBook,
+        infos: Infos,
+        segs: List<Segment>,
+    ) -> Result<Parts<D>, NoMemory>
+    where
+        D: Drop,
+        requires node { IsWholeNode (D.cells dir) files (searcher_names searchers) commits }
+        requires standing { IsStanding (reads_of (D.cells dir)) commits }
+        requires held { IsHeld (reads_of (D.cells dir)) infos segs searchers.point.names }
+        requires undrawn { AreUndrawn files infos [] }
+        requires numbered { AreNumbered infos [] }
+        ensures whole { IfOk result (IsPrimary D.cells) }
+        ensures point { IfOk result (λ p. (p.searchers.point.version ≡ infos.version) × (p.searchers.point.readers ≡ segs) × (p.searchers.tickets ≡ searchers.tickets)) }
+        ensures parts { IfOk result (λ p. (p.dir ≡ dir) × (p.commits ≡ commits) × (p.infos ≡ infos) × (p.point_infos ≡ infos) × (p.segs ≡ segs)) }
+        ensures new { IfOk result (λ p. (p.states ≡ []) × (p.merges ≡ []) × (p.waiting ≡ []) × (p.accepted ≡ 0) × (p.publish ≡ None)) }
+    {
+        let point_infos = Infos {
+            generation: infos.generation,
+            version: infos.version,
+            counter: infos.counter,
+            segs: List::new(alloc),
+        };
+        let mut parts = Parts {
+            dir,
+            files,
+            searchers,
+            commits,
+            point_infos,
+            infos,
+            segs,
+            names: List::new(alloc),
+            states: List::new(alloc),
+            merges: List::new(alloc),
+            waiting: List::new(alloc),
+            accepted: 0,
+            publish: None,
+            has_cut_over: false,
+            completed: List::new(alloc),
+        };
+        match parts.open(alloc) {
+            Ok(()) => Ok(parts),
+            Err(fault) => {
+                drop(parts);
+                Err(fault)
+            }
+        }
+    }
+
+    /// The directory, as it stands.
+    pub fn into_dir(self) -> D
+        ensures { result ≡ self.dir }
+    {
+        let Parts {
+            dir,
+            files: _,
+            searchers: _,
+            commits: _,
+            point_infos: _,
+            infos: _,
+            segs: _,
+            names: _,
+            states: _,
+            merges: _,
+            waiting: _,
+            accepted: _,
+            publish: _,
+            has_cut_over: _,
+            completed: _,
+        } = self;
+        dir
+    }
+
+    /// Opens a ticket.
+    pub fn acquire(&mut self, alloc: Global) -> Result<Ticket, NoMemory>
+        requires { IsPrimary D.cells self.old }
+        ensures whole { IsPrimary D.cells self.new }
+        ensures opened { IfOk result (λ ticket. self.new.searchers.tickets ≡ self.old.searchers.tickets ++ record { number = ticket.number; point = self.old.searchers.point } ∷ []) }
+        ensures fresh { IfOk result (λ ticket. is_some (ticket_at ticket.number self.old.searchers.tickets) ≡ false) }
+        ensures point { self.new.searchers.point ≡ self.old.searchers.point }
+        ensures err { OnErr result ((self.new.searchers ≡ self.old.searchers) × (self.new.files ≡ self.old.files)) }
+        ensures stays { PartsStay D.cells self.old self.new }
+        ensures others { self.new ≡ record self.old { files = self.new.files; searchers = self.new.searchers } }
+    {
+        self.searchers.acquire(alloc, &mut self.files, &self.dir)
+    }
+
+    /// Closes a ticket.
+    pub fn release(&mut self, ticket: Ticket)
+        requires whole { IsPrimary D.cells self.old }
+        requires open { is_some (ticket_at ticket.number self.old.searchers.tickets) ≡ true }
+        ensures whole { IsPrimary D.cells self.new }
+        ensures closed { self.new.searchers.tickets ≡ tickets_without ticket.number self.old.searchers.tickets }
+        ensures point { self.new.searchers.point ≡ self.old.searchers.point }
+        ensures stays { PartsStay D.cells self.old self.new }
+        ensures later { D.faults self.old.dir ≤ D.faults self.new.dir }
+        ensures others { self.new ≡ record self.old { dir = self.new.dir; files = self.new.files; searchers = self.new.searchers } }
+    {
+        self.searchers
+            .release(ticket, &mut self.files, &mut self.dir);
+    }
+
+    /// What a search under a ticket reads.
+    pub fn lease(&self, alloc: Global, ticket: &Ticket) -> Result<Lease<Segment>, NoMemory>
+        requires { is_some (ticket_at ticket.now.number self.now.searchers.tickets) ≡ true }
+        ensures { IfOk result (λ lease. IfSome (ticket_at ticket.now.number self.now.searchers.tickets) (λ t. (lease.version ≡ t.point.version) × (lease.readers ≡ t.point.readers))) }
+    {
+        self.searchers.lease(alloc, ticket)
+    }
+
+    /// Begins a commit of the point that is searched.
+    pub fn commit_begin(&mut self, alloc: Global) -> Result<(), NoMemory>
+        requires whole { IsPrimary D.cells self.old }
+        requires none { self.old.commits.stage ≡ None }
+        requires below { self.old.commits.next < 2 ^ 62 }
+        ensures whole { IsPrimary D.cells self.new }
+        ensures begun { OnOk result (HasBegun self.old.point_infos self.old.commits self.new.commits) }
+        ensures err { OnErr result ((self.new.commits ≡ self.old.commits) × (self.new.files ≡ self.old.files)) }
+        ensures stays { PartsStay D.cells self.old self.new }
+        ensures others { self.new ≡ record self.old { files = self.new.files; commits = self.new.commits } }
+    {
+        match self
+            .commits
+            .begin(alloc, &self.point_infos, &mut self.files, &self.dir)
+        {
+            Ok(()) => Ok(()),
+            Err(fault) => Err(fault),
+        }
+    }
+
+    /// Makes the next call of the directory for the commit in flight.
+    pub fn commit_step(&mut self, alloc: Global) -> Result<bool, CommitFault>
+        requires whole { IsPrimary D.cells self.old }
+        requires in_flight { IsSome self.old.commits.stage }
+        ensures whole { IsPrimary D.cells self.new }
+        ensures ok { OnOk result (self.new.commits ≡ book_after self.old.commits) }
+        ensures done { IfOk result (λ done. done ≡ is_last_step self.old.commits.stage) }
+        ensures made { result ≡ Ok true → IfSome self.old.commits.stage (λ stage. ImagesHave (D.cells self.new.dir) (commit_of stage)) }
+        ensures err { OnErr result (self.new.commits ≡ self.old.commits) }
+        ensures failed { IsErrOf result CommitFault.Failed → Rose (D.faults self.old.dir) (D.faults self.new.dir) }
+        ensures later { D.faults self.old.dir ≤ D.faults self.new.dir }
+        ensures stays { PartsStay D.cells self.old self.new }
+        ensures others { self.new ≡ record self.old { dir = self.new.dir; files = self.new.files; commits = self.new.commits } }
+    {
+        match self.commits.step(alloc, &mut self.files, &mut self.dir) {
+            Ok(done) => Ok(done),
+            Err(fault) => Err(fault),
+        }
+    }
+
+    // All that a publish needs memory for.
+    fn prepare(&self, alloc: Global, made: NextSegments) -> Result<Ready, NoMemory>
+        requires step { IsStep self.now.infos self.now.segs (loose_of self.now) (rest_loose self.now) made.records made.segs made.files }
+        requires below { self.now.infos.version.0 + 1 < 2 ^ 63 }
+        ensures ready { IfOk result (IsReady self.now) }
+        ensures segs { IfOk result (λ ready. ready.segs ≡ made.segs) }
+        ensures infos { IfOk result (λ ready. ready.infos ≡ next_infos self.now.infos made.records) }
+    {
+        let NextSegments {
+            records,
+            segs,
+            files,
+        } = made;
+        let infos = Infos {
+            generation: self.infos.generation,
+            version: Version(self.infos.version.0 + 1),
+            counter: self.infos.counter,
+            segs: records,
+        };
+        let point_infos = infos.share(alloc)?;
+        let readers = segs.share(alloc)?;
+        let names = List::from_vec(files_of(alloc, &infos)?);
+        let point_names = names.share(alloc)?;
+        let written = names_in(alloc, files.as_slice())?;
+        let twice = joined(alloc, names.as_slice(), names.as_slice())?;
+        let former = joined(
+            alloc,
+            self.searchers.point.names.as_slice(),
+            self.names.as_slice(),
+        )?;
+        let gone = joined(alloc, former.as_slice(), written.as_slice())?;
+        Ok(Ready {
+            infos,
+            point_infos,
+            segs,
+            readers,
+            names,
+            point_names,
+            files,
+            written,
+            twice,
+            gone,
+        })
+    }
+
+    // Writes the new files, and counts those of the new infos twice: once for these and once for the point.
+    fn write(&mut self, alloc: Global, ready: &Ready) -> Result<(), DirFault>
+        requires whole { IsPrimary D.cells self.old }
+        requires ready { IsReady self.old ready.now }
+        ensures written { OnOk result (HasWritten D.cells self.new ready.now) }
+        ensures whole { OnErr result (IsPrimary D.cells self.new) }
+        ensures only { IfErr result IsMemoryOrFailed }
+        ensures stays { PartsStay D.cells self.old self.new }
+        ensures grows { OnOk result (KeepsCounts self.old.files self.new.files) }
+        ensures failed { IsErrOf result DirFault.Failed → Rose (D.faults self.old.dir) (D.faults self.new.dir) }
+        ensures later { D.faults self.old.dir ≤ D.faults self.new.dir }
+        ensures others { self.new ≡ record self.old { dir = self.new.dir; files = self.new.files } }
+    {
+        match write_all(
+            alloc,
+            ready.written.as_slice(),
+            ready.files.as_slice(),
+            &mut self.files,
+            &mut self.dir,
+        ) {
+            Ok(()) => {}
+            Err(fault) => return Err(fault),
+        }
+        match self.files.hold_there(ready.twice.as_slice(), &self.dir) {
+            Ok(()) => Ok(()),
+            Err(_) => {
+                self.files.release(ready.written.as_slice(), &mut self.dir);
+                Err(DirFault::Memory)
+            }
+        }
+    }
+
+    // Searches the new point, and gives back the files of the former one, those of the former infos, and what is in hand.
+    fn place(&mut self, ready: Ready) -> Version
+        requires { HasWritten D.cells self.old ready }
+        ensures whole { IsPrimary D.cells self.new }
+        ensures version { result ≡ ready.infos.version }
+        ensures point { self.new.searchers.point ≡ record { version = ready.infos.version; names = ready.names; readers = ready.segs } }
+        ensures tickets { self.new.searchers.tickets ≡ self.old.searchers.tickets }
+        ensures infos { (self.new.infos ≡ ready.infos) × (self.new.point_infos ≡ ready.infos) × (self.new.segs ≡ ready.segs) × (self.new.names ≡ ready.names) }
+        ensures none { self.new.publish ≡ None }
+        ensures rest { self.new.waiting ≡ after_cut self.old.publish self.old.waiting }
+        ensures stays { PartsStay D.cells self.old self.new }
+        ensures later { D.faults self.old.dir ≤ D.faults self.new.dir }
+        ensures others { self.new ≡ record self.old { dir = self.new.dir; files = self.new.files; searchers = self.new.searchers; infos = self.new.infos; point_infos = self.new.point_infos; segs = self.new.segs; names = self.new.names; waiting = self.new.waiting; publish = self.new.publish; has_cut_over = false } }
+    {
+        let version = ready.infos.version;
+        let _former = self
+            .searchers
+            .replace(version, ready.point_names, ready.readers);
+        self.point_infos = ready.point_infos;
+        self.infos = ready.infos;
+        self.segs = ready.segs;
+        self.names = ready.names;
+        end_cut(&mut self.waiting, &mut self.publish);
+        self.has_cut_over = false;
+        self.files.release(ready.gone.as_slice(), &mut self.dir);
+        version
+    }
+
+    /// The copy state of the point that is searched: one load for each of its files, ascending. It holds these files until
+    /// it is given back.
+    pub fn take_state(&mut self, alloc: Global) -> Result<CopyState, PrimaryFault>
+        requires { IsPrimary D.cells self.old }
+        ensures whole { IsPrimary D.cells self.new }
+        ensures state { IfOk result (IsStateOf (reads_of (D.cells self.old.dir)) self.old.point_infos self.old.searchers.point.names (last_number self.old.commits) self.old.completed) }
+        ensures out { IfOk result (λ s. self.new.states ≡ self.old.states ++ out_of s ∷ []) }
+        ensures err { OnErr result ((self.new.states ≡ self.old.states) × (self.new.files ≡ self.old.files)) }
+        ensures stays { PartsStay D.cells self.old self.new }
+        ensures failed { IsErrOf result PrimaryFault.Failed → Rose (D.faults self.old.dir) (D.faults self.new.dir) }
+        ensures later { D.faults self.old.dir ≤ D.faults self.new.dir }
+        ensures cells { D.cells self.new.dir ≡ D.cells self.old.dir }
+        ensures others { self.new ≡ record self.old { dir = self.new.dir; files = self.new.files; states = self.new.states } }
+    {
+        let searchers = &self.searchers;
+        let names = searchers.point.names.share(alloc)?;
+        let held = names.share(alloc)?;
+        let completed = self.completed.share(alloc)?;
+        let infos = encode(alloc, &self.point_infos)?;
+        let files = match metas_of(alloc, names.as_slice(), &mut self.dir) {
+            Ok(files) => files,
+            Err(DirFault::Failed) => return Err(PrimaryFault::Failed),
+            Err(_) => return Err(PrimaryFault::Memory),
+        };
+        let version = self.point_infos.version;
+        let out = Out {
+            version,
+            names: held,
+        };
+        match lend(
+            out,
+            &mut self.states,
+            names.as_slice(),
+            &mut self.files,
+            &self.dir,
+        ) {
+            Ok(()) => Ok(CopyState {
+                version,
+                generation: self.commits.last().unwrap_or(0),
+                primary_gen: self.point_infos.generation,
+                infos,
+                files,
+                completed,
+            }),
+            Err(_) => Err(PrimaryFault::Memory),
+        }
+    }
+
+    /// The bytes of a file that a copy state which is out names.
+    pub fn source(&mut self, name: &FileName) -> Result<Bytes, PrimaryFault>
+        requires whole { IsPrimary D.cells self.old }
+        requires out { 0 < times (state_names self.old.states) name.now }
+        ensures whole { IsPrimary D.cells self.new }
+        ensures bytes { IfOk result (λ bytes. (D.cells self.old.dir name.now).now ≡ Some bytes) }
+        ensures failed { IsErrOf result PrimaryFault.Failed → Rose (D.faults self.old.dir) (D.faults self.new.dir) }
+        ensures later { D.faults self.old.dir ≤ D.faults self.new.dir }
+        ensures cells { D.cells self.new.dir ≡ D.cells self.old.dir }
+        ensures others { self.new ≡ record self.old { dir = self.new.dir } }
+    {
+        match self.dir.load(name) {
+            Ok(bytes) => Ok(bytes),
+            Err(DirFault::Failed) => Err(PrimaryFault::Failed),
+            Err(_) => Err(PrimaryFault::Memory),
+        }
+    }
+
+    /// Takes a copy state back, and gives its files back.
+    pub fn give_back(&mut self, state: CopyState)
+        requires whole { IsPrimary D.cells self.old }
+        requires out { is_out (out_of state) self.old.states ≡ true }
+        ensures whole { IsPrimary D.cells self.new }
+        ensures states { self.new.states ≡ states_without (out_of state) self.old.states }
+        ensures stays { PartsStay D.cells self.old self.new }
+        ensures later { D.faults self.old.dir ≤ D.faults self.new.dir }
+        ensures others { self.new ≡ record self.old { dir = self.new.dir; files = self.new.files; states = self.new.states } }
+    {
+        give_back(&state, &mut self.states, &mut self.files, &mut self.dir);
+    }
+
+    /// The names of the directory's files, ascending.
+    pub fn names(&self, alloc: Global) -> Result<Vec<FileName>, NoMemory>
+        requires { IsPrimary D.cells self.now }
+        ensures names { IfOk result (λ names. (q : List ℕ) → is_among names.items q ≡ is_some (D.cells self.now.dir q).now) }
+        ensures ascending { IfOk result (λ names. IsStrictlySortedBy (slice_cmp nat_cmp) names.items) }
+    {
+        self.files.names(alloc)
+    }
+
+    // No publish is in flight from now on.
+    fn end_publish(&mut self)
+        requires { IsPrimary D.cells self.old }
+        ensures whole { IsPrimary D.cells self.new }
+        ensures set { self.new ≡ record self.old { publish = None } }
+    {
+        self.publish = None;
+    }
+
+    /// Ends a publish: writes the new files, makes a point of the new segments, and gives back what is named no more.
+    pub fn publish_end(
+        &mut self,
+        alloc: Global,
+        made: NextSegments,
+    ) -> Result<Version, PrimaryFault>
+        requires whole { IsPrimary D.cells self.old }
+        requires step { IsStep self.old.infos self.old.segs (loose_of self.old) (rest_loose self.old) made.records made.segs made.files }
+        requires below { self.old.infos.version.0 + 1 < 2 ^ 63 }
+        ensures whole { IsPrimary D.cells self.new }
+        ensures version { IfOk result (λ version. version.0 ≡ self.old.infos.version.0 + 1) }
+        ensures point { IfOk result (λ version. (self.new.searchers.point.version ≡ version) × (self.new.searchers.point.readers ≡ made.segs) × (self.new.segs ≡ made.segs)) }
+        ensures infos { OnOk result ((self.new.infos ≡ next_infos self.old.infos made.records) × (self.new.point_infos ≡ next_infos self.old.infos made.records)) }
+        ensures rest { OnOk result ((self.new.waiting ≡ after_cut self.old.publish self.old.waiting) × (self.new.has_cut_over ≡ false)) }
+        ensures tickets { self.new.searchers.tickets ≡ self.old.searchers.tickets }
+        ensures err { OnErr result ((self.new.searchers ≡ self.old.searchers) × (self.new.infos ≡ self.old.infos) × (self.new.point_infos ≡ self.old.point_infos) × (self.new.segs ≡ self.old.segs) × (self.new.names ≡ self.old.names) × (self.new.waiting ≡ self.old.waiting) × (self.new.has_cut_over ≡ self.old.has_cut_over)) }
+        ensures none { result ≡ Err PrimaryFault.Memory ⊎ (self.new.publish ≡ None) }
+        ensures stays { PartsStay D.cells self.old self.new }
+        ensures failed { IsErrOf result PrimaryFault.Failed → Rose (D.faults self.old.dir) (D.faults self.new.dir) }
+        ensures later { D.faults self.old.dir ≤ D.faults self.new.dir }
+        ensures others { self.new ≡ record self.old { dir = self.new.dir; files = self.new.files; searchers = self.new.searchers; point_infos = self.new.point_infos; infos = self.new.infos; segs = self.new.segs; names = self.new.names; waiting = self.new.waiting; publish = self.new.publish; has_cut_over = self.new.has_cut_over } }
+    {
+        let ready = self.prepare(alloc, made)?;
+        match self.write(alloc, &ready) {
+            Ok(()) => Ok(self.place(ready)),
+            Err(DirFault::Failed) => {
+                self.end_publish();
+                Err(PrimaryFault::Failed)
+            }
+            Err(_) => {
+                self.end_publish();
+                Err(PrimaryFault::Memory)
+            }
+        }
+    }
+
+    /// Accepts an operation. Answers its place in this generation, from 1.
+    pub fn accept(&mut self, op: Op) -> Result<u32, NoMemory>
+        requires whole { IsPrimary D.cells self.old }
+        requires below { self.old.accepted + 1 < 2 ^ 32 }
+        ensures whole { IsPrimary D.cells self.new }
+        ensures place { IfOk result (λ place. (place ≡ self.old.accepted + 1) × (self.new ≡ record self.old { waiting = self.old.waiting ++ op ∷ []; accepted = self.old.accepted + 1 })) }
+        ensures err { OnErr result (self.new ≡ self.old) }
+    {
+        self.waiting.push(op)?;
+        self.accepted += 1;
+        Ok(self.accepted)
+    }
+
+    // Whether there is something to publish, and then whether there is a put; or why a publish is refused.
+    fn judge(&self) -> Result<Option<bool>, PublishFault>
+        requires { self.now.infos.counter ≤ 1679616 }
+        ensures idle { (result ≡ Ok None) ↔ IsIdle self.now.waiting self.now.has_cut_over }
+        ensures spent { IsErrOf result PublishFault.NamesSpent ↔ AreSpent self.now.waiting self.now.infos }
+        ensures too_many { IsErrOf result PublishFault.TooManySegments ↔ AreTooMany self.now.waiting self.now.infos self.now.segs }
+        ensures put { IfOk result (λ o. IfSome o (λ b. b ≡ has_put self.now.waiting)) }
+        ensures counter { result ≡ Ok (Some true) → self.now.infos.counter < 1679616 }
+        ensures few { result ≡ Ok (Some true) → length self.now.segs < 256 }
+        ensures some { IsErrOf result PublishFault.Memory → ⊥ }
+    {
+        let has_put = is_put_among(self.waiting.as_slice());
+        if has_put {
+            if self.infos.counter == NAMES {
+                return Err(PublishFault::NamesSpent);
+            }
+            if self.segs.as_slice().len() >= SEGMENTS {
+                return Err(PublishFault::TooManySegments);
+            }
+            return Ok(Some(true));
+        }
+        if self.waiting.as_slice().is_empty() && !self.has_cut_over {
+            return Ok(None);
+        }
+        Ok(Some(false))
+    }
+
+    /// Starts a publish, which takes every operation that was accepted and is not published. None comes exactly where there
+    /// is none and nothing was cut over since the last point.
+    pub fn publish_start(&mut self, alloc: Global) -> Result<Option<FlushTask>, PublishFault>
+        requires whole { IsPrimary D.cells self.old }
+        requires none { self.old.publish ≡ None }
+        ensures whole { IsPrimary D.cells self.new }
+        ensures idle { (result ≡ Ok None) ↔ IsIdle self.old.waiting self.old.has_cut_over }
+        ensures spent { IsErrOf result PublishFault.NamesSpent ↔ AreSpent self.old.waiting self.old.infos }
+        ensures too_many { IsErrOf result PublishFault.TooManySegments ↔ AreTooMany self.old.waiting self.old.infos self.old.segs }
+        ensures task { IfOk result (λ task. IfSome task (λ t. (t.ops ≡ self.old.waiting) × (t.segs ≡ self.old.segs))) }
+        ensures seg { IfOk result (λ task. IfSome task (λ t. IsSome t.seg ↔ (has_put self.old.waiting ≡ true))) }
+        ensures flight { IfOk result (λ task. IfSome task (λ t. self.new.publish ≡ noted t.seg self.old.waiting)) }
+        ensures err { OnErr result (self.new ≡ self.old) }
+        ensures others { self.new ≡ record self.old { infos = self.new.infos; publish = self.new.publish } }
+    {
+        let has_put = match self.judge() {
+            Ok(Some(has_put)) => has_put,
+            Ok(None) => return Ok(None),
+            Err(fault) => return Err(fault),
+        };
+        let Ok(ops) = self.waiting.share(alloc) else {
+            return Err(PublishFault::Memory);
+        };
+        let Ok(segs) = self.segs.share(alloc) else {
+            return Err(PublishFault::Memory);
+        };
+        let count = self.waiting.as_slice().len();
+        if !has_put {
+            self.publish = Some(Publish { seg: None, count });
+            return Ok(Some(FlushTask {
+                seg: None,
+                ops,
+                segs,
+            }));
+        }
+        let seg = self.infos.generation.0 * NAMES as u64 + self.infos.counter as u64;
+        self.infos.counter += 1;
+        self.publish = Some(Publish {
+            seg: Some(seg),
+            count,
+        });
+        Ok(Some(FlushTask {
+            seg: Some(SegNo(seg)),
+            ops,
+            segs,
+        }))
+    }
+}
+
+// Whether an operation is a put.
+fn is_put(op: &Op) -> bool
+    ensures { result ≡ is_put op.now }
+{
+    match op {
+        Op::Put(_) => true,
+        Op::Delete(_) | Op::Drop(_) => false,
+    }
+}
+
+// The publish has ended: its operations wait no longer.
+fn end_cut(waiting: &mut List<Op>, publish: &mut Option<Publish>)
+    requires { IfSome publish.old (λ f. f.count ≤ length waiting.old) }
+    ensures none { publish.new ≡ None }
+    ensures rest { waiting.new ≡ after_cut publish.old waiting.old }
+{
+    if let Some(publish) = publish.take() {
+        waiting.cut_first(publish.count);
+    }
+}
+
+// Whether some operation is a put.
+fn is_put_among(ops: &[Op]) -> bool
+    ensures { result ≡ has_put ops.now }
+{
+    ops.iter().any(is_put)
+}
