@@ -1,0 +1,13 @@
+//! A merge: the live rows of several segments as one new segment, and the rows of it that died since.
+#![tactic(auto)]
+
+mod carrying;
+mod merging;
+mod task;
+
+pub use carrying::carry;
+pub use merging::merge;
+pub use task::{MergeTask, Merged, RowFrom};
+
+#[cfg(test)]
+mod tests;
