@@ -31,7 +31,7 @@ use Rattle.segment_steps.specs.Segments.{changed}
 use Rattle.segment_steps.specs.Next.{Turn, record_after, shown_after, stays, IsReadBack, AreReadSame}
 use Rattle.segment_steps.specs.CutOver.{Part, is_one_of, inputs_in, others_in, in_place, lives_of, documents_of, IsMergeOf, change_by, merged_turn, part_after, merged_turns, IsCutOf}
 use Rattle.segment_steps.proofs.Documents.{live_docs}
-use Rattle.segment_steps.proofs.Segments.{documents_ascend, segments_of}
+use Rattle.segment_steps.proofs.Segments.{documents_ascend, segments_of, counted}
 use Rattle.segment_steps.proofs.PublishLaws.{new_in, segments_stay, each_step, sound_step, documents_step}
 
 -- ---- parts
@@ -121,9 +121,6 @@ replaced inputs new ps some same =
     (IsPermutation-sym (documents_in ps) (documents_in (inputs_in inputs ps) ++ documents_in (others_in inputs ps)) (split inputs ps)))
 
 -- ---- the merged segment
-
-counted : (b : Bool) (rows : List Bool) → live_rows (b ∷ rows) ≡ cond b 1 0 + live_rows rows
-counted b rows = sum_by-cons (λ (live : Bool). cond live 1 0) b rows
 
 all_live : (rows : List Bool) → live_rows rows ≡ length rows → rows ≡ replicate (length rows) true
 all_live [] e = refl

@@ -22,6 +22,7 @@ use Rattle.segment_steps.specs.Starting.{size_by, neighbours, IsStart}
 use Rattle.segment_steps.proofs.Merges.{AreApart, merge_starts}
 use Rattle.segment_steps.proofs.NextSpelling.{HaveOwnNumbers, pairs_own}
 use Rattle.segment_steps.proofs.AfterPublish.{own_rows}
+use Rattle.segment_steps.proofs.Segments.{counted}
 
 -- parts of infos are apart where their numbers are
 parts_apart : (rs : List SegRecord) (ss : List Shown) → HaveOwnNumbers rs → AreApart (zip rs ss)
@@ -155,9 +156,6 @@ pub start_apart : (seg : SegNo) (factor : ℕ) (held : List SegNo) (rs : List Se
 start_apart seg factor held rs ss start is n there = found n held (neighbours is.from factor rs) (inputs_free seg factor held rs ss start is) (sym (ap (list_any (λ (s : SegNo). s.0 == n)) is.inputs_are) ∙ there)
 
 -- ---- the rows of the task
-
-counted : (b : Bool) (rows : List Bool) → live_rows (b ∷ rows) ≡ cond b 1 0 + live_rows rows
-counted b rows = sum_by-cons (λ (live : Bool). cond live 1 0) b rows
 
 many_docs : (docs : List Doc) (live : List Bool) → length live ≡ length docs → length (live_docs docs live) ≡ live_rows live
 many_docs [] [] long = refl
