@@ -22,20 +22,10 @@ use Rattle.segment_steps.specs.CutOver.{Part, in_place, change_by, merged_turn, 
 use Rattle.segment_steps.proofs.CuttingOver.{Each, each_in_place, now_in}
 use Rattle.segment_steps.proofs.AfterPublish.{IsFine, new_fine}
 use Rattle.segment_steps.proofs.NextNames.{EachIn, names_in, each_append, all_old, names_step, name_there, new_names}
-<<<<<<< HEAD
-
--- ---- records
-
-ones : (m : ℕ) → live_rows (replicate m true) ≡ m
-ones zero = refl
-ones (suc m) = omega (arith, sum_by-cons (λ (live : Bool). cond live 1 0) true (replicate m true), ones m)
-
-=======
 use Rattle.live_bits.proofs.Editing.{all_live}
 
 -- ---- records
 
->>>>>>> hB
 raised : (own base n live rows : ℕ) → n + 1 ≤ live → own + live ≤ base + rows → live ≤ rows → max own base + 1 + n ≤ base + rows
 raised own base n live rows lt bound few = omega (arith, lt, bound, few)
 
@@ -82,11 +72,7 @@ module _ (g : ℕ) where
       let live = carried merged.from lives in
       let n = length merged.from in
       let rows : length merged.files.live ≡ n = ap length is.live ∙ length-replicate n true in
-<<<<<<< HEAD
-      let count : live_rows merged.files.live ≡ length merged.files.live = ap live_rows is.live ∙ ones n ∙ sym rows in
-=======
       let count : live_rows merged.files.live ≡ length merged.files.live = ap live_rows is.live ∙ all_live n ∙ sym rows in
->>>>>>> hB
       let one : IsFine g (record_after g t) = carried_fine (record_of merged.files.seg merged.files.live) live count (length-map merged.from (is_live_at lives) ∙ sym rows) (new_fine g merged.files.seg merged.files.live of) in
       subst (AllByRecursion (IsFine g)) (sym cut.records_are) (parts_out (in_place inputs (map (part_after g) (merged_turns g merged shown lives)) ps) (each_in_place (λ p. IsFine g p.0) inputs (map (part_after g) (merged_turns g merged shown lives)) ps (turn_fine t one) (parts_in rs ss all)))
 

@@ -64,11 +64,7 @@ any_more p q r (w ∷ words) same = each (p w) (q w) (r w) (list_any p words) (l
         right false = refl
     each a false false x y z e f = rw e f
 
-<<<<<<< HEAD
-same_any : (p q : List ℕ → Bool) (words : List (List ℕ)) → ((w : List ℕ) → p w ≡ q w) → list_any p words ≡ list_any q words
-=======
 pub same_any : (p q : List ℕ → Bool) (words : List (List ℕ)) → ((w : List ℕ) → p w ≡ q w) → list_any p words ≡ list_any q words
->>>>>>> hB
 same_any p q [] same = refl
 same_any p q (w ∷ words) same = let first = same w in let rest = same_any p q words same in cc
 
@@ -120,11 +116,7 @@ row_more ops at op docs new lt item so_far more =
 
 -- ---- no keys, no words
 
-<<<<<<< HEAD
-none_any : (words : List (List ℕ)) → list_any (λ (w : List ℕ). false) words ≡ false
-=======
 pub none_any : (words : List (List ℕ)) → list_any (λ (w : List ℕ). false) words ≡ false
->>>>>>> hB
 none_any [] = refl
 none_any (w ∷ words) = none_any words
 

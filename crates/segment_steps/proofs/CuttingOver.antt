@@ -31,11 +31,7 @@ use Rattle.segment_steps.specs.Segments.{changed}
 use Rattle.segment_steps.specs.Next.{Turn, record_after, shown_after, stays, IsReadBack, AreReadSame}
 use Rattle.segment_steps.specs.CutOver.{Part, is_one_of, inputs_in, others_in, in_place, lives_of, documents_of, IsMergeOf, change_by, merged_turn, part_after, merged_turns, IsCutOf}
 use Rattle.segment_steps.proofs.Documents.{live_docs}
-<<<<<<< HEAD
-use Rattle.segment_steps.proofs.Segments.{documents_ascend, segments_of}
-=======
 use Rattle.segment_steps.proofs.Segments.{documents_ascend, segments_of, counted}
->>>>>>> hB
 use Rattle.segment_steps.proofs.PublishLaws.{new_in, segments_stay, each_step, sound_step, documents_step}
 
 -- ---- parts
@@ -126,12 +122,6 @@ replaced inputs new ps some same =
 
 -- ---- the merged segment
 
-<<<<<<< HEAD
-counted : (b : Bool) (rows : List Bool) → live_rows (b ∷ rows) ≡ cond b 1 0 + live_rows rows
-counted b rows = sum_by-cons (λ (live : Bool). cond live 1 0) b rows
-
-=======
->>>>>>> hB
 all_live : (rows : List Bool) → live_rows rows ≡ length rows → rows ≡ replicate (length rows) true
 all_live [] e = refl
 all_live (true ∷ rows) e = ap (λ (xs : List Bool). true ∷ xs) (all_live rows (omega (arith, counted true rows)))
@@ -210,8 +200,6 @@ merged_documents g ps inputs task merged shown flight is back =
     ∙ ap (λ (ds : List (List Doc)). all_live_docs ds lives) (sym flight.documents)
     ∙ sym (rows_are (inputs_in inputs ps))
 
-<<<<<<< HEAD
-=======
 -- THE SEGMENTS OF A CUT-OVER are of the documents that the segments were of, whatever the directory reads.
 pub cut_over_stand : (g : ℕ) (rs : List SegRecord) (segs : List Shown) (docs : List Doc) (inputs : List SegNo) (task : MergeTask) (merged : Merged) (shown : Shown) (made : NextSegments)
     → length segs ≡ length rs → AreSegmentsOf docs segs → IsMergeOf (zip rs segs) inputs (docs_by_input task.inputs) task.live → IsMergedOf task merged → IsReadBack merged.files shown
@@ -236,7 +224,6 @@ cut_over_stand g rs segs docs inputs task merged shown made many stand flight is
     stand.documents.same in
     subst (AreSegmentsOf docs) (sym cut.segs_are) (segments_of docs shown_segs sound (documents_ascend docs segs stand) ordered)
 
->>>>>>> hB
 -- A CUT-OVER: where the merged segment's files and its live file are in the directory and those of the infos read as before, the next
 -- infos stand for the documents that the infos stood for.
 pub cut_over_stands : (before after : Name → Content) (infos next : Infos) (segs : List Shown) (docs : List Doc) (inputs : List SegNo) (task : MergeTask) (merged : Merged) (shown : Shown) (made : NextSegments)
@@ -261,25 +248,8 @@ cut_over_stands before after infos next segs docs inputs task merged shown made 
     let each_new : Each (λ p. IsSegmentIn after p.0 p.1) new = each_turn (IsSegmentIn after) g ts turn_each in
     let each_old : Each (λ p. IsSegmentIn after p.0 p.1) ps = each_in (IsSegmentIn after) infos.segs segs (segments_stay before after infos.segs segs stands.each same) in
     let placed_each = each_out (IsSegmentIn after) (in_place inputs new ps) (each_in_place (λ p. IsSegmentIn after p.0 p.1) inputs new ps each_new each_old) in
-<<<<<<< HEAD
-    let sound_new = sound_turn g ts (sound_step after after g [] (stays g [] t) r shown c [] back.sound (All-nil IsSound)) in
-    let sound = sound_out (in_place inputs new ps) (each_in_place (λ p. IsSound p.1) inputs new ps sound_new (sound_in infos.segs segs stands.stand.sound)) in
-    let some : 0 < length (inputs_in inputs ps) = omega (arith, flight.some, length-map (inputs_in inputs ps) (λ (p : Part). p.0.seg), ap length flight.numbers) in
-    let moved : IsPermutation (documents_in (in_place inputs new ps)) (documents_in ps) = replaced inputs new ps some (merged_documents g ps inputs task merged shown flight is back) in
-    let whole : documents_in ps ≡ live_documents segs = sym (documents_are ps) ∙ ap live_documents (seconds-zip infos.segs segs (AllZip-long (IsSegmentIn before) infos.segs segs stands.each)) in
-    let shown_segs = map (λ (p : Part). p.1) (in_place inputs new ps) in
-    let ordered : IsPermutation (live_documents shown_segs) docs =
-    IsPermutation-trans (live_documents shown_segs) (live_documents segs) docs
-    (subst (λ (ds : List Doc). IsPermutation (live_documents shown_segs) ds) whole (subst (λ (ds : List Doc). IsPermutation ds (documents_in ps)) (sym (documents_are (in_place inputs new ps))) moved))
-    stands.stand.documents.same in
-    let records : next.segs ≡ map (λ (p : Part). p.0) (in_place inputs new ps) = same_records ∙ cut.records_are in
-    record {
-      each = subst (λ (rs : List SegRecord). AllZip (IsSegmentIn after) rs made.segs) (sym records) (subst (AllZip (IsSegmentIn after) (map (λ (p : Part). p.0) (in_place inputs new ps))) (sym cut.segs_are) placed_each);
-      stand = subst (AreSegmentsOf docs) (sym cut.segs_are) (segments_of docs shown_segs sound (documents_ascend docs segs stands.stand) ordered);
-=======
     let records : next.segs ≡ map (λ (p : Part). p.0) (in_place inputs new ps) = same_records ∙ cut.records_are in
     record {
       each = subst (λ (rs : List SegRecord). AllZip (IsSegmentIn after) rs made.segs) (sym records) (subst (AllZip (IsSegmentIn after) (map (λ (p : Part). p.0) (in_place inputs new ps))) (sym cut.segs_are) placed_each);
       stand = cut_over_stand g infos.segs segs docs inputs task merged shown made (AllZip-long (IsSegmentIn before) infos.segs segs stands.each) stands.stand flight is back cut;
->>>>>>> hB
     }

@@ -26,12 +26,8 @@ use Rattle.segment_steps.specs.Marks.{is_gone}
 use Rattle.segment_steps.specs.declared.cut.Gone.{Gone}
 use Rattle.segment_steps.specs.Segments.{live_change}
 use Rattle.segment_steps.specs.Next.{IsNewOf}
-<<<<<<< HEAD
-use Rattle.segment_steps.proofs.Segments.{one_way}
-=======
 use Rattle.segment_steps.proofs.Segments.{one_way, counted}
 use Rattle.segment_steps.proofs.CutRows.{same_any, none_any}
->>>>>>> hB
 use Rattle.segment_steps.proofs.RowsLeft.{left_agree}
 
 pub sound_one : (segs : List Shown) (i : ℕ) (seg : Shown) → All IsSound segs → i < length segs → seg ≡ get_or segs i seg → IsSound seg
@@ -39,12 +35,6 @@ sound_one segs i seg all lt item = subst IsSound (sym item) (all i seg lt)
 
 -- ---- the new segment
 
-<<<<<<< HEAD
-counted : (b : Bool) (rows : List Bool) → live_rows (b ∷ rows) ≡ cond b 1 0 + live_rows rows
-counted b rows = sum_by-cons (λ (live : Bool). cond live 1 0) b rows
-
-=======
->>>>>>> hB
 none_left : (dead : List Bool) → list_any not dead ≡ false → live_rows (live_of dead) ≡ 0
 none_left [] e = refl
 none_left (true ∷ dead) e = omega (arith, counted false (live_of dead), none_left dead e)
@@ -108,17 +98,6 @@ one_of_keys (k ∷ keys) q = both (is_at (key_cmp q) k) (bytes_eq k q) (list_any
     both : (a b c d : Bool) → a ≡ b → c ≡ d → (a || c) ≡ (b || d)
     both a b c d e f = cc
 
-<<<<<<< HEAD
-same_any : (p q : List ℕ → Bool) (words : List (List ℕ)) → ((w : List ℕ) → p w ≡ q w) → list_any p words ≡ list_any q words
-same_any p q [] same = refl
-same_any p q (w ∷ words) same = let first = same w in let rest = same_any p q words same in cc
-
-none_any : (words : List (List ℕ)) → list_any (λ (w : List ℕ). false) words ≡ false
-none_any [] = refl
-none_any (w ∷ words) = none_any words
-
-=======
->>>>>>> hB
 -- one of these words is among those
 any_either : (p : List ℕ → Bool) (q : List ℕ → Bool) (words : List (List ℕ)) → list_any (λ (w : List ℕ). p w || q w) words ≡ (list_any p words || list_any q words)
 any_either p q [] = refl

@@ -9,11 +9,7 @@ use Rattle.segment_infos.specs.declared.infos.SegRecord.{SegRecord}
 use Rattle.seg_reader.specs.Shown.{Shown}
 use Rattle.seg_build.specs.Built.{File}
 use Rattle.segment_steps.specs.declared.next.NextSegments.{NextSegments}
-<<<<<<< HEAD
-use Rattle.segment_steps.specs.Next.{Turn, turns, record_after, shown_after, staying, is_changed, IsLiveFileAfter, TakesOver, AreTakenTo}
-=======
 use Rattle.segment_steps.specs.Next.{Turn, turns, record_after, shown_after, staying, is_changed, IsLiveFileAfter, TakesSegment, AreTakenTo}
->>>>>>> hB
 use Rattle.segment_steps.proofs.PublishLaws.{AllZip-append}
 
 pub taken_none : (g : ℕ) (held : List SegNo) (rs : List SegRecord) (ss : List Shown) (cs : List (Option (List Bool))) (first : List File) (made : NextSegments) → made.records ≡ [] → made.segs ≡ [] → made.files ≡ first
@@ -47,11 +43,7 @@ staying_more g held ts us t e = ap (staying g held) e ∙ filter-append _ ts (t 
 
 pub taken_one : (g : ℕ) (held : List SegNo) (rs : List SegRecord) (ss : List Shown) (cs : List (Option (List Bool))) (first : List File) (old new : NextSegments) (at : ℕ) (r : SegRecord) (s : Shown) (c : Option (List Bool))
     (d : SegRecord) → at < length rs → at < length ss → at < length cs → r ≡ get_or rs at d → s ≡ get_or ss at s → c ≡ get_or cs at c
-<<<<<<< HEAD
-    → AreTakenTo g held rs ss cs first old at → TakesOver g held (r, (s, c)) old new → AreTakenTo g held rs ss cs first new (at + 1)
-=======
     → AreTakenTo g held rs ss cs first old at → TakesSegment g held (r, (s, c)) old new → AreTakenTo g held rs ss cs first new (at + 1)
->>>>>>> hB
 taken_one g held rs ss cs first old new at r s c d lr ls lc er es ec so_far one =
     let t : Turn = (r, (s, c)) in
     let ts = take at (turns rs ss cs) in

@@ -22,10 +22,7 @@ use Rattle.segment_steps.specs.Starting.{size_by, neighbours, IsStart}
 use Rattle.segment_steps.proofs.Merges.{AreApart, merge_starts}
 use Rattle.segment_steps.proofs.NextSpelling.{HaveOwnNumbers, pairs_own}
 use Rattle.segment_steps.proofs.AfterPublish.{own_rows}
-<<<<<<< HEAD
-=======
 use Rattle.segment_steps.proofs.Segments.{counted}
->>>>>>> hB
 
 -- parts of infos are apart where their numbers are
 parts_apart : (rs : List SegRecord) (ss : List Shown) → HaveOwnNumbers rs → AreApart (zip rs ss)
@@ -160,12 +157,6 @@ start_apart seg factor held rs ss start is n there = found n held (neighbours is
 
 -- ---- the rows of the task
 
-<<<<<<< HEAD
-counted : (b : Bool) (rows : List Bool) → live_rows (b ∷ rows) ≡ cond b 1 0 + live_rows rows
-counted b rows = sum_by-cons (λ (live : Bool). cond live 1 0) b rows
-
-=======
->>>>>>> hB
 many_docs : (docs : List Doc) (live : List Bool) → length live ≡ length docs → length (live_docs docs live) ≡ live_rows live
 many_docs [] [] long = refl
 many_docs [] (l ∷ live) long = absurd (omega (arith, long))

@@ -18,23 +18,11 @@ use Rattle.seg_build.proofs.NameOrder.{names_are}
 use Rattle.segment_steps.specs.declared.flushing.FlushWork.{FlushWork}
 use Rattle.segment_steps.specs.declared.next.NextSegments.{NextSegments}
 use Rattle.segment_steps.specs.Next.{Turn, turns, next_live_gen, record_by, record_after, stays, staying, is_changed, IsLiveFileAfter, new_records, new_files, IsBuiltWork, IsNextOf}
-<<<<<<< HEAD
-=======
 use Rattle.segment_steps.proofs.PublishLaws.{here, later}
->>>>>>> hB
 
 abbrev pub names_in : List File → List Name
 names_in files = map (λ (f : File). f.0) files
 
-<<<<<<< HEAD
-here : {X : Type 0} (x : X) (xs : List X) → Contains (x ∷ xs) x
-here x xs = (0, omega arith, refl)
-
-later : {X : Type 0} (x y : X) (xs : List X) → Contains xs y → Contains (x ∷ xs) y
-later x y xs (k, lt, e) = (suc k, omega (arith, lt), e)
-
-=======
->>>>>>> hB
 -- each name is one of the first or one of the second
 abbrev pub EachIn : List Name → List Name → List Name → Type 0
 EachIn old written names = AllByRecursion (λ (name : Name). Contains old name ⊎ Contains written name) names

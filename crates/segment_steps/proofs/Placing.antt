@@ -11,13 +11,8 @@ use Rattle.seg_merge.specs.declared.task.Merged.{Merged}
 use Rattle.seg_merge.specs.Merging.{carried, IsWithin, AreAsLong}
 use Rattle.segment_steps.specs.declared.next.NextSegments.{NextSegments}
 use Rattle.segment_steps.specs.declared.cutting.Merging.{Merging}
-<<<<<<< HEAD
-use Rattle.segment_steps.specs.Next.{Turn, record_after, shown_after, is_changed, IsLiveFileAfter, TakesOver}
-use Rattle.segment_steps.specs.CutOver.{Part, is_one_of, inputs_in, others_in, in_place, lives_of, part_after, Keeps, turn_of, turns_of, placed_rest, AreFilesSo, StepsOver, IsPlaced, change_by, IsCutOf}
-=======
 use Rattle.segment_steps.specs.Next.{Turn, record_after, shown_after, is_changed, IsLiveFileAfter, TakesSegment}
 use Rattle.segment_steps.specs.CutOver.{Part, is_one_of, inputs_in, others_in, in_place, lives_of, part_after, KeepsSegment, turn_of, turns_of, placed_rest, AreFilesSo, StepsOverSegment, IsPlaced, change_by, IsCutOf}
->>>>>>> hB
 
 -- ---- the next pair
 
@@ -66,11 +61,7 @@ module _ (g : ℕ) (inputs : List SegNo) (merged : Merging) (p : Part) where
   new = map (part_after g) (turns_of g merged)
 
   -- an input after the first
-<<<<<<< HEAD
-  pub left_out : (old : NextSegments) → is_one_of inputs p ≡ true → StepsOver g inputs merged p old old true true
-=======
   pub left_out : (old : NextSegments) → is_one_of inputs p ≡ true → StepsOverSegment g inputs merged p old old true true
->>>>>>> hB
   left_out old e = record {
     records_are = λ ps. rw e refl;
     segs_are = λ ps. rw e refl;
@@ -87,11 +78,7 @@ module _ (g : ℕ) (inputs : List SegNo) (merged : Merging) (p : Part) where
   shown_of (t ∷ ts) = ap (λ (ss : List Shown). shown_after t ∷ ss) (shown_of ts)
 
   -- the first of the inputs
-<<<<<<< HEAD
-  pub put_there : (old made : NextSegments) → is_one_of inputs p ≡ true → TakesOver g [] (turn_of merged) old made → StepsOver g inputs merged p old made false true
-=======
   pub put_there : (old made : NextSegments) → is_one_of inputs p ≡ true → TakesSegment g [] (turn_of merged) old made → StepsOverSegment g inputs merged p old made false true
->>>>>>> hB
   put_there old made e takes = record {
     records_are = λ ps. rw e (
         ap (λ (rs : List SegRecord). rs ++ map (λ (q : Part). q.0) (others_in inputs ps)) (takes.records_are ∙ ap (λ (rs : List SegRecord). old.records ++ rs) (sym (records_of (turns_of g merged))))
@@ -104,11 +91,7 @@ module _ (g : ℕ) (inputs : List SegNo) (merged : Merging) (p : Part) where
   }
 
   -- another segment
-<<<<<<< HEAD
-  pub kept_so : (old made : NextSegments) (b : Bool) → is_one_of inputs p ≡ false → Keeps p old made → StepsOver g inputs merged p old made b b
-=======
   pub kept_so : (old made : NextSegments) (b : Bool) → is_one_of inputs p ≡ false → KeepsSegment p old made → StepsOverSegment g inputs merged p old made b b
->>>>>>> hB
   kept_so old made true e keeps = record {
     records_are = λ ps. rw e (ap (λ (rs : List SegRecord). rs ++ map (λ (q : Part). q.0) (others_in inputs ps)) keeps.records_are ∙ append_assoc old.records (p.0 ∷ []) (map (λ (q : Part). q.0) (others_in inputs ps)));
     segs_are = λ ps. rw e (ap (λ (ss : List Shown). ss ++ map (λ (q : Part). q.1) (others_in inputs ps)) keeps.segs_are ∙ append_assoc old.segs (p.1 ∷ []) (map (λ (q : Part). q.1) (others_in inputs ps)));
@@ -142,11 +125,7 @@ placed_none g inputs merged ps made no_records no_segs no_files some = record {
 }
 
 pub placed_more : (g : ℕ) (inputs : List SegNo) (merged : Merging) (ps : List Part) (p : Part) (old made : NextSegments) (was now : Bool) (at : ℕ) → drop at ps ≡ p ∷ drop (at + 1) ps → IsPlacedTo g inputs merged ps old was at
-<<<<<<< HEAD
-    → StepsOver g inputs merged p old made was now → IsPlacedTo g inputs merged ps made now (at + 1)
-=======
     → StepsOverSegment g inputs merged p old made was now → IsPlacedTo g inputs merged ps made now (at + 1)
->>>>>>> hB
 placed_more g inputs merged ps p old made was now at next so_far step =
     let rest = drop (at + 1) ps in
     record {

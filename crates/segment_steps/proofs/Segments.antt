@@ -119,11 +119,7 @@ pub one_more : (segs : List Shown) (s : Shown) → live_documents (segs ++ s ∷
 one_more segs s = flat_map-append live_documents_of segs (s ∷ []) ∙ ap (λ (ds : List Doc). live_documents segs ++ ds) (append-nil (live_documents_of s))
 
 -- where no row is live, no document is
-<<<<<<< HEAD
-counted : (b : Bool) (rows : List Bool) → live_rows (b ∷ rows) ≡ cond b 1 0 + live_rows rows
-=======
 pub counted : (b : Bool) (rows : List Bool) → live_rows (b ∷ rows) ≡ cond b 1 0 + live_rows rows
->>>>>>> hB
 counted b rows = sum_by-cons (λ (live : Bool). cond live 1 0) b rows
 
 pub none_live : (docs : List Doc) (live : List Bool) → live_rows live ≡ 0 → live_docs docs live ≡ []

@@ -13,11 +13,7 @@ use Rattle.seg_reader.specs.Files.{record_id}
 use Rattle.seg_build.specs.Built.{File}
 use Rattle.segment_steps.specs.declared.next.NextSegments.{NextSegments}
 use Rattle.segment_steps.specs.Segments.{changed}
-<<<<<<< HEAD
-use Rattle.segment_steps.specs.Next.{record_by, stays, AddsLiveFile, TakesOver}
-=======
 use Rattle.segment_steps.specs.Next.{record_by, stays, AddsLiveFile, TakesSegment}
->>>>>>> hB
 
 -- the live file was put at the end, with this name and these bytes
 pub adds : (r : SegRecord) (live : List Bool) (c : Option (List Bool)) (id name bytes : List ℕ) (old new : List File) → c ≡ Some live → id ≡ record_id r → name ≡ live_name_of r.seg.0 r.live_gen → IsLiveFile id r.live_gen live bytes
@@ -36,11 +32,7 @@ abbrev made_of : List SegRecord → List Shown → List File → NextSegments
 made_of records segs files = record { records = records; segs = segs; files = files }
 
 taken_so : (g : ℕ) (held : List SegNo) (r : SegRecord) (s : Shown) (c : Option (List Bool)) (old : NextSegments) (files : List File) → stays g held (r, (s, c)) ≡ true → AddsLiveFile (record_by g r c) c old.files files
-<<<<<<< HEAD
-    → TakesOver g held (r, (s, c)) old (made_of (old.records ++ record_by g r c ∷ []) (old.segs ++ changed s c ∷ []) files)
-=======
     → TakesSegment g held (r, (s, c)) old (made_of (old.records ++ record_by g r c ∷ []) (old.segs ++ changed s c ∷ []) files)
->>>>>>> hB
 taken_so g held r s None old files stay add = record {
   added = [];
   records_are = rw stay refl;
@@ -57,15 +49,8 @@ taken_so g held r s (Some live) old files stay add = record {
 }
 
 pub taken : (g : ℕ) (held : List SegNo) (r next : SegRecord) (s shown : Shown) (c : Option (List Bool)) (old : NextSegments) (records : List SegRecord) (segs : List Shown) (files : List File) → stays g held (r, (s, c)) ≡ true
-<<<<<<< HEAD
-    → next ≡ record_by g r c → shown ≡ changed s c → records ≡ old.records ++ next ∷ [] → segs ≡ old.segs ++ shown ∷ [] → AddsLiveFile next c old.files files → TakesOver g held (r, (s, c)) old (made_of records segs files)
-taken g held r next s shown c old records segs files stay is_next is_shown put_record put_segment add =
-    subst (λ (rs : List SegRecord). TakesOver g held (r, (s, c)) old (made_of rs segs files)) (sym (put_record ∙ ap (λ (x : SegRecord). old.records ++ x ∷ []) is_next))
-    (subst (λ (ss : List Shown). TakesOver g held (r, (s, c)) old (made_of (old.records ++ record_by g r c ∷ []) ss files)) (sym (put_segment ∙ ap (λ (x : Shown). old.segs ++ x ∷ []) is_shown))
-=======
     → next ≡ record_by g r c → shown ≡ changed s c → records ≡ old.records ++ next ∷ [] → segs ≡ old.segs ++ shown ∷ [] → AddsLiveFile next c old.files files → TakesSegment g held (r, (s, c)) old (made_of records segs files)
 taken g held r next s shown c old records segs files stay is_next is_shown put_record put_segment add =
     subst (λ (rs : List SegRecord). TakesSegment g held (r, (s, c)) old (made_of rs segs files)) (sym (put_record ∙ ap (λ (x : SegRecord). old.records ++ x ∷ []) is_next))
     (subst (λ (ss : List Shown). TakesSegment g held (r, (s, c)) old (made_of (old.records ++ record_by g r c ∷ []) ss files)) (sym (put_segment ∙ ap (λ (x : Shown). old.segs ++ x ∷ []) is_shown))
->>>>>>> hB
     (taken_so g held r s c old files stay (subst (λ (x : SegRecord). AddsLiveFile x c old.files files) is_next add)))

@@ -73,11 +73,7 @@ pub record IsCutOf (g : ℕ) (ps : List Part) (inputs : List SegNo) (merged : Me
 -- ---- how it is gone through
 
 -- a segment was taken over as it is
-<<<<<<< HEAD
-pub record Keeps (p : Part) (old new : NextSegments) : Type 0 where
-=======
 pub record KeepsSegment (p : Part) (old new : NextSegments) : Type 0 where
->>>>>>> hB
   pub records_are : new.records ≡ old.records ++ p.0 ∷ []
   pub segs_are : new.segs ≡ old.segs ++ p.1 ∷ []
   pub files_are : new.files ≡ old.files
@@ -100,11 +96,7 @@ AreFilesSo g merged true files = AllZip (IsLiveFileAfter g) (filter is_changed (
 AreFilesSo g merged false files = files ≡ []
 
 -- one segment was gone over
-<<<<<<< HEAD
-pub record StepsOver (g : ℕ) (inputs : List SegNo) (merged : Merging) (p : Part) (old new : NextSegments) (was now : Bool) : Type 0 where
-=======
 pub record StepsOverSegment (g : ℕ) (inputs : List SegNo) (merged : Merging) (p : Part) (old new : NextSegments) (was now : Bool) : Type 0 where
->>>>>>> hB
   pub records_are : (ps : List Part) → new.records ++ map (λ q. q.0) (placed_rest g inputs merged now ps) ≡ old.records ++ map (λ q. q.0) (placed_rest g inputs merged was (p ∷ ps))
   pub segs_are : (ps : List Part) → new.segs ++ map (λ q. q.1) (placed_rest g inputs merged now ps) ≡ old.segs ++ map (λ q. q.1) (placed_rest g inputs merged was (p ∷ ps))
   pub files_are : AreFilesSo g merged was old.files → AreFilesSo g merged now new.files

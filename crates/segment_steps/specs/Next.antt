@@ -103,11 +103,7 @@ AddsLiveFile r None old new = new ≡ old
 AddsLiveFile r (Some live) old new = (bytes : List ℕ) × (new ≡ old ++ (live_name_of r.seg.0 r.live_gen, bytes) ∷ []) × IsLiveFile (record_id r) r.live_gen live bytes
 
 -- one segment was taken over, or left out where it does not stay
-<<<<<<< HEAD
-pub record TakesOver (g : ℕ) (held : List SegNo) (t : Turn) (old new : NextSegments) : Type 0 where
-=======
 pub record TakesSegment (g : ℕ) (held : List SegNo) (t : Turn) (old new : NextSegments) : Type 0 where
->>>>>>> hB
   pub added : List File
   pub records_are : new.records ≡ old.records ++ map (record_after g) (staying g held (t ∷ []))
   pub segs_are : new.segs ≡ old.segs ++ map shown_after (staying g held (t ∷ []))

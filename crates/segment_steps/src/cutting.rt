@@ -1,8 +1,5 @@
-<<<<<<< HEAD
-=======
 //! The cut-over of a merge.
 
->>>>>>> hB
 ghost use Rattle.std.specs.Prelude.{◌≡◌, ◌<◌, ◌^◌, length, replicate, true, Some, IfOk, OnOk};
 ghost use Rattle.std.specs.List.{AllZip, zip};
 ghost use Rattle.seg_build.specs.Built.{record_of};
@@ -10,11 +7,7 @@ ghost use Rattle.seg_reader.specs.Shown.{Shown};
 ghost use Rattle.seg_merge.specs.Merging.{origins, IsWithin};
 ghost use Rattle.segment_steps.specs.Segments.{HasItsRows};
 ghost use Rattle.segment_steps.specs.Next.{IsBounded, IsReadBack, IsBuiltWork};
-<<<<<<< HEAD
-ghost use Rattle.segment_steps.specs.CutOver.{change_by, inputs_in, lives_of, Keeps, StepsOver, IsPlaced, IsCutOf};
-=======
 ghost use Rattle.segment_steps.specs.CutOver.{change_by, inputs_in, lives_of, KeepsSegment, StepsOverSegment, IsPlaced, IsCutOf};
->>>>>>> hB
 
 use crate::next::{NextSegments, is_held, take_over};
 use live_bits::LiveBits;
@@ -33,12 +26,8 @@ fn lives_now(
     inputs: &[SegNo],
 ) -> Result<Vec<LiveBits>, NoMemory>
     requires { length records.now ≡ length segs.now }
-<<<<<<< HEAD
-    ensures { IfOk result (λ lives. lives.items ≡ lives_of (inputs_in inputs.now (zip records.now segs.now))) }
-=======
     ensures { IfOk result (λ lives. lives.items
         ≡ lives_of (inputs_in inputs.now (zip records.now segs.now))) }
->>>>>>> hB
 {
     let mut lives = Vec::new(alloc);
     for at in 0..segs.len() {
@@ -57,22 +46,14 @@ fn change_of(live: LiveBits) -> Option<LiveBits>
     if live_count == rows { None } else { Some(live) }
 }
 
-<<<<<<< HEAD
-// TakesOver a segment over as it is.
-=======
 // Takes a segment over as it is.
->>>>>>> hB
 fn keep(
     alloc: Global,
     made: &mut NextSegments,
     record: &SegRecord,
     segment: &Segment,
 ) -> Result<(), NoMemory>
-<<<<<<< HEAD
-    ensures { OnOk result (Keeps («record».now, segment.now) made.old made.new) }
-=======
     ensures { OnOk result (KeepsSegment («record».now, segment.now) made.old made.new) }
->>>>>>> hB
 {
     made.segs.push(segment.share(alloc)?)?;
     made.records.push(*record)?;
@@ -103,12 +84,8 @@ fn step_over(
     requires few { generation.0 < 2 ^ 31 }
     requires bounded { IsBounded generation.0 merged.now.entry }
     requires rows { HasItsRows merged.now.segment merged.now.change }
-<<<<<<< HEAD
-    ensures { OnOk result (StepsOver generation.0 inputs.now merged.now («record».now, segment.now) made.old made.new placed.old placed.new) }
-=======
     ensures { OnOk result (StepsOverSegment generation.0 inputs.now merged.now
         («record».now, segment.now) made.old made.new placed.old placed.new) }
->>>>>>> hB
 {
     if is_held(inputs, record.seg) {
         if !*placed {
@@ -143,12 +120,8 @@ fn put_in_place(
     requires rows { HasItsRows merged.now.segment merged.now.change }
     requires many { length records.now ≡ length segs.now }
     requires some { 0 < length (inputs_in inputs.now (zip records.now segs.now)) }
-<<<<<<< HEAD
-    ensures { IfOk result (IsPlaced generation.0 inputs.now merged.now (zip records.now segs.now)) }
-=======
     ensures { IfOk result (IsPlaced generation.0 inputs.now merged.now
         (zip records.now segs.now)) }
->>>>>>> hB
 {
     let mut made = NextSegments {
         records: List::from_vec(Vec::new(alloc)),
@@ -183,16 +156,6 @@ pub fn cut_over(
     segs: &[Segment],
 ) -> Result<NextSegments, NoMemory>
     requires few { generation.0 < 2 ^ 31 }
-<<<<<<< HEAD
-    requires bounded { IsBounded generation.0 (record_of merged.now.files.seg merged.now.files.live) }
-    requires many { length records.now ≡ length segs.now }
-    requires some { 0 < length (inputs_in inputs.now (zip records.now segs.now)) }
-    requires now { AllZip IsWithin (lives_of (inputs_in inputs.now (zip records.now segs.now))) task_live.now }
-    requires from { merged.now.from ≡ origins 0 task_live.now }
-    requires rows { merged.now.files.live ≡ replicate (length merged.now.from) true }
-    requires built { IsBuiltWork (Some merged.now.files) }
-    ensures { IfOk result (λ made. (shown : Shown) × IsReadBack merged.now.files shown × IsCutOf generation.0 (zip records.now segs.now) inputs.now merged.now shown made) }
-=======
     requires bounded { IsBounded generation.0
         (record_of merged.now.files.seg merged.now.files.live) }
     requires many { length records.now ≡ length segs.now }
@@ -204,7 +167,6 @@ pub fn cut_over(
     requires built { IsBuiltWork (Some merged.now.files) }
     ensures { IfOk result (λ made. (shown : Shown) × IsReadBack merged.now.files shown
         × IsCutOf generation.0 (zip records.now segs.now) inputs.now merged.now shown made) }
->>>>>>> hB
 {
     let lives = lives_now(alloc, records, segs, inputs)?;
     let live = carry(alloc, task_live, lives.as_slice(), merged)?;

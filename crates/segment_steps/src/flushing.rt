@@ -12,13 +12,8 @@ ghost use Rattle.segment_steps.specs.Next.{IsNewOf, IsFlushOf};
 
 use crate::cut::{Gone, marks_of, rows_of};
 use crate::killing::change_of;
-<<<<<<< HEAD
-use live_bits::LiveBits;
-use documents::Op;
-=======
 use documents::Op;
 use live_bits::LiveBits;
->>>>>>> hB
 use nrt_base::{List, NoMemory, SegNo};
 use seg_build::{SegFiles, build};
 use seg_reader::Segment;

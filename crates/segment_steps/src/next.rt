@@ -1,13 +1,3 @@
-<<<<<<< HEAD
-ghost use Rattle.std.specs.Prelude.{◌≡◌, ◌<◌, ◌^◌, ◌==◌, IfOk, OnOk};
-ghost use Rattle.std.specs.List.{list_any};
-ghost use Rattle.segment_steps.specs.Segments.{changed, HasItsRows};
-ghost use Rattle.segment_steps.specs.Next.{next_live_gen, record_by, IsBounded, AddsLiveFile, TakesOver};
-
-use bytes::Bytes;
-use live_bits::LiveBits;
-use file_names::{FileName, live_name};
-=======
 //! How one segment of infos is taken over into the next ones.
 
 ghost use Rattle.std.specs.Prelude.{◌≡◌, ◌<◌, ◌^◌, ◌==◌, IfOk, OnOk};
@@ -18,20 +8,12 @@ ghost use Rattle.segment_steps.specs.Next.{next_live_gen, record_by, IsBounded, 
 use bytes::Bytes;
 use file_names::{FileName, live_name};
 use live_bits::LiveBits;
->>>>>>> hB
 use nrt_base::{Gen, List, NoMemory, SegNo, Share};
 use seg_reader::{Segment, segment_id};
 use segment_infos::SegRecord;
 use std::alloc::Global;
 
-<<<<<<< HEAD
-/// How many numbers of segments a generation has.
-const NUMBERS: u64 = 1_679_616;
-
-/// How many live generations a generation has for each segment.
-=======
 /// How many live generations a segment can get in each generation.
->>>>>>> hB
 const LIVE_GENS: u64 = 4_294_967_296;
 
 /// The segments of infos after a publish or a cut-over.
@@ -39,29 +21,17 @@ const LIVE_GENS: u64 = 4_294_967_296;
 pub struct NextSegments {
     pub records: List<SegRecord>,
     pub segs: List<Segment>,
-<<<<<<< HEAD
-    /// The files that are to be written, in order: those of the new segment, then the live files in order of the infos.
-    pub files: List<(FileName, Bytes)>,
-}
-
-// The live generation that a segment gets in this generation.
-=======
     /// The files that are to be written, in order: those of the new segment, then the live files in the infos' order.
     pub files: List<(FileName, Bytes)>,
 }
 
 // The live generation that a segment gets in this generation: one above its own and above all of earlier generations.
->>>>>>> hB
 fn live_gen_after(generation: Gen, record: SegRecord) -> u64
     requires few { generation.0 < 2 ^ 31 }
     requires bounded { IsBounded generation.0 «record» }
     ensures { result ≡ next_live_gen generation.0 «record» }
 {
-<<<<<<< HEAD
-    let base = (generation.0 - record.seg.0 / NUMBERS) * LIVE_GENS;
-=======
     let base = (generation.0 - record.seg.generation().0) * LIVE_GENS;
->>>>>>> hB
     if record.live_gen < base {
         base + 1
     } else {
@@ -131,11 +101,7 @@ fn segment_after(
     }
 }
 
-<<<<<<< HEAD
-/// TakesOver a segment over with its change. It is left out where no row of it is live and it is none of those that are held.
-=======
 /// Takes a segment over with its change. It is left out where no row of it is live and it is none of those that are held.
->>>>>>> hB
 pub fn take_over(
     alloc: Global,
     made: &mut NextSegments,
@@ -148,12 +114,8 @@ pub fn take_over(
     requires few { generation.0 < 2 ^ 31 }
     requires bounded { IsBounded generation.0 «record».now }
     requires rows { HasItsRows segment.now change.now }
-<<<<<<< HEAD
-    ensures { OnOk result (TakesOver generation.0 held.now («record».now, (segment.now, change.now)) made.old made.new) }
-=======
     ensures { OnOk result (TakesSegment generation.0 held.now
         («record».now, (segment.now, change.now)) made.old made.new) }
->>>>>>> hB
 {
     let next = record_after(generation, record, change);
     if next.live > 0 || is_held(held, record.seg) {

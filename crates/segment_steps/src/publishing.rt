@@ -1,8 +1,5 @@
-<<<<<<< HEAD
-=======
 //! The segments of infos after a publish.
 
->>>>>>> hB
 ghost use Rattle.std.specs.Prelude.{◌≡◌, ◌<◌, ◌^◌, [], length, IfOk, OnOk};
 ghost use Rattle.std.specs.List.{All, AllZip};
 ghost use Rattle.segment_steps.specs.Segments.{HasItsRows};
@@ -11,13 +8,8 @@ ghost use Rattle.segment_steps.specs.Next.{IsBounded, IsBuiltWork, IsFreshOf, Is
 use crate::flushing::FlushWork;
 use crate::next::{NextSegments, take_over};
 use bytes::Bytes;
-<<<<<<< HEAD
-use live_bits::LiveBits;
-use file_names::FileName;
-=======
 use file_names::FileName;
 use live_bits::LiveBits;
->>>>>>> hB
 use nrt_base::{Gen, List, NoMemory, SegNo};
 use seg_build::{SegFiles, first_record, read_back};
 use seg_reader::Segment;
@@ -65,11 +57,7 @@ fn with_part(
     Ok(made)
 }
 
-<<<<<<< HEAD
-// TakesOver all segments over, in order.
-=======
 // Takes all segments over, in order.
->>>>>>> hB
 fn take_all(
     alloc: Global,
     made: &mut NextSegments,
@@ -85,12 +73,8 @@ fn take_all(
     requires rows { AllZip HasItsRows segs.now changes.now }
     requires records { made.old.records ≡ [] }
     requires segs { made.old.segs ≡ [] }
-<<<<<<< HEAD
-    ensures { OnOk result (AreTakenTo generation.0 held.now records.now segs.now changes.now made.old.files made.new (length segs.now)) }
-=======
     ensures { OnOk result (AreTakenTo generation.0 held.now records.now segs.now changes.now
         made.old.files made.new (length segs.now)) }
->>>>>>> hB
 {
     for at in 0..segs.len() {
         take_over(

@@ -1,6 +1,3 @@
-<<<<<<< HEAD
-
-=======
 ghost use Rattle.std.specs.Prelude.{◌≡◌, true, IfOk, IsTrue};
 ghost use Rattle.nrt_base.specs.Bytes.{is_key, is_text};
 ghost use Rattle.history_entries.specs.Points.{is_put};
@@ -78,4 +75,3 @@ fn a_put_behind_a_drop_stays(rt: HostRuntime) -> Result<(), Fail> {
     assert_eq!(rt; built.files.as_slice().len(), 4);
     Ok(())
 }
->>>>>>> hB
