@@ -1,5 +1,5 @@
 -- The documents that a list of operations leaves.
-use Rattle.std.specs.Prelude.{ℕ, List, [], ◌∷◌, Bool, not, map, filter, bytes_eq}
+use Rattle.std.specs.Prelude.{ℕ, List, [], ◌∷◌, Bool, false, true, not, map, filter, bytes_eq}
 use Rattle.std.specs.List.Sorted.{IsStrictlySortedBy}
 use Rattle.std.specs.Ordering.{nat_cmp, on}
 use Rattle.std.specs.BTreeMap.{BTreeMap}
@@ -20,6 +20,12 @@ abbrev pub removes : Op → Doc → Bool
 removes (Put put) doc = bytes_eq put.key doc.key
 removes (Delete key) doc = bytes_eq key doc.key
 removes (Drop word) doc = has_word word (words_of doc.text)
+
+-- the operation puts a document
+abbrev pub is_put : Op → Bool
+is_put (Put doc) = true
+is_put (Delete key) = false
+is_put (Drop word) = false
 
 -- the documents that the operation does not take away
 abbrev pub remaining : Op → List Doc → List Doc

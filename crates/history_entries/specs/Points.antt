@@ -6,11 +6,10 @@ use Rattle.nrt_base.specs.declared.numbers.At.{At}
 use Rattle.nrt_base.specs.SegNumbers.{segment_generation, segment_place}
 use Rattle.file_names.specs.Names.{IsFileOfSegment, IsTemporaryOfSegment}
 use Rattle.documents.specs.declared.operation.Op.{Op}
-use Rattle.documents.specs.declared.operation.Op.TheVariants.{Put, Delete, Drop}
 use Rattle.history_entries.specs.declared.entry.Event.{Event}
 use Rattle.history_entries.specs.declared.entry.Event.TheVariants.{Accepted, Publishing, Published, Promoted, Merging}
 use Rattle.history_entries.specs.declared.point.Point.{Point}
-use Rattle.documents.specs.Documents.{documents_after}
+use Rattle.documents.specs.Documents.{documents_after, is_put}
 use Rattle.history_entries.specs.Nodes.{Past, generation_of, version_of}
 use Rattle.history_entries.specs.Lines.{same_at, is_start, before_start}
 
@@ -73,12 +72,6 @@ published_in_generation (e ∷ past) = let k = published_in_generation past in
 -- the cut: the operations of the generation that its last publish does not have, which a publish takes now
 abbrev pub cut_of : Past → List Op
 cut_of past = drop (published_in_generation past) (operations_of_generation past)
-
--- the operation puts a document
-abbrev pub is_put : Op → Bool
-is_put (Put doc) = true
-is_put (Delete key) = false
-is_put (Drop word) = false
 
 -- the cut has a put, so its publish makes a segment and draws a name
 abbrev pub cut_has_put : Past → Bool

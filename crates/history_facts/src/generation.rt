@@ -1,7 +1,8 @@
 ghost use Rattle.std.specs.Prelude.{◌≡◌, ◌≤◌, ◌<◌, ◌+◌, ◌^◌, ◌↔◌, ◌⊎◌, ◌∷◌, [], IsTrue, if◌then◌else◌, reverse, length};
 ghost use Rattle.nrt_base.specs.SegNumbers.{segment_number};
 ghost use Rattle.nrt_base.specs.declared.numbers.Version.{Version};
-ghost use Rattle.history_entries.specs.Points.{operations_of_generation, is_put, cut_of, idle_publishes, merges_started};
+ghost use Rattle.documents.specs.Documents.{is_put};
+ghost use Rattle.history_entries.specs.Points.{operations_of_generation, cut_of, idle_publishes, merges_started};
 ghost use Rattle.history_facts.specs.Generations.{ShowsGeneration};
 
 use crate::lines::before_start;

@@ -5,7 +5,7 @@ use Rattle.commit_steps.specs.declared.stage.CommitBook.{CommitBook}
 use Rattle.std.specs.Prelude.{◌≡◌, Bool, true, false, ◌<◌, ◌≤◌, length}
 use Rattle.std.specs.List.{list_any}
 use Rattle.documents.specs.declared.operation.Op.{Op}
-use Rattle.history_entries.specs.Points.{is_put}
+use Rattle.documents.specs.Documents.{is_put}
 use Rattle.nrt_base.specs.declared.numbers.SegNo.{SegNo}
 use Rattle.seg_reader.specs.Shown.{Shown}
 use Rattle.segment_infos.specs.declared.infos.Infos.{Infos}

@@ -9,7 +9,7 @@ ghost use Rattle.file_deleter.specs.Holdings.{times};
 ghost use Rattle.disk_model.specs.Disk.{reads_of};
 ghost use Rattle.index_primary.specs.States.{state_names, is_out, out_of, states_without, IsStateOf};
 ghost use Rattle.copy_state.specs.States.{AreShortNames, IsCopyState};
-ghost use Rattle.history_entries.specs.Points.{is_put};
+ghost use Rattle.documents.specs.Documents.{is_put};
 ghost use Rattle.index_primary.specs.Cut.{last_number, has_put, noted, IsIdle, AreSpent, AreTooMany};
 ghost use Rattle.commit_steps.specs.Commits.{ImagesHave};
 ghost use Rattle.commit_steps.specs.Book.{commit_of, shown_by, book_after, is_last_step, HasBegun};

@@ -14,7 +14,7 @@ use Rattle.documents.specs.declared.operation.Op.{Op}
 use Rattle.documents.specs.declared.operation.Op.TheVariants.{Put, Delete, Drop}
 use Rattle.documents.specs.Documents.{key_cmp}
 use Rattle.documents.specs.Words.{words_of}
-use Rattle.history_entries.specs.Points.{is_put}
+use Rattle.documents.specs.Documents.{is_put}
 use Rattle.live_bits.specs.LiveRows.{live_rows}
 use Rattle.seg_reader.specs.Shown.{Shown}
 use Rattle.seg_reader.specs.Sound.{IsSound}

@@ -2,7 +2,7 @@
 
 ghost use Rattle.std.specs.Prelude.{◌≡◌, ◌↔◌, map, not, IfOk, IsSome, IsTrue};
 ghost use Rattle.std.specs.List.{All, list_any};
-ghost use Rattle.history_entries.specs.Points.{is_put};
+ghost use Rattle.documents.specs.Documents.{is_put};
 ghost use Rattle.seg_reader.specs.Sound.{IsSound};
 ghost use Rattle.seg_build.specs.Rows.{live_of};
 ghost use Rattle.segment_steps.specs.Cut.{puts_live};

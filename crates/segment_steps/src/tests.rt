@@ -1,6 +1,6 @@
 ghost use Rattle.std.specs.Prelude.{◌≡◌, true, IfOk, IsTrue};
 ghost use Rattle.nrt_base.specs.Bytes.{is_key, is_text};
-ghost use Rattle.history_entries.specs.Points.{is_put};
+ghost use Rattle.documents.specs.Documents.{is_put};
 
 use super::*;
 use documents::Op;
