@@ -73,7 +73,8 @@ fn write_record<D: Dir>(
     requires { (D.cells dir.old (pending_log_name_of number)).now ≡ None }
     ensures ok { OnOk result (IsFileContent number entry.now
         (D.cells dir.new (pending_log_name_of number)).now) }
-    ensures others { (q : List ℕ) → pending_log_name_of number ≢ q → D.cells dir.new q ≡ D.cells dir.old q }
+    ensures others { (q : List ℕ) → pending_log_name_of number ≢ q
+        → D.cells dir.new q ≡ D.cells dir.old q }
     ensures failed { IsErrOf result LogFault.Failed → Rose (D.faults dir.old) (D.faults dir.new) }
     ensures later { D.faults dir.old ≤ D.faults dir.new }
 {

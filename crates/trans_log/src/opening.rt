@@ -240,7 +240,8 @@ impl<D: Dir> TransLog<D> {
             → Rose (D.faults dir) (D.faults refused.dir)) }
 
         // Each of these is answered, unless the call is out of memory or the disk fails.
-        ensures whole { (rs : List LogOp) → length rs < 2 ^ 32 → ReadsRecords (reads_of (D.cells dir)) rs
+        ensures whole { (rs : List LogOp) → length rs < 2 ^ 32
+            → ReadsRecords (reads_of (D.cells dir)) rs
             → MatchResult result (λ log. log.records.items ≡ rs) (λ refused. IsLogCutOff refused.fault) }
         ensures gap { (n : ℕ) → IsGap (reads_of (D.cells dir)) n
             → IsErrAnd result (λ refused. IsFaultOrCutOff (LogFault.Gap n) refused.fault) }

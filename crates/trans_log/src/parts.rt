@@ -124,7 +124,8 @@ fn op_parts_of(bytes: &[u8]) -> Option<(OpParts, &[u8])>
 /// The fields that a body has.
 #[tactic(auto, unfolding(crate::specs::Reading::three_at))]
 pub fn fields_of(body: &[u8]) -> Option<Fields>
-    ensures { option_map record_of_fields result ≡ option_map record_of_three (whole_read (three_at body.now)) }
+    ensures { option_map record_of_fields result
+        ≡ option_map record_of_three (whole_read (three_at body.now)) }
 {
     let (generation, rest) = u64_of(body)?;
     let (seq, rest) = u32_of(rest)?;

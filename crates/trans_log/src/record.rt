@@ -151,7 +151,8 @@ fn read(alloc: Global, id: &[u8; 16], bytes: &[u8]) -> Result<LogOp, ReadFault>
 pub fn decode(alloc: Global, number: u32, bytes: &[u8]) -> Result<LogOp, ReadFault>
     ensures answer { IsFileAnswer SpellsRecord (record_wanted number) (λ _. log_file_id number) File
         bytes.now result }
-    ensures whole { (r : LogOp) → IsRecordFile number r bytes.now → IfErr result (λ fault. fault ≡ Memory) }
+    ensures whole { (r : LogOp) → IsRecordFile number r bytes.now
+        → IfErr result (λ fault. fault ≡ Memory) }
 {
     read(alloc, &id_of(number), bytes)
 }
