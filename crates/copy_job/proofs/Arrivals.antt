@@ -53,6 +53,7 @@ more_damages (Some a) n len d0 d e was now = joined (is_handed_out (Some a) 0 n)
   where
     first : (nat_le 0 a.0 && nat_lt a.0 (0 + n)) ≡ true → ((nat_le n a.0 && nat_lt a.0 (n + len)) ≡ false) × ((nat_le 0 a.0 && nat_lt a.0 (0 + (n + len))) ≡ true)
     first h = (grind (arith, nat_tests), grind (arith, nat_tests))
+
     then : (nat_le 0 a.0 && nat_lt a.0 (0 + n)) ≡ false → (nat_le 0 a.0 && nat_lt a.0 (0 + (n + len))) ≡ (nat_le n a.0 && nat_lt a.0 (n + len))
     then h = grind (arith, nat_tests)
 
@@ -61,8 +62,8 @@ pub more_received : (a : Option (ℕ × ℕ)) (file : List ℕ) (d0 d e : ℕ) (
     → HasReceived a file d0 e new
 more_received a file d0 d e bytes chunk slice new n len was at got as_is le is damages =
     let all : new ≡ take (n + len) (carried_by a file) =
-        is ∙ ap (λ (xs : List ℕ). xs ++ slice) (was.bytes_are ∙ ap (λ k. take k (carried_by a file)) (sym at)) ∙ ap (λ (xs : List ℕ). take n (carried_by a file) ++ xs) (as_is ∙ got)
-        ∙ take_part (carried_by a file) n len (omega (arith, le, length-carried a file)) in
+    is ∙ ap (λ (xs : List ℕ). xs ++ slice) (was.bytes_are ∙ ap (λ k. take k (carried_by a file)) (sym at)) ∙ ap (λ (xs : List ℕ). take n (carried_by a file) ++ xs) (as_is ∙ got)
+    ∙ take_part (carried_by a file) n len (omega (arith, le, length-carried a file)) in
     let size : length new ≡ n + len = ap length all ∙ (let h : length (take (n + len) (carried_by a file)) ≡ n + len = omega (arith, length-take (n + len) (carried_by a file), le, length-carried a file) in h) in
     record {
       within = omega (arith, size, le);
@@ -113,7 +114,7 @@ module _ (a : Option (ℕ × ℕ)) (source bytes : List ℕ) (d0 d want : ℕ) (
       let size_is : length source ≡ n + 8 = omega (arith, long) in
       let at : length bytes - 8 ≡ n = ap (λ k. k - 8) size in
       let sum : be64_at bytes n ≡ crc_of (take n bytes) =
-          ap (λ k. be64_at bytes k) (sym at) ∙ second ∙ sym first ∙ ap (λ k. crc_of (take k bytes)) at in
+      ap (λ k. be64_at bytes k) (sym at) ∙ second ∙ sym first ∙ ap (λ k. crc_of (take k bytes)) at in
       let apart : DifferInOne source bytes = subst (DifferInOne source) (sym all) (differs source p.0 p.1 alters.0 alters.1) in
       absurd (one_byte_shows source bytes fits fits2 (sealed source n size_is fits footer.checksum) (sealed bytes n (size ∙ size_is) fits2 sum) apart)
 

@@ -86,6 +86,7 @@ left_out (x ∷ xs) name q = by (left_out xs name q) (same x name) refl (same na
   where
     kept : List Name
     kept = filter (λ y. not (same y name)) xs
+
     by : times kept q + cond (same name q) (times xs name) 0 ≡ times xs q → (b : Bool) → same x name ≡ b → (d : Bool) → same name q ≡ d
         → times (filter (λ y. not (same y name)) (x ∷ xs)) q + cond (same name q) (times (x ∷ xs) name) 0 ≡ times (x ∷ xs) q
     by rest true e d f =
@@ -111,11 +112,11 @@ job_arrived j p missing parts h some m_is p_is = record { state = h.state; each 
     each : (q : Name) → times missing q + times (own_names parts) q + times j.reused q ≡ times (meta_names j.want.files) q
     each q =
         let a : times missing q + cond (same p.own q) 1 0 ≡ times j.missing q =
-            ap (λ (ns : List Name). times ns q + cond (same p.own q) 1 0) m_is
-            ∙ ap (λ n. times (filter (λ x. not (same x p.own)) j.missing) q + cond (same p.own q) n 0) (sym (once_missing j p.own h some)) ∙ left_out j.missing p.own q in
+        ap (λ (ns : List Name). times ns q + cond (same p.own q) 1 0) m_is
+        ∙ ap (λ n. times (filter (λ x. not (same x p.own)) j.missing) q + cond (same p.own q) n 0) (sym (once_missing j p.own h some)) ∙ left_out j.missing p.own q in
         let b : times (own_names parts) q ≡ times (own_names j.parts) q + cond (same p.own q) 1 0 =
-            ap (λ (ps : List JobPart). times (own_names ps) q) p_is ∙ ap (λ (ns : List Name). times ns q) (own_names-append j.parts (p ∷ []))
-            ∙ times-append (own_names j.parts) (p.own ∷ []) q ∙ ap (λ n. times (own_names j.parts) q + n) (times_one p.own q) in
+        ap (λ (ps : List JobPart). times (own_names ps) q) p_is ∙ ap (λ (ns : List Name). times ns q) (own_names-append j.parts (p ∷ []))
+        ∙ times-append (own_names j.parts) (p.own ∷ []) q ∙ ap (λ n. times (own_names j.parts) q + n) (times_one p.own q) in
         omega (arith, a, b, h.each q)
 
 pub names_arrived : (names new reused : List Name) (parts now : List JobPart) (p : JobPart) → names ≡ reused ++ present_names parts → new ≡ names ++ p.now ∷ [] → now ≡ parts ++ p ∷ [] → new ≡ reused ++ present_names now
@@ -129,7 +130,7 @@ pub moves_arrived : (done : Unit {0}) (bytes : List ℕ) (old new : Holdings) (b
 moves_arrived done bytes old new before after reused parts now p c parts_are = record {
   balance = λ q.
       let a : times (present_names now) q ≡ times (present_names parts) q + times (p.now ∷ []) q =
-          ap (λ (ps : List JobPart). times (present_names ps) q) parts_are ∙ ap (λ (ns : List Name). times ns q) (present_names-append parts (p ∷ [])) ∙ times-append (present_names parts) (p.now ∷ []) q in
+      ap (λ (ps : List JobPart). times (present_names ps) q) parts_are ∙ ap (λ (ns : List Name). times ns q) (present_names-append parts (p ∷ [])) ∙ times-append (present_names parts) (p.now ∷ []) q in
       omega (arith, a, c.counts q, times-append (present_names parts) reused q, times-append (present_names now) reused q);
   keeps = c.keeps;
 }
@@ -139,8 +140,8 @@ pub part_added : (was j : Job) (name now : Name) (missing : List Name) (parts : 
     → parts ≡ was.parts ++ record { own = name; now = now } ∷ [] → record was { missing = missing; parts = parts } ≡ with_part j name
 part_added was j name now missing parts is temp m p =
     let one : record was { missing = missing; parts = parts } ≡ with_part was name =
-        (let e : parts ≡ was.parts ++ record { own = name; now = temp_name_of name was.number } ∷ [] = p ∙ ap (λ (n : Name). was.parts ++ record { own = name; now = n } ∷ []) temp in
-        λ i. record was { missing = m i; parts = e i }) in
+    (let e : parts ≡ was.parts ++ record { own = name; now = temp_name_of name was.number } ∷ [] = p ∙ ap (λ (n : Name). was.parts ++ record { own = name; now = n } ∷ []) temp in
+    λ i. record was { missing = m i; parts = e i }) in
     one ∙ ap (λ (x : Job). with_part x name) is
 
 pub moves_added : (was j : Job) (done : Unit {0}) (bytes : List ℕ) (old new : Holdings) (before after : Cells) (parts : List JobPart) (missing : List Name) (name now : Name)
@@ -148,6 +149,6 @@ pub moves_added : (was j : Job) (done : Unit {0}) (bytes : List ℕ) (old new : 
     → MovesCounts (temp_name_of name j.number ∷ []) (job_names j) (job_names (record was { missing = missing; parts = parts })) old new before after
 moves_added was j done bytes old new before after parts missing name now is temp c p =
     let moves : MovesCounts (now ∷ []) (job_names was) (job_names (record was { missing = missing; parts = parts })) old new before after =
-        moves_arrived done bytes old new before after was.reused was.parts parts (record { own = name; now = now }) c p in
+    moves_arrived done bytes old new before after was.reused was.parts parts (record { own = name; now = now }) c p in
     subst (λ (x : Job). MovesCounts (temp_name_of name x.number ∷ []) (job_names x) (job_names (record was { missing = missing; parts = parts })) old new before after) is
     (subst (λ (n : Name). MovesCounts (n ∷ []) (job_names was) (job_names (record was { missing = missing; parts = parts })) old new before after) temp moves)

@@ -47,6 +47,7 @@ found_there (f ∷ fs) q (suc i) d up lt e = found_there fs q i d (sorted_tail (
   where
     first : slice_cmp nat_cmp f.0 (get_or fs i d).0 ≡ Less
     first = subst (λ (n : Name). slice_cmp nat_cmp f.0 n ≡ Less) (name_at fs i d) (Less-from_sorted (slice_cmp nat_cmp) (meta_names (f ∷ fs)) zero (suc i) d.0 up (omega arith) (omega (arith, lt, size_of fs)))
+
     apart : (b : Bool) → same q f.0 ≡ b → same q f.0 ≡ false
     apart false h = h
     apart true h =

@@ -38,6 +38,12 @@ abbrev pub IsDifference : List ℕ → ℕ → Option ℕ → Type 0
 IsDifference bytes want None = (computed_of bytes ≡ want) × (written_in bytes ≡ want)
 IsDifference bytes want (Some found) = (found ≢ want) × (found ≡ (if computed_of bytes == want then written_in bytes else computed_of bytes))
 
+-- the part is the file of this name
+pub record IsPartOf (name : Name) (source : List ℕ) (meta : FileMetaData) (part : Part) : Type 0 where
+  pub name_is : part.name ≡ name
+  pub bytes_are : part.bytes ≡ source
+  pub meta_is : part.meta ≡ meta
+
 -- The link failed in this call exactly where the answer is LinkFailed; where it did not, damages rose exactly where the answer is
 -- Damaged, with the name, the checksum of the metadata and another number. Want of memory may come before damage shows.
 abbrev pub HasCopyCause : Name → FileMetaData → (faults faults_now damages damages_now : ℕ) → Result Part JobFault → Type 0

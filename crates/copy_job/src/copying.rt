@@ -4,14 +4,14 @@ ghost use Rattle.codec_frame.specs.Bytes.{AreBytes};
 ghost use Rattle.codec_frame.specs.Checking.{be64_at, HasFooter};
 ghost use Rattle.copy_state.specs.Meta.{IsMetaOf};
 ghost use Rattle.link_model.specs.Carrying.{CountsLinkFaults};
-ghost use Rattle.copy_job.specs.Copying.{HasReceived, IsDifference, HasCopyCause, ArrivesByFate};
+ghost use Rattle.copy_job.specs.Copying.{HasReceived, IsDifference, IsPartOf, HasCopyCause, ArrivesByFate};
 
 use crate::fault::JobFault;
 use bytes::Bytes;
 use codec_frame::crc32;
 use copy_state::FileMetaData;
-use link_model::{Link, LinkFault};
 use file_names::FileName;
+use link_model::{Link, LinkFault};
 use nrt_base::{NoMemory, Share};
 use std::alloc::Global;
 
@@ -30,8 +30,10 @@ pub struct Part {
 fn fetch_next<L: Link>(link: &mut L, bytes: &mut Vec<u8>, size: usize) -> Result<(), LinkFault>
     requires begun { length (L.begun link.old) ≡ size }
     requires more { length bytes.old.items < size }
-    ensures received { (before : ℕ) → HasReceived (L.altered link.old) (L.begun link.old) before (L.damages link.old) bytes.old.items
-        → OnOk result (HasReceived (L.altered link.old) (L.begun link.old) before (L.damages link.new) bytes.new.items) }
+    ensures received { (before : ℕ)
+        → HasReceived (L.altered link.old) (L.begun link.old) before (L.damages link.old) bytes.old.items
+        → OnOk result (HasReceived (L.altered link.old) (L.begun link.old)
+            before (L.damages link.new) bytes.new.items) }
     ensures longer { OnOk result (length bytes.old.items < length bytes.new.items) }
     ensures begun { L.begun link.new ≡ L.begun link.old }
     ensures altered { L.altered link.new ≡ L.altered link.old }
@@ -52,7 +54,8 @@ fn fetch_next<L: Link>(link: &mut L, bytes: &mut Vec<u8>, size: usize) -> Result
 fn receive<L: Link>(alloc: Global, link: &mut L, size: usize) -> Result<Vec<u8>, LinkFault>
     requires some { 0 < size }
     requires begun { length (L.begun link.old) ≡ size }
-    ensures received { IfOk result (λ bytes. HasReceived (L.altered link.old) (L.begun link.old) (L.damages link.old) (L.damages link.new) bytes.items × (length bytes.items ≡ size)) }
+    ensures received { IfOk result (λ bytes. HasReceived (L.altered link.old) (L.begun link.old)
+        (L.damages link.old) (L.damages link.new) bytes.items × (length bytes.items ≡ size)) }
     ensures faults { CountsLinkFaults (L.faults link.old) (L.faults link.new) result }
     ensures fate { IsSome (L.fate link.old) → IsErrOf result LinkFault.Failed → ⊥ }
 {
@@ -82,7 +85,8 @@ fn size_of(bytes: &[u8]) -> usize
     bytes.len()
 }
 
-// The CRC-32 of the bytes before their checksum, or else that checksum, where it is not the one that is wanted.
+// The CRC-32 of the bytes before their checksum, or else that checksum, where it is not the one that
+// is wanted.
 fn difference(bytes: &[u8], want: u64) -> Option<u64>
     requires { 8 ≤ length bytes.now }
     ensures difference { IsDifference bytes.now want result }
@@ -106,7 +110,8 @@ fn frozen(bytes: Vec<u8>) -> Result<Bytes, NoMemory>
     Ok(Bytes::from_vec(bytes)?)
 }
 
-/// Copies a file over a link, chunk by chunk. What arrives is checked against the metadata of the file.
+/// Copies a file over a link, chunk by chunk. What arrives is checked against the metadata of the
+/// file.
 pub fn copy_file<L: Link>(
     alloc: Global,
     link: &mut L,
@@ -118,10 +123,11 @@ pub fn copy_file<L: Link>(
     requires checksum { HasFooter source.now }
 
     // What arrives is the file.
-    ensures part { IfOk result (λ part. (part.name ≡ name.now) × (part.bytes ≡ source.now) × (part.meta ≡ meta.now)) }
+    ensures part { IfOk result (IsPartOf name.now source.now meta.now) }
 
     // Where each answer comes, and that it comes there.
-    ensures causes { HasCopyCause name.now meta.now (L.faults link.old) (L.faults link.new) (L.damages link.old) (L.damages link.new) result }
+    ensures causes { HasCopyCause name.now meta.now (L.faults link.old) (L.faults link.new)
+        (L.damages link.old) (L.damages link.new) result }
     ensures fate { ArrivesByFate (L.fate link.old) result }
 {
     link.begin(source)?;

@@ -1,8 +1,8 @@
 //! Why copies are refused.
 
 use copy_state::FileMetaData;
-use link_model::LinkFault;
 use file_names::FileName;
+use link_model::LinkFault;
 use nrt_base::NoMemory;
 
 /// Why a copy is refused.

@@ -37,7 +37,8 @@ pub struct CopyJob {
     missing: Vec<FileName>,
     parts: List<JobPart>,
     reused: List<FileName>,
-    // What the job holds: the files that it reuses, and then its parts under the names that they have now.
+    // What the job holds: the files that it reuses, and then its parts under the names that they have
+    // now.
     names: List<FileName>,
 }
 
@@ -48,12 +49,24 @@ impl Model for CopyJob {
 
     ghost Value = { Job };
 
-    ghost view = { λ j. record { number = j.number; kind = j.kind; want = j.want;
-        missing = j.missing.items; parts = j.parts; reused = j.reused } };
+    ghost view = { λ j. record {
+      number = j.number;
+      kind = j.kind;
+      want = j.want;
+      missing = j.missing.items;
+      parts = j.parts;
+      reused = j.reused;
+    } };
 
     ghost invariant = { λ j. (j.names ≡ j.reused ++ present_names j.parts)
-        × IsJob (record { number = j.number; kind = j.kind; want = j.want;
-        missing = j.missing.items; parts = j.parts; reused = j.reused }) };
+        × IsJob (record {
+          number = j.number;
+          kind = j.kind;
+          want = j.want;
+          missing = j.missing.items;
+          parts = j.parts;
+          reused = j.reused;
+        }) };
 }
 
 // Takes a name out, wherever it stands.
@@ -64,8 +77,9 @@ fn strike(names: &mut Vec<FileName>, name: &FileName)
 }
 
 impl CopyJob {
-    /// A job that lacks the files of a state that are not held, and reuses those that are held with the same metadata. The held
-    /// files ascend. A file that is held with other metadata, the first in the order of the state, is a clash.
+    /// A job that lacks the files of a state that are not held, and reuses those that are held with the
+    /// same metadata. The held files ascend. A file that is held with other metadata, the first in the
+    /// order of the state, is a clash.
     pub fn begin(
         alloc: Global,
         number: u64,
@@ -156,7 +170,8 @@ impl CopyJob {
 
         // The causes of a refusal.
         ensures fault { IfErr result IsPlacingFault }
-        ensures failed { IsErrOf result JobFault.DirFailed → Rose (D.faults dir.old) (D.faults dir.new) }
+        ensures failed { IsErrOf result JobFault.DirFailed
+            → Rose (D.faults dir.old) (D.faults dir.new) }
         ensures later { D.faults dir.old ≤ D.faults dir.new }
     {
         let Part { name, bytes, .. } = part;
@@ -173,13 +188,9 @@ impl CopyJob {
         }
     }
 
-    /// Gives each part its own name, in order, and ends at the first rename that is refused; the parts before have their own names
-    /// then, and the others their temporary ones.
-    pub fn place<D: Dir>(
-        &mut self,
-        files: &mut FileDeleter,
-        dir: &mut D,
-    ) -> Result<(), JobFault>
+    /// Gives each part its own name, in order, and ends at the first rename that is refused; the parts
+    /// before have their own names then, and the others their temporary ones.
+    pub fn place<D: Dir>(&mut self, files: &mut FileDeleter, dir: &mut D) -> Result<(), JobFault>
         requires placeable { ArePlaceable files.old self.old.parts }
         requires whole { IsWhole (D.cells dir.old) files.old }
 
@@ -192,7 +203,8 @@ impl CopyJob {
 
         // The causes of a refusal.
         ensures fault { IfErr result IsPlacingFault }
-        ensures failed { IsErrOf result JobFault.DirFailed → Rose (D.faults dir.old) (D.faults dir.new) }
+        ensures failed { IsErrOf result JobFault.DirFailed
+            → Rose (D.faults dir.old) (D.faults dir.new) }
         ensures later { D.faults dir.old ≤ D.faults dir.new }
     {
         place(&mut self.parts, &mut self.names, files, dir)
@@ -201,7 +213,8 @@ impl CopyJob {
     /// Gives back all that the job holds, by one release. Takes no memory.
     pub fn end<D: Dir>(self, files: &mut FileDeleter, dir: &mut D)
         requires { AreCounted (job_names self) files.old }
-        ensures lets_go { LetsGo (job_names self) files.old files.new (D.cells dir.old) (D.cells dir.new) }
+        ensures lets_go { LetsGo (job_names self) files.old files.new
+            (D.cells dir.old) (D.cells dir.new) }
         ensures later { D.faults dir.old ≤ D.faults dir.new }
     {
         files.release(self.names.as_slice(), dir);

@@ -1,5 +1,5 @@
-//! What holds of a job whose parts have their own names, as theorems for readers. No function here does anything, and none is
-//! called.
+//! What holds of a job whose parts have their own names, as theorems for readers. No function here does
+//! anything, and none is called.
 
 ghost use Rattle.std.specs.Prelude.{◌≡◌, ◌<◌, ◌≤◌, ◌+◌, ℕ, List, length, false};
 ghost use Rattle.disk_model.specs.Disk.{Name, Cells, is_among};
@@ -9,7 +9,8 @@ ghost use Rattle.copy_job.specs.Parts.{present_names, own_names, written_names, 
 ghost use Rattle.copy_job.specs.Placing.{Places};
 ghost use Rattle.copy_job.specs.Jobs.{present_of};
 
-/// Once each part has its own name, each file of the point reads what it read under the name that it had.
+/// Once each part has its own name, each file of the point reads what it read under the name that it
+/// had.
 pub fn reads_placed()
     ensures { (parts now : List JobPart) (old new : Holdings) (before after : Cells)
         → Places (length parts) parts now old new before after → (reused : List Name)
@@ -21,7 +22,8 @@ pub fn reads_placed()
 
 /// The parts hold their own names then.
 pub fn all_placed()
-    ensures { (parts : List JobPart) → present_names (placed_to (length parts) parts) ≡ own_names parts }
+    ensures { (parts : List JobPart)
+        → present_names (placed_to (length parts) parts) ≡ own_names parts }
 {}
 
 /// Names that are not written are held as often while parts are given their own names.

@@ -38,7 +38,8 @@ pub(crate) fn settle(parts: &mut List<JobPart>, place: usize)
     parts.set(place, JobPart { own, now: own });
 }
 
-// Puts a part at the end of the parts, and its name at the end of the names; or leaves both as they are.
+// Puts a part at the end of the parts, and its name at the end of the names; or leaves both as they
+// are.
 pub(crate) fn push_part(
     parts: &mut List<JobPart>,
     names: &mut List<FileName>,

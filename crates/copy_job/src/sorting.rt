@@ -75,7 +75,7 @@ fn sort_one(
     ensures ok { (front : List (Name × FileMetaData))
         → AreSortedOut held.entry.files.now front sorted.old.missing sorted.old.reused
         → OnOk result (AreSortedOut held.entry.files.now (front ++ file.now ∷ [])
-            sorted.new.missing sorted.new.reused) }
+        sorted.new.missing sorted.new.reused) }
     ensures err { (front rest : List (Name × FileMetaData)) → AreAgreed held.entry.files.now front
         → IfErr result (IsBeginningFault held.entry.files.now (front ++ file.now ∷ rest)) }
 {

@@ -12,9 +12,10 @@ temp_name-requires g c = short_missing _ c.args.part.name c.self.invariant.1 (su
 
 pub invariant_of-self : goal.invariant_of-self
 invariant_of-self g c =
-    let part : JobPart = record { own = c.args.part.name; now = c.temp_name.result } in
-    (names_arrived c.self.inside.names c.write_part.new.names c.self.inside.reused c.self.inside.parts c.write_part.new.parts part c.self.invariant.0 c.in-Ok.ensures.names c.in-Ok.ensures.parts,
-    job_arrived _ part c.strike.new.names.items c.write_part.new.parts c.self.invariant.1 (subst (λ (j : Job). 0 < times j.missing c.args.part.name) (sym c.self.view_is) c.requires.missing) c.strike.ensures c.in-Ok.ensures.parts)
+    let part : JobPart = record { own = c.args.part.name; now = c.temp_name.result } in (
+      names_arrived c.self.inside.names c.write_part.new.names c.self.inside.reused c.self.inside.parts c.write_part.new.parts part c.self.invariant.0 c.in-Ok.ensures.names c.in-Ok.ensures.parts,
+      job_arrived _ part c.strike.new.names.items c.write_part.new.parts c.self.invariant.1 (subst (λ (j : Job). 0 < times j.missing c.args.part.name) (sym c.self.view_is) c.requires.missing) c.strike.ensures c.in-Ok.ensures.parts,
+    )
 
 pub returns-in-Ok-clause-ok : goal.returns-in-Ok-clause-ok
 returns-in-Ok-clause-ok g c =

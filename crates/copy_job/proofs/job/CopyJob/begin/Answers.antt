@@ -11,9 +11,10 @@ use Rattle.copy_job.proofs.job.CopyJob.begin.Goals as goal
 pub invariant_of-result : goal.invariant_of-result
 invariant_of-result c =
     let sorted : AreSortedOut c.args.held.now c.args.want.files c.in_ok-missing.field-0.missing c.in_ok-missing.field-0.reused =
-        subst (λ (fs : List (Name × FileMetaData)). AreSortedOut c.args.held.now fs c.in_ok-missing.field-0.missing c.in_ok-missing.field-0.reused) c.as_slice.ensures c.in_ok-missing.ensures.ok in
-    (c.in_ok-names.ensures ∙ sym (append-nil c.in_ok-missing.field-0.reused) ∙ ap (λ (ps : List JobPart). c.in_ok-missing.field-0.reused ++ present_names ps) (sym c.new.ensures),
-    record {
-      state = c.requires.state;
-      each = begun_each c.args.held.now (meta_names c.args.want.files) c.into_vec.result.items c.in_ok-missing.field-0.reused c.new.result c.new.ensures (c.into_vec.ensures ∙ sorted.missing_are) sorted.reused_are;
-    })
+    subst (λ (fs : List (Name × FileMetaData)). AreSortedOut c.args.held.now fs c.in_ok-missing.field-0.missing c.in_ok-missing.field-0.reused) c.as_slice.ensures c.in_ok-missing.ensures.ok in (
+      c.in_ok-names.ensures ∙ sym (append-nil c.in_ok-missing.field-0.reused) ∙ ap (λ (ps : List JobPart). c.in_ok-missing.field-0.reused ++ present_names ps) (sym c.new.ensures),
+      record {
+        state = c.requires.state;
+        each = begun_each c.args.held.now (meta_names c.args.want.files) c.into_vec.result.items c.in_ok-missing.field-0.reused c.new.result c.new.ensures (c.into_vec.ensures ∙ sorted.missing_are) sorted.reused_are;
+      },
+    )
