@@ -57,8 +57,13 @@ impl Model for MemLink {
 
     ghost Value = { LinkState };
 
-    ghost view = { λ m. record { file = m.file; altered = m.altered; next = m.next;
-        faults = m.faults; damages = m.damages } };
+    ghost view = { λ m. record {
+      file = m.file;
+      altered = m.altered;
+      next = m.next;
+      faults = m.faults;
+      damages = m.damages;
+    } };
 
     ghost invariant = { λ m. (m.carried ≡ carried_by m.altered m.file)
         × (m.faults < 2 ^ 64) × (m.damages < 2 ^ 64) };

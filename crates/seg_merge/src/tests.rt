@@ -12,12 +12,7 @@ use std::alloc::Global;
 use std::test::Fail;
 
 // A segment of one document.
-fn segment_of(
-    alloc: Global,
-    seg: SegNo,
-    key: &[u8],
-    text: &[u8],
-) -> Result<Segment, NoMemory>
+fn segment_of(alloc: Global, seg: SegNo, key: &[u8], text: &[u8]) -> Result<Segment, NoMemory>
     requires key { IsTrue (is_key key.now) }
     requires text { IsTrue (is_text text.now) }
     ensures rows { IfOk result (λ segment. length segment.docs ≡ 1) }
@@ -84,10 +79,7 @@ fn two_rows_of_which_one_dies(rt: HostRuntime) -> Result<(), Fail> {
     let merged = merged_two(rt.alloc(), first, second)?;
     assert_eq!(rt; merged.files.seg, SegNo(9));
     assert_eq!(rt; merged.files.files.as_slice().len(), 3);
-    let from = [
-        RowFrom { input: 0, row: 0 },
-        RowFrom { input: 1, row: 0 },
-    ];
+    let from = [RowFrom { input: 0, row: 0 }, RowFrom { input: 1, row: 0 }];
     assert_eq!(rt; merged.from.as_slice(), from.as_slice());
     let live = carried_two(rt.alloc(), &merged)?;
     assert_eq!(rt; live.counts(), (2, 1));
