@@ -5,7 +5,7 @@ use Rattle.history_entries.specs.declared.entry.Event.{Event}
 use Rattle.history_entries.specs.declared.entry.Event.TheVariants.{Published, Switched, Committing, Committed, Reopened, Promoted, Refused}
 use Rattle.history_entries.specs.declared.cause.Cause.{Cause}
 use Rattle.history_entries.specs.declared.cause.Cause.TheVariants.{DiskFault}
-use Rattle.history_entries.specs.Nodes.{Past, primary_of, is_at, version_of}
+use Rattle.history_entries.specs.Nodes.{Past, over, primary_of, is_at, version_of}
 use Rattle.history_entries.specs.Lines.{same_at, is_start, start_entry, commit_in_flight}
 
 abbrev pub base_by : ℕ → Event → ℕ → ℕ
@@ -20,13 +20,11 @@ base_version n (e ∷ past) = base_by n e.event (base_version n past)
 
 -- a commit of the node was acknowledged, or found by a reopening
 abbrev pub has_committed : ℕ → Past → Bool
-has_committed n [] = false
-has_committed n (e ∷ past) = let b = has_committed n past in
-    elim e.event [
-      | Committed m w ↦ if m.0 == n then true else b
-      | Reopened m w ↦ if m.0 == n then b || nat_lt 1 w.0 else b
-      | _ ↦ b
-    ]
+has_committed n = over false (λ e past b. elim e.event [
+  | Committed m w ↦ if m.0 == n then true else b
+  | Reopened m w ↦ if m.0 == n then b || nat_lt 1 w.0 else b
+  | _ ↦ b
+])
 
 -- the cause is a fault of a disk
 abbrev pub is_disk_fault : Cause → Bool
@@ -40,14 +38,12 @@ starts_commit n e = false
 
 -- a node is stuck where a disk fault refused a commit of it, and neither was one acknowledged since nor did it reopen
 abbrev pub is_stuck : ℕ → Past → Bool
-is_stuck n [] = false
-is_stuck n (e ∷ past) = let b = is_stuck n past in
-    elim e.event [
-      | Committed m w ↦ if m.0 == n then false else b
-      | Reopened m w ↦ if m.0 == n then false else b
-      | Refused cause ↦ (is_disk_fault cause && starts_commit n (start_entry e.at past)) || b
-      | _ ↦ b
-    ]
+is_stuck n = over false (λ e past b. elim e.event [
+  | Committed m w ↦ if m.0 == n then false else b
+  | Reopened m w ↦ if m.0 == n then false else b
+  | Refused cause ↦ (is_disk_fault cause && starts_commit n (start_entry e.at past)) || b
+  | _ ↦ b
+])
 
 -- the line whose commit at a node may be begun later than the line: it is in flight, and the node is stuck
 abbrev pub late_commit : ℕ → Past → Option At
@@ -60,18 +56,16 @@ more_by flight v old = if is_some flight then v ∷ old else old
 -- the versions at which a node may reopen: its base version, that of each commit started since,
 -- and what it searched since while a late one was in flight
 abbrev pub reopenable_versions : ℕ → Past → List ℕ
-reopenable_versions n [] = 1 ∷ []
-reopenable_versions n (e ∷ past) = let old = reopenable_versions n past in
-    elim e.event [
-      | Committed m w ↦ if m.0 == n then w.0 ∷ [] else old
-      | Reopened m w ↦ if m.0 == n then w.0 ∷ [] else old
-      | Committing m w ↦ if m.0 == n then w.0 ∷ old else old
-      | Published g w ↦
-          if is_at (primary_of past) n then more_by (late_commit n past) w.0 old else old
-      | Switched m w ↦ if m.0 == n then more_by (late_commit n past) w.0 old else old
-      | Promoted m g f w ↦ if m.0 == n then more_by (late_commit n past) w.0 old else old
-      | _ ↦ old
-    ]
+reopenable_versions n = over (1 ∷ []) (λ e past old. elim e.event [
+  | Committed m w ↦ if m.0 == n then w.0 ∷ [] else old
+  | Reopened m w ↦ if m.0 == n then w.0 ∷ [] else old
+  | Committing m w ↦ if m.0 == n then w.0 ∷ old else old
+  | Published g w ↦
+      if is_at (primary_of past) n then more_by (late_commit n past) w.0 old else old
+  | Switched m w ↦ if m.0 == n then more_by (late_commit n past) w.0 old else old
+  | Promoted m g f w ↦ if m.0 == n then more_by (late_commit n past) w.0 old else old
+  | _ ↦ old
+])
 
 -- the version was searched by a node at the start entry of a line, or later
 abbrev pub was_searched_since : At → ℕ → ℕ → Past → Bool

@@ -8,7 +8,7 @@ use Rattle.history_entries.specs.declared.cause.FaultKind.TheVariants.{Link, Dam
 use Rattle.history_entries.specs.declared.cause.FaultPlan.{FaultPlan}
 use Rattle.history_entries.specs.declared.cause.FaultPlan.TheVariants.{Link as LinkPlan, Damage as DamagePlan, Disk as DiskPlan, Stop as StopPlan}
 use Rattle.history_entries.specs.declared.entry.Event.TheVariants.{Planned, Fault, Crashed}
-use Rattle.history_entries.specs.Nodes.{Past}
+use Rattle.history_entries.specs.Nodes.{Past, over}
 use Rattle.history_entries.specs.Lines.{same_at}
 
 -- the words of a planned fault at a node: its kind, the node, which file or call,
@@ -40,14 +40,12 @@ is_of_disk kind = same_kind Disk kind || same_kind Stop kind
 -- a fault of this kind is planned at a node: neither has the node crashed since the plan,
 -- nor was it used up, as each but a stop is when it is met
 abbrev pub is_planned : ℕ → FaultKind → Past → Bool
-is_planned n kind [] = false
-is_planned n kind (e ∷ past) = let b = is_planned n kind past in
-    elim e.event [
-      | Planned m plan ↦ if (m.0 == n) && same_kind (kind_of plan) kind then true else b
-      | Crashed m ↦ if m.0 == n then false else b
-      | Fault m met ↦ if (m.0 == n) && same_kind met kind then same_kind Stop kind && b else b
-      | _ ↦ b
-    ]
+is_planned n kind = over false (λ e past b. elim e.event [
+  | Planned m plan ↦ if (m.0 == n) && same_kind (kind_of plan) kind then true else b
+  | Crashed m ↦ if m.0 == n then false else b
+  | Fault m met ↦ if (m.0 == n) && same_kind met kind then same_kind Stop kind && b else b
+  | _ ↦ b
+])
 
 -- the line has met a fault of such a kind at such a node
 abbrev pub has_fault : (ℕ → Bool) → (FaultKind → Bool) → At → Past → Bool

@@ -4,7 +4,7 @@ use Rattle.std.specs.List.{list_any}
 use Rattle.nrt_base.specs.declared.numbers.At.{At}
 use Rattle.history_entries.specs.declared.entry.Event.{Event}
 use Rattle.history_entries.specs.declared.entry.Event.TheVariants.{Accepted, Publishing, Published, Copying, Switched, Copied, Settling, Settled, Opened, Asking, Answered, Closed, Committing, Committed, Crashed, Reopened, Promoted, Merging, Drained, Files, Planned, Fault, Refused}
-use Rattle.history_entries.specs.Nodes.{Past, primary_of, is_at, crashes, primary_crashes}
+use Rattle.history_entries.specs.Nodes.{Past, over, primary_of, is_at, crashes, primary_crashes}
 
 -- the two are one line of the script
 abbrev pub same_at : At → At → Bool
@@ -53,9 +53,8 @@ entries_of_line at (e ∷ past) = if same_at e.at at then e ∷ entries_of_line 
 
 -- the newest entry of a line that is no fault: how far the line has come
 abbrev pub last_of_line : At → Past → Option Event
-last_of_line at [] = None
-last_of_line at (e ∷ past) = let last = last_of_line at past in
-    if same_at e.at at then elim e.event [ Fault n kind ↦ last | event ↦ Some event ] else last
+last_of_line at = over None (λ e past last.
+    if same_at e.at at then elim e.event [ Fault n kind ↦ last | event ↦ Some event ] else last)
 
 -- the line has its reply
 abbrev pub is_answered : At → Past → Bool
@@ -86,34 +85,28 @@ without_at at (Some a) = if same_at at a then None else Some a
 
 -- the line whose publish is between its start and its reply, its primary not crashed since
 abbrev pub publish_in_flight : Past → Option At
-publish_in_flight [] = None
-publish_in_flight (e ∷ past) = let old = publish_in_flight past in
-    elim e.event [
-      | Publishing ↦ Some e.at
-      | Crashed m ↦ if is_at (primary_of past) m.0 then None else without_at e.at old
-      | event ↦ if is_reply event then without_at e.at old else old
-    ]
+publish_in_flight = over None (λ e past old. elim e.event [
+  | Publishing ↦ Some e.at
+  | Crashed m ↦ if is_at (primary_of past) m.0 then None else without_at e.at old
+  | event ↦ if is_reply event then without_at e.at old else old
+])
 
 -- the line whose commit at a node is between its start and its reply, the node not crashed since
 abbrev pub commit_in_flight : ℕ → Past → Option At
-commit_in_flight n [] = None
-commit_in_flight n (e ∷ past) = let old = commit_in_flight n past in
-    elim e.event [
-      | Committing m v ↦ if m.0 == n then Some e.at else old
-      | Crashed m ↦ if m.0 == n then None else without_at e.at old
-      | event ↦ if is_reply event then without_at e.at old else old
-    ]
+commit_in_flight n = over None (λ e past old. elim e.event [
+  | Committing m v ↦ if m.0 == n then Some e.at else old
+  | Crashed m ↦ if m.0 == n then None else without_at e.at old
+  | event ↦ if is_reply event then without_at e.at old else old
+])
 
 -- the line whose copy of a version to a node is between its start and its reply,
 -- neither the node nor the primary crashed since
 abbrev pub copy_in_flight : ℕ → ℕ → Past → Option At
-copy_in_flight n v [] = None
-copy_in_flight n v (e ∷ past) = let old = copy_in_flight n v past in
-    elim e.event [
-      | Copying m w ↦ if (m.0 == n) && (w.0 == v) then Some e.at else old
-      | Crashed m ↦ if (m.0 == n) || is_at (primary_of past) m.0 then None else without_at e.at old
-      | event ↦ if is_reply event then without_at e.at old else old
-    ]
+copy_in_flight n v = over None (λ e past old. elim e.event [
+  | Copying m w ↦ if (m.0 == n) && (w.0 == v) then Some e.at else old
+  | Crashed m ↦ if (m.0 == n) || is_at (primary_of past) m.0 then None else without_at e.at old
+  | event ↦ if is_reply event then without_at e.at old else old
+])
 
 -- no line but this one is in flight
 abbrev pub is_free_for : At → Option At → Bool
@@ -122,16 +115,13 @@ is_free_for at (Some a) = same_at at a
 
 -- the greatest version of a copy to a node that was started, or 1
 abbrev pub highest_copy : ℕ → Past → ℕ
-highest_copy n [] = 1
-highest_copy n (e ∷ past) = let v = highest_copy n past in
-    elim e.event [ Copying m w ↦ if m.0 == n then max v w.0 else v | _ ↦ v ]
+highest_copy n =
+    over 1 (λ e past v. elim e.event [ Copying m w ↦ if m.0 == n then max v w.0 else v | _ ↦ v ])
 
 -- the greatest node that the line has switched since its start entry, or 0
 abbrev pub highest_switched : At → Past → ℕ
-highest_switched at [] = 0
-highest_switched at (e ∷ past) = let k = highest_switched at past in
-    if same_at e.at at then
-    (if is_start e.event then 0 else elim e.event [ Switched n v ↦ max k n.0 | _ ↦ k ]) else k
+highest_switched at = over 0 (λ e past k. if same_at e.at at then
+    (if is_start e.event then 0 else elim e.event [ Switched n v ↦ max k n.0 | _ ↦ k ]) else k)
 
 -- the line has switched a replica since its start entry
 abbrev pub has_switched : At → Past → Bool

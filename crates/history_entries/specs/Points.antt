@@ -9,8 +9,13 @@ use Rattle.documents.specs.declared.operation.Op.{Op}
 use Rattle.history_entries.specs.declared.entry.Event.{Event}
 use Rattle.history_entries.specs.declared.entry.Event.TheVariants.{Accepted, Publishing, Published, Promoted, Merging}
 use Rattle.history_entries.specs.declared.point.Point.{Point}
+<<<<<<< HEAD
 use Rattle.documents.specs.Documents.{documents_after, is_put}
 use Rattle.history_entries.specs.Nodes.{Past, generation_of, version_of}
+=======
+use Rattle.documents.specs.Documents.{documents_after}
+use Rattle.history_entries.specs.Nodes.{Past, over, generation_of, version_of}
+>>>>>>> hF
 use Rattle.history_entries.specs.Lines.{same_at, is_start, before_start}
 
 abbrev mutual
@@ -55,9 +60,8 @@ points_of (e ∷ past) = points_by e.event past (documents_at (e ∷ past)) (poi
 
 -- the operations that the generation has accepted, in order
 abbrev pub operations_of_generation : Past → List Op
-operations_of_generation [] = []
-operations_of_generation (e ∷ past) = let ops = operations_of_generation past in
-    elim e.event [ Accepted seq op ↦ ops ++ op ∷ [] | Promoted m g f w ↦ [] | _ ↦ ops ]
+operations_of_generation = over [] (λ e past ops.
+    elim e.event [ Accepted seq op ↦ ops ++ op ∷ [] | Promoted m g f w ↦ [] | _ ↦ ops ])
 
 -- how many operations the generation had accepted at the start entry of a line
 abbrev pub accepted_at_start : At → Past → ℕ
@@ -65,9 +69,8 @@ accepted_at_start at past = length (operations_of_generation (before_start at pa
 
 -- how many operations of the generation its last publish has
 abbrev pub published_in_generation : Past → ℕ
-published_in_generation [] = 0
-published_in_generation (e ∷ past) = let k = published_in_generation past in
-    elim e.event [ Published g w ↦ accepted_at_start e.at past | Promoted m g f w ↦ 0 | _ ↦ k ]
+published_in_generation = over 0 (λ e past k.
+    elim e.event [ Published g w ↦ accepted_at_start e.at past | Promoted m g f w ↦ 0 | _ ↦ k ])
 
 -- the cut: the operations of the generation that its last publish does not have, which a publish takes now
 abbrev pub cut_of : Past → List Op
@@ -79,14 +82,12 @@ cut_has_put past = list_any is_put (cut_of past)
 
 -- how many segment names the generation has drawn: one per publish with a put, one per merge
 abbrev pub names_drawn : Past → ℕ
-names_drawn [] = 0
-names_drawn (e ∷ past) = let k = names_drawn past in
-    elim e.event [
-      | Publishing ↦ if cut_has_put past then k + 1 else k
-      | Merging seg ↦ k + 1
-      | Promoted m g f w ↦ 0
-      | _ ↦ k
-    ]
+names_drawn = over 0 (λ e past k. elim e.event [
+  | Publishing ↦ if cut_has_put past then k + 1 else k
+  | Merging seg ↦ k + 1
+  | Promoted m g f w ↦ 0
+  | _ ↦ k
+])
 
 -- how many segment names a generation has drawn, or had when it was the present one
 abbrev pub names_drawn_in : ℕ → Past → ℕ
@@ -107,9 +108,8 @@ IsDrawnTemporary past name = (seg : ℕ) × (is_drawn seg past ≡ true) × IsTe
 
 -- how many merges the generation has started
 abbrev pub merges_started : Past → ℕ
-merges_started [] = 0
-merges_started (e ∷ past) = let k = merges_started past in
-    elim e.event [ Merging seg ↦ k + 1 | Promoted m g f w ↦ 0 | _ ↦ k ]
+merges_started =
+    over 0 (λ e past k. elim e.event [ Merging seg ↦ k + 1 | Promoted m g f w ↦ 0 | _ ↦ k ])
 
 -- a publish of the line adds no operation to the last one
 abbrev pub adds_none : At → Past → Bool
@@ -117,7 +117,5 @@ adds_none at past = nat_le (accepted_at_start at past) (published_in_generation 
 
 -- how many publishes of the generation added no operation
 abbrev pub idle_publishes : Past → ℕ
-idle_publishes [] = 0
-idle_publishes (e ∷ past) = let k = idle_publishes past in
-    let idle = adds_none e.at past in
-    elim e.event [ Published g w ↦ if idle then k + 1 else k | Promoted m g f w ↦ 0 | _ ↦ k ]
+idle_publishes = over 0 (λ e past k. let idle = adds_none e.at past in
+    elim e.event [ Published g w ↦ if idle then k + 1 else k | Promoted m g f w ↦ 0 | _ ↦ k ])

@@ -6,7 +6,7 @@ use Rattle.history_entries.specs.declared.cause.Cause.{Cause}
 use Rattle.history_entries.specs.declared.cause.Cause.TheVariants.{Down, Primary, NoPrimary, PrimaryUp, ForceLow, NoTicket, Lost, Cancelled, LinkFault, Damaged, DiskFault, Nothing, Up, NameUsed, NamesSpent, TooManySegments, ForceHigh}
 use Rattle.history_entries.specs.declared.entry.Event.TheVariants.{Published}
 use Rattle.history_entries.specs.Lines.{before_start}
-use Rattle.history_entries.specs.Nodes.{Past, primary_of, is_at, is_running, newest_version}
+use Rattle.history_entries.specs.Nodes.{Past, over, primary_of, is_at, is_running, newest_version}
 use Rattle.history_entries.specs.Points.{cut_of, cut_has_put, names_drawn, documents_at}
 use Rattle.history_entries.specs.Tickets.{has_ticket}
 use Rattle.history_entries.specs.Faults.{has_fault, is_of_disk}
@@ -67,10 +67,8 @@ refusal (Fault n plan) lane past = None
 
 -- how many publishes had a put, and so made a segment
 abbrev pub put_publishes : Past → ℕ
-put_publishes [] = 0
-put_publishes (e ∷ past) = let k = put_publishes past in
-    let has_put = cut_has_put (before_start e.at past) in
-    elim e.event [ Published g w ↦ if has_put then k + 1 else k | _ ↦ k ]
+put_publishes = over 0 (λ e past k. let has_put = cut_has_put (before_start e.at past) in
+    elim e.event [ Published g w ↦ if has_put then k + 1 else k | _ ↦ k ])
 
 -- there may be 256 segments: as many publishes made one, and, where no merge was started, each still has a document
 abbrev pub may_be_full : Past → Bool
