@@ -1,23 +1,22 @@
 -- What arrives over a link, and that an altered byte shows.
-use Rattle.std.proofs.Common.{◌≡◌, ◌≢◌, ℕ, zero, suc, ◌+◌, ◌-◌, ◌^◌, ◌<◌, ◌≤◌, ◌&&◌, ◌==◌, min, Bool, true, false, List, [], ◌∷◌, ◌++◌, length, take, drop, get_or, Option, Some, None, refl, sym, ap, subst, ◌∙◌, arith, inl, inr, true≢false, length-append, length-take, length-drop, drop-cons, add-one, cond}
-use Rattle.std.specs.Prelude.{slice_range, slice_index, nat_le, nat_lt}
+use Rattle.std.proofs.Common.{◌≡◌, ◌≢◌, ℕ, ◌+◌, ◌-◌, ◌<◌, ◌≤◌, ◌&&◌, ◌==◌, Bool, true, false, List, ◌∷◌, ◌++◌, length, take, drop, get_or, Option, Some, None, refl, sym, ap, subst, ◌∙◌, arith, length-take, length-drop, drop-cons, add-one, cond}
+use Rattle.std.specs.Prelude.{slice_range, nat_le, nat_lt}
 use Rattle.std.proofs.Math.ListN.{set, length-set}
-use Rattle.std.proofs.lemmas.List.{take-append-drop, drop-take, take-set-le, take-set, drop-set, drop-set-lt, drop-set-add}
+use Rattle.std.proofs.lemmas.List.{take-append-drop, take-set, drop-set}
 use Rattle.std.specs.Int.{w64, from_be_bytes, to_be_bytes}
 use Rattle.std.proofs.lemmas.Nat.{be_bytes_8}
-use Rattle.std.proofs.lemmas.Bool.{cases_lt}
 use Rattle.std.proofs.lemmas.Bool.Decides.{nat_tests}
-use Rattle.std.proofs.lemmas.List.{take_all, get_or-set_same, get_or-drop, get_or-take}
+use Rattle.std.proofs.lemmas.List.{take_all}
 use Rattle.codec_frame.specs.Bytes.{AreBytes, DifferInOne}
 use Rattle.codec_frame.specs.Division.{crc_of}
 use Rattle.codec_frame.proofs.Altered.{IsSealed, one_byte_shows}
 use Rattle.codec_frame.proofs.ByteLaws.{AreBytes-back}
 use Rattle.copy_state.specs.declared.meta.FileMetaData.{FileMetaData}
 use Rattle.copy_state.specs.Meta.{IsMetaOf}
-use Rattle.std.proofs.Math.Seq.{take-set-lt, take-append-add}
+use Rattle.std.proofs.Math.Seq.{take-append-add}
 use Rattle.nrt_base.specs.Causes.{Rose}
 use Rattle.link_model.specs.Carrying.{carried_by, IsAlteration, is_handed_out, CountsDamages}
-use Rattle.std.proofs.Common.{Result, Ok, Err}
+use Rattle.std.proofs.Common.{Ok, Err}
 use Rattle.disk_model.specs.Disk.{Name}
 use Rattle.link_model.specs.declared.fate.Fate.{Fate}
 use Rattle.link_model.specs.declared.fate.Fate.TheVariants.{Whole, Fail, Damage}

@@ -1,17 +1,17 @@
 -- What a job's calls keep of it.
-use Rattle.std.proofs.Common.{◌≡◌, ℕ, zero, suc, ◌+◌, ◌<◌, ◌≤◌, Bool, true, false, not, List, [], ◌∷◌, ◌++◌, length, filter, map, Option, Some, None, Result, Ok, Err, refl, sym, ap, subst, ◌∙◌, cond, arith, true≢false, is_some, is_none, All, append_assoc, append-nil, length-append}
+use Rattle.std.proofs.Common.{◌≡◌, ℕ, ◌+◌, ◌<◌, ◌≤◌, Bool, true, false, not, List, [], ◌∷◌, ◌++◌, length, filter, Option, Some, None, Result, Ok, Err, refl, sym, ap, subst, ◌∙◌, cond, arith, is_some, is_none, All, append_assoc, length-append}
 use Rattle.std.specs.Prelude.{OnOk, OnErr}
 use Rattle.std.proofs.lemmas.List.Elements.{All-head, All-tail}
 use Rattle.disk_model.specs.Disk.{Name, Cells, same}
 use Rattle.disk_model.proofs.CellLemmas.{same_true}
 use Rattle.file_deleter.specs.Holdings.{Holdings, times}
 use Rattle.file_deleter.specs.Moves.{Creates, MovesCounts}
-use Rattle.file_deleter.proofs.NameLemmas.{times-cons, times_one, times-append, once, unlike}
+use Rattle.file_deleter.proofs.NameLemmas.{times-cons, times_one, times-append, once}
 use Rattle.copy_state.specs.declared.meta.FileMetaData.{FileMetaData}
-use Rattle.copy_state.specs.States.{meta_names, meta_in, AreShortNames}
+use Rattle.copy_state.specs.States.{meta_names, meta_in}
 use Rattle.copy_job.specs.declared.part.JobPart.{JobPart}
 use Rattle.copy_job.specs.declared.fault.JobFault.{JobFault}
-use Rattle.copy_job.specs.Parts.{present_names, own_names, placed_to}
+use Rattle.copy_job.specs.Parts.{present_names, own_names}
 use Rattle.copy_job.specs.Placing.{Places}
 use Rattle.file_names.specs.Names.{temp_name_of}
 use Rattle.copy_job.specs.Jobs.{Job, IsJob, job_names, with_part, unheld_names, held_names}

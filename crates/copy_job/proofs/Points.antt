@@ -1,9 +1,9 @@
 -- The files of a job's point, once each part has its own name.
-use Rattle.std.proofs.Common.{◌≡◌, ◌≢◌, ◌⊎◌, ℕ, zero, suc, ◌+◌, ◌<◌, ◌≤◌, ◌||◌, Bool, true, false, List, [], ◌∷◌, ◌++◌, length, Option, Some, None, refl, sym, ap, subst, ◌∙◌, arith, cond, inl, inr, true≢false}
-use Rattle.disk_model.specs.Disk.{Name, Content, Cell, Cells, same, is_among}
-use Rattle.disk_model.proofs.CellLemmas.{same_true, same_apart}
+use Rattle.std.proofs.Common.{◌≡◌, ◌⊎◌, ℕ, zero, suc, ◌+◌, ◌<◌, ◌≤◌, ◌||◌, Bool, true, false, List, [], ◌∷◌, length, Some, refl, sym, ap, ◌∙◌, arith, cond, inl, inr, true≢false}
+use Rattle.disk_model.specs.Disk.{Name, Cells, same, is_among}
+use Rattle.disk_model.proofs.CellLemmas.{same_true}
 use Rattle.file_deleter.specs.Holdings.{Holdings, count_of, times}
-use Rattle.file_deleter.proofs.NameLemmas.{unlike, times-cons, times_one, not_among_times}
+use Rattle.file_deleter.proofs.NameLemmas.{times-cons}
 use Rattle.copy_job.specs.declared.part.JobPart.{JobPart}
 use Rattle.copy_job.specs.Parts.{placed, part_at, present_names, own_names, written_names, placed_to}
 use Rattle.copy_job.specs.Placing.{Places}

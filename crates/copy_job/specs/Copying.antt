@@ -1,5 +1,5 @@
 -- What a copy of a file answers.
-use Rattle.std.specs.Prelude.{◌≡◌, ◌≢◌, ◌⊎◌, ℕ, ◌-◌, ◌==◌, ◌≤◌, if◌then◌else◌, List, length, take, Option, Some, None, Result, Ok, Err}
+use Rattle.std.specs.Prelude.{◌≡◌, ◌≢◌, ℕ, ◌-◌, ◌==◌, ◌≤◌, if◌then◌else◌, List, length, take, Option, Some, None, Result, Ok, Err}
 use Rattle.nrt_base.specs.Causes.{Rose}
 use Rattle.codec_frame.specs.Division.{crc_of}
 use Rattle.codec_frame.specs.Checking.{be64_at}

@@ -1,5 +1,5 @@
 -- The finished parts of a job, and the names that they hold.
-use Rattle.std.specs.Prelude.{◌≡◌, ◌≢◌, ◌⊎◌, ◌<◌, ◌≤◌, ℕ, zero, suc, List, [], ◌∷◌, ◌++◌, length, if◌then◌else◌, Option, Some, None, slice_get}
+use Rattle.std.specs.Prelude.{◌≡◌, ◌⊎◌, ◌≤◌, ℕ, zero, suc, List, [], ◌∷◌, if◌then◌else◌, Option, Some, slice_get}
 use Rattle.disk_model.specs.Disk.{Name, same}
 use Rattle.file_deleter.specs.Holdings.{Holdings, count_of, times}
 use Rattle.copy_job.specs.declared.part.JobPart.{JobPart}

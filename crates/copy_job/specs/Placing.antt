@@ -1,7 +1,7 @@
 -- What giving parts their own names does.
-use Rattle.std.specs.Prelude.{◌≡◌, ◌≢◌, ◌⊎◌, ℕ, false, List, [], ◌∷◌, ◌++◌, length, Option, Some, None, slice_set}
-use Rattle.disk_model.specs.Disk.{Name, Content, Cells, is_among}
-use Rattle.file_deleter.specs.Holdings.{Holdings, count_of, times}
+use Rattle.std.specs.Prelude.{◌≡◌, ◌≢◌, ◌⊎◌, ℕ, List, [], ◌∷◌, ◌++◌, Some, slice_set}
+use Rattle.disk_model.specs.Disk.{Name, Cells}
+use Rattle.file_deleter.specs.Holdings.{Holdings, count_of}
 use Rattle.file_deleter.specs.Moves.{KeepsFiles, RenamesCount, MovesCounts}
 use Rattle.copy_job.specs.declared.part.JobPart.{JobPart}
 use Rattle.copy_job.specs.declared.fault.JobFault.{JobFault}

@@ -33,7 +33,7 @@ fn fetch_next<L: Link>(link: &mut L, bytes: &mut Vec<u8>, size: usize) -> Result
     ensures received { (before : ℕ)
         → HasReceived (L.altered link.old) (L.begun link.old) before (L.damages link.old) bytes.old.items
         → OnOk result (HasReceived (L.altered link.old) (L.begun link.old)
-            before (L.damages link.new) bytes.new.items) }
+        before (L.damages link.new) bytes.new.items) }
     ensures longer { OnOk result (length bytes.old.items < length bytes.new.items) }
     ensures begun { L.begun link.new ≡ L.begun link.old }
     ensures altered { L.altered link.new ≡ L.altered link.old }

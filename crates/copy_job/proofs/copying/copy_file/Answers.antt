@@ -1,4 +1,4 @@
-use Rattle.std.proofs.Common.{◌≡◌, ◌∙◌, ap, refl, subst}
+use Rattle.std.proofs.Common.{◌∙◌, ap, refl, subst}
 use Rattle.std.proofs.Common.{length}
 use Rattle.nrt_base.specs.Causes.{Rose}
 use Rattle.codec_frame.specs.Bytes.{AreBytes}

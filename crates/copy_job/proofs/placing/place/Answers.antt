@@ -1,4 +1,4 @@
-use Rattle.std.proofs.Common.{◌∙◌, ◌≡◌, ◌+◌, suc, sym, ap, subst, arith, length, List, add-one, ℕ}
+use Rattle.std.proofs.Common.{◌∙◌, suc, sym, ap, subst, arith, length, List, add-one}
 use Rattle.copy_job.specs.declared.part.JobPart.{JobPart}
 use Rattle.copy_job.specs.Placing.{Places}
 use Rattle.copy_job.proofs.Placings.{next_able, one_more, refused_there, placed_length, able_still}

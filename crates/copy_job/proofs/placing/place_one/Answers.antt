@@ -1,4 +1,4 @@
-use Rattle.std.proofs.Common.{sym, ◌≡◌}
+use Rattle.std.proofs.Common.{sym}
 use Rattle.disk_model.proofs.CellLemmas.{same_true}
 use Rattle.file_deleter.proofs.NameLemmas.{unlike}
 use Rattle.copy_job.proofs.Naming.{settled_length, settled_names}

@@ -1,9 +1,7 @@
-use Rattle.std.proofs.Common.{◌≡◌, ◌<◌, ◌∙◌, ◌++◌, ◌∷◌, [], List, ℕ, ap, sym, subst}
-use Rattle.file_names.specs.Names.{temp_name_of}
-use Rattle.disk_model.specs.Disk.{Name}
+use Rattle.std.proofs.Common.{◌<◌, sym, subst}
 use Rattle.file_deleter.specs.Holdings.{times}
 use Rattle.copy_job.specs.declared.part.JobPart.{JobPart}
-use Rattle.copy_job.specs.Jobs.{Job, IsJob, with_part}
+use Rattle.copy_job.specs.Jobs.{Job}
 use Rattle.copy_job.proofs.Kept.{short_missing, job_arrived, names_arrived, part_added, moves_added}
 use Rattle.copy_job.proofs.job.CopyJob.arrived.Goals as goal
 

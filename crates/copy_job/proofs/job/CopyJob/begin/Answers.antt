@@ -1,4 +1,4 @@
-use Rattle.std.proofs.Common.{◌≡◌, ◌∙◌, ap, sym, subst, append-nil, List, ◌++◌}
+use Rattle.std.proofs.Common.{◌∙◌, ap, sym, subst, append-nil, List, ◌++◌}
 use Rattle.disk_model.specs.Disk.{Name}
 use Rattle.copy_state.specs.declared.meta.FileMetaData.{FileMetaData}
 use Rattle.copy_state.specs.States.{meta_names}
