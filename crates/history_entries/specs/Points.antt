@@ -9,13 +9,8 @@ use Rattle.documents.specs.declared.operation.Op.{Op}
 use Rattle.history_entries.specs.declared.entry.Event.{Event}
 use Rattle.history_entries.specs.declared.entry.Event.TheVariants.{Accepted, Publishing, Published, Promoted, Merging}
 use Rattle.history_entries.specs.declared.point.Point.{Point}
-<<<<<<< HEAD
 use Rattle.documents.specs.Documents.{documents_after, is_put}
-use Rattle.history_entries.specs.Nodes.{Past, generation_of, version_of}
-=======
-use Rattle.documents.specs.Documents.{documents_after}
 use Rattle.history_entries.specs.Nodes.{Past, over, generation_of, version_of}
->>>>>>> hF
 use Rattle.history_entries.specs.Lines.{same_at, is_start, before_start}
 
 abbrev mutual

@@ -1,5 +1,5 @@
 -- The files that infos hold are framed, and their names are short.
-use Rattle.std.proofs.Common.{◌≡◌, ◌≢◌, ◌⊎◌, ◌==◌, if◌then◌else◌, ◌<◌, ◌≤◌, ◌+◌, ◌^◌, ℕ, zero, suc, Bool, true, false, List, [], ◌∷◌, ◌++◌, Option, Some, None, refl, sym, ap, subst, ◌∙◌, cond, arith, inl, inr, length, get_or, codes, All}
+use Rattle.std.proofs.Common.{◌≡◌, ◌⊎◌, ◌==◌, if◌then◌else◌, ◌<◌, ◌≤◌, ◌^◌, ℕ, zero, suc, Bool, true, false, List, [], ◌∷◌, Option, Some, None, refl, sym, subst, arith, inl, inr, length, get_or, codes, All}
 use Rattle.std.specs.List.{AllZip, Contains, flat_map}
 use Rattle.std.specs.List.Sorted.{IsStrictlySortedBy}
 use Rattle.std.proofs.lemmas.List.Elements.{Contains-append_cases, Contains-get_or}
@@ -12,7 +12,7 @@ use Rattle.file_names.proofs.NameLaws.{length-part_name-le, length-live_name-le}
 use Rattle.segment_infos.specs.declared.infos.SegRecord.{SegRecord}
 use Rattle.segment_infos.specs.declared.infos.Infos.{Infos}
 use Rattle.segment_infos.specs.Infos.{RecordFits}
-use Rattle.segment_infos.specs.Files.{live_files, files_of_segment, AreFilesOf}
+use Rattle.segment_infos.specs.Files.{files_of_segment}
 use Rattle.seg_reader.specs.Shown.{Shown}
 use Rattle.seg_reader.specs.Files.{AreLiveRowsOf}
 use Rattle.seg_reader.specs.Stands.{IsLiveFileIn, IsSegmentIn}

@@ -1,21 +1,20 @@
 -- Infos, what reads them and their names, over calls that change none of these.
-use Rattle.std.proofs.Common.{◌≡◌, ◌<◌, ◌≤◌, ℕ, ◌+◌, false, List, [], ◌∷◌, ◌++◌, Option, Some, None, refl, sym, ap, subst, ◌∙◌, arith}
+use Rattle.std.proofs.Common.{◌≡◌, ◌<◌, ℕ, ◌+◌, false, List, [], ◌++◌, refl, ap, ◌∙◌, arith}
 use Rattle.std.specs.List.{Contains, flat_map}
-use Rattle.file_names.specs.Names.{part_name_of, live_name_of, is_commit_name, is_pending_name}
+use Rattle.file_names.specs.Names.{is_commit_name, is_pending_name}
 use Rattle.file_names.proofs.NameLaws.{part_name_not_commit, part_name_not_pending, live_name_not_commit, live_name_not_pending}
 use Rattle.disk_model.specs.Disk.{Name, Content, Cells}
 use Rattle.segment_infos.specs.declared.infos.Infos.{Infos}
 use Rattle.segment_infos.specs.Files.{files_of_segment}
 use Rattle.seg_reader.specs.Shown.{Shown}
-use Rattle.file_deleter.specs.Holdings.{Holdings, count_of, times}
+use Rattle.file_deleter.specs.Holdings.{Holdings, times}
 use Rattle.file_deleter.specs.Moves.{MovesCounts}
 use Rattle.file_deleter.proofs.NameLemmas.{times-append, among_times}
 use Rattle.commit_steps.proofs.Safe.{among_of}
 use Rattle.node_files.specs.Node.{AddsOnly, HoldsNoMore, KeepsBytes}
 use Rattle.node_files.specs.Standing.{StandsForSome}
 use Rattle.node_files.proofs.Standing.{segments_along}
-use Rattle.index_primary.specs.Held.{IsHeld, IsUnused, IsNextLive, IsUndrawn, part, live, next_live, AreUndrawn}
-use Rattle.seg_reader.specs.Stands.{StandsWith}
+use Rattle.index_primary.specs.Held.{IsHeld, IsUndrawn, part, live, next_live, AreUndrawn}
 
 pub named_times : (infos : Infos) (segs : List Shown) (names : List Name) (reads : Name → Content) → IsHeld reads infos segs names → (q : Name) → Contains (flat_map files_of_segment infos.segs) q → 0 < times names q
 named_times infos segs names reads h q named = among_times names q (among_of names q ((h.files.named q).1 named))

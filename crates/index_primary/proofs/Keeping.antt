@@ -1,7 +1,7 @@
 -- A primary over calls of its parts.
-use Rattle.std.proofs.Common.{◌≡◌, ◌<◌, ◌≤◌, ℕ, ◌+◌, true, List, [], ◌∷◌, ◌++◌, Option, Some, None, refl, sym, ap, subst, ◌∙◌, arith}
+use Rattle.std.proofs.Common.{◌≡◌, ◌<◌, ◌+◌, true, List, [], ◌++◌, Option, Some, None, refl, sym, ap, subst, ◌∙◌, arith}
 use Rattle.std.specs.List.{Contains, flat_map}
-use Rattle.disk_model.specs.Disk.{Name, Content, Cells, is_among}
+use Rattle.disk_model.specs.Disk.{Name, Cells, is_among}
 use Rattle.segment_infos.specs.Files.{files_of_segment}
 use Rattle.seg_reader.specs.Shown.{Shown}
 use Rattle.file_deleter.specs.Holdings.{Holdings, count_of, times, IsThere, AreThere, AreCounted}
@@ -16,16 +16,17 @@ use Rattle.searcher_switch.specs.declared.open.Point.{Point}
 use Rattle.searcher_switch.specs.declared.searchers.Searchers.{Searchers}
 use Rattle.searcher_switch.specs.Tickets.{ticket_names}
 use Rattle.searcher_switch.specs.Searching.{searcher_names}
-use Rattle.node_files.specs.Node.{IsWholeNode, AddsOnly, HoldsNoMore, KeepsBytes}
+use Rattle.node_files.specs.Node.{IsWholeNode, AddsOnly}
 use Rattle.node_files.specs.Standing.{IsStanding}
 use Rattle.node_files.proofs.Carry.{node_front, node_moves, nothing_written, node_commits, node_begins, node_exist, node_there, node_counted}
 use Rattle.node_files.proofs.Standing.{standing_kept, standing_step, standing_begun}
 use Rattle.node_files.proofs.Fewer.{no_more_beside, no_more_step, no_more_begun}
 use Rattle.index_primary.specs.declared.parts.Parts.{Parts}
-use Rattle.index_primary.specs.Held.{IsHeld, AreUndrawn}
+use Rattle.index_primary.specs.Held.{IsHeld}
 use Rattle.index_primary.specs.States.{state_names, merge_names}
 use Rattle.index_primary.specs.declared.states.Out.{Out}
 use Rattle.index_primary.specs.Primary.{rest_names, primary_names, loose_of, IsPrimary}
+use Rattle.index_primary.specs.Calls.{KeepsPoint, HasSameCounts}
 use Rattle.index_primary.proofs.Holding.{named_times, held_kept, some_of_held, undrawn_kept, only_front}
 
 -- ---- what a primary names is counted
@@ -249,3 +250,12 @@ module _ {D : Type 0} (cells : D → Cells) (p : Parts D) (is : IsPrimary cells 
   state_there q some = node_exist (cells p.dir) p.files (primary_names p) p.commits is.node q
       (let a : times (primary_names p) q ≡ times (searcher_names p.searchers) q + times (p.names ++ rest_names p) q = times-append (searcher_names p.searchers) (p.names ++ rest_names p) q in
       omega (arith, some, a, times-append p.names (rest_names p) q, times-append (state_names p.states) (merge_names p.merges) q))
+
+-- where all but the directory, the counts and the publish is as before, so are the counts
+pub counts_same : {D : Type 0} (cells : D → Cells) (p n : Parts D) → IsPrimary cells p → IsPrimary cells n → KeepsPoint p n → HasSameCounts p n
+counts_same {D} cells p n is now e = record {
+  each = λ q.
+      let names : times (primary_names n) q ≡ times (primary_names p) q = ap (λ (x : Parts D). times (primary_names x) q) e in
+      let book : times (book_names n.commits) q ≡ times (book_names p.commits) q = ap (λ (x : Parts D). times (book_names x.commits) q) e in
+      omega (arith, is.node.counts q, now.node.counts q, names, book);
+}

@@ -8,3 +8,6 @@ pub mod Opening
 pub mod NextNames
 pub mod NextRecords
 pub mod Framing
+pub mod Turns
+pub mod Joining
+pub mod Working

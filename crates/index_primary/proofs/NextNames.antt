@@ -1,5 +1,5 @@
 -- The names of a publish are new, each once, and what is not written yet afterwards was not before.
-use Rattle.std.proofs.Common.{◌≡◌, ◌≢◌, ◌⊎◌, ◌<◌, ◌≤◌, ◌+◌, ◌-◌, ◌*◌, ◌/◌, ◌^◌, ◌||◌, ◌++◌, max, ℕ, zero, suc, Bool, true, false, cond, List, [], ◌∷◌, Option, Some, None, refl, sym, ap, subst, ◌∙◌, arith, inl, inr, true≢false}
+use Rattle.std.proofs.Common.{◌≡◌, ◌≢◌, ◌⊎◌, ◌<◌, ◌≤◌, ◌+◌, ◌-◌, ◌*◌, ◌/◌, ◌^◌, ◌||◌, ◌++◌, ℕ, Bool, true, false, cond, List, [], ◌∷◌, Option, Some, None, refl, sym, ap, subst, ◌∙◌, arith, inl, inr, true≢false}
 use Rattle.std.specs.Prelude.{IfSome, IsSomeAnd}
 use Rattle.std.specs.List.{Contains, AllByRecursion}
 use Rattle.file_names.specs.Names.{part_name_of, live_name_of}
@@ -11,10 +11,11 @@ use Rattle.disk_model.proofs.CellLemmas.{same_true, same_apart}
 use Rattle.segment_infos.specs.declared.infos.SegRecord.{SegRecord}
 use Rattle.segment_infos.specs.declared.infos.Infos.{Infos}
 use Rattle.file_deleter.specs.Holdings.{times}
-use Rattle.file_deleter.proofs.NameLemmas.{times-cons, times-append, not_among_times, among_times, among-append}
-use Rattle.index_primary.specs.Held.{drawn_to, IsUnused, IsNextLive, IsUndrawn, part, live, next_live}
+use Rattle.file_deleter.proofs.NameLemmas.{times-cons, times-append, not_among_times, among-append}
+use Rattle.index_primary.specs.Held.{drawn_to, IsNextLive, IsUndrawn, part, live, next_live}
 use Rattle.index_primary.specs.Publishing.{next_infos}
-use Rattle.index_primary.specs.NextNames.{Kept, New, IsIn, next_gen, gen_after, new_gen, raised, new_names, AreApart, IsDrawn, AreNextNames}
+use Rattle.index_primary.specs.NextNames.{Kept, New, IsIn, gen_after, new_gen, raised, new_names, AreApart, IsDrawn, AreNextNames}
+use Rattle.segment_steps.specs.Next.{next_live_gen}
 
 all_in : {X : Type 0} (P : X → Type 0) (x : X) (xs : List X) → AllByRecursion P xs → IsIn x xs → P x
 all_in P x [] all i = absurd i
@@ -51,7 +52,7 @@ record IsRaised (g : ℕ) (ks : List Kept) (q : Name) : Type 0 where
   k : Kept
   there : IsIn k ks
   marked : k.1 ≡ true
-  is : q ≡ live_name_of k.0.seg.0 (next_gen g k.0)
+  is : q ≡ live_name_of k.0.seg.0 (next_live_gen g k.0)
 
 later : (g : ℕ) (x : Kept) (ks : List Kept) (q : Name) → IsRaised g ks q → IsRaised g (x ∷ ks) q
 later g x ks q h = record { k = h.k; there = inr h.there; marked = h.marked; is = h.is }
@@ -60,30 +61,30 @@ among_raised : (g : ℕ) (ks : List Kept) (q : Name) → is_among (raised g ks) 
 among_raised g [] q h = absurd (true≢false (sym h))
 among_raised g (x ∷ ks) q h = by (among_raised g ks q) x.1 refl h
   where
-    by : (is_among (raised g ks) q ≡ true → IsRaised g ks q) → (b : Bool) → x.1 ≡ b → is_among (cond b (live_name_of x.0.seg.0 (next_gen g x.0) ∷ raised g ks) (raised g ks)) q ≡ true → IsRaised g (x ∷ ks) q
-    by more true e h = elim (or_cases (same (live_name_of x.0.seg.0 (next_gen g x.0)) q) (is_among (raised g ks) q) h) [
-      | inl here ↦ record { k = x; there = inl refl; marked = e; is = sym (same_true (live_name_of x.0.seg.0 (next_gen g x.0)) q here) }
+    by : (is_among (raised g ks) q ≡ true → IsRaised g ks q) → (b : Bool) → x.1 ≡ b → is_among (cond b (live_name_of x.0.seg.0 (next_live_gen g x.0) ∷ raised g ks) (raised g ks)) q ≡ true → IsRaised g (x ∷ ks) q
+    by more true e h = elim (or_cases (same (live_name_of x.0.seg.0 (next_live_gen g x.0)) q) (is_among (raised g ks) q) h) [
+      | inl here ↦ record { k = x; there = inl refl; marked = e; is = sym (same_true (live_name_of x.0.seg.0 (next_live_gen g x.0)) q here) }
       | inr rest ↦ later g x ks q (more rest)
     ]
     by more false e h = later g x ks q (more h)
 
 abbrev Bounded : Infos → Kept → Type 0
-Bounded infos k = (k.0.seg.0 < drawn_to infos) × (next_gen infos.generation.0 k.0 < 2 ^ 64)
+Bounded infos k = (k.0.seg.0 < drawn_to infos) × (next_live_gen infos.generation.0 k.0 < 2 ^ 64)
 
 raised_once : (infos : Infos) (ks : List Kept) → drawn_to infos < 2 ^ 64 → AllByRecursion (Bounded infos) ks → AreApart ks → (q : Name) → times (raised infos.generation.0 ks) q ≤ 1
 raised_once infos [] small bounded apart q = let e : times [] q ≡ 0 = refl in omega (arith, e)
 raised_once infos (x ∷ ks) small bounded apart q = rest (raised_once infos ks small bounded.1 apart.1 q) x.1
   where
-    rest : times (raised infos.generation.0 ks) q ≤ 1 → (b : Bool) → times (cond b (live_name_of x.0.seg.0 (next_gen infos.generation.0 x.0) ∷ raised infos.generation.0 ks) (raised infos.generation.0 ks)) q ≤ 1
+    rest : times (raised infos.generation.0 ks) q ≤ 1 → (b : Bool) → times (cond b (live_name_of x.0.seg.0 (next_live_gen infos.generation.0 x.0) ∷ raised infos.generation.0 ks) (raised infos.generation.0 ks)) q ≤ 1
     rest more false = more
-    rest more true = once_cons (live_name_of x.0.seg.0 (next_gen infos.generation.0 x.0)) (raised infos.generation.0 ks) q (out (is_among (raised infos.generation.0 ks) (live_name_of x.0.seg.0 (next_gen infos.generation.0 x.0))) refl) more
+    rest more true = once_cons (live_name_of x.0.seg.0 (next_live_gen infos.generation.0 x.0)) (raised infos.generation.0 ks) q (out (is_among (raised infos.generation.0 ks) (live_name_of x.0.seg.0 (next_live_gen infos.generation.0 x.0))) refl) more
       where
-        out : (b : Bool) → is_among (raised infos.generation.0 ks) (live_name_of x.0.seg.0 (next_gen infos.generation.0 x.0)) ≡ b → is_among (raised infos.generation.0 ks) (live_name_of x.0.seg.0 (next_gen infos.generation.0 x.0)) ≡ false
+        out : (b : Bool) → is_among (raised infos.generation.0 ks) (live_name_of x.0.seg.0 (next_live_gen infos.generation.0 x.0)) ≡ b → is_among (raised infos.generation.0 ks) (live_name_of x.0.seg.0 (next_live_gen infos.generation.0 x.0)) ≡ false
         out false e = e
         out true e =
-            let h : IsRaised infos.generation.0 ks (live_name_of x.0.seg.0 (next_gen infos.generation.0 x.0)) = among_raised infos.generation.0 ks (live_name_of x.0.seg.0 (next_gen infos.generation.0 x.0)) e in
+            let h : IsRaised infos.generation.0 ks (live_name_of x.0.seg.0 (next_live_gen infos.generation.0 x.0)) = among_raised infos.generation.0 ks (live_name_of x.0.seg.0 (next_live_gen infos.generation.0 x.0)) e in
             let b : Bounded infos h.k = all_in (Bounded infos) h.k ks bounded.1 h.there in
-            let s : x.0.seg.0 ≡ h.k.0.seg.0 = (live_name_apart x.0.seg.0 h.k.0.seg.0 (next_gen infos.generation.0 x.0) (next_gen infos.generation.0 h.k.0) (omega (arith, small, bounded.0.0)) (omega (arith, small, b.0)) bounded.0.1 b.1 h.is).0 in
+            let s : x.0.seg.0 ≡ h.k.0.seg.0 = (live_name_apart x.0.seg.0 h.k.0.seg.0 (next_live_gen infos.generation.0 x.0) (next_live_gen infos.generation.0 h.k.0) (omega (arith, small, bounded.0.0)) (omega (arith, small, b.0)) bounded.0.1 b.1 h.is).0 in
             absurd (all_in (λ (m : Kept). x.0.seg.0 ≢ m.0.seg.0) h.k ks apart.0 h.there s)
 
 -- ---- the files of the new one
@@ -156,7 +157,7 @@ module _ (infos : Infos) (loose still : List ℕ) (kept : List Kept) (new : Opti
   undrawn_new n q d (new_live marked e) = live n.0 1 (omega (arith, d.below, h.small), inr d.there) (omega arith) e
 
   undrawn_raised : (q : Name) → IsRaised infos.generation.0 kept q → IsUndrawn infos loose q
-  undrawn_raised q r = next_live r.k.0 (next_gen infos.generation.0 r.k.0)
+  undrawn_raised q r = next_live r.k.0 (next_live_gen infos.generation.0 r.k.0)
       (record { of = all_in (λ (k : Kept). Contains infos.segs k.0) r.k kept h.of r.there; above = omega arith; apart = omega arith; small = (bounds r.k r.there).1 }) r.is
 
   -- WHAT IS WRITTEN WAS NOT WRITTEN YET
@@ -165,9 +166,9 @@ module _ (infos : Infos) (loose still : List ℕ) (kept : List Kept) (new : Opti
 
   -- the new one's names are none of the others'
   cross : (n : New) (q : Name) → IsDrawn infos loose kept n → IsNewName n q → IsRaised infos.generation.0 kept q → ⊥
-  cross n q d (new_part which e) r = part_name_not_live n.0 r.k.0.seg.0 (next_gen infos.generation.0 r.k.0) which (omega (arith, d.below, h.small)) (omega (arith, (bounds r.k r.there).0, h.small)) (bounds r.k r.there).1 (sym e ∙ r.is)
+  cross n q d (new_part which e) r = part_name_not_live n.0 r.k.0.seg.0 (next_live_gen infos.generation.0 r.k.0) which (omega (arith, d.below, h.small)) (omega (arith, (bounds r.k r.there).0, h.small)) (bounds r.k r.there).1 (sym e ∙ r.is)
   cross n q d (new_live marked e) r =
-      let s = live_name_apart r.k.0.seg.0 n.0 (next_gen infos.generation.0 r.k.0) 1 (omega (arith, (bounds r.k r.there).0, h.small)) (omega (arith, d.below, h.small)) (bounds r.k r.there).1 (omega arith) (sym r.is ∙ e) in
+      let s = live_name_apart r.k.0.seg.0 n.0 (next_live_gen infos.generation.0 r.k.0) 1 (omega (arith, (bounds r.k r.there).0, h.small)) (omega (arith, d.below, h.small)) (bounds r.k r.there).1 (omega arith) (sym r.is ∙ e) in
       all_in (λ (k : Kept). k.0.seg.0 ≢ n.0) r.k kept d.apart r.there s.0
 
   once_of : (o : Option New) → IfSome o (IsDrawn infos loose kept) → (q : Name) → times (new_names o ++ raised infos.generation.0 kept) q ≤ 1
@@ -198,7 +199,7 @@ module _ (infos : Infos) (loose still : List ℕ) (kept : List Kept) (new : Opti
   part_out : (seg : ℕ) (which : SegPart) (q : Name) → seg < 2 ^ 64 → ((n : New) → IsDrawn infos loose kept n → new ≡ Some n → seg ≡ n.0 → ⊥) → q ≡ part_name_of seg which → is_among written q ≡ true → ⊥
   part_out seg which q small not_new e there = elim (cases_of q there) [
     | inl (n, (d, f, is)) ↦ by n d f is
-    | inr r ↦ part_name_not_live seg r.k.0.seg.0 (next_gen infos.generation.0 r.k.0) which small (omega (arith, (bounds r.k r.there).0, h.small)) (bounds r.k r.there).1 (sym e ∙ r.is)
+    | inr r ↦ part_name_not_live seg r.k.0.seg.0 (next_live_gen infos.generation.0 r.k.0) which small (omega (arith, (bounds r.k r.there).0, h.small)) (bounds r.k r.there).1 (sym e ∙ r.is)
   ]
     where
       by : (n : New) → IsDrawn infos loose kept n → new ≡ Some n → IsNewName n q → ⊥
@@ -208,10 +209,10 @@ module _ (infos : Infos) (loose still : List ℕ) (kept : List Kept) (new : Opti
   -- a live file of a segment, with a live generation that none of the written ones has
   live_out : (seg live_gen : ℕ) (q : Name) → seg < 2 ^ 64 → live_gen < 2 ^ 64 → q ≡ live_name_of seg live_gen
       → ((n : New) → IsDrawn infos loose kept n → new ≡ Some n → n.1 ≡ true → seg ≡ n.0 → live_gen ≡ 1 → ⊥)
-      → ((k : Kept) → IsIn k kept → k.1 ≡ true → seg ≡ k.0.seg.0 → live_gen ≡ next_gen infos.generation.0 k.0 → ⊥) → is_among written q ≡ true → ⊥
+      → ((k : Kept) → IsIn k kept → k.1 ≡ true → seg ≡ k.0.seg.0 → live_gen ≡ next_live_gen infos.generation.0 k.0 → ⊥) → is_among written q ≡ true → ⊥
   live_out seg live_gen q small small_gen e not_new not_raised there = elim (cases_of q there) [
     | inl (n, (d, f, is)) ↦ by n d f is
-    | inr r ↦ (let s = live_name_apart seg r.k.0.seg.0 live_gen (next_gen infos.generation.0 r.k.0) small (omega (arith, (bounds r.k r.there).0, h.small)) small_gen (bounds r.k r.there).1 (sym e ∙ r.is) in
+    | inr r ↦ (let s = live_name_apart seg r.k.0.seg.0 live_gen (next_live_gen infos.generation.0 r.k.0) small (omega (arith, (bounds r.k r.there).0, h.small)) small_gen (bounds r.k r.there).1 (sym e ∙ r.is) in
         not_raised r.k r.there r.marked s.0 s.1)
   ]
     where
@@ -235,12 +236,12 @@ module _ (infos : Infos) (loose still : List ℕ) (kept : List Kept) (new : Opti
         (λ n d f marked s one. all_in (λ (x : Kept). x.0.seg.0 ≢ n.0) k kept d.apart there (sym same_seg ∙ s))
         (λ l in' marked s g. let i : l ≡ k = same_kept l k kept h.apart in' there (sym s ∙ same_seg) in
         let m : k.1 ≡ true = sym (ap (λ (x : Kept). x.1) i) ∙ marked in
-        let a : gen_after infos.generation.0 k ≡ next_gen infos.generation.0 k.0 = ap (λ b. cond b (next_gen infos.generation.0 k.0) k.0.live_gen) m in
-        let c : next_gen infos.generation.0 l.0 ≡ next_gen infos.generation.0 k.0 = ap (λ (x : Kept). next_gen infos.generation.0 x.0) i in
-        less_self live_gen (next_gen infos.generation.0 k.0) (g ∙ c) (subst (λ n. n < live_gen) (gen ∙ a) is.above))),
+        let a : gen_after infos.generation.0 k ≡ next_live_gen infos.generation.0 k.0 = ap (λ b. cond b (next_live_gen infos.generation.0 k.0) k.0.live_gen) m in
+        let c : next_live_gen infos.generation.0 l.0 ≡ next_live_gen infos.generation.0 k.0 = ap (λ (x : Kept). next_live_gen infos.generation.0 x.0) i in
+        less_self live_gen (next_live_gen infos.generation.0 k.0) (g ∙ c) (subst (λ n. n < live_gen) (gen ∙ a) is.above))),
   )
     where
-      least : (b : Bool) → k.0.live_gen ≤ cond b (next_gen infos.generation.0 k.0) k.0.live_gen
+      least : (b : Bool) → k.0.live_gen ≤ cond b (next_live_gen infos.generation.0 k.0) k.0.live_gen
       least true = omega arith
       least false = omega arith
 

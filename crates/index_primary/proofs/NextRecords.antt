@@ -1,5 +1,5 @@
 -- The infos after a publish can be spelled, and their numbers are bounded.
-use Rattle.std.proofs.Common.{◌≡◌, ◌≢◌, ◌⊎◌, ◌<◌, ◌≤◌, ◌+◌, ◌-◌, ◌*◌, ◌/◌, ◌^◌, ◌++◌, max, ℕ, zero, suc, Bool, true, false, cond, List, [], ◌∷◌, length, Option, Some, None, refl, sym, ap, subst, ◌∙◌, arith, inl, inr, All, length-append}
+use Rattle.std.proofs.Common.{◌≡◌, ◌≢◌, ◌<◌, ◌≤◌, ◌+◌, ◌-◌, ◌*◌, ◌/◌, ◌++◌, max, ℕ, Bool, true, false, cond, List, [], ◌∷◌, length, Option, Some, None, refl, sym, ap, subst, ◌∙◌, arith, All, length-append}
 use Rattle.std.specs.Prelude.{IfSome}
 use Rattle.std.specs.List.{Contains, AllByRecursion, AllZip, AllPairs}
 use Rattle.std.proofs.lemmas.List.Elements.{All-nil, All-cons, All-append, All-contains, All-same}
@@ -7,9 +7,10 @@ use Rattle.std.proofs.lemmas.List.Kept.{AllPairs-cons}
 use Rattle.segment_infos.specs.declared.infos.SegRecord.{SegRecord}
 use Rattle.segment_infos.specs.declared.infos.Infos.{Infos}
 use Rattle.segment_infos.specs.Infos.{CanSpell, IsRecord}
-use Rattle.index_primary.specs.Held.{drawn_to, IsBounded, AreNumbered}
+use Rattle.index_primary.specs.Held.{drawn_to, IsDrawnRecord, AreNumbered}
 use Rattle.index_primary.specs.Publishing.{next_infos}
-use Rattle.index_primary.specs.NextNames.{Kept, New, next_gen, gen_after, new_gen, AreApart, IsDrawn}
+use Rattle.index_primary.specs.NextNames.{Kept, New, AreApart, IsDrawn}
+use Rattle.segment_steps.specs.Next.{next_live_gen}
 use Rattle.index_primary.specs.NextRecords.{IsNextRecord, IsFreshRecord, AreFresh, AreNextRecords}
 
 -- what holds of each that stays holds of its record after it
@@ -48,10 +49,10 @@ apart_after g (k ∷ ks) (r ∷ rs) fresh apart zip pairs all = AllPairs-cons (�
 
 module _ (infos : Infos) (loose still : List ℕ) (kept : List Kept) (new : Option New) (records : List SegRecord) (h : AreNextRecords infos loose still kept new records) (spelled : CanSpell infos) (numbered : AreNumbered infos loose) where
   abbrev Known : Kept → Type 0
-  Known k = IsBounded infos k.0 × IsRecord k.0
+  Known k = IsDrawnRecord infos k.0 × IsRecord k.0
 
   known : AllByRecursion Known kept
-  known = weaker (λ k. Contains infos.segs k.0) Known (λ k c. (All-contains (IsBounded infos) infos.segs k.0 numbered.segs c, All-contains IsRecord infos.segs k.0 spelled.records c)) kept h.of
+  known = weaker (λ k. Contains infos.segs k.0) Known (λ k c. (All-contains (IsDrawnRecord infos) infos.segs k.0 numbered.segs c, All-contains IsRecord infos.segs k.0 spelled.records c)) kept h.of
 
   drawn_of : (n : New) → new ≡ Some n → IsDrawn infos loose kept n
   drawn_of n e = subst (λ (o : Option New). IfSome o (IsDrawn infos loose kept)) e h.drawn
@@ -66,11 +67,11 @@ module _ (infos : Infos) (loose still : List ℕ) (kept : List Kept) (new : Opti
       by : (b : Bool) → k.1 ≡ b → IsRecord r
       by true e = record {
         most = (let f : r.live < k.0.live = is.fell e in omega (arith, f, was.most, is.rows));
-        all = λ none. absurd (let g : r.live_gen ≡ next_gen infos.generation.0 k.0 = is.live_gen ∙ ap (λ b. cond b (next_gen infos.generation.0 k.0) k.0.live_gen) e in omega (arith, g, none));
+        all = λ none. absurd (let g : r.live_gen ≡ next_live_gen infos.generation.0 k.0 = is.live_gen ∙ ap (λ b. cond b (next_live_gen infos.generation.0 k.0) k.0.live_gen) e in omega (arith, g, none));
       }
       by false e = record {
         most = (let s : r.live ≡ k.0.live = is.same e in omega (arith, s, was.most, is.rows));
-        all = λ none. (let g : r.live_gen ≡ k.0.live_gen = is.live_gen ∙ ap (λ b. cond b (next_gen infos.generation.0 k.0) k.0.live_gen) e in is.same e ∙ was.all (sym g ∙ none) ∙ sym is.rows);
+        all = λ none. (let g : r.live_gen ≡ k.0.live_gen = is.live_gen ∙ ap (λ b. cond b (next_live_gen infos.generation.0 k.0) k.0.live_gen) e in is.same e ∙ was.all (sym g ∙ none) ∙ sym is.rows);
       }
 
   record_fresh : (n : New) (r : SegRecord) → IsFreshRecord n r → IsRecord r
@@ -118,7 +119,7 @@ module _ (infos : Infos) (loose still : List ℕ) (kept : List Kept) (new : Opti
   }
 
   -- ---- numbers
-  bounded_after : (k : Kept) (r : SegRecord) → Known k → IsNextRecord infos.generation.0 k r → IsBounded (next_infos infos records) r
+  bounded_after : (k : Kept) (r : SegRecord) → Known k → IsNextRecord infos.generation.0 k r → IsDrawnRecord (next_infos infos records) r
   bounded_after k r was is = record { below = omega (arith, is.seg, was.0.below); made = subst (λ n. n / 1679616 ≤ infos.generation.0) (sym is.seg) was.0.made; live_gen = by k.1 refl }
     where
       base : (infos.generation.0 - r.seg.0 / 1679616) * 4294967296 ≡ (infos.generation.0 - k.0.seg.0 / 1679616) * 4294967296
@@ -126,14 +127,14 @@ module _ (infos : Infos) (loose still : List ℕ) (kept : List Kept) (new : Opti
 
       by : (b : Bool) → k.1 ≡ b → r.live_gen + r.live ≤ (infos.generation.0 - r.seg.0 / 1679616) * 4294967296 + r.rows
       by true e =
-          let g : r.live_gen ≡ next_gen infos.generation.0 k.0 = is.live_gen ∙ ap (λ b. cond b (next_gen infos.generation.0 k.0) k.0.live_gen) e in
+          let g : r.live_gen ≡ next_live_gen infos.generation.0 k.0 = is.live_gen ∙ ap (λ b. cond b (next_live_gen infos.generation.0 k.0) k.0.live_gen) e in
           let f : r.live < k.0.live = is.fell e in
           raised_fits k.0.live_gen ((infos.generation.0 - k.0.seg.0 / 1679616) * 4294967296) k.0.live k.0.rows r.live_gen r.live ((infos.generation.0 - r.seg.0 / 1679616) * 4294967296) r.rows g f was.0.live_gen was.1.most base is.rows
         where
           raised_fits : (gen base live rows gen2 live2 base2 rows2 : ℕ) → gen2 ≡ max gen base + 1 → live2 < live → gen + live ≤ base + rows → live ≤ rows → base2 ≡ base → rows2 ≡ rows → gen2 + live2 ≤ base2 + rows2
           raised_fits gen base live rows gen2 live2 base2 rows2 a b c d e f = omega (arith, a, b, c, d, e, f)
       by false e =
-          let g : r.live_gen ≡ k.0.live_gen = is.live_gen ∙ ap (λ b. cond b (next_gen infos.generation.0 k.0) k.0.live_gen) e in
+          let g : r.live_gen ≡ k.0.live_gen = is.live_gen ∙ ap (λ b. cond b (next_live_gen infos.generation.0 k.0) k.0.live_gen) e in
           let s : r.live ≡ k.0.live = is.same e in
           same_fits k.0.live_gen ((infos.generation.0 - k.0.seg.0 / 1679616) * 4294967296) k.0.live k.0.rows r.live_gen r.live ((infos.generation.0 - r.seg.0 / 1679616) * 4294967296) r.rows g s was.0.live_gen base is.rows
         where
@@ -143,7 +144,7 @@ module _ (infos : Infos) (loose still : List ℕ) (kept : List Kept) (new : Opti
   made_fresh : (seg : ℕ) → seg < drawn_to infos → infos.counter ≤ 1679616 → seg / 1679616 ≤ infos.generation.0
   made_fresh seg below counter = omega (arith, below, counter)
 
-  bounded_fresh : (n : New) (r : SegRecord) → new ≡ Some n → IsFreshRecord n r → IsBounded (next_infos infos records) r
+  bounded_fresh : (n : New) (r : SegRecord) → new ≡ Some n → IsFreshRecord n r → IsDrawnRecord (next_infos infos records) r
   bounded_fresh n r e is =
       let below : r.seg.0 < drawn_to infos = (let d = drawn_of n e in omega (arith, is.seg, d.below)) in
       record { below = below; made = made_fresh r.seg.0 below numbered.counter; live_gen = by n.1 refl }
@@ -168,9 +169,9 @@ module _ (infos : Infos) (loose still : List ℕ) (kept : List Kept) (new : Opti
   next_numbered = record {
     generation = numbered.generation;
     counter = numbered.counter;
-    segs = all_records (IsBounded (next_infos infos records))
-        (all_after infos.generation.0 Known (IsBounded (next_infos infos records)) bounded_after kept h.older known h.kept_are)
-        (all_fresh new (IsBounded (next_infos infos records)) bounded_fresh h.fresh h.fresh_are);
+    segs = all_records (IsDrawnRecord (next_infos infos records))
+        (all_after infos.generation.0 Known (IsDrawnRecord (next_infos infos records)) bounded_after kept h.older known h.kept_are)
+        (all_fresh new (IsDrawnRecord (next_infos infos records)) bounded_fresh h.fresh h.fresh_are);
     loose_below = λ seg c. numbered.loose_below seg (h.still_apart seg c).0;
     loose_apart = still_out;
   }

@@ -1,24 +1,23 @@
 -- A primary that opens on its parts.
-use Rattle.std.proofs.Common.{◌≡◌, ◌<◌, ◌≤◌, ◌+◌, true, is_some, ℕ, List, [], ◌∷◌, ◌++◌, Option, Some, None, refl, sym, ap, subst, ◌∙◌, arith, length}
+use Rattle.std.proofs.Common.{◌≡◌, ◌<◌, ◌≤◌, ◌+◌, true, is_some, ℕ, List, [], ◌++◌, Option, None, sym, ap, subst, ◌∙◌, arith, length}
 use Rattle.std.specs.List.{Contains}
 use Rattle.std.specs.Prelude.{IfSome}
-use Rattle.disk_model.specs.Disk.{Name, Cells, is_among}
+use Rattle.disk_model.specs.Disk.{Name, Cells}
 use Rattle.segment_infos.specs.declared.infos.Infos.{Infos}
 use Rattle.segment_infos.specs.Files.{AreFilesOf}
 use Rattle.segment_infos.proofs.SetLaws.{one_list_of}
 use Rattle.copy_state.specs.States.{AreShortNames}
 use Rattle.seg_reader.specs.Shown.{Shown}
-use Rattle.file_deleter.specs.Holdings.{Holdings, count_of, times, AreThere}
+use Rattle.file_deleter.specs.Holdings.{Holdings, times, AreThere}
 use Rattle.file_deleter.specs.Moves.{HoldsFiles}
-use Rattle.file_deleter.proofs.NameLemmas.{times-append, among_times}
+use Rattle.file_deleter.proofs.NameLemmas.{times-append}
 use Rattle.disk_model.specs.Disk.{reads_of}
-use Rattle.commit_steps.specs.Book.{book_names}
 use Rattle.searcher_switch.specs.declared.open.Point.{Point}
 use Rattle.searcher_switch.specs.declared.open.Open.{Open}
 use Rattle.searcher_switch.specs.declared.searchers.Searchers.{Searchers}
 use Rattle.searcher_switch.specs.Tickets.{ticket_names}
 use Rattle.searcher_switch.specs.Searching.{searcher_names}
-use Rattle.node_files.specs.Node.{IsWholeNode, HoldsNoMore}
+use Rattle.node_files.specs.Node.{IsWholeNode}
 use Rattle.node_files.specs.Standing.{IsStanding}
 use Rattle.node_files.proofs.Carry.{node_kept, node_there, nothing_written}
 use Rattle.index_primary.specs.declared.parts.Parts.{Parts}
@@ -27,7 +26,7 @@ use Rattle.index_primary.specs.declared.states.Out.{Out}
 use Rattle.index_primary.specs.declared.states.Merging.{Merging}
 use Rattle.index_primary.specs.Held.{IsHeld, AreUndrawn, AreNumbered}
 use Rattle.index_primary.specs.States.{state_names, merge_names, merge_loose}
-use Rattle.index_primary.specs.Primary.{rest_names, publish_loose, rest_loose, primary_names, IsPrimary, loose_in}
+use Rattle.index_primary.specs.Primary.{rest_names, publish_loose, rest_loose, IsPrimary, loose_in}
 use Rattle.index_primary.proofs.Holding.{undrawn_kept}
 
 module _ {D : Type 0} (cells : D → Cells) (p : Parts D) (node : IsWholeNode (cells p.dir) p.files (searcher_names p.searchers) p.commits) (held : IsHeld (reads_of (cells p.dir)) p.infos p.segs p.searchers.point.names)

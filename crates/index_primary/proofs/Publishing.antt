@@ -1,39 +1,32 @@
 -- A publish, from its writes to its releases.
-use Rattle.std.proofs.Common.{◌≡◌, ◌⊎◌, ◌<◌, ◌≤◌, ℕ, zero, suc, ◌+◌, Bool, true, false, List, [], ◌∷◌, ◌++◌, Option, Some, None, refl, sym, ap, subst, ◌∙◌, arith, inl, inr, true≢false, All}
-use Rattle.std.specs.List.{AllZip, Contains, flat_map}
+use Rattle.std.proofs.Common.{◌≡◌, ◌<◌, ◌≤◌, ◌+◌, Bool, true, false, List, [], ◌++◌, Option, None, refl, sym, ap, subst, ◌∙◌, arith, inl, inr, true≢false, All}
 use Rattle.file_names.specs.Names.{is_commit_name, is_pending_name}
 use Rattle.nrt_base.specs.declared.numbers.Version.{Version}
-use Rattle.disk_model.specs.Disk.{Name, Content, Cells, is_among}
+use Rattle.disk_model.specs.Disk.{Name, Cells, is_among}
 use Rattle.segment_infos.specs.declared.infos.Infos.{Infos}
 use Rattle.segment_infos.specs.Infos.{CanSpell}
-use Rattle.segment_infos.specs.Files.{files_of_segment, AreFilesOf}
 use Rattle.seg_reader.specs.Shown.{Shown}
-use Rattle.seg_reader.specs.Stands.{IsSegmentIn}
 use Rattle.documents.specs.declared.operation.Op.{Op}
 use Rattle.file_deleter.specs.Holdings.{Holdings, count_of, times, AreThere, AreCounted}
 use Rattle.file_deleter.specs.Moves.{KeepsFiles, HoldsFiles, LetsGo}
 use Rattle.file_deleter.proofs.NameLemmas.{times-append, among_times, not_among_times}
-use Rattle.commit_steps.specs.declared.stage.CommitBook.{CommitBook}
 use Rattle.disk_model.specs.Disk.{reads_of}
-use Rattle.commit_steps.specs.Book.{book_names}
 use Rattle.commit_steps.proofs.Safe.{among_of, contains_of}
 use Rattle.searcher_switch.specs.declared.open.Point.{Point}
 use Rattle.searcher_switch.specs.declared.open.Open.{Open}
 use Rattle.searcher_switch.specs.declared.searchers.Searchers.{Searchers}
 use Rattle.searcher_switch.specs.Tickets.{ticket_names}
 use Rattle.searcher_switch.specs.Searching.{searcher_names}
-use Rattle.node_files.specs.Node.{IsWholeNode, IsApart, HasNoPending, HoldsNoMore, KeepsCounts, KeepsBytes}
-use Rattle.node_files.specs.Standing.{IsStanding}
+use Rattle.node_files.specs.Node.{IsWholeNode, IsApart, HasNoPending}
 use Rattle.node_files.proofs.Carry.{node_gathers, node_lets_go, node_same_names, node_same_counts, node_there, nothing_written, unheld_apart, front_counted}
 use Rattle.node_files.proofs.Standing.{segments_along, standing_kept}
 use Rattle.index_primary.specs.declared.parts.Parts.{Parts}
 use Rattle.index_primary.specs.declared.parts.Publish.{Publish}
-use Rattle.index_primary.specs.declared.next.Ready.{Ready}
-use Rattle.index_primary.specs.Held.{IsHeld, IsUndrawn, AreUndrawn, AreNumbered}
-use Rattle.index_primary.specs.States.{state_names}
+use Rattle.index_primary.specs.declared.ready.Ready.{Ready}
+use Rattle.index_primary.specs.Held.{IsHeld, IsUndrawn, AreNumbered}
 use Rattle.index_primary.specs.Primary.{rest_names, primary_names, rest_loose, loose_of, IsPrimary}
-use Rattle.index_primary.specs.Publishing.{names_of, ReadsSo, next_infos, IsReady, HasWritten}
-use Rattle.index_primary.proofs.Holding.{named_times, held_kept, undrawn_plain}
+use Rattle.index_primary.specs.Publishing.{names_of, ReadsSo, IsReady, HasWritten}
+use Rattle.index_primary.proofs.Holding.{named_times, undrawn_plain}
 use Rattle.index_primary.proofs.Keeping.{writer_counted, book_counted, primary_same}
 
 module _ {D : Type 0} (cells : D → Cells) (p : Parts D) (r : Ready) (is : IsPrimary cells p) (ready : IsReady p r) where

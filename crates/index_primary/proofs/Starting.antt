@@ -1,16 +1,15 @@
 -- A publish that starts, and one that has ended.
-use Rattle.std.proofs.Common.{◌≡◌, ◌≢◌, ◌⊎◌, ◌<◌, All, ◌≤◌, ◌+◌, ◌*◌, ◌-◌, ◌/◌, ℕ, zero, suc, List, [], ◌∷◌, ◌++◌, length, Option, Some, None, refl, sym, ap, subst, ◌∙◌, arith, inl, inr}
+use Rattle.std.proofs.Common.{◌≡◌, ◌≢◌, ◌<◌, All, ◌≤◌, ◌+◌, ℕ, zero, suc, List, [], ◌∷◌, ◌++◌, length, Option, Some, None, sym, subst, arith, inl, inr}
 use Rattle.std.specs.List.{Contains}
 use Rattle.std.proofs.lemmas.List.Elements.{Contains-append_right, All-weaker}
 use Rattle.disk_model.specs.Disk.{Name, Content, Cells}
 use Rattle.segment_infos.specs.declared.infos.SegRecord.{SegRecord}
 use Rattle.segment_infos.specs.declared.infos.Infos.{Infos}
 use Rattle.seg_reader.specs.Shown.{Shown}
-use Rattle.file_deleter.specs.Holdings.{Holdings, count_of}
 use Rattle.disk_model.specs.Disk.{reads_of}
 use Rattle.index_primary.specs.declared.parts.Parts.{Parts}
 use Rattle.index_primary.specs.declared.parts.Publish.{Publish}
-use Rattle.index_primary.specs.Held.{IsHeld, IsUnused, drawn_to, IsNextLive, IsUndrawn, part, live, next_live, AreUndrawn, IsBounded, AreNumbered}
+use Rattle.index_primary.specs.Held.{IsHeld, IsUnused, drawn_to, IsNextLive, IsUndrawn, part, live, next_live, IsDrawnRecord, AreNumbered}
 use Rattle.index_primary.specs.Primary.{publish_loose, rest_loose, loose_of, IsPrimary}
 
 undrawn_of : (infos other : Infos) (loose still : List ℕ) → ((seg : ℕ) → IsUnused other still seg → IsUnused infos loose seg) → ((r : SegRecord) (live_gen : ℕ) → IsNextLive other r live_gen → IsNextLive infos r live_gen)
@@ -63,14 +62,14 @@ counted_held reads infos segs names h = record {
   stands = record { each = h.stands.each; stand = h.stands.stand };
 }
 
-bounded_on : (infos : Infos) (r : SegRecord) → IsBounded infos r → IsBounded (counted_on infos) r
+bounded_on : (infos : Infos) (r : SegRecord) → IsDrawnRecord infos r → IsDrawnRecord (counted_on infos) r
 bounded_on infos r h = record { below = omega (arith, h.below); made = h.made; live_gen = h.live_gen }
 
 numbered_on : (infos : Infos) (rest : List ℕ) → infos.counter < 1679616 → AreNumbered infos rest → AreNumbered (counted_on infos) (drawn_to infos ∷ rest)
 numbered_on infos rest more h = record {
   generation = h.generation;
   counter = omega (arith, more);
-  segs = All-weaker (IsBounded infos) (IsBounded (counted_on infos)) (bounded_on infos) infos.segs h.segs;
+  segs = All-weaker (IsDrawnRecord infos) (IsDrawnRecord (counted_on infos)) (bounded_on infos) infos.segs h.segs;
   loose_below = below;
   loose_apart = apart;
 }
@@ -80,7 +79,7 @@ numbered_on infos rest more h = record {
     below seg (suc k, lt, e) = let b : seg < drawn_to infos = h.loose_below seg (k, omega (arith, lt), e) in omega (arith, b)
 
     apart : (seg : ℕ) → Contains (drawn_to infos ∷ rest) seg → All (λ r. r.seg.0 ≢ seg) infos.segs
-    apart seg (zero, lt, e) = All-weaker (IsBounded infos) (λ r. r.seg.0 ≢ seg) (λ r b i. omega (arith, b.below, i, e)) infos.segs h.segs
+    apart seg (zero, lt, e) = All-weaker (IsDrawnRecord infos) (λ r. r.seg.0 ≢ seg) (λ r b i. omega (arith, b.below, i, e)) infos.segs h.segs
     apart seg (suc k, lt, e) = h.loose_apart seg (k, omega (arith, lt), e)
 
 drawn_alone : (infos : Infos) (rest : List ℕ) → ((seg : ℕ) → Contains rest seg → seg < drawn_to infos) → (n : ℕ) → Contains (drawn_to infos ∷ []) n → Contains rest n → ⊥
@@ -88,7 +87,7 @@ drawn_alone infos rest below n (zero, lt, e) c = omega (arith, e, below n c)
 drawn_alone infos rest below n (suc k, lt, e) c = omega (arith, lt)
 
 pub primary_starts : {D : Type 0} (cells : D → Cells) (p : Parts D) (count : ℕ) → IsPrimary cells p → p.publish ≡ None → count ≤ length p.waiting → p.infos.counter < 1679616 → length p.segs < 256
-    → IsPrimary cells (record p { infos = counted_on p.infos; publish = Some (record { seg = Some (drawn_to p.infos); count = count }) })
+    → IsPrimary cells (record p { infos = counted_on p.infos; publish = Some (record { seg = Some (record { 0 = drawn_to p.infos }); count = count }) })
 primary_starts cells p count is none within more few = record {
   node = is.node;
   standing = is.standing;

@@ -1,15 +1,16 @@
 -- Files that are written one after another.
-use Rattle.std.proofs.Common.{◌≡◌, ◌≢◌, ◌⊎◌, ℕ, zero, suc, ◌+◌, ◌<◌, ◌≤◌, ◌||◌, Bool, true, false, List, [], ◌∷◌, ◌++◌, length, take, get_or, map, Option, Some, None, Result, Ok, Err, refl, sym, ap, subst, ◌∙◌, cond, arith, inl, inr, true≢false, All}
+use Rattle.std.proofs.Common.{◌≡◌, ℕ, zero, suc, ◌+◌, ◌<◌, ◌≤◌, ◌||◌, Bool, true, false, List, [], ◌∷◌, ◌++◌, length, take, get_or, Result, Ok, refl, sym, ap, subst, ◌∙◌, arith, inl, inr, true≢false, All}
 use Rattle.std.proofs.Math.Bool.{or-true}
-use Rattle.std.proofs.lemmas.List.{take_more, take_all, take-map}
+use Rattle.std.proofs.lemmas.List.{take_more, take-map}
 use Rattle.std.proofs.lemmas.List.Elements.{All-more}
-use Rattle.disk_model.specs.Disk.{Name, Content, Cell, Cells, same, is_among, may_leave}
+use Rattle.disk_model.specs.Disk.{Name, Cells, same, is_among}
 use Rattle.disk_model.specs.declared.dir.DirFault.{DirFault}
 use Rattle.disk_model.proofs.CellLemmas.{same_true}
-use Rattle.file_deleter.specs.Holdings.{Holdings, count_of, times, IsWhole}
+use Rattle.file_deleter.specs.Holdings.{Holdings, count_of, times}
 use Rattle.file_deleter.specs.Moves.{KeepsFiles, Creates, LetsGo}
-use Rattle.file_deleter.proofs.NameLemmas.{times-cons, times-append, times_within, among_times, same_self}
-use Rattle.index_primary.specs.Publishing.{File, names_of, ReadsSo}
+use Rattle.file_deleter.proofs.NameLemmas.{times-append, times_within, among_times, same_self}
+use Rattle.index_primary.specs.Publishing.{names_of, ReadsSo}
+use Rattle.seg_build.specs.Built.{File}
 
 -- calls in a row that write only among these names
 pub keeps_within : (w v : List Name) (old mid new : Holdings) (a b c : Cells) → KeepsFiles w old mid a b → KeepsFiles v mid new b c

@@ -1,11 +1,13 @@
 -- Infos with what reads their segments and with the names of their files, and the names that are not drawn yet.
-use Rattle.std.specs.Prelude.{◌≡◌, ◌≢◌, ◌⊎◌, ◌<◌, ◌≤◌, ◌+◌, ◌-◌, ◌*◌, ◌/◌, ◌^◌, ℕ, false, List, [], ◌∷◌, ◌++◌, Option, Some, None, IfSome}
+use Rattle.std.specs.Prelude.{◌≡◌, ◌≢◌, ◌⊎◌, ◌<◌, ◌≤◌, ◌+◌, ◌^◌, ℕ, List}
 use Rattle.std.specs.List.{All, Contains}
-use Rattle.file_names.specs.Names.{part_name_of, live_name_of, is_commit_name, is_pending_name}
+use Rattle.file_names.specs.Names.{part_name_of, live_name_of}
 use Rattle.nrt_base.specs.declared.doc.Doc.{Doc}
 use Rattle.file_names.specs.declared.composed.SegPart.{SegPart}
 use Rattle.disk_model.specs.Disk.{Name, Content}
 use Rattle.file_deleter.specs.Holdings.{Holdings, count_of}
+use Rattle.nrt_base.specs.SegNumbers.{segments_of_generation, segment_number}
+use Rattle.segment_steps.specs.Next.{record_generation, live_base}
 use Rattle.segment_infos.specs.declared.infos.SegRecord.{SegRecord}
 use Rattle.segment_infos.specs.declared.infos.Infos.{Infos}
 use Rattle.segment_infos.specs.Infos.{CanSpell}
@@ -23,7 +25,7 @@ pub record IsHeld (reads : Name → Content) (infos : Infos) (segs : List Shown)
 -- ---- names
 -- the first number that the generation has not drawn
 abbrev pub drawn_to : Infos → ℕ
-drawn_to infos = infos.generation.0 * 1679616 + infos.counter
+drawn_to infos = segment_number infos.generation.0 infos.counter
 
 -- a segment of this number has no file: it is not drawn, or is one of those whose files are not written yet
 abbrev pub IsUnused : Infos → List ℕ → ℕ → Type 0
@@ -33,7 +35,7 @@ IsUnused infos loose seg = (seg < 2 ^ 64) × ((drawn_to infos ≤ seg) ⊎ Conta
 pub record IsNextLive (infos : Infos) (r : SegRecord) (live_gen : ℕ) : Type 0 where
   pub of : Contains infos.segs r
   pub above : r.live_gen < live_gen
-  pub apart : (infos.generation.0 - r.seg.0 / 1679616) * 4294967296 < live_gen
+  pub apart : live_base infos.generation.0 r < live_gen
   pub small : live_gen < 2 ^ 64
 
 -- the name is that of a file that is not written yet: of a segment without a file, or the next live file of a segment
@@ -47,15 +49,15 @@ pub record AreUndrawn (holdings : Holdings) (infos : Infos) (loose : List ℕ) :
   pub each : (q : Name) → IsUndrawn infos loose q → count_of holdings q ≡ 0
 
 -- the numbers of a segment's record: it is drawn, no later generation made it, and its live generations are as many as its dead rows allow
-pub record IsBounded (infos : Infos) (r : SegRecord) : Type 0 where
+pub record IsDrawnRecord (infos : Infos) (r : SegRecord) : Type 0 where
   pub below : r.seg.0 < drawn_to infos
-  pub made : r.seg.0 / 1679616 ≤ infos.generation.0
-  pub live_gen : r.live_gen + r.live ≤ (infos.generation.0 - r.seg.0 / 1679616) * 4294967296 + r.rows
+  pub made : record_generation r ≤ infos.generation.0
+  pub live_gen : r.live_gen + r.live ≤ live_base infos.generation.0 r + r.rows
 
 -- the numbers of infos, and those that are drawn and have no file yet, which are the numbers of no segment
 pub record AreNumbered (infos : Infos) (loose : List ℕ) : Type 0 where
   pub generation : infos.generation.0 < 2 ^ 31
-  pub counter : infos.counter ≤ 1679616
-  pub segs : All (IsBounded infos) infos.segs
+  pub counter : infos.counter ≤ segments_of_generation
+  pub segs : All (IsDrawnRecord infos) infos.segs
   pub loose_below : (seg : ℕ) → Contains loose seg → seg < drawn_to infos
   pub loose_apart : (seg : ℕ) → Contains loose seg → All (λ r. r.seg.0 ≢ seg) infos.segs

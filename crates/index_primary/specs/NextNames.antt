@@ -1,11 +1,12 @@
 -- The names that a publish, or a cut-over, writes, and those that are not written yet afterwards.
-use Rattle.std.specs.Prelude.{◌≡◌, ◌≢◌, ◌⊎◌, ◌<◌, ◌+◌, ◌-◌, ◌*◌, ◌/◌, ◌^◌, max, ℕ, Bool, true, if◌then◌else◌, List, [], ◌∷◌, ◌++◌, Option, Some, None, IfSome, IsSomeAnd}
+use Rattle.std.specs.Prelude.{◌≡◌, ◌≢◌, ◌⊎◌, ◌<◌, ◌^◌, ℕ, Bool, if◌then◌else◌, List, [], ◌∷◌, ◌++◌, Option, Some, None, IfSome, IsSomeAnd}
 use Rattle.std.specs.List.{Contains, AllByRecursion}
 use Rattle.file_names.specs.Names.{part_name_of, live_name_of}
 use Rattle.file_names.specs.declared.composed.SegPart.TheVariants.{Docs, Post, Info}
 use Rattle.disk_model.specs.Disk.{Name}
 use Rattle.segment_infos.specs.declared.infos.SegRecord.{SegRecord}
 use Rattle.segment_infos.specs.declared.infos.Infos.{Infos}
+use Rattle.segment_steps.specs.Next.{next_live_gen}
 use Rattle.index_primary.specs.Held.{drawn_to}
 
 -- a segment that stays: its record before, and whether it gets a live file
@@ -16,24 +17,25 @@ Kept = SegRecord × Bool
 abbrev pub New : Type 0
 New = ℕ × Bool
 
+-- the thing is one of the list
 abbrev pub IsIn : {X : Type 0} → X → List X → Type 0
 IsIn x [] = ⊥
 IsIn x (y ∷ ys) = (y ≡ x) ⊎ IsIn x ys
 
--- the live generation that a segment gets in generation g
-abbrev pub next_gen : ℕ → SegRecord → ℕ
-next_gen g r = max r.live_gen ((g - r.seg.0 / 1679616) * 4294967296) + 1
-
+-- the live generation of a segment that stays, afterwards
 abbrev pub gen_after : ℕ → Kept → ℕ
-gen_after g k = if k.1 then next_gen g k.0 else k.0.live_gen
+gen_after g k = if k.1 then next_live_gen g k.0 else k.0.live_gen
 
+-- the live generation of a new segment
 abbrev pub new_gen : New → ℕ
 new_gen n = if n.1 then 1 else 0
 
+-- the names of the new live files of those that stay
 abbrev pub raised : ℕ → List Kept → List Name
 raised g [] = []
-raised g (k ∷ ks) = if k.1 then live_name_of k.0.seg.0 (next_gen g k.0) ∷ raised g ks else raised g ks
+raised g (k ∷ ks) = if k.1 then live_name_of k.0.seg.0 (next_live_gen g k.0) ∷ raised g ks else raised g ks
 
+-- the names of the new segment's files
 abbrev pub new_names : Option New → List Name
 new_names None = []
 new_names (Some n) = part_name_of n.0 Docs ∷ part_name_of n.0 Post ∷ part_name_of n.0 Info ∷ (if n.1 then live_name_of n.0 1 ∷ [] else [])
@@ -52,7 +54,7 @@ pub record IsDrawn (infos : Infos) (loose : List ℕ) (kept : List Kept) (n : Ne
 -- the records after it are those of the segments that stay and of the new one; the files are the new one's and the new live files
 pub record AreNextNames (infos : Infos) (loose still : List ℕ) (kept : List Kept) (new : Option New) (records : List SegRecord) (written : List Name) : Type 0 where
   pub of : AllByRecursion (λ k. Contains infos.segs k.0) kept
-  pub bounded : AllByRecursion (λ k. (k.0.seg.0 < drawn_to infos) × (next_gen infos.generation.0 k.0 < 2 ^ 64)) kept
+  pub bounded : AllByRecursion (λ k. (k.0.seg.0 < drawn_to infos) × (next_live_gen infos.generation.0 k.0 < 2 ^ 64)) kept
   pub small : drawn_to infos < 2 ^ 64
   pub apart : AreApart kept
   pub drawn : IfSome new (IsDrawn infos loose kept)

@@ -2,7 +2,7 @@
 use Rattle.std.specs.Prelude.{◌≡◌, ◌≤◌, ◌<◌, true, is_some, ℕ, List, [], ◌∷◌, ◌++◌, length, Option, Some, None, IfSome}
 use Rattle.std.specs.List.{Contains}
 use Rattle.disk_model.specs.Disk.{Name, Cells}
-use Rattle.file_deleter.specs.Holdings.{Holdings}
+use Rattle.nrt_base.specs.declared.numbers.SegNo.{SegNo}
 use Rattle.copy_state.specs.States.{AreShortNames}
 use Rattle.searcher_switch.specs.Searching.{searcher_names}
 use Rattle.disk_model.specs.Disk.{reads_of}
@@ -21,11 +21,12 @@ rest_names p = state_names p.states ++ merge_names p.merges
 abbrev pub primary_names : {D : Type 0} → Parts D → List Name
 primary_names p = searcher_names p.searchers ++ (p.names ++ rest_names p)
 
--- the numbers of segments that are drawn and whose files are not written yet
-abbrev pub loose_in : Option ℕ → List ℕ
+-- the number of a segment that is drawn and whose files are not written yet
+abbrev pub loose_in : Option SegNo → List ℕ
 loose_in None = []
-loose_in (Some n) = n ∷ []
+loose_in (Some seg) = seg.0 ∷ []
 
+-- that of the publish in flight
 abbrev pub publish_loose : Option Publish → List ℕ
 publish_loose None = []
 publish_loose (Some f) = loose_in f.seg
@@ -34,6 +35,7 @@ publish_loose (Some f) = loose_in f.seg
 abbrev pub rest_loose : {D : Type 0} → Parts D → List ℕ
 rest_loose p = merge_loose p.merges
 
+-- the numbers of segments that are drawn and whose files are not written yet
 abbrev pub loose_of : {D : Type 0} → Parts D → List ℕ
 loose_of p = publish_loose p.publish ++ rest_loose p
 
@@ -53,8 +55,9 @@ pub record IsPrimary {D : Type 0} (cells : D → Cells) (p : Parts D) : Type 0 w
   pub few : IfSome p.publish (λ f. is_some f.seg ≡ true → length p.segs < 256)
   -- and no merge drew that name
   pub alone : IfSome p.publish (λ f. (n : ℕ) → Contains (loose_in f.seg) n → Contains (rest_loose p) n → ⊥)
+  -- the files of the merges that were cut over
   pub completed : AreShortNames p.completed
 
 -- a file that is held before and after reads the same
-abbrev pub PartsStay : {D : Type 0} → (D → Cells) → Parts D → Parts D → Type 0
-PartsStay cells old new = KeepsBytes old.files new.files (cells old.dir) (cells new.dir)
+abbrev pub KeepsHeldBytes : {D : Type 0} → (D → Cells) → Parts D → Parts D → Type 0
+KeepsHeldBytes cells old new = KeepsBytes old.files new.files (cells old.dir) (cells new.dir)

@@ -1,11 +1,9 @@
 -- A publish: what is made of the writer's segments, and how it is put in place.
-use Rattle.std.specs.Prelude.{◌≡◌, ◌⊎◌, ◌<◌, ◌≤◌, ◌+◌, ℕ, Bool, true, false, List, [], ◌∷◌, ◌++◌, length, take, map, Option, Some, None, IfSome}
+use Rattle.std.specs.Prelude.{◌≡◌, ◌⊎◌, ◌<◌, ◌≤◌, ◌+◌, ℕ, true, false, List, ◌++◌, length, map, Some, IfSome}
 use Rattle.std.specs.List.{All, AllZip, Contains, flat_map}
-use Rattle.file_names.specs.Names.{is_commit_name, is_pending_name}
 use Rattle.nrt_base.specs.declared.doc.Doc.{Doc}
-use Rattle.nrt_base.specs.declared.numbers.Version.{Version}
 use Rattle.disk_model.specs.Disk.{Name, Content, Cells, is_among}
-use Rattle.file_deleter.specs.Holdings.{Holdings, count_of, times}
+use Rattle.file_deleter.specs.Holdings.{times}
 use Rattle.segment_infos.specs.declared.infos.SegRecord.{SegRecord}
 use Rattle.segment_infos.specs.declared.infos.Infos.{Infos}
 use Rattle.segment_infos.specs.Infos.{CanSpell}
@@ -13,19 +11,17 @@ use Rattle.segment_infos.specs.Files.{files_of_segment, AreFilesOf}
 use Rattle.seg_reader.specs.Shown.{Shown}
 use Rattle.seg_reader.specs.Stands.{IsSegmentIn}
 use Rattle.copy_state.specs.States.{AreShortNames}
+use Rattle.seg_build.specs.Built.{File}
 use Rattle.node_files.specs.Node.{IsWholeNode}
 use Rattle.index_primary.specs.declared.parts.Parts.{Parts}
-use Rattle.index_primary.specs.declared.next.Ready.{Ready}
+use Rattle.index_primary.specs.declared.ready.Ready.{Ready}
 use Rattle.node_files.specs.Standing.{IsStanding}
 use Rattle.disk_model.specs.Disk.{reads_of}
 use Rattle.index_primary.specs.Held.{IsUndrawn, AreUndrawn, AreNumbered}
 use Rattle.seg_reader.specs.Stands.{AreSegmentsOf}
 use Rattle.index_primary.specs.Primary.{primary_names, rest_loose, loose_of}
 
--- a file: its name and its bytes
-abbrev pub File : Type 0
-File = List ℕ × List ℕ
-
+-- the names of files
 abbrev pub names_of : List File → List Name
 names_of files = map (λ f. f.0) files
 

@@ -1,7 +1,8 @@
 -- Copy states that are out.
-use Rattle.std.specs.Prelude.{◌≡◌, ◌+◌, ◌==◌, ◌<◌, ◌^◌, ℕ, zero, suc, Bool, true, false, ◌&&◌, if◌then◌else◌, List, [], ◌∷◌, ◌++◌, map, length, Some}
+use Rattle.std.specs.Prelude.{◌≡◌, ◌+◌, ◌==◌, ◌<◌, ◌^◌, ℕ, suc, Bool, true, false, ◌&&◌, if◌then◌else◌, List, [], ◌∷◌, ◌++◌, length, Some}
 use Rattle.std.specs.Cmp.Lexicographic.{pointwise}
-use Rattle.std.specs.List.{All}
+use Rattle.std.specs.List.{All, flat_map}
+use Rattle.nrt_base.specs.declared.numbers.SegNo.{SegNo}
 use Rattle.codec_frame.specs.Frame.{Wanted, IsFramed}
 use Rattle.copy_state.specs.Meta.{IsMetaOf}
 use Rattle.copy_state.specs.States.{meta_names}
@@ -84,9 +85,13 @@ pub record IsStateOf (reads : Name → Content) (infos : Infos) (names : List Na
 -- the names that they hold
 abbrev pub merge_names : List Merging → List Name
 merge_names [] = []
-merge_names (m ∷ ms) = m.inputs ++ m.written ++ merge_names ms
+merge_names (m ∷ ms) = m.names ++ m.written ++ merge_names ms
 
 -- the numbers that they drew and whose files are not written yet
 abbrev pub merge_loose : List Merging → List ℕ
 merge_loose [] = []
-merge_loose (m ∷ ms) = if m.is_written then merge_loose ms else m.seg ∷ merge_loose ms
+merge_loose (m ∷ ms) = if m.is_written then merge_loose ms else m.seg.0 ∷ merge_loose ms
+
+-- the numbers of their inputs
+abbrev pub merge_inputs : List Merging → List SegNo
+merge_inputs ms = flat_map (λ m. m.inputs) ms

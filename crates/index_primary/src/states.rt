@@ -11,20 +11,22 @@ ghost use Rattle.disk_model.specs.Disk.{reads_of};
 ghost use Rattle.node_files.specs.Node.{AddsOnly};
 ghost use Rattle.copy_state.specs.Meta.{IsMetaOf};
 ghost use Rattle.copy_state.specs.States.{meta_names};
-ghost use Rattle.index_primary.specs.States.{IsFramedFile, IsFramedIn, IsMetaIn, out_of, state_place, states_without, is_out, state_names, TakesOut};
+ghost use Rattle.index_primary.specs.States.{IsFramedFile, IsFramedIn, IsMetaIn, out_of, state_place, states_without, is_out, state_names, merge_inputs, TakesOut};
 
 use copy_state::{CopyState, FileMetaData, MetaFault, read_meta};
 use disk_model::{Dir, DirFault};
 use file_deleter::FileDeleter;
 use file_names::FileName;
-use nrt_base::{List, NoMemory, Version};
+use nrt_base::{List, NoMemory, SegNo, Version};
 use std::alloc::{AllocError, Global};
 
-/// A merge in flight: the number that it drew, the files of its inputs as they were noted, and those that it has written.
+/// A merge in flight: the number that it drew, its inputs with the names of their files as they were noted, and those that
+/// it has written.
 #[derive(Drop)]
 pub struct Merging {
-    pub seg: u64,
-    pub inputs: List<FileName>,
+    pub seg: SegNo,
+    pub inputs: List<SegNo>,
+    pub names: List<FileName>,
     pub written: List<FileName>,
     pub is_written: bool,
 }
@@ -123,6 +125,17 @@ pub(crate) fn lend<D: Dir>(
             Err(fault)
         }
     }
+}
+
+/// The numbers of the inputs of merges in flight.
+pub(crate) fn inputs_of(alloc: Global, merges: &[Merging]) -> Result<Vec<SegNo>, NoMemory>
+    ensures { IfOk result (λ inputs. inputs.items ≡ merge_inputs merges.now) }
+{
+    let mut inputs = Vec::new(alloc);
+    for merge in merges {
+        inputs.extend_from_slice(merge.inputs.as_slice())?;
+    }
+    Ok(inputs)
 }
 
 // Whether the names are those of the files, in order.

@@ -1,4 +1,4 @@
-use Rattle.std.proofs.Common.{◌≡◌, ◌≤◌, ◌∙◌, arith}
+use Rattle.std.proofs.Common.{◌∙◌, arith}
 use Rattle.index_primary.proofs.StateLemmas.{names_more, metas_more}
 use Rattle.index_primary.proofs.states.metas_of.Goals as goal
 

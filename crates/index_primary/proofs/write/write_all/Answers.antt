@@ -1,9 +1,10 @@
-use Rattle.std.proofs.Common.{◌≡◌, ◌∙◌, ◌+◌, ◌≤◌, true, ap, sym, subst, arith, Ok, Result, List, ℕ, All, take}
+use Rattle.std.proofs.Common.{◌≡◌, ◌∙◌, ◌≤◌, true, sym, subst, arith, List, All, take}
 use Rattle.std.proofs.lemmas.List.{take_all}
 use Rattle.disk_model.specs.Disk.{Name, is_among}
 use Rattle.file_deleter.specs.Holdings.{count_of, times}
 use Rattle.file_deleter.specs.Moves.{KeepsFiles, LetsGo}
-use Rattle.index_primary.specs.Publishing.{File, names_of, ReadsSo}
+use Rattle.index_primary.specs.Publishing.{names_of, ReadsSo}
+use Rattle.seg_build.specs.Built.{File}
 use Rattle.index_primary.proofs.Writing.{free_at, counts_more, keeps_more, reads_more, keeps_back}
 use Rattle.index_primary.proofs.write.write_all.Goals as goal
 

@@ -1,5 +1,5 @@
-use Rattle.std.proofs.Common.{◌≡◌, ◌∙◌, sym, subst, List, ℕ}
-use Rattle.disk_model.specs.Disk.{Name, Cells}
+use Rattle.std.proofs.Common.{sym, subst, List}
+use Rattle.disk_model.specs.Disk.{Name}
 use Rattle.segment_infos.specs.Files.{AreFilesOf}
 use Rattle.index_primary.proofs.Opening.{names_there, primary_opens}
 use Rattle.index_primary.proofs.parts.Parts.open.Goals as goal

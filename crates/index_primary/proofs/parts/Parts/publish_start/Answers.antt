@@ -1,4 +1,4 @@
-use Rattle.std.proofs.Common.{length, ap, arith, ◌≤◌, ◌≡◌, List, Option, Some, Result, Ok, Bool, true}
+use Rattle.std.proofs.Common.{length, ap, arith, ◌≡◌, List, Option, Some, Result, Ok, Bool, true}
 use Rattle.documents.specs.declared.operation.Op.{Op}
 use Rattle.index_primary.proofs.Starting.{primary_starts}
 use Rattle.index_primary.proofs.parts.Parts.publish_start.Goals as goal

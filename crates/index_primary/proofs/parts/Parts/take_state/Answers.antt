@@ -1,8 +1,8 @@
-use Rattle.std.proofs.Common.{◌≡◌, ◌∙◌, sym, subst, List}
-use Rattle.disk_model.specs.Disk.{Name, Cells, reads_of}
-use Rattle.index_primary.proofs.Framing.{held_framed}
+use Rattle.std.proofs.Common.{◌∙◌, sym, subst}
+use Rattle.disk_model.specs.Disk.{Cells, reads_of}
+use Rattle.index_primary.proofs.Framing.{held_framed, held_short}
+use Rattle.copy_state.specs.States.{AreShortNames}
 use Rattle.file_deleter.specs.Holdings.{AreThere}
-use Rattle.file_deleter.specs.Moves.{MovesCounts}
 use Rattle.index_primary.proofs.Keeping.{point_names_there, primary_read, primary_states}
 use Rattle.index_primary.proofs.parts.Parts.take_state.Goals as goal
 
@@ -18,3 +18,14 @@ pub returns-in-Ok-lend-clause-whole : goal.returns-in-Ok-lend-clause-whole
 returns-in-Ok-lend-clause-whole g c =
     primary_states g.D.Dir.cells (record c.args.self.now { dir = c.metas_of.new.dir }) (primary_read g.D.Dir.cells c.args.self.now c.requires c.metas_of.new.dir c.in-Ok.ensures.cells)
     c.metas_of.new.dir c.lend.new.files c.lend.new.states c.in-Ok-lend.ensures.moves (rw (c.as_slice-2.ensures, c.in_ok-names.ensures) at c.in-Ok-lend.ensures.only)
+
+pub returns-in-Ok-lend-clause-copy : goal.returns-in-Ok-lend-clause-copy
+returns-in-Ok-lend-clause-copy g c =
+    let p = c.args.self.now in
+    record {
+      infos = p.point_infos;
+      spelled = c.in_ok-infos.ensures;
+      files = subst AreShortNames (sym (c.in-Ok.ensures.names ∙ c.as_slice.ensures ∙ c.in_ok-names.ensures))
+          (held_short (reads_of (g.D.Dir.cells p.dir)) p.point_infos p.searchers.point.readers p.searchers.point.names c.requires.searched c.in_ok-infos.ensures.spelled.fit.records);
+      completed = subst AreShortNames (sym c.in_ok-completed.ensures) c.requires.completed;
+    }

@@ -1,7 +1,3 @@
-use Rattle.std.proofs.Common.{◌≡◌, ◌≤◌, ◌+◌, true, sym, subst, List, ℕ}
-use Rattle.disk_model.specs.Disk.{Name, is_among}
-use Rattle.file_deleter.specs.Holdings.{count_of, times, AreThere}
-use Rattle.file_deleter.specs.Moves.{KeepsFiles, HoldsFiles, LetsGo}
 use Rattle.index_primary.proofs.Publishing.{fresh, once, twice_there, has_written, primary_unheld, primary_unwritten}
 use Rattle.index_primary.proofs.parts.Parts.write.Goals as goal
 

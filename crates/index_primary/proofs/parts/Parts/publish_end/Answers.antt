@@ -1,0 +1,27 @@
+use Rattle.std.proofs.Common.{sym, subst}
+use Rattle.documents.specs.Documents.{after_ops}
+use Rattle.seg_reader.specs.Stands.{AreSegmentsOf}
+use Rattle.index_primary.specs.Cut.{cut_by}
+use Rattle.index_primary.proofs.Working.{many_for, work_fits, bounded_for, primary_step, primary_documents}
+use Rattle.index_primary.proofs.parts.Parts.publish_end.Goals as goal
+
+pub next_segments-requires-clause-bounded : goal.next_segments-requires-clause-bounded
+next_segments-requires-clause-bounded g c = rw c.as_slice-2.ensures (bounded_for g.D.Dir.cells c.args.self.now c.args.work c.requires.whole c.requires.work)
+
+pub next_segments-requires-clause-many : goal.next_segments-requires-clause-many
+next_segments-requires-clause-many g c = rw (c.as_slice-2.ensures, c.as_slice-3.ensures) (many_for g.D.Dir.cells c.args.self.now c.args.work c.requires.whole c.requires.work)
+
+pub next_segments-requires-clause-new : goal.next_segments-requires-clause-new
+next_segments-requires-clause-new g c = (work_fits g.D.Dir.cells c.args.self.now c.args.work c.requires.whole c.requires.work).0
+
+pub next_segments-requires-clause-rows : goal.next_segments-requires-clause-rows
+next_segments-requires-clause-rows g c = rw c.as_slice-3.ensures (work_fits g.D.Dir.cells c.args.self.now c.args.work c.requires.whole c.requires.work).1
+
+pub make_point-requires-clause-step : goal.make_point-requires-clause-step
+make_point-requires-clause-step g c = primary_step g.D.Dir.cells c.args.self.now c.args.work c.requires.whole c.requires.work _ c.in-Ok-next_segments.made (rw (c.as_slice-2.ensures, c.as_slice-3.ensures) at c.in-Ok-next_segments.ensures)
+
+pub returns-in-Ok-make_point-clause-documents : goal.returns-in-Ok-make_point-clause-documents
+returns-in-Ok-make_point-clause-documents g c docs stand =
+    let after = primary_documents g.D.Dir.cells c.args.self.now c.args.work c.requires.whole c.requires.work _ c.in-Ok-next_segments.made (rw (c.as_slice-2.ensures, c.as_slice-3.ensures) at c.in-Ok-next_segments.ensures) docs stand in
+    let ops = cut_by c.args.self.now.publish c.args.self.now.waiting in
+    (subst (AreSegmentsOf (after_ops docs ops)) (sym c.in-Ok-make_point.ensures.point.2) after, subst (AreSegmentsOf (after_ops docs ops)) (sym c.in-Ok-make_point.ensures.point.1) after)
