@@ -1,5 +1,5 @@
 -- A history that serves a script with a log goes on behind a promotion with the replay.
-use Rattle.std.proofs.Common.{◌≡◌, ℕ, Bool, true, ◌&&◌, ◌==◌, List, [], ◌∷◌, ◌++◌, reverse, drop, Option, Some, None, refl, sym, ap, subst, ◌∙◌, true≢false, append_assoc}
+use Rattle.std.proofs.Common.{◌≡◌, ℕ, if◌then◌else◌, Bool, true, ◌&&◌, ◌==◌, List, [], ◌∷◌, ◌++◌, reverse, drop, length, Option, Some, None, refl, sym, ap, subst, ◌∙◌, true≢false, append_assoc}
 use Rattle.std.proofs.Math.Bool.{or-true}
 use Rattle.std.proofs.lemmas.Bool.{and_parts, eqb-true, eq-eqb}
 use Rattle.std.proofs.lemmas.List.{reverse-append}
@@ -19,9 +19,9 @@ use Rattle.script_serving.specs.declared.script.LineCommand.{LineCommand}
 use Rattle.script_serving.specs.declared.script.LineCommand.TheVariants.{Promote}
 use Rattle.script_serving.specs.declared.script.Script.{Script}
 use Rattle.script_serving.specs.Lines.{lines_of_lane, command_at}
-use Rattle.script_serving.specs.Replays.{due_by, replay_due}
-use Rattle.script_serving.specs.Serves.{FitsTurn, FitsReplay, Fits, is_newest_at, Suits, ServesLane, Serves}
-use Rattle.script_serving.proofs.ServingLemmas.{own_fits, earlier_serves}
+use Rattle.script_serving.specs.Replays.{logged_operations, replay_due, due}
+use Rattle.history_entries.specs.Points.{operations_at}
+use Rattle.script_serving.specs.Serves.{FitsTurn, FitsReplay, Fits, is_newest_at, Suits, ServesLanes, Serves}
 use Rattle.replay_laws.specs.Replay.{IsAcceptance, IsAcceptanceOf, BeginsWithReplay, operations_lacking, IsReplayed}
 
 -- ---- lines
@@ -47,24 +47,37 @@ abbrev GoesOn : Script → Past → List Entry → Type 0
 GoesOn script past [] = replay_due past ≡ []
 GoesOn script past (e ∷ after) = FitsHere script past e × GoesOn script (e ∷ past) after
 
-abbrev ServesAll : Script → Past → Type 0
-ServesAll script past = (lane : ℕ) → ServesLane true lane (lines_of_lane lane script) past
-
-serves_back : (script : Script) (front past : Past) → ServesAll script (front ++ past) → ServesAll script past
+serves_back : (script : Script) (front past : Past) → ServesLanes script (front ++ past) → ServesLanes script past
 serves_back script [] past serves = serves
-serves_back script (e ∷ front) past serves = serves_back script front past (earlier_serves script true e (front ++ past) serves)
+serves_back script (e ∷ front) past serves = serves_back script front past serves.1
 
 -- the entries newest first, behind the past
 turned : (e : Entry) (after : List Entry) (past : Past) → reverse (e ∷ after) ++ past ≡ reverse after ++ e ∷ past
 turned e after past = ap (λ (es : List Entry). es ++ past) (reverse-append (e ∷ []) after) ∙ append_assoc (reverse after) (e ∷ []) past
 
-goes_on : (script : Script) (past : Past) (after : List Entry) → ServesAll script (reverse after ++ past) → replay_due (reverse after ++ past) ≡ [] → GoesOn script past after
-goes_on script past [] serves none = none
-goes_on script past (e ∷ after) serves none =
-    let serves_rest : ServesAll script (reverse after ++ e ∷ past) = subst (ServesAll script) (turned e after past) serves in
-    (own_fits script true e past (serves_back script (reverse after) (e ∷ past) serves_rest), goes_on script (e ∷ past) after serves_rest (subst (λ (es : Past). replay_due es ≡ []) (turned e after past) none))
+goes_on : (script : Script) → script.log ≡ true → (past : Past) (after : List Entry) → ServesLanes script (reverse after ++ past) → replay_due (reverse after ++ past) ≡ [] → GoesOn script past after
+goes_on script log past [] serves none = none
+goes_on script log past (e ∷ after) serves none =
+    let serves_rest : ServesLanes script (reverse after ++ e ∷ past) = subst (ServesLanes script) (turned e after past) serves in
+    let here : ServesLanes script (e ∷ past) = serves_back script (reverse after) (e ∷ past) serves_rest in
+    let lines = lines_of_lane e.at.lane.0 script in (
+      subst (λ (b : Bool). Fits (due b past) lines past e.at (command_at lines e.at) e.event) log here.0,
+      goes_on script log (e ∷ past) after serves_rest (subst (λ (es : Past). replay_due es ≡ []) (turned e after past) none),
+    )
 
 -- ---- behind a promotion
+
+-- what is logged behind an entry with this event
+abbrev logged_by : Event → Bool → List Op → List Op
+logged_by event answered ops = elim event [ Accepted seq op ↦ if answered then ops else ops ++ op ∷ [] | _ ↦ ops ]
+
+-- what is due behind an entry with this event
+abbrev due_by : Event → (here past : Past) → List Op → List Op
+due_by event here past left = elim event [
+  | Promoted m g f v ↦ drop (length (operations_at here v.0)) (logged_operations past)
+  | Accepted seq op ↦ drop 1 left
+  | _ ↦ left
+]
 
 told : (op : Op) (past : Past) (at : At) (command : Option LineCommand) (event : Event) → FitsReplay op past at command event → (seq : ℕ) × (event ≡ Accepted seq op) × (is_newest_at at past ≡ true)
 told op past at (Some (Promote n force)) (Accepted seq again) h = (seq, ap (Accepted seq) h.0, h.1)
@@ -107,7 +120,7 @@ replay_behind script at past (op ∷ ops) (e ∷ after) behind is goes =
     let fits : FitsReplay op past e.at (command_at lines e.at) e.event = subst (λ (ops : List Op). Fits ops lines past e.at (command_at lines e.at) e.event) is goes.0 in
     let t = told op past e.at (command_at lines e.at) e.event fits in
     let here : at ≡ e.at = behind.newest e.at t.2 in
-    let left : replay_due (e ∷ past) ≡ ops = ap (λ (event : Event). due_by event (e ∷ past) (replay_due past)) t.1 ∙ ap (drop 1) is in
+    let left : replay_due (e ∷ past) ≡ ops = ap (λ (event : Event). due_by event (e ∷ past) past (replay_due past)) t.1 ∙ ap (drop 1) is in
     ((at_itself e.at at (sym here), subst (IsAcceptanceOf op) (sym t.1) refl), replay_behind script at (e ∷ past) ops after (accepted_behind at past e t.0 op here t.1 behind) left goes.1)
 
 promoted_behind : (past : Past) (p : Entry) (m : NodeNo) (g : Gen) (f v : Version) → p.event ≡ Promoted m g f v → IsBehind p.at (p ∷ past)
@@ -124,8 +137,8 @@ pub served_replays : (script : Script) (h : History) → script.log ≡ true →
 served_replays script h log serves before after p m g f v is promoted =
     let past = p ∷ reverse before in
     let whole : reverse h.entries ≡ reverse after ++ past = ap reverse is ∙ (reverse-append before (p ∷ after) ∙ turned p after (reverse before)) in
-    let all : ServesAll script (reverse h.entries) = λ lane. subst (λ (b : Bool). ServesLane b lane (lines_of_lane lane script) (reverse h.entries)) log (serves.lanes lane) in
     let none : replay_due (reverse h.entries) ≡ [] = rw log at serves.replayed in
-    let left : replay_due past ≡ operations_lacking past v = ap (λ (event : Event). due_by event past (replay_due (reverse before))) promoted in
+    let left : replay_due past ≡ operations_lacking past v = ap (λ (event : Event). due_by event past (reverse before) (replay_due (reverse before))) promoted
+    ∙ ap (drop (length (operations_at past v.0))) (sym (ap (λ (event : Event). logged_by event (is_answered p.at (reverse before)) (logged_operations (reverse before))) promoted)) in
     replay_behind script p.at past (operations_lacking past v) after (promoted_behind (reverse before) p m g f v promoted) left
-    (goes_on script past after (subst (ServesAll script) whole all) (subst (λ (es : Past). replay_due es ≡ []) whole none))
+    (goes_on script log past after (subst (ServesLanes script) whole serves.lanes) (subst (λ (es : Past). replay_due es ≡ []) whole none))
