@@ -3,13 +3,13 @@ use Rattle.std.proofs.Common.{◌≡◌, ◌≢◌, ◌==◌, ◌||◌, not, ◌
 use Rattle.std.specs.Prelude.{IfSome, IsSomeAnd, is_some}
 use Rattle.std.specs.List.{AllByRecursion, AllZip, filter, Contains, flat_map}
 use Rattle.std.proofs.lemmas.List.{map-append, append-nil}
-use Rattle.std.proofs.lemmas.List.Elements.{recursion_from_All, All-from_recursion, All-contains}
+use Rattle.std.proofs.lemmas.List.Elements.{recursion_from_All, All-from_recursion, All-contains, Contains-append_cases}
 use Rattle.std.proofs.lemmas.List.Sums.{count_by-le-length}
 use Rattle.std.proofs.lemmas.Bool.{eqb-false}
 use Rattle.nrt_base.specs.declared.numbers.SegNo.{SegNo}
 use Rattle.nrt_base.specs.declared.doc.Doc.{Doc}
 use Rattle.disk_model.specs.Disk.{Name, Content, is_among, same}
-use Rattle.file_deleter.proofs.NameLemmas.{same_self}
+use Rattle.commit_steps.proofs.Safe.{among_of}
 use Rattle.documents.specs.Documents.{after_ops}
 use Rattle.live_bits.specs.LiveRows.{live_rows}
 use Rattle.segment_infos.specs.declared.infos.SegRecord.{SegRecord}
@@ -36,7 +36,7 @@ use Rattle.index_primary.specs.Held.{drawn_to, IsDrawnRecord, AreNumbered}
 use Rattle.seg_reader.specs.Stands.{AreSegmentsOf}
 use Rattle.seg_build.specs.Built.{File}
 use Rattle.index_primary.specs.Publishing.{names_of, next_infos, IsStep}
-use Rattle.index_primary.specs.NextNames.{Kept, New, IsIn, gen_after, new_gen, raised, new_names, AreApart, IsDrawn, AreNextNames}
+use Rattle.index_primary.specs.NextNames.{Kept, New, IsIn, gen_after, new_gen, raised_names, new_names, AreApart, IsDrawn, AreNextNames}
 use Rattle.segment_steps.specs.Next.{next_live_gen}
 use Rattle.index_primary.specs.NextRecords.{IsNextRecord, IsFreshRecord, AreFresh, AreNextRecords}
 use Rattle.index_primary.proofs.NextNames.{written_undrawn, written_once, still_undrawn}
@@ -95,20 +95,6 @@ all_fit infos (r ∷ rs) few bounded small =
     ((bounded.0.below, gen_fits infos.generation.0 (r.seg.0 / 1679616) r.live_gen r.live r.rows few small.0 bounded.0.live_gen), all_fit infos rs few bounded.1 small.1)
 
 -- ---- names
-among_there : (names : List Name) (q : Name) → Contains names q → is_among names q ≡ true
-among_there [] q (k, lt, e) = absurd (omega (arith, lt))
-among_there (x ∷ names) q (zero, lt, e) = ap (λ (b : Bool). b || is_among names q) (ap (λ (y : Name). same y q) e ∙ same_self q)
-among_there (x ∷ names) q (suc k, lt, e) = by (same x q) (among_there names q (k, omega (arith, lt), e))
-  where
-    by : (b : Bool) → is_among names q ≡ true → (b || is_among names q) ≡ true
-    by true h = refl
-    by false h = h
-
-split : {X : Type 0} (xs ys : List X) (x : X) → Contains (xs ++ ys) x → Contains xs x ⊎ Contains ys x
-split [] ys x c = inr c
-split (y ∷ xs) ys x (zero, lt, e) = inl (0, omega arith, e)
-split (y ∷ xs) ys x (suc k, lt, e) = elim (split xs ys x (k, omega (arith, lt), e)) [ inl c ↦ inl (suc c.0, omega (arith, c.1), c.2) | inr c ↦ inr c ]
-
 -- ---- the new segment in the words of the primary
 abbrev pub new_of : Option SegFiles → Option New
 new_of None = None
@@ -191,14 +177,14 @@ module _ (reads : Name → Content) (infos : Infos) (segs : List Shown) (docs : 
   older_are : AllZip (IsNextRecord infos.generation.0) kept older
   older_are = kept_are infos.generation.0 ts die
 
-  written_are : names_of made.files ≡ new_names (new_of work.files) ++ raised infos.generation.0 kept
+  written_are : names_of made.files ≡ new_names (new_of work.files) ++ raised_names infos.generation.0 kept
   written_are = ap names_of is.files_are ∙ map-append (λ (f : File). f.0) (new_files work.files) is.live_files
       ∙ ap (λ (ns : List Name). ns ++ names_of is.live_files) (new_names_are work.files built)
       ∙ ap (λ (ns : List Name). new_names (new_of work.files) ++ ns) (raised_are infos.generation.0 ts is.live_files is.changes)
 
   each_record : (r : SegRecord) → Contains made.records r
       → ((k : Kept) × (IsIn k kept × (r.seg.0 ≡ k.0.seg.0) × (r.live_gen ≡ gen_after infos.generation.0 k))) ⊎ IsSomeAnd (new_of work.files) (λ n. (r.seg.0 ≡ n.0) × (r.live_gen ≡ new_gen n))
-  each_record r c = elim (split older (new_records work.files) r (subst (λ (rs : List SegRecord). Contains rs r) is.records_are c)) [
+  each_record r c = elim (Contains-append_cases older (new_records work.files) r (subst (λ (rs : List SegRecord). Contains rs r) is.records_are c)) [
     | inl a ↦ inl (each_is infos.generation.0 kept older older_are r a)
     | inr b ↦ inr (each_fresh work.files r b)
   ]
@@ -245,7 +231,7 @@ module _ (reads : Name → Content) (infos : Infos) (segs : List Shown) (docs : 
   named_next q c = elim (All-contains (λ (n : Name). Contains (flat_map files_of_segment infos.segs) n ⊎ Contains (names_in made.files) n) (flat_map files_of_segment made.records) q
       (All-from_recursion (λ (n : Name). Contains (flat_map files_of_segment infos.segs) n ⊎ Contains (names_in made.files) n) (flat_map files_of_segment made.records) (names_are_there infos.generation.0 held infos.segs segs work made built is)) c) [
         | inl a ↦ inl a
-        | inr b ↦ inr (among_there (names_of made.files) q b)
+        | inr b ↦ inr (among_of (names_of made.files) q b)
       ]
 
   -- THE PURE STEP IS A STEP OF THE PRIMARY

@@ -11,3 +11,4 @@ pub mod Framing
 pub mod Turns
 pub mod Joining
 pub mod Working
+pub mod Callers

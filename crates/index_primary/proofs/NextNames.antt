@@ -1,4 +1,5 @@
 -- The names of a publish are new, each once, and what is not written yet afterwards was not before.
+use Rattle.std.proofs.lemmas.Bool.{or_cases}
 use Rattle.std.proofs.Common.{◌≡◌, ◌≢◌, ◌⊎◌, ◌<◌, ◌≤◌, ◌+◌, ◌-◌, ◌*◌, ◌/◌, ◌^◌, ◌||◌, ◌++◌, ℕ, Bool, true, false, cond, List, [], ◌∷◌, Option, Some, None, refl, sym, ap, subst, ◌∙◌, arith, inl, inr, true≢false}
 use Rattle.std.specs.Prelude.{IfSome, IsSomeAnd}
 use Rattle.std.specs.List.{Contains, AllByRecursion}
@@ -14,7 +15,7 @@ use Rattle.file_deleter.specs.Holdings.{times}
 use Rattle.file_deleter.proofs.NameLemmas.{times-cons, times-append, not_among_times, among-append}
 use Rattle.index_primary.specs.Held.{drawn_to, IsNextLive, IsUndrawn, part, live, next_live}
 use Rattle.index_primary.specs.Publishing.{next_infos}
-use Rattle.index_primary.specs.NextNames.{Kept, New, IsIn, gen_after, new_gen, raised, new_names, AreApart, IsDrawn, AreNextNames}
+use Rattle.index_primary.specs.NextNames.{Kept, New, IsIn, gen_after, new_gen, raised_names, new_names, AreApart, IsDrawn, AreNextNames}
 use Rattle.segment_steps.specs.Next.{next_live_gen}
 
 all_in : {X : Type 0} (P : X → Type 0) (x : X) (xs : List X) → AllByRecursion P xs → IsIn x xs → P x
@@ -30,10 +31,6 @@ same_kept k l (x ∷ xs) apart (inr i) (inl b) e = absurd (all_in (λ (m : Kept)
 same_kept k l (x ∷ xs) apart (inr i) (inr j) e = same_kept k l xs apart.1 i j e
 
 -- ---- names in lists
-or_cases : (a b : Bool) → (a || b) ≡ true → (a ≡ true) ⊎ (b ≡ true)
-or_cases true b h = inl refl
-or_cases false b h = inr h
-
 none_or : (a b : Bool) → a ≡ false → b ≡ false → (a || b) ≡ false
 none_or true b e f = absurd (true≢false e)
 none_or false b e f = f
@@ -57,12 +54,12 @@ record IsRaised (g : ℕ) (ks : List Kept) (q : Name) : Type 0 where
 later : (g : ℕ) (x : Kept) (ks : List Kept) (q : Name) → IsRaised g ks q → IsRaised g (x ∷ ks) q
 later g x ks q h = record { k = h.k; there = inr h.there; marked = h.marked; is = h.is }
 
-among_raised : (g : ℕ) (ks : List Kept) (q : Name) → is_among (raised g ks) q ≡ true → IsRaised g ks q
+among_raised : (g : ℕ) (ks : List Kept) (q : Name) → is_among (raised_names g ks) q ≡ true → IsRaised g ks q
 among_raised g [] q h = absurd (true≢false (sym h))
 among_raised g (x ∷ ks) q h = by (among_raised g ks q) x.1 refl h
   where
-    by : (is_among (raised g ks) q ≡ true → IsRaised g ks q) → (b : Bool) → x.1 ≡ b → is_among (cond b (live_name_of x.0.seg.0 (next_live_gen g x.0) ∷ raised g ks) (raised g ks)) q ≡ true → IsRaised g (x ∷ ks) q
-    by more true e h = elim (or_cases (same (live_name_of x.0.seg.0 (next_live_gen g x.0)) q) (is_among (raised g ks) q) h) [
+    by : (is_among (raised_names g ks) q ≡ true → IsRaised g ks q) → (b : Bool) → x.1 ≡ b → is_among (cond b (live_name_of x.0.seg.0 (next_live_gen g x.0) ∷ raised_names g ks) (raised_names g ks)) q ≡ true → IsRaised g (x ∷ ks) q
+    by more true e h = elim (or_cases (same (live_name_of x.0.seg.0 (next_live_gen g x.0)) q) (is_among (raised_names g ks) q) h) [
       | inl here ↦ record { k = x; there = inl refl; marked = e; is = sym (same_true (live_name_of x.0.seg.0 (next_live_gen g x.0)) q here) }
       | inr rest ↦ later g x ks q (more rest)
     ]
@@ -71,15 +68,15 @@ among_raised g (x ∷ ks) q h = by (among_raised g ks q) x.1 refl h
 abbrev Bounded : Infos → Kept → Type 0
 Bounded infos k = (k.0.seg.0 < drawn_to infos) × (next_live_gen infos.generation.0 k.0 < 2 ^ 64)
 
-raised_once : (infos : Infos) (ks : List Kept) → drawn_to infos < 2 ^ 64 → AllByRecursion (Bounded infos) ks → AreApart ks → (q : Name) → times (raised infos.generation.0 ks) q ≤ 1
+raised_once : (infos : Infos) (ks : List Kept) → drawn_to infos < 2 ^ 64 → AllByRecursion (Bounded infos) ks → AreApart ks → (q : Name) → times (raised_names infos.generation.0 ks) q ≤ 1
 raised_once infos [] small bounded apart q = let e : times [] q ≡ 0 = refl in omega (arith, e)
 raised_once infos (x ∷ ks) small bounded apart q = rest (raised_once infos ks small bounded.1 apart.1 q) x.1
   where
-    rest : times (raised infos.generation.0 ks) q ≤ 1 → (b : Bool) → times (cond b (live_name_of x.0.seg.0 (next_live_gen infos.generation.0 x.0) ∷ raised infos.generation.0 ks) (raised infos.generation.0 ks)) q ≤ 1
+    rest : times (raised_names infos.generation.0 ks) q ≤ 1 → (b : Bool) → times (cond b (live_name_of x.0.seg.0 (next_live_gen infos.generation.0 x.0) ∷ raised_names infos.generation.0 ks) (raised_names infos.generation.0 ks)) q ≤ 1
     rest more false = more
-    rest more true = once_cons (live_name_of x.0.seg.0 (next_live_gen infos.generation.0 x.0)) (raised infos.generation.0 ks) q (out (is_among (raised infos.generation.0 ks) (live_name_of x.0.seg.0 (next_live_gen infos.generation.0 x.0))) refl) more
+    rest more true = once_cons (live_name_of x.0.seg.0 (next_live_gen infos.generation.0 x.0)) (raised_names infos.generation.0 ks) q (out (is_among (raised_names infos.generation.0 ks) (live_name_of x.0.seg.0 (next_live_gen infos.generation.0 x.0))) refl) more
       where
-        out : (b : Bool) → is_among (raised infos.generation.0 ks) (live_name_of x.0.seg.0 (next_live_gen infos.generation.0 x.0)) ≡ b → is_among (raised infos.generation.0 ks) (live_name_of x.0.seg.0 (next_live_gen infos.generation.0 x.0)) ≡ false
+        out : (b : Bool) → is_among (raised_names infos.generation.0 ks) (live_name_of x.0.seg.0 (next_live_gen infos.generation.0 x.0)) ≡ b → is_among (raised_names infos.generation.0 ks) (live_name_of x.0.seg.0 (next_live_gen infos.generation.0 x.0)) ≡ false
         out false e = e
         out true e =
             let h : IsRaised infos.generation.0 ks (live_name_of x.0.seg.0 (next_live_gen infos.generation.0 x.0)) = among_raised infos.generation.0 ks (live_name_of x.0.seg.0 (next_live_gen infos.generation.0 x.0)) e in
@@ -141,10 +138,10 @@ module _ (infos : Infos) (loose still : List ℕ) (kept : List Kept) (new : Opti
   bounds k i = all_in (Bounded infos) k kept h.bounded i
 
   -- a written name is the new one's, or a new live file of one that stays
-  written_cases : (o : Option New) → IfSome o (IsDrawn infos loose kept) → (q : Name) → is_among (new_names o ++ raised infos.generation.0 kept) q ≡ true
+  written_cases : (o : Option New) → IfSome o (IsDrawn infos loose kept) → (q : Name) → is_among (new_names o ++ raised_names infos.generation.0 kept) q ≡ true
       → ((n : New) × (IsDrawn infos loose kept n × (o ≡ Some n) × IsNewName n q)) ⊎ IsRaised infos.generation.0 kept q
   written_cases None drawn q there = inr (among_raised infos.generation.0 kept q there)
-  written_cases (Some n) drawn q there = elim (or_cases (is_among (new_names (Some n)) q) (is_among (raised infos.generation.0 kept) q) (sym (among-append (new_names (Some n)) (raised infos.generation.0 kept) q) ∙ there)) [
+  written_cases (Some n) drawn q there = elim (or_cases (is_among (new_names (Some n)) q) (is_among (raised_names infos.generation.0 kept) q) (sym (among-append (new_names (Some n)) (raised_names infos.generation.0 kept) q) ∙ there)) [
     | inl is ↦ inl (n, (drawn, refl, among_new n q is))
     | inr is ↦ inr (among_raised infos.generation.0 kept q is)
   ]
@@ -171,21 +168,21 @@ module _ (infos : Infos) (loose still : List ℕ) (kept : List Kept) (new : Opti
       let s = live_name_apart r.k.0.seg.0 n.0 (next_live_gen infos.generation.0 r.k.0) 1 (omega (arith, (bounds r.k r.there).0, h.small)) (omega (arith, d.below, h.small)) (bounds r.k r.there).1 (omega arith) (sym r.is ∙ e) in
       all_in (λ (k : Kept). k.0.seg.0 ≢ n.0) r.k kept d.apart r.there s.0
 
-  once_of : (o : Option New) → IfSome o (IsDrawn infos loose kept) → (q : Name) → times (new_names o ++ raised infos.generation.0 kept) q ≤ 1
+  once_of : (o : Option New) → IfSome o (IsDrawn infos loose kept) → (q : Name) → times (new_names o ++ raised_names infos.generation.0 kept) q ≤ 1
   once_of None drawn q = raised_once infos kept h.small h.bounded h.apart q
-  once_of (Some n) d q = by (is_among (new_names (Some n)) q) (is_among (raised infos.generation.0 kept) q) refl refl
+  once_of (Some n) d q = by (is_among (new_names (Some n)) q) (is_among (raised_names infos.generation.0 kept) q) refl refl
     where
-      split : times (new_names (Some n) ++ raised infos.generation.0 kept) q ≡ times (new_names (Some n)) q + times (raised infos.generation.0 kept) q
-      split = times-append (new_names (Some n)) (raised infos.generation.0 kept) q
+      split : times (new_names (Some n) ++ raised_names infos.generation.0 kept) q ≡ times (new_names (Some n)) q + times (raised_names infos.generation.0 kept) q
+      split = times-append (new_names (Some n)) (raised_names infos.generation.0 kept) q
 
-      by : (a b : Bool) → is_among (new_names (Some n)) q ≡ a → is_among (raised infos.generation.0 kept) q ≡ b → times (new_names (Some n) ++ raised infos.generation.0 kept) q ≤ 1
+      by : (a b : Bool) → is_among (new_names (Some n)) q ≡ a → is_among (raised_names infos.generation.0 kept) q ≡ b → times (new_names (Some n) ++ raised_names infos.generation.0 kept) q ≤ 1
       by true true e f = absurd (cross n q d (among_new n q e) (among_raised infos.generation.0 kept q f))
-      by true false e f = omega (arith, split, new_once n (omega (arith, d.below, h.small)) q, not_among_times (raised infos.generation.0 kept) q f)
+      by true false e f = omega (arith, split, new_once n (omega (arith, d.below, h.small)) q, not_among_times (raised_names infos.generation.0 kept) q f)
       by false b e f = omega (arith, split, not_among_times (new_names (Some n)) q e, raised_once infos kept h.small h.bounded h.apart q)
 
   -- EACH ONCE
   pub written_once : (q : Name) → times written q ≤ 1
-  written_once q = let e : times written q ≡ times (new_names new ++ raised infos.generation.0 kept) q = ap (λ (ns : List Name). times ns q) h.written_are in omega (arith, e, once_of new h.drawn q)
+  written_once q = let e : times written q ≡ times (new_names new ++ raised_names infos.generation.0 kept) q = ap (λ (ns : List Name). times ns q) h.written_are in omega (arith, e, once_of new h.drawn q)
 
   -- ---- what is not written yet afterwards
   not_among : (q : Name) → (is_among written q ≡ true → ⊥) → is_among written q ≡ false

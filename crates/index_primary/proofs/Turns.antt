@@ -15,13 +15,13 @@ use Rattle.seg_reader.specs.Shown.{Shown}
 use Rattle.seg_build.specs.Built.{File}
 use Rattle.index_primary.specs.Publishing.{names_of}
 use Rattle.segment_steps.specs.Next.{Turn, record_after, is_changed, IsLiveFileAfter}
-use Rattle.index_primary.specs.NextNames.{Kept, IsIn, gen_after, raised, new_names, AreApart}
+use Rattle.index_primary.specs.NextNames.{Kept, IsIn, gen_after, raised_names, new_names, AreApart}
 use Rattle.segment_steps.specs.Next.{next_live_gen}
 use Rattle.index_primary.specs.NextRecords.{IsNextRecord, IsFreshRecord}
 use Rattle.index_primary.specs.Turns.{kept_of, SomeDie, SomeDieIn}
 
 -- the live files are named as those that stay and change
-pub raised_are : (g : ℕ) (ts : List Turn) (files : List File) → AllZip (IsLiveFileAfter g) (filter is_changed ts) files → names_of files ≡ raised g (map kept_of ts)
+pub raised_are : (g : ℕ) (ts : List Turn) (files : List File) → AllZip (IsLiveFileAfter g) (filter is_changed ts) files → names_of files ≡ raised_names g (map kept_of ts)
 raised_are g [] [] zip = refl
 raised_are g [] (f ∷ files) zip = absurd zip
 raised_are g ((r, (s, None)) ∷ ts) files zip = raised_are g ts files zip

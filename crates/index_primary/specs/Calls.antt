@@ -75,6 +75,22 @@ module _ {D : Type 0} where
   abbrev pub KeepsPoint : Parts D → Parts D → Type 0
   KeepsPoint old new = new ≡ record old { dir = new.dir; files = new.files; publish = new.publish }
 
+  -- all but the directory, the counts, the searchers, the infos with their segments and names, the operations of the cut and the publish
+  -- in flight is as before
+  abbrev pub KeepsOthers : Parts D → Parts D → Type 0
+  KeepsOthers old new = new ≡ record old {
+    dir = new.dir;
+    files = new.files;
+    searchers = new.searchers;
+    point_infos = new.point_infos;
+    infos = new.infos;
+    segs = new.segs;
+    names = new.names;
+    waiting = new.waiting;
+    publish = new.publish;
+    has_cut_over = new.has_cut_over;
+  }
+
   -- each file is counted as often as before
   pub record HasSameCounts (old new : Parts D) : Type 0 where
     pub each : (q : Name) → count_of new.files q ≡ count_of old.files q

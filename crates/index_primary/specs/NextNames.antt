@@ -31,9 +31,9 @@ abbrev pub new_gen : New → ℕ
 new_gen n = if n.1 then 1 else 0
 
 -- the names of the new live files of those that stay
-abbrev pub raised : ℕ → List Kept → List Name
-raised g [] = []
-raised g (k ∷ ks) = if k.1 then live_name_of k.0.seg.0 (next_live_gen g k.0) ∷ raised g ks else raised g ks
+abbrev pub raised_names : ℕ → List Kept → List Name
+raised_names g [] = []
+raised_names g (k ∷ ks) = if k.1 then live_name_of k.0.seg.0 (next_live_gen g k.0) ∷ raised_names g ks else raised_names g ks
 
 -- the names of the new segment's files
 abbrev pub new_names : Option New → List Name
@@ -61,4 +61,4 @@ pub record AreNextNames (infos : Infos) (loose still : List ℕ) (kept : List Ke
   -- the numbers that are still without files afterwards were so before, and are those of no segment that stays or is new
   pub still_apart : (seg : ℕ) → Contains still seg → Contains loose seg × IfSome new (λ n. n.0 ≢ seg) × AllByRecursion (λ k. k.0.seg.0 ≢ seg) kept
   pub each : (r : SegRecord) → Contains records r → ((k : Kept) × (IsIn k kept × (r.seg.0 ≡ k.0.seg.0) × (r.live_gen ≡ gen_after infos.generation.0 k))) ⊎ IsSomeAnd new (λ n. (r.seg.0 ≡ n.0) × (r.live_gen ≡ new_gen n))
-  pub written_are : written ≡ new_names new ++ raised infos.generation.0 kept
+  pub written_are : written ≡ new_names new ++ raised_names infos.generation.0 kept

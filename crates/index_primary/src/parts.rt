@@ -116,7 +116,7 @@ pub struct Parts<D> {
 impl<D: Dir> Parts<D> {
     ghost use Rattle.index_primary.specs.Primary.{IsPrimary, KeepsHeldBytes, rest_loose, loose_of};
     ghost use Rattle.index_primary.specs.Held.{IsHeld, AreUndrawn, AreNumbered};
-    ghost use Rattle.index_primary.specs.Calls.{SearchesWriter, IsOpenedOn, IsTaskOf, after_start, MakesPoint, IsPublished, KeepsPoint, HasSameCounts};
+    ghost use Rattle.index_primary.specs.Calls.{SearchesWriter, IsOpenedOn, IsTaskOf, after_start, MakesPoint, IsPublished, KeepsPoint, KeepsOthers, HasSameCounts};
     ghost use Rattle.index_primary.specs.Publishing.{IsStep, IsReady, HasWritten, next_infos};
     ghost use Rattle.index_primary.specs.Work.{IsWorkOf, AreOfCut};
     ghost use Rattle.searcher_switch.specs.Searching.{IsLeaseOf, searcher_names};
@@ -449,7 +449,8 @@ impl<D: Dir> Parts<D> {
     fn judge(&self) -> Result<Option<bool>, PublishFault>
         requires { self.now.infos.counter ≤ segments_of_generation }
         ensures idle { (result ≡ Ok None) ↔ IsIdle self.now.waiting self.now.has_cut_over }
-        ensures spent { IsErrOf result PublishFault.NamesSpent ↔ AreSpent self.now.waiting self.now.infos }
+        ensures spent { IsErrOf result PublishFault.NamesSpent
+            ↔ AreSpent self.now.waiting self.now.infos }
         ensures too_many { IsErrOf result PublishFault.TooManySegments
             ↔ AreTooMany self.now.waiting self.now.infos self.now.segs }
         ensures put { IfOk result (λ o. IfSome o (λ b. b ≡ has_put self.now.waiting)) }
@@ -479,7 +480,8 @@ impl<D: Dir> Parts<D> {
         requires none { self.old.publish ≡ None }
         ensures idle { (result ≡ Ok None) ↔ IsIdle self.old.waiting self.old.has_cut_over }
         ensures task { IfOk result (λ task. IfSome task (IsTaskOf self.old)) }
-        ensures spent { IsErrOf result PublishFault.NamesSpent ↔ AreSpent self.old.waiting self.old.infos }
+        ensures spent { IsErrOf result PublishFault.NamesSpent
+            ↔ AreSpent self.old.waiting self.old.infos }
         ensures too_many { IsErrOf result PublishFault.TooManySegments
             ↔ AreTooMany self.old.waiting self.old.infos self.old.segs }
         ensures next { IfOk result (λ task. self.new ≡ after_start self.old task) }
@@ -609,18 +611,8 @@ impl<D: Dir> Parts<D> {
         ensures segs { (self.new.segs ≡ ready.segs) × (self.new.names ≡ ready.names) }
         ensures none { self.new.publish ≡ None }
         ensures rest { self.new.waiting ≡ after_cut self.old.publish self.old.waiting }
-        ensures others { self.new ≡ record self.old {
-          dir = self.new.dir;
-          files = self.new.files;
-          searchers = self.new.searchers;
-          infos = self.new.infos;
-          point_infos = self.new.point_infos;
-          segs = self.new.segs;
-          names = self.new.names;
-          waiting = self.new.waiting;
-          publish = self.new.publish;
-          has_cut_over = false;
-        } }
+        ensures cut_over { self.new.has_cut_over ≡ false }
+        ensures others { KeepsOthers self.old self.new }
         ensures stays { KeepsHeldBytes D.cells self.old self.new }
         ensures later { D.faults self.old.dir ≤ D.faults self.new.dir }
         ensures whole { IsPrimary D.cells self.new }
@@ -666,18 +658,7 @@ impl<D: Dir> Parts<D> {
             → Rose (D.faults self.old.dir) (D.faults self.new.dir) }
         ensures err { OnErr result (KeepsPoint self.old self.new) }
         ensures none { result ≡ Err PrimaryFault.Memory ⊎ (self.new.publish ≡ None) }
-        ensures others { self.new ≡ record self.old {
-          dir = self.new.dir;
-          files = self.new.files;
-          searchers = self.new.searchers;
-          point_infos = self.new.point_infos;
-          infos = self.new.infos;
-          segs = self.new.segs;
-          names = self.new.names;
-          waiting = self.new.waiting;
-          publish = self.new.publish;
-          has_cut_over = self.new.has_cut_over;
-        } }
+        ensures others { KeepsOthers self.old self.new }
         ensures stays { KeepsHeldBytes D.cells self.old self.new }
         ensures later { D.faults self.old.dir ≤ D.faults self.new.dir }
         ensures whole { IsPrimary D.cells self.new }
@@ -713,18 +694,7 @@ impl<D: Dir> Parts<D> {
         ensures err { OnErr result (KeepsPoint self.old self.new) }
         ensures given_back { OnErr result (HasSameCounts self.old self.new) }
         ensures none { result ≡ Err PrimaryFault.Memory ⊎ (self.new.publish ≡ None) }
-        ensures others { self.new ≡ record self.old {
-          dir = self.new.dir;
-          files = self.new.files;
-          searchers = self.new.searchers;
-          point_infos = self.new.point_infos;
-          infos = self.new.infos;
-          segs = self.new.segs;
-          names = self.new.names;
-          waiting = self.new.waiting;
-          publish = self.new.publish;
-          has_cut_over = self.new.has_cut_over;
-        } }
+        ensures others { KeepsOthers self.old self.new }
         ensures stays { KeepsHeldBytes D.cells self.old self.new }
         ensures later { D.faults self.old.dir ≤ D.faults self.new.dir }
         ensures whole { IsPrimary D.cells self.new }

@@ -35,6 +35,7 @@ use std::marker::Model;
 
 /// A primary over a directory, seen as its parts. Its counts are those of its holders, the names of the directory are just
 /// the counted ones and those whose removal is due, and each point and commit stands for documents.
+#[derive(Drop)]
 pub struct Primary<D: Dir> {
     parts: Parts<D>,
 }
@@ -53,7 +54,7 @@ impl<D: Dir> Model for Primary<D> {
 impl<D: Dir> Primary<D> {
     ghost use Rattle.index_primary.specs.Primary.{IsPrimary, KeepsHeldBytes, rest_loose, loose_of};
     ghost use Rattle.index_primary.specs.Held.{IsHeld, AreUndrawn, AreNumbered};
-    ghost use Rattle.index_primary.specs.Calls.{SearchesWriter, IsOpenedOn, IsTaskOf, after_start, MakesPoint, IsPublished, KeepsPoint, HasSameCounts};
+    ghost use Rattle.index_primary.specs.Calls.{SearchesWriter, IsOpenedOn, IsTaskOf, after_start, MakesPoint, IsPublished, KeepsPoint, KeepsOthers, HasSameCounts};
     ghost use Rattle.index_primary.specs.Publishing.{IsStep, IsReady, HasWritten, next_infos};
     ghost use Rattle.index_primary.specs.Work.{IsWorkOf, AreOfCut};
     ghost use Rattle.searcher_switch.specs.Searching.{IsLeaseOf, searcher_names};
@@ -104,7 +105,8 @@ impl<D: Dir> Primary<D> {
         requires none { self.old.publish ≡ None }
         ensures idle { (result ≡ Ok None) ↔ IsIdle self.old.waiting self.old.has_cut_over }
         ensures task { IfOk result (λ task. IfSome task (IsTaskOf self.old)) }
-        ensures spent { IsErrOf result PublishFault.NamesSpent ↔ AreSpent self.old.waiting self.old.infos }
+        ensures spent { IsErrOf result PublishFault.NamesSpent
+            ↔ AreSpent self.old.waiting self.old.infos }
         ensures too_many { IsErrOf result PublishFault.TooManySegments
             ↔ AreTooMany self.old.waiting self.old.infos self.old.segs }
         ensures next { IfOk result (λ task. self.new ≡ after_start self.old task) }
@@ -127,18 +129,7 @@ impl<D: Dir> Primary<D> {
         ensures err { OnErr result (KeepsPoint self.old self.new) }
         ensures given_back { OnErr result (HasSameCounts self.old self.new) }
         ensures none { result ≡ Err PrimaryFault.Memory ⊎ (self.new.publish ≡ None) }
-        ensures others { self.new ≡ record self.old {
-          dir = self.new.dir;
-          files = self.new.files;
-          searchers = self.new.searchers;
-          point_infos = self.new.point_infos;
-          infos = self.new.infos;
-          segs = self.new.segs;
-          names = self.new.names;
-          waiting = self.new.waiting;
-          publish = self.new.publish;
-          has_cut_over = self.new.has_cut_over;
-        } }
+        ensures others { KeepsOthers self.old self.new }
         ensures stays { KeepsHeldBytes D.cells self.old self.new }
         ensures later { D.faults self.old.dir ≤ D.faults self.new.dir }
         ensures whole { IsPrimary D.cells self.new }
@@ -310,6 +301,8 @@ impl<D: Dir> Primary<D> {
 }
 
 impl<D: FaultDir> Primary<D> {
+    ghost use Rattle.index_primary.specs.Primary.{IsPrimary};
+
     /// The k-th counted call of the directory from now fails once.
     pub fn plan(&mut self, k: u64)
         requires { 0 < k }
@@ -317,6 +310,7 @@ impl<D: FaultDir> Primary<D> {
         ensures cells { D.cells self.new.dir ≡ D.cells self.old.dir }
         ensures faults { D.faults self.new.dir ≡ D.faults self.old.dir }
         ensures others { self.new ≡ record self.old { dir = self.new.dir } }
+        ensures whole { IsPrimary D.cells self.new }
     {
         self.parts.plan(k);
     }
@@ -328,6 +322,7 @@ impl<D: FaultDir> Primary<D> {
         ensures cells { D.cells self.new.dir ≡ D.cells self.old.dir }
         ensures faults { D.faults self.new.dir ≡ D.faults self.old.dir }
         ensures others { self.new ≡ record self.old { dir = self.new.dir } }
+        ensures whole { IsPrimary D.cells self.new }
     {
         self.parts.stop_at(k);
     }

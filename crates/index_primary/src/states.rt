@@ -114,7 +114,8 @@ pub(crate) fn lend<D: Dir>(
     requires names { out.names ≡ names.now }
     ensures out { OnOk result (states.new ≡ states.old ++ out ∷ []) }
     ensures err { OnErr result ((states.new ≡ states.old) × (files.new ≡ files.old)) }
-    ensures moves { MovesCounts [] (state_names states.old) (state_names states.new) files.old files.new (D.cells dir.now) (D.cells dir.now) }
+    ensures moves { MovesCounts [] (state_names states.old) (state_names states.new)
+        files.old files.new (D.cells dir.now) (D.cells dir.now) }
     ensures only { AddsOnly names.now (state_names states.old) (state_names states.new) }
 {
     states.push(out)?;
@@ -187,7 +188,8 @@ pub(crate) fn give_back<D: Dir>(
     requires out { is_out (out_of state.now) states.old ≡ true }
     requires counted { AreCounted (state_names states.old) files.old }
     ensures rest { states.new ≡ states_without (out_of state.now) states.old }
-    ensures moves { MovesCounts [] (state_names states.old) (state_names states.new) files.old files.new (D.cells dir.old) (D.cells dir.new) }
+    ensures moves { MovesCounts [] (state_names states.old) (state_names states.new)
+        files.old files.new (D.cells dir.old) (D.cells dir.new) }
     ensures only { AddsOnly [] (state_names states.old) (state_names states.new) }
     ensures later { D.faults dir.old ≤ D.faults dir.new }
 {

@@ -52,7 +52,8 @@ fn write_one<D: Dir>(
     dir: &mut D,
 ) -> Result<(), DirFault>
     requires { count_of files.old file.now.0 ≡ 0 }
-    ensures creates { Creates file.now.0 file.now.1 files.old files.new (D.cells dir.old) (D.cells dir.new) result }
+    ensures creates { Creates file.now.0 file.now.1 files.old files.new
+        (D.cells dir.old) (D.cells dir.new) result }
     ensures in_whole { IsWhole (D.cells dir.old) files.old → IfErr result IsMemoryOrFailed }
     ensures failed { IsErrOf result DirFault.Failed → Rose (D.faults dir.old) (D.faults dir.new) }
     ensures later { D.faults dir.old ≤ D.faults dir.new }
@@ -75,7 +76,8 @@ pub(crate) fn write_all<D: Dir>(
     requires fresh { (q : List ℕ) → is_among names.now q ≡ true → count_of files.old q ≡ 0 }
     requires once { (q : List ℕ) → times names.now q ≤ 1 }
     requires whole { IsWhole (D.cells dir.old) files.old }
-    ensures counts { OnOk result ((q : List ℕ) → count_of files.new q ≡ count_of files.old q + times names.now q) }
+    ensures counts { OnOk result ((q : List ℕ)
+        → count_of files.new q ≡ count_of files.old q + times names.now q) }
     ensures same { OnErr result ((q : List ℕ) → count_of files.new q ≡ count_of files.old q) }
     ensures keeps { KeepsFiles names.now files.old files.new (D.cells dir.old) (D.cells dir.new) }
     ensures reads { OnOk result (All (ReadsSo (D.cells dir.new)) made.now) }

@@ -180,3 +180,12 @@ switched_only point next ts news n = record {
       let f : times news q ≡ times next.names q = ap (λ (l : List Name). times l q) n in
       omega (arith, none, nil, a, b, f);
 }
+
+-- the ticket that was opened last
+pub pushed_there : {R : Type 0} (ts : List (Open R)) (t : Open R) (n : ℕ) → t.number ≡ n → is_some (ticket_at n (ts ++ t ∷ [])) ≡ true
+pushed_there {R} [] t n e = let same : (t.number == n) ≡ true = grind (arith, nat_tests) in ap (λ b. is_some {T = Open R} (if b then Some t else None)) same
+pushed_there {R} (x ∷ ts) t n e = by (x.number == n) (pushed_there ts t n e)
+  where
+    by : (b : Bool) → is_some (ticket_at n (ts ++ t ∷ [])) ≡ true → is_some (if b then Some x else ticket_at n (ts ++ t ∷ [])) ≡ true
+    by true more = refl
+    by false more = more
