@@ -1,0 +1,14 @@
+use Rattle.replica_node.proofs.Committing.{replica_steps, replica_stopped, standing_steps, standing_stopped}
+use Rattle.replica_node.proofs.parts.Parts.commit_step.Goals as goal
+
+pub returns-in-Ok-clause-whole : goal.returns-in-Ok-clause-whole
+returns-in-Ok-clause-whole g c = replica_steps g.D.Dir.cells c.args.self.now c.requires.whole c.step.new.dir c.step.new.files c.step.new.self c.in-Ok.ensures.step.shifts c.in-Ok.ensures.step.sound c.in-Ok.ensures.ok
+
+pub returns-in-Err-clause-whole : goal.returns-in-Err-clause-whole
+returns-in-Err-clause-whole g c = replica_stopped g.D.Dir.cells c.args.self.now c.requires.whole c.step.new.dir c.step.new.files c.step.new.self c.in-Err.ensures.step.shifts c.in-Err.ensures.step.sound c.in-Err.ensures.err
+
+pub returns-in-Ok-clause-standing : goal.returns-in-Ok-clause-standing
+returns-in-Ok-clause-standing g c = standing_steps g.D.Dir.cells c.args.self.now c.requires.whole c.step.new.dir c.step.new.files c.step.new.self c.in-Ok.ensures.step.shifts c.in-Ok.ensures.step.sound c.in-Ok.ensures.ok c.in-Ok.ensures.reads
+
+pub returns-in-Err-clause-standing : goal.returns-in-Err-clause-standing
+returns-in-Err-clause-standing g c = standing_stopped g.D.Dir.cells c.args.self.now c.requires.whole c.step.new.dir c.step.new.files c.step.new.self c.in-Err.ensures.step.shifts c.in-Err.ensures.step.sound c.in-Err.ensures.err c.in-Err.ensures.reads
