@@ -1,17 +1,18 @@
 -- Where the operations of a point come from.
-use Rattle.std.proofs.Common.{◌≡◌, ℕ, List, [], ◌∷◌, ◌++◌, refl, arith}
+use Rattle.std.proofs.Common.{◌≡◌, ◌≤◌, ◌+◌, ◌∙◌, ℕ, List, [], ◌∷◌, ◌++◌, length, ap, refl, arith}
+use Rattle.std.proofs.lemmas.List.{length-append}
 use Rattle.std.specs.Prelude.{Bool, true, false, ◌&&◌, if◌then◌else◌}
 use Rattle.std.proofs.lemmas.Grind.{common_steps}
 use Rattle.nrt_base.specs.declared.numbers.At.{At}
 use Rattle.documents.specs.declared.operation.Op.{Op}
 use Rattle.history_entries.specs.declared.entry.Event.{Event}
 use Rattle.history_entries.specs.declared.entry.Event.TheVariants.{Accepted, Promoted}
-use Rattle.history_entries.specs.Nodes.{Past}
+use Rattle.history_entries.specs.Nodes.{Past, accepted_count}
 use Rattle.history_entries.specs.Lines.{same_at, is_start, before_start}
 use Rattle.history_entries.specs.Points.{operations_written, operations_at_start, operations_at, operations_of_generation}
 use Rattle.history_laws.specs.Steps.{written_by, accepted_ops_by}
 use Rattle.history_facts.specs.Origins.{operations_base_by, operations_before_generation}
-use Rattle.history_laws.proofs.PointLemmas.{length-documents_at-le}
+use Rattle.history_laws.proofs.PointLemmas.{length-documents_at-le, operations_counted}
 
 written_step : (e : Event) (past : Past) (points : ℕ → List Op) (base own written : List Op) → written ≡ base ++ own
     → written_by e past points written ≡ operations_base_by e past points base ++ accepted_ops_by e own
@@ -38,3 +39,15 @@ started at (e ∷ past) =
 
 -- a point has no more documents than operations were accepted
 pub ruleset few_documents = (length-documents_at-le)
+
+-- as many operations are written as the generation started on and accepted
+pub written_length : (past : Past) → length (operations_written past) ≡ length (operations_before_generation past) + length (operations_of_generation past)
+written_length past = ap length (written past) ∙ length-append (operations_before_generation past) (operations_of_generation past)
+
+-- no more are written than were accepted
+pub written_few : (past : Past) → length (operations_before_generation past) + length (operations_of_generation past) ≤ accepted_count past
+written_few past = omega (arith, written_length past, (operations_counted past).written)
+
+-- a point has no more than were accepted
+pub point_few : (past : Past) (v : ℕ) → length (operations_at past v) ≤ accepted_count past
+point_few past v = (operations_counted past).points v

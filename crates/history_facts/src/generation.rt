@@ -29,7 +29,7 @@ pub struct Generation {
 }
 
 /// How many operations the present generation has accepted.
-fn accepted_in_generation(entries: &[Entry]) -> usize
+pub fn accepted_in_generation(entries: &[Entry]) -> usize
     ensures { result ≡ length (operations_of_generation (reverse entries.now)) }
 {
     let mut count = 0;

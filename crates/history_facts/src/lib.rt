@@ -26,4 +26,4 @@ pub use nodes::{
 };
 pub use tasks::{drained_count, merge_count};
 pub use tickets::{has_ticket, is_ticket_at, is_ticket_of, open_ticket};
-pub use written::documents_at;
+pub use written::{documents_at, operation_count};

@@ -2,6 +2,7 @@
 #![tactic(auto)]
 
 mod answers;
+mod counting;
 mod fault_rules;
 mod legality;
 mod listings;
@@ -11,6 +12,7 @@ mod rules;
 #[cfg(test)]
 mod tests;
 
+pub use counting::operations;
 pub use documents::{
     Answer, Hit, Op, Query, Texts, apply, change, has_word, listed, matches, scan, words,
 };

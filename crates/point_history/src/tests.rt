@@ -5,7 +5,7 @@ ghost use Rattle.nrt_base.specs.Bytes.{is_key, is_text};
 
 mod legal_cases;
 
-use crate::points;
+use crate::{operations, points};
 use documents::Op;
 use history_entries::{Entry, Event, History};
 use history_laws::laws;
@@ -58,5 +58,8 @@ fn a_publish_makes_a_point(rt: HostRuntime) -> Result<(), Fail> {
     assert_eq!(rt; points[0].docs.as_slice().len(), 0);
     assert_eq!(rt; points[1].version, Version(2));
     assert_eq!(rt; points[1].docs.as_slice().len(), 1);
+    assert_eq!(rt; operations(&h, Version(1)), Some(0));
+    assert_eq!(rt; operations(&h, Version(2)), Some(1));
+    assert_eq!(rt; operations(&h, Version(3)), None);
     Ok(())
 }
