@@ -89,7 +89,7 @@ frame_of_file id bytes frame post f d =
 same_formatted : (f g : Format) (es fs : List Entry) → f ≡ g → es ≡ fs → in_format f es ≡ in_format g fs
 same_formatted f g es fs e h = cc
 
-one_post : (id bytes : List ℕ) (x y : FormattedEntries) → IsPostingsFile id x bytes → IsPostingsFile id y bytes → x ≡ y
+pub one_post : (id bytes : List ℕ) (x y : FormattedEntries) → IsPostingsFile id x bytes → IsPostingsFile id y bytes → x ≡ y
 one_post id bytes x y d e =
     let q = one_reading_lem (postings_wanted id) (omega arith) bytes (format_number x.format) (format_number y.format) id id d.body e.body (in_either x.format id d.body bytes d.framed) (in_either y.format id e.body bytes e.framed) in
     let f : x.format ≡ y.format = same_format x.format y.format q.0 in
