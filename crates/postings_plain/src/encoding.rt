@@ -46,7 +46,7 @@ pub fn encode_in(
 {
     let found = inverted(alloc, rows)?;
     let mut out = Vec::new(alloc);
-    write_index_header(&mut out, NAME, format.number(), id, b"")?;
+    write_index_header(&mut out, NAME, u32::from(format.number()), id, b"")?;
     push_body(alloc, &mut out, format, &found)?;
     write_footer(&mut out)?;
     Ok(Bytes::from_vec(out)?)

@@ -25,8 +25,8 @@ fn frame_of(bytes: &Bytes, id: &[u8; 16]) -> Result<Framed, FrameFault>
 {
     let want = Want {
         name: NAME,
-        min: Format::One.number(),
-        max: Format::Two.number(),
+        min: u32::from(Format::One.number()),
+        max: u32::from(Format::Two.number()),
         id: Some(*id),
         suffix: b"",
     };

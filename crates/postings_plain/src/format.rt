@@ -1,6 +1,6 @@
 //! The formats of postings.
 
-ghost use Rattle.std.specs.Prelude.{◌≡◌};
+ghost use Rattle.std.specs.Prelude.{◌≡◌, ◌≤◌};
 ghost use Rattle.postings_plain.specs.Postings.{format_number, format_for};
 
 use crate::blocks::BLOCK_ROWS;
@@ -38,8 +38,10 @@ impl Format {
     }
 
     /// Its number, which is the version of its files.
-    pub fn number(self) -> u32
-        ensures { result ≡ format_number self }
+    pub fn number(self) -> u8
+        ensures value { result ≡ format_number self }
+        ensures first { 1 ≤ result }
+        ensures last { result ≤ 2 }
     {
         match self {
             Format::One => 1,

@@ -15,7 +15,7 @@ returns c =
     let v = c.in_ok-from_vec.ensures in
     let one = (postings_kind format id).version in
     let framed = framed_file (format_wanted format id) id c.new-out.result.items c.write_index_header.new.out.items b.body c.push_body.new.out.items c.write_footer.new.out.items c.in_ok-from_vec.field-0
-    one c.told-id refl c.new-out.ensures.items (h.ok ∙ ap (λ (n : ℕ). c.new-out.result.items ++ index_header (format_wanted format id).name n id []) c.number.ensures) b.added f.ok v.ok in
+    one c.told-id refl c.new-out.ensures.items (h.ok ∙ ap (λ (n : ℕ). c.new-out.result.items ++ index_header (format_wanted format id).name n id []) (c.from.ensures ∙ c.number.ensures.value)) b.added f.ok v.ok in
     record {
       file = (b.spelled.entries, b.spelled.are, record { body = b.body; framed = framed; spelled = b.spelled.spelled });
       small = of_each_body (format_wanted format id) id c.in_ok-from_vec.field-0 b.body (λ (body : List ℕ). length body < 2 ^ 32) one framed b.spelled.small;

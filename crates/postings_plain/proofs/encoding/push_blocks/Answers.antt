@@ -27,7 +27,7 @@ pub loop-preserved : goal.loop-preserved
 loop-preserved c =
     let cut = cut_at c.loop.left.now c.min.result c.min.ensures in
     let n = block_next c.args.field c.args.blocks c.args.rows.now c.args.out.now.items (c.args.blocks - c.loop.counter) c.loop.left.now c.loop.least c.loop.area.items c.loop.out.items c.split_at.result.0.now c.split_at.result.1.now
-        c.loop.invariant (omega (arith, c.loop-test.true)) (c.split_at.ensures.front ∙ cut.0) (c.split_at.ensures.back ∙ cut.1) in
+    c.loop.invariant (omega (arith, c.loop-test.true)) (c.split_at.ensures.front ∙ cut.0) (c.split_at.ensures.back ∙ cut.1) in
     let fewer : c.args.blocks - c.loop.counter - 1 ≡ c.args.blocks - (c.loop.counter + 1) = omega arith in
     subst (λ (k : ℕ). BlocksWritten c.args.field c.args.blocks c.args.rows.now c.args.out.now.items k c.split_at.result.1.now c.in_ok-end.end c.push_block.new.area.items c.push_block.new.out.items) fewer
     (block_written c.args.field c.args.blocks c.args.rows.now c.args.out.now.items (c.args.blocks - c.loop.counter) c.loop.left.now c.loop.least c.loop.area.items c.loop.out.items c.split_at.result.0.now c.split_at.result.1.now

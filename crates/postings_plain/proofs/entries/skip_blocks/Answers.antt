@@ -24,7 +24,7 @@ returns-in_err-row c =
     let p = c.from_residual.ensures in
     let s = c.in_err-row.ensures in
     rw p (λ list after e.
-        absurd (no_entry_left c.args.field list c.args.count (c.args.blocks - c.loop.counter) c.args.rows.now c.loop.left c.loop.least c.loop.skips.now c.loop.rest.now (omega (arith, c.loop-test.true)) (c.loop.invariant list after e) (sym s.value)))
+    absurd (no_entry_left c.args.field list c.args.count (c.args.blocks - c.loop.counter) c.args.rows.now c.loop.left c.loop.least c.loop.skips.now c.loop.rest.now (omega (arith, c.loop-test.true)) (c.loop.invariant list after e) (sym s.value)))
 
 pub returns-in_err-end : goal.returns-in_err-end
 returns-in_err-end c =
@@ -32,8 +32,8 @@ returns-in_err-end c =
     let s = c.in_ok-row.ensures in
     let k = c.in_err-end.ensures in
     rw p (λ list after e.
-        block_stops c.args.field list c.args.count (c.args.blocks - c.loop.counter) c.args.rows.now c.loop.left c.loop.least c.loop.skips.now c.loop.rest.now (omega (arith, c.loop-test.true)) (c.loop.invariant list after e)
-        (c.in_ok-row.row, c.in_ok-row.len) c.in_ok-row.others.now (sym s.value) (ap (λ (n : ℕ). counted_from_at c.args.field n c.loop.least c.loop.rest.now) (sym c.first_block-block.ensures) ∙ k.value))
+    block_stops c.args.field list c.args.count (c.args.blocks - c.loop.counter) c.args.rows.now c.loop.left c.loop.least c.loop.skips.now c.loop.rest.now (omega (arith, c.loop-test.true)) (c.loop.invariant list after e)
+    (c.in_ok-row.row, c.in_ok-row.len) c.in_ok-row.others.now (sym s.value) (ap (λ (n : ℕ). counted_from_at c.args.field n c.loop.least c.loop.rest.now) (sym c.first_block-block.ensures) ∙ k.value))
 
 pub returns-then-end-from : goal.returns-then-end-from
 returns-then-end-from c = λ list after e.
@@ -42,8 +42,8 @@ returns-then-end-from c = λ list after e.
     block_differs c.args.field list c.args.count (c.args.blocks - c.loop.counter) c.args.rows.now c.loop.left c.loop.least c.loop.skips.now c.loop.rest.now (omega (arith, c.loop-test.true)) (c.loop.invariant list after e)
     (c.in_ok-row.row, c.in_ok-row.len) c.in_ok-row.others.now k.value.0 c.in_ok-end.after.now (sym s.value) (ap (λ (n : ℕ). counted_from_at c.args.field n c.loop.least c.loop.rest.now) (sym c.first_block-block.ensures) ∙ k.value.1)
     (λ end long.
-        let same : c.in_ok-end.end ≡ c.from.result + 1 = omega (arith, k.value.2, end, c.from.ensures) in
-        elim c.then-end-from.branch [ then-end-from-via-then-end-from w ↦ w.if-end-from.true same | then-end-from-via-else-end-from+then-rest-after w ↦ w.if-rest-after.true long ])
+    let same : c.in_ok-end.end ≡ c.from.result + 1 = omega (arith, k.value.2, end, c.from.ensures) in
+    elim c.then-end-from.branch [ then-end-from-via-then-end-from w ↦ w.if-end-from.true same | then-end-from-via-else-end-from+then-rest-after w ↦ w.if-rest-after.true long ])
 
 pub loop-preserved : goal.loop-preserved
 loop-preserved c = λ list after e.
