@@ -4,3 +4,4 @@ pub mod NodeRows
 pub mod WorkRows
 pub mod PlanRows
 pub mod Openings
+pub mod JobRows

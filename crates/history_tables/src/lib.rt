@@ -1,6 +1,7 @@
-//! What a history shows, kept in tables that one more entry steps: numbers, nodes, lines, tickets, planned faults.
+//! What a history shows, kept in tables that one more entry steps: numbers, nodes, lines, tickets, planned faults, jobs.
 #![tactic(auto)]
 
+pub mod jobs;
 pub mod lines;
 pub mod numbers;
 pub mod plans;
@@ -9,6 +10,7 @@ pub mod states;
 pub mod tickets;
 pub mod work;
 
+pub use jobs::{Job, JobRow, JobStep, JobTable};
 pub use lines::{Begun, Lines, Start};
 pub use numbers::Numbers;
 pub use plans::Plans;
