@@ -22,6 +22,11 @@ use Rattle.history_tables.specs.Numbering.{NumbersTell, IsFound}
 use Rattle.history_tables.specs.NodeRows.{NodeTells, IsTold, RowsTell, AreRowsLow}
 use Rattle.history_tables.specs.WorkRows.{IsCommitter}
 use Rattle.history_tables.specs.Openings.{opened_of, IsLife}
+use Rattle.history_tables.specs.declared.jobs.JobRow.{JobRow}
+use Rattle.history_tables.specs.declared.jobs.JobStep.{JobStep}
+use Rattle.history_tables.specs.declared.jobs.KeyedJob.{KeyedJob}
+use Rattle.history_tables.specs.JobRows.{row_under, last_by}
+use Rattle.history_book.specs.Jobs.{job_step, last_job, IsInside, HoldsJobs}
 use Rattle.history_book.specs.declared.inner.Inner.{Inner}
 use Rattle.history_book.specs.declared.inner.Stop.{Stop}
 use Rattle.history_book.specs.declared.inner.Stop.TheVariants.{Printed, Task, Inner as InnerStop}
@@ -33,10 +38,10 @@ use Rattle.history_book.proofs.LineLaws.{flying, open_started}
 use Rattle.history_book.proofs.CopyLaws.{knows_newest}
 
 -- what a book tells, of the pages that callers see
-pub told : (p : Pages) (nodes : ℕ) (log : Log) (room places count : ℕ) (numbers : Numbers) (rows : List NodeRow) (lines : List LineRow) (tickets : List TicketRow)
-    → record { nodes = nodes; log = log; room = room; places = places } ≡ p → Tells (printed log) nodes count numbers rows lines tickets
+pub told : (p : Pages) (nodes : ℕ) (log : Log) (room places jobs count : ℕ) (numbers : Numbers) (rows : List NodeRow) (lines : List LineRow) (tickets : List TicketRow)
+    → record { nodes = nodes; log = log; room = room; places = places; jobs = jobs } ≡ p → Tells (printed log) nodes count numbers rows lines tickets
     → Tells (printed p.log) p.nodes count numbers rows lines tickets
-told p nodes log room places count numbers rows lines tickets e t = subst (λ (x : Pages). Tells (printed x.log) x.nodes count numbers rows lines tickets) e t
+told p nodes log room places jobs count numbers rows lines tickets e t = subst (λ (x : Pages). Tells (printed x.log) x.nodes count numbers rows lines tickets) e t
 
 -- the row of a node
 pub row_told : (past : Past) (rows : List NodeRow) (n : ℕ) (row : NodeRow) → RowsTell past rows → 1 ≤ n → slice_get rows (n - 1) ≡ Some row → NodeTells past n row
@@ -145,3 +150,51 @@ pub kept_tells : (i : Inner) (old new : Log) (size count : ℕ) (numbers : Numbe
     → new ≡ Kept i ∷ old → Tells (printed old) size count numbers rows lines tickets → Tells (printed new) size count numbers rows lines tickets
 kept_tells i old new size count numbers rows lines tickets is was =
     subst (λ (p : Past). Tells p size count numbers rows lines tickets) (sym (ap printed is)) was
+
+-- what a book holds of jobs, of the pages that callers see
+pub held : (p : Pages) (nodes : ℕ) (log : Log) (room places jobs : ℕ) (at_nodes of_lanes : List KeyedJob)
+    → record { nodes = nodes; log = log; room = room; places = places; jobs = jobs } ≡ p → HoldsJobs nodes log at_nodes of_lanes → HoldsJobs p.nodes p.log at_nodes of_lanes
+held p nodes log room places jobs at_nodes of_lanes e h = subst (λ (x : Pages). HoldsJobs x.nodes x.log at_nodes of_lanes) e h
+
+-- a printed entry moves no job
+pub holds_shown : (task : Bool) (e : Entry) (size : ℕ) (old new : Log) (at_nodes of_lanes : List KeyedJob) → new ≡ mark_for task e ∷ old
+    → HoldsJobs size old at_nodes of_lanes → HoldsJobs size new at_nodes of_lanes
+holds_shown task e size old new at_nodes of_lanes is was = subst (λ (l : Log). HoldsJobs size l at_nodes of_lanes) (sym is) (marked_by task)
+  where
+    marked_by : (b : Bool) → HoldsJobs size (mark_for b e ∷ old) at_nodes of_lanes
+    marked_by true = record { turns = was.turns; nodes_tell = was.nodes_tell; lanes_tell = was.lanes_tell }
+    marked_by false = record { turns = was.turns; nodes_tell = was.nodes_tell; lanes_tell = was.lanes_tell }
+
+-- an entry of inner work moves them by its step
+pub holds_kept : (i : Inner) (step : JobStep) (before size : ℕ) (old new : Log) (at_nodes nodes' of_lanes lanes' : List KeyedJob) → new ≡ Kept i ∷ old
+    → step ≡ job_step i → before ≡ length (printed old) → IsInside size old i
+    → ((k : ℕ) → row_under nodes' k ≡ last_by false k step before (row_under at_nodes k))
+    → ((k : ℕ) → row_under lanes' k ≡ last_by true k step before (row_under of_lanes k))
+    → HoldsJobs size old at_nodes of_lanes → HoldsJobs size new nodes' lanes'
+holds_kept i step before size old new at_nodes nodes' of_lanes lanes' is does count turn by_nodes by_lanes was =
+    subst (λ (l : Log). HoldsJobs size l nodes' lanes') (sym is)
+    (record {
+      turns = (turn, was.turns);
+      nodes_tell = λ k. stepped false k nodes' at_nodes (by_nodes k) (was.nodes_tell k);
+      lanes_tell = λ k. stepped true k lanes' of_lanes (by_lanes k) (was.lanes_tell k);
+    })
+  where
+    stepped : (lanes : Bool) (k : ℕ) (rows' rows : List KeyedJob) → row_under rows' k ≡ last_by lanes k step before (row_under rows k) → row_under rows k ≡ last_job lanes k old
+        → row_under rows' k ≡ last_by lanes k (job_step i) (length (printed old)) (last_job lanes k old)
+    stepped lanes k rows' rows by tells = by ∙ (ap (λ (o : Option JobRow). last_by lanes k step before o) tells
+        ∙ (ap (λ (s : JobStep). last_by lanes k s before (last_job lanes k old)) does ∙ ap (λ (n : ℕ). last_by lanes k (job_step i) n (last_job lanes k old)) count))
+
+-- a book that has just been opened
+pub opened : (size : ℕ) (stops : List Stop) (es : List Entry) (numbers : Numbers) (rows : List NodeRow) (lines : List LineRow) (tickets : List TicketRow) (at_nodes of_lanes : List KeyedJob)
+    → stops ≡ [] → es ≡ [] → NumbersTell [] numbers → length rows ≡ size → RowsTell [] rows → lines ≡ [] → tickets ≡ [] → at_nodes ≡ [] → of_lanes ≡ []
+    → IsWoven (reverse stops) (reverse es) (length es) × Tells (printed (weave (reverse stops) (reverse es))) size (length es) numbers rows lines tickets
+    × HoldsJobs size (weave (reverse stops) (reverse es)) at_nodes of_lanes
+opened size stops es numbers rows lines tickets at_nodes of_lanes s e n count r l t x y =
+    subst
+    (λ (p : List Stop × List Entry × List LineRow × List TicketRow × List KeyedJob × List KeyedJob). IsWoven (reverse p.0) (reverse p.1) (length p.1)
+    × Tells (printed (weave (reverse p.0) (reverse p.1))) size (length p.1) numbers rows p.2 p.3 × HoldsJobs size (weave (reverse p.0) (reverse p.1)) p.4 p.5)
+    (λ i. (sym s i, sym e i, sym l i, sym t i, sym x i, sym y i)) (
+      record { printed_count = refl; faults = tt },
+      record { legal = tt; turns = tt; entries = refl; nodes = count; numbers_tell = n; rows_tell = r; lines_tell = λ at. refl; tickets_tell = λ lane k. refl },
+      record { turns = tt; nodes_tell = λ k. refl; lanes_tell = λ k. refl },
+    )

@@ -3,5 +3,7 @@ pub mod ReignLaws
 pub mod OpenLaws
 pub mod CopyLaws
 pub mod FreshLaws
+pub mod FoundLaws
+pub mod JobLaws
 mod BookLemmas
 mod Weaving

@@ -82,7 +82,7 @@ publish_kept size past x e at apart keeps is same = reply (is_reply e)
     reply true = ap (without_at x) is ∙ kept_line x at apart
     reply false = is
 
-before_apart : (e : Entry) (past : Past) (at : At) → same_at e.at at ≡ false → before_start at (e ∷ past) ≡ before_start at past
+pub before_apart : (e : Entry) (past : Past) (at : At) → same_at e.at at ≡ false → before_start at (e ∷ past) ≡ before_start at past
 before_apart e past at apart = ap (λ (b : Bool). if is_start e.event && b then past else before_start at past) apart
     ∙ elim (is_start e.event) as (λ b. (if b && false then past else before_start at past) ≡ before_start at past) [ true ↦ refl | false ↦ refl ]
 
@@ -115,7 +115,7 @@ publish_open size at (e ∷ past) legal is same =
     (λ apart q got. publish_other size past e at apart legal.0 got same (publish_open size at past legal.1))
     refl is
 
-commit_kept : (size : ℕ) (n : NodeNo) (past : Past) (x : At) (e : Event) (at : At) → same_at x at ≡ false → KeepsRule size past x e → commit_in_flight n.0 past ≡ Some at
+pub commit_kept : (size : ℕ) (n : NodeNo) (past : Past) (x : At) (e : Event) (at : At) → same_at x at ≡ false → KeepsRule size past x e → commit_in_flight n.0 past ≡ Some at
     → crashes_by n.0 e (crashes n.0 past) ≡ crashes n.0 past → commit_by n.0 x e (commit_in_flight n.0 past) ≡ Some at
 commit_kept size n past x (Committing m w) at apart keeps is same = commits (m.0 == n.0) refl
   where

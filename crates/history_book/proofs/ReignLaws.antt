@@ -185,7 +185,7 @@ crashed_low n (e ∷ past) = step e.event (crashed_low n past)
     step (Crashed m) low = elim (m.0 == n) as (λ b. (if b then length past + 1 else crashed_at n past) ≤ length (e ∷ past)) [ true ↦ omega arith | false ↦ omega arith ]
     step e' low = omega arith
 
-start_short : (at : At) (past : Past) → length (before_start at past) ≤ length past
+pub start_short : (at : At) (past : Past) → length (before_start at past) ≤ length past
 start_short at [] = omega arith
 start_short at (e ∷ past) = let rest = start_short at past in elim (is_start e.event && same_at e.at at) as (λ b. length (if b then past else before_start at past) ≤ length (e ∷ past)) [ true ↦ omega arith | false ↦ omega arith ]
 

@@ -1,12 +1,16 @@
 -- Laws of the past that callers cite.
-use Rattle.std.specs.Prelude.{ℕ, ◌≡◌, ◌≢◌, ◌≤◌, ◌++◌, List, Bool, true, false, Option, Some, None, length, take}
+use Rattle.std.specs.Prelude.{ℕ, ◌≡◌, ◌≢◌, ◌≤◌, ◌++◌, ◌==◌, List, Bool, true, false, Option, Some, None, length, take}
+use Rattle.std.specs.List.{list_any}
 use Rattle.nrt_base.specs.declared.numbers.At.{At}
+use Rattle.nrt_base.specs.declared.numbers.NodeNo.{NodeNo}
+use Rattle.nrt_base.specs.declared.numbers.Version.{Version}
 use Rattle.documents.specs.declared.operation.Op.{Op}
 use Rattle.history_entries.specs.declared.entry.Event.{Event}
-use Rattle.history_entries.specs.declared.entry.Event.TheVariants.{Publishing}
-use Rattle.history_entries.specs.Nodes.{Past, primary_of, primary_crashes, generation_of, newest_version, is_made_in_generation}
+use Rattle.history_entries.specs.declared.entry.Event.TheVariants.{Publishing, Committing}
+use Rattle.history_entries.specs.Nodes.{Past, version_of, primary_of, primary_crashes, generation_of, newest_version, is_made_in_generation}
 use Rattle.history_entries.specs.Lines.{start_entry, before_start, last_of_line, is_answered}
 use Rattle.history_entries.specs.Faults.{has_met_fault}
+use Rattle.history_entries.specs.Commits.{is_stuck, reopenable_versions}
 use Rattle.history_entries.specs.Points.{accepted_at_start, published_in_generation, operations_of_generation, operations_at, operations_at_start, operations_written, cut_of}
 use Rattle.history_facts.specs.Origins.{operations_before_generation}
 use Rattle.history_tables.specs.declared.lines.Begun.{Begun}
@@ -69,3 +73,15 @@ pub record IsFresh (at : At) (past : Past) : Type 0 where
   pub replied : is_answered at past ≡ false
   pub spared : has_met_fault at past ≡ false
   pub line : open_line at past ≡ None
+
+-- a reopening of the node may find this version
+abbrev pub may_find : ℕ → ℕ → Past → Bool
+may_find n v past = list_any (λ w. w == v) (reopenable_versions n past)
+
+-- the line's commit is in flight at the node: a reopening may find the version of its start, and where the node is stuck,
+-- what it searches now
+pub record CommitFound (past : Past) (n : NodeNo) (at : At) : Type 0 where
+  pub version : Version
+  pub entry : start_entry at past ≡ Some (Committing n version)
+  pub found : may_find n.0 version.0 past ≡ true
+  pub late : is_stuck n.0 past ≡ true → may_find n.0 (version_of n.0 past) past ≡ true

@@ -3,3 +3,4 @@ pub mod Turns
 pub mod Tells
 pub mod Laws
 pub mod Steps
+pub mod Jobs

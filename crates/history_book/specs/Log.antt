@@ -95,7 +95,7 @@ name_by (Some at) = lane_name at.lane.0
 -- the seat that an entry of inner work names, or 0 where any may append it
 abbrev pub name_inside : Inner → ℕ
 name_inside (JobBegun line node job version taker) = name_by taker
-name_inside (FileOut line node job name fate taker) = name_by taker
+name_inside (FileOut line node job name source taker) = name_by taker
 name_inside (TaskOut line seg taker step) = name_by taker
 name_inside (TaskEnd line seg taker step counts) = name_by taker
 name_inside i = 0
@@ -107,9 +107,10 @@ name_of (TaskFault e) = 0
 name_of (Kept i) = name_inside i
 
 -- what a book shows: the number of nodes, all entries, for how many more there is room,
--- and for how many lines and tickets
+-- for how many lines and tickets, and for how many jobs
 pub record Pages : Type 0 where
   pub nodes : ℕ
   pub log : List Mark
   pub room : ℕ
   pub places : ℕ
+  pub jobs : ℕ

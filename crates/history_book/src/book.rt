@@ -6,10 +6,11 @@ ghost use Rattle.history_entries.specs.Nodes.{is_at};
 ghost use Rattle.history_entries.specs.Commits.{starts_commit};
 ghost use Rattle.history_tables.specs.Begins.{event_of};
 
-use crate::inner::{Inner, Stop, stop_for};
+use crate::inner::{Inner, Stop, job_step, stop_for};
 use history_entries::{Entry, Event, FaultKind, History};
 use history_tables::{
-    Begun, Lines, NodeRow, Numbers, Opening, Plans, Start, Tickets, first_rows, step_rows,
+    Begun, Job, JobRow, JobTable, Lines, NodeRow, Numbers, Opening, Plans, Start, Tickets,
+    first_rows, step_rows,
 };
 use nrt_base::{At, LaneNo, List, NodeNo, TicketNo, Version};
 use std::alloc::{AllocError, Global};
@@ -25,12 +26,15 @@ pub struct Book {
     rows: Vec<NodeRow>,
     lines: Lines,
     tickets: Tickets,
+    node_jobs: JobTable,
+    lane_jobs: JobTable,
 }
 
 impl Model for Book {
     ghost use Rattle.std.specs.Prelude.{◌-◌, min, vec_capacity, vec_len, reverse, length};
     ghost use Rattle.history_book.specs.Log.{Pages, printed, weave};
     ghost use Rattle.history_book.specs.Tells.{IsWoven, Tells};
+    ghost use Rattle.history_book.specs.Jobs.{HoldsJobs};
     ghost use Rattle.documents.specs.contracts.query.Query as query;
     ghost use Rattle.std.specs.Coded.{codes};
 
@@ -43,11 +47,14 @@ impl Model for Book {
       log = weave (reverse b.stops.items) (reverse b.entries.items);
       room = min (vec_capacity b.entries - vec_len b.entries) (vec_capacity b.stops - vec_len b.stops);
       places = min b.lines.room b.tickets.room;
+      jobs = min b.node_jobs.room b.lane_jobs.room;
     } };
 
     ghost invariant = { λ b. IsWoven (reverse b.stops.items) (reverse b.entries.items) (length b.entries.items)
         × Tells (printed (weave (reverse b.stops.items) (reverse b.entries.items))) b.nodes
-        (length b.entries.items) b.numbers b.rows.items b.lines.rows b.tickets.rows };
+        (length b.entries.items) b.numbers b.rows.items b.lines.rows b.tickets.rows
+        × HoldsJobs b.nodes (weave (reverse b.stops.items) (reverse b.entries.items))
+        b.node_jobs.rows b.lane_jobs.rows };
 }
 
 // the row at this place
@@ -75,7 +82,7 @@ fn commit_node(start: Start) -> Option<NodeNo>
 
 impl Book {
     ghost use Rattle.std.specs.Prelude.{ℕ, ◌≤◌, ◌≡◌, ◌≢◌, ◌⊎◌, ◌+◌, ◌∷◌, [], ◌==◌, nat_lt, true, false, None, Some, IfSome, IfOk, OnOk, length, reverse};
-    ghost use Rattle.history_entries.specs.Nodes.{IsNode, is_at, crashes, primary_crashes, primary_of, newest_version, generation_of, accepted_count, is_running, version_of};
+    ghost use Rattle.history_entries.specs.Nodes.{IsNode, IsReplica, is_at, crashes, primary_crashes, primary_of, newest_version, generation_of, accepted_count, is_running, version_of};
     ghost use Rattle.history_entries.specs.Lines.{SourceSurvives, NodeSurvives, is_start, is_answered, entries_of_line, last_of_line, start_entry, before_start, publish_in_flight, commit_in_flight, copy_in_flight, highest_copy, has_switched};
     ghost use Rattle.history_entries.specs.Points.{operations_of_generation, accepted_at_start, published_in_generation, names_drawn, merges_started, idle_publishes, cut_of, cut_has_put};
     ghost use Rattle.history_entries.specs.Commits.{has_committed, is_stuck, starts_commit};
@@ -90,7 +97,9 @@ impl Book {
     ghost use Rattle.history_tables.specs.Openings.{IsLife, opens_ticket, ticket_of};
     ghost use Rattle.history_book.specs.Log.{printed, shown, kept, mark_for, FaultsFollow, FollowsMerging};
     ghost use Rattle.history_book.specs.Turns.{InTurn, AreInTurn};
-    ghost use Rattle.history_book.specs.Laws.{Reigns, Written, LastStarted, Flying, Flushed, IsFresh};
+    ghost use Rattle.history_book.specs.Laws.{Reigns, Written, LastStarted, Flying, Flushed, IsFresh, CommitFound};
+    ghost use Rattle.history_tables.specs.JobRows.{is_begin, while_going};
+    ghost use Rattle.history_book.specs.Jobs.{job_step, last_job, job_at, job_of, IsInside, LaneJobShows};
 
     /// A book of so many nodes.
     pub fn new(alloc: Global, nodes: u8) -> Result<Self, AllocError>
@@ -106,6 +115,8 @@ impl Book {
             rows,
             lines: Lines::new(alloc),
             tickets: Tickets::new(alloc),
+            node_jobs: JobTable::new(alloc),
+            lane_jobs: JobTable::new(alloc),
         })
     }
 
@@ -118,17 +129,20 @@ impl Book {
         let _numbers = &self.numbers;
     }
 
-    /// Makes room for this many entries, and for one line and one ticket more.
+    /// Makes room for this many entries, and for one line, one ticket and one job more.
     pub fn reserve(&mut self, count: usize) -> Result<(), AllocError>
         ensures log { self.new.log ≡ self.old.log }
         ensures nodes { self.new.nodes ≡ self.old.nodes }
         ensures room { OnOk result (count ≤ self.new.room) }
         ensures places { OnOk result (1 ≤ self.new.places) }
+        ensures jobs { OnOk result (1 ≤ self.new.jobs) }
     {
         self.entries.reserve(count)?;
         self.stops.reserve(count)?;
         self.lines.reserve()?;
-        self.tickets.reserve()
+        self.tickets.reserve()?;
+        self.node_jobs.reserve()?;
+        self.lane_jobs.reserve()
     }
 
     /// Appends a printed entry.
@@ -141,6 +155,7 @@ impl Book {
         ensures log { self.new.log ≡ shown at event ∷ self.old.log }
         ensures nodes { self.new.nodes ≡ self.old.nodes }
         ensures room { self.new.room + 1 ≡ self.old.room }
+        ensures jobs { self.new.jobs ≡ self.old.jobs }
         // what stood there before
         ensures legal { IsLegalPast self.old.nodes (printed self.old.log) }
         ensures turns { AreInTurn (printed self.old.log) }
@@ -157,6 +172,7 @@ impl Book {
             ∷ self.old.log }
         ensures nodes { self.new.nodes ≡ self.old.nodes }
         ensures room { self.new.room + 1 ≡ self.old.room }
+        ensures jobs { self.new.jobs ≡ self.old.jobs }
     {
         self.append(at, Event::Fault { n, kind }, true);
     }
@@ -172,6 +188,7 @@ impl Book {
             ∷ self.old.log }
         ensures nodes { self.new.nodes ≡ self.old.nodes }
         ensures room { self.new.room + 1 ≡ self.old.room }
+        ensures jobs { self.new.jobs ≡ self.old.jobs }
         ensures legal { IsLegalPast self.old.nodes (printed self.old.log) }
         ensures turns { AreInTurn (printed self.old.log) }
     {
@@ -615,15 +632,94 @@ impl Book {
         self.row(opening.node).state.crashes == opening.life
     }
 
-    /// Appends an inner entry.
+    /// Appends an entry of inner work.
     pub fn keep(&mut self, inner: Inner)
-        requires { 1 ≤ self.old.room }
+        requires room { 1 ≤ self.old.room }
+        requires job { is_begin (job_step inner) ≡ true → 1 ≤ self.old.jobs }
+        requires turn { IsInside self.old.nodes self.old.log inner }
         ensures log { self.new.log ≡ kept inner ∷ self.old.log }
         ensures nodes { self.new.nodes ≡ self.old.nodes }
         ensures room { self.old.room ≤ self.new.room + 1 }
         ensures places { self.new.places ≡ self.old.places }
     {
+        let step = job_step(&inner);
+        let before = self.entries.len();
+        self.node_jobs.step(false, step, before);
+        self.lane_jobs.step(true, step, before);
         self.stops.push_reserved(Stop::Inner(inner));
+    }
+
+    /// The job that runs at a node.
+    pub fn job_at(&self, n: NodeNo) -> Option<Job>
+        requires { IsNode self.now.nodes n.0 }
+        ensures { result ≡ job_at n.0 self.now.log }
+    {
+        match self.node_job(n) {
+            None => None,
+            Some(row) => self.while_going(n, row),
+        }
+    }
+
+    // what is remembered of the last job at a node
+    fn node_job(&self, n: NodeNo) -> Option<JobRow>
+        ensures { result ≡ last_job false n.0 self.now.log }
+    {
+        self.node_jobs.get(n.0)
+    }
+
+    // the job of a row, where it runs
+    fn while_going(&self, n: NodeNo, row: JobRow) -> Option<Job>
+        requires { IsNode self.now.nodes n.0 }
+        ensures { result ≡ while_going n.0 (printed self.now.log) (Some row) }
+    {
+        let crashed = self.crashed(n);
+        let source_crashed = self.source_crashed();
+        if !row.ended && crashed <= row.before && source_crashed <= row.before {
+            Some(row.job)
+        } else {
+            None
+        }
+    }
+
+    /// The last job that a line of a lane began, and how far it has come.
+    pub fn job_of(&self, lane: LaneNo) -> Option<JobRow>
+        ensures { result ≡ job_of lane.0 self.now.log }
+    {
+        self.lane_jobs.get(lane.0)
+    }
+
+    /// What the last job of a lane is. A law.
+    pub fn job_shows(&self, row: JobRow)
+        requires { job_of row.job.at.lane.0 self.now.log ≡ Some row }
+        ensures { LaneJobShows self.now.nodes (printed self.now.log) row }
+    {
+        let _numbers = &self.numbers;
+    }
+
+    /// The node of the last job of a lane is a replica while neither it nor the primary has crashed since the line's start. A law.
+    pub fn job_replica(&self, row: JobRow)
+        requires job { job_of row.job.at.lane.0 self.now.log ≡ Some row }
+        requires node { NodeSurvives (printed self.now.log) row.job.at row.job.node.0 }
+        requires source { SourceSurvives (printed self.now.log) row.job.at }
+        ensures { IsReplica (printed self.now.log) row.job.node.0 }
+    {
+        let _numbers = &self.numbers;
+    }
+
+    /// What a reopening may find of the commit in flight. A law.
+    pub fn commit_found(&self, at: At, n: NodeNo)
+        requires { commit_in_flight n.0 (printed self.now.log) ≡ Some at }
+        ensures { CommitFound (printed self.now.log) n at }
+    {
+        let _numbers = &self.numbers;
+    }
+
+    /// The generation has accepted no more operations than the whole run. A law.
+    pub fn is_counted(&self)
+        ensures { length (operations_of_generation (printed self.now.log))
+            ≤ accepted_count (printed self.now.log) }
+    {
+        let _numbers = &self.numbers;
     }
 
     /// The printed entries alone.

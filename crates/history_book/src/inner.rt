@@ -1,12 +1,15 @@
 //! Entries of inner work, which are not printed, and the one list in which they stand among the printed ones.
 
 ghost use Rattle.std.specs.Prelude.{◌≡◌};
+ghost use Rattle.history_book.specs.Jobs.{job_step};
 ghost use Rattle.history_book.specs.Log.{stop_for};
 
+use bytes::Bytes;
 use file_names::FileName;
 use history_entries::Entry;
-use link_model::Fate;
+use history_tables::{Job, JobStep};
 use nrt_base::{At, LineNo, List, NodeNo, SegNo, Version};
+use seg_reader::Segment;
 
 /// A step of a merge.
 #[derive(Clone, Copy, Debug, PartialEq, Eq)]
@@ -20,16 +23,11 @@ pub enum Step {
 /// An entry of inner work.
 #[derive(Debug, Drop)]
 pub enum Inner {
-    /// The rows of a segment whose name was drawn are these operations, in order.
-    Rows {
-        seg: SegNo,
-        ops: List<u32>,
-    },
-    /// A publish of the line was handed out, with these operations, into this segment if one of them is a put.
+    /// A publish of the line was handed out, into this segment if it has a put, with the older segments.
     FlushOut {
         at: At,
         seg: Option<SegNo>,
-        ops: List<u32>,
+        segs: List<Segment>,
     },
     /// That publish has ended.
     FlushEnd {
@@ -52,13 +50,13 @@ pub enum Inner {
         version: Option<Version>,
         by: Option<At>,
     },
-    /// A file was handed out to that job, and what is to become of it.
+    /// A file was handed out to that job, with the bytes of its source.
     FileOut {
         line: LineNo,
         node: NodeNo,
         job: u64,
         name: FileName,
-        fate: Fate,
+        source: Bytes,
         by: Option<At>,
     },
     /// That job has ended.
@@ -106,4 +104,38 @@ pub fn stop_for(by_task: bool) -> Stop
     ensures { result ≡ stop_for by_task }
 {
     if by_task { Stop::Task } else { Stop::Printed }
+}
+
+/// What an entry of inner work does to the jobs that copy points.
+pub fn job_step(inner: &Inner) -> JobStep
+    ensures { result ≡ job_step inner.now }
+{
+    match inner {
+        Inner::JobBegun {
+            node,
+            job,
+            version,
+            by,
+            ..
+        } => match version {
+            None => JobStep::Passes,
+            Some(version) => match by {
+                None => JobStep::Passes,
+                Some(at) => JobStep::Begins(Job {
+                    at: *at,
+                    node: *node,
+                    number: *job,
+                    version: *version,
+                }),
+            },
+        },
+        Inner::JobEnd { node, job, .. } => JobStep::Ends(*node, *job),
+        Inner::FlushOut { .. }
+        | Inner::FlushEnd { .. }
+        | Inner::MergeOut { .. }
+        | Inner::MergeEnd { .. }
+        | Inner::FileOut { .. }
+        | Inner::TaskOut { .. }
+        | Inner::TaskEnd { .. } => JobStep::Passes,
+    }
 }

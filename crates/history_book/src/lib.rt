@@ -5,5 +5,5 @@ pub mod book;
 pub mod inner;
 
 pub use book::Book;
-pub use history_tables::{Begun, Opening, Start};
+pub use history_tables::{Begun, Job, JobRow, Opening, Start};
 pub use inner::{Inner, Mark, Step, Stop};

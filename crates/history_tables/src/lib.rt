@@ -9,6 +9,8 @@ pub mod rows;
 pub mod states;
 pub mod tickets;
 pub mod work;
+#[cfg(test)]
+mod tests;
 
 pub use jobs::{Job, JobRow, JobStep, JobTable};
 pub use lines::{Begun, Lines, Start};

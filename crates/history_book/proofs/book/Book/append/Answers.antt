@@ -10,12 +10,12 @@ use Rattle.history_book.specs.Log.{Log, Pages, FollowsMerging, printed, weave, m
 use Rattle.history_book.specs.Turns.{InTurn, StartsOnce}
 use Rattle.history_book.specs.Tells.{Tells}
 use Rattle.history_book.proofs.LineLaws.{open_none}
-use Rattle.history_book.proofs.BookLemmas.{told, tells_next, woven, woven_next, log_tells, rows_low}
+use Rattle.history_book.proofs.BookLemmas.{told, tells_next, woven, woven_next, log_tells, holds_shown, rows_low}
 use Rattle.history_book.proofs.book.Book.append.Goals as goal
 
 pub step-requires-clause-fresh : goal.step-requires-clause-fresh
 step-requires-clause-fresh c = λ start.
-    let t = told c.args.self.now _ _ _ _ _ _ _ _ _ c.self.view_is c.self.invariant.1 in
+    let t = told c.args.self.now _ _ _ _ _ _ _ _ _ _ c.self.view_is c.self.invariant.1 in
     t.lines_tell c.args.at ∙ open_none c.args.at (printed c.args.self.now.log) (subst (λ (b : Bool). StartsOnce b c.args.at (printed c.args.self.now.log)) start c.requires.turn.once).begun
 
 pub step_rows-requires-clause-low : goal.step_rows-requires-clause-low
@@ -49,6 +49,7 @@ invariant_of-self c =
           c.step.ensures
           c.step-2.ensures
           (subst (λ (p : Pages). IsLife c.args.event (printed p.log) c.life-life.result) (sym c.self.view_is) c.life-life.ensures))),
+      holds_shown c.args.by_task entry c.self.inside.nodes old _ _ _ (woven c.args.by_task _ _ _ _ entry stopped c.push_reserved.ensures.items) c.self.invariant.2,
     )
 
 pub returns-clause-log : goal.returns-clause-log

@@ -6,7 +6,7 @@ use Rattle.history_book.proofs.OpenLaws.{commit_open, last_started}
 use Rattle.history_book.proofs.book.Book.commit_flies.Goals as goal
 
 pub returns-clause-flight : goal.returns-clause-flight
-returns-clause-flight c = let t = told c.args.self.now _ _ _ _ _ _ _ _ _ c.self.view_is c.self.invariant.1 in
+returns-clause-flight c = let t = told c.args.self.now _ _ _ _ _ _ _ _ _ _ c.self.view_is c.self.invariant.1 in
     commit_open _ c.args.n c.args.v c.args.at _ t.legal c.requires.last c.requires.survives.node
 
 pub returns-clause-started : goal.returns-clause-started
