@@ -1,0 +1,200 @@
+-- What a book tells, in the words of those who read it.
+use Rattle.std.proofs.Common.{◌≡◌, ◌≢◌, ◌≤◌, ◌+◌, ◌-◌, ◌++◌, ◌⊎◌, ⊎_elim, ℕ, Bool, true, false, List, [], ◌∷◌, Some, None, Option, length, reverse, refl, ap, ◌∙◌, sym, subst, arith, if◌then◌else◌}
+use Rattle.std.proofs.lemmas.List.{reverse-append}
+use Rattle.std.specs.List.{slice_get}
+use Rattle.nrt_base.specs.declared.numbers.At.{At}
+use Rattle.nrt_base.specs.declared.numbers.NodeNo.{NodeNo}
+use Rattle.history_entries.specs.declared.entry.Entry.{Entry}
+use Rattle.history_entries.specs.declared.entry.Event.{Event}
+use Rattle.history_entries.specs.Nodes.{Past, is_at, primary_of}
+use Rattle.history_entries.specs.Lines.{same_at, start_entry, publish_in_flight}
+use Rattle.history_entries.specs.Points.{accepted_at_start}
+use Rattle.history_entries.specs.Tickets.{Ticket, ticket_by}
+use Rattle.history_entries.specs.Commits.{starts_commit}
+use Rattle.history_entries.specs.Legal.{KeepsRule, IsLegalPast}
+use Rattle.history_tables.specs.declared.numbers.Numbers.{Numbers}
+use Rattle.history_tables.specs.declared.rows.NodeRow.{NodeRow}
+use Rattle.history_tables.specs.declared.lines.Begun.{Begun}
+use Rattle.history_tables.specs.declared.lines.LineRow.{LineRow}
+use Rattle.history_tables.specs.declared.tickets.TicketRow.{TicketRow}
+use Rattle.history_tables.specs.Begins.{event_of, open_line, row_of, begun_by}
+use Rattle.history_tables.specs.Numbering.{NumbersTell, IsFound}
+use Rattle.history_tables.specs.NodeRows.{NodeTells, IsTold, RowsTell, AreRowsLow}
+use Rattle.history_tables.specs.WorkRows.{IsCommitter}
+use Rattle.history_tables.specs.Openings.{opened_of, IsLife}
+use Rattle.history_tables.specs.declared.jobs.JobRow.{JobRow}
+use Rattle.history_tables.specs.declared.jobs.JobStep.{JobStep}
+use Rattle.history_tables.specs.declared.jobs.KeyedJob.{KeyedJob}
+use Rattle.history_tables.specs.JobRows.{row_under, last_by}
+use Rattle.history_book.specs.Jobs.{job_step, last_job, IsInside, HoldsJobs}
+use Rattle.history_book.specs.declared.inner.Inner.{Inner}
+use Rattle.history_book.specs.declared.inner.Stop.{Stop}
+use Rattle.history_book.specs.declared.inner.Stop.TheVariants.{Printed, Task, Inner as InnerStop}
+use Rattle.history_book.specs.declared.inner.Mark.TheVariants.{Kept}
+use Rattle.history_book.specs.Log.{Log, Pages, FaultsFollow, FollowsMerging, printed, weave, marks, mark_for, stop_for}
+use Rattle.history_book.specs.Turns.{InTurn, AreInTurn}
+use Rattle.history_book.specs.Tells.{Tells, IsWoven}
+use Rattle.history_book.proofs.LineLaws.{flying, open_started}
+use Rattle.history_book.proofs.CopyLaws.{knows_newest}
+
+-- what a book tells, of the pages that callers see
+pub told : (p : Pages) (nodes : ℕ) (log : Log) (room places jobs count : ℕ) (numbers : Numbers) (rows : List NodeRow) (lines : List LineRow) (tickets : List TicketRow)
+    → record { nodes = nodes; log = log; room = room; places = places; jobs = jobs } ≡ p → Tells (printed log) nodes count numbers rows lines tickets
+    → Tells (printed p.log) p.nodes count numbers rows lines tickets
+told p nodes log room places jobs count numbers rows lines tickets e t = subst (λ (x : Pages). Tells (printed x.log) x.nodes count numbers rows lines tickets) e t
+
+-- the row of a node
+pub row_told : (past : Past) (rows : List NodeRow) (n : ℕ) (row : NodeRow) → RowsTell past rows → 1 ≤ n → slice_get rows (n - 1) ≡ Some row → NodeTells past n row
+row_told past rows n row tells low got = subst (λ (k : ℕ). NodeTells past k row) (one_less n low) (tells (n - 1) row got)
+  where
+    one_less : (k : ℕ) → 1 ≤ k → k - 1 + 1 ≡ k
+    one_less k low = omega arith
+
+-- no row counts more crashes than entries
+pub rows_low : (past : Past) (rows : List NodeRow) (size : ℕ) → RowsTell past rows → length past ≡ size → AreRowsLow size rows
+rows_low past rows size tells count i row got = let low = (tells i row got).low in omega (arith, low, count)
+
+pub found_some : (size : ℕ) (past : Past) (at : At) (begun : Begun) → IsLegalPast size past → AreInTurn past → publish_in_flight past ≡ Some at
+    → open_line at past ≡ Some begun → begun.accepted ≡ accepted_at_start at past
+found_some size past at begun legal turns is line = let f = (flying size past at legal turns is).open_is in cc
+
+pub found_none : (size : ℕ) (past : Past) (at : At) → IsLegalPast size past → AreInTurn past → publish_in_flight past ≡ Some at → open_line at past ≡ None → ⊥
+found_none size past at legal turns is line = let f = (flying size past at legal turns is).open_is in absurd (cc)
+
+-- the node whose commit an open line started as
+pub committer_some : (at : At) (past : Past) (begun : Begun) (who : Option NodeNo) → open_line at past ≡ Some begun
+    → ((k : ℕ) → starts_commit k (Some (event_of begun.start)) ≡ is_at who k) → (k : ℕ) → starts_commit k (start_entry at past) ≡ is_at who k
+committer_some at past begun who line is k = ap (starts_commit k) (open_started at past begun line).entry ∙ is k
+
+-- a line that is neither open nor has started began no commit
+pub committer_none : (at : At) (past : Past) → open_line at past ≡ None → (start_entry at past ≡ None) ⊎ (open_line at past ≢ None)
+    → (k : ℕ) → starts_commit k (start_entry at past) ≡ false
+committer_none at past line turn k = ⊎_elim (λ none. ap (starts_commit k) none) (λ opens. absurd (opens line)) turn
+
+pub tells_next : (size : ℕ) (past : Past) (at : At) (e : Event) (count : ℕ) (k k' : Numbers) (rows rows' : List NodeRow) (lines lines' : List LineRow) (tickets tickets' : List TicketRow) (started life : ℕ) (line : Option NodeNo)
+    → Tells past size count k rows lines tickets → KeepsRule size past at e → InTurn past at e
+    → ((p : Past) → length p ≡ count → IsFound at p e started → NumbersTell p k → NumbersTell (record { at = at; event = e } ∷ p) k') → IsFound at past e started
+    → length rows' ≡ length rows
+    → ((p : Past) → IsTold p at e count k.primary line → RowsTell p rows → RowsTell (record { at = at; event = e } ∷ p) rows') → IsCommitter at past e line
+    → ((b : At) → row_of lines' b ≡ (if same_at at b then begun_by e count k.accepted (row_of lines b) else row_of lines b))
+    → ((p : Past) (l t : ℕ) → IsLife e p life → opened_of tickets' l t ≡ ticket_by l t at e p (opened_of tickets l t)) → IsLife e past life
+    → Tells (record { at = at; event = e } ∷ past) size (count + 1) k' rows' lines' tickets'
+tells_next size past at e count k k' rows rows' lines lines' tickets tickets' started life line t keeps turn numbers found same nodes commit step ticket lived = record {
+  legal = (keeps, t.legal);
+  turns = (turn, t.turns);
+  entries = let n = t.entries in omega arith;
+  nodes = same ∙ t.nodes;
+  numbers_tell = numbers past (sym t.entries) found t.numbers_tell;
+  rows_tell = nodes past (record { count = sym t.entries; source = sym t.numbers_tell.primary; newest = λ n. knows_newest size past at e n keeps t.legal; commit = commit }) t.rows_tell;
+  lines_tell = λ b. let was = t.lines_tell b in let n = t.entries in let a = t.numbers_tell.accepted in let is = step b in cc;
+  tickets_tell = λ l n. ticket past l n lived ∙ ap (λ (o : Option Ticket). ticket_by l n at e past o) (t.tickets_tell l n);
+}
+
+weave_for : (task : Bool) (stops : List Stop) (es : List Entry) (e : Entry) → weave (stop_for task ∷ stops) (e ∷ es) ≡ mark_for task e ∷ weave stops es
+weave_for true stops es e = refl
+weave_for false stops es e = refl
+
+marks_for : (task : Bool) (stops : List Stop) → marks (stop_for task ∷ stops) ≡ marks stops + 1
+marks_for true stops = refl
+marks_for false stops = refl
+
+pub printed_for : (task : Bool) (e : Entry) (log : Log) → printed (mark_for task e ∷ log) ≡ e ∷ printed log
+printed_for true e log = refl
+printed_for false e log = refl
+
+faults_for : (task : Bool) (e : Entry) (log : Log) → (task ≡ true → FollowsMerging e.at e.event (printed log)) → FaultsFollow log → FaultsFollow (mark_for task e ∷ log)
+faults_for true e log follows was = (follows refl, was)
+faults_for false e log follows was = was
+
+-- a printed entry, of a merge's task or not, is one more in the list
+pub woven : (task : Bool) (stops stops' : List Stop) (es es' : List Entry) (e : Entry) → stops' ≡ stops ++ stop_for task ∷ [] → es' ≡ es ++ e ∷ []
+    → weave (reverse stops') (reverse es') ≡ mark_for task e ∷ weave (reverse stops) (reverse es)
+woven task stops stops' es es' e s t = ap (λ (x : List Stop). weave x (reverse es')) (ap reverse s ∙ reverse-append stops (stop_for task ∷ []))
+    ∙ (ap (λ (x : List Entry). weave (stop_for task ∷ reverse stops) x) (ap reverse t ∙ reverse-append es (e ∷ [])) ∙ weave_for task (reverse stops) (reverse es) e)
+
+pub marked : (task : Bool) (stops stops' : List Stop) (n m : ℕ) → stops' ≡ stops ++ stop_for task ∷ [] → marks (reverse stops) ≡ n → m ≡ n + 1 → marks (reverse stops') ≡ m
+marked task stops stops' n m s was is = ap marks (ap reverse s ∙ reverse-append stops (stop_for task ∷ [])) ∙ (marks_for task (reverse stops) ∙ (ap (λ (x : ℕ). x + 1) was ∙ sym is))
+
+-- what a list tells with one entry more
+pub log_tells : (task : Bool) (e : Entry) (old new : Log) (size count : ℕ) (numbers : Numbers) (rows : List NodeRow) (lines : List LineRow) (tickets : List TicketRow)
+    → new ≡ mark_for task e ∷ old → Tells (e ∷ printed old) size count numbers rows lines tickets → Tells (printed new) size count numbers rows lines tickets
+log_tells task e old new size count numbers rows lines tickets is tells =
+    subst (λ (p : Past). Tells p size count numbers rows lines tickets) (sym (ap printed is ∙ printed_for task e old)) tells
+
+-- one printed entry more, woven in
+pub woven_next : (task : Bool) (stops stops' : List Stop) (es es' : List Entry) (e : Entry) (n m : ℕ) → stops' ≡ stops ++ stop_for task ∷ [] → es' ≡ es ++ e ∷ []
+    → (task ≡ true → FollowsMerging e.at e.event (printed (weave (reverse stops) (reverse es)))) → m ≡ n + 1
+    → IsWoven (reverse stops) (reverse es) n → IsWoven (reverse stops') (reverse es') m
+woven_next task stops stops' es es' e n m s t follows more was = record {
+  printed_count = marked task stops stops' n m s was.printed_count more;
+  faults = subst FaultsFollow (sym (woven task stops stops' es es' e s t)) (faults_for task e (weave (reverse stops) (reverse es)) follows was.faults);
+}
+
+-- an inner entry is one more in the list
+pub kept_in : (i : Inner) (stops stops' : List Stop) (es : List Entry) → stops' ≡ stops ++ InnerStop i ∷ []
+    → weave (reverse stops') es ≡ Kept i ∷ weave (reverse stops) es
+kept_in i stops stops' es s = ap (λ (x : List Stop). weave x es) (ap reverse s ∙ reverse-append stops (InnerStop i ∷ []))
+
+pub kept_marks : (i : Inner) (stops stops' : List Stop) (n : ℕ) → stops' ≡ stops ++ InnerStop i ∷ [] → marks (reverse stops) ≡ n → marks (reverse stops') ≡ n
+kept_marks i stops stops' n s was = ap marks (ap reverse s ∙ reverse-append stops (InnerStop i ∷ [])) ∙ was
+
+-- one inner entry more, woven in
+pub kept_next : (i : Inner) (stops stops' : List Stop) (es : List Entry) (n : ℕ) → stops' ≡ stops ++ InnerStop i ∷ []
+    → IsWoven (reverse stops) es n → IsWoven (reverse stops') es n
+kept_next i stops stops' es n s was = record {
+  printed_count = kept_marks i stops stops' n s was.printed_count;
+  faults = subst FaultsFollow (sym (kept_in i stops stops' es s)) was.faults;
+}
+
+pub kept_tells : (i : Inner) (old new : Log) (size count : ℕ) (numbers : Numbers) (rows : List NodeRow) (lines : List LineRow) (tickets : List TicketRow)
+    → new ≡ Kept i ∷ old → Tells (printed old) size count numbers rows lines tickets → Tells (printed new) size count numbers rows lines tickets
+kept_tells i old new size count numbers rows lines tickets is was =
+    subst (λ (p : Past). Tells p size count numbers rows lines tickets) (sym (ap printed is)) was
+
+-- what a book holds of jobs, of the pages that callers see
+pub held : (p : Pages) (nodes : ℕ) (log : Log) (room places jobs : ℕ) (at_nodes of_lanes : List KeyedJob)
+    → record { nodes = nodes; log = log; room = room; places = places; jobs = jobs } ≡ p → HoldsJobs nodes log at_nodes of_lanes → HoldsJobs p.nodes p.log at_nodes of_lanes
+held p nodes log room places jobs at_nodes of_lanes e h = subst (λ (x : Pages). HoldsJobs x.nodes x.log at_nodes of_lanes) e h
+
+-- a printed entry moves no job
+pub holds_shown : (task : Bool) (e : Entry) (size : ℕ) (old new : Log) (at_nodes of_lanes : List KeyedJob) → new ≡ mark_for task e ∷ old
+    → HoldsJobs size old at_nodes of_lanes → HoldsJobs size new at_nodes of_lanes
+holds_shown task e size old new at_nodes of_lanes is was = subst (λ (l : Log). HoldsJobs size l at_nodes of_lanes) (sym is) (marked_by task)
+  where
+    marked_by : (b : Bool) → HoldsJobs size (mark_for b e ∷ old) at_nodes of_lanes
+    marked_by true = record { turns = was.turns; nodes_tell = was.nodes_tell; lanes_tell = was.lanes_tell }
+    marked_by false = record { turns = was.turns; nodes_tell = was.nodes_tell; lanes_tell = was.lanes_tell }
+
+-- an entry of inner work moves them by its step
+pub holds_kept : (i : Inner) (step : JobStep) (before size : ℕ) (old new : Log) (at_nodes nodes' of_lanes lanes' : List KeyedJob) → new ≡ Kept i ∷ old
+    → step ≡ job_step i → before ≡ length (printed old) → IsInside size old i
+    → ((k : ℕ) → row_under nodes' k ≡ last_by false k step before (row_under at_nodes k))
+    → ((k : ℕ) → row_under lanes' k ≡ last_by true k step before (row_under of_lanes k))
+    → HoldsJobs size old at_nodes of_lanes → HoldsJobs size new nodes' lanes'
+holds_kept i step before size old new at_nodes nodes' of_lanes lanes' is does count turn by_nodes by_lanes was =
+    subst (λ (l : Log). HoldsJobs size l nodes' lanes') (sym is)
+    (record {
+      turns = (turn, was.turns);
+      nodes_tell = λ k. stepped false k nodes' at_nodes (by_nodes k) (was.nodes_tell k);
+      lanes_tell = λ k. stepped true k lanes' of_lanes (by_lanes k) (was.lanes_tell k);
+    })
+  where
+    stepped : (lanes : Bool) (k : ℕ) (rows' rows : List KeyedJob) → row_under rows' k ≡ last_by lanes k step before (row_under rows k) → row_under rows k ≡ last_job lanes k old
+        → row_under rows' k ≡ last_by lanes k (job_step i) (length (printed old)) (last_job lanes k old)
+    stepped lanes k rows' rows by tells = by ∙ (ap (λ (o : Option JobRow). last_by lanes k step before o) tells
+        ∙ (ap (λ (s : JobStep). last_by lanes k s before (last_job lanes k old)) does ∙ ap (λ (n : ℕ). last_by lanes k (job_step i) n (last_job lanes k old)) count))
+
+-- a book that has just been opened
+pub opened : (size : ℕ) (stops : List Stop) (es : List Entry) (numbers : Numbers) (rows : List NodeRow) (lines : List LineRow) (tickets : List TicketRow) (at_nodes of_lanes : List KeyedJob)
+    → stops ≡ [] → es ≡ [] → NumbersTell [] numbers → length rows ≡ size → RowsTell [] rows → lines ≡ [] → tickets ≡ [] → at_nodes ≡ [] → of_lanes ≡ []
+    → IsWoven (reverse stops) (reverse es) (length es) × Tells (printed (weave (reverse stops) (reverse es))) size (length es) numbers rows lines tickets
+    × HoldsJobs size (weave (reverse stops) (reverse es)) at_nodes of_lanes
+opened size stops es numbers rows lines tickets at_nodes of_lanes s e n count r l t x y =
+    subst
+    (λ (p : List Stop × List Entry × List LineRow × List TicketRow × List KeyedJob × List KeyedJob). IsWoven (reverse p.0) (reverse p.1) (length p.1)
+    × Tells (printed (weave (reverse p.0) (reverse p.1))) size (length p.1) numbers rows p.2 p.3 × HoldsJobs size (weave (reverse p.0) (reverse p.1)) p.4 p.5)
+    (λ i. (sym s i, sym e i, sym l i, sym t i, sym x i, sym y i)) (
+      record { printed_count = refl; faults = tt },
+      record { legal = tt; turns = tt; entries = refl; nodes = count; numbers_tell = n; rows_tell = r; lines_tell = λ at. refl; tickets_tell = λ lane k. refl },
+      record { turns = tt; nodes_tell = λ k. refl; lanes_tell = λ k. refl },
+    )

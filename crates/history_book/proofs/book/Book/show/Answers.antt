@@ -1,0 +1,5 @@
+use Rattle.std.proofs.Common.{sym, true≢false}
+use Rattle.history_book.proofs.book.Book.show.Goals as goal
+
+pub append-requires-clause-merge : goal.append-requires-clause-merge
+append-requires-clause-merge c = λ task. absurd (true≢false (sym task))

@@ -1,0 +1,6 @@
+pub mod Log
+pub mod Turns
+pub mod Tells
+pub mod Laws
+pub mod Steps
+pub mod Jobs

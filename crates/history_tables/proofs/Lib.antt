@@ -1,0 +1,3 @@
+pub mod RowLemmas
+mod NodeRowLemmas
+mod JobRowLemmas
