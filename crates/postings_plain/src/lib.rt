@@ -22,6 +22,3 @@ pub use format::Format;
 pub use positions::Positions;
 pub use postings::Postings;
 pub use row::TermRow;
-
-#[cfg(test)]
-mod tests;
