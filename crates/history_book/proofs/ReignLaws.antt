@@ -1,5 +1,5 @@
 -- While the source of a line has not crashed its generation goes on; what is written.
-use Rattle.std.proofs.Common.{◌≡◌, ◌≢◌, ◌≤◌, ◌<◌, ◌+◌, ◌&&◌, ◌==◌, ◌++◌, ℕ, Bool, true, false, true≢false, List, [], ◌∷◌, Some, None, Option, length, nat_le, max, take, drop, refl, ap, ◌∙◌, sym, subst, arith, if◌then◌else◌, append_assoc, length-append}
+use Rattle.std.proofs.Common.{◌≡◌, ◌≢◌, ◌≤◌, ◌+◌, ◌&&◌, ◌==◌, ◌++◌, ℕ, Bool, true, false, List, [], ◌∷◌, Some, None, Option, length, nat_le, max, take, refl, ap, ◌∙◌, sym, subst, arith, if◌then◌else◌, append_assoc, length-append}
 use Rattle.std.proofs.lemmas.Bool.{eq-eqb}
 use Rattle.std.proofs.lemmas.Bool.Decides.{nat_tests}
 use Rattle.std.proofs.lemmas.List.{take-append-drop, take-append-le, append-nil}
@@ -7,9 +7,8 @@ use Rattle.std.proofs.Math.Seq.{take-length}
 use Rattle.nrt_base.specs.declared.numbers.At.{At}
 use Rattle.nrt_base.specs.declared.numbers.NodeNo.{NodeNo}
 use Rattle.documents.specs.declared.operation.Op.{Op}
-use Rattle.history_entries.specs.declared.entry.Entry.{Entry}
 use Rattle.history_entries.specs.declared.entry.Event.{Event}
-use Rattle.history_entries.specs.declared.entry.Event.TheVariants.{Accepted, Publishing, Published, Crashed, Promoted, Copying, Settling, Opened, Asking, Committing}
+use Rattle.history_entries.specs.declared.entry.Event.TheVariants.{Accepted, Publishing, Published, Crashed, Promoted}
 use Rattle.history_entries.specs.Nodes.{Past, is_at, primary_of, primary_crashes, newest_version, is_made_in_generation, crashes, version_of}
 use Rattle.history_entries.specs.Lines.{same_at, is_start, start_entry, before_start}
 use Rattle.history_entries.specs.Points.{accepted_at_start, published_in_generation, operations_of_generation, operations_at, operations_at_start, operations_written, cut_of}
