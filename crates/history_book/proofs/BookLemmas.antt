@@ -6,7 +6,7 @@ use Rattle.nrt_base.specs.declared.numbers.At.{At}
 use Rattle.nrt_base.specs.declared.numbers.NodeNo.{NodeNo}
 use Rattle.history_entries.specs.declared.entry.Entry.{Entry}
 use Rattle.history_entries.specs.declared.entry.Event.{Event}
-use Rattle.history_entries.specs.Nodes.{Past, is_at, primary_of}
+use Rattle.history_entries.specs.Nodes.{Past, is_at}
 use Rattle.history_entries.specs.Lines.{same_at, start_entry, publish_in_flight}
 use Rattle.history_entries.specs.Points.{accepted_at_start}
 use Rattle.history_entries.specs.Tickets.{Ticket, ticket_by}
@@ -29,7 +29,7 @@ use Rattle.history_tables.specs.JobRows.{row_under, last_by}
 use Rattle.history_book.specs.Jobs.{job_step, last_job, IsInside, HoldsJobs}
 use Rattle.history_book.specs.declared.inner.Inner.{Inner}
 use Rattle.history_book.specs.declared.inner.Stop.{Stop}
-use Rattle.history_book.specs.declared.inner.Stop.TheVariants.{Printed, Task, Inner as InnerStop}
+use Rattle.history_book.specs.declared.inner.Stop.TheVariants.{Inner as InnerStop}
 use Rattle.history_book.specs.declared.inner.Mark.TheVariants.{Kept}
 use Rattle.history_book.specs.Log.{Log, Pages, FaultsFollow, FollowsMerging, printed, weave, marks, mark_for, stop_for}
 use Rattle.history_book.specs.Turns.{InTurn, AreInTurn}

@@ -1,8 +1,8 @@
 -- What a reopening may find of the commit in flight: the version of its start, and where the node is stuck, what it searches.
-use Rattle.std.proofs.Common.{◌≡◌, ◌≢◌, ◌≤◌, ◌+◌, ◌&&◌, ◌||◌, ◌==◌, ◌⊎◌, ⊎_elim, ℕ, Bool, true, false, true≢false, List, [], ◌∷◌, Some, None, Option, length, refl, ap, ◌∙◌, sym, subst, arith, if◌then◌else◌}
+use Rattle.std.proofs.Common.{◌≡◌, ◌≢◌, ◌≤◌, ◌&&◌, ◌||◌, ◌==◌, ⊎_elim, ℕ, Bool, true, false, true≢false, List, [], ◌∷◌, Some, None, Option, length, refl, ap, ◌∙◌, sym, subst, arith, if◌then◌else◌}
 use Rattle.std.specs.Prelude.{not}
 use Rattle.std.specs.List.{list_any}
-use Rattle.std.proofs.lemmas.Bool.{eqb-true, eq-eqb, or_cases, or_right}
+use Rattle.std.proofs.lemmas.Bool.{eqb-true, eq-eqb, or_right}
 use Rattle.nrt_base.specs.declared.numbers.At.{At}
 use Rattle.nrt_base.specs.declared.numbers.NodeNo.{NodeNo}
 use Rattle.nrt_base.specs.declared.numbers.Version.{Version}
@@ -12,20 +12,19 @@ use Rattle.history_entries.specs.declared.entry.Entry.{Entry}
 use Rattle.history_entries.specs.declared.entry.Event.{Event}
 use Rattle.history_entries.specs.declared.entry.Event.TheVariants.{Publishing, Published, Copying, Switched, Settling, Opened, Asking, Committing, Committed, Crashed, Reopened, Promoted, Fault, Refused}
 use Rattle.history_entries.specs.Nodes.{Past, is_at, primary_of, is_running, crashes, version_of}
-use Rattle.history_entries.specs.Lines.{same_at, is_start, is_reply, start_entry, before_start, without_at, commit_in_flight, NodeSurvives}
+use Rattle.history_entries.specs.Lines.{same_at, is_start, is_reply, start_entry, before_start, without_at, commit_in_flight}
 use Rattle.history_entries.specs.Commits.{is_disk_fault, starts_commit, is_stuck, late_commit, more_by, reopenable_versions}
 use Rattle.history_entries.specs.Points.{operations_of_generation}
-use Rattle.history_entries.specs.Rules.{is_loss, is_lost, MayRefuse, MayRefuseLine}
+use Rattle.history_entries.specs.Rules.{MayRefuseLine}
 use Rattle.history_entries.specs.Legal.{KeepsRule, IsLegalPast}
-use Rattle.history_laws.specs.Steps.{is_running_by, crashes_by, commit_by, version_by, is_stuck_by, reopenable_by}
+use Rattle.history_laws.specs.Steps.{is_running_by, crashes_by, commit_by}
 use Rattle.history_laws.proofs.NodeLemmas.{crashes_rise}
 use Rattle.history_tables.proofs.RowLemmas.{by_test, same_at_self}
 use Rattle.history_tables.specs.Begins.{begin, begun_by, open_line}
-use Rattle.history_tables.specs.declared.lines.Begun.{Begun}
 use Rattle.history_tables.specs.declared.lines.Start.TheVariants.{Searching as SearchStart}
 use Rattle.history_book.specs.Turns.{StartsOnce, InTurn, AreInTurn}
 use Rattle.history_book.specs.Laws.{may_find, CommitFound}
-use Rattle.history_book.proofs.LineLaws.{same_at_is, without_some, fresh_apart, open_none}
+use Rattle.history_book.proofs.LineLaws.{same_at_is, without_some, fresh_apart}
 use Rattle.history_book.proofs.OpenLaws.{before_apart, commit_kept}
 use Rattle.history_book.proofs.ReignLaws.{node_crashes_rise}
 

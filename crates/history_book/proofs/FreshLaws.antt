@@ -1,5 +1,5 @@
 -- A line of which no entry stands there, and one that is open: neither has its reply.
-use Rattle.std.proofs.Common.{◌≡◌, ◌≢◌, ◌&&◌, ◌||◌, ◌==◌, ℕ, Bool, true, false, List, [], ◌∷◌, Some, None, Option, length, refl, ap, ◌∙◌, sym, subst, if◌then◌else◌}
+use Rattle.std.proofs.Common.{◌≡◌, ◌≢◌, ◌&&◌, ◌||◌, ◌==◌, Bool, true, false, [], ◌∷◌, Some, None, Option, length, refl, ap, ◌∙◌, subst, if◌then◌else◌}
 use Rattle.std.specs.Prelude.{not}
 use Rattle.nrt_base.specs.declared.numbers.At.{At}
 use Rattle.history_entries.specs.declared.entry.Entry.{Entry}

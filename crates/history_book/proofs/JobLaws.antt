@@ -1,7 +1,6 @@
 -- A job that was overtaken: a later one at its node began for another line, so that its own may be refused as cancelled.
-use Rattle.std.proofs.Common.{◌≡◌, ◌≢◌, ◌≤◌, ◌<◌, ◌+◌, ◌&&◌, ◌||◌, ◌==◌, ◌++◌, ◌⊎◌, ⊎_elim, ℕ, Bool, true, false, true≢false, List, [], ◌∷◌, Some, None, Option, length, max, nat_le, refl, ap, ◌∙◌, sym, subst, arith, if◌then◌else◌}
+use Rattle.std.proofs.Common.{◌≡◌, ◌≢◌, ◌≤◌, ◌<◌, ◌+◌, ◌&&◌, ◌||◌, ◌==◌, ◌++◌, ⊎_elim, ℕ, Bool, true, false, true≢false, [], ◌∷◌, Some, None, Option, length, max, nat_le, refl, ap, ◌∙◌, sym, subst, arith, if◌then◌else◌}
 use Rattle.std.specs.Prelude.{not, nat_lt, is_some}
-use Rattle.std.specs.List.{list_any}
 use Rattle.std.proofs.lemmas.Bool.{eqb-true, eq-eqb, or_cases, or_right}
 use Rattle.std.proofs.lemmas.Bool.Decides.{nat_tests}
 use Rattle.nrt_base.specs.declared.numbers.At.{At}
@@ -12,12 +11,10 @@ use Rattle.history_entries.specs.declared.entry.Event.{Event}
 use Rattle.history_entries.specs.declared.entry.Event.TheVariants.{Published, Copying, Settling, Promoted}
 use Rattle.history_entries.specs.Nodes.{Past, IsNode, IsReplica, is_at, primary_of, primary_crashes, is_running, crashes, newest_version, is_point, is_made_in_generation}
 use Rattle.history_entries.specs.Lines.{same_at, is_start, is_reply, is_answered, start_entry, before_start, NodeSurvives, SourceSurvives}
-use Rattle.history_entries.specs.Rules.{is_node_of, is_above, is_copied_beside, is_settled_beside, MayCancel}
+use Rattle.history_entries.specs.Rules.{is_node_of, is_copied_beside, is_settled_beside, MayCancel}
 use Rattle.history_entries.specs.Legal.{KeepsRule, IsLegalPast}
 use Rattle.history_laws.proofs.PastLemmas.{point_stays, newest_made}
 use Rattle.history_laws.proofs.NodeLemmas.{crashes_rise, runs_through}
-use Rattle.history_tables.proofs.RowLemmas.{by_test}
-use Rattle.history_tables.specs.Begins.{open_line}
 use Rattle.history_tables.specs.NodeRows.{crashed_at}
 use Rattle.history_tables.specs.Numbering.{primary_crashed}
 use Rattle.history_book.specs.declared.inner.Inner.{Inner}
@@ -32,9 +29,8 @@ use Rattle.history_book.specs.Jobs.{job_step, last_job, job_at, job_of, StartsJo
 use Rattle.history_book.specs.Log.{Log, printed}
 use Rattle.history_book.specs.Turns.{StartsOnce, InTurn, AreInTurn}
 use Rattle.history_book.proofs.LineLaws.{same_at_is, and_false}
-use Rattle.history_book.proofs.OpenLaws.{before_apart}
 use Rattle.history_book.proofs.FreshLaws.{open_unanswered}
-use Rattle.history_book.proofs.ReignLaws.{Since, since_start, reigns_on, start_kept, start_short, node_alive, source_alive, node_crashes_rise, source_crashes_rise, primary_crashes_rise}
+use Rattle.history_book.proofs.ReignLaws.{since_start, reigns_on, start_kept, start_short, node_alive, source_alive, node_crashes_rise, source_crashes_rise, primary_crashes_rise}
 
 going_if : (b : Bool) (r : JobRow) (v : Version) → is_going (if b then record r { later = Some v } else r) ≡ true → b ≡ false
 going_if true r v going = absurd (true≢false (sym going ∙ and_false (not r.ended)))

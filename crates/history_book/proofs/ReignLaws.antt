@@ -1,5 +1,5 @@
 -- While the source of a line has not crashed its generation goes on; what is written.
-use Rattle.std.proofs.Common.{◌≡◌, ◌≢◌, ◌≤◌, ◌<◌, ◌+◌, ◌&&◌, ◌==◌, ◌++◌, ℕ, Bool, true, false, true≢false, List, [], ◌∷◌, Some, None, Option, length, nat_le, max, take, drop, refl, ap, ◌∙◌, sym, subst, arith, if◌then◌else◌, append_assoc, length-append}
+use Rattle.std.proofs.Common.{◌≡◌, ◌≢◌, ◌≤◌, ◌+◌, ◌&&◌, ◌==◌, ◌++◌, ℕ, Bool, true, false, List, [], ◌∷◌, Some, None, Option, length, nat_le, max, take, refl, ap, ◌∙◌, sym, subst, arith, if◌then◌else◌, append_assoc, length-append}
 use Rattle.std.proofs.lemmas.Bool.{eq-eqb}
 use Rattle.std.proofs.lemmas.Bool.Decides.{nat_tests}
 use Rattle.std.proofs.lemmas.List.{take-append-drop, take-append-le, append-nil}
@@ -7,12 +7,11 @@ use Rattle.std.proofs.Math.Seq.{take-length}
 use Rattle.nrt_base.specs.declared.numbers.At.{At}
 use Rattle.nrt_base.specs.declared.numbers.NodeNo.{NodeNo}
 use Rattle.documents.specs.declared.operation.Op.{Op}
-use Rattle.history_entries.specs.declared.entry.Entry.{Entry}
 use Rattle.history_entries.specs.declared.entry.Event.{Event}
-use Rattle.history_entries.specs.declared.entry.Event.TheVariants.{Accepted, Publishing, Published, Crashed, Promoted, Copying, Settling, Opened, Asking, Committing}
+use Rattle.history_entries.specs.declared.entry.Event.TheVariants.{Accepted, Publishing, Published, Crashed, Promoted}
 use Rattle.history_entries.specs.Nodes.{Past, is_at, primary_of, primary_crashes, newest_version, is_made_in_generation, crashes, version_of}
 use Rattle.history_entries.specs.Lines.{same_at, is_start, start_entry, before_start}
-use Rattle.history_entries.specs.Points.{accepted_at_start, published_in_generation, operations_of_generation, operations_at, operations_at_start, operations_written, cut_of}
+use Rattle.history_entries.specs.Points.{accepted_at_start, published_in_generation, operations_of_generation, operations_at, operations_at_start, cut_of}
 use Rattle.history_facts.specs.Origins.{operations_before_generation}
 use Rattle.history_entries.specs.Legal.{KeepsRule, IsLegalPast}
 use Rattle.history_laws.specs.Steps.{crashes_by}
@@ -21,6 +20,7 @@ use Rattle.history_tables.specs.NodeRows.{crashed_at}
 use Rattle.history_tables.specs.Numbering.{primary_crashed}
 use Rattle.history_book.specs.Laws.{Reigns, Written, Flying, Flushed}
 use Rattle.history_laws.proofs.PastLemmas.{legal_before}
+use Rattle.history_facts.proofs.WrittenLemmas.{written as base_written, started as start_written}
 use Rattle.history_book.proofs.LineLaws.{same_at_is}
 
 -- the start entry of a line kept its rule
@@ -105,26 +105,6 @@ reigns_on size at past legal runs same =
     subst (λ (p : Past). Reigns (before_start at past) p) (sym s.split)
     (reigns size s.newer (before_start at past) (subst (IsLegalPast size) s.split legal) runs (ap primary_crashes (sym s.split) ∙ same))
 
-pub base_written : (past : Past) → operations_written past ≡ operations_before_generation past ++ operations_of_generation past
-base_written [] = refl
-base_written (e ∷ past) = step e.event (base_written past)
-  where
-    step : (e' : Event) → operations_written past ≡ operations_before_generation past ++ operations_of_generation past
-        → operations_written (record { at = e.at; event = e' } ∷ past) ≡ operations_before_generation (record { at = e.at; event = e' } ∷ past) ++ operations_of_generation (record { at = e.at; event = e' } ∷ past)
-    step (Accepted seq op) was = ap (λ (ops : List Op). ops ++ op ∷ []) was ∙ append_assoc (operations_before_generation past) (operations_of_generation past) (op ∷ [])
-    step (Promoted m g f w) was = sym (append-nil (operations_at past (version_of m.0 past)))
-    step e' was = was
-
-pub start_written : (at : At) (past : Past) (e : Event) → start_entry at past ≡ Some e → operations_at_start at past ≡ operations_written (before_start at past)
-start_written at [] e is = absurd (cc)
-start_written at (x ∷ past) e is = since (is_start x.event && same_at x.at at) is (start_written at past e)
-  where
-    since : (b : Bool) → (if b then Some x.event else start_entry at past) ≡ Some e
-        → (start_entry at past ≡ Some e → operations_at_start at past ≡ operations_written (before_start at past))
-        → (if b then operations_written past else operations_at_start at past) ≡ operations_written (if b then past else before_start at past)
-    since true got was = refl
-    since false got was = was got
-
 -- what a publish that ends has, and what it leaves
 published_keeps : (size : ℕ) (at : At) (past : Past) (w : ℕ) → IsLegalPast size past → start_entry at past ≡ Some Publishing → primary_crashes past ≡ primary_crashes (before_start at past)
     → (operations_at_start at past ≡ operations_before_generation past ++ take (accepted_at_start at past) (operations_of_generation past))
@@ -135,7 +115,7 @@ published_keeps size at past w legal started same =
     let front : take (length (operations_of_generation start)) (operations_of_generation past) ≡ operations_of_generation start =
     ap (take (length (operations_of_generation start))) r.accepted
     ∙ (take-append-le (length (operations_of_generation start)) (operations_of_generation start) r.more (omega arith) ∙ take-length (operations_of_generation start)) in (
-      start_written at past Publishing started ∙ (base_written start ∙ (ap (λ (ops : List Op). ops ++ operations_of_generation start) (sym r.base)
+      start_written at past ∙ (base_written start ∙ (ap (λ (ops : List Op). ops ++ operations_of_generation start) (sym r.base)
           ∙ ap (λ (ops : List Op). operations_before_generation past ++ ops) (sym front))),
       omega (arith, ap length r.accepted, length-append (operations_of_generation start) r.more),
     )
@@ -259,7 +239,7 @@ flushed size past at legal f =
     let w = written size start (legal_start size at past legal) in
     let p = published_keeps size at past 0 legal f.entry f.source in
     record {
-      found = start_written at past Publishing f.entry ∙ w.written;
+      found = start_written at past ∙ w.written;
       within = let within = w.within in let same = f.published in omega arith;
       accepted = p.1;
     }

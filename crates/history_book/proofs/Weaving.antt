@@ -1,5 +1,5 @@
 -- The printed entries of a woven list.
-use Rattle.std.proofs.Common.{◌≡◌, ◌+◌, ℕ, List, [], ◌∷◌, length, reverse, refl, ap, ◌∙◌, sym, arith}
+use Rattle.std.proofs.Common.{◌≡◌, List, [], ◌∷◌, length, reverse, refl, ap, ◌∙◌, sym, arith}
 use Rattle.std.proofs.lemmas.List.{length-reverse}
 use Rattle.history_entries.specs.declared.entry.Entry.{Entry}
 use Rattle.history_book.specs.declared.inner.Stop.{Stop}

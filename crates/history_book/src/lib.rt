@@ -3,6 +3,8 @@
 
 pub mod book;
 pub mod inner;
+#[cfg(test)]
+mod tests;
 
 pub use book::Book;
 pub use history_tables::{Begun, Job, JobRow, Opening, Start};

@@ -7,10 +7,10 @@ pub mod numbers;
 pub mod plans;
 pub mod rows;
 pub mod states;
-pub mod tickets;
-pub mod work;
 #[cfg(test)]
 mod tests;
+pub mod tickets;
+pub mod work;
 
 pub use jobs::{Job, JobRow, JobStep, JobTable};
 pub use lines::{Begun, Lines, Start};

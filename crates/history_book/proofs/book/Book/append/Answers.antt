@@ -1,6 +1,5 @@
 use Rattle.std.proofs.Common.{◌≡◌, ◌∙◌, ◌+◌, ◌++◌, ◌∷◌, [], ℕ, sym, subst, ap, rules, true, length, Bool, length-append, reverse}
 use Rattle.history_entries.specs.declared.entry.Entry.{Entry}
-use Rattle.history_entries.specs.Nodes.{Past}
 use Rattle.history_entries.specs.Legal.{KeepsRule}
 use Rattle.history_tables.specs.Numbering.{IsFound}
 use Rattle.history_tables.specs.WorkRows.{IsCommitter}

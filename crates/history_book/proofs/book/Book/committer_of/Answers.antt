@@ -1,4 +1,4 @@
-use Rattle.std.proofs.Common.{◌≡◌, ◌∙◌, sym}
+use Rattle.std.proofs.Common.{◌∙◌, sym}
 use Rattle.history_book.proofs.BookLemmas.{told, committer_some, committer_none}
 use Rattle.history_book.specs.Log.{printed}
 use Rattle.history_book.proofs.book.Book.committer_of.Goals as goal

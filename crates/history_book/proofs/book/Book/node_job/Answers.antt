@@ -1,4 +1,4 @@
-use Rattle.std.proofs.Common.{◌≡◌, ◌∙◌}
+use Rattle.std.proofs.Common.{◌∙◌}
 use Rattle.history_book.proofs.BookLemmas.{held}
 use Rattle.history_book.proofs.book.Book.node_job.Goals as goal
 

@@ -1,5 +1,4 @@
-use Rattle.std.proofs.Common.{◌≡◌, ◌∙◌, sym, ap, nat_le, ℕ, length}
-use Rattle.history_entries.specs.Lines.{before_start}
+use Rattle.std.proofs.Common.{◌∙◌, ap, nat_le, ℕ}
 use Rattle.history_book.specs.Log.{printed}
 use Rattle.history_tables.specs.NodeRows.{crashed_at}
 use Rattle.history_book.proofs.ReignLaws.{node_alive}

@@ -1,4 +1,4 @@
-use Rattle.std.proofs.Common.{◌≡◌, ◌∙◌, sym, ap, nat_le, ℕ, length}
+use Rattle.std.proofs.Common.{◌∙◌, ap, nat_le, ℕ}
 use Rattle.history_book.specs.Log.{printed}
 use Rattle.history_tables.specs.Numbering.{primary_crashed}
 use Rattle.history_book.proofs.ReignLaws.{source_alive}
