@@ -9,12 +9,12 @@ use Rattle.nrt_base.specs.declared.numbers.Version.{Version}
 use Rattle.history_entries.specs.declared.entry.Entry.{Entry}
 use Rattle.history_entries.specs.declared.entry.Event.{Event}
 use Rattle.history_entries.specs.declared.entry.Event.TheVariants.{Published, Copying, Settling, Promoted}
-use Rattle.history_entries.specs.Nodes.{Past, IsNode, IsReplica, is_at, primary_of, primary_crashes, is_running, crashes, newest_version, is_point, is_made_in_generation}
-use Rattle.history_entries.specs.Lines.{same_at, is_start, is_reply, is_answered, start_entry, before_start, NodeSurvives, SourceSurvives}
-use Rattle.history_entries.specs.Rules.{is_node_of, is_copied_beside, is_settled_beside, MayCancel}
+use Rattle.history_entries.specs.Nodes.{Past, version_of, IsNode, IsReplica, is_at, primary_of, primary_crashes, is_running, crashes, newest_version, is_point, is_made_in_generation}
+use Rattle.history_entries.specs.Lines.{highest_copy, highest_switched, same_at, is_start, is_reply, is_answered, start_entry, before_start, NodeSurvives, SourceSurvives}
+use Rattle.history_entries.specs.Rules.{StartedCopy, MaySwitch, is_node_of, is_copied_beside, is_settled_beside, MayCancel}
 use Rattle.history_entries.specs.Legal.{KeepsRule, IsLegalPast}
 use Rattle.history_laws.proofs.PastLemmas.{point_stays, newest_made}
-use Rattle.history_laws.proofs.NodeLemmas.{crashes_rise, runs_through}
+use Rattle.history_laws.proofs.NodeLemmas.{known, crashes_rise, runs_through}
 use Rattle.history_tables.specs.NodeRows.{crashed_at}
 use Rattle.history_tables.specs.Numbering.{primary_crashed}
 use Rattle.history_book.specs.declared.inner.Inner.{Inner}
@@ -527,4 +527,47 @@ job_replica size past row legal s alive source =
     started : (o : Option Event) → start_entry at past ≡ o → StartsJob (before_start at past) n row.job.version.0 o → IsReplica (before_start at past) n
     started (Some (Copying m w)) is begins = subst (IsReplica (before_start at past)) begins.0 (start_kept size at past (Copying m w) legal is).replica
     started (Some (Settling w)) is begins = begins
+    started o is begins = absurd begins
+
+-- each point has a version of 1 or more
+point_positive : (size : ℕ) (past : Past) (v : ℕ) → IsLegalPast size past → is_point v past ≡ true → 1 ≤ v
+point_positive size [] v legal is = let one = eqb-true v 1 is in omega arith
+point_positive size (e ∷ past) v legal is = step e.event legal.0 is (point_positive size past v legal.1)
+  where
+    new : (w : ℕ) (b : Bool) → (w == v) ≡ b → (if b then true else is_point v past) ≡ true → 1 ≤ w → (is_point v past ≡ true → 1 ≤ v) → 1 ≤ v
+    new w true same point high was = let is = eqb-true w v same in omega arith
+    new w false other point high was = was point
+
+    step : (e' : Event) → KeepsRule size past e.at e' → is_point v (record { at = e.at; event = e' } ∷ past) ≡ true → (is_point v past ≡ true → 1 ≤ v) → 1 ≤ v
+    step (Published g w) keeps point was = let next : w.0 ≡ newest_version past + 1 = keeps.next in new w.0 (w.0 == v) refl point (omega arith) was
+    step (Promoted m g f w) keeps point was = let above : w.0 ≡ f.0 + 1 = keeps.above in new w.0 (w.0 == v) refl point (omega arith) was
+    step e' keeps point was = was point
+
+-- the node of a job that is below the version of the line's start may switch to the job's
+pub job_switches : (size : ℕ) (past : Past) (row : JobRow) → IsLegalPast size past → LaneJobShows size past row → NodeSurvives past row.job.at row.job.node.0 → SourceSurvives past row.job.at
+    → version_of row.job.node.0 past < newest_version (before_start row.job.at past) → highest_copy row.job.node.0 past ≤ row.job.version.0 → highest_switched row.job.at past < row.job.node.0
+    → MaySwitch size past row.job.at row.job.node row.job.version
+job_switches size past row legal s alive source below latest ordered =
+    let high = s.newest in
+    let one = point_positive size past (version_of row.job.node.0 past) legal ((known size past legal).version row.job.node.0) in
+    record {
+      node = s.node;
+      replica = job_replica size past row legal s alive source;
+      made = s.made source (omega arith);
+      above = omega arith;
+      latest = latest;
+      ordered = ordered;
+      started = started (start_entry row.job.at past) refl s.started;
+      survives = alive;
+      source = source;
+    }
+  where
+    start : Past
+    start = before_start row.job.at past
+
+    started : (o : Option Event) → start_entry row.job.at past ≡ o → StartsJob start row.job.node.0 row.job.version.0 o → StartedCopy past start row.job.node.0 row.job.version.0 o
+    started (Some (Copying m w)) is begins = begins
+    started (Some (Settling w)) is begins =
+        let noted : w.0 ≡ newest_version start = (start_kept size row.job.at past (Settling w) legal is).newest in
+        let high = s.newest in (omega arith, omega arith, begins)
     started o is begins = absurd begins

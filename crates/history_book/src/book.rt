@@ -81,11 +81,12 @@ fn commit_node(start: Start) -> Option<NodeNo>
 }
 
 impl Book {
-    ghost use Rattle.std.specs.Prelude.{ℕ, ◌≤◌, ◌≡◌, ◌≢◌, ◌⊎◌, ◌+◌, ◌∷◌, [], ◌==◌, nat_lt, true, false, None, Some, IfSome, IfOk, OnOk, length, reverse};
+    ghost use Rattle.std.specs.Prelude.{ℕ, ◌≤◌, ◌<◌, ◌≡◌, ◌≢◌, ◌⊎◌, ◌+◌, ◌∷◌, [], ◌==◌, nat_lt, true, false, None, Some, IfSome, IfOk, OnOk, length, reverse};
     ghost use Rattle.history_entries.specs.Nodes.{IsNode, IsReplica, is_at, crashes, primary_crashes, primary_of, newest_version, generation_of, accepted_count, is_running, version_of};
-    ghost use Rattle.history_entries.specs.Lines.{SourceSurvives, NodeSurvives, is_start, is_answered, entries_of_line, last_of_line, start_entry, before_start, publish_in_flight, commit_in_flight, copy_in_flight, highest_copy, has_switched};
+    ghost use Rattle.history_entries.specs.Lines.{SourceSurvives, NodeSurvives, is_start, is_answered, entries_of_line, last_of_line, start_entry, before_start, publish_in_flight, commit_in_flight, copy_in_flight, highest_copy, highest_switched, has_switched};
     ghost use Rattle.history_entries.specs.Points.{operations_of_generation, accepted_at_start, published_in_generation, names_drawn, merges_started, idle_publishes, cut_of, cut_has_put};
     ghost use Rattle.history_entries.specs.Commits.{has_committed, is_stuck, starts_commit};
+    ghost use Rattle.history_entries.specs.Rules.{MaySwitch};
     ghost use Rattle.history_entries.specs.Tasks.{merge_count, drained_count};
     ghost use Rattle.history_entries.specs.Legal.{KeepsRule, IsLegalPast};
     ghost use Rattle.history_entries.specs.Tickets.{open_ticket, last_opened};
@@ -702,6 +703,20 @@ impl Book {
         requires node { NodeSurvives (printed self.now.log) row.job.at row.job.node.0 }
         requires source { SourceSurvives (printed self.now.log) row.job.at }
         ensures { IsReplica (printed self.now.log) row.job.node.0 }
+    {
+        let _numbers = &self.numbers;
+    }
+
+    /// The node of the last job of a lane may switch to the job's version, where it is below that of the line's start. A law.
+    pub fn job_switches(&self, row: JobRow)
+        requires job { job_of row.job.at.lane.0 self.now.log ≡ Some row }
+        requires node { NodeSurvives (printed self.now.log) row.job.at row.job.node.0 }
+        requires source { SourceSurvives (printed self.now.log) row.job.at }
+        requires below { version_of row.job.node.0 (printed self.now.log)
+            < newest_version (before_start row.job.at (printed self.now.log)) }
+        requires latest { highest_copy row.job.node.0 (printed self.now.log) ≤ row.job.version.0 }
+        requires ordered { highest_switched row.job.at (printed self.now.log) < row.job.node.0 }
+        ensures { MaySwitch self.now.nodes (printed self.now.log) row.job.at row.job.node row.job.version }
     {
         let _numbers = &self.numbers;
     }
