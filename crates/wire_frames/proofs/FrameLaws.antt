@@ -49,7 +49,7 @@ pub frame_parts : (kind : ℕ) (body after : List ℕ) → frame_of kind body ++
 unfolding frame_of
 frame_parts kind body after = append_assoc (u32_bytes (1 + length body)) (kind ∷ body) after
 
-length_frame : (kind : ℕ) (body after : List ℕ) → length (frame_of kind body ++ after) ≡ 5 + (length body + length after)
+pub length_frame : (kind : ℕ) (body after : List ℕ) → length (frame_of kind body ++ after) ≡ 5 + (length body + length after)
 length_frame kind body after =
     ap length (frame_parts kind body after)
     ∙ length-append (u32_bytes (1 + length body)) (kind ∷ (body ++ after))

@@ -30,6 +30,9 @@ within_short zero n = omega arith
 within_short (suc more) n = short_by more n (nat_lt n 128) (within_short more (n / 128))
 
 -- what was put at the end, one after the other
+pub two_put : (o a b o1 o2 : List ℕ) → o1 ≡ o ++ a → o2 ≡ o1 ++ b → o2 ≡ o ++ (a ++ b)
+two_put o a b o1 o2 p q = q ∙ ap (λ (x : List ℕ). x ++ b) p ∙ append_assoc o a b
+
 pub four_put : (o a b c d o1 o2 o3 o4 : List ℕ) → o1 ≡ o ++ a → o2 ≡ o1 ++ b → o3 ≡ o2 ++ c → o4 ≡ o3 ++ d → o4 ≡ o ++ (a ++ (b ++ (c ++ d)))
 four_put o a b c d o1 o2 o3 o4 p q r s =
     s ∙ ap (λ (x : List ℕ). x ++ d) (r ∙ ap (λ (x : List ℕ). x ++ c) (q ∙ ap (λ (x : List ℕ). x ++ b) p)) ∙ simp append_assoc

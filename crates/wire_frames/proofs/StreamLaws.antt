@@ -12,7 +12,7 @@ use Rattle.wire_frames.specs.declared.message.WireFault.{WireFault}
 use Rattle.wire_frames.specs.declared.message.WireFault.TheVariants.{Length, Kind, Body, Memory}
 use Rattle.wire_frames.specs.Wire.{message_kind, message_body, frame_of, wire_of, IsFramable}
 use Rattle.wire_frames.specs.Streams.{BeginsWith, BeginsWithMessage, AreMessagesOf, IsUnfinished, IsFrameFault, IsStreamFault, IsCauseOf, IsFrontFault, TakesMessage, is_kind}
-use Rattle.wire_frames.proofs.FrameLaws.{frame_not_unfinished, frame_not_wrong, one_frame, one_message}
+use Rattle.wire_frames.proofs.FrameLaws.{length_frame, frame_not_unfinished, frame_not_wrong, one_frame, one_message}
 
 -- ---- one frame
 
@@ -123,6 +123,10 @@ never_faulty stream ms r f h u p =
 
 -- ---- streams that go on
 
+-- no bytes are the front of a frame
+pub nothing_unfinished : IsUnfinished []
+nothing_unfinished = inl (omega arith)
+
 pub begins_none : (stream : List ℕ) → BeginsWith stream [] stream
 begins_none stream = record { each = All-nil IsFramable; parts = refl }
 
@@ -145,6 +149,10 @@ begins_then stream piece ms ns held rest h k = record {
       ∙ sym (append_assoc (flat_map wire_of ms) (flat_map wire_of ns) rest)
       ∙ ap (λ (x : List ℕ). x ++ rest) (sym (joined ms ns));
 }
+
+-- a message takes bytes
+pub message_shorter : (bytes : List ℕ) (m : Message) (after : List ℕ) → TakesMessage bytes m after → length after < length bytes
+message_shorter bytes m after t = let a = ap length t.parts in let b = length_frame (message_kind m) (message_body m) after in omega (arith, a, b)
 
 -- one message more
 pub begins_more : (stream : List ℕ) (ms : List Message) (rest : List ℕ) (m : Message) (after : List ℕ) → BeginsWith stream ms rest → TakesMessage rest m after → BeginsWith stream (ms ++ m ∷ []) after

@@ -45,11 +45,20 @@ file_at bytes = then_at name_at (λ _. then_at header_at (λ _. then_at footer_a
 unfoldable pub chunk_at : List ℕ → Read (List ℕ × ℕ)
 chunk_at bytes = then_at name_at (λ _. u64_at) bytes
 
--- what was read, where nothing is left
+-- what was read, as a message
+abbrev pub made_read : {X : Type 0} → (X → Message) → Read X → Read Message
+made_read make None = None
+made_read make (Some (x, rest)) = Some (make x, rest)
+
+-- a message that was read, where nothing is left
+abbrev pub read_to_end : Read Message → Option Message
+read_to_end None = None
+read_to_end (Some (m, [])) = Some m
+read_to_end (Some (m, b ∷ rest)) = None
+
+-- what was read, as a message, where nothing is left
 abbrev pub all_read : {X : Type 0} → (X → Message) → Read X → Option Message
-all_read make None = None
-all_read make (Some (x, [])) = Some (make x)
-all_read make (Some (x, b ∷ rest)) = None
+all_read make r = read_to_end (made_read make r)
 
 -- what was read, with what is left
 abbrev pub state_read : Read (ℕ × (ℕ × (ℕ × (ℕ × ℕ)))) → Option Message

@@ -1,10 +1,12 @@
 -- A copy state as messages: one of the state, one for each file, one for each completed name.
-use Rattle.std.specs.Prelude.{◌≡◌, ◌≢◌, ℕ, zero, suc, ◌+◌, ◌<◌, List, [], ◌∷◌, ◌++◌, length, map, slice_get, nat_lt, if◌then◌else◌, Option, Some, None}
+use Rattle.std.specs.Prelude.{◌≡◌, ◌≢◌, ℕ, zero, suc, ◌+◌, ◌<◌, List, [], ◌∷◌, ◌++◌, length, map, slice_get, nat_lt, if◌then◌else◌, Option, Some, None, Result, Ok, Err}
 use Rattle.std.specs.Option.{option_map}
 use Rattle.copy_state.specs.declared.meta.FileMetaData.{FileMetaData}
 use Rattle.copy_state.specs.declared.state.CopyState.{CopyState}
 use Rattle.wire_frames.specs.declared.message.Message.{Message}
 use Rattle.wire_frames.specs.declared.message.Message.TheVariants.{Notice, State, File, Completed, Chunk}
+use Rattle.wire_frames.specs.declared.message.StateFault.{StateFault}
+use Rattle.wire_frames.specs.declared.message.StateFault.TheVariants.{Order, Memory}
 use Rattle.wire_frames.specs.Wire.{message_kind}
 
 -- the message of a file
@@ -45,3 +47,15 @@ IsFirstDisorder messages at = IsFirstDifference (kind_found messages) (kind_want
 -- at each place is the kind that is wanted there
 abbrev pub AreInOrder : List Message → Type 0
 AreInOrder messages = (i : ℕ) → kind_found messages i ≡ kind_wanted messages i
+
+-- the messages are those of so many files and so many completed names
+pub record AreListed (files completed : ℕ) (listed : List (List ℕ × FileMetaData)) (names : List (List ℕ)) (messages : List Message) : Type 0 where
+  pub files_are : files ≡ length listed
+  pub completed_are : completed ≡ length names
+  pub whole : messages ≡ map file_message listed ++ map Completed names
+
+-- the state of messages, or the first place where they are none; out of memory only where they are those of a state
+abbrev pub TellsState : List Message → Result CopyState StateFault → Type 0
+TellsState messages (Ok s) = messages ≡ messages_of_state s
+TellsState messages (Err (Order at)) = IsFirstDisorder messages at
+TellsState messages (Err Memory) = AreInOrder messages

@@ -4,7 +4,7 @@ ghost use Rattle.std.specs.Prelude.{◌≡◌, IfOk, if◌then◌else◌};
 ghost use Rattle.std.specs.Option.{option_map};
 ghost use Rattle.wire_frames.specs.Wire.{HasParts};
 ghost use Rattle.wire_frames.specs.Streams.{TellsFront};
-ghost use Rattle.wire_frames.specs.Reading.{name_at, header_at, footer_at, notice_at, state_at, state_read, file_at, file_from, chunk_at, chunk_read, all_read, notice_from, message_in, message_of, front_seen, front_of};
+ghost use Rattle.wire_frames.specs.Reading.{name_at, header_at, footer_at, notice_at, state_at, state_read, file_at, file_from, chunk_at, chunk_read, made_read, all_read, notice_from, message_in, message_of, front_seen, front_of};
 ghost use Rattle.file_names.specs.Names.{is_file_name};
 
 use crate::encoding::{CHUNK, COMPLETED, FILE, NOTICE, STATE};
@@ -119,7 +119,7 @@ fn state_of(body: &[u8]) -> Option<Parts>
 #[tactic(auto, unfolding(crate::specs::Reading::file_at))]
 fn fields_of(bytes: &[u8]) -> Option<(Parts, &[u8])>
     ensures { option_map (λ x. (message_of x.0, x.1.now)) result
-        ≡ option_map (λ x. (file_from x.0, x.1)) (file_at bytes.now) }
+        ≡ made_read file_from (file_at bytes.now) }
 {
     let Some((name, rest)) = name_of(bytes) else {
         return None;

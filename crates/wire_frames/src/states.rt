@@ -1,8 +1,8 @@
 //! A copy state as messages, and back.
 
-ghost use Rattle.std.specs.Prelude.{◌≡◌, ◌⊎◌, ◌<◌, ◌^◌, ◌++◌, ◌↔◌, ℕ, length, map, Some, Ok, Err, IfOk, IfSome, IfNone, OnOk};
+ghost use Rattle.std.specs.Prelude.{◌≡◌, ◌⊎◌, ◌<◌, ◌^◌, ◌++◌, ◌∷◌, ◌↔◌, ℕ, length, map, Some, Ok, Err, IfOk, IfSome, IfNone, OnOk};
 ghost use Rattle.copy_state.specs.declared.state.CopyState.{CopyState};
-ghost use Rattle.wire_frames.specs.States.{file_message, messages_of_state, kind_behind, kind_found, IsFirstDifference, IsFirstDisorder, AreInOrder};
+ghost use Rattle.wire_frames.specs.States.{file_message, messages_of_state, kind_behind, kind_found, IsFirstDifference, IsFirstDisorder, AreListed, TellsState};
 
 use crate::encoding::{COMPLETED, FILE, kind_of};
 use crate::message::{Message, StateFault};
@@ -90,22 +90,6 @@ fn disorder_behind(files: u32, completed: u32, messages: &[Message]) -> Option<u
     }
 }
 
-// The first place where the messages are not those of a state.
-fn disorder_of(messages: &[Message]) -> Option<usize>
-    ensures some { IfSome result (IsFirstDisorder messages.now) }
-    ensures none { IfNone result (AreInOrder messages.now) }
-{
-    match messages {
-        [Message::State { files, completed, .. }, rest @ ..] => {
-            match disorder_behind(*files, *completed, rest) {
-                Some(at) => Some(at + 1),
-                None => None,
-            }
-        }
-        _ => Some(0),
-    }
-}
-
 // The files of which these are the messages.
 fn files_of(
     alloc: Global,
@@ -142,27 +126,45 @@ fn names_of(alloc: Global, messages: &[Message]) -> Result<List<FileName>, NoMem
     Ok(names)
 }
 
-// The state of which these are the messages.
-fn taken(alloc: Global, messages: &[Message]) -> Result<CopyState, NoMemory>
-    requires { AreInOrder messages.now }
-    ensures { IfOk result (λ s. messages.now ≡ messages_of_state s) }
+// The files and the completed names of which these are the messages.
+fn listed(
+    alloc: Global,
+    files: u32,
+    completed: u32,
+    messages: &[Message],
+) -> Result<(List<(FileName, FileMetaData)>, List<FileName>), NoMemory>
+    requires { (i : ℕ) → kind_found messages.now i ≡ kind_behind files completed i }
+    ensures { IfOk result (λ x. AreListed files completed x.0 x.1 messages.now) }
 {
-    match messages {
-        [
-            Message::State {
-                version,
-                generation,
-                primary_gen,
-                files,
-                infos,
-                ..
-            },
-            rest @ ..,
-        ] => {
-            let (listed, ended) = rest.split_at(*files as usize);
-            let files = files_of(alloc, listed)?;
-            let completed = names_of(alloc, ended)?;
+    let _ = completed;
+    let (front, back) = messages.split_at(files as usize);
+    let listed = files_of(alloc, front)?;
+    let names = names_of(alloc, back)?;
+    Ok((listed, names))
+}
+
+// The state of which these are the messages, the first and those behind it.
+fn state_behind(
+    alloc: Global,
+    first: &Message,
+    rest: &[Message],
+) -> Result<CopyState, StateFault>
+    ensures { TellsState (first.now ∷ rest.now) result }
+{
+    match first {
+        Message::State {
+            version,
+            generation,
+            primary_gen,
+            files,
+            completed,
+            infos,
+        } => {
+            if let Some(at) = disorder_behind(*files, *completed, rest) {
+                return Err(StateFault::Order(at + 1));
+            }
             let infos = infos.share(alloc)?;
+            let (files, completed) = listed(alloc, *files, *completed, rest)?;
             Ok(CopyState {
                 version: *version,
                 generation: *generation,
@@ -172,7 +174,20 @@ fn taken(alloc: Global, messages: &[Message]) -> Result<CopyState, NoMemory>
                 completed,
             })
         }
-        _ => unreachable!(),
+        Message::Notice { .. }
+        | Message::File { .. }
+        | Message::Completed { .. }
+        | Message::Chunk { .. } => Err(StateFault::Order(0)),
+    }
+}
+
+// The state of which these are the messages.
+fn state_told(alloc: Global, messages: &[Message]) -> Result<CopyState, StateFault>
+    ensures { TellsState messages.now result }
+{
+    match messages.split_first() {
+        Some((first, rest)) => state_behind(alloc, first, rest),
+        None => Err(StateFault::Order(0)),
     }
 }
 
@@ -185,8 +200,5 @@ pub fn state_of(alloc: Global, messages: &[Message]) -> Result<CopyState, StateF
     ensures order { (at : ℕ) → (result ≡ Err (StateFault.Order at))
         ↔ IsFirstDisorder messages.now at }
 {
-    match disorder_of(messages) {
-        Some(at) => Err(StateFault::Order(at)),
-        None => Ok(taken(alloc, messages)?),
-    }
+    state_told(alloc, messages)
 }
