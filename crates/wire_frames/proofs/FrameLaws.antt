@@ -92,7 +92,7 @@ pub one_message : (m n : Message) (x y : List ℕ) → IsFramable m → IsFramab
 one_message m n x y p q e =
     let f = one_frame (message_kind m) (message_kind n) (message_body m) (message_body n) x y p.short q.short e in
     let same : message_in (message_kind m) (message_body m) ≡ message_in (message_kind n) (message_body n) =
-        ap (λ (k : ℕ). message_in k (message_body m)) f.0 ∙ ap (message_in (message_kind n)) f.1.0 in
+    ap (λ (k : ℕ). message_in k (message_body m)) f.0 ∙ ap (message_in (message_kind n)) f.1.0 in
     let some : Some m ≡ Some n = sym (message_again m p.parts) ∙ same ∙ message_again n q.parts in
     (cc, f.1.1)
 

@@ -11,9 +11,13 @@ use nrt_base::{Gen, NoMemory, Version};
 
 /// The kinds of messages.
 pub(crate) const NOTICE: u8 = 1;
+
 pub(crate) const STATE: u8 = 2;
+
 pub(crate) const FILE: u8 = 3;
+
 pub(crate) const COMPLETED: u8 = 4;
+
 pub(crate) const CHUNK: u8 = 5;
 
 // How many bytes a string has with its length.
@@ -29,8 +33,7 @@ fn string_len(text: &[u8]) -> usize
 // A footer has sixteen bytes.
 fn is_footer(footer: &[u8; 16])
     ensures { length footer.now ≡ 16 }
-{
-}
+{}
 
 // How many bytes metadata has.
 fn meta_len(meta: &FileMetaData) -> usize
@@ -60,14 +63,12 @@ fn body_len(m: &Message) -> usize
 // A number of 64 bits.
 fn is_u64(n: u64)
     ensures { n < 2 ^ 64 }
-{
-}
+{}
 
 // A number of 32 bits.
 fn is_u32(n: u32)
     ensures { n < 2 ^ 32 }
-{
-}
+{}
 
 // That the parts of a message that can be put into a frame are right.
 fn has_parts(m: &Message)

@@ -12,7 +12,10 @@ use std::alloc::AllocFailed;
 #[derive(Debug, Drop)]
 pub enum Message {
     /// A point was published.
-    Notice { generation: Gen, version: Version },
+    Notice {
+        generation: Gen,
+        version: Version,
+    },
     /// The state of a point that is to be copied; so many files and so many completed names follow.
     State {
         version: Version,
@@ -24,11 +27,20 @@ pub enum Message {
         infos: Bytes,
     },
     /// A file of a point.
-    File { name: FileName, meta: FileMetaData },
+    File {
+        name: FileName,
+        meta: FileMetaData,
+    },
     /// A file of a merge that ended.
-    Completed { name: FileName },
+    Completed {
+        name: FileName,
+    },
     /// Bytes of a file, from a place on.
-    Chunk { name: FileName, at: u64, bytes: Bytes },
+    Chunk {
+        name: FileName,
+        at: u64,
+        bytes: Bytes,
+    },
 }
 
 /// Why a stream is refused: its first faulty frame has this fault, or memory ran out.

@@ -91,10 +91,7 @@ fn disorder_behind(files: u32, completed: u32, messages: &[Message]) -> Option<u
 }
 
 // The files of which these are the messages.
-fn files_of(
-    alloc: Global,
-    messages: &[Message],
-) -> Result<List<(FileName, FileMetaData)>, NoMemory>
+fn files_of(alloc: Global, messages: &[Message]) -> Result<List<(FileName, FileMetaData)>, NoMemory>
     requires { (i : ℕ) → i < length messages.now → kind_found messages.now i ≡ Some 3 }
     ensures { IfOk result (λ files. map file_message files ≡ messages.now) }
 {
@@ -144,11 +141,7 @@ fn listed(
 }
 
 // The state of which these are the messages, the first and those behind it.
-fn state_behind(
-    alloc: Global,
-    first: &Message,
-    rest: &[Message],
-) -> Result<CopyState, StateFault>
+fn state_behind(alloc: Global, first: &Message, rest: &[Message]) -> Result<CopyState, StateFault>
     ensures { TellsState (first.now ∷ rest.now) result }
 {
     match first {

@@ -157,8 +157,14 @@ fn random_pieces(rt: HostRuntime) -> Result<(), Fail> {
         let mut state = seed;
         let mut rest = stream.as_slice();
         for _ in 0..stream.len() {
-            state = state.wrapping_mul(6_364_136_223_846_793_005).wrapping_add(1);
-            let most = if seed == 0 { 1 } else { 1 + (state >> 33) as usize % 300 };
+            state = state
+                .wrapping_mul(6_364_136_223_846_793_005)
+                .wrapping_add(1);
+            let most = if seed == 0 {
+                1
+            } else {
+                1 + (state >> 33) as usize % 300
+            };
             let (piece, after) = rest.split_at(most.min(rest.len()));
             feed_again(alloc, &mut decoder, piece, &mut again)?;
             rest = after;
