@@ -1,0 +1,5 @@
+mod MessageLaws
+mod NameTests
+mod FrameLaws
+mod StateLaws
+pub mod StreamLaws

@@ -1,0 +1,4 @@
+pub mod Wire
+pub mod Streams
+pub mod Reading
+pub mod States

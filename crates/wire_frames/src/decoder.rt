@@ -1,0 +1,126 @@
+//! Messages, taken from a stream that comes in pieces.
+
+ghost use Rattle.std.specs.Prelude.{◌≡◌, ◌⊎◌, ◌++◌, ◌≤◌, [], length, drop, Err, OnErr, IfOk, IfErr};
+ghost use Rattle.wire_frames.specs.Streams.{BeginsWith, AreMessagesOf, IsUnfinished, IsStreamFault, IsCauseOf, TellsFront};
+
+use crate::message::{Message, WireFault};
+use crate::parts::{made, next_parts};
+use nrt_base::NoMemory;
+use std::alloc::Global;
+use std::marker::Model;
+
+// The message at the front of a stream, and the bytes after it; nothing where its frame is not whole.
+fn next_message(alloc: Global, bytes: &[u8]) -> Result<Option<(Message, &[u8])>, WireFault>
+    ensures { TellsFront (λ x. (x.0, x.1.now)) bytes.now result }
+{
+    match next_parts(bytes) {
+        Ok(Some((parts, after))) => match made(alloc, parts) {
+            Ok(message) => Ok(Some((message, after))),
+            Err(_) => Err(WireFault::Memory),
+        },
+        Ok(None) => Ok(None),
+        Err(fault) => Err(fault),
+    }
+}
+
+// The messages whose frames are whole at the front of the bytes, and the bytes after them.
+#[tactic(auto, using(crate::proofs::StreamLaws::begins_none, crate::proofs::StreamLaws::begins_more, crate::proofs::StreamLaws::cause_here))]
+fn whole_messages(alloc: Global, bytes: &[u8]) -> Result<(Vec<Message>, &[u8]), WireFault>
+    ensures read { IfOk result (λ x. BeginsWith bytes.now x.0.items x.1.now) }
+    ensures ended { IfOk result (λ x. IsUnfinished x.1.now) }
+    ensures cause { IfErr result (IsCauseOf bytes.now) }
+{
+    let mut messages = Vec::new(alloc);
+    let mut rest = bytes;
+    while let Some((message, after)) = next_message(alloc, rest)? {
+        messages.push(message)?;
+        rest = after;
+    }
+    Ok((messages, rest))
+}
+
+// Cuts the first bytes off.
+fn cut_front(held: &mut Vec<u8>, count: usize)
+    requires { count ≤ length held.old.items }
+    ensures { held.new.items ≡ drop count held.old.items }
+{
+    held.drain(..count);
+}
+
+// Takes a piece in behind the bytes that are held, and the messages out whose frames are whole.
+fn take_in(alloc: Global, held: &mut Vec<u8>, piece: &[u8]) -> Result<Vec<Message>, WireFault>
+    ensures read { IfOk result (λ messages.
+        BeginsWith (held.old.items ++ piece.now) messages.items held.new.items) }
+    ensures ended { IsUnfinished held.old.items → IsUnfinished held.new.items }
+    ensures cause { IfErr result (IsCauseOf (held.old.items ++ piece.now)) }
+    ensures same { OnErr result (held.new.items ≡ held.old.items) }
+{
+    let before = held.len();
+    held.extend_from_slice(piece)?;
+    match whole_messages(alloc, held.as_slice()) {
+        Ok((messages, rest)) => {
+            let whole = held.len() - rest.len();
+            cut_front(held, whole);
+            Ok(messages)
+        }
+        Err(fault) => {
+            held.truncate(before);
+            Err(fault)
+        }
+    }
+}
+
+/// What has come of a stream and is no whole frame yet, seen as these bytes.
+#[derive(Debug, Drop)]
+pub struct Decoder {
+    held: Vec<u8>,
+}
+
+impl Model for Decoder {
+    ghost use Rattle.std.specs.Prelude.{ℕ, List};
+    ghost use Rattle.wire_frames.specs.Streams.{IsUnfinished};
+
+    ghost Value = { List ℕ };
+
+    ghost view = { λ d. d.held.items };
+
+    ghost invariant = { λ d. IsUnfinished d.held.items };
+}
+
+impl Decoder {
+    /// A decoder at the start of a stream.
+    pub fn new(alloc: Global) -> Result<Decoder, NoMemory>
+        ensures { IfOk result (λ decoder. decoder ≡ []) }
+    {
+        Ok(Decoder {
+            held: Vec::new(alloc),
+        })
+    }
+
+    /// Takes the next piece of the stream, and gives the messages whose frames are whole now. The bytes behind them are
+    /// held. A refused call leaves the decoder as before.
+    #[tactic(auto, using(crate::proofs::StreamLaws::are_messages, crate::proofs::StreamLaws::fault_answer))]
+    pub fn feed(&mut self, alloc: Global, piece: &[u8]) -> Result<Vec<Message>, WireFault>
+        ensures messages { IfOk result (λ messages.
+            AreMessagesOf (self.old ++ piece.now) messages.items self.new) }
+        ensures unfinished { IsUnfinished self.new }
+
+        // Each refusal.
+        ensures cause { IfErr result (IsCauseOf (self.old ++ piece.now)) }
+        ensures fault { (fault : WireFault) → IsStreamFault (self.old ++ piece.now) fault
+            → (result ≡ Err fault) ⊎ (result ≡ Err WireFault.Memory) }
+
+        // What stays.
+        ensures err { OnErr result (self.new ≡ self.old) }
+    {
+        take_in(alloc, &mut self.held, piece)
+    }
+
+    /// How many bytes are held of a frame that is not whole.
+    pub fn rest(&self) -> usize
+        ensures rest { result ≡ length self.now }
+        ensures unfinished { IsUnfinished self.now }
+    {
+        self.held.len()
+    }
+}
