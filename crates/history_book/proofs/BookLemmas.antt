@@ -25,7 +25,7 @@ use Rattle.history_tables.specs.Openings.{opened_of, IsLife}
 use Rattle.history_tables.specs.declared.jobs.JobRow.{JobRow}
 use Rattle.history_tables.specs.declared.jobs.JobStep.{JobStep}
 use Rattle.history_tables.specs.declared.jobs.KeyedJob.{KeyedJob}
-use Rattle.history_tables.specs.JobRows.{row_under, last_by}
+use Rattle.history_tables.specs.JobRows.{row_under, last_job_by}
 use Rattle.history_book.specs.Jobs.{job_step, last_job, IsInside, HoldsJobs}
 use Rattle.history_book.specs.declared.inner.Inner.{Inner}
 use Rattle.history_book.specs.declared.inner.Stop.{Stop}
@@ -168,8 +168,8 @@ holds_shown task e size old new at_nodes of_lanes is was = subst (λ (l : Log). 
 -- an entry of inner work moves them by its step
 pub holds_kept : (i : Inner) (step : JobStep) (before size : ℕ) (old new : Log) (at_nodes nodes' of_lanes lanes' : List KeyedJob) → new ≡ Kept i ∷ old
     → step ≡ job_step i → before ≡ length (printed old) → IsInside size old i
-    → ((k : ℕ) → row_under nodes' k ≡ last_by false k step before (row_under at_nodes k))
-    → ((k : ℕ) → row_under lanes' k ≡ last_by true k step before (row_under of_lanes k))
+    → ((k : ℕ) → row_under nodes' k ≡ last_job_by false k step before (row_under at_nodes k))
+    → ((k : ℕ) → row_under lanes' k ≡ last_job_by true k step before (row_under of_lanes k))
     → HoldsJobs size old at_nodes of_lanes → HoldsJobs size new nodes' lanes'
 holds_kept i step before size old new at_nodes nodes' of_lanes lanes' is does count turn by_nodes by_lanes was =
     subst (λ (l : Log). HoldsJobs size l nodes' lanes') (sym is)
@@ -179,10 +179,10 @@ holds_kept i step before size old new at_nodes nodes' of_lanes lanes' is does co
       lanes_tell = λ k. stepped true k lanes' of_lanes (by_lanes k) (was.lanes_tell k);
     })
   where
-    stepped : (lanes : Bool) (k : ℕ) (rows' rows : List KeyedJob) → row_under rows' k ≡ last_by lanes k step before (row_under rows k) → row_under rows k ≡ last_job lanes k old
-        → row_under rows' k ≡ last_by lanes k (job_step i) (length (printed old)) (last_job lanes k old)
-    stepped lanes k rows' rows by tells = by ∙ (ap (λ (o : Option JobRow). last_by lanes k step before o) tells
-        ∙ (ap (λ (s : JobStep). last_by lanes k s before (last_job lanes k old)) does ∙ ap (λ (n : ℕ). last_by lanes k (job_step i) n (last_job lanes k old)) count))
+    stepped : (lanes : Bool) (k : ℕ) (rows' rows : List KeyedJob) → row_under rows' k ≡ last_job_by lanes k step before (row_under rows k) → row_under rows k ≡ last_job lanes k old
+        → row_under rows' k ≡ last_job_by lanes k (job_step i) (length (printed old)) (last_job lanes k old)
+    stepped lanes k rows' rows by tells = by ∙ (ap (λ (o : Option JobRow). last_job_by lanes k step before o) tells
+        ∙ (ap (λ (s : JobStep). last_job_by lanes k s before (last_job lanes k old)) does ∙ ap (λ (n : ℕ). last_job_by lanes k (job_step i) n (last_job lanes k old)) count))
 
 -- a book that has just been opened
 pub opened : (size : ℕ) (stops : List Stop) (es : List Entry) (numbers : Numbers) (rows : List NodeRow) (lines : List LineRow) (tickets : List TicketRow) (at_nodes of_lanes : List KeyedJob)

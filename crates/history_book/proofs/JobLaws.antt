@@ -24,7 +24,7 @@ use Rattle.history_tables.specs.declared.jobs.Job.{Job}
 use Rattle.history_tables.specs.declared.jobs.JobRow.{JobRow}
 use Rattle.history_tables.specs.declared.jobs.JobStep.{JobStep}
 use Rattle.history_tables.specs.declared.jobs.JobStep.TheVariants.{Begins, Ends, Passes}
-use Rattle.history_tables.specs.JobRows.{first_row, is_going, row_by, row_if_some, last_by, while_going}
+use Rattle.history_tables.specs.JobRows.{first_row, is_going, row_by, row_if_some, last_job_by, while_going}
 use Rattle.history_book.specs.Jobs.{job_step, last_job, job_at, job_of, StartsJob, IsOlder, MayBeginJob, IsInside, AreInside, IsCancelled, LaneJobShows}
 use Rattle.history_book.specs.Log.{Log, printed}
 use Rattle.history_book.specs.Turns.{StartsOnce, InTurn, AreInTurn}
@@ -57,7 +57,7 @@ going_apart job r going =
     apart false is none on = grind (arith, nat_tests)
 
 going_more : (s : JobStep) (before : ℕ) (log : Log) (r : JobRow) → is_going (row_by s r) ≡ true → last_job false r.job.node.0 log ≡ Some r
-    → last_by false r.job.node.0 s before (last_job false r.job.node.0 log) ≡ Some (row_by s r)
+    → last_job_by false r.job.node.0 s before (last_job false r.job.node.0 log) ≡ Some (row_by s r)
 going_more (Begins job) before log r going was =
     ap (λ (b : Bool). if b then Some (first_row job before) else row_if_some (Begins job) (last_job false r.job.node.0 log)) (going_apart job r going) ∙ ap (row_if_some (Begins job)) was
 going_more (Ends n number) before log r going was = ap (row_if_some (Ends n number)) was
@@ -65,26 +65,26 @@ going_more Passes before log r going was = ap (row_if_some Passes) was
 
 going_old : (s : JobStep) (before : ℕ) (log : Log) (o : Option JobRow) (row : JobRow) → row_if_some s o ≡ Some row → is_going row ≡ true
     → ((r : JobRow) → o ≡ Some r → is_going r ≡ true → last_job false r.job.node.0 log ≡ Some r)
-    → last_by false row.job.node.0 s before (last_job false row.job.node.0 log) ≡ Some row
+    → last_job_by false row.job.node.0 s before (last_job false row.job.node.0 log) ≡ Some row
 going_old s before log None row is going was = absurd (cc)
 going_old s before log (Some r) row is going was =
     let made : row_by s r ≡ row = cc in
     let on : is_going (row_by s r) ≡ true = ap is_going made ∙ going in
     let same : row_by s r ≡ r = going_same s r on in
     let old : last_job false r.job.node.0 log ≡ Some r = was r refl (ap is_going (sym same) ∙ on) in
-    subst (λ (x : JobRow). last_by false x.job.node.0 s before (last_job false x.job.node.0 log) ≡ Some x) (sym same ∙ made)
+    subst (λ (x : JobRow). last_job_by false x.job.node.0 s before (last_job false x.job.node.0 log) ≡ Some x) (sym same ∙ made)
     (going_more s before log r on old ∙ ap Some same)
 
-going_step : (lane : ℕ) (s : JobStep) (before : ℕ) (log : Log) (row : JobRow) → last_by true lane s before (last_job true lane log) ≡ Some row → is_going row ≡ true
+going_step : (lane : ℕ) (s : JobStep) (before : ℕ) (log : Log) (row : JobRow) → last_job_by true lane s before (last_job true lane log) ≡ Some row → is_going row ≡ true
     → ((r : JobRow) → last_job true lane log ≡ Some r → is_going r ≡ true → last_job false r.job.node.0 log ≡ Some r)
-    → last_by false row.job.node.0 s before (last_job false row.job.node.0 log) ≡ Some row
+    → last_job_by false row.job.node.0 s before (last_job false row.job.node.0 log) ≡ Some row
 going_step lane (Begins job) before log row is going was = begins (job.at.lane.0 == lane) is
   where
     begins : (b : Bool) → (if b then Some (first_row job before) else row_if_some (Begins job) (last_job true lane log)) ≡ Some row
-        → last_by false row.job.node.0 (Begins job) before (last_job false row.job.node.0 log) ≡ Some row
+        → last_job_by false row.job.node.0 (Begins job) before (last_job false row.job.node.0 log) ≡ Some row
     begins true new =
         let made : first_row job before ≡ row = cc in
-        subst (λ (x : JobRow). last_by false x.job.node.0 (Begins job) before (last_job false x.job.node.0 log) ≡ Some x) made
+        subst (λ (x : JobRow). last_job_by false x.job.node.0 (Begins job) before (last_job false x.job.node.0 log) ≡ Some x) made
         (ap (λ (b : Bool). if b then Some (first_row job before) else row_if_some (Begins job) (last_job false job.node.0 log)) (eq-eqb job.node.0 job.node.0 refl))
     begins false old = going_old (Begins job) before log (last_job true lane log) row old going was
 going_step lane (Ends n number) before log row is going was = going_old (Ends n number) before log (last_job true lane log) row is going was
@@ -349,7 +349,7 @@ shows_ended size past n number r s = tests ((r.job.node.0 == n.0) && (r.job.numb
     tests true = record { node = s.node; started = s.started; newest = s.newest; before = s.before; made = s.made; later = s.later }
     tests false = s
 
-lane_by : (lane : ℕ) (s : JobStep) (before : ℕ) (old : Option JobRow) (row : JobRow) → last_by true lane s before old ≡ Some row
+lane_by : (lane : ℕ) (s : JobStep) (before : ℕ) (old : Option JobRow) (row : JobRow) → last_job_by true lane s before old ≡ Some row
     → ((r : JobRow) → old ≡ Some r → r.job.at.lane.0 ≡ lane) → row.job.at.lane.0 ≡ lane
 lane_by lane s before old row is was = steps s is
   where
@@ -364,7 +364,7 @@ lane_by lane s before old row is was = steps s is
         let made : row_by s' r ≡ row = cc in
         ap (λ (x : JobRow). x.job.at.lane.0) (sym made) ∙ (ap (λ (j : Job). j.at.lane.0) (kept s' r) ∙ was r q)
 
-    steps : (s' : JobStep) → last_by true lane s' before old ≡ Some row → row.job.at.lane.0 ≡ lane
+    steps : (s' : JobStep) → last_job_by true lane s' before old ≡ Some row → row.job.at.lane.0 ≡ lane
     steps (Begins job) got = begins (job.at.lane.0 == lane) refl got
       where
         begins : (b : Bool) → (job.at.lane.0 == lane) ≡ b → (if b then Some (first_row job before) else row_if_some (Begins job) old) ≡ Some row → row.job.at.lane.0 ≡ lane
@@ -460,7 +460,7 @@ passes_old (Some r) row is = is
 
 kept_step : (size lane : ℕ) (log : Log) (i : Inner) → IsLegalPast size (printed log) → AreInTurn (printed log) → IsInside size log i
     → ((r : JobRow) → job_of lane log ≡ Some r → LaneJobShows size (printed log) r)
-    → (row : JobRow) → last_by true lane (job_step i) (length (printed log)) (last_job true lane log) ≡ Some row → LaneJobShows size (printed log) row
+    → (row : JobRow) → last_job_by true lane (job_step i) (length (printed log)) (last_job true lane log) ≡ Some row → LaneJobShows size (printed log) row
 kept_step size lane log (JobBegun line n number (Some v) (Some at)) legal turns inside was row is = begins (at.lane.0 == lane) refl is
   where
     job : Job

@@ -18,7 +18,7 @@ use Rattle.history_tables.specs.Begins.{begin, begun_by, open_line}
 use Rattle.history_laws.specs.Steps.{newest_by}
 use Rattle.history_book.specs.Steps.{primary_crashes_by, publish_by, published_by}
 use Rattle.history_book.specs.Turns.{StartsOnce, InTurn, AreInTurn}
-use Rattle.history_book.specs.Laws.{Started, IsStarted, Flying}
+use Rattle.history_book.specs.Laws.{Started, Flying}
 use Rattle.history_tables.proofs.RowLemmas.{by_test, same_at_self}
 
 pub same_at_is : (a b : At) → same_at a b ≡ true → a ≡ b
@@ -75,7 +75,7 @@ pub and_false : (b : Bool) → (b && false) ≡ false
 and_false true = refl
 and_false false = refl
 
-started_step : (at : At) (past : Past) (e : Entry) (b : Begun) (s : Bool) → (open_line at past ≡ Some b → IsStarted at past b)
+started_step : (at : At) (past : Past) (e : Entry) (b : Begun) (s : Bool) → (open_line at past ≡ Some b → Started (start_entry at past) (before_start at past) b)
     → (if s then begun_by e.event (length past) (length (operations_of_generation past)) (open_line at past) else open_line at past) ≡ Some b
     → Started (if is_start e.event && s then Some e.event else start_entry at past) (if is_start e.event && s then past else before_start at past) b
 started_step at past e b true was got =
@@ -86,7 +86,7 @@ started_step at past e b false was got =
     (was got)
 
 -- what is remembered of a line is how it started
-pub open_started : (at : At) (past : Past) (b : Begun) → open_line at past ≡ Some b → IsStarted at past b
+pub open_started : (at : At) (past : Past) (b : Begun) → open_line at past ≡ Some b → Started (start_entry at past) (before_start at past) b
 open_started at [] b is = absurd (cc)
 open_started at (e ∷ past) b is = started_step at past e b (same_at e.at at) (open_started at past b) is
 

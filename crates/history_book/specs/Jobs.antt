@@ -13,7 +13,7 @@ use Rattle.history_tables.specs.declared.jobs.JobStep.{JobStep}
 use Rattle.history_tables.specs.declared.jobs.JobStep.TheVariants.{Begins, Ends, Passes}
 use Rattle.history_tables.specs.declared.jobs.KeyedJob.{KeyedJob}
 use Rattle.history_tables.specs.Begins.{open_line}
-use Rattle.history_tables.specs.JobRows.{last_by, while_going, row_under}
+use Rattle.history_tables.specs.JobRows.{last_job_by, while_going, row_under}
 use Rattle.history_book.specs.declared.inner.Inner.{Inner}
 use Rattle.history_book.specs.declared.inner.Inner.TheVariants.{JobBegun, JobEnd}
 use Rattle.history_book.specs.declared.inner.Mark.TheVariants.{Kept}
@@ -28,7 +28,7 @@ job_step i = Passes
 -- what is remembered of the last job that began for a line of a lane, or at a node
 abbrev pub last_job : Bool → ℕ → Log → Option JobRow
 last_job lanes k [] = None
-last_job lanes k (Kept i ∷ log) = last_by lanes k (job_step i) (length (printed log)) (last_job lanes k log)
+last_job lanes k (Kept i ∷ log) = last_job_by lanes k (job_step i) (length (printed log)) (last_job lanes k log)
 last_job lanes k (m ∷ log) = last_job lanes k log
 
 -- the job that runs at a node: the last one, unless it has ended, or the node or a primary has crashed since

@@ -23,10 +23,6 @@ pub record Started (begin : Option Event) (start : Past) (b : Begun) : Type 0 wh
   pub before : b.before ≡ length start
   pub accepted : b.accepted ≡ length (operations_of_generation start)
 
--- a line started as is remembered of it
-abbrev pub IsStarted : At → Past → Begun → Type 0
-IsStarted at past b = Started (start_entry at past) (before_start at past) b
-
 -- the publish of this line is in flight: nothing was published since it started
 pub record Flying (past : Past) (at : At) : Type 0 where
   pub entry : start_entry at past ≡ Some Publishing

@@ -45,12 +45,14 @@ impl Model for Book {
     ghost view = { λ b. record {
       nodes = b.nodes;
       log = weave (reverse b.stops.items) (reverse b.entries.items);
-      room = min (vec_capacity b.entries - vec_len b.entries) (vec_capacity b.stops - vec_len b.stops);
+      room = min (vec_capacity b.entries - vec_len b.entries)
+          (vec_capacity b.stops - vec_len b.stops);
       places = min b.lines.room b.tickets.room;
       jobs = min b.node_jobs.room b.lane_jobs.room;
     } };
 
-    ghost invariant = { λ b. IsWoven (reverse b.stops.items) (reverse b.entries.items) (length b.entries.items)
+    ghost invariant = { λ b.
+        IsWoven (reverse b.stops.items) (reverse b.entries.items) (length b.entries.items)
         × Tells (printed (weave (reverse b.stops.items) (reverse b.entries.items))) b.nodes
         (length b.entries.items) b.numbers b.rows.items b.lines.rows b.tickets.rows
         × HoldsJobs b.nodes (weave (reverse b.stops.items) (reverse b.entries.items))
@@ -256,7 +258,8 @@ impl Book {
     fn committer_of(&self, at: At) -> Option<NodeNo>
         requires { (start_entry at (printed self.now.log) ≡ None)
             ⊎ (open_line at (printed self.now.log) ≢ None) }
-        ensures { (k : ℕ) → starts_commit k (start_entry at (printed self.now.log)) ≡ is_at result k }
+        ensures { (k : ℕ) → starts_commit k (start_entry at (printed self.now.log))
+            ≡ is_at result k }
     {
         match self.lines.get(at) {
             Some(begun) => commit_node(begun.start),
@@ -277,7 +280,8 @@ impl Book {
     pub fn is_started(&self, at: At, event: &Event)
         requires start { is_start event.now ≡ true }
         requires last { last_of_line at (printed self.now.log) ≡ Some event.now }
-        ensures { LastStarted (start_entry at (printed self.now.log)) (has_switched at (printed self.now.log))
+        ensures { LastStarted (start_entry at (printed self.now.log))
+            (has_switched at (printed self.now.log))
             (open_line at (printed self.now.log)) event.now }
     {
         let _numbers = &self.numbers;
@@ -286,7 +290,8 @@ impl Book {
     /// A copy whose newest entry is its start is open, and has not switched. A law.
     pub fn copy_started(&self, at: At, n: NodeNo, v: Version)
         requires last { last_of_line at (printed self.now.log) ≡ Some (Event.Copying n v) }
-        ensures { LastStarted (start_entry at (printed self.now.log)) (has_switched at (printed self.now.log))
+        ensures { LastStarted (start_entry at (printed self.now.log))
+            (has_switched at (printed self.now.log))
             (open_line at (printed self.now.log)) (Event.Copying n v) }
     {
         let _numbers = &self.numbers;
@@ -340,7 +345,8 @@ impl Book {
         requires survives { NodeSurvives (printed self.now.log) at n.0 }
         ensures flight { commit_in_flight n.0 (printed self.now.log) ≡ Some at }
         ensures started { LastStarted (start_entry at (printed self.now.log))
-            (has_switched at (printed self.now.log)) (open_line at (printed self.now.log)) (Event.Committing n v) }
+            (has_switched at (printed self.now.log)) (open_line at (printed self.now.log))
+            (Event.Committing n v) }
     {
         let _numbers = &self.numbers;
     }
@@ -558,7 +564,8 @@ impl Book {
     /// The line whose copy of the newest version to a node is in flight.
     pub fn copying(&self, n: NodeNo) -> Option<At>
         requires { IsNode self.now.nodes n.0 }
-        ensures { result ≡ copy_in_flight n.0 (newest_version (printed self.now.log)) (printed self.now.log) }
+        ensures { result ≡ copy_in_flight n.0 (newest_version (printed self.now.log))
+            (printed self.now.log) }
     {
         self.row(n).work.copying
     }
@@ -571,7 +578,8 @@ impl Book {
         self.row(n).work.highest
     }
 
-    /// Whether a disk fault refused a commit of a node, and neither was one acknowledged since nor did it reopen.
+    /// Whether a disk fault refused a commit of a node, and neither was one acknowledged since nor
+    /// did it reopen.
     pub fn is_stuck(&self, n: NodeNo) -> bool
         requires { IsNode self.now.nodes n.0 }
         ensures { result ≡ is_stuck n.0 (printed self.now.log) }
@@ -598,7 +606,8 @@ impl Book {
     /// The open ticket of a lane.
     pub fn ticket(&self, lane: LaneNo, t: TicketNo) -> Option<Opening>
         ensures none { result ≡ None → open_ticket lane.0 t.0 (printed self.now.log) ≡ None }
-        ensures some { IfSome result (λ o. open_ticket lane.0 t.0 (printed self.now.log) ≡ Some (ticket_of o)) }
+        ensures some { IfSome result (λ o.
+            open_ticket lane.0 t.0 (printed self.now.log) ≡ Some (ticket_of o)) }
     {
         if t.0 == 0 {
             return None;
@@ -619,7 +628,8 @@ impl Book {
     #[tactic(auto, using(crate::proofs::LineLaws::opened_node))]
     fn opening(&self, lane: LaneNo, t: TicketNo) -> Option<Opening>
         ensures none { result ≡ None → last_opened lane.0 t.0 (printed self.now.log) ≡ None }
-        ensures some { IfSome result (λ o. last_opened lane.0 t.0 (printed self.now.log) ≡ Some (ticket_of o)) }
+        ensures some { IfSome result (λ o.
+            last_opened lane.0 t.0 (printed self.now.log) ≡ Some (ticket_of o)) }
         ensures node { IfSome result (λ o. IsNode self.now.nodes o.node.0) }
     {
         self.tickets.get(lane, t)
@@ -697,7 +707,8 @@ impl Book {
         let _numbers = &self.numbers;
     }
 
-    /// The node of the last job of a lane is a replica while neither it nor the primary has crashed since the line's start. A law.
+    /// The node of the last job of a lane is a replica while neither it nor the primary has
+    /// crashed since the line's start. A law.
     pub fn job_replica(&self, row: JobRow)
         requires job { job_of row.job.at.lane.0 self.now.log ≡ Some row }
         requires node { NodeSurvives (printed self.now.log) row.job.at row.job.node.0 }
@@ -707,7 +718,8 @@ impl Book {
         let _numbers = &self.numbers;
     }
 
-    /// The node of the last job of a lane may switch to the job's version, where it is below that of the line's start. A law.
+    /// The node of the last job of a lane may switch to the job's version, where it is below that
+    /// of the line's start. A law.
     pub fn job_switches(&self, row: JobRow)
         requires job { job_of row.job.at.lane.0 self.now.log ≡ Some row }
         requires node { NodeSurvives (printed self.now.log) row.job.at row.job.node.0 }
@@ -716,7 +728,8 @@ impl Book {
             < newest_version (before_start row.job.at (printed self.now.log)) }
         requires latest { highest_copy row.job.node.0 (printed self.now.log) ≤ row.job.version.0 }
         requires ordered { highest_switched row.job.at (printed self.now.log) < row.job.node.0 }
-        ensures { MaySwitch self.now.nodes (printed self.now.log) row.job.at row.job.node row.job.version }
+        ensures { MaySwitch self.now.nodes (printed self.now.log) row.job.at row.job.node
+            row.job.version }
     {
         let _numbers = &self.numbers;
     }

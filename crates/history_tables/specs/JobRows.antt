@@ -39,10 +39,10 @@ key_of true job = job.at.lane.0
 key_of false job = job.node.0
 
 -- what is remembered of the last job of a key after one more step
-abbrev pub last_by : Bool → ℕ → JobStep → ℕ → Option JobRow → Option JobRow
-last_by lanes k (Begins job) before old = if key_of lanes job == k then Some (first_row job before) else row_if_some (Begins job) old
-last_by lanes k (Ends n number) before old = row_if_some (Ends n number) old
-last_by lanes k Passes before old = row_if_some Passes old
+abbrev pub last_job_by : Bool → ℕ → JobStep → ℕ → Option JobRow → Option JobRow
+last_job_by lanes k (Begins job) before old = if key_of lanes job == k then Some (first_row job before) else row_if_some (Begins job) old
+last_job_by lanes k (Ends n number) before old = row_if_some (Ends n number) old
+last_job_by lanes k Passes before old = row_if_some Passes old
 
 -- the job of a row that has not ended, where neither the node nor a primary has crashed since it began
 abbrev pub while_going : ℕ → Past → Option JobRow → Option Job

@@ -142,7 +142,7 @@ fn without(rows: &mut Vec<KeyedJob>, key: u8)
 
 impl JobTable {
     ghost use Rattle.std.specs.Prelude.{ℕ, ◌≡◌, ◌≤◌, ◌==◌, Option, None, Some, [], true, if◌then◌else◌, OnOk};
-    ghost use Rattle.history_tables.specs.JobRows.{is_begin, row_under, row_if_some, last_by};
+    ghost use Rattle.history_tables.specs.JobRows.{is_begin, row_under, row_if_some, last_job_by};
 
     pub fn new(alloc: Global) -> Self
         ensures { result.rows ≡ [] }
@@ -175,7 +175,8 @@ impl JobTable {
     #[tactic(auto, using(crate::proofs::JobRowLemmas::job_row_kept))]
     fn forget(&mut self, key: u8)
         ensures room { self.old.room ≤ self.new.room }
-        ensures rows { (k : ℕ) → row_under self.new.rows k ≡ (if key == k then None else row_under self.old.rows k) }
+        ensures rows { (k : ℕ) → row_under self.new.rows k
+            ≡ (if key == k then None else row_under self.old.rows k) }
     {
         without(&mut self.rows, key);
     }
@@ -184,14 +185,16 @@ impl JobTable {
     fn remember(&mut self, key: u8, row: JobRow)
         requires room { 1 ≤ self.old.room }
         requires fresh { row_under self.old.rows key ≡ None }
-        ensures { (k : ℕ) → row_under self.new.rows k ≡ (if key == k then Some row else row_under self.old.rows k) }
+        ensures { (k : ℕ) → row_under self.new.rows k
+            ≡ (if key == k then Some row else row_under self.old.rows k) }
     {
         self.rows.push_reserved(KeyedJob { key, row });
     }
 
     fn put(&mut self, key: u8, row: JobRow)
         requires { 1 ≤ self.old.room }
-        ensures { (k : ℕ) → row_under self.new.rows k ≡ (if key == k then Some row else row_under self.old.rows k) }
+        ensures { (k : ℕ) → row_under self.new.rows k
+            ≡ (if key == k then Some row else row_under self.old.rows k) }
     {
         self.forget(key);
         self.remember(key, row);
@@ -200,15 +203,18 @@ impl JobTable {
     #[tactic(auto, using(crate::proofs::JobRowLemmas::job_row_after))]
     fn go_on(&mut self, step: JobStep)
         ensures room { self.old.room ≤ self.new.room }
-        ensures rows { (k : ℕ) → row_under self.new.rows k ≡ row_if_some step (row_under self.old.rows k) }
+        ensures rows { (k : ℕ) → row_under self.new.rows k
+            ≡ row_if_some step (row_under self.old.rows k) }
     {
         each_after(&mut self.rows, step);
     }
 
-    /// After one more step, where so many printed entries stood before it. The keys are lanes, or nodes.
+    /// After one more step, where so many printed entries stood before it. The keys are lanes,
+    /// or nodes.
     pub fn step(&mut self, lanes: bool, step: JobStep, before: usize)
         requires { is_begin step ≡ true → 1 ≤ self.old.room }
-        ensures { (k : ℕ) → row_under self.new.rows k ≡ last_by lanes k step before (row_under self.old.rows k) }
+        ensures { (k : ℕ) → row_under self.new.rows k
+            ≡ last_job_by lanes k step before (row_under self.old.rows k) }
     {
         self.go_on(step);
         if let JobStep::Begins(job) = step {
