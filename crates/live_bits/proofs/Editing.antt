@@ -189,7 +189,7 @@ last_byte n bits some e =
 
 -- ---- the bits past the last row
 
-shifted_bit : (b r j : ℕ) → bit_at (b / 2 ^ r) j ≡ bit_at b (r + j)
+pub shifted_bit : (b r j : ℕ) → bit_at (b / 2 ^ r) j ≡ bit_at b (r + j)
 shifted_bit b r j = ap (λ (x : ℕ). x % 2) (div-div-eq-div-mul b (2 ^ r) (2 ^ j) ∙ ap (λ (x : ℕ). b / x) (sym (pow-add 2 r j)))
 
 below_of_shift : (b r : ℕ) → b / 2 ^ r ≡ 0 → b < 2 ^ r

@@ -1,5 +1,6 @@
 mod BitLaws
 mod Packing
 pub mod Editing
+mod NextRow
 mod Bodies
 pub mod FileLaws

@@ -1,5 +1,5 @@
 -- Live rows: the body of their file, and the file.
-use Rattle.std.specs.Prelude.{◌≡◌, ℕ, ◌+◌, ◌/◌, ◌%◌, ◌<◌, ◌^◌, ◌==◌, List, ◌++◌, length, slice_index, slice_index_or, Bool, false, codes, Some}
+use Rattle.std.specs.Prelude.{◌≡◌, ℕ, ◌+◌, ◌/◌, ◌%◌, ◌<◌, ◌≤◌, ◌^◌, ◌==◌, List, ◌++◌, length, slice_index, slice_index_or, Bool, true, false, codes, Some}
 use Rattle.std.specs.List.{count_by}
 use Rattle.std.specs.Int.{bit_at}
 use Rattle.file_names.specs.Base36.{base36_of}
@@ -15,6 +15,17 @@ has_bit bits i = bit_at (slice_index bits (i / 8)) (i % 8) == 1
 -- how many rows are live
 abbrev pub live_rows : List Bool → ℕ
 live_rows live = count_by (λ row. row) live
+
+-- no row at or above this one is live
+abbrev pub AreDeadFrom : ℕ → List Bool → Type 0
+AreDeadFrom least live = (i : ℕ) → least ≤ i → slice_index_or live i false ≡ false
+
+-- the row is the first live one at or above a row
+pub record IsFirstLive (least : ℕ) (live : List Bool) (row : ℕ) : Type 0 where
+  pub above : least ≤ row
+  pub within : row < length live
+  pub is_live : slice_index_or live row false ≡ true
+  pub dead : (i : ℕ) → least ≤ i → i < row → slice_index_or live i false ≡ false
 
 -- one bit for each row, set where it is live; the last byte's other bits are not set
 pub record IsPacked (bits : List ℕ) (live : List Bool) : Type 0 where

@@ -1,7 +1,7 @@
 //! Bits of rows, packed eight to a byte, the lowest first.
 
-ghost use Rattle.std.specs.Prelude.{◌≡◌, ◌↔◌, ℕ, ◌+◌, ◌*◌, ◌/◌, ◌^◌, ◌≤◌, ◌<◌, length, replicate, IsTrue, IfOk, true, false};
-ghost use Rattle.live_bits.specs.LiveRows.{has_bit, live_rows};
+ghost use Rattle.std.specs.Prelude.{◌≡◌, ◌↔◌, ℕ, ◌+◌, ◌*◌, ◌/◌, ◌^◌, ◌≤◌, ◌<◌, length, replicate, IsTrue, IfOk, MatchOption, true, false};
+ghost use Rattle.live_bits.specs.LiveRows.{has_bit, live_rows, AreDeadFrom, IsFirstLive};
 ghost use Rattle.live_bits.specs.Held.{rows_in, HoldsRows, ClearsBit};
 
 use nrt_base::NoMemory;
@@ -62,4 +62,26 @@ pub fn count_set(bits: &[u8]) -> u64
         count += u64::from(byte.count_ones());
     }
     count
+}
+
+/// The first of so many rows whose bit is set, at or above this one. Bits that are clear to the end of a byte are passed at
+/// once.
+pub fn next_set(bits: &[u8], rows: u32, least: u32) -> Option<u32>
+    requires { length bits.now ≡ (rows + 7) / 8 }
+    ensures { MatchOption result (AreDeadFrom least (rows_in rows bits.now))
+        (IsFirstLive least (rows_in rows bits.now)) }
+{
+    let mut row = least;
+    while row < rows {
+        let rest = bits[(row / 8) as usize] >> (row % 8);
+        if rest & 1 == 1 {
+            return Some(row);
+        }
+        let step = if rest == 0 { 8 - row % 8 } else { 1 };
+        if rows - row <= step {
+            return None;
+        }
+        row += step;
+    }
+    None
 }

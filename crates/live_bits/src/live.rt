@@ -1,9 +1,9 @@
 //! Which rows of a segment are live.
 
-ghost use Rattle.std.specs.Prelude.{◌≡◌, ◌<◌, length, replicate, slice_index_or, slice_set, true, false, IfOk};
-ghost use Rattle.live_bits.specs.LiveRows.{live_rows};
+ghost use Rattle.std.specs.Prelude.{◌≡◌, ◌<◌, length, replicate, slice_index_or, slice_set, true, false, IfOk, MatchOption};
+ghost use Rattle.live_bits.specs.LiveRows.{live_rows, AreDeadFrom, IsFirstLive};
 
-use crate::bits::{all_set, clear, is_set};
+use crate::bits::{all_set, clear, is_set, next_set};
 use nrt_base::{NoMemory, Share};
 use std::alloc::Global;
 use std::marker::Model;
@@ -56,6 +56,13 @@ impl LiveBits {
         ensures { result ≡ slice_index_or self.now row false }
     {
         is_set(&self.bits, row)
+    }
+
+    /// The first live row at or above this one. Eight dead rows are passed at once.
+    pub fn next_live(&self, least: u32) -> Option<u32>
+        ensures { MatchOption result (AreDeadFrom least self.now) (IsFirstLive least self.now) }
+    {
+        next_set(&self.bits, self.rows, least)
     }
 
     /// How many rows there are, and how many of them are live. Both are kept, so nothing is counted.

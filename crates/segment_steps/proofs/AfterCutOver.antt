@@ -30,7 +30,7 @@ raised : (own base n live rows : ℕ) → n + 1 ≤ live → own + live ≤ base
 raised own base n live rows lt bound few = omega (arith, lt, bound, few)
 
 module _ (g : ℕ) where
-  carried_fine : (r : SegRecord) (live : List Bool) → r.live ≡ r.rows → length live ≡ r.rows → IsFine g r → IsFine g (record_by g r (change_by live))
+  pub carried_fine : (r : SegRecord) (live : List Bool) → r.live ≡ r.rows → length live ≡ r.rows → IsFine g r → IsFine g (record_by g r (change_by live))
   carried_fine r live all long is = by_test (live_rows live == length live) refl (count_by-le-length (λ (row : Bool). row) live)
     where
       less : (m n : ℕ) → m ≤ n → (m ≡ n → ⊥) → m + 1 ≤ n

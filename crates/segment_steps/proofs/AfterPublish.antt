@@ -93,7 +93,7 @@ module _ (reads : Name → Content) where
 -- ---- live generations
 
 module _ (g : ℕ) where
-  new_bounded : (seg : SegNo) (live : List Bool) → record_generation (record_of seg live) ≤ g → IsBounded g (record_of seg live)
+  pub new_bounded : (seg : SegNo) (live : List Bool) → record_generation (record_of seg live) ≤ g → IsBounded g (record_of seg live)
   new_bounded seg live made =
       let few = count_by-le-length (λ (row : Bool). row) live in
       record { made = made; live_gen = by_test (live_rows live == length live) refl few; live = few }
@@ -105,7 +105,7 @@ module _ (g : ℕ) where
           strictly : live_rows live ≤ length live → (live_rows live ≡ length live → ⊥) → 1 + live_rows live ≤ live_base g (record_of seg live) + length live
           strictly few ne = grind arith
 
-  change_bounded : (gone : Doc → Bool) (r : SegRecord) (s : Shown) → live_rows s.live ≡ r.live → IsBounded g r → IsBounded g (record_by g r (live_change gone s))
+  pub change_bounded : (gone : Doc → Bool) (r : SegRecord) (s : Shown) → live_rows s.live ≡ r.live → IsBounded g r → IsBounded g (record_by g r (live_change gone s))
   change_bounded gone r s count is = by_test (live_rows (live_left gone s.docs s.live) == live_rows s.live) refl (fewer gone s.docs s.live)
     where
       by_test : (b : Bool) → (live_rows (live_left gone s.docs s.live) == live_rows s.live) ≡ b → live_rows (live_left gone s.docs s.live) ≤ live_rows s.live

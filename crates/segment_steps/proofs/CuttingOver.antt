@@ -45,7 +45,7 @@ each_in R [] (s ∷ ss) all = absurd all
 each_in R (r ∷ rs) [] all = absurd all
 each_in R (r ∷ rs) (s ∷ ss) all = (all.0, each_in R rs ss all.1)
 
-each_out : (R : SegRecord → Shown → Type 0) (ps : List Part) → Each (λ p. R p.0 p.1) ps → AllZip R (map (λ p. p.0) ps) (map (λ p. p.1) ps)
+pub each_out : (R : SegRecord → Shown → Type 0) (ps : List Part) → Each (λ p. R p.0 p.1) ps → AllZip R (map (λ p. p.0) ps) (map (λ p. p.1) ps)
 each_out R [] all = tt
 each_out R (p ∷ ps) all = (all.0, each_out R ps all.1)
 

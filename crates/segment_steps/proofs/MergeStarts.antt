@@ -34,16 +34,17 @@ parts_apart (r ∷ rs) (s ∷ ss) own = (others rs ss own.0, parts_apart rs ss o
     others (q ∷ qs) [] all = tt
     others (q ∷ qs) (u ∷ us) all = (ne_eqb r.seg.0 q.seg.0 all.0, others qs us all.1)
 
-module _ (reads : Name → Content) where
+-- R gives each document a mark
+module _ (R : SegRecord → Shown → Type 0) (own : (r : SegRecord) (s : Shown) → R r s → length s.live ≡ length s.docs) where
   rows_as_long : (ps : List Part) → AllByRecursion (λ (p : Part). length p.1.docs ≡ length p.1.live) ps → AllZip (λ (ds : List Doc) (rows : List Bool). length ds ≡ length rows) (documents_of ps) (lives_of ps)
   rows_as_long [] all = tt
   rows_as_long (p ∷ ps) all = (all.0, rows_as_long ps all.1)
 
-  each_long : (rs : List SegRecord) (ss : List Shown) → AllZip (IsSegmentIn reads) rs ss → AllByRecursion (λ (p : Part). length p.1.docs ≡ length p.1.live) (zip rs ss)
+  each_long : (rs : List SegRecord) (ss : List Shown) → AllZip R rs ss → AllByRecursion (λ (p : Part). length p.1.docs ≡ length p.1.live) (zip rs ss)
   each_long [] [] each = tt
   each_long [] (s ∷ ss) each = absurd each
   each_long (r ∷ rs) [] each = absurd each
-  each_long (r ∷ rs) (s ∷ ss) each = (sym (own_rows reads r s each.0), each_long rs ss each.1)
+  each_long (r ∷ rs) (s ∷ ss) each = (sym (own r s each.0), each_long rs ss each.1)
 
   dropped : (P : Part → Type 0) (n : ℕ) (ps : List Part) → AllByRecursion P ps → AllByRecursion P (drop n ps)
   dropped P zero ps all = all
@@ -59,16 +60,16 @@ module _ (reads : Name → Content) where
   mapped f from count ps = sym (take-map f count (drop from ps)) ∙ ap (take count) (sym (drop-map f from ps))
 
   -- A MERGE THAT STARTS is one in flight
-  pub start_is_merge : (seg : SegNo) (factor : ℕ) (held : List SegNo) (rs : List SegRecord) (ss : List Shown) (start : MergeStart) → IsStart seg factor held rs ss start → 2 ≤ factor → AllZip (IsSegmentIn reads) rs ss → AllPairs (λ r s. r.seg.0 ≢ s.seg.0) rs
+  pub merge_begins : (seg : SegNo) (factor : ℕ) (held : List SegNo) (rs : List SegRecord) (ss : List Shown) (start : MergeStart) → IsStart seg factor held rs ss start → 2 ≤ factor → AllZip R rs ss → AllPairs (λ r s. r.seg.0 ≢ s.seg.0) rs
       → IsMergeOf (zip rs ss) start.inputs (docs_by_input start.task.inputs) start.task.live
-  start_is_merge seg factor held rs ss start is some each apart =
+  merge_begins seg factor held rs ss start is some each apart =
       let ps = zip rs ss in
       let from = is.from in
       let front = take from ps in
       let mid = neighbours from factor ps in
       let back = drop factor (drop from ps) in
       let whole : front ++ (mid ++ back) ≡ ps = ap (λ (qs : List Part). front ++ qs) (take-append-drop factor (drop from ps)) ∙ take-append-drop from ps in
-      let long = AllZip-long (IsSegmentIn reads) rs ss each in
+      let long = AllZip-long R rs ss each in
       let within = is.first.is.within in
       let enough : 0 < length mid = omega (arith, length-take-le factor (drop from ps) (omega (arith, length-drop from ps, length-zip rs ss, long, within, length-map rs (size_by held))), some) in
       let numbers : start.inputs ≡ map (λ (p : Part). p.0.seg) mid =
@@ -163,38 +164,39 @@ many_docs (d ∷ docs) [] long = absurd (omega (arith, long))
 many_docs (d ∷ docs) (true ∷ live) long = omega (arith, many_docs docs live (omega (arith, long)), counted true live)
 many_docs (d ∷ docs) (false ∷ live) long = omega (arith, many_docs docs live (omega (arith, long)), counted false live)
 
-module _ (reads : Name → Content) where
-  each_from : (from : ℕ) (rs : List SegRecord) (ss : List Shown) → AllZip (IsSegmentIn reads) rs ss → AllZip (IsSegmentIn reads) (drop from rs) (drop from ss)
+-- R gives each document a mark, and as many rows are live as the record says
+module _ (R : SegRecord → Shown → Type 0) (own : (r : SegRecord) (s : Shown) → R r s → length s.live ≡ length s.docs) (count : (r : SegRecord) (s : Shown) → R r s → live_rows s.live ≡ r.live) where
+  each_from : (from : ℕ) (rs : List SegRecord) (ss : List Shown) → AllZip R rs ss → AllZip R (drop from rs) (drop from ss)
   each_from zero rs ss each = each
   each_from (suc from) [] [] each = tt
   each_from (suc from) [] (s ∷ ss) each = absurd each
   each_from (suc from) (r ∷ rs) [] each = absurd each
   each_from (suc from) (r ∷ rs) (s ∷ ss) each = each_from from rs ss each.1
 
-  each_to : (count : ℕ) (rs : List SegRecord) (ss : List Shown) → AllZip (IsSegmentIn reads) rs ss → AllZip (IsSegmentIn reads) (take count rs) (take count ss)
+  each_to : (count : ℕ) (rs : List SegRecord) (ss : List Shown) → AllZip R rs ss → AllZip R (take count rs) (take count ss)
   each_to zero rs ss each = tt
   each_to (suc count) [] [] each = tt
   each_to (suc count) [] (s ∷ ss) each = absurd each
   each_to (suc count) (r ∷ rs) [] each = absurd each
   each_to (suc count) (r ∷ rs) (s ∷ ss) each = (each.0, each_to count rs ss each.1)
 
-  rows_fit : (rs : List SegRecord) (ss : List Shown) → AllZip (IsSegmentIn reads) rs ss → AllZip HasAsManyRows ss (map (λ (s : Shown). s.live) ss)
+  rows_fit : (rs : List SegRecord) (ss : List Shown) → AllZip R rs ss → AllZip HasAsManyRows ss (map (λ (s : Shown). s.live) ss)
   rows_fit [] [] each = tt
   rows_fit [] (s ∷ ss) each = absurd each
   rows_fit (r ∷ rs) [] each = absurd each
-  rows_fit (r ∷ rs) (s ∷ ss) each = (own_rows reads r s each.0, rows_fit rs ss each.1)
+  rows_fit (r ∷ rs) (s ∷ ss) each = (own r s each.0, rows_fit rs ss each.1)
 
-  some_rows : (held : List SegNo) (rs : List SegRecord) (ss : List Shown) → AllZip (IsSegmentIn reads) rs ss → AllByRecursion (IsFree held) rs → 0 < length rs → 0 < length (all_live_docs (docs_by_input ss) (map (λ (s : Shown). s.live) ss))
+  some_rows : (held : List SegNo) (rs : List SegRecord) (ss : List Shown) → AllZip R rs ss → AllByRecursion (IsFree held) rs → 0 < length rs → 0 < length (all_live_docs (docs_by_input ss) (map (λ (s : Shown). s.live) ss))
   some_rows held [] ss each free some = absurd (omega (arith, some))
   some_rows held (r ∷ rs) [] each free some = absurd each
   some_rows held (r ∷ rs) (s ∷ ss) each free some =
       let live = free.0.live in
-      omega (arith, live, each.0.live, many_docs s.docs s.live (own_rows reads r s each.0), length-append (live_docs s.docs s.live) (all_live_docs (docs_by_input ss) (map (λ (u : Shown). u.live) ss)))
+      omega (arith, live, count r s each.0, many_docs s.docs s.live (own r s each.0), length-append (live_docs s.docs s.live) (all_live_docs (docs_by_input ss) (map (λ (u : Shown). u.live) ss)))
 
   -- THE TASK is fit to be merged
-  pub start_fits : (seg : SegNo) (factor : ℕ) (held : List SegNo) (rs : List SegRecord) (ss : List Shown) (start : MergeStart) → IsStart seg factor held rs ss start → 2 ≤ factor → AllZip (IsSegmentIn reads) rs ss
+  pub task_fits : (seg : SegNo) (factor : ℕ) (held : List SegNo) (rs : List SegRecord) (ss : List Shown) (start : MergeStart) → IsStart seg factor held rs ss start → 2 ≤ factor → AllZip R rs ss
       → AllZip HasAsManyRows start.task.inputs start.task.live × (0 < length (all_live_docs (docs_by_input start.task.inputs) start.task.live))
-  start_fits seg factor held rs ss start is some each =
+  task_fits seg factor held rs ss start is some each =
       let us = neighbours is.from factor ss in
       let qs = neighbours is.from factor rs in
       let these = each_to factor (drop is.from rs) (drop is.from ss) (each_from is.from rs ss each) in
@@ -205,3 +207,14 @@ module _ (reads : Name → Content) where
         subst (λ (xs : List Shown). 0 < length (all_live_docs (docs_by_input xs) start.task.live)) (sym is.segs_are)
             (subst (λ (ls : List (List Bool)). 0 < length (all_live_docs (docs_by_input us) ls)) (sym live) (some_rows held qs us these (inputs_free seg factor held rs ss start is) enough)),
       )
+
+-- ---- where the segments are in a directory
+
+module _ (reads : Name → Content) where
+  pub start_is_merge : (seg : SegNo) (factor : ℕ) (held : List SegNo) (rs : List SegRecord) (ss : List Shown) (start : MergeStart) → IsStart seg factor held rs ss start → 2 ≤ factor → AllZip (IsSegmentIn reads) rs ss → AllPairs (λ r s. r.seg.0 ≢ s.seg.0) rs
+      → IsMergeOf (zip rs ss) start.inputs (docs_by_input start.task.inputs) start.task.live
+  start_is_merge = merge_begins (IsSegmentIn reads) (own_rows reads)
+
+  pub start_fits : (seg : SegNo) (factor : ℕ) (held : List SegNo) (rs : List SegRecord) (ss : List Shown) (start : MergeStart) → IsStart seg factor held rs ss start → 2 ≤ factor → AllZip (IsSegmentIn reads) rs ss
+      → AllZip HasAsManyRows start.task.inputs start.task.live × (0 < length (all_live_docs (docs_by_input start.task.inputs) start.task.live))
+  start_fits = task_fits (IsSegmentIn reads) (own_rows reads) (λ r s is. is.live)

@@ -3,7 +3,7 @@ use Rattle.std.proofs.Common.{◌≡◌, ℕ, zero, suc, ◌+◌, ◌<◌, ◌�
 use Rattle.std.specs.Prelude.{◌&&◌, nat_eq}
 use Rattle.std.specs.List.{All, list_any, filter, enumerate_from}
 use Rattle.std.proofs.lemmas.Bool.{ne_eqb, eq-eqb, lt-ltb, le-ltb, cases_lt, cases_eq, or_right}
-use Rattle.std.proofs.lemmas.List.{same_lists, length-set, get_or-set_same, get_or-set_other}
+use Rattle.std.proofs.lemmas.List.{same_lists, length-set, get_or-set_same, get_or-set_other, get_or_default}
 use Rattle.std.proofs.lemmas.List.Folds.{list_any_none, list_any-from_Any}
 use Rattle.std.proofs.lemmas.List.Elements.{All-tail}
 use Rattle.nrt_base.specs.declared.doc.Doc.{Doc}
@@ -192,6 +192,46 @@ one_killed count row from next hits left rest was now new rows is moved found ki
         dead true l h p q = rw (p, q) refl
         dead false l h p q = refl
     at i b in' lt here (inr ne) = get_or-set_other now row i false b ne ∙ is.marks i b in' ∙ mark_at i row from hits (get_or was i b) found.from here between ne
+
+-- rows that are dead are passed with the hits before them
+pub dead_passed : (count row from to : ℕ) (hits left rest : List Hit) (was now : List Bool) → length was ≡ count → AreKilledTo count hits left was now from → rest ≡ from_row from left → IsLeastFrom from left row
+    → row ≤ to → to ≤ count → ((i : ℕ) → row ≤ i → i < to → get_or now i false ≡ false) → AreKilledTo count hits rest was now to
+dead_passed count row from to hits left rest was now rows is moved found le within dead = record {
+  within = within;
+  long = is.long;
+  stay = λ x past. ap (λ (hs : List Hit). is_row_hit hs x) moved ∙ rows_stay from x left (above x past) ∙ is.stay x (above x past);
+  below = subst (All (λ (h : Hit). row_of h < count)) (sym moved) (all_stay (λ (h : Hit). row_of h < count) from left is.below);
+  marks = λ i b lt. is.marks i b lt ∙ at i b lt (cases_lt i from) (cases_lt i row) (cases_lt i to);
+}
+  where
+    above : (x : ℕ) → to ≤ x → from ≤ x
+    above x past = let low = found.from in omega (arith, past, le, low)
+
+    none : (a : Bool) (h k : Bool) → a ≡ false → (a && h) ≡ (a && k)
+    none a h k e = rw e refl
+
+    no_hit : (i : ℕ) → from ≤ i → i < row → is_row_hit hits i ≡ false
+    no_hit i ge lt = sym (is.stay i ge) ∙ not_there i left (λ k d in' e. let far = found.least k d in' (omega (arith, e, ge)) in omega (arith, far, e, lt))
+
+    was_dead : (i : ℕ) (b : Bool) → i < length was → from ≤ i → row ≤ i → i < to → get_or was i b ≡ false
+    was_dead i b lt ge past low =
+        let same : get_or now i b ≡ (get_or was i b && not (ltb i from && is_row_hit hits i)) = is.marks i b lt in
+        let long = is.long in
+        let here : get_or now i b ≡ false = get_or_default now i b false (omega (arith, lt, long)) ∙ dead i past low in
+        let open : (get_or was i b && not (ltb i from && is_row_hit hits i)) ≡ (get_or was i b && true) = ap (λ (t : Bool). get_or was i b && not (t && is_row_hit hits i)) (le-ltb i from ge) in
+        let plain : (get_or was i b && true) ≡ get_or was i b = and_true (get_or was i b) in
+        sym plain ∙ sym open ∙ sym same ∙ here
+      where
+        and_true : (a : Bool) → (a && true) ≡ a
+        and_true true = refl
+        and_true false = refl
+
+    at : (i : ℕ) (b : Bool) → i < length was → (i < from) ⊎ (from ≤ i) → (i < row) ⊎ (row ≤ i) → (i < to) ⊎ (to ≤ i)
+        → (get_or was i b && not (ltb i from && is_row_hit hits i)) ≡ (get_or was i b && not (ltb i to && is_row_hit hits i))
+    at i b lt (inl low) r t = let up = found.from in rw (lt-ltb i from low, lt-ltb i to (omega (arith, low, up, le))) refl
+    at i b lt (inr ge) (inl before) t = rw (le-ltb i from ge, lt-ltb i to (omega (arith, before, le)), no_hit i ge before) refl
+    at i b lt (inr ge) (inr past) (inl low) = none (get_or was i b) (not (ltb i from && is_row_hit hits i)) (not (ltb i to && is_row_hit hits i)) (was_dead i b lt ge past low)
+    at i b lt (inr ge) (inr past) (inr high) = rw (le-ltb i from ge, le-ltb i to high) refl
 
 -- when no hit is left, the rows of all of them are dead
 pub hits_killed : (shown : Shown) (from : ℕ) (hits left : List Hit) (old new : Option (List Bool)) → HasAllRows shown new

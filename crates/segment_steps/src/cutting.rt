@@ -124,9 +124,9 @@ fn put_in_place(
         (zip records.now segs.now)) }
 {
     let mut made = NextSegments {
-        records: List::from_vec(Vec::new(alloc)),
-        segs: List::from_vec(Vec::new(alloc)),
-        files: List::from_vec(Vec::new(alloc)),
+        records: List::new(alloc),
+        segs: List::new(alloc),
+        files: List::new(alloc),
     };
     let mut placed = false;
     for at in 0..segs.len() {

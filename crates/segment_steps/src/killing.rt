@@ -1,13 +1,14 @@
 //! The rows of older segments that a cut makes dead.
 
-ghost use Rattle.std.specs.Prelude.{◌≡◌, ◌<◌, length, IfOk, OnOk};
+ghost use Rattle.std.specs.Prelude.{◌≡◌, ◌<◌, length, IfOk, MatchOption, OnOk};
 ghost use Rattle.std.specs.List.{All};
 ghost use Rattle.nrt_base.specs.declared.doc.Doc.{Doc};
 ghost use Rattle.documents.specs.declared.operation.Op.TheVariants.{Delete, Drop};
 ghost use Rattle.documents.specs.Documents.{removes};
 ghost use Rattle.postings_plain.specs.Postings.{row_of};
 ghost use Rattle.seg_reader.specs.Sound.{IsSound};
-ghost use Rattle.segment_steps.specs.Segments.{live_change};
+ghost use Rattle.live_bits.specs.LiveRows.{AreDeadFrom, IsFirstLive};
+ghost use Rattle.segment_steps.specs.Segments.{live_change, changed};
 ghost use Rattle.segment_steps.specs.Killing.{HasAllRows, where_fewer, KillsRow, KillsHits, KillsDocs};
 ghost use Rattle.segment_steps.specs.Marks.{is_gone};
 
@@ -17,6 +18,17 @@ use nrt_base::{Key, NoMemory, Share, Word};
 use postings_plain::Postings;
 use seg_reader::Segment;
 use std::alloc::Global;
+
+// The first row at or above this one that is live after the change.
+fn next_live(segment: &Segment, change: &Option<LiveBits>, least: u32) -> Option<u32>
+    ensures { MatchOption result (AreDeadFrom least (changed segment.now change.now).live)
+        (IsFirstLive least (changed segment.now change.now).live) }
+{
+    match change {
+        Some(live) => live.next_live(least),
+        None => segment.live_rows().next_live(least),
+    }
+}
 
 // Makes a row dead. The live rows are copied when the first of them dies.
 fn kill_row(
@@ -32,17 +44,15 @@ fn kill_row(
     match change {
         Some(live) => live.kill(row),
         None => {
-            if segment.is_live(row) {
-                let mut live = segment.live_rows().share(alloc)?;
-                live.kill(row);
-                *change = Some(live);
-            }
+            let mut live = segment.live_rows().share(alloc)?;
+            live.kill(row);
+            *change = Some(live);
         }
     }
     Ok(())
 }
 
-// Makes the rows of hits dead.
+// Makes the rows of hits dead. Neither dead rows between live ones nor hits between live rows are looked at one by one.
 fn kill_hits(
     alloc: Global,
     segment: &Segment,
@@ -53,15 +63,20 @@ fn kill_hits(
     requires rows { HasAllRows segment.now change.old }
     ensures { OnOk result (KillsHits segment.now hits.entry change.old change.new) }
 {
-    let count = segment.rows();
     let mut rows = hits;
     let mut from = 0;
     while let Some(row) = rows.next_from(from) {
-        if row >= count {
-            unreachable!();
+        match next_live(segment, change, row) {
+            Some(live) => {
+                if live == row {
+                    kill_row(alloc, segment, change, row)?;
+                    from = row + 1;
+                } else {
+                    from = live;
+                }
+            }
+            None => return Ok(()),
         }
-        kill_row(alloc, segment, change, row)?;
-        from = row + 1;
     }
     Ok(())
 }

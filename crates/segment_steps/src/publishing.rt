@@ -30,7 +30,7 @@ fn fresh_of(alloc: Global, new: Option<SegFiles>) -> Result<Fresh, NoMemory>
     match new {
         None => Ok(Fresh {
             part: None,
-            files: List::from_vec(Vec::new(alloc)),
+            files: List::new(alloc),
         }),
         Some(built) => {
             let segment = read_back(alloc, &built)?;
@@ -110,8 +110,8 @@ pub fn next_segments(
     let FlushWork { files, live } = work;
     let fresh = fresh_of(alloc, files)?;
     let mut made = NextSegments {
-        records: List::from_vec(Vec::new(alloc)),
-        segs: List::from_vec(Vec::new(alloc)),
+        records: List::new(alloc),
+        segs: List::new(alloc),
         files: fresh.files,
     };
     take_all(
