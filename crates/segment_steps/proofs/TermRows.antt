@@ -218,9 +218,9 @@ dead_passed count row from to hits left rest was now rows is moved found le with
         let same : get_or now i b ≡ (get_or was i b && not (ltb i from && is_row_hit hits i)) = is.marks i b lt in
         let long = is.long in
         let here : get_or now i b ≡ false = get_or_default now i b false (omega (arith, lt, long)) ∙ dead i past low in
-        let open : (get_or was i b && not (ltb i from && is_row_hit hits i)) ≡ (get_or was i b && true) = ap (λ (t : Bool). get_or was i b && not (t && is_row_hit hits i)) (le-ltb i from ge) in
+        let unkilled : (get_or was i b && not (ltb i from && is_row_hit hits i)) ≡ (get_or was i b && true) = ap (λ (t : Bool). get_or was i b && not (t && is_row_hit hits i)) (le-ltb i from ge) in
         let plain : (get_or was i b && true) ≡ get_or was i b = and_true (get_or was i b) in
-        sym plain ∙ sym open ∙ sym same ∙ here
+        sym plain ∙ sym unkilled ∙ sym same ∙ here
       where
         and_true : (a : Bool) → (a && true) ≡ a
         and_true true = refl

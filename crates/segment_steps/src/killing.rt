@@ -63,9 +63,13 @@ fn kill_hits(
     requires rows { HasAllRows segment.now change.old }
     ensures { OnOk result (KillsHits segment.now hits.entry change.old change.new) }
 {
+    let count = segment.rows();
     let mut rows = hits;
     let mut from = 0;
     while let Some(row) = rows.next_from(from) {
+        if row >= count {
+            unreachable!();
+        }
         match next_live(segment, change, row) {
             Some(live) => {
                 if live == row {
