@@ -1,4 +1,4 @@
-use Rattle.std.proofs.Common.{◌≡◌, ℕ, ◌<◌, refl, sym, ap, ◌∙◌, length, arith}
+use Rattle.std.proofs.Common.{refl, length, arith}
 use Rattle.segment_steps.specs.Segments.{changed}
 use Rattle.segment_steps.proofs.TermRows.{row_below, one_killed, dead_passed, hits_killed}
 use Rattle.segment_steps.proofs.killing.kill_hits.Goals as goal
