@@ -1,0 +1,2 @@
+pub mod MergeRowLemmas
+pub mod MergeFrames
