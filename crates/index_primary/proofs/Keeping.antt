@@ -39,6 +39,28 @@ point_counted cells files searchers names book node q some = omega (arith, some,
 pub book_counted : (cells : Cells) (files : Holdings) (hs : List Name) (book : CommitBook) → IsWholeNode cells files hs book → (q : Name) → is_among (book_names book) q ≡ true → 0 < count_of files q
 book_counted cells files hs book node q there = omega (arith, among_times (book_names book) q there, node.counts q)
 
+-- what a primary names with these states out
+pub states_split : {D : Type 0} (p : Parts D) (states : List Out) (q : Name) → times (searcher_names p.searchers ++ (p.names ++ (state_names states ++ merge_names p.merges))) q
+    ≡ times (searcher_names p.searchers) q + (times p.names q + (times (state_names states) q + times (merge_names p.merges) q))
+states_split p states q =
+    let rest : List Name = state_names states ++ merge_names p.merges in
+    let a : times (searcher_names p.searchers ++ (p.names ++ rest)) q ≡ times (searcher_names p.searchers) q + times (p.names ++ rest) q = times-append (searcher_names p.searchers) (p.names ++ rest) q in
+    let b : times (p.names ++ rest) q ≡ times p.names q + times rest q = times-append p.names rest q in
+    let c : times rest q ≡ times (state_names states) q + times (merge_names p.merges) q = times-append (state_names states) (merge_names p.merges) q in
+    omega (arith, a, b, c)
+
+-- the states add names of the point alone, so the primary names no more
+pub states_only : {D : Type 0} (p : Parts D) (states : List Out) → AddsOnly p.searchers.point.names (state_names p.states) (state_names states)
+    → AddsOnly [] (primary_names p) (searcher_names p.searchers ++ (p.names ++ (state_names states ++ merge_names p.merges)))
+states_only p states only = record {
+  each = λ q none nil.
+      let was : times (primary_names p) q ≡ times (searcher_names p.searchers) q + (times p.names q + (times (state_names p.states) q + times (merge_names p.merges) q)) = states_split p p.states q in
+      let point : times (searcher_names p.searchers) q ≡ times p.searchers.point.names q + times (ticket_names p.searchers.tickets) q = times-append p.searchers.point.names (ticket_names p.searchers.tickets) q in
+      let zero_states : times (state_names p.states) q ≡ 0 = omega (arith, none, was) in
+      let zero_point : times p.searchers.point.names q ≡ 0 = omega (arith, none, was, point) in
+      omega (arith, none, was, states_split p states q, only.each q zero_states zero_point);
+}
+
 module _ {D : Type 0} (cells : D → Cells) (p : Parts D) (is : IsPrimary cells p) where
   -- ---- a call that is lent the searchers, after which they search the same point
   pub primary_searchers : (dir : D) (files : Holdings) (searchers : Searchers Shown) → MovesCounts [] (searcher_names p.searchers) (searcher_names searchers) p.files files (cells p.dir) (cells dir)
@@ -71,21 +93,9 @@ module _ {D : Type 0} (cells : D → Cells) (p : Parts D) (is : IsPrimary cells 
   pub primary_states : (dir : D) (files : Holdings) (states : List Out) → MovesCounts [] (state_names p.states) (state_names states) p.files files (cells p.dir) (cells dir)
       → AddsOnly p.searchers.point.names (state_names p.states) (state_names states) → IsPrimary cells (record p { dir = dir; files = files; states = states })
   primary_states dir files states moves only =
-      let split : (q : Name) → times (primary_names p) q ≡ times (searcher_names p.searchers) q + (times p.names q + (times (state_names p.states) q + times (merge_names p.merges) q)) =
-      λ q. let a : times (primary_names p) q ≡ times (searcher_names p.searchers) q + times (p.names ++ rest_names p) q = times-append (searcher_names p.searchers) (p.names ++ rest_names p) q in
-      let b : times (p.names ++ rest_names p) q ≡ times p.names q + times (rest_names p) q = times-append p.names (rest_names p) q in
-      let c : times (rest_names p) q ≡ times (state_names p.states) q + times (merge_names p.merges) q = times-append (state_names p.states) (merge_names p.merges) q in omega (arith, a, b, c) in
-      let splits : (q : Name) → times (searcher_names p.searchers ++ (p.names ++ (state_names states ++ merge_names p.merges))) q ≡ times (searcher_names p.searchers) q + (times p.names q + (times (state_names states) q + times (merge_names p.merges) q)) =
-      λ q. let a : times (searcher_names p.searchers ++ (p.names ++ (state_names states ++ merge_names p.merges))) q ≡ times (searcher_names p.searchers) q + times (p.names ++ (state_names states ++ merge_names p.merges)) q = times-append (searcher_names p.searchers) (p.names ++ (state_names states ++ merge_names p.merges)) q in
-      let b : times (p.names ++ (state_names states ++ merge_names p.merges)) q ≡ times p.names q + times (state_names states ++ merge_names p.merges) q = times-append p.names (state_names states ++ merge_names p.merges) q in
-      let c : times (state_names states ++ merge_names p.merges) q ≡ times (state_names states) q + times (merge_names p.merges) q = times-append (state_names states) (merge_names p.merges) q in omega (arith, a, b, c) in
-      let point : (q : Name) → times (searcher_names p.searchers) q ≡ times p.searchers.point.names q + times (ticket_names p.searchers.tickets) q = λ q. times-append p.searchers.point.names (ticket_names p.searchers.tickets) q in
-      let all : AddsOnly [] (primary_names p) (searcher_names p.searchers ++ (p.names ++ (state_names states ++ merge_names p.merges))) = record {
-        each = λ q none nil.
-            let zero_states : times (state_names p.states) q ≡ 0 = omega (arith, none, split q) in
-            let zero_point : times p.searchers.point.names q ≡ 0 = omega (arith, none, split q, point q) in
-            omega (arith, none, split q, splits q, only.each q zero_states zero_point);
-      } in
+      let split = states_split p p.states in
+      let splits = states_split p states in
+      let all = states_only p states only in
       let node : IsWholeNode (cells dir) files (searcher_names p.searchers ++ (p.names ++ (state_names states ++ merge_names p.merges))) p.commits = node_moves (cells p.dir) (cells dir) p.files files (primary_names p) (searcher_names p.searchers ++ (p.names ++ (state_names states ++ merge_names p.merges)))
       (state_names p.states) (state_names states) p.commits [] is.node (nothing_written p.commits) moves (λ q. omega (arith, split q, splits q)) (record { each = λ q named. all.each q (is.node.plain.each q named) refl }) in
       record {

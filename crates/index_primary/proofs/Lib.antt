@@ -12,3 +12,4 @@ pub mod Turns
 pub mod Joining
 pub mod Working
 pub mod Callers
+pub mod NewFiles

@@ -12,14 +12,14 @@ use Rattle.index_primary.specs.declared.parts.Publish.{Publish}
 use Rattle.index_primary.specs.Held.{IsHeld, IsUnused, drawn_to, IsNextLive, IsUndrawn, part, live, next_live, IsDrawnRecord, AreNumbered}
 use Rattle.index_primary.specs.Primary.{publish_loose, rest_loose, loose_of, IsPrimary}
 
-undrawn_of : (infos other : Infos) (loose still : List ℕ) → ((seg : ℕ) → IsUnused other still seg → IsUnused infos loose seg) → ((r : SegRecord) (live_gen : ℕ) → IsNextLive other r live_gen → IsNextLive infos r live_gen)
+pub undrawn_of : (infos other : Infos) (loose still : List ℕ) → ((seg : ℕ) → IsUnused other still seg → IsUnused infos loose seg) → ((r : SegRecord) (live_gen : ℕ) → IsNextLive other r live_gen → IsNextLive infos r live_gen)
     → (q : Name) → IsUndrawn other still q → IsUndrawn infos loose q
 undrawn_of infos other loose still unused lives q (part seg which u e) = part seg which (unused seg u) e
 undrawn_of infos other loose still unused lives q (live seg live_gen u small e) = live seg live_gen (unused seg u) small e
 undrawn_of infos other loose still unused lives q (next_live r live_gen is e) = next_live r live_gen (lives r live_gen is) e
 
 -- what is loose beside a publish
-behind_loose : (infos : Infos) (first rest : List ℕ) (seg : ℕ) → IsUnused infos rest seg → IsUnused infos (first ++ rest) seg
+pub behind_loose : (infos : Infos) (first rest : List ℕ) (seg : ℕ) → IsUnused infos rest seg → IsUnused infos (first ++ rest) seg
 behind_loose infos first rest seg (small, inl le) = (small, inl le)
 behind_loose infos first rest seg (small, inr c) = (small, inr (Contains-append_right first rest seg c))
 
@@ -45,11 +45,11 @@ primary_idle cells p is = record {
   alone = tt;
 }
 
-abbrev counted_on : Infos → Infos
+abbrev pub counted_on : Infos → Infos
 counted_on infos = record infos { counter = infos.counter + 1 }
 
 -- the number that is drawn was not drawn before
-drawn_now : (infos : Infos) (rest : List ℕ) (seg : ℕ) → IsUnused (counted_on infos) (drawn_to infos ∷ rest) seg → IsUnused infos rest seg
+pub drawn_now : (infos : Infos) (rest : List ℕ) (seg : ℕ) → IsUnused (counted_on infos) (drawn_to infos ∷ rest) seg → IsUnused infos rest seg
 drawn_now infos rest seg (small, inl le) = (small, inl (omega (arith, le)))
 drawn_now infos rest seg (small, inr (zero, lt, e)) = (small, inl (omega (arith, e)))
 drawn_now infos rest seg (small, inr (suc k, lt, e)) = (small, inr (k, omega (arith, lt), e))

@@ -1,5 +1,5 @@
 -- What calls make of a primary's parts.
-use Rattle.std.specs.Prelude.{◌≡◌, ◌+◌, false, List, [], Option, Some, None}
+use Rattle.std.specs.Prelude.{◌≡◌, ◌+◌, ◌<◌, false, List, [], Option, Some, None}
 use Rattle.disk_model.specs.Disk.{Name}
 use Rattle.file_deleter.specs.Holdings.{count_of}
 use Rattle.segment_infos.specs.declared.infos.Infos.{Infos}
@@ -12,6 +12,8 @@ use Rattle.segment_steps.specs.declared.next.NextSegments.{NextSegments}
 use Rattle.segment_steps.specs.Next.{IsNextOf}
 use Rattle.index_primary.specs.declared.parts.Parts.{Parts}
 use Rattle.index_primary.specs.States.{merge_inputs}
+use Rattle.index_primary.specs.Held.{IsUndrawn}
+use Rattle.index_primary.specs.Primary.{loose_of}
 use Rattle.index_primary.specs.Publishing.{next_infos}
 use Rattle.index_primary.specs.Cut.{after_cut, has_put, noted, number_drawn, infos_drawn}
 
@@ -94,3 +96,15 @@ module _ {D : Type 0} where
   -- each file is counted as often as before
   pub record HasSameCounts (old new : Parts D) : Type 0 where
     pub each : (q : Name) → count_of new.files q ≡ count_of old.files q
+
+  -- a file that is counted now and was not is one that was not written yet
+  pub record FillsUndrawn (old new : Parts D) : Type 0 where
+    pub each : (q : Name) → count_of old.files q ≡ 0 → 0 < count_of new.files q → IsUndrawn old.infos (loose_of old) q
+
+  -- a file that is not written yet was not written before
+  pub record DrawsOnly (old new : Parts D) : Type 0 where
+    pub each : (q : Name) → IsUndrawn new.infos (loose_of new) q → IsUndrawn old.infos (loose_of old) q
+
+  -- no file is counted that was not counted before
+  pub record HoldsNoNew (old new : Parts D) : Type 0 where
+    pub each : (q : Name) → count_of old.files q ≡ 0 → count_of new.files q ≡ 0

@@ -116,7 +116,7 @@ pub struct Parts<D> {
 impl<D: Dir> Parts<D> {
     ghost use Rattle.index_primary.specs.Primary.{IsPrimary, KeepsHeldBytes, rest_loose, loose_of};
     ghost use Rattle.index_primary.specs.Held.{IsHeld, AreUndrawn, AreNumbered};
-    ghost use Rattle.index_primary.specs.Calls.{SearchesWriter, IsOpenedOn, IsTaskOf, after_start, MakesPoint, IsPublished, KeepsPoint, KeepsOthers, HasSameCounts};
+    ghost use Rattle.index_primary.specs.Calls.{SearchesWriter, IsOpenedOn, IsTaskOf, after_start, MakesPoint, IsPublished, KeepsPoint, KeepsOthers, HasSameCounts, FillsUndrawn, DrawsOnly, HoldsNoNew};
     ghost use Rattle.index_primary.specs.Publishing.{IsStep, IsReady, HasWritten, next_infos};
     ghost use Rattle.index_primary.specs.Work.{IsWorkOf, AreOfCut};
     ghost use Rattle.searcher_switch.specs.Searching.{IsLeaseOf, searcher_names};
@@ -245,6 +245,7 @@ impl<D: Dir> Parts<D> {
         ensures others { self.new
             ≡ record self.old { files = self.new.files; searchers = self.new.searchers } }
         ensures stays { KeepsHeldBytes D.cells self.old self.new }
+        ensures no_new { HoldsNoNew self.old self.new }
         ensures whole { IsPrimary D.cells self.new }
     {
         self.searchers.acquire(alloc, &mut self.files, &self.dir)
@@ -263,6 +264,7 @@ impl<D: Dir> Parts<D> {
           searchers = self.new.searchers;
         } }
         ensures stays { KeepsHeldBytes D.cells self.old self.new }
+        ensures no_new { HoldsNoNew self.old self.new }
         ensures later { D.faults self.old.dir ≤ D.faults self.new.dir }
         ensures whole { IsPrimary D.cells self.new }
     {
@@ -345,6 +347,7 @@ impl<D: Dir> Parts<D> {
           states = self.new.states;
         } }
         ensures stays { KeepsHeldBytes D.cells self.old self.new }
+        ensures no_new { HoldsNoNew self.old self.new }
         ensures later { D.faults self.old.dir ≤ D.faults self.new.dir }
         ensures whole { IsPrimary D.cells self.new }
     {
@@ -391,6 +394,7 @@ impl<D: Dir> Parts<D> {
             → Rose (D.faults self.old.dir) (D.faults self.new.dir) }
         ensures cells { D.cells self.new.dir ≡ D.cells self.old.dir }
         ensures others { self.new ≡ record self.old { dir = self.new.dir } }
+        ensures no_new { HoldsNoNew self.old self.new }
         ensures later { D.faults self.old.dir ≤ D.faults self.new.dir }
         ensures whole { IsPrimary D.cells self.new }
     {
@@ -412,6 +416,7 @@ impl<D: Dir> Parts<D> {
           states = self.new.states;
         } }
         ensures stays { KeepsHeldBytes D.cells self.old self.new }
+        ensures no_new { HoldsNoNew self.old self.new }
         ensures later { D.faults self.old.dir ≤ D.faults self.new.dir }
         ensures whole { IsPrimary D.cells self.new }
     {
@@ -486,6 +491,7 @@ impl<D: Dir> Parts<D> {
             ↔ AreTooMany self.old.waiting self.old.infos self.old.segs }
         ensures next { IfOk result (λ task. self.new ≡ after_start self.old task) }
         ensures err { OnErr result (self.new ≡ self.old) }
+        ensures drawn { DrawsOnly self.old self.new }
         ensures whole { IsPrimary D.cells self.new }
     {
         let has_put = match self.judge() {
@@ -658,6 +664,8 @@ impl<D: Dir> Parts<D> {
             → Rose (D.faults self.old.dir) (D.faults self.new.dir) }
         ensures err { OnErr result (KeepsPoint self.old self.new) }
         ensures none { result ≡ Err PrimaryFault.Memory ⊎ (self.new.publish ≡ None) }
+        ensures ended { OnErr result ((self.new.publish ≡ None)
+            ⊎ (self.new.publish ≡ self.old.publish)) }
         ensures others { KeepsOthers self.old self.new }
         ensures stays { KeepsHeldBytes D.cells self.old self.new }
         ensures later { D.faults self.old.dir ≤ D.faults self.new.dir }
@@ -696,6 +704,8 @@ impl<D: Dir> Parts<D> {
         ensures none { result ≡ Err PrimaryFault.Memory ⊎ (self.new.publish ≡ None) }
         ensures others { KeepsOthers self.old self.new }
         ensures stays { KeepsHeldBytes D.cells self.old self.new }
+        ensures fresh { FillsUndrawn self.old self.new }
+        ensures drawn { DrawsOnly self.old self.new }
         ensures later { D.faults self.old.dir ≤ D.faults self.new.dir }
         ensures whole { IsPrimary D.cells self.new }
     {

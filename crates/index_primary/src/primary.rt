@@ -54,7 +54,7 @@ impl<D: Dir> Model for Primary<D> {
 impl<D: Dir> Primary<D> {
     ghost use Rattle.index_primary.specs.Primary.{IsPrimary, KeepsHeldBytes, rest_loose, loose_of};
     ghost use Rattle.index_primary.specs.Held.{IsHeld, AreUndrawn, AreNumbered};
-    ghost use Rattle.index_primary.specs.Calls.{SearchesWriter, IsOpenedOn, IsTaskOf, after_start, MakesPoint, IsPublished, KeepsPoint, KeepsOthers, HasSameCounts};
+    ghost use Rattle.index_primary.specs.Calls.{SearchesWriter, IsOpenedOn, IsTaskOf, after_start, MakesPoint, IsPublished, KeepsPoint, KeepsOthers, HasSameCounts, FillsUndrawn, DrawsOnly, HoldsNoNew};
     ghost use Rattle.index_primary.specs.Publishing.{IsStep, IsReady, HasWritten, next_infos};
     ghost use Rattle.index_primary.specs.Work.{IsWorkOf, AreOfCut};
     ghost use Rattle.searcher_switch.specs.Searching.{IsLeaseOf, searcher_names};
@@ -111,6 +111,7 @@ impl<D: Dir> Primary<D> {
             ↔ AreTooMany self.old.waiting self.old.infos self.old.segs }
         ensures next { IfOk result (λ task. self.new ≡ after_start self.old task) }
         ensures err { OnErr result (self.new ≡ self.old) }
+        ensures drawn { DrawsOnly self.old self.new }
         ensures whole { IsPrimary D.cells self.new }
     {
         self.parts.publish_start(alloc)
@@ -131,6 +132,8 @@ impl<D: Dir> Primary<D> {
         ensures none { result ≡ Err PrimaryFault.Memory ⊎ (self.new.publish ≡ None) }
         ensures others { KeepsOthers self.old self.new }
         ensures stays { KeepsHeldBytes D.cells self.old self.new }
+        ensures fresh { FillsUndrawn self.old self.new }
+        ensures drawn { DrawsOnly self.old self.new }
         ensures later { D.faults self.old.dir ≤ D.faults self.new.dir }
         ensures whole { IsPrimary D.cells self.new }
     {
@@ -155,6 +158,7 @@ impl<D: Dir> Primary<D> {
           states = self.new.states;
         } }
         ensures stays { KeepsHeldBytes D.cells self.old self.new }
+        ensures no_new { HoldsNoNew self.old self.new }
         ensures later { D.faults self.old.dir ≤ D.faults self.new.dir }
         ensures whole { IsPrimary D.cells self.new }
     {
@@ -169,6 +173,7 @@ impl<D: Dir> Primary<D> {
             → Rose (D.faults self.old.dir) (D.faults self.new.dir) }
         ensures cells { D.cells self.new.dir ≡ D.cells self.old.dir }
         ensures others { self.new ≡ record self.old { dir = self.new.dir } }
+        ensures no_new { HoldsNoNew self.old self.new }
         ensures later { D.faults self.old.dir ≤ D.faults self.new.dir }
         ensures whole { IsPrimary D.cells self.new }
     {
@@ -185,6 +190,7 @@ impl<D: Dir> Primary<D> {
           states = self.new.states;
         } }
         ensures stays { KeepsHeldBytes D.cells self.old self.new }
+        ensures no_new { HoldsNoNew self.old self.new }
         ensures later { D.faults self.old.dir ≤ D.faults self.new.dir }
         ensures whole { IsPrimary D.cells self.new }
     {
@@ -203,6 +209,7 @@ impl<D: Dir> Primary<D> {
         ensures others { self.new
             ≡ record self.old { files = self.new.files; searchers = self.new.searchers } }
         ensures stays { KeepsHeldBytes D.cells self.old self.new }
+        ensures no_new { HoldsNoNew self.old self.new }
         ensures whole { IsPrimary D.cells self.new }
     {
         self.parts.acquire(alloc)
@@ -229,6 +236,7 @@ impl<D: Dir> Primary<D> {
           searchers = self.new.searchers;
         } }
         ensures stays { KeepsHeldBytes D.cells self.old self.new }
+        ensures no_new { HoldsNoNew self.old self.new }
         ensures later { D.faults self.old.dir ≤ D.faults self.new.dir }
         ensures whole { IsPrimary D.cells self.new }
     {

@@ -1,5 +1,7 @@
-use Rattle.std.proofs.Common.{length, ap, arith, ◌≡◌, List, Option, Some, Result, Ok, Bool, true}
+use Rattle.std.proofs.Common.{length, ap, arith, ◌≡◌, List, Option, Some, None, Result, Ok, Bool, true, refl}
 use Rattle.documents.specs.declared.operation.Op.{Op}
+use Rattle.index_primary.specs.Held.{drawn_to}
+use Rattle.index_primary.proofs.NewFiles.{start_draws, idle_draws}
 use Rattle.index_primary.proofs.Starting.{primary_starts}
 use Rattle.index_primary.proofs.parts.Parts.publish_start.Goals as goal
 
@@ -12,3 +14,11 @@ returns-clause-whole g c =
     primary_starts g.D.Dir.cells c.args.self.now (length c.as_slice-count.result.now) c.requires.whole c.requires.none
     (let e : length c.as_slice-count.result.now ≡ length c.args.self.now.waiting = ap (λ (ops : List Op). length ops) c.as_slice-count.ensures in omega (arith, e))
     (c.judge.ensures.counter is) (c.judge.ensures.few is)
+
+pub returns-then-not-has_put-clause-drawn : goal.returns-then-not-has_put-clause-drawn
+returns-then-not-has_put-clause-drawn g c = idle_draws c.args.self.now (record { seg = None; count = length c.as_slice-count.result.now }) c.requires.none refl
+
+pub returns-clause-drawn : goal.returns-clause-drawn
+returns-clause-drawn g c =
+    let p = c.args.self.now in
+    start_draws p (record { seg = Some (record { 0 = drawn_to p.infos }); count = length c.as_slice-count.result.now }) c.requires.none refl

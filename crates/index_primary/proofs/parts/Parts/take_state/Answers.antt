@@ -4,6 +4,9 @@ use Rattle.index_primary.proofs.Framing.{held_framed, held_short}
 use Rattle.copy_state.specs.States.{AreShortNames}
 use Rattle.file_deleter.specs.Holdings.{AreThere}
 use Rattle.index_primary.proofs.Keeping.{point_names_there, primary_read, primary_states}
+use Rattle.std.proofs.Common.{refl}
+use Rattle.index_primary.proofs.Keeping.{states_only}
+use Rattle.index_primary.proofs.NewFiles.{no_new_named}
 use Rattle.index_primary.proofs.parts.Parts.take_state.Goals as goal
 
 pub metas_of-requires : goal.metas_of-requires
@@ -29,3 +32,12 @@ returns-in-Ok-lend-clause-copy g c =
           (held_short (reads_of (g.D.Dir.cells p.dir)) p.point_infos p.searchers.point.readers p.searchers.point.names c.requires.searched c.in_ok-infos.ensures.spelled.fit.records);
       completed = subst AreShortNames (sym c.in_ok-completed.ensures) c.requires.completed;
     }
+
+pub returns-in-Ok-lend-clause-no_new : goal.returns-in-Ok-lend-clause-no_new
+returns-in-Ok-lend-clause-no_new g c =
+    let p = c.args.self.now in
+    let only = rw (c.as_slice-2.ensures, c.in_ok-names.ensures) at c.in-Ok-lend.ensures.only in
+    let whole =
+    primary_states g.D.Dir.cells (record p { dir = c.metas_of.new.dir }) (primary_read g.D.Dir.cells p c.requires c.metas_of.new.dir c.in-Ok.ensures.cells) c.metas_of.new.dir c.lend.new.files c.lend.new.states
+    c.in-Ok-lend.ensures.moves only in
+    no_new_named g.D.Dir.cells p _ c.requires whole refl (states_only p c.lend.new.states only)
