@@ -11,7 +11,7 @@ use Rattle.wire_frames.specs.Streams.{BeginsWith, AreMessagesOf, IsUnfinished, I
 use Rattle.wire_frames.proofs.StreamLaws.{begins_none, begins_then, cause_then, are_messages}
 use Rattle.frames_run.specs.declared.running.FramesEnd.TheVariants.{Fault}
 use Rattle.frames_run.specs.Lines.{message_line}
-use Rattle.frames_run.specs.Runs.{Gave, GaveMessages, IsTextOf, GaveFault, AreUnfinished, GaveFront, GaveMore, GaveBadStream, SaysFrames, end_of, HasRead, longest_stream}
+use Rattle.frames_run.specs.Runs.{Gave, GaveMessages, IsTextOf, GaveFault, AreUnfinished, GaveFront, GaveMore, GaveBadStream, SaysFrames, end_of, HasRead, Taken, longest_stream}
 
 lines_joined : (ms ns : List Message) → flat_map message_line (ms ++ ns) ≡ flat_map message_line ms ++ flat_map message_line ns
 lines_joined [] ns = refl
@@ -33,58 +33,54 @@ read_cause bytes piece held text fault h c = cause_then bytes piece h.messages h
 
 -- ---- how the reading ends
 
--- so many bytes were taken, and were read so
-pub record Taken (before now : Option (List ℕ)) (count : ℕ) (held text : List ℕ) : Type 0 where
-  pub bytes : List ℕ
-  pub taken : Consumes before now bytes
-  pub size : length bytes ≡ count
-  pub read : HasRead bytes held text
-
 pub taken_none : (before : Option (List ℕ)) (n : ℕ) → n ≡ 0 → Taken before before n [] []
 taken_none None n e = record { bytes = []; taken = tt; size = sym e; read = nothing_read }
 taken_none (Some xs) n e = record { bytes = []; taken = refl; size = sym e; read = nothing_read }
 
-pub taken_more : (a b c : Option (List ℕ)) (count n : ℕ) (space held rest text more : List ℕ) → Taken a b count held text → Consumes b c (take n space) → n ≤ length space
-    → ((bytes : List ℕ) → HasRead bytes held text → HasRead (bytes ++ take n space) rest more) → Taken a c (count + n) rest more
-taken_more a b c count n space held rest text more t p le f = record {
+pub taken_more : (a b c : Option (List ℕ)) (count n : ℕ) (space piece held rest text more : List ℕ) → Taken a b count held text → Consumes b c (take n space) → n ≤ length space
+    → ((bytes : List ℕ) → HasRead bytes held text → HasRead (bytes ++ piece) rest more) → piece ≡ take n space → Taken a c (count + n) rest more
+taken_more a b c count n space piece held rest text more t p le f e = record {
   bytes = t.bytes ++ take n space;
   taken = Consumes-trans a b c t.bytes (take n space) t.taken p;
   size = (let s = t.size in let l = length-append t.bytes (take n space) in let k = length-take-le n space le in omega (arith, s, l, k));
-  read = f t.bytes t.read;
+  read = subst (λ (x : List ℕ). HasRead (t.bytes ++ x) rest more) e (f t.bytes t.read);
 }
 
--- the source is at its end, and nothing is held
-pub ends_right : (a b c : Option (List ℕ)) (count n : ℕ) (space held text given : List ℕ) → Taken a b count held text → count ≤ longest_stream → Consumes b c (take n space) → n ≡ 0 → IsAtEnd c
-    → given ≡ text → held ≡ [] → IsUnfinished held → IsTextOf a c given
-ends_right a b c count n space held text given t le p zero_is at_end e none u =
+-- nothing more was taken
+pub taken_same : (a b c : Option (List ℕ)) (count n : ℕ) (space held text : List ℕ) → Taken a b count held text → Consumes b c (take n space) → n ≡ 0 → Taken a c count held text
+taken_same a b c count n space held text t p zero_is =
     let now : Consumes a c (t.bytes ++ take n space) = Consumes-trans a b c t.bytes (take n space) t.taken p in
     let same : t.bytes ++ take n space ≡ t.bytes = ap (λ (k : ℕ). t.bytes ++ take k space) zero_is ∙ append-nil t.bytes in
-    record {
-      messages = t.read.messages;
-      gave = record {
-        bytes = t.bytes;
-        gave = record { taken = subst (Consumes a c) same now; within = (let s = t.size in omega (arith, s)) };
-        ended = at_end;
-        are = subst (AreMessagesOf t.bytes t.read.messages) none (are_messages t.bytes t.read.messages held t.read.front u);
-      };
-      lines = e ∙ t.read.lines;
-    }
+    record { bytes = t.bytes; taken = subst (Consumes a c) same now; size = t.size; read = t.read }
+
+-- the source is at its end, and nothing is held
+pub ends_right : (a c : Option (List ℕ)) (count : ℕ) (held text given : List ℕ) → Taken a c count held text → count ≤ longest_stream → IsAtEnd c → given ≡ text → held ≡ [] → IsUnfinished held → IsTextOf a c given
+ends_right a c count held text given t le at_end e none u = record {
+  messages = t.read.messages;
+  gave = record {
+    bytes = t.bytes;
+    gave = record { taken = t.taken; within = (let s = t.size in omega (arith, s)) };
+    ended = at_end;
+    are = subst (AreMessagesOf t.bytes t.read.messages) none (are_messages t.bytes t.read.messages held t.read.front u);
+  };
+  lines = e ∙ t.read.lines;
+}
 
 -- the source is at its end, and the front of a frame is held
-pub ends_within : (a b c : Option (List ℕ)) (count n : ℕ) (space held text : List ℕ) → Taken a b count held text → count ≤ longest_stream → Consumes b c (take n space) → n ≡ 0 → IsAtEnd c
-    → 0 < length held → IsUnfinished held → GaveBadStream a c 4
-ends_within a b c count n space held text t le p zero_is at_end some u =
-    let now : Consumes a c (t.bytes ++ take n space) = Consumes-trans a b c t.bytes (take n space) t.taken p in
-    let same : t.bytes ++ take n space ≡ t.bytes = ap (λ (k : ℕ). t.bytes ++ take k space) zero_is ∙ append-nil t.bytes in
-    inr (refl, record {
-      bytes = t.bytes;
-      gave = record { taken = subst (Consumes a c) same now; within = (let s = t.size in omega (arith, s)) };
-      ended = at_end;
-      messages = t.read.messages;
-      rest = held;
-      are = record { front = t.read.front; unfinished = u };
-      some = some;
-    })
+pub ends_within : (a c : Option (List ℕ)) (count : ℕ) (held text : List ℕ) → Taken a c count held text → count ≤ longest_stream → IsAtEnd c → 0 < length held → IsUnfinished held → GaveBadStream a c 4
+ends_within a c count held text t le at_end some u =
+    inr (
+      refl,
+      record {
+        bytes = t.bytes;
+        gave = record { taken = t.taken; within = (let s = t.size in omega (arith, s)) };
+        ended = at_end;
+        messages = t.read.messages;
+        rest = held;
+        are = record { front = t.read.front; unfinished = u };
+        some = some;
+      },
+    )
 
 -- one byte more came than is read
 pub ends_large : (a b c : Option (List ℕ)) (count n : ℕ) (space held text : List ℕ) → Taken a b count held text → count ≡ longest_stream → Consumes b c (take n space) → 0 < n → n ≤ 1 → n ≤ length space
@@ -101,21 +97,24 @@ ends_large a b c count n space held text t full p some one le u = record {
 }
 
 -- a faulty frame came
-pub ends_faulty : (a b c : Option (List ℕ)) (count n : ℕ) (space held text : List ℕ) (fault : WireFault) → Taken a b count held text → count + n ≤ longest_stream → Consumes b c (take n space) → n ≤ length space
-    → ((bytes : List ℕ) → HasRead bytes held text → IsCauseOf (bytes ++ take n space) fault) → SaysFrames a c (end_of fault)
-ends_faulty a b c count n space held text fault t within p le f = by fault (f t.bytes t.read)
-  where
-    gave : Gave a c (t.bytes ++ take n space)
-    gave = record {
-      taken = Consumes-trans a b c t.bytes (take n space) t.taken p;
-      within = (let s = t.size in let l = length-append t.bytes (take n space) in let k = length-take-le n space le in omega (arith, s, l, k, within));
-    }
+module _ (a c : Option (List ℕ)) (bytes : List ℕ) (gave : Gave a c bytes) where
+  pub fault_said : (fault : WireFault) → IsCauseOf bytes fault → SaysFrames a c (end_of fault)
+  fault_said Memory h = tt
+  fault_said (Length m) h = inl (Length m, record { bytes = bytes; gave = gave; faulty = h }, refl)
+  fault_said (Kind k) h = inl (Kind k, record { bytes = bytes; gave = gave; faulty = h }, refl)
+  fault_said Body h = inl (Body, record { bytes = bytes; gave = gave; faulty = h }, refl)
 
-    by : (w : WireFault) → IsCauseOf (t.bytes ++ take n space) w → SaysFrames a c (end_of w)
-    by Memory h = tt
-    by (Length m) h = inl (Length m, record { bytes = t.bytes ++ take n space; gave = gave; faulty = h }, refl)
-    by (Kind k) h = inl (Kind k, record { bytes = t.bytes ++ take n space; gave = gave; faulty = h }, refl)
-    by Body h = inl (Body, record { bytes = t.bytes ++ take n space; gave = gave; faulty = h }, refl)
+pub ends_faulty : (a b c : Option (List ℕ)) (count n : ℕ) (space piece held text : List ℕ) (fault : WireFault) → Taken a b count held text → count + n ≤ longest_stream → Consumes b c (take n space) → n ≤ length space
+    → ((bytes : List ℕ) → HasRead bytes held text → IsCauseOf (bytes ++ piece) fault) → piece ≡ take n space → SaysFrames a c (end_of fault)
+ends_faulty a b c count n space piece held text fault t within p le f e =
+    let size = t.size in
+    let joined = length-append t.bytes (take n space) in
+    let len = length-take-le n space le in
+    let gave : Gave a c (t.bytes ++ take n space) = record {
+      taken = Consumes-trans a b c t.bytes (take n space) t.taken p;
+      within = omega (arith, size, joined, len, within);
+    } in
+    fault_said a c (t.bytes ++ take n space) gave fault (subst (λ (x : List ℕ). IsCauseOf (t.bytes ++ x) fault) e (f t.bytes t.read))
 
 -- the source failed
 pub ends_failed : (a b c : Option (List ℕ)) (count : ℕ) (held text : List ℕ) → Taken a b count held text → count ≤ longest_stream → Keeps b c → SaysFrames a c Fault

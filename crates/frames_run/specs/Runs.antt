@@ -1,5 +1,5 @@
 -- What a source gave that was read as a stream of frames.
-use Rattle.std.specs.Prelude.{◌≡◌, ◌⊎◌, ℕ, ◌+◌, ◌≤◌, ◌<◌, List, [], ◌++◌, length, Option}
+use Rattle.std.specs.Prelude.{◌≡◌, ◌⊎◌, ℕ, ◌+◌, ◌≤◌, ◌<◌, List, [], ◌++◌, length, Option, Some, None, Result, Ok, Err}
 use Rattle.std.specs.List.{flat_map}
 use Rattle.std.specs.Io.KnownBytes.{Consumes, IsAtEnd}
 use Rattle.wire_frames.specs.declared.message.Message.{Message}
@@ -96,3 +96,17 @@ pub record HasRead (bytes held text : List ℕ) : Type 0 where
   pub messages : List Message
   pub front : BeginsWith bytes messages held
   pub lines : text ≡ flat_map message_line messages
+
+-- so many bytes were taken from a source, and were read so
+pub record Taken (before now : Option (List ℕ)) (count : ℕ) (held text : List ℕ) : Type 0 where
+  pub bytes : List ℕ
+  pub taken : Consumes before now bytes
+  pub size : length bytes ≡ count
+  pub read : HasRead bytes held text
+
+-- What one more read of a source tells, of which so many bytes were taken: how many more were read; that it is at its end; or why the
+-- reading stops. `b` is the source before the read, and `c` behind it.
+abbrev pub TellsTurn : (a b c : Option (List ℕ)) (count : ℕ) (held text rest more : List ℕ) → Result (Option ℕ) FramesEnd → Type 0
+TellsTurn a b c count held text rest more (Ok (Some n)) = (1 ≤ n) × (count + n ≤ longest_stream) × (Taken a b count held text → Taken a c (count + n) rest more)
+TellsTurn a b c count held text rest more (Ok None) = IsAtEnd c × (Taken a b count held text → Taken a c count rest more)
+TellsTurn a b c count held text rest more (Err end) = Taken a b count held text → SaysFrames a c end

@@ -7,3 +7,5 @@ mod running;
 pub use lines::push_lines;
 pub use running::{FramesEnd, LONGEST_STREAM, run_frames};
 
+#[cfg(test)]
+mod tests;

@@ -73,11 +73,7 @@ fn push_words(out: &mut Vec<u8>, alloc: Global, m: &Message) -> Result<(), NoMem
 }
 
 /// Puts the lines of messages at the end.
-pub fn push_lines(
-    out: &mut Vec<u8>,
-    alloc: Global,
-    messages: &[Message],
-) -> Result<(), NoMemory>
+pub fn push_lines(out: &mut Vec<u8>, alloc: Global, messages: &[Message]) -> Result<(), NoMemory>
     ensures { OnOk result (out.new.items ≡ out.old.items ++ flat_map message_line messages.now) }
 {
     for message in messages {

@@ -1,3 +1,4 @@
 pub mod Writes
 pub mod PlainScripts
 pub mod AnswerLaws
+pub mod FrameAnswers

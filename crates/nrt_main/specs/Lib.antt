@@ -1,3 +1,5 @@
 pub mod Headline
+pub mod Frames
+pub mod Rows
 pub mod Statuses
 pub mod TopCalls
