@@ -10,7 +10,7 @@ mod stage;
 mod states;
 mod steps;
 
-pub use recovery::{RecoverFault, recover};
+pub use recovery::{RecoverFault, load_infos, newest_number, recover};
 pub use stage::{CommitBook, Progress, Stage};
 pub use states::{
     Begun, Commit, CommitFault, Done, Flight, Named, Pending, Renamed, Stopped, Synced, Written,

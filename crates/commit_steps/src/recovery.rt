@@ -51,8 +51,8 @@ fn refusal(fault: DirFault) -> RecoverFault
     }
 }
 
-// The greatest N of a `segments_N` in the directory.
-fn newest<D: Dir>(dir: &mut D) -> Result<Option<u64>, RecoverFault>
+/// The greatest N of a `segments_N` in the directory, or nothing where there is none. It changes nothing.
+pub fn newest_number<D: Dir>(dir: &mut D) -> Result<Option<u64>, RecoverFault>
     ensures found { IfOk result (IsNewestAnswer (reads_of (D.cells dir.old))) }
     ensures err { IfErr result IsCutOff }
     ensures cells { D.cells dir.new ≡ D.cells dir.old }
@@ -65,8 +65,8 @@ fn newest<D: Dir>(dir: &mut D) -> Result<Option<u64>, RecoverFault>
     }
 }
 
-// The infos that the newest `segments_N` spells.
-fn load_infos<D: Dir>(alloc: Global, number: u64, dir: &mut D) -> Result<Infos, RecoverFault>
+/// The infos that the newest `segments_N` spells, or why its file is refused. It changes nothing.
+pub fn load_infos<D: Dir>(alloc: Global, number: u64, dir: &mut D) -> Result<Infos, RecoverFault>
     requires { IsNewestNumber (reads_of (D.cells dir.old)) number }
     ensures found { IfOk result (ShowsCommit (reads_of (D.cells dir.old)) number) }
     ensures err { IfErr result (SaysHowBroken (reads_of (D.cells dir.old))) }
@@ -93,7 +93,7 @@ fn answer<D: Dir>(alloc: Global, dir: &mut D) -> Result<Option<(u64, Infos)>, Re
     ensures failed { IsErrOf result RecoverFault.Failed → Rose (D.faults dir.old) (D.faults dir.new) }
     ensures later { D.faults dir.old ≤ D.faults dir.new }
 {
-    let Some(number) = newest(dir)? else {
+    let Some(number) = newest_number(dir)? else {
         return Ok(None);
     };
     let infos = load_infos(alloc, number, dir)?;

@@ -1,7 +1,7 @@
 use Rattle.std.proofs.Common.{List, ap, ◌∙◌}
 use Rattle.disk_model.specs.Disk.{Name, is_among}
 use Rattle.commit_steps.proofs.Recovering.{newest_answer}
-use Rattle.commit_steps.proofs.recovery.newest.Goals as goal
+use Rattle.commit_steps.proofs.recovery.newest_number.Goals as goal
 
 pub returns-in-Ok-clause-found : goal.returns-in-Ok-clause-found
 returns-in-Ok-clause-found g c =
