@@ -9,6 +9,7 @@ use Rattle.std.proofs.lemmas.Bool.{cases_lt}
 use Rattle.std.proofs.lemmas.List.{length-map, get_or_default}
 use Rattle.body_forms.specs.Format.{Read}
 use Rattle.body_forms.specs.Numbers.{string}
+use Rattle.postings_plain.specs.declared.format.Format.{Format}
 use Rattle.postings_plain.specs.Postings.{Hit, Entry, field_of, term_of, hits_of, hits, HitsFit, entry, IsFileEntry}
 use Rattle.postings_plain.specs.Body.{heading_of, heading_order, SpellsPostings, HasEntry, HasNoEntry}
 use Rattle.postings_plain.specs.Reading.{field_at, term_at, no_entry, at_place, HasNoHeading}
@@ -18,16 +19,16 @@ use Rattle.body_forms.proofs.Formats.{read_is}
 use Rattle.nrt_base.proofs.Plain.{cons_from, cons_first}
 
 -- the field, then the term, are read from an entry
-pub field_first : (e : Entry) → IsFileEntry e → field_at (entry e) ≡ Some (e.0, string e.1.0 ++ hits e.0 e.1.1)
-field_first e fit = field_format.again e.0 (string e.1.0 ++ hits e.0 e.1.1) fit.0
+pub field_first : (format : Format) (e : Entry) → IsFileEntry format e → field_at (entry format e) ≡ Some (e.0, string e.1.0 ++ hits format e.0 e.1.1)
+field_first format e fit = field_format.again e.0 (string e.1.0 ++ hits format e.0 e.1.1) fit.kind
 
-pub term_second : (e : Entry) → IsFileEntry e → term_at (string e.1.0 ++ hits e.0 e.1.1) ≡ Some (e.1.0, hits e.0 e.1.1)
-term_second e fit = term_format.again e.1.0 (hits e.0 e.1.1) fit.1.0
+pub term_second : (format : Format) (e : Entry) → IsFileEntry format e → term_at (string e.1.0 ++ hits format e.0 e.1.1) ≡ Some (e.1.0, hits format e.0 e.1.1)
+term_second format e fit = term_format.again e.1.0 (hits format e.0 e.1.1) fit.term_fits
 
-pub entry_at_place : (es : List Entry) (i : ℕ) → i < length es → get_or (map entry es) i [] ≡ entry (at_place es i)
-entry_at_place [] i h = absurd (omega arith)
-entry_at_place (e ∷ es) zero h = refl
-entry_at_place (e ∷ es) (suc i) h = entry_at_place es i (omega arith)
+pub entry_at_place : (format : Format) (es : List Entry) (i : ℕ) → i < length es → get_or (map (entry format) es) i [] ≡ entry format (at_place es i)
+entry_at_place format [] i h = absurd (omega arith)
+entry_at_place format (e ∷ es) zero h = refl
+entry_at_place format (e ∷ es) (suc i) h = entry_at_place format es i (omega arith)
 
 back : (a b : List ℕ) → heading_order a b ≡ Less → heading_order b a ≡ Greater
 back a b e = nat_list_cmp_total.antisymm b a ∙ rw e refl
@@ -35,17 +36,17 @@ back a b e = nat_list_cmp_total.antisymm b a ∙ rw e refl
 forth : (a b : List ℕ) → heading_order a b ≡ Greater → heading_order b a ≡ Less
 forth a b e = nat_list_cmp_total.antisymm b a ∙ rw e refl
 
-pub field_read : (item : List ℕ) (e : Entry) (field : ℕ) (rest : List ℕ) → IsFileEntry e → item ≡ entry e → ◌≡◌ {A = Read ℕ} (Some (field, rest)) (field_at item) → (field ≡ e.0) × (rest ≡ string e.1.0 ++ hits e.0 e.1.1)
-field_read item e field rest fit same r = read_is field e.0 rest (string e.1.0 ++ hits e.0 e.1.1) (r ∙ ap field_at same ∙ field_first e fit)
+pub field_read : (format : Format) (item : List ℕ) (e : Entry) (field : ℕ) (rest : List ℕ) → IsFileEntry format e → item ≡ entry format e → ◌≡◌ {A = Read ℕ} (Some (field, rest)) (field_at item) → (field ≡ e.0) × (rest ≡ string e.1.0 ++ hits format e.0 e.1.1)
+field_read format item e field rest fit same r = read_is field e.0 rest (string e.1.0 ++ hits format e.0 e.1.1) (r ∙ ap field_at same ∙ field_first format e fit)
 
-pub field_is_there : (item : List ℕ) (e : Entry) → IsFileEntry e → item ≡ entry e → ◌≡◌ {A = Read ℕ} None (field_at item) → ⊥
-field_is_there item e fit same r = let bad = r ∙ ap field_at same ∙ field_first e fit in cc
+pub field_is_there : (format : Format) (item : List ℕ) (e : Entry) → IsFileEntry format e → item ≡ entry format e → ◌≡◌ {A = Read ℕ} None (field_at item) → ⊥
+field_is_there format item e fit same r = let bad = r ∙ ap field_at same ∙ field_first format e fit in cc
 
-pub term_read : (rest : List ℕ) (e : Entry) (term after : List ℕ) → IsFileEntry e → rest ≡ string e.1.0 ++ hits e.0 e.1.1 → ◌≡◌ {A = Read (List ℕ)} (Some (term, after)) (term_at rest) → term ≡ e.1.0
-term_read rest e term after fit same r = let q = read_is term e.1.0 after (hits e.0 e.1.1) (r ∙ ap term_at same ∙ term_second e fit) in q.0
+pub term_read : (format : Format) (rest : List ℕ) (e : Entry) (term after : List ℕ) → IsFileEntry format e → rest ≡ string e.1.0 ++ hits format e.0 e.1.1 → ◌≡◌ {A = Read (List ℕ)} (Some (term, after)) (term_at rest) → term ≡ e.1.0
+term_read format rest e term after fit same r = let q = read_is term e.1.0 after (hits format e.0 e.1.1) (r ∙ ap term_at same ∙ term_second format e fit) in q.0
 
-pub term_is_there : (rest : List ℕ) (e : Entry) → IsFileEntry e → rest ≡ string e.1.0 ++ hits e.0 e.1.1 → ◌≡◌ {A = Read (List ℕ)} None (term_at rest) → ⊥
-term_is_there rest e fit same r = let bad = r ∙ ap term_at same ∙ term_second e fit in cc
+pub term_is_there : (format : Format) (rest : List ℕ) (e : Entry) → IsFileEntry format e → rest ≡ string e.1.0 ++ hits format e.0 e.1.1 → ◌≡◌ {A = Read (List ℕ)} None (term_at rest) → ⊥
+term_is_there format rest e fit same r = let bad = r ∙ ap term_at same ∙ term_second format e fit in cc
 
 tied_then : (o p : Ordering) → ordering_then o p ≡ Equal → (o ≡ Equal) × (p ≡ Equal)
 tied_then Less p e = absurd cc
@@ -72,8 +73,8 @@ pub record Between (es : List Entry) (key : List ℕ) (low high : ℕ) : Type 0 
 pub all_between : (es : List Entry) (key : List ℕ) → Between es key 0 (length es)
 all_between es key = record { within = omega arith; before = λ i h. absurd (omega arith); after = λ i h g. absurd (omega arith) }
 
-pub up : (bytes : List ℕ) (es : List Entry) (key : List ℕ) (low high m : ℕ) → SpellsPostings bytes es → Between es key low high → m < high → heading_order (heading_of (at_place es m)) key ≡ Less → Between es key (m + 1) high
-up bytes es key low high m p b lt e = record {
+pub up : (format : Format) (bytes : List ℕ) (es : List Entry) (key : List ℕ) (low high m : ℕ) → SpellsPostings format bytes es → Between es key low high → m < high → heading_order (heading_of (at_place es m)) key ≡ Less → Between es key (m + 1) high
+up format bytes es key low high m p b lt e = record {
   within = b.within;
   before = λ i h. elim (cases_lt i m) [
     | inl below ↦ nat_list_cmp_total.trans (heading_of (at_place es i)) (heading_of (at_place es m)) key (p.ascend i m no_entry below (omega (arith, b.within))) e
@@ -82,8 +83,8 @@ up bytes es key low high m p b lt e = record {
   after = b.after;
 }
 
-pub down : (bytes : List ℕ) (es : List Entry) (key : List ℕ) (low high m : ℕ) → SpellsPostings bytes es → Between es key low high → m < high → heading_order (heading_of (at_place es m)) key ≡ Greater → Between es key low m
-down bytes es key low high m p b lt e = record {
+pub down : (format : Format) (bytes : List ℕ) (es : List Entry) (key : List ℕ) (low high m : ℕ) → SpellsPostings format bytes es → Between es key low high → m < high → heading_order (heading_of (at_place es m)) key ≡ Greater → Between es key low m
+down format bytes es key low high m p b lt e = record {
   within = omega (arith, b.within);
   before = b.before;
   after = λ i h g. elim (cases_lt m i) [
@@ -100,17 +101,18 @@ is_not_there es key low high b le i h same =
       | inr ge ↦ let bad = sym (b.after i (omega arith) h) ∙ tie in cc
     ]
 
-pub count_is : (bytes : List ℕ) (es : List Entry) → SpellsPostings bytes es → length (map entry es) ≡ length es
-count_is bytes es p = length-map es entry
+pub count_is : (format : Format) (bytes : List ℕ) (es : List Entry) → SpellsPostings format bytes es → length (map (entry format) es) ≡ length es
+count_is format bytes es p = length-map es (entry format)
 
-pub same_count : (bytes : List ℕ) (es fs : List Entry) → SpellsPostings bytes es → SpellsPostings bytes fs → length es ≡ length fs
-same_count bytes es fs p q = sym (length-map es entry) ∙ sym (table_count bytes (map entry es) p.table) ∙ table_count bytes (map entry fs) q.table ∙ length-map fs entry
+-- bytes spell as many entries in each format
+pub same_size : (bytes : List ℕ) (format other : Format) (es fs : List Entry) → SpellsPostings format bytes es → SpellsPostings other bytes fs → length es ≡ length fs
+same_size bytes format other es fs p q = sym (length-map es (entry format)) ∙ sym (table_count bytes (map (entry format) es) p.table) ∙ table_count bytes (map (entry other) fs) q.table ∙ length-map fs (entry other)
 
 pub keys_alike : (f g : ℕ) (a b : List ℕ) (field : ℕ) (term : List ℕ) → f ≡ g → a ≡ b → heading_order (f ∷ a) (field ∷ term) ≡ heading_order (g ∷ b) (field ∷ term)
 keys_alike f g a b field term e h = ap (λ (k : List ℕ). heading_order k (field ∷ term)) (cons_from f g a b e h)
 
-pub rows_after : (rest : List ℕ) (e : Entry) (term after : List ℕ) → IsFileEntry e → rest ≡ string e.1.0 ++ hits e.0 e.1.1 → ◌≡◌ {A = Read (List ℕ)} (Some (term, after)) (term_at rest) → after ≡ hits e.0 e.1.1
-rows_after rest e term after fit same r = let q = read_is term e.1.0 after (hits e.0 e.1.1) (r ∙ ap term_at same ∙ term_second e fit) in q.1
+pub rows_after : (format : Format) (rest : List ℕ) (e : Entry) (term after : List ℕ) → IsFileEntry format e → rest ≡ string e.1.0 ++ hits format e.0 e.1.1 → ◌≡◌ {A = Read (List ℕ)} (Some (term, after)) (term_at rest) → after ≡ hits format e.0 e.1.1
+rows_after format rest e term after fit same r = let q = read_is term e.1.0 after (hits format e.0 e.1.1) (r ∙ ap term_at same ∙ term_second format e fit) in q.1
 
 -- ---- an entry by its field and its term
 
@@ -124,6 +126,6 @@ pub among : (es : List Entry) (field : ℕ) (term : List ℕ) (hits : List Hit) 
 among es field term hits i lt e h =
     (i, lt, get_or_default es i (field, (term, hits)) no_entry lt ∙ same_parts (field_of (at_place es i)) field (term_of (at_place es i)) term (hits_of (at_place es i)) hits e h)
 
-pub found_fit : (es : List Entry) (field : ℕ) (term : List ℕ) (hits : List Hit) (i : ℕ) → heading_of (at_place es i) ≡ field ∷ term → hits ≡ hits_of (at_place es i) → IsFileEntry (at_place es i) → HitsFit field hits
-found_fit es field term hits i e h fit =
-    subst (HitsFit field) (sym h) (subst (λ (f : ℕ). HitsFit f (hits_of (at_place es i))) (cons_first (field_of (at_place es i)) field (term_of (at_place es i)) term e) fit.1.1)
+pub found_fit : (format : Format) (es : List Entry) (field : ℕ) (term : List ℕ) (hits : List Hit) (i : ℕ) → heading_of (at_place es i) ≡ field ∷ term → hits ≡ hits_of (at_place es i) → IsFileEntry format (at_place es i) → HitsFit field hits
+found_fit format es field term hits i e h fit =
+    subst (HitsFit field) (sym h) (subst (λ (f : ℕ). HitsFit f (hits_of (at_place es i))) (cons_first (field_of (at_place es i)) field (term_of (at_place es i)) term e) fit.hits_fit)

@@ -21,6 +21,7 @@ use Rattle.body_forms.specs.Numbers.{u32_bytes, MayCome, above}
 use Rattle.body_forms.specs.ItemTable.{IsItemTable}
 use Rattle.body_forms.specs.TableParts.{ArePartsOf}
 use Rattle.body_forms.proofs.WritingTables.{parts_more}
+use Rattle.postings_plain.specs.declared.format.Format.{Format}
 use Rattle.postings_plain.specs.declared.row.TermRow.{TermRow}
 use Rattle.postings_plain.specs.Postings.{Hit, Entry, field_of, hits_of, entry, IsFileEntry, HitFits, HitsFit, PositionsFit, above_hit}
 use Rattle.postings_plain.specs.Body.{heading_of, heading_order, IsBefore, HasEntry, SpellsPostings}
@@ -107,18 +108,18 @@ found_hits : (found : Found) (rows : List TermRow) (field : ℕ) (term : List �
 found_hits found rows field term hits g lt e = hits_known (rows_with field term rows) hits (sym (g.at field term lt) ∙ e)
 
 pub entry_fits : (found : Found) (rows : List TermRow) (heading : List ℕ) (field : ℕ) (term : List ℕ) (hits : List Hit) → Gathers found rows → AreFew rows → get (slice_cmp nat_cmp) found heading ≡ Some hits
-    → heading ≡ field ∷ term → field < 2 → 0 < length term → length term < 2 ^ 32 → IsFileEntry (field, (term, hits))
-entry_fits found rows heading field term hits g few e both lt some small =
+    → heading ≡ field ∷ term → field < 2 → HitsFit field hits
+entry_fits found rows heading field term hits g few e both lt =
     let k = found_hits found rows field term hits g lt (ap (get (slice_cmp nat_cmp) found) (sym both) ∙ e) in
-    (lt, ((some, small), subst (HitsFit field) k.0 (hits_fit field term rows few k.1)))
+    subst (HitsFit field) k.0 (hits_fit field term rows few k.1)
 
 -- the same at a turn of a walk over all that is found
 pub turn_fits : (xs : List (Bor (List ℕ) × Bor (List Hit))) (s t u : List (List ℕ × List Hit)) (r : Option (Bor (List ℕ) × Bor (List Hit))) (heading : Bor (List ℕ)) (hits : Bor (List Hit)) → Yields (TakesFirst deref_pair) s xs t → r ≡ Some (heading, hits) → TakesFirst deref_pair t r u
     → (found : Found) → s ≡ found.entries → IsOrdered (slice_cmp nat_cmp) found → (rows : List TermRow) → Gathers found rows → AreFew rows
-    → (field : ℕ) (term : List ℕ) → heading.now ≡ field ∷ term → field < 2 → 0 < length term → length term < 2 ^ 32 → IsFileEntry (field, (term, hits.now))
-turn_fits xs s t u r heading hits y is step found start ordered rows g few field term both lt some small =
+    → (field : ℕ) (term : List ℕ) → heading.now ≡ field ∷ term → field < 2 → HitsFit field hits.now
+turn_fits xs s t u r heading hits y is step found start ordered rows g few field term both lt =
     let turn = btree_map_turn deref_pair xs s t u r (heading, hits) y is step nat_list_cmp_total found start ordered in
-    entry_fits found rows heading.now field term hits.now g few turn.1 both lt some small
+    entry_fits found rows heading.now field term hits.now g few turn.1 both lt
 
 -- ---- what has been written
 
@@ -132,28 +133,28 @@ abbrev pub entries_with : List (List ℕ × List Hit) → List Entry
 entries_with found = map (λ x. entry_with x.0 x.1) found
 
 -- what is found under a heading makes an entry with that heading, and the entry can be written
-pub record MakesEntry (found : List ℕ × List Hit) : Type 0 where
+pub record MakesEntry (format : Format) (found : List ℕ × List Hit) : Type 0 where
   pub heading : heading_of (entry_with found.0 found.1) ≡ found.0
-  pub fits : IsFileEntry (entry_with found.0 found.1)
+  pub fits : IsFileEntry format (entry_with found.0 found.1)
 
 -- the offsets and the area are those of the entries of what is found
-pub record HasEntries (found : List (List ℕ × List Hit)) (offsets area : List ℕ) : Type 0 where
-  pub parts : ArePartsOf (map entry (entries_with found)) offsets area
-  pub make : All MakesEntry found
+pub record HasEntries (format : Format) (found : List (List ℕ × List Hit)) (offsets area : List ℕ) : Type 0 where
+  pub parts : ArePartsOf (map (entry format) (entries_with found)) offsets area
+  pub make : All (MakesEntry format) found
 
 one_entry : (heading : List ℕ) (field : ℕ) (term : List ℕ) (hits : List Hit) → heading ≡ field ∷ term → entry_with heading hits ≡ (field, (term, hits))
 one_entry heading field term hits e = ap (λ (h : List ℕ). entry_with h hits) e
 
-pub entries_more : (found : List (List ℕ × List Hit)) (heading : List ℕ) (field : ℕ) (term : List ℕ) (hits : List Hit) (offsets area more_offsets more_area : List ℕ) → HasEntries found offsets area → heading ≡ field ∷ term
-    → IsFileEntry (field, (term, hits)) → more_area ≡ area ++ entry (field, (term, hits)) → length more_area < 2 ^ 32 → more_offsets ≡ offsets ++ u32_bytes (length more_area) → HasEntries (found ++ (heading, hits) ∷ []) more_offsets more_area
-entries_more found heading field term hits offsets area more_offsets more_area has both fits e small f =
+pub entries_more : (format : Format) (found : List (List ℕ × List Hit)) (heading : List ℕ) (field : ℕ) (term : List ℕ) (hits : List Hit) (offsets area more_offsets more_area : List ℕ) → HasEntries format found offsets area → heading ≡ field ∷ term
+    → IsFileEntry format (field, (term, hits)) → more_area ≡ area ++ entry format (field, (term, hits)) → length more_area < 2 ^ 32 → more_offsets ≡ offsets ++ u32_bytes (length more_area) → HasEntries format (found ++ (heading, hits) ∷ []) more_offsets more_area
+entries_more format found heading field term hits offsets area more_offsets more_area has both fits e small f =
     let same = one_entry heading field term hits both in
-    let items : map entry (entries_with (found ++ (heading, hits) ∷ [])) ≡ map entry (entries_with found) ++ entry (field, (term, hits)) ∷ [] =
-    ap (map entry) (map-append (λ (x : List ℕ × List Hit). entry_with x.0 x.1) found ((heading, hits) ∷ [])) ∙ map-append entry (entries_with found) (entry_with heading hits ∷ [])
-    ∙ ap (λ (x : Entry). map entry (entries_with found) ++ entry x ∷ []) same in
+    let items : map (entry format) (entries_with (found ++ (heading, hits) ∷ [])) ≡ map (entry format) (entries_with found) ++ entry format (field, (term, hits)) ∷ [] =
+    ap (map (entry format)) (map-append (λ (x : List ℕ × List Hit). entry_with x.0 x.1) found ((heading, hits) ∷ [])) ∙ map-append (entry format) (entries_with found) (entry_with heading hits ∷ [])
+    ∙ ap (λ (x : Entry). map (entry format) (entries_with found) ++ entry format x ∷ []) same in
     record {
-      parts = subst (λ (x : List (List ℕ)). ArePartsOf x more_offsets more_area) (sym items) (parts_more (map entry (entries_with found)) (entry (field, (term, hits))) offsets area more_offsets more_area has.parts e small f);
-      make = All-push MakesEntry found (heading, hits) has.make (record { heading = ap heading_of same ∙ sym both; fits = subst IsFileEntry (sym same) fits });
+      parts = subst (λ (x : List (List ℕ)). ArePartsOf x more_offsets more_area) (sym items) (parts_more (map (entry format) (entries_with found)) (entry format (field, (term, hits))) offsets area more_offsets more_area has.parts e small f);
+      make = All-push (MakesEntry format) found (heading, hits) has.make (record { heading = ap heading_of same ∙ sym both; fits = subst (IsFileEntry format) (sym same) fits });
     }
 
 -- ---- all that is found
@@ -174,18 +175,18 @@ entry_at_key found i d lt = get_or-map (λ (x : List ℕ × List Hit). entry_wit
 pub length-entries : (found : Found) → length (entries_with found.entries) ≡ length found.entries
 length-entries found = length-map found.entries (λ (x : List ℕ × List Hit). entry_with x.0 x.1)
 
-entry_is_had : (found : Found) (rows : List TermRow) → IsOrdered (slice_cmp nat_cmp) found → Gathers found rows → All MakesEntry found.entries → (field : ℕ) (term : List ℕ) (hits : List Hit)
+entry_is_had : (format : Format) (found : Found) (rows : List TermRow) → IsOrdered (slice_cmp nat_cmp) found → Gathers found rows → All (MakesEntry format) found.entries → (field : ℕ) (term : List ℕ) (hits : List Hit)
     → HasEntry (entries_with found.entries) field term hits → HaveEntry rows field term hits
-entry_is_had found rows ordered g make field term hits has =
+entry_is_had format found rows ordered g make field term hits has =
     let i = has.0 in
     let lt : i < length found.entries = omega (arith, has.1, length-entries found) in
     let x = at_key found i in
     let is : entry_with x.0 x.1 ≡ (field, (term, hits)) = sym (entry_at_key found i (field, (term, hits)) lt) ∙ has.2 in
-    let m = All-get_or MakesEntry found.entries i ([], []) lt make in
+    let m = All-get_or (MakesEntry format) found.entries i ([], []) lt make in
     let heading : x.0 ≡ field ∷ term = sym m.heading ∙ ap heading_of is in
     let same : x.1 ≡ hits = sym (hits_with x.0 x.1) ∙ ap hits_of is in
     let lookup : get (slice_cmp nat_cmp) found x.0 ≡ Some x.1 = btree_map_get_place nat_list_cmp_total found i x.0 x.1 ordered (slice_get-get_or found.entries i ([], []) lt) in
-    let kind : field < 2 = subst (λ (e : Entry). field_of e < 2) is m.fits.0 in
+    let kind : field < 2 = subst (λ (e : Entry). field_of e < 2) is m.fits.kind in
     let k = found_hits found rows field term hits g kind (ap (get (slice_cmp nat_cmp) found) (sym heading) ∙ lookup ∙ ap (λ (hs : List Hit). Some hs) same) in
     record { kind = kind; some = any_from_picked (has_term field term) (λ (x : ℕ × TermRow). (x.0, term_positions field term x.1)) 0 rows k.1; hits_are = sym k.0 }
 
@@ -206,30 +207,30 @@ entry_is_there found rows g field term hits have =
     entry_at_key found i (field, (term, hits)) lt ∙ ap (λ (x : List ℕ × List Hit). entry_with x.0 x.1) here ∙ ap (λ (h : List ℕ). entry_with h (rows_with field term rows)) (sym key) ∙ ap (λ (hs : List Hit). (field, (term, hs))) (sym have.hits_are) in
     (i, omega (arith, lt, length-entries found), is)
 
-pub entries_are : (found : Found) (rows : List TermRow) → IsOrdered (slice_cmp nat_cmp) found → Gathers found rows → All MakesEntry found.entries → AreEntriesOf rows (entries_with found.entries)
-entries_are found rows ordered g make = λ field term hits. (entry_is_had found rows ordered g make field term hits, entry_is_there found rows g field term hits)
+pub entries_are : (format : Format) (found : Found) (rows : List TermRow) → IsOrdered (slice_cmp nat_cmp) found → Gathers found rows → All (MakesEntry format) found.entries → AreEntriesOf rows (entries_with found.entries)
+entries_are format found rows ordered g make = λ field term hits. (entry_is_had format found rows ordered g make field term hits, entry_is_there found rows g field term hits)
 
 first_key : (rows : List TermRow) → 0 < length rows → (key : List ℕ) × IsTrue (list_any (has_term 0 key) rows)
 first_key [] pos = absurd (omega arith)
 first_key (row ∷ rows) pos = (row.key, ap (λ b. b || list_any (has_term 0 row.key) rows) ((bytes_decides row.key row.key).1 refl))
 
-ascending : (found : Found) → IsOrdered (slice_cmp nat_cmp) found → All MakesEntry found.entries → AllPairs IsBefore (entries_with found.entries)
-ascending found ordered make i j d lt small =
+ascending : (format : Format) (found : Found) → IsOrdered (slice_cmp nat_cmp) found → All (MakesEntry format) found.entries → AllPairs IsBefore (entries_with found.entries)
+ascending format found ordered make i j d lt small =
     let b : j < length found.entries = omega (arith, small, length-entries found) in
     let a : i < length found.entries = omega arith in
     let key : (k : ℕ) → k < length found.entries → heading_of (get_or (entries_with found.entries) k d) ≡ get_or (keys_of found.entries) k [] =
-    λ k below. ap heading_of (entry_at_key found k d below) ∙ (All-get_or MakesEntry found.entries k ([], []) below make).heading ∙ sym (get_or-map (λ (e : List ℕ × List Hit). e.0) found.entries k ([], []) [] below) in
+    λ k below. ap heading_of (entry_at_key found k d below) ∙ (All-get_or (MakesEntry format) found.entries k ([], []) below make).heading ∙ sym (get_or-map (λ (e : List ℕ × List Hit). e.0) found.entries k ([], []) [] below) in
     let less = Less-from_sorted (slice_cmp nat_cmp) (keys_of found.entries) i j [] ordered lt (omega (arith, b, length-map found.entries (λ (e : List ℕ × List Hit). e.0))) in
     ap (λ (h : List ℕ). heading_order h (heading_of (get_or (entries_with found.entries) j d))) (key i a) ∙ ap (λ (h : List ℕ). heading_order (get_or (keys_of found.entries) i []) h) (key j b) ∙ less
 
-pub spelled : (found : Found) (rows : List TermRow) (body : List ℕ) → IsOrdered (slice_cmp nat_cmp) found → Gathers found rows → All MakesEntry found.entries → 0 < length rows
-    → IsItemTable body (map entry (entries_with found.entries)) → SpellsPostings body (entries_with found.entries)
-spelled found rows body ordered g make pos table =
+pub spelled : (format : Format) (found : Found) (rows : List TermRow) (body : List ℕ) → IsOrdered (slice_cmp nat_cmp) found → Gathers found rows → All (MakesEntry format) found.entries → 0 < length rows
+    → IsItemTable body (map (entry format) (entries_with found.entries)) → SpellsPostings format body (entries_with found.entries)
+spelled format found rows body ordered g make pos table =
     let first = first_key rows pos in
     let there = entry_is_there found rows g 0 first.0 (rows_with 0 first.0 rows) (record { kind = omega arith; some = first.1; hits_are = refl }) in
     record {
       some = omega (arith, there.1);
-      fit = All-map IsFileEntry (λ (x : List ℕ × List Hit). entry_with x.0 x.1) found.entries (All-weaker MakesEntry (λ (x : List ℕ × List Hit). IsFileEntry (entry_with x.0 x.1)) (λ x m. m.fits) found.entries make);
-      ascend = ascending found ordered make;
+      fit = All-map (IsFileEntry format) (λ (x : List ℕ × List Hit). entry_with x.0 x.1) found.entries (All-weaker (MakesEntry format) (λ (x : List ℕ × List Hit). IsFileEntry format (entry_with x.0 x.1)) (λ x m. m.fits) found.entries make);
+      ascend = ascending format found ordered make;
       table = table;
     }

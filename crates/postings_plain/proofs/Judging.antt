@@ -8,6 +8,7 @@ use Rattle.std.proofs.lemmas.Cmp.{nat_list_cmp_total}
 use Rattle.std.proofs.lemmas.List.{append-nil, length-map, get_or_default}
 use Rattle.codec_frame.specs.Bytes.{AreBytes}
 use Rattle.body_forms.specs.Format.{Read}
+use Rattle.postings_plain.specs.declared.format.Format.{Format}
 use Rattle.postings_plain.specs.Postings.{Entry, hits_of, entry, IsFileEntry}
 use Rattle.postings_plain.specs.Body.{heading_of, heading_order, IsBefore, SpellsPostings}
 use Rattle.postings_plain.specs.Reading.{entry_at, end_after, IsEntry, IsEntryUpTo, AreEntries, no_entry, at_place, entry_in, entry_of}
@@ -21,56 +22,56 @@ use Rattle.postings_plain.proofs.Finding.{entry_at_place}
 use Rattle.postings_plain.proofs.BodyLaws.{read_entry}
 
 -- read to the end, the bytes are an entry
-pub whole_entry : (item rest : List ℕ) (e : Entry) → AreBytes item → entry_at item ≡ Some (e, rest) → rest ≡ [] → IsFileEntry e × (item ≡ entry e)
-whole_entry item rest e fits r none =
-    let t = entry_format.takes item e rest fits r in
-    (t.1, t.0.parts ∙ ap (λ (x : List ℕ). entry e ++ x) none ∙ append-nil (entry e))
+pub whole_entry : (format : Format) (item rest : List ℕ) (e : Entry) → AreBytes item → entry_at format item ≡ Some (e, rest) → rest ≡ [] → IsFileEntry format e × (item ≡ entry format e)
+whole_entry format item rest e fits r none =
+    let t = (entry_format format).takes item e rest fits r in
+    (t.1, t.0.parts ∙ ap (λ (x : List ℕ). entry format e ++ x) none ∙ append-nil (entry format e))
 
 -- an entry is read to the end
-pub read_whole : (item : List ℕ) (e : Entry) → IsFileEntry e → item ≡ entry e → entry_at item ≡ Some (e, [])
-read_whole item e fit same = ap entry_at (same ∙ sym (append-nil (entry e))) ∙ entry_format.again e [] fit
+pub read_whole : (format : Format) (item : List ℕ) (e : Entry) → IsFileEntry format e → item ≡ entry format e → entry_at format item ≡ Some (e, [])
+read_whole format item e fit same = ap (entry_at format) (same ∙ sym (append-nil (entry format e))) ∙ (entry_format format).again e [] fit
 
-pub entry_of-is : (items : List (List ℕ)) (i : ℕ) (e : Entry) → IsFileEntry e → get_or items i [] ≡ entry e → entry_of items i ≡ e
-entry_of-is items i e fit same = ap entry_in same ∙ read_entry e fit
+pub entry_of-is : (format : Format) (items : List (List ℕ)) (i : ℕ) (e : Entry) → IsFileEntry format e → get_or items i [] ≡ entry format e → entry_of format items i ≡ e
+entry_of-is format items i e fit same = ap (entry_in format) same ∙ read_entry format e fit
 
-abbrev pub entries_of : List (List ℕ) → List Entry
-entries_of items = map entry_in items
+abbrev pub entries_of : (format : Format) → List (List ℕ) → List Entry
+entries_of format items = map (entry_in format) items
 
-pub at_entries_of : (items : List (List ℕ)) (i : ℕ) → i < length items → at_place (entries_of items) i ≡ entry_of items i
-at_entries_of [] i h = absurd (omega arith)
-at_entries_of (item ∷ items) zero h = refl
-at_entries_of (item ∷ items) (suc i) h = at_entries_of items i (omega arith)
+pub at_entries_of : (format : Format) (items : List (List ℕ)) (i : ℕ) → i < length items → at_place (entries_of format items) i ≡ entry_of format items i
+at_entries_of format [] i h = absurd (omega arith)
+at_entries_of format (item ∷ items) zero h = refl
+at_entries_of format (item ∷ items) (suc i) h = at_entries_of format items i (omega arith)
 
-spell_back : (items : List (List ℕ)) → AreEntries items → map entry (entries_of items) ≡ items
-spell_back [] h = refl
-spell_back (item ∷ items) h =
+spell_back : (format : Format) (items : List (List ℕ)) → AreEntries format items → map (entry format) (entries_of format items) ≡ items
+spell_back format [] h = refl
+spell_back format (item ∷ items) h =
     let f = h 0 (omega arith) in
-    cons_from (entry (entry_in item)) item (map entry (entries_of items)) items
-    (ap entry (ap entry_in f.2 ∙ read_entry f.0 f.1) ∙ sym f.2) (spell_back items (λ i g. h (suc i) (omega arith)))
+    cons_from (entry format (entry_in format item)) item (map (entry format) (entries_of format items)) items
+    (ap (entry format) (ap (entry_in format) f.2 ∙ read_entry format f.0 f.1) ∙ sym f.2) (spell_back format items (λ i g. h (suc i) (omega arith)))
 
 -- neighbours in order are all in order
-abbrev pub NextBelow : List (List ℕ) → ℕ → Type 0
-NextBelow items n = (i : ℕ) → i < n → heading_order (heading_of (entry_of items i)) (heading_of (entry_of items (i + 1))) ≡ Less
+abbrev pub NextBelow : (format : Format) → List (List ℕ) → ℕ → Type 0
+NextBelow format items n = (i : ℕ) → i < n → heading_order (heading_of (entry_of format items i)) (heading_of (entry_of format items (i + 1))) ≡ Less
 
-chain_up : (items : List (List ℕ)) (n gap i : ℕ) → NextBelow items n → i + gap < n → heading_order (heading_of (entry_of items i)) (heading_of (entry_of items (i + gap + 1))) ≡ Less
-chain_up items n zero i h lt = let e : i + 0 + 1 ≡ i + 1 = omega arith in subst (λ (k : ℕ). heading_order (heading_of (entry_of items i)) (heading_of (entry_of items k)) ≡ Less) (sym e) (h i (omega arith))
-chain_up items n (suc gap) i h lt =
+chain_up : (format : Format) (items : List (List ℕ)) (n gap i : ℕ) → NextBelow format items n → i + gap < n → heading_order (heading_of (entry_of format items i)) (heading_of (entry_of format items (i + gap + 1))) ≡ Less
+chain_up format items n zero i h lt = let e : i + 0 + 1 ≡ i + 1 = omega arith in subst (λ (k : ℕ). heading_order (heading_of (entry_of format items i)) (heading_of (entry_of format items k)) ≡ Less) (sym e) (h i (omega arith))
+chain_up format items n (suc gap) i h lt =
     let e : i + suc gap + 1 ≡ i + gap + 1 + 1 = omega arith in
-    subst (λ (k : ℕ). heading_order (heading_of (entry_of items i)) (heading_of (entry_of items k)) ≡ Less) (sym e)
-    (nat_list_cmp_total.trans (heading_of (entry_of items i)) (heading_of (entry_of items (i + gap + 1))) (heading_of (entry_of items (i + gap + 1 + 1))) (chain_up items n gap i h (omega arith)) (h (i + gap + 1) (omega arith)))
+    subst (λ (k : ℕ). heading_order (heading_of (entry_of format items i)) (heading_of (entry_of format items k)) ≡ Less) (sym e)
+    (nat_list_cmp_total.trans (heading_of (entry_of format items i)) (heading_of (entry_of format items (i + gap + 1))) (heading_of (entry_of format items (i + gap + 1 + 1))) (chain_up format items n gap i h (omega arith)) (h (i + gap + 1) (omega arith)))
 
-all_up : (items : List (List ℕ)) (n i j : ℕ) → NextBelow items n → i < j → j < n + 1 → heading_order (heading_of (entry_of items i)) (heading_of (entry_of items j)) ≡ Less
-all_up items n i j h lt le =
+all_up : (format : Format) (items : List (List ℕ)) (n i j : ℕ) → NextBelow format items n → i < j → j < n + 1 → heading_order (heading_of (entry_of format items i)) (heading_of (entry_of format items j)) ≡ Less
+all_up format items n i j h lt le =
     let e : i + (j - i - 1) + 1 ≡ j = omega arith in
-    subst (λ (k : ℕ). heading_order (heading_of (entry_of items i)) (heading_of (entry_of items k)) ≡ Less) e (chain_up items n (j - i - 1) i h (omega arith))
+    subst (λ (k : ℕ). heading_order (heading_of (entry_of format items i)) (heading_of (entry_of format items k)) ≡ Less) e (chain_up format items n (j - i - 1) i h (omega arith))
 
-fit_at : (items : List (List ℕ)) (i : ℕ) → AreEntries items → i < length items → IsFileEntry (at_place (entries_of items) i)
-fit_at items i all h = let f = all i h in subst IsFileEntry (sym (at_entries_of items i h ∙ entry_of-is items i f.0 f.1 f.2)) f.1
+fit_at : (format : Format) (items : List (List ℕ)) (i : ℕ) → AreEntries format items → i < length items → IsFileEntry format (at_place (entries_of format items) i)
+fit_at format items i all h = let f = all i h in subst (IsFileEntry format) (sym (at_entries_of format items i h ∙ entry_of-is format items i f.0 f.1 f.2)) f.1
 
-up_at : (items : List (List ℕ)) (i j : ℕ) → NextBelow items (length items - 1) → i < j → j < length items → heading_order (heading_of (at_place (entries_of items) i)) (heading_of (at_place (entries_of items) j)) ≡ Less
-up_at items i j next lt h =
-    ap (λ (e : Entry). heading_order (heading_of e) (heading_of (at_place (entries_of items) j))) (at_entries_of items i (omega arith)) ∙ ap (λ (e : Entry). heading_order (heading_of (entry_of items i)) (heading_of e)) (at_entries_of items j h)
-    ∙ all_up items (length items - 1) i j next lt (omega arith)
+up_at : (format : Format) (items : List (List ℕ)) (i j : ℕ) → NextBelow format items (length items - 1) → i < j → j < length items → heading_order (heading_of (at_place (entries_of format items) i)) (heading_of (at_place (entries_of format items) j)) ≡ Less
+up_at format items i j next lt h =
+    ap (λ (e : Entry). heading_order (heading_of e) (heading_of (at_place (entries_of format items) j))) (at_entries_of format items i (omega arith)) ∙ ap (λ (e : Entry). heading_order (heading_of (entry_of format items i)) (heading_of e)) (at_entries_of format items j h)
+    ∙ all_up format items (length items - 1) i j next lt (omega arith)
 
 at_default : (es : List Entry) (i : ℕ) (d : Entry) → i < length es → at_place es i ≡ get_or es i d
 at_default es i d h = get_or_default es i no_entry d h
@@ -79,25 +80,25 @@ before_at : (es : List Entry) (i j : ℕ) (d : Entry) → i < length es → j < 
 before_at es i j d hi hj b =
     subst (λ (e : Entry). IsBefore e (get_or es j d)) (at_default es i d hi) (subst (λ (e : Entry). IsBefore (at_place es i) e) (at_default es j d hj) b)
 
-pub is_body : (bytes : List ℕ) (items : List (List ℕ)) → IsItemTable bytes items → 0 < length items → AreEntries items → NextBelow items (length items - 1) → SpellsPostings bytes (entries_of items)
-is_body bytes items t pos all next =
-    let len : length (entries_of items) ≡ length items = length-map items entry_in in
+pub is_body : (format : Format) (bytes : List ℕ) (items : List (List ℕ)) → IsItemTable bytes items → 0 < length items → AreEntries format items → NextBelow format items (length items - 1) → SpellsPostings format bytes (entries_of format items)
+is_body format bytes items t pos all next =
+    let len : length (entries_of format items) ≡ length items = length-map items (entry_in format) in
     record {
       some = omega (arith, len);
-      fit = λ i d h. subst IsFileEntry (at_default (entries_of items) i d h) (fit_at items i all (omega (arith, len)));
-      ascend = λ i j d lt h. before_at (entries_of items) i j d (omega arith) h (up_at items i j next lt (omega (arith, len)));
-      table = subst (IsItemTable bytes) (sym (spell_back items all)) t;
+      fit = λ i d h. subst (IsFileEntry format) (at_default (entries_of format items) i d h) (fit_at format items i all (omega (arith, len)));
+      ascend = λ i j d lt h. before_at (entries_of format items) i j d (omega arith) h (up_at format items i j next lt (omega (arith, len)));
+      table = subst (IsItemTable bytes) (sym (spell_back format items all)) t;
     }
 
 -- what a body's items are
-pub body_items : (bytes : List ℕ) (es : List Entry) → SpellsPostings bytes es → AreEntries (map entry es)
-body_items bytes es p = λ i h. (at_place es i, p.fit i no_entry (omega (arith, length-map es entry)), entry_at_place es i (omega (arith, length-map es entry)))
+pub body_items : (format : Format) (bytes : List ℕ) (es : List Entry) → SpellsPostings format bytes es → AreEntries format (map (entry format) es)
+body_items format bytes es p = λ i h. (at_place es i, p.fit i no_entry (omega (arith, length-map es (entry format))), entry_at_place format es i (omega (arith, length-map es (entry format))))
 
-pub body_next : (bytes : List ℕ) (es : List Entry) → SpellsPostings bytes es → NextBelow (map entry es) (length es - 1)
-body_next bytes es p = λ i h.
-    let a = entry_of-is (map entry es) i (at_place es i) (p.fit i no_entry (omega arith)) (entry_at_place es i (omega arith)) in
-    let b = entry_of-is (map entry es) (i + 1) (at_place es (i + 1)) (p.fit (i + 1) no_entry (omega arith)) (entry_at_place es (i + 1) (omega arith)) in
-    ap (λ (e : Entry). heading_order (heading_of e) (heading_of (entry_of (map entry es) (i + 1)))) a ∙ ap (λ (e : Entry). heading_order (heading_of (at_place es i)) (heading_of e)) b ∙ p.ascend i (i + 1) no_entry (omega arith) (omega arith)
+pub body_next : (format : Format) (bytes : List ℕ) (es : List Entry) → SpellsPostings format bytes es → NextBelow format (map (entry format) es) (length es - 1)
+body_next format bytes es p = λ i h.
+    let a = entry_of-is format (map (entry format) es) i (at_place es i) (p.fit i no_entry (omega arith)) (entry_at_place format es i (omega arith)) in
+    let b = entry_of-is format (map (entry format) es) (i + 1) (at_place es (i + 1)) (p.fit (i + 1) no_entry (omega arith)) (entry_at_place format es (i + 1) (omega arith)) in
+    ap (λ (e : Entry). heading_order (heading_of e) (heading_of (entry_of format (map (entry format) es) (i + 1)))) a ∙ ap (λ (e : Entry). heading_order (heading_of (at_place es i)) (heading_of e)) b ∙ p.ascend i (i + 1) no_entry (omega arith) (omega arith)
 
 less_alone : (o : Ordering) → (IsTrue (is_lt o) → o ≡ Less) × (o ≡ Less → IsTrue (is_lt o))
 less_alone Less = (λ _. refl, λ _. refl)
@@ -113,31 +114,31 @@ keys_are f g s t d e fd sd ge te = ap (λ (k : List ℕ). heading_order k (g ∷
 pub same_items : (bytes : List ℕ) (a b : List (List ℕ)) → IsItemTable bytes a → IsItemTable bytes b → length a ≡ length b
 same_items bytes a b t u = sym (table_count bytes a t) ∙ table_count bytes b u
 
-pub entry_test : (item rest : List ℕ) (end : ℕ) (e : Entry) → AreBytes item → entry_at item ≡ Some (e, rest) → end ≡ end_after 0 (hits_of e) → rest ≡ [] → IsEntryUpTo item end
-entry_test item rest end e fits r up none =
-    let q = whole_entry item rest e fits r none in
+pub entry_test : (format : Format) (item rest : List ℕ) (end : ℕ) (e : Entry) → AreBytes item → entry_at format item ≡ Some (e, rest) → end ≡ end_after 0 (hits_of e) → rest ≡ [] → IsEntryUpTo format item end
+entry_test format item rest end e fits r up none =
+    let q = whole_entry format item rest e fits r none in
     (e, q.0, q.1, up)
 
-pub goes_past : (item rest : List ℕ) (e : Entry) → entry_at item ≡ Some (e, rest) → (rest ≡ [] → ⊥) → IsEntry item → ⊥
-goes_past item rest e r past x =
-    let q = read_is e x.0 rest [] (sym r ∙ read_whole item x.0 x.1 x.2) in past q.1
+pub goes_past : (format : Format) (item rest : List ℕ) (e : Entry) → entry_at format item ≡ Some (e, rest) → (rest ≡ [] → ⊥) → IsEntry format item → ⊥
+goes_past format item rest e r past x =
+    let q = read_is e x.0 rest [] (sym r ∙ read_whole format item x.0 x.1 x.2) in past q.1
 
-pub never_read : (item : List ℕ) → ◌≡◌ {A = Read Entry} (entry_at item) None → IsEntry item → ⊥
-never_read item n x = let bad = sym n ∙ read_whole item x.0 x.1 x.2 in cc
+pub never_read : (format : Format) (item : List ℕ) → ◌≡◌ {A = Read Entry} (entry_at format item) None → IsEntry format item → ⊥
+never_read format item n x = let bad = sym n ∙ read_whole format item x.0 x.1 x.2 in cc
 
-abbrev pub EntryAt : List (List ℕ) → ℕ → Type 0
-EntryAt items i = IsEntry (get_or items i [])
+abbrev pub EntryAt : (format : Format) → List (List ℕ) → ℕ → Type 0
+EntryAt format items i = IsEntry format (get_or items i [])
 
-pub entry_more : (items : List (List ℕ)) (n : ℕ) (item : List ℕ) → ((i : ℕ) → i < n → EntryAt items i) → item ≡ get_or items n [] → IsEntry item → (i : ℕ) → i < n + 1 → EntryAt items i
-entry_more items n item so_far same here i h =
+pub entry_more : (format : Format) (items : List (List ℕ)) (n : ℕ) (item : List ℕ) → ((i : ℕ) → i < n → EntryAt format items i) → item ≡ get_or items n [] → IsEntry format item → (i : ℕ) → i < n + 1 → EntryAt format items i
+entry_more format items n item so_far same here i h =
     elim (cases_lt i n) [
       | inl lt ↦ so_far i lt
-      | inr ge ↦ let k : n ≡ i = omega arith in subst (EntryAt items) k (here.0, here.1, sym same ∙ here.2)
+      | inr ge ↦ let k : n ≡ i = omega arith in subst (EntryAt format items) k (here.0, here.1, sym same ∙ here.2)
     ]
 
-pub next_more : (items : List (List ℕ)) (n : ℕ) → NextBelow items n → heading_order (heading_of (entry_of items n)) (heading_of (entry_of items (n + 1))) ≡ Less → NextBelow items (n + 1)
-next_more items n so_far here i h =
+pub next_more : (format : Format) (items : List (List ℕ)) (n : ℕ) → NextBelow format items n → heading_order (heading_of (entry_of format items n)) (heading_of (entry_of format items (n + 1))) ≡ Less → NextBelow format items (n + 1)
+next_more format items n so_far here i h =
     elim (cases_lt i n) [
       | inl lt ↦ so_far i lt
-      | inr ge ↦ let k : n ≡ i = omega arith in subst (λ (j : ℕ). heading_order (heading_of (entry_of items j)) (heading_of (entry_of items (j + 1))) ≡ Less) k here
+      | inr ge ↦ let k : n ≡ i = omega arith in subst (λ (j : ℕ). heading_order (heading_of (entry_of format items j)) (heading_of (entry_of format items (j + 1))) ≡ Less) k here
     ]

@@ -39,7 +39,7 @@ head_of field (suc n) least bytes hs tail pos e =
     let m : suc n - 1 ≡ n = omega arith in
     record { head = f.0.0; after = f.0.1; others = g.0.0; first = f.1; onward = ap (λ (k : ℕ). rows_at field k (above_hit f.0.0) f.0.1) m ∙ g.1 ∙ ap (λ (t : List ℕ). Some (g.0.0, t)) q.1; whole = sym q.0 }
 
-from_row-below : (row : ℕ) (h : Hit) (hs : List Hit) → h.0 < row → from_row row (h ∷ hs) ≡ from_row row hs
+pub from_row-below : (row : ℕ) (h : Hit) (hs : List Hit) → h.0 < row → from_row row (h ∷ hs) ≡ from_row row hs
 from_row-below row h hs lt = rw (lt-ltb h.0 row lt) refl
 
 pub from_row-at : (row : ℕ) (h : Hit) (hs : List Hit) → row ≤ h.0 → from_row row (h ∷ hs) ≡ h ∷ hs
@@ -48,65 +48,6 @@ from_row-at row h hs le = rw (le-ltb h.0 row le) refl
 pub none_left : (field count least : ℕ) (rest : List ℕ) (ls : List Hit) (tail : List ℕ) → count ≡ 0 → rows_at field count least rest ≡ Some (ls, tail) → ls ≡ []
 none_left field zero least rest ls tail z e = let q = read_is [] ls rest tail e in sym q.0
 none_left field (suc count) least rest ls tail z e = absurd (omega arith)
-
--- The hits left are read from the bytes left, and from the row on they are those of the whole.
-pub record Passes (field count least : ℕ) (rest : List ℕ) (row : ℕ) (whole : List Hit) : Type 0 where
-  pub below : least ≤ 2 ^ 32
-  pub left : List Hit
-  pub tail : List ℕ
-  pub read : rows_at field count least rest ≡ Some (left, tail)
-  pub same : from_row row left ≡ from_row row whole
-
-pub passes_none : (field count least : ℕ) (rest : List ℕ) (row : ℕ) (whole : List Hit) → least ≤ 2 ^ 32 → AreHits (rows_at field count least rest) → hits_or_none (rows_at field count least rest) ≡ whole
-    → Passes field count least rest row whole
-passes_none field count least rest row whole below r e =
-    let w = was_read (rows_at field count least rest) r in
-    record { below = below; left = w.0; tail = w.1; read = w.2; same = ap (from_row row) (sym (ap hits_or_none w.2) ∙ e) }
-
-moved : (field n : ℕ) (g h : Hit) (a b : List ℕ) → g ≡ h → a ≡ b → rows_at field n (above_hit h) b ≡ rows_at field n (above_hit g) a
-moved field n g h a b e f = ap (λ (z : Hit). rows_at field n (above_hit z) b) (sym e) ∙ ap (rows_at field n (above_hit g)) (sym f)
-
--- the first of the hits left is the one that was read
-front : (field count least : ℕ) (rest : List ℕ) (hs : List Hit) (tail : List ℕ) (x : ℕ) (xs after : List ℕ) (h : Head field count least rest hs tail) → hit_at field least rest ≡ Some ((x, xs), after)
-    → (hs ≡ (x, xs) ∷ h.others) × (rows_at field (count - 1) (x + 1) after ≡ Some (h.others, tail))
-front field count least rest hs tail x xs after h e =
-    let q = read_is h.head (x, xs) h.after after (sym h.first ∙ e) in
-    (h.whole ∙ ap (λ (z : Hit). z ∷ h.others) q.0, moved field (count - 1) h.head (x, xs) h.after after q.0 q.1 ∙ h.onward)
-
-pub passes_one : (field count least : ℕ) (rest : List ℕ) (row : ℕ) (whole : List Hit) (x : ℕ) (xs after : List ℕ) → 0 < count → x < row → x < 2 ^ 32 → hit_at field least rest ≡ Some ((x, xs), after)
-    → Passes field count least rest row whole → Passes field (count - 1) (x + 1) after row whole
-passes_one field count least rest row whole x xs after pos lt fit e p =
-    let h = head_of field count least rest p.left p.tail pos p.read in
-    let f = front field count least rest p.left p.tail x xs after h e in
-    record { below = omega arith; left = h.others; tail = p.tail; read = f.1; same = sym (from_row-below row (x, xs) h.others lt) ∙ ap (from_row row) (sym f.0) ∙ p.same }
-
-pub not_none : (field count least : ℕ) (rest : List ℕ) (row : ℕ) (whole : List Hit) → 0 < count → Passes field count least rest row whole → hit_at field least rest ≡ None → ⊥
-not_none field count least rest row whole pos p e =
-    let h = head_of field count least rest p.left p.tail pos p.read in
-    let clash = sym e ∙ h.first in
-    cc
-
--- where the loop ends: the hits left are those from the row on, and this is the first of them
-pub record Arrives (field count least : ℕ) (rest : List ℕ) (row : ℕ) (whole : List Hit) (found : Option ℕ) : Type 0 where
-  pub read : AreHits (rows_at field count least rest)
-  pub left : hits_or_none (rows_at field count least rest) ≡ from_row row whole
-  pub first : found ≡ first_row (from_row row whole)
-
--- at a row that is not below
-pub stops : (field count least : ℕ) (rest : List ℕ) (row : ℕ) (whole : List Hit) (x : ℕ) (xs after : List ℕ) → 0 < count → row ≤ x → hit_at field least rest ≡ Some ((x, xs), after)
-    → Passes field count least rest row whole → Arrives field count least rest row whole (Some x)
-stops field count least rest row whole x xs after pos le e p =
-    let h = head_of field count least rest p.left p.tail pos p.read in
-    let f = front field count least rest p.left p.tail x xs after h e in
-    let here : from_row row whole ≡ (x, xs) ∷ h.others = sym p.same ∙ ap (from_row row) f.0 ∙ from_row-at row (x, xs) h.others le in
-    record { read = is_read (rows_at field count least rest) p.left p.tail p.read; left = ap hits_or_none p.read ∙ f.0 ∙ sym here; first = sym (ap first_row here) }
-
--- where no hit is left
-pub runs_out : (field count least : ℕ) (rest : List ℕ) (row : ℕ) (whole : List Hit) → count ≡ 0 → Passes field count least rest row whole → Arrives field count least rest row whole None
-runs_out field count least rest row whole z p =
-    let none = none_left field count least rest p.left p.tail z p.read in
-    let here : from_row row whole ≡ [] = sym p.same ∙ ap (from_row row) none in
-    record { read = is_read (rows_at field count least rest) p.left p.tail p.read; left = ap hits_or_none p.read ∙ none ∙ sym here; first = sym (ap first_row here) }
 
 -- ---- rows ascend
 

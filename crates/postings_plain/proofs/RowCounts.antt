@@ -3,25 +3,14 @@ use Rattle.std.proofs.Common.{◌≡◌, ℕ, zero, suc, ◌+◌, ◌<◌, ◌�
 use Rattle.std.specs.List.{All, Any}
 use Rattle.std.proofs.lemmas.Bool.{cases_lt}
 use Rattle.std.proofs.lemmas.List.{get_or_default, length-map}
-use Rattle.body_forms.specs.Format.{ChainFits}
-use Rattle.postings_plain.specs.Postings.{Hit, row_of, Entry, field_of, hits_of, HitFits, above_hit, IsFileEntry}
+use Rattle.postings_plain.specs.declared.format.Format.{Format}
+use Rattle.postings_plain.specs.Postings.{Hit, row_of, Entry, field_of, hits_of, above_hit, IsFileEntry}
 use Rattle.postings_plain.specs.Body.{IsRowCount}
 use Rattle.postings_plain.specs.Reading.{end_after, IsEntry, IsEntryUpTo, AreEntries, no_entry, entry_in, entry_of}
+use Rattle.postings_plain.proofs.HitLaws.{all_below}
 use Rattle.postings_plain.proofs.Judging.{entries_of, at_entries_of, entry_of-is}
 
 -- ---- the hits of one entry
-
-abbrev pub Rows : ℕ → ℕ → List Hit → Type 0
-Rows field k hs = ChainFits (HitFits field) above_hit k hs
-
-no_lower : (field k : ℕ) (hs : List Hit) → Rows field k hs → k ≤ end_after k hs
-no_lower field k [] fit = omega arith
-no_lower field k (h ∷ hs) fit = omega (arith, no_lower field (above_hit h) hs fit.1, fit.0.0.0)
-
-all_below : (field k : ℕ) (hs : List Hit) → Rows field k hs → (i : ℕ) (d : Hit) → i < length hs → row_of (get_or hs i d) < end_after k hs
-all_below field k [] fit i d lt = absurd (omega arith)
-all_below field k (h ∷ hs) fit zero d lt = omega (arith, no_lower field (above_hit h) hs fit.1)
-all_below field k (h ∷ hs) fit (suc i) d lt = all_below field (above_hit h) hs fit.1 i d (omega arith)
 
 abbrev LastOf : ℕ → List Hit → Type 0
 LastOf n hs = Any (λ h. row_of h + 1 ≡ n) hs
@@ -39,22 +28,22 @@ some_reaches k (h ∷ hs) pos = last_reaches k h hs
 
 -- ---- the entries of items
 
-abbrev pub end_of : List (List ℕ) → ℕ → ℕ
-end_of items i = end_after 0 (hits_of (entry_of items i))
+abbrev pub end_of : (format : Format) → List (List ℕ) → ℕ → ℕ
+end_of format items i = end_after 0 (hits_of (entry_of format items i))
 
 -- n is the greatest end of the first items
-pub record Ends (items : List (List ℕ)) (count n : ℕ) : Type 0 where
-  pub below : (i : ℕ) → i < count → end_of items i ≤ n
-  pub reached : 0 < n → (i : ℕ) × (i < count) × (end_of items i ≡ n)
+pub record Ends (format : Format) (items : List (List ℕ)) (count n : ℕ) : Type 0 where
+  pub below : (i : ℕ) → i < count → end_of format items i ≤ n
+  pub reached : 0 < n → (i : ℕ) × (i < count) × (end_of format items i ≡ n)
 
-pub ends_none : (items : List (List ℕ)) → Ends items 0 0
-ends_none items = record { below = λ i h. absurd (omega arith); reached = λ h. absurd (omega arith) }
+pub ends_none : (format : Format) (items : List (List ℕ)) → Ends format items 0 0
+ends_none format items = record { below = λ i h. absurd (omega arith); reached = λ h. absurd (omega arith) }
 
-pub ends_more : (items : List (List ℕ)) (count n end : ℕ) → Ends items count n → end_of items count ≡ end → Ends items (count + 1) (max n end)
-ends_more items count n end so_far here = record {
+pub ends_more : (format : Format) (items : List (List ℕ)) (count n end : ℕ) → Ends format items count n → end_of format items count ≡ end → Ends format items (count + 1) (max n end)
+ends_more format items count n end so_far here = record {
   below = λ i h. elim (cases_lt i count) [
     | inl lt ↦ omega (arith, so_far.below i lt)
-    | inr ge ↦ let same : i ≡ count = omega arith in omega (arith, ap (end_of items) same, here)
+    | inr ge ↦ let same : i ≡ count = omega arith in omega (arith, ap (end_of format items) same, here)
   ];
   reached = λ pos. elim (cases_lt n end) [
     | inl lt ↦ (count, omega arith, omega (arith, here))
@@ -63,39 +52,39 @@ ends_more items count n end so_far here = record {
 }
 
 -- where the hits of the item end
-pub end_at : (items : List (List ℕ)) (i : ℕ) (item : List ℕ) (end : ℕ) → item ≡ get_or items i [] → IsEntryUpTo item end → end_of items i ≡ end
-end_at items i item end same x = ap (λ (e : Entry). end_after 0 (hits_of e)) (entry_of-is items i x.0 x.1 (sym same ∙ x.2)) ∙ sym x.3
+pub end_at : (format : Format) (items : List (List ℕ)) (i : ℕ) (item : List ℕ) (end : ℕ) → item ≡ get_or items i [] → IsEntryUpTo format item end → end_of format items i ≡ end
+end_at format items i item end same x = ap (λ (e : Entry). end_after 0 (hits_of e)) (entry_of-is format items i x.0 x.1 (sym same ∙ x.2)) ∙ sym x.3
 
 -- the entry at i is the one that the item spells, and there its hits end
-entry_there : (items : List (List ℕ)) (i : ℕ) (d : Entry) (x : IsEntry (get_or items i [])) → i < length items → get_or (entries_of items) i d ≡ x.0
-entry_there items i d x lt =
-    get_or_default (entries_of items) i d no_entry (omega (arith, length-map items entry_in)) ∙ at_entries_of items i lt ∙ entry_of-is items i x.0 x.1 x.2
+entry_there : (format : Format) (items : List (List ℕ)) (i : ℕ) (d : Entry) (x : IsEntry format (get_or items i [])) → i < length items → get_or (entries_of format items) i d ≡ x.0
+entry_there format items i d x lt =
+    get_or_default (entries_of format items) i d no_entry (omega (arith, length-map items (entry_in format))) ∙ at_entries_of format items i lt ∙ entry_of-is format items i x.0 x.1 x.2
 
-end_there : (items : List (List ℕ)) (i : ℕ) (x : IsEntry (get_or items i [])) → end_of items i ≡ end_after 0 (hits_of x.0)
-end_there items i x = ap (λ (e : Entry). end_after 0 (hits_of e)) (entry_of-is items i x.0 x.1 x.2)
+end_there : (format : Format) (items : List (List ℕ)) (i : ℕ) (x : IsEntry format (get_or items i [])) → end_of format items i ≡ end_after 0 (hits_of x.0)
+end_there format items i x = ap (λ (e : Entry). end_after 0 (hits_of e)) (entry_of-is format items i x.0 x.1 x.2)
 
-rows_below : (es : List Entry) (i n : ℕ) (d : Entry) (e : Entry) → IsFileEntry e → get_or es i d ≡ e → end_after 0 (hits_of e) ≤ n → All (λ h. row_of h < n) (hits_of (get_or es i d))
-rows_below es i n d e fit same le = subst (λ (x : Entry). All (λ h. row_of h < n) (hits_of x)) (sym same) (λ k c h. omega (arith, all_below (field_of e) 0 (hits_of e) fit.1.1.1 k c h))
+rows_below : (format : Format) (es : List Entry) (i n : ℕ) (d : Entry) (e : Entry) → IsFileEntry format e → get_or es i d ≡ e → end_after 0 (hits_of e) ≤ n → All (λ h. row_of h < n) (hits_of (get_or es i d))
+rows_below format es i n d e fit same le = subst (λ (x : Entry). All (λ h. row_of h < n) (hits_of x)) (sym same) (λ k c h. omega (arith, all_below (field_of e) 0 (hits_of e) fit.hits_fit.1 k c h))
 
-reached_there : (items : List (List ℕ)) (i n : ℕ) (x : IsEntry (get_or items i [])) → i < length items → end_of items i ≡ n → Any (λ e. LastOf n (hits_of e)) (entries_of items)
-reached_there items i n x lt e =
-    let last = some_reaches 0 (hits_of x.0) x.1.1.1.0.0 in
-    (i, x.0, omega (arith, length-map items entry_in), entry_there items i x.0 x lt, subst (λ (m : ℕ). LastOf m (hits_of x.0)) (sym (end_there items i x) ∙ e) last)
+reached_there : (format : Format) (items : List (List ℕ)) (i n : ℕ) (x : IsEntry format (get_or items i [])) → i < length items → end_of format items i ≡ n → Any (λ e. LastOf n (hits_of e)) (entries_of format items)
+reached_there format items i n x lt e =
+    let last = some_reaches 0 (hits_of x.0) x.1.hits_fit.0.0 in
+    (i, x.0, omega (arith, length-map items (entry_in format)), entry_there format items i x.0 x lt, subst (λ (m : ℕ). LastOf m (hits_of x.0)) (sym (end_there format items i x) ∙ e) last)
 
-some_row : (items : List (List ℕ)) (i : ℕ) (x : IsEntry (get_or items i [])) → 0 < end_of items i
-some_row items i x = let last = some_reaches 0 (hits_of x.0) x.1.1.1.0.0 in omega (arith, last.4, end_there items i x)
+some_row : (format : Format) (items : List (List ℕ)) (i : ℕ) (x : IsEntry format (get_or items i [])) → 0 < end_of format items i
+some_row format items i x = let last = some_reaches 0 (hits_of x.0) x.1.hits_fit.0.0 in omega (arith, last.4, end_there format items i x)
 
-pub count_of_ends : (items : List (List ℕ)) (count n : ℕ) → count ≡ length items → 0 < length items → AreEntries items → Ends items count n → IsRowCount (entries_of items) n
-count_of_ends items count n same pos all ends =
-    let len = length-map items entry_in in
-    let some : 0 < n = omega (arith, some_row items 0 (all 0 pos), ends.below 0 (omega arith)) in
+pub count_of_ends : (format : Format) (items : List (List ℕ)) (count n : ℕ) → count ≡ length items → 0 < length items → AreEntries format items → Ends format items count n → IsRowCount (entries_of format items) n
+count_of_ends format items count n same pos all ends =
+    let len = length-map items (entry_in format) in
+    let some : 0 < n = omega (arith, some_row format items 0 (all 0 pos), ends.below 0 (omega arith)) in
     let x = ends.reached some in
     record {
       below = λ i d h.
           let lt : i < length items = omega (arith, len) in
           let e = all i lt in
-          rows_below (entries_of items) i n d e.0 e.1 (entry_there items i d e lt) (omega (arith, end_there items i e, ends.below i (omega arith)));
-      greatest = let lt : x.0 < length items = omega (arith, x.1) in reached_there items x.0 n (all x.0 lt) lt x.2;
+          rows_below format (entries_of format items) i n d e.0 e.1 (entry_there format items i d e lt) (omega (arith, end_there format items i e, ends.below i (omega arith)));
+      greatest = let lt : x.0 < length items = omega (arith, x.1) in reached_there format items x.0 n (all x.0 lt) lt x.2;
     }
 
 -- ---- entries have one number of rows

@@ -1,13 +1,16 @@
 -- What is found of the terms of rows, before it is written.
-use Rattle.std.specs.Prelude.{◌≡◌, ℕ, ◌<◌, ◌^◌, ◌++◌, List, [], ◌∷◌, length, Option, Some, None}
+use Rattle.std.specs.Prelude.{◌≡◌, ℕ, ◌<◌, ◌≤◌, ◌^◌, ◌++◌, List, [], ◌∷◌, length, Option, Some, None}
 use Rattle.std.specs.List.{All}
 use Rattle.std.specs.Ordering.{nat_cmp}
 use Rattle.std.specs.Cmp.Lexicographic.{slice_cmp}
 use Rattle.std.specs.BTreeMap.{BTreeMap, get, Updates}
+use Rattle.postings_plain.specs.declared.format.Format.{Format}
 use Rattle.postings_plain.specs.declared.row.TermRow.{TermRow}
 use Rattle.std.specs.Option.{unwrap_or}
+use Rattle.body_forms.specs.Format.{chain, ChainFits}
 use Rattle.body_forms.specs.File.{AddsSpelling}
-use Rattle.postings_plain.specs.Postings.{Hit, Entry, row_of}
+use Rattle.postings_plain.specs.Postings.{Hit, Entry, row_of, field_of, hits_of, skip, SkipFits, skip_of, above_block, skips_from, hits_from, hits, SkipsFit, entry}
+use Rattle.postings_plain.specs.Reading.{end_after}
 use Rattle.postings_plain.specs.Body.{SpellsPostings}
 use Rattle.postings_plain.specs.Inverting.{rows_with, AreEntriesOf}
 
@@ -54,13 +57,41 @@ AddsPlace old new term row place = (hits : List Hit) × GainsPlace (found_hits o
 abbrev pub GathersRow : (number : ℕ) → TermRow → (old new : Terms) → Type 0
 GathersRow number row old new = (rows : List TermRow) → length rows ≡ number → Gathers old rows → Gathers new (rows ++ row ∷ [])
 
--- the body has fewer than 2^32 bytes, and spells the entries of the rows
-pub record SpellsRows (body : List ℕ) (rows : List TermRow) : Type 0 where
+-- hits were added, whose rows are k or above, and this is the least row that may come after them
+pub record AddsRows (field k : ℕ) (hs : List Hit) (old new : List ℕ) (end : ℕ) : Type 0 where
+  pub added : new ≡ old ++ hits_from field k hs
+  pub end_is : end ≡ end_after k hs
+  pub below : end ≤ 2 ^ 32
+
+-- the hits of a block were added to the area, and its skip entry to the bytes
+pub record AddsBlock (field k : ℕ) (block : List Hit) (old_area new_area old new : List ℕ) (end : ℕ) : Type 0 where
+  pub rows : AddsRows field k block old_area new_area end
+  pub added : new ≡ old ++ skip k (skip_of field k block)
+  pub skip_fits : SkipFits k (skip_of field k block)
+  pub end_above : end ≡ above_block (skip_of field k block)
+
+-- the skip entries of so many blocks and the hits were added, and the rows of each block take fewer than 2^32 bytes
+pub record AddsBlocks (field blocks : ℕ) (hs : List Hit) (old new : List ℕ) : Type 0 where
+  pub added : new ≡ old ++ (chain skip above_block 0 (skips_from field blocks 0 hs) ++ hits_from field 0 hs)
+  pub skips_fit : ChainFits SkipFits above_block 0 (skips_from field blocks 0 hs)
+
+-- the hits of a term were added, and the rows of each block take fewer than 2^32 bytes
+pub record AddsHits (format : Format) (field : ℕ) (hs : List Hit) (old new : List ℕ) : Type 0 where
+  pub added : new ≡ old ++ hits format field hs
+  pub skips_fit : SkipsFit format field hs
+
+-- an entry was added, and the rows of each block take fewer than 2^32 bytes
+pub record AddsEntry (format : Format) (e : Entry) (old new : List ℕ) : Type 0 where
+  pub added : new ≡ old ++ entry format e
+  pub skips_fit : SkipsFit format (field_of e) (hits_of e)
+
+-- the body has fewer than 2^32 bytes, and spells the entries of the rows in this format
+pub record SpellsRows (format : Format) (body : List ℕ) (rows : List TermRow) : Type 0 where
   pub small : length body < 2 ^ 32
   pub entries : List Entry
   pub are : AreEntriesOf rows entries
-  pub spelled : SpellsPostings body entries
+  pub spelled : SpellsPostings format body entries
 
--- the body of the rows that were gathered, at least one, was added
-abbrev pub AddsPostings : (found : Terms) (old new : List ℕ) → Type 0
-AddsPostings found old new = (rows : List TermRow) → Gathers found rows → AreFew rows → 0 < length rows → AddsSpelling SpellsRows rows old new
+-- the body of the rows that were gathered, at least one, was added in this format
+abbrev pub AddsPostings : Format → (found : Terms) (old new : List ℕ) → Type 0
+AddsPostings format found old new = (rows : List TermRow) → Gathers found rows → AreFew rows → 0 < length rows → AddsSpelling (SpellsRows format) rows old new

@@ -2,9 +2,10 @@
 use Rattle.std.specs.Prelude.{◌≡◌, ◌↔◌, ℕ, zero, suc, ◌<◌, Bool, IsTrue, List, [], map}
 use Rattle.std.specs.List.{filter, list_any, enumerate_from}
 use Rattle.std.specs.Str.{bytes_eq}
+use Rattle.postings_plain.specs.declared.format.Format.{Format}
 use Rattle.postings_plain.specs.declared.row.TermRow.{TermRow}
 use Rattle.postings_plain.specs.Postings.{Hit, Entry}
-use Rattle.postings_plain.specs.Body.{HasEntry, IsPostingsFile}
+use Rattle.postings_plain.specs.Body.{HasEntry, in_format, IsPostingsFile}
 
 -- each item with its place, from 0
 abbrev pub numbered : {X : Type 0} → List X → List (ℕ × X)
@@ -38,6 +39,6 @@ pub record HaveEntry (rows : List TermRow) (field : ℕ) (term : List ℕ) (hits
 abbrev pub AreEntriesOf : List TermRow → List Entry → Type 0
 AreEntriesOf rows es = (field : ℕ) (term : List ℕ) (hits : List Hit) → HasEntry es field term hits ↔ HaveEntry rows field term hits
 
--- the bytes are the file of the entries of these rows
-abbrev pub IsPostingsFileOf : (id : List ℕ) → List TermRow → List ℕ → Type 0
-IsPostingsFileOf id rows bytes = (es : List Entry) × AreEntriesOf rows es × IsPostingsFile id es bytes
+-- the bytes are the file of the entries of these rows in this format
+abbrev pub IsPostingsFileOf : (format : Format) (id : List ℕ) → List TermRow → List ℕ → Type 0
+IsPostingsFileOf format id rows bytes = (es : List Entry) × AreEntriesOf rows es × IsPostingsFile id (in_format format es) bytes

@@ -2,5 +2,6 @@ pub mod Postings
 pub mod Body
 pub mod Rows
 pub mod Reading
+pub mod Blocks
 pub mod Inverting
 pub mod Gathering

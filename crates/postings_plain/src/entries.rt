@@ -1,10 +1,13 @@
 //! The parts of an entry, read past.
 
-ghost use Rattle.std.specs.Prelude.{◌≡◌, ◌<◌, ◌≤◌, ◌^◌, IfSome};
+ghost use Rattle.std.specs.Prelude.{◌≡◌, ◌<◌, ◌≤◌, ◌^◌, ℕ, List, Some, IfSome};
 ghost use Rattle.std.specs.Option.{option_map};
 ghost use Rattle.body_forms.specs.Format.{Skips};
-ghost use Rattle.postings_plain.specs.Reading.{SkipsHit, SkipsHits, SkipsEntry, counted_from_at, field_at, term_at, positions_at, hit_at, hits_at, entry_at};
+ghost use Rattle.postings_plain.specs.Postings.{Skip};
+ghost use Rattle.postings_plain.specs.Reading.{SkipsHit, SkipsHits, SkipsEntry, counted_from_at, field_at, term_at, positions_at, hit_at, skips_at, blocks_at, rows_of_term_at, hits_at, entry_at};
 
+use crate::blocks::{first_block, skip_of, skip_skips, skips_of_rows};
+use crate::format::Format;
 use body_forms::{difference_of, positive_of, skip_ascending, string_of};
 
 /// The field at the front, and the bytes after it.
@@ -60,33 +63,76 @@ pub fn skip_hit(field: u8, least: u64, bytes: &[u8]) -> Option<(u32, &[u8])>
 }
 
 /// Reads past the hits of a term, and says which row is one above the last of them.
-pub fn skip_hits(field: u8, bytes: &[u8]) -> Option<(u64, &[u8])>
-    ensures { SkipsHits (option_map (λ x. (x.0, x.1.now)) result) (hits_at field bytes.now) }
+pub fn skip_hits(format: Format, field: u8, bytes: &[u8]) -> Option<(u64, &[u8])>
+    ensures { SkipsHits 0 (option_map (λ x. (x.0, x.1.now)) result) (hits_at format field bytes.now) }
 {
     let (count, rest) = positive_of(bytes)?;
-    skip_counted(field, count, rest)
+    skip_rows(format, field, count, rest)
 }
 
-// Reads past so many hits.
-fn skip_counted(field: u8, count: u32, bytes: &[u8]) -> Option<(u64, &[u8])>
-    ensures { SkipsHits (option_map (λ x. (x.0, x.1.now)) result)
-        (counted_from_at field count 0 bytes.now) }
+// Reads past the skip entries of so many hits and past the hits, where they agree.
+fn skip_rows(format: Format, field: u8, count: u32, bytes: &[u8]) -> Option<(u64, &[u8])>
+    ensures { SkipsHits 0 (option_map (λ x. (x.0, x.1.now)) result)
+        (rows_of_term_at format field count bytes.now) }
+{
+    let blocks = skips_of_rows(format, count);
+    let rows = skip_skips(blocks, bytes)?;
+    skip_blocks(field, blocks, count, bytes, rows)
+}
+
+// Reads past so many hits, in so many blocks that end as their skip entries say.
+fn skip_blocks<'a>(
+    field: u8,
+    blocks: u32,
+    count: u32,
+    skips: &[u8],
+    rows: &'a [u8],
+) -> Option<(u64, &'a [u8])>
+    requires { (list : List Skip) × (after : List ℕ) × (skips_at blocks 0 skips.now ≡ Some (list, after)) }
+    ensures { (list : List Skip) (after : List ℕ) → skips_at blocks 0 skips.now ≡ Some (list, after)
+        → SkipsHits 0 (option_map (λ x. (x.0, x.1.now)) result) (blocks_at field list count 0 rows.now) }
+{
+    let mut skips = skips;
+    let mut rest = rows;
+    let mut least: u64 = 0;
+    let mut left = count;
+    for _ in 0..blocks {
+        let ((row, len), others) = skip_of(least, skips)?;
+        let block = first_block(left);
+        let (end, after) = skip_counted(field, block, least, rest)?;
+        if end != u64::from(row) + 1 || rest.len() != after.len() + len as usize {
+            return None;
+        }
+        skips = others;
+        rest = after;
+        least = end;
+        left -= block;
+    }
+    skip_counted(field, left, least, rest)
+}
+
+// Reads past so many hits, whose rows are the least or above.
+fn skip_counted(field: u8, count: u32, least: u64, bytes: &[u8]) -> Option<(u64, &[u8])>
+    requires { least ≤ 2 ^ 32 }
+    ensures value { SkipsHits least (option_map (λ x. (x.0, x.1.now)) result)
+        (counted_from_at field count least bytes.now) }
+    ensures below { IfSome result (λ x. x.0 ≤ 2 ^ 32) }
 {
     let mut rest = bytes;
-    let mut least: u64 = 0;
+    let mut end = least;
     for _ in 0..count {
-        let (row, after) = skip_hit(field, least, rest)?;
-        least = u64::from(row) + 1;
+        let (row, after) = skip_hit(field, end, rest)?;
+        end = u64::from(row) + 1;
         rest = after;
     }
-    Some((least, rest))
+    Some((end, rest))
 }
 
 /// Reads past an entry, and says which row is one above the last of its hits.
-pub fn skip_entry(bytes: &[u8]) -> Option<(u64, &[u8])>
-    ensures { SkipsEntry (option_map (λ x. (x.0, x.1.now)) result) (entry_at bytes.now) }
+pub fn skip_entry(format: Format, bytes: &[u8]) -> Option<(u64, &[u8])>
+    ensures { SkipsEntry (option_map (λ x. (x.0, x.1.now)) result) (entry_at format bytes.now) }
 {
     let (field, rest) = field_of(bytes)?;
     let (_, rest) = term_of(rest)?;
-    skip_hits(field, rest)
+    skip_hits(format, field, rest)
 }

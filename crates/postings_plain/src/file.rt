@@ -1,13 +1,13 @@
 //! Files of postings, read.
 
-ghost use Rattle.std.specs.Prelude.{List, MatchOption, IfSome};
+ghost use Rattle.std.specs.Prelude.{◌≡◌, MatchOption, IfSome};
 ghost use Rattle.codec_frame.specs.Checking.{IsChecked};
-ghost use Rattle.body_forms.specs.File.{IsFileRead};
 ghost use Rattle.postings_plain.specs.Postings.{HitsFit};
-ghost use Rattle.postings_plain.specs.Body.{SpellsPostings, HasEntry, HasNoEntry, IsRowCount, postings_wanted};
+ghost use Rattle.postings_plain.specs.Body.{SpellsPostings, HasEntry, HasNoEntry, IsRowCount, postings_wanted, IsPostingsRead};
 
 use crate::body::row_count;
 use crate::find::find;
+use crate::format::Format;
 use crate::postings::Postings;
 use body_forms::item_at;
 use bytes::Bytes;
@@ -19,73 +19,77 @@ use std::marker::Model;
 /// The name of the format in the header.
 pub const NAME: &[u8; 11] = b"NrtPostings";
 
-/// The version of the format.
-pub const VERSION: u32 = 1;
-
-// The frame of a file with this id.
+// The frame of a file with this id, in either format.
 fn frame_of(bytes: &Bytes, id: &[u8; 16]) -> Result<Framed, FrameFault>
     ensures { IsChecked (postings_wanted id.now) bytes.now result }
 {
     let want = Want {
         name: NAME,
-        min: VERSION,
-        max: VERSION,
+        min: u32::from(Format::One.number()),
+        max: u32::from(Format::Two.number()),
         id: Some(*id),
         suffix: b"",
     };
     check(bytes.as_slice(), &want)
 }
 
-/// The postings of a segment, seen as the list of their entries: each has a field, a term and its hits. Nothing is copied
-/// to be read: all is lent from the shared bytes.
+/// The postings of a segment, seen as their format and the list of their entries: each has a field, a term and its hits.
+/// Nothing is copied to be read: all is lent from the shared bytes.
 #[derive(Debug, Drop)]
 pub struct PostFile {
     // The whole file; its body is the bytes from `start` to before `end`.
     bytes: Bytes,
     start: usize,
     end: usize,
+    format: Format,
     rows: u64,
 }
 
 impl Model for PostFile {
-    ghost use Rattle.std.specs.Prelude.{List, length, ◌≤◌, slice_range};
-    ghost use Rattle.postings_plain.specs.Postings.{Entry};
-    ghost use Rattle.postings_plain.specs.Body.{SpellsPostings, IsRowCount};
+    ghost use Rattle.std.specs.Prelude.{length, ◌≤◌, slice_range};
+    ghost use Rattle.postings_plain.specs.Body.{FormattedEntries, in_format, SpellsPostings, IsRowCount};
     ghost use Rattle.postings_plain.specs.Reading.{entries_in};
 
-    ghost Value = { List Entry };
+    ghost Value = { FormattedEntries };
 
-    ghost view = { λ a. entries_in (slice_range a.bytes a.start a.end) };
+    ghost view = { λ a. in_format a.format (entries_in a.format (slice_range a.bytes a.start a.end)) };
 
     ghost invariant = { λ a. (a.start ≤ a.end) × (a.end ≤ length a.bytes)
-        × SpellsPostings (slice_range a.bytes a.start a.end)
-        (entries_in (slice_range a.bytes a.start a.end))
-        × IsRowCount (entries_in (slice_range a.bytes a.start a.end)) a.rows };
+        × SpellsPostings a.format (slice_range a.bytes a.start a.end)
+        (entries_in a.format (slice_range a.bytes a.start a.end))
+        × IsRowCount (entries_in a.format (slice_range a.bytes a.start a.end)) a.rows };
 }
 
 impl PostFile {
     fn body(&self) -> &[u8]
-        ensures { SpellsPostings result.now self.now }
+        ensures { SpellsPostings self.now.format result.now self.now.entries }
     {
         &self.bytes.as_slice()[self.start..self.end]
     }
 
     /// How many rows the postings speak of: one above the greatest row in them.
     pub fn rows(&self) -> u64
-        ensures { IsRowCount self.now result }
+        ensures { IsRowCount self.now.entries result }
     {
         self.rows
     }
 
+    /// The format that they are in.
+    pub fn format(&self) -> Format
+        ensures { result ≡ self.now.format }
+    {
+        self.format
+    }
+
     /// The hits of a term: of a key where the field is 0, of a word where it is 1. None comes exactly where no row has it.
     pub fn find(&self, field: u8, term: &[u8]) -> Option<Postings<'_>>
-        ensures found { MatchOption result (HasNoEntry self.now field term.now)
-            (HasEntry self.now field term.now) }
+        ensures found { MatchOption result (HasNoEntry self.now.entries field term.now)
+            (HasEntry self.now.entries field term.now) }
         ensures fit { IfSome result (HitsFit field) }
     {
         let body = self.body();
         let place = find(body, field, term)?;
-        Some(Postings::of_entry(item_at(body, place)))
+        Some(Postings::of_entry(self.format, item_at(body, place)))
     }
 }
 
@@ -96,21 +100,24 @@ impl Share for PostFile {
             bytes: self.bytes.share(alloc)?,
             start: self.start,
             end: self.end,
+            format: self.format,
             rows: self.rows,
         })
     }
 }
 
-/// The postings of a file with this id, which is looked at whole.
+/// The postings of a file with this id, in either format. It is looked at whole.
 pub fn read_postings(bytes: Bytes, id: &[u8; 16]) -> Result<PostFile, FileFault>
-    ensures { IsFileRead SpellsPostings (postings_wanted id.now) id.now bytes result }
+    ensures { IsPostingsRead id.now bytes result }
 {
     let frame = frame_of(&bytes, id)?;
-    match row_count(&bytes.as_slice()[frame.start..frame.end]) {
+    let format = Format::of_version(frame.version);
+    match row_count(format, &bytes.as_slice()[frame.start..frame.end]) {
         Some(rows) => Ok(PostFile {
             bytes,
             start: frame.start,
             end: frame.end,
+            format,
             rows,
         }),
         None => Err(FileFault::Body),

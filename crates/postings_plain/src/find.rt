@@ -1,6 +1,7 @@
 //! The entry of a term, found by halving.
 
 ghost use Rattle.std.specs.Prelude.{◌≡◌, ◌<◌, ◌∷◌, List, length, MatchOption};
+ghost use Rattle.postings_plain.specs.declared.format.Format.{Format};
 ghost use Rattle.postings_plain.specs.Postings.{Entry, field_of as field_in, term_of as term_in, IsFileEntry, entry};
 ghost use Rattle.postings_plain.specs.Body.{heading_of, heading_order, SpellsPostings};
 ghost use Rattle.postings_plain.specs.Reading.{IsEntry, HasNoHeading, HasHeadingAt, at_place};
@@ -11,9 +12,11 @@ use std::cmp::Ordering;
 
 /// Lends the field and the term of an entry.
 pub fn heading_in(item: &[u8]) -> (u8, &[u8])
-    requires { IsEntry item.now }
-    ensures field { (e : Entry) → IsFileEntry e → item.now ≡ entry e → result.0 ≡ field_in e }
-    ensures term { (e : Entry) → IsFileEntry e → item.now ≡ entry e → result.1.now ≡ term_in e }
+    requires { (format : Format) × IsEntry format item.now }
+    ensures field { (format : Format) (e : Entry) → IsFileEntry format e → item.now ≡ entry format e
+        → result.0 ≡ field_in e }
+    ensures term { (format : Format) (e : Entry) → IsFileEntry format e → item.now ≡ entry format e
+        → result.1.now ≡ term_in e }
 {
     match field_of(item) {
         Some((field, rest)) => match term_of(rest) {
@@ -37,8 +40,9 @@ pub fn compare_headings(field: u8, term: &[u8], other: u8, other_term: &[u8]) ->
 
 // The order of the heading at a place and another one.
 fn compare_at(body: &[u8], place: u32, field: u8, term: &[u8]) -> Ordering
-    requires { (es : List Entry) × SpellsPostings body.now es × (place < length es) }
-    ensures { (es : List Entry) → SpellsPostings body.now es
+    requires { (format : Format) × (es : List Entry) × SpellsPostings format body.now es
+        × (place < length es) }
+    ensures { (format : Format) (es : List Entry) → SpellsPostings format body.now es
         → result ≡ heading_order (heading_of (at_place es place)) (field ∷ term.now) }
 {
     let (other, other_term) = heading_in(item_at(body, place));
@@ -47,8 +51,8 @@ fn compare_at(body: &[u8], place: u32, field: u8, term: &[u8]) -> Ordering
 
 /// The place of the entry of this field and this term.
 pub fn find(body: &[u8], field: u8, term: &[u8]) -> Option<u32>
-    requires { (es : List Entry) × SpellsPostings body.now es }
-    ensures { (es : List Entry) → SpellsPostings body.now es
+    requires { (format : Format) × (es : List Entry) × SpellsPostings format body.now es }
+    ensures { (format : Format) (es : List Entry) → SpellsPostings format body.now es
         → MatchOption result (HasNoHeading es (field ∷ term.now))
         (HasHeadingAt es (field ∷ term.now)) }
 {

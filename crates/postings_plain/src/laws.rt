@@ -2,17 +2,18 @@
 
 ghost use Rattle.std.specs.Prelude.{◌≡◌, ℕ, List};
 ghost use Rattle.body_forms.specs.File.{IsOneToOne};
+ghost use Rattle.postings_plain.specs.declared.format.Format.{Format};
 ghost use Rattle.postings_plain.specs.Postings.{Entry};
 ghost use Rattle.postings_plain.specs.Body.{SpellsPostings, IsPostingsFile, IsRowCount};
 
-/// Entries have one spelling, and bytes spell one list of entries.
+/// Entries have one spelling in each format, and bytes spell one list of entries in a format.
 pub fn one_spelling()
-    ensures { IsOneToOne SpellsPostings }
+    ensures { (format : Format) → IsOneToOne (SpellsPostings format) }
 {}
 
-/// Entries have one file with an id, and bytes are the file of one list of entries.
+/// Entries in a format have one file with an id, and bytes are the file of one list of entries in one format.
 pub fn one_file()
-    ensures { (id : List ℕ) → IsOneToOne (λ bytes es. IsPostingsFile id es bytes) }
+    ensures { (id : List ℕ) → IsOneToOne (λ bytes post. IsPostingsFile id post bytes) }
 {}
 
 /// Entries have one number of rows.

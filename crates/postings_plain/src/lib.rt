@@ -1,11 +1,13 @@
 //! The file of a segment's postings: for each key and each word, the rows that have it.
 #![tactic(auto)]
 
+mod blocks;
 mod body;
 mod encoding;
 mod entries;
 mod file;
 mod find;
+mod format;
 mod hits;
 mod inverting;
 pub mod laws;
@@ -14,11 +16,9 @@ mod postings;
 mod row;
 mod term;
 
-pub use encoding::encode;
+pub use encoding::{encode, encode_in};
 pub use file::{PostFile, read_postings};
+pub use format::Format;
 pub use positions::Positions;
 pub use postings::Postings;
 pub use row::TermRow;
-
-#[cfg(test)]
-mod tests;

@@ -5,9 +5,11 @@ ghost use Rattle.std.specs.Ordering.{nat_cmp};
 ghost use Rattle.std.specs.List.Sorted.{IsStrictlySortedBy};
 ghost use Rattle.postings_plain.specs.Postings.{row_of, Entry, IsFileEntry, entry, hits_of};
 ghost use Rattle.postings_plain.specs.Rows.{from_row, first_row, first_positions, IsLeastFrom};
-ghost use Rattle.postings_plain.specs.Reading.{IsEntry};
+ghost use Rattle.postings_plain.specs.Reading.{IsEntry, rows_of_term_at, hits_or_none, AreHits};
 
+use crate::blocks::{BlockStart, skip_skips, skips_of_rows};
 use crate::entries::{field_of, skip_hit, term_of};
+use crate::format::Format;
 use crate::positions::Positions;
 use body_forms::{difference_of, positive_of};
 use std::marker::Model;
@@ -21,35 +23,34 @@ pub struct Postings<'a> {
     least: u64,
     count: u32,
     rest: &'a [u8],
+    // The next block, where the hits are in blocks.
+    next: BlockStart<'a>,
 }
 
 impl<'a> Model for Postings<'a> {
     ghost use Rattle.std.specs.Prelude.{List, ◌≤◌, ◌^◌};
     ghost use Rattle.postings_plain.specs.Postings.{Hit};
     ghost use Rattle.postings_plain.specs.Reading.{counted_from_at, hits_or_none, AreHits};
+    ghost use Rattle.postings_plain.specs.Blocks.{IsAhead};
 
     ghost Value = { List Hit };
 
     ghost view = { λ a. hits_or_none (counted_from_at a.field a.count a.least a.rest.now) };
 
-    ghost invariant = { λ a. (a.least ≤ 2 ^ 32) × AreHits (counted_from_at a.field a.count a.least a.rest.now) };
+    ghost invariant = { λ a. (a.least ≤ 2 ^ 32) × AreHits (counted_from_at a.field a.count a.least a.rest.now)
+        × IsAhead a.field (hits_or_none (counted_from_at a.field a.count a.least a.rest.now)) a.next };
 }
 
 impl<'a> Postings<'a> {
     /// The hits of an entry.
-    pub(crate) fn of_entry(item: &'a [u8]) -> Postings<'a>
-        requires { IsEntry item.now }
-        ensures { (e : Entry) → IsFileEntry e → item.now ≡ entry e → result ≡ hits_of e }
+    pub(crate) fn of_entry(format: Format, item: &'a [u8]) -> Postings<'a>
+        requires { IsEntry format item.now }
+        ensures { (e : Entry) → IsFileEntry format e → item.now ≡ entry format e → result ≡ hits_of e }
     {
         match field_of(item) {
             Some((field, rest)) => match term_of(rest) {
                 Some((_, rest)) => match positive_of(rest) {
-                    Some((count, rest)) => Postings {
-                        field,
-                        least: 0,
-                        count,
-                        rest,
-                    },
+                    Some((count, rest)) => Postings::counted(format, field, count, rest),
                     None => unreachable!(),
                 },
                 None => unreachable!(),
@@ -58,8 +59,31 @@ impl<'a> Postings<'a> {
         }
     }
 
+    // So many hits, whose skip entries the bytes begin with, and then the hits. The first block is still ahead.
+    fn counted(format: Format, field: u8, count: u32, bytes: &'a [u8]) -> Postings<'a>
+        requires { AreHits (rows_of_term_at format field count bytes.now) }
+        ensures { result ≡ hits_or_none (rows_of_term_at format field count bytes.now) }
+    {
+        let blocks = skips_of_rows(format, count);
+        match skip_skips(blocks, bytes) {
+            Some(rows) => Postings {
+                field,
+                least: 0,
+                count,
+                rest: rows,
+                next: BlockStart {
+                    least: 0,
+                    count: if blocks > 0 { count } else { 0 },
+                    rest: rows,
+                    skips: bytes,
+                },
+            },
+            None => unreachable!(),
+        }
+    }
+
     /// Moves to the first row at or above this one, and says which it is. Rows that were passed do not come again: the rows
-    /// below this one are passed, and the row that is found stays the first.
+    /// below this one are passed, and the row that is found stays the first. A block that ends below the row is not read.
     pub fn next_from(&mut self, row: u32) -> Option<u32>
         ensures left { self.new ≡ from_row row self.old }
         ensures answer { result ≡ first_row (from_row row self.old) }
@@ -67,6 +91,13 @@ impl<'a> Postings<'a> {
         ensures none { IfNone result (All (λ h. row_of h < row) self.old) }
     {
         while self.count > 0 {
+            if self.next.is_reached(self.count, row) {
+                self.least = self.next.least;
+                self.count = self.next.count;
+                self.rest = self.next.rest;
+                self.next = self.next.following();
+                continue;
+            }
             match skip_hit(self.field, self.least, self.rest) {
                 Some((found, after)) => {
                     if found >= row {
@@ -91,6 +122,7 @@ impl<'a> Postings<'a> {
             least: self.least,
             count: self.count,
             rest: self.rest,
+            next: self.next,
         }
     }
 

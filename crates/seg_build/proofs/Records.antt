@@ -6,8 +6,9 @@ use Rattle.std.proofs.lemmas.List.Sums.{sum_by-cons, count_by-le-length}
 use Rattle.nrt_base.specs.declared.doc.Doc.{Doc}
 use Rattle.nrt_base.specs.declared.numbers.SegNo.{SegNo}
 use Rattle.docs_plain.specs.Documents.{IsDocumentsFile}
-use Rattle.postings_plain.specs.Postings.{Entry}
-use Rattle.postings_plain.specs.Body.{IsPostingsFile, IsRowCount}
+use Rattle.postings_plain.specs.declared.format.Format.{Format}
+use Rattle.postings_plain.specs.Postings.{Entry, format_for}
+use Rattle.postings_plain.specs.Body.{in_format, IsPostingsFile, IsRowCount}
 use Rattle.postings_plain.specs.Inverting.{AreEntriesOf}
 use Rattle.live_bits.specs.LiveRows.{live_rows, IsLiveFile}
 use Rattle.segment_infos.specs.declared.infos.SegRecord.{SegRecord}
@@ -38,16 +39,17 @@ is_record_of seg rows = record { rows = refl; live_count = refl; all_live = λ e
 
 -- ---- the parts
 
-pub read_as : (r : SegRecord) (parts : SegParts) (docs : List Doc) (rows : List Bool) (es : List Entry) → 0 < length docs → length rows ≡ length docs → IsRecordOf rows r
-    → IsDocumentsFile (record_id r) docs parts.docs → AreEntriesOf (map term_row docs) es → IsPostingsFile (record_id r) es parts.post → IsInfoFile (record_id r) (info_of r) parts.info
+pub read_as : (r : SegRecord) (parts : SegParts) (docs : List Doc) (rows : List Bool) (es : List Entry) (format : Format) → format ≡ format_for r.rows → 0 < length docs → length rows ≡ length docs → IsRecordOf rows r
+    → IsDocumentsFile (record_id r) docs parts.docs → AreEntriesOf (map term_row docs) es → IsPostingsFile (record_id r) (in_format format es) parts.post → IsInfoFile (record_id r) (info_of format r) parts.info
     → IsSome parts.live ↔ (0 < r.live_gen) → AreLiveRowsOf parts.live r rows → IsReadAs r parts docs rows
-read_as r parts docs rows es some same is d are p i given l =
+read_as r parts docs rows es format told some same is d are p i given l =
     let count : length docs ≡ r.rows = omega (arith, is.rows) in
     let terms : length (map term_row docs) ≡ length docs = length-map docs term_row in
     let n : IsRowCount es (length (map term_row docs)) = row_count_of (map term_row docs) es (omega arith) are in
     record {
       entries = es;
-      segment = record { docs = d; docs_rows = count; post = p; post_rows = subst (IsRowCount es) (terms ∙ count) n; info = i; live = l };
+      segment = record { docs = d; docs_rows = count; format = format; post = p; post_rows = subst (IsRowCount es) (terms ∙ count) n; info = i; live = l };
+      format = told;
       sound = record { entries = are };
       live_file = given;
       live_count = sym is.live_count;

@@ -6,8 +6,8 @@ use Rattle.file_names.specs.declared.composed.SegPart.TheVariants.{Docs, Post, I
 use Rattle.nrt_base.specs.declared.numbers.SegNo.{SegNo}
 use Rattle.body_forms.specs.File.{HasSmallBody}
 use Rattle.docs_plain.specs.Documents.{documents_wanted}
-use Rattle.postings_plain.specs.Postings.{Entry}
-use Rattle.postings_plain.specs.Body.{postings_wanted}
+use Rattle.postings_plain.specs.Postings.{Entry, format_for}
+use Rattle.postings_plain.specs.Body.{format_wanted}
 use Rattle.live_bits.specs.LiveRows.{live_rows}
 use Rattle.segment_infos.specs.declared.infos.SegRecord.{SegRecord}
 use Rattle.seg_reader.specs.declared.parts.SegParts.{SegParts}
@@ -47,11 +47,12 @@ files_of r parts =
 abbrev pub shown_as : List Doc → List Bool → List Entry → Shown
 shown_as docs live entries = record { docs = docs; live = live; entries = entries }
 
--- The parts are those of a sound segment with these documents and these live rows: under the record they read so. There is a
--- live file where the record has a live generation.
+-- The parts are those of a sound segment with these documents and these live rows: under the record they read so. The postings
+-- are in the format for as many rows. There is a live file where the record has a live generation.
 pub record IsReadAs (r : SegRecord) (parts : SegParts) (docs : List Doc) (live : List Bool) : Type 0 where
   pub entries : List Entry
   pub segment : IsSegmentOf parts r (shown_as docs live entries)
+  pub format : segment.format ≡ format_for r.rows
   pub sound : IsSound (shown_as docs live entries)
   pub live_file : IsSome parts.live ↔ (0 < r.live_gen)
   pub live_count : live_rows live ≡ r.live
@@ -59,7 +60,7 @@ pub record IsReadAs (r : SegRecord) (parts : SegParts) (docs : List Doc) (live :
 -- the bodies of documents and of postings have fewer than 2^32 bytes
 pub record HaveSmallBodies (r : SegRecord) (parts : SegParts) : Type 0 where
   pub docs : HasSmallBody (documents_wanted (record_id r)) (record_id r) parts.docs
-  pub post : HasSmallBody (postings_wanted (record_id r)) (record_id r) parts.post
+  pub post : HasSmallBody (format_wanted (format_for r.rows) (record_id r)) (record_id r) parts.post
 
 -- The files are those of a new segment with these documents and these live rows: its parts under their names, which read so.
 pub record IsBuilt (r : SegRecord) (files : List File) (docs : List Doc) (live : List Bool) : Type 0 where

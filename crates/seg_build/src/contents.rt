@@ -4,7 +4,7 @@ ghost use Rattle.std.specs.Prelude.{◌≡◌, ◌↔◌, ◌<◌, length, map, 
 ghost use Rattle.std.specs.List.{All};
 ghost use Rattle.body_forms.specs.File.{HasSmallBody};
 ghost use Rattle.docs_plain.specs.Documents.{documents_wanted, IsDocumentsFile};
-ghost use Rattle.postings_plain.specs.Body.{postings_wanted};
+ghost use Rattle.postings_plain.specs.Body.{format_wanted};
 ghost use Rattle.postings_plain.specs.Inverting.{IsPostingsFileOf};
 ghost use Rattle.segment_infos.specs.SegmentInfo.{IsInfoFile};
 ghost use Rattle.seg_reader.specs.Files.{record_id, info_of, AreLiveRowsOf};
@@ -16,12 +16,10 @@ use crate::rows::{Prepared, documents, term_rows};
 use bytes::Bytes;
 use live_bits::LiveBits;
 use nrt_base::NoMemory;
+use postings_plain::{Format, encode_in};
 use seg_reader::{SegParts, segment_id};
 use segment_infos::{SegInfo, SegRecord, encode_info};
 use std::alloc::Global;
-
-/// The number of the format that a segment's files have.
-const FORMAT: u8 = 1;
 
 // The file of the documents.
 fn docs_file(alloc: Global, id: &[u8; 16], rows: &[Prepared]) -> Result<Bytes, NoMemory>
@@ -33,26 +31,36 @@ fn docs_file(alloc: Global, id: &[u8; 16], rows: &[Prepared]) -> Result<Bytes, N
     docs_plain::encode(alloc, id, docs.as_slice())
 }
 
-// The file of the postings.
-fn post_file(alloc: Global, id: &[u8; 16], rows: &[Prepared]) -> Result<Bytes, NoMemory>
+// The file of the postings, in this format.
+fn post_file(
+    alloc: Global,
+    id: &[u8; 16],
+    format: Format,
+    rows: &[Prepared],
+) -> Result<Bytes, NoMemory>
     requires some { 0 < length rows.now }
     requires words { All IsPrepared rows.now }
-    ensures file { IfOk result (IsPostingsFileOf id.now (map term_row (docs_of rows.now))) }
-    ensures small { IfOk result (HasSmallBody (postings_wanted id.now) id.now) }
+    ensures file { IfOk result (IsPostingsFileOf format id.now (map term_row (docs_of rows.now))) }
+    ensures small { IfOk result (HasSmallBody (format_wanted format id.now) id.now) }
 {
     let terms = term_rows(alloc, rows)?;
-    postings_plain::encode(alloc, id, terms.as_slice())
+    encode_in(alloc, format, id, terms.as_slice())
 }
 
-// The info file.
-fn info_file(alloc: Global, id: &[u8; 16], segment: &SegRecord) -> Result<Bytes, NoMemory>
+// The info file of a segment whose postings have this format.
+fn info_file(
+    alloc: Global,
+    id: &[u8; 16],
+    format: Format,
+    segment: &SegRecord,
+) -> Result<Bytes, NoMemory>
     requires { 0 < segment.now.rows }
-    ensures { IfOk result (IsInfoFile id.now (info_of segment.now)) }
+    ensures { IfOk result (IsInfoFile id.now (info_of format segment.now)) }
 {
     let info = SegInfo {
         seg: segment.seg,
         rows: segment.rows,
-        format: FORMAT,
+        format: format.number(),
     };
     encode_info(alloc, id, &info)
 }
@@ -76,7 +84,8 @@ fn live_file(
     Ok(Some(file))
 }
 
-/// The parts of a segment with this record: of all rows, also of dead ones.
+/// The parts of a segment with this record: of all rows, also of dead ones. The postings are in the second format exactly
+/// where it has more than 128 rows.
 pub fn parts_of(
     alloc: Global,
     segment: &SegRecord,
@@ -92,8 +101,9 @@ pub fn parts_of(
 {
     let id = segment_id(segment.seg);
     let docs = docs_file(alloc, &id, rows)?;
-    let post = post_file(alloc, &id, rows)?;
-    let info = info_file(alloc, &id, segment)?;
+    let format = Format::of_rows(segment.rows as usize);
+    let post = post_file(alloc, &id, format, rows)?;
+    let info = info_file(alloc, &id, format, segment)?;
     let live = live_file(alloc, &id, segment, live)?;
     Ok(SegParts {
         docs,

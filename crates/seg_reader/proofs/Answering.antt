@@ -6,8 +6,9 @@ use Rattle.std.specs.List.{find}
 use Rattle.nrt_base.proofs.Plain.{ok_never_err, same_ok, same_err}
 use Rattle.nrt_base.specs.declared.doc.Doc.{Doc}
 use Rattle.codec_frame.specs.declared.frame.FileFault.{FileFault}
-use Rattle.postings_plain.specs.Postings.{Entry}
-use Rattle.postings_plain.specs.Body.{IsRowCount}
+use Rattle.postings_plain.specs.declared.format.Format.{Format}
+use Rattle.postings_plain.specs.Postings.{format_number}
+use Rattle.postings_plain.specs.Body.{in_format, IsRowCount}
 use Rattle.segment_infos.specs.declared.info.SegInfo.{SegInfo}
 use Rattle.segment_infos.specs.declared.infos.SegRecord.{SegRecord}
 use Rattle.segment_infos.specs.SegmentInfo.{IsInfoFile}
@@ -26,15 +27,15 @@ use Rattle.seg_reader.proofs.Numbers.{LiveAgrees, Agree, agree, agreeing}
 
 -- what contents show, with these live rows
 abbrev pub shown_by : Contents → List Bool → Shown
-shown_by contents live = record { docs = contents.docs; live = live; entries = contents.post }
+shown_by contents live = record { docs = contents.docs; live = live; entries = contents.post.entries }
 
 same_info : (seg seg2 rows rows2 format format2 : ℕ) → seg ≡ seg2 → rows ≡ rows2 → format ≡ format2
     → ◌≡◌ {A = SegInfo} (record { seg = record { 0 = seg }; rows = rows; format = format }) (record { seg = record { 0 = seg2 }; rows = rows2; format = format2 })
 same_info seg seg2 rows rows2 format format2 a b c = cc
 
-info_is : (r : SegRecord) (bytes : List ℕ) (info : SegInfo) → IsInfoFile (record_id r) info bytes → r.seg.0 ≡ info.seg.0 → r.rows ≡ info.rows → IsInfoFile (record_id r) (info_of r) bytes
-info_is r bytes info is seg rows =
-    subst (λ (x : SegInfo). IsInfoFile (record_id r) x bytes) (same_info info.seg.0 r.seg.0 info.rows r.rows info.format 1 (sym seg) (sym rows) is.spelled.can.format) is
+info_is : (format : Format) (r : SegRecord) (bytes : List ℕ) (info : SegInfo) → IsInfoFile (record_id r) info bytes → r.seg.0 ≡ info.seg.0 → r.rows ≡ info.rows → info.format ≡ format_number format → IsInfoFile (record_id r) (info_of format r) bytes
+info_is format r bytes info is seg rows version =
+    subst (λ (x : SegInfo). IsInfoFile (record_id r) x bytes) (same_info info.seg.0 r.seg.0 info.rows r.rows info.format (format_number format) (sym seg) (sym rows) version) is
 
 live_is : (bytes : Option (List ℕ)) (r : SegRecord) (given : Option (List Bool)) (live : List Bool) → SaysLive bytes r given → LiveAgrees r given → IsLiveOrAll r.rows given live → AreLiveRowsOf bytes r live
 live_is None r None live says agrees is = is
@@ -47,9 +48,10 @@ segment_of : (parts : SegParts) (r : SegRecord) (contents : Contents) (live : Li
 segment_of parts r contents live have agrees is = record {
   docs = have.docs;
   docs_rows = sym agrees.docs;
+  format = contents.post.format;
   post = have.post;
-  post_rows = subst (IsRowCount contents.post) (sym agrees.post) have.post_rows;
-  info = info_is r parts.info contents.info have.info agrees.seg agrees.rows;
+  post_rows = subst (IsRowCount contents.post.entries) (sym agrees.post) have.post_rows;
+  info = info_is contents.post.format r parts.info contents.info have.info agrees.seg agrees.rows agrees.format;
   live = live_is parts.live r contents.live live have.live agrees.live is;
 }
 
@@ -58,8 +60,8 @@ abbrev given_by : Option (List ℕ) → List Bool → Option (List Bool)
 given_by None live = None
 given_by (Some bytes) live = Some live
 
-abbrev contents_of : SegParts → SegRecord → Shown → Contents
-contents_of parts r shown = record { docs = shown.docs; post = shown.entries; post_rows = r.rows; info = info_of r; live = given_by parts.live shown.live }
+abbrev contents_of : SegParts → SegRecord → Format → Shown → Contents
+contents_of parts r format shown = record { docs = shown.docs; post = in_format format shown.entries; post_rows = r.rows; info = info_of format r; live = given_by parts.live shown.live }
 
 says_given : (bytes : Option (List ℕ)) (r : SegRecord) (live : List Bool) → AreLiveRowsOf bytes r live → SaysLive bytes r (given_by bytes live)
 says_given None r live is = tt
@@ -73,11 +75,11 @@ is_given : (bytes : Option (List ℕ)) (r : SegRecord) (live : List Bool) → Ar
 is_given None r live is = is
 is_given (Some bytes) r live is = refl
 
-have_contents : (parts : SegParts) (r : SegRecord) (shown : Shown) → IsSegmentOf parts r shown → HaveContents parts r (contents_of parts r shown)
+have_contents : (parts : SegParts) (r : SegRecord) (shown : Shown) (is : IsSegmentOf parts r shown) → HaveContents parts r (contents_of parts r is.format shown)
 have_contents parts r shown is = record { docs = is.docs; post = is.post; post_rows = is.post_rows; info = is.info; live = says_given parts.live r shown.live is.live }
 
-contents_agree : (parts : SegParts) (r : SegRecord) (shown : Shown) → IsSegmentOf parts r shown → Agree r (contents_of parts r shown)
-contents_agree parts r shown is = record { docs = sym is.docs_rows; post = refl; seg = refl; rows = refl; live = agrees_given parts.live r shown.live is.live }
+contents_agree : (parts : SegParts) (r : SegRecord) (shown : Shown) (is : IsSegmentOf parts r shown) → Agree r (contents_of parts r is.format shown)
+contents_agree parts r shown is = record { docs = sym is.docs_rows; post = refl; format = refl; seg = refl; rows = refl; live = agrees_given parts.live r shown.live is.live }
 
 one_live : (rows : ℕ) (given : Option (List Bool)) (live other : List Bool) → IsLiveOrAll rows given live → IsLiveOrAll rows given other → live ≡ other
 one_live rows None live other a b = a ∙ sym b
@@ -113,7 +115,7 @@ module _ (parts : SegParts) (r : SegRecord) where
   refused fault k = record {
     segment = λ shown e. absurd (ok_never_err _ _ (sym e));
     fault = λ other e. subst (λ (x : SegFault). (x ≡ Memory) ⊎ IsSegmentFault parts r x) (same_err _ _ e) (own fault k);
-    each_segment = λ shown is. memory_alone shown (contents_of parts r shown) (k.each_value (contents_of parts r shown) (have_contents parts r shown is));
+    each_segment = λ shown is. memory_alone shown (contents_of parts r is.format shown) (k.each_value (contents_of parts r is.format shown) (have_contents parts r shown is));
     each_fault = by_fault;
   }
     where
@@ -153,8 +155,8 @@ module _ (parts : SegParts) (r : SegRecord) where
 
       no_segment : (shown : Shown) → IsSegmentOf parts r shown → ⊥
       no_segment shown is =
-          let same = got contents (contents_of parts r shown) (k.each_value (contents_of parts r shown) (have_contents parts r shown is)) in
-          some_none _ _ (ap (λ (x : Contents). find differs (numbers_of r x)) same) e (agreeing r (contents_of parts r shown) (contents_agree parts r shown is))
+          let same = got contents (contents_of parts r is.format shown) (k.each_value (contents_of parts r is.format shown) (have_contents parts r shown is)) in
+          some_none _ _ (ap (λ (x : Contents). find differs (numbers_of r x)) same) e (agreeing r (contents_of parts r is.format shown) (contents_agree parts r shown is))
 
       joined : (x y : Option Number) (m : Number) → x ≡ y → x ≡ Some n → y ≡ Some m → n ≡ m
       joined x y m a b c = cc
@@ -174,8 +176,8 @@ module _ (parts : SegParts) (r : SegRecord) where
     segment = λ shown f. subst (IsSegmentOf parts r) (same_ok _ _ f) (segment_of parts r contents live (k.value contents refl) (agree r contents e) is);
     fault = λ fault f. absurd (ok_never_err _ _ f);
     each_segment = λ shown other.
-        let same = got contents (contents_of parts r shown) (k.each_value (contents_of parts r shown) (have_contents parts r shown other)) in
-        inr (ap Ok (one_shown r contents (contents_of parts r shown) live shown.live same is (is_given parts.live r shown.live other.live)));
+        let same = got contents (contents_of parts r other.format shown) (k.each_value (contents_of parts r other.format shown) (have_contents parts r shown other)) in
+        inr (ap Ok (one_shown r contents (contents_of parts r other.format shown) live shown.live same is (is_given parts.live r shown.live other.live)));
     each_fault = by_fault;
   }
     where
@@ -196,11 +198,11 @@ live_length r None live agrees is = ap length is ∙ length-replicate r.rows tru
 live_length r (Some given) live agrees is = ap length is ∙ sym agrees.0
 
 pub kept : (parts : SegParts) (r : SegRecord) (contents : Contents) (live : List Bool) → IsRead parts r (Ok contents) → find differs (numbers_of r contents) ≡ None → IsLiveOrAll r.rows contents.live live
-    → (length live ≡ length contents.docs) × IsRowCount contents.post (length contents.docs)
+    → (length live ≡ length contents.docs) × IsRowCount contents.post.entries (length contents.docs)
 kept parts r contents live k e is =
     let agrees = agree r contents e in (
       live_length r contents.live live agrees.live is ∙ agrees.docs,
-      subst (IsRowCount contents.post) (sym agrees.post ∙ agrees.docs) (k.value contents refl).post_rows,
+      subst (IsRowCount contents.post.entries) (sym agrees.post ∙ agrees.docs) (k.value contents refl).post_rows,
     )
 
 -- ---- what comparing answered

@@ -4,8 +4,7 @@ use Rattle.std.specs.Prelude.{◌⊎◌}
 use Rattle.nrt_base.proofs.Plain.{ok_never_err, same_ok, same_err}
 use Rattle.nrt_base.specs.declared.doc.Doc.{Doc}
 use Rattle.codec_frame.specs.declared.frame.FileFault.{FileFault}
-use Rattle.postings_plain.specs.Postings.{Entry}
-use Rattle.postings_plain.specs.Body.{IsRowCount}
+use Rattle.postings_plain.specs.Body.{FormattedEntries, IsRowCount}
 use Rattle.postings_plain.proofs.RowCounts.{one_count}
 use Rattle.segment_infos.specs.declared.info.SegInfo.{SegInfo}
 use Rattle.segment_infos.specs.declared.infos.SegRecord.{SegRecord}
@@ -116,8 +115,8 @@ module _ (parts : SegParts) (r : SegRecord) where
       before Info h = absurd (omega arith)
       before Live h = absurd (omega arith)
 
-  pub info_refused : (docs : List Doc) (es : List Entry) (fault : FileFault) → DocsAnswers parts r (Ok docs) → PostAnswers parts r (Ok es) → InfoAnswers parts r (Err fault) → IsRead parts r (Err (File Info fault))
-  info_refused docs es fault d p i = refused parts r Info fault judged (record { has = (i.fault fault).0 refl; before = before })
+  pub info_refused : (docs : List Doc) (post : FormattedEntries) (fault : FileFault) → DocsAnswers parts r (Ok docs) → PostAnswers parts r (Ok post) → InfoAnswers parts r (Err fault) → IsRead parts r (Err (File Info fault))
+  info_refused docs post fault d p i = refused parts r Info fault judged (record { has = (i.fault fault).0 refl; before = before })
     where
       judged : JudgedTo parts r Info
       judged Docs h = docs_judged parts r _ d
@@ -127,16 +126,16 @@ module _ (parts : SegParts) (r : SegRecord) where
 
       before : (other : SegFile) → file_place other < 3 → IsInGrammar parts r other
       before Docs h = (docs, (d.value docs).0 refl)
-      before Post h = (es, (p.value es).0 refl)
+      before Post h = (post, (p.value post).0 refl)
       before Info h = absurd (omega arith)
       before Live h = absurd (omega arith)
 
-  judged_all : (docs : List Doc) (es : List Entry) (info : SegInfo) (live : Result (Option (List Bool)) SegFault) → DocsAnswers parts r (Ok docs) → PostAnswers parts r (Ok es) → InfoAnswers parts r (Ok info)
+  judged_all : (docs : List Doc) (post : FormattedEntries) (info : SegInfo) (live : Result (Option (List Bool)) SegFault) → DocsAnswers parts r (Ok docs) → PostAnswers parts r (Ok post) → InfoAnswers parts r (Ok info)
       → IsLiveRead parts.live r live → (part : SegFile) → Judged parts r part
-  judged_all docs es info live d p i l Docs = docs_judged parts r _ d
-  judged_all docs es info live d p i l Post = post_judged parts r _ p
-  judged_all docs es info live d p i l Info = info_judged parts r _ i
-  judged_all docs es info live d p i l Live = live_judged parts r live l
+  judged_all docs post info live d p i l Docs = docs_judged parts r _ d
+  judged_all docs post info live d p i l Post = post_judged parts r _ p
+  judged_all docs post info live d p i l Info = info_judged parts r _ i
+  judged_all docs post info live d p i l Live = live_judged parts r live l
 
   pub no_memory : IsRead parts r (Err Memory)
   no_memory = record {
@@ -147,13 +146,13 @@ module _ (parts : SegParts) (r : SegRecord) where
     each_fault = λ part fault first. inl refl;
   }
 
-  pub live_refused : (docs : List Doc) (es : List Entry) (info : SegInfo) (e : SegFault) → DocsAnswers parts r (Ok docs) → PostAnswers parts r (Ok es) → InfoAnswers parts r (Ok info)
+  pub live_refused : (docs : List Doc) (post : FormattedEntries) (info : SegInfo) (e : SegFault) → DocsAnswers parts r (Ok docs) → PostAnswers parts r (Ok post) → InfoAnswers parts r (Ok info)
       → IsLiveRead parts.live r (Err e) → IsRead parts r (Err e)
-  live_refused docs es info e d p i l = by_kind (l.only e refl)
+  live_refused docs post info e d p i l = by_kind (l.only e refl)
     where
       before : (other : SegFile) → file_place other < 4 → IsInGrammar parts r other
       before Docs h = (docs, (d.value docs).0 refl)
-      before Post h = (es, (p.value es).0 refl)
+      before Post h = (post, (p.value post).0 refl)
       before Info h = (info, (i.value info).0 refl)
       before Live h = absurd (omega arith)
 
@@ -161,32 +160,32 @@ module _ (parts : SegParts) (r : SegRecord) where
       by_kind (inl h) = subst (λ (x : SegFault). IsRead parts r (Err x)) (sym h) no_memory
       by_kind (inr (f, h)) =
           subst (λ (x : SegFault). IsRead parts r (Err x)) (sym h)
-          (refused parts r Live f (λ part _. judged_all docs es info (Err e) d p i l part) (record { has = (l.fault f).0 (ap Err h); before = before }))
+          (refused parts r Live f (λ part _. judged_all docs post info (Err e) d p i l part) (record { has = (l.fault f).0 (ap Err h); before = before }))
 
-  same_contents : (docs docs2 : List Doc) (es es2 : List Entry) (n n2 : ℕ) (info info2 : SegInfo) (live live2 : Option (List Bool)) → docs ≡ docs2 → es ≡ es2 → n ≡ n2 → info ≡ info2 → live ≡ live2
-      → ◌≡◌ {A = Contents} (record { docs = docs; post = es; post_rows = n; info = info; live = live }) (record { docs = docs2; post = es2; post_rows = n2; info = info2; live = live2 })
-  same_contents docs docs2 es es2 n n2 info info2 live live2 a b c d e = cc
+  same_contents : (docs docs2 : List Doc) (post post2 : FormattedEntries) (n n2 : ℕ) (info info2 : SegInfo) (live live2 : Option (List Bool)) → docs ≡ docs2 → post ≡ post2 → n ≡ n2 → info ≡ info2 → live ≡ live2
+      → ◌≡◌ {A = Contents} (record { docs = docs; post = post; post_rows = n; info = info; live = live }) (record { docs = docs2; post = post2; post_rows = n2; info = info2; live = live2 })
+  same_contents docs docs2 post post2 n n2 info info2 live live2 a b c d e = cc
 
   ok_of : (live other : Option (List Bool)) → IsOr (Ok live) (Ok other) → live ≡ other
   ok_of live other (inl e) = absurd (ok_never_err _ _ e)
   ok_of live other (inr e) = same_ok _ _ e
 
-  pub read_whole : (docs : List Doc) (es : List Entry) (n : ℕ) (info : SegInfo) (live : Option (List Bool)) → DocsAnswers parts r (Ok docs) → PostAnswers parts r (Ok es) → IsRowCount es n → InfoAnswers parts r (Ok info)
-      → IsLiveRead parts.live r (Ok live) → IsRead parts r (Ok (record { docs = docs; post = es; post_rows = n; info = info; live = live }))
-  read_whole docs es n info live d p count i l = record {
+  pub read_whole : (docs : List Doc) (post : FormattedEntries) (n : ℕ) (info : SegInfo) (live : Option (List Bool)) → DocsAnswers parts r (Ok docs) → PostAnswers parts r (Ok post) → IsRowCount post.entries n → InfoAnswers parts r (Ok info)
+      → IsLiveRead parts.live r (Ok live) → IsRead parts r (Ok (record { docs = docs; post = post; post_rows = n; info = info; live = live }))
+  read_whole docs post n info live d p count i l = record {
     value = λ contents e. subst (HaveContents parts r) (same_ok _ _ e) have;
     fault = λ part fault e. absurd (ok_never_err _ _ e);
     only = λ part want found e. ok_never_err _ _ e;
     each_value = λ contents other. inr (ap Ok (one contents other));
-    each_fault = λ part fault first. absurd ((judged_all docs es info (Ok live) d p i l part).apart (in_grammar parts r _ have part) fault first.has);
+    each_fault = λ part fault first. absurd ((judged_all docs post info (Ok live) d p i l part).apart (in_grammar parts r _ have part) fault first.has);
   }
     where
-      have : HaveContents parts r (record { docs = docs; post = es; post_rows = n; info = info; live = live })
-      have = record { docs = (d.value docs).0 refl; post = (p.value es).0 refl; post_rows = count; info = (i.value info).0 refl; live = l.value live refl }
+      have : HaveContents parts r (record { docs = docs; post = post; post_rows = n; info = info; live = live })
+      have = record { docs = (d.value docs).0 refl; post = (p.value post).0 refl; post_rows = count; info = (i.value info).0 refl; live = l.value live refl }
 
-      one : (contents : Contents) → HaveContents parts r contents → record { docs = docs; post = es; post_rows = n; info = info; live = live } ≡ contents
+      one : (contents : Contents) → HaveContents parts r contents → record { docs = docs; post = post; post_rows = n; info = info; live = live } ≡ contents
       one contents other =
-          let same : es ≡ contents.post = same_ok _ _ ((p.value contents.post).1 other.post) in
-          same_contents docs contents.docs es contents.post n contents.post_rows info contents.info live contents.live (same_ok _ _ ((d.value contents.docs).1 other.docs)) same
-          (one_count es n contents.post_rows count (subst (λ (xs : List Entry). IsRowCount xs contents.post_rows) (sym same) other.post_rows))
+          let same : post ≡ contents.post = same_ok _ _ ((p.value contents.post).1 other.post) in
+          same_contents docs contents.docs post contents.post n contents.post_rows info contents.info live contents.live (same_ok _ _ ((d.value contents.docs).1 other.docs)) same
+          (one_count post.entries n contents.post_rows count (subst (λ (x : FormattedEntries). IsRowCount x.entries contents.post_rows) (sym same) other.post_rows))
           (same_ok _ _ ((i.value contents.info).1 other.info)) (ok_of live contents.live (l.each_value contents.live other.live))

@@ -13,8 +13,7 @@ use Rattle.body_forms.specs.File.{IsFile, IsFileRead, IsFileAnswer}
 use Rattle.body_forms.proofs.FileLaws.{one_value_of}
 use Rattle.nrt_base.proofs.Plain.{ok_never_err, same_ok, same_err}
 use Rattle.docs_plain.specs.Documents.{SpellsDocuments, documents_wanted, IsDocumentsFile}
-use Rattle.postings_plain.specs.Postings.{Entry}
-use Rattle.postings_plain.specs.Body.{SpellsPostings, postings_wanted, IsPostingsFile}
+use Rattle.postings_plain.specs.Body.{postings_wanted, FormattedEntries, IsPostingsFile, IsPostingsRead}
 use Rattle.live_bits.specs.LiveRows.{SpellsLiveRows, live_wanted, IsLiveFile}
 use Rattle.live_bits.proofs.FileLaws.{live_kind}
 use Rattle.segment_infos.specs.declared.info.SegInfo.{SegInfo}
@@ -61,8 +60,8 @@ one_fault IsFileOf want bytes result k a b has other = same_err a b (sym ((k.fau
 abbrev pub DocsAnswers : SegParts → SegRecord → Result (List Doc) FileFault → Type 0
 DocsAnswers parts r result = Answers (λ docs. IsDocumentsFile (record_id r) docs parts.docs) (documents_wanted (record_id r)) parts.docs result
 
-abbrev pub PostAnswers : SegParts → SegRecord → Result (List Entry) FileFault → Type 0
-PostAnswers parts r result = Answers (λ es. IsPostingsFile (record_id r) es parts.post) (postings_wanted (record_id r)) parts.post result
+abbrev pub PostAnswers : SegParts → SegRecord → Result FormattedEntries FileFault → Type 0
+PostAnswers parts r result = Answers (λ post. IsPostingsFile (record_id r) post parts.post) (postings_wanted (record_id r)) parts.post result
 
 abbrev pub InfoAnswers : SegParts → SegRecord → Result SegInfo FileFault → Type 0
 InfoAnswers parts r result = Answers (λ info. IsInfoFile (record_id r) info parts.info) (info_wanted (record_id r)) parts.info result
@@ -71,9 +70,16 @@ pub docs_answers : (parts : SegParts) (r : SegRecord) (id : List ℕ) (result : 
 docs_answers parts r id result e k =
     subst (λ (i : List ℕ). Answers (λ docs. IsDocumentsFile i docs parts.docs) (documents_wanted i) parts.docs result) e (answers SpellsDocuments (documents_wanted id) id parts.docs result k)
 
-pub post_answers : (parts : SegParts) (r : SegRecord) (id : List ℕ) (result : Result (List Entry) FileFault) → id ≡ record_id r → IsFileRead SpellsPostings (postings_wanted id) id parts.post result → PostAnswers parts r result
+postings_answer : (id bytes : List ℕ) (result : Result FormattedEntries FileFault) → IsPostingsRead id bytes result → Answers (λ post. IsPostingsFile id post bytes) (postings_wanted id) bytes result
+postings_answer id bytes result k = record { value = k.value; fault = each }
+  where
+    each : (fault : FileFault) → (result ≡ Err fault) ↔ IsFaultOf (λ (post : FormattedEntries). IsPostingsFile id post bytes) (postings_wanted id) bytes fault
+    each (Frame fault) = k.frame fault
+    each Body = k.body
+
+pub post_answers : (parts : SegParts) (r : SegRecord) (id : List ℕ) (result : Result FormattedEntries FileFault) → id ≡ record_id r → IsPostingsRead id parts.post result → PostAnswers parts r result
 post_answers parts r id result e k =
-    subst (λ (i : List ℕ). Answers (λ es. IsPostingsFile i es parts.post) (postings_wanted i) parts.post result) e (answers SpellsPostings (postings_wanted id) id parts.post result k)
+    subst (λ (i : List ℕ). Answers (λ post. IsPostingsFile i post parts.post) (postings_wanted i) parts.post result) e (postings_answer id parts.post result k)
 
 pub info_answers : (parts : SegParts) (r : SegRecord) (id bytes : List ℕ) (result : Result SegInfo FileFault) → id ≡ record_id r → bytes ≡ parts.info → IsFileRead SpellsSegmentInfo (info_wanted id) id bytes result → InfoAnswers parts r result
 info_answers parts r id bytes result e f k =
@@ -83,7 +89,7 @@ info_answers parts r id bytes result e f k =
 pub docs_judged : (parts : SegParts) (r : SegRecord) (result : Result (List Doc) FileFault) → DocsAnswers parts r result → Judged parts r Docs
 docs_judged parts r result k = record { apart = λ x fault has. no_fault _ _ _ _ k x.0 x.1 fault has; one = one_fault _ _ _ _ k }
 
-pub post_judged : (parts : SegParts) (r : SegRecord) (result : Result (List Entry) FileFault) → PostAnswers parts r result → Judged parts r Post
+pub post_judged : (parts : SegParts) (r : SegRecord) (result : Result FormattedEntries FileFault) → PostAnswers parts r result → Judged parts r Post
 post_judged parts r result k = record { apart = λ x fault has. no_fault _ _ _ _ k x.0 x.1 fault has; one = one_fault _ _ _ _ k }
 
 pub info_judged : (parts : SegParts) (r : SegRecord) (result : Result SegInfo FileFault) → InfoAnswers parts r result → Judged parts r Info

@@ -5,6 +5,7 @@ use Rattle.std.specs.List.{find}
 use Rattle.std.proofs.lemmas.Bool.Decides.{nat_tests}
 use Rattle.live_bits.specs.LiveRows.{live_rows}
 use Rattle.segment_infos.specs.declared.infos.SegRecord.{SegRecord}
+use Rattle.postings_plain.specs.Postings.{format_number}
 use Rattle.seg_reader.specs.declared.parts.SegFile.{SegFile}
 use Rattle.seg_reader.specs.declared.parts.SegFile.TheVariants.{Docs, Post, Info, Live}
 use Rattle.seg_reader.specs.declared.reading.Contents.{Contents}
@@ -19,6 +20,7 @@ LiveAgrees r (Some live) = (r.rows ≡ length live) × (r.live ≡ live_rows liv
 pub record Agree (r : SegRecord) (contents : Contents) : Type 0 where
   pub docs : r.rows ≡ length contents.docs
   pub post : r.rows ≡ contents.post_rows
+  pub format : contents.info.format ≡ format_number contents.post.format
   pub seg : r.seg.0 ≡ contents.info.seg.0
   pub rows : r.rows ≡ contents.info.rows
   pub live : LiveAgrees r contents.live
@@ -52,16 +54,20 @@ no_live_differs r (Some live) k = goes_on Live r.rows (length live) (number Live
 
 pub agree : (r : SegRecord) (contents : Contents) → find differs (numbers_of r contents) ≡ None → Agree r contents
 agree r contents e =
+    let version = format_number contents.post.format in
     let a = none_differs Docs r.rows (length contents.docs)
-    (number Post r.rows contents.post_rows ∷ number Info r.seg.0 contents.info.seg.0 ∷ number Info r.rows contents.info.rows ∷ live_numbers r contents.live) e in
-    let b = none_differs Post r.rows contents.post_rows (number Info r.seg.0 contents.info.seg.0 ∷ number Info r.rows contents.info.rows ∷ live_numbers r contents.live) a.1 in
-    let c = none_differs Info r.seg.0 contents.info.seg.0 (number Info r.rows contents.info.rows ∷ live_numbers r contents.live) b.1 in
+    (number Post r.rows contents.post_rows ∷ number Post contents.info.format version ∷ number Info r.seg.0 contents.info.seg.0 ∷ number Info r.rows contents.info.rows ∷ live_numbers r contents.live) e in
+    let b = none_differs Post r.rows contents.post_rows (number Post contents.info.format version ∷ number Info r.seg.0 contents.info.seg.0 ∷ number Info r.rows contents.info.rows ∷ live_numbers r contents.live) a.1 in
+    let f = none_differs Post contents.info.format version (number Info r.seg.0 contents.info.seg.0 ∷ number Info r.rows contents.info.rows ∷ live_numbers r contents.live) b.1 in
+    let c = none_differs Info r.seg.0 contents.info.seg.0 (number Info r.rows contents.info.rows ∷ live_numbers r contents.live) f.1 in
     let d = none_differs Info r.rows contents.info.rows (live_numbers r contents.live) c.1 in
-    record { docs = a.0; post = b.0; seg = c.0; rows = d.0; live = live_agrees r contents.live d.1 }
+    record { docs = a.0; post = b.0; format = f.0; seg = c.0; rows = d.0; live = live_agrees r contents.live d.1 }
 
 pub agreeing : (r : SegRecord) (contents : Contents) → Agree r contents → find differs (numbers_of r contents) ≡ None
 agreeing r contents k =
-    goes_on Docs r.rows (length contents.docs) (number Post r.rows contents.post_rows ∷ number Info r.seg.0 contents.info.seg.0 ∷ number Info r.rows contents.info.rows ∷ live_numbers r contents.live) k.docs
-    (goes_on Post r.rows contents.post_rows (number Info r.seg.0 contents.info.seg.0 ∷ number Info r.rows contents.info.rows ∷ live_numbers r contents.live) k.post
+    let version = format_number contents.post.format in
+    goes_on Docs r.rows (length contents.docs) (number Post r.rows contents.post_rows ∷ number Post contents.info.format version ∷ number Info r.seg.0 contents.info.seg.0 ∷ number Info r.rows contents.info.rows ∷ live_numbers r contents.live) k.docs
+    (goes_on Post r.rows contents.post_rows (number Post contents.info.format version ∷ number Info r.seg.0 contents.info.seg.0 ∷ number Info r.rows contents.info.rows ∷ live_numbers r contents.live) k.post
+    (goes_on Post contents.info.format version (number Info r.seg.0 contents.info.seg.0 ∷ number Info r.rows contents.info.rows ∷ live_numbers r contents.live) k.format
     (goes_on Info r.seg.0 contents.info.seg.0 (number Info r.rows contents.info.rows ∷ live_numbers r contents.live) k.seg
-    (goes_on Info r.rows contents.info.rows (live_numbers r contents.live) k.rows (no_live_differs r contents.live k.live))))
+    (goes_on Info r.rows contents.info.rows (live_numbers r contents.live) k.rows (no_live_differs r contents.live k.live)))))

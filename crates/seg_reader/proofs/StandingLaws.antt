@@ -7,7 +7,8 @@ use Rattle.nrt_base.proofs.Plain.{cons_from}
 use Rattle.body_forms.proofs.FileLaws.{one_value_of}
 use Rattle.docs_plain.proofs.FileLaws.{documents_kind}
 use Rattle.postings_plain.specs.Postings.{Entry}
-use Rattle.postings_plain.proofs.FileLaws.{postings_kind}
+use Rattle.postings_plain.specs.Body.{FormattedEntries, in_format}
+use Rattle.postings_plain.proofs.FileLaws.{one_post}
 use Rattle.live_bits.proofs.FileLaws.{live_kind}
 use Rattle.segment_infos.specs.declared.infos.SegRecord.{SegRecord}
 use Rattle.segment_infos.specs.declared.infos.Infos.{Infos}
@@ -29,7 +30,7 @@ same_shown docs docs2 live live2 es es2 a b c = cc
 pub one_segment : (parts : SegParts) (r : SegRecord) (shown other : Shown) → IsSegmentOf parts r shown → IsSegmentOf parts r other → shown ≡ other
 one_segment parts r shown other a b =
     same_shown shown.docs other.docs shown.live other.live shown.entries other.entries (one_value_of (documents_kind (record_id r)) parts.docs shown.docs other.docs a.docs b.docs)
-    (one_live parts.live r shown.live other.live a.live b.live) (one_value_of (postings_kind (record_id r)) parts.post shown.entries other.entries a.post b.post)
+    (one_live parts.live r shown.live other.live a.live b.live) (ap (λ (x : FormattedEntries). x.entries) (one_post (record_id r) parts.post (in_format a.format shown.entries) (in_format b.format other.entries) a.post b.post))
 
 -- ---- directories
 

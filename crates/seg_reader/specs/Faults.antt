@@ -7,8 +7,8 @@ use Rattle.codec_frame.specs.Checking.{IsFirstFault}
 use Rattle.codec_frame.specs.declared.frame.FileFault.{FileFault}
 use Rattle.codec_frame.specs.declared.frame.FileFault.TheVariants.{Frame, Body}
 use Rattle.docs_plain.specs.Documents.{documents_wanted, IsDocumentsFile}
-use Rattle.postings_plain.specs.Postings.{Entry}
-use Rattle.postings_plain.specs.Body.{postings_wanted, IsPostingsFile, IsRowCount}
+use Rattle.postings_plain.specs.Postings.{format_number}
+use Rattle.postings_plain.specs.Body.{postings_wanted, FormattedEntries, IsPostingsFile, IsRowCount}
 use Rattle.live_bits.specs.LiveRows.{live_rows, live_wanted, IsLiveFile}
 use Rattle.segment_infos.specs.declared.info.SegInfo.{SegInfo}
 use Rattle.segment_infos.specs.declared.infos.SegRecord.{SegRecord}
@@ -34,7 +34,7 @@ HasLiveFault (Some bytes) r fault = IsFaultOf (λ live. IsLiveFile (record_id r)
 -- the fault of each file, whatever the others are
 abbrev pub HasFault : SegParts → SegRecord → SegFile → FileFault → Type 0
 HasFault parts r Docs fault = IsFaultOf (λ docs. IsDocumentsFile (record_id r) docs parts.docs) (documents_wanted (record_id r)) parts.docs fault
-HasFault parts r Post fault = IsFaultOf (λ es. IsPostingsFile (record_id r) es parts.post) (postings_wanted (record_id r)) parts.post fault
+HasFault parts r Post fault = IsFaultOf (λ post. IsPostingsFile (record_id r) post parts.post) (postings_wanted (record_id r)) parts.post fault
 HasFault parts r Info fault = IsFaultOf (λ info. IsInfoFile (record_id r) info parts.info) (info_wanted (record_id r)) parts.info fault
 HasFault parts r Live fault = HasLiveFault parts.live r fault
 
@@ -49,14 +49,14 @@ SaysLive (Some bytes) r (Some live) = IsLiveFile (record_id r) r.live_gen live b
 pub record HaveContents (parts : SegParts) (r : SegRecord) (contents : Contents) : Type 0 where
   pub docs : IsDocumentsFile (record_id r) contents.docs parts.docs
   pub post : IsPostingsFile (record_id r) contents.post parts.post
-  pub post_rows : IsRowCount contents.post contents.post_rows
+  pub post_rows : IsRowCount contents.post.entries contents.post_rows
   pub info : IsInfoFile (record_id r) contents.info parts.info
   pub live : SaysLive parts.live r contents.live
 
 -- a file is in its grammar
 abbrev pub IsInGrammar : SegParts → SegRecord → SegFile → Type 0
 IsInGrammar parts r Docs = (docs : List Doc) × IsDocumentsFile (record_id r) docs parts.docs
-IsInGrammar parts r Post = (es : List Entry) × IsPostingsFile (record_id r) es parts.post
+IsInGrammar parts r Post = (post : FormattedEntries) × IsPostingsFile (record_id r) post parts.post
 IsInGrammar parts r Info = (info : SegInfo) × IsInfoFile (record_id r) info parts.info
 IsInGrammar parts r Live = (live : Option (List Bool)) × SaysLive parts.live r live
 
@@ -72,17 +72,17 @@ pub record IsFirstOutside (parts : SegParts) (r : SegRecord) (part : SegFile) (f
   pub has : HasFault parts r part fault
   pub before : (other : SegFile) → file_place other < file_place part → IsInGrammar parts r other
 
--- a number that infos and a file both give: which file it is, the infos' number and the file's
+-- a number that infos, or the info file, and a file both give: which file it is, the number that is wanted and the file's
 pub record Number : Type 0 where
   pub part : SegFile
   pub want : ℕ
   pub found : ℕ
 
--- a number that infos want of a file, and what it has
+-- a number that is wanted of a file, and what it has
 abbrev pub number : SegFile → (want found : ℕ) → Number
 number part want found = record { part = part; want = want; found = found }
 
--- the file has another number than infos want
+-- the file has another number than is wanted
 abbrev pub differs : Number → Bool
 differs n = not (n.want == n.found)
 
@@ -91,16 +91,18 @@ abbrev pub live_numbers : SegRecord → Option (List Bool) → List Number
 live_numbers r None = []
 live_numbers r (Some live) = number Live r.rows (length live) ∷ number Live r.live (live_rows live) ∷ []
 
--- the numbers in the order in which they are compared: in one file the segment's, then the rows, then the live rows
+-- The numbers in the order in which they are compared: in one file the segment's, then the rows, then the live rows. After the
+-- rows of postings comes their version, which is to be the format that the info file gives.
 abbrev pub numbers_of : SegRecord → Contents → List Number
 numbers_of r contents =
     number Docs r.rows (length contents.docs)
     ∷ number Post r.rows contents.post_rows
+    ∷ number Post contents.info.format (format_number contents.post.format)
     ∷ number Info r.seg.0 contents.info.seg.0
     ∷ number Info r.rows contents.info.rows
     ∷ live_numbers r contents.live
 
--- each file is in its grammar, and of the numbers this is the first that is not the infos' one
+-- each file is in its grammar, and of the numbers this is the first that is not the one wanted
 pub record IsFirstDifference (parts : SegParts) (r : SegRecord) (n : Number) : Type 0 where
   pub contents : Contents
   pub have : HaveContents parts r contents

@@ -43,9 +43,9 @@ impl Model for Segment {
 
     ghost Value = { Shown };
 
-    ghost view = { λ s. record { docs = s.docs; live = s.live; entries = s.post } };
+    ghost view = { λ s. record { docs = s.docs; live = s.live; entries = s.post.entries } };
 
-    ghost invariant = { λ s. (length s.live ≡ length s.docs) × IsRowCount s.post (length s.docs) };
+    ghost invariant = { λ s. (length s.live ≡ length s.docs) × IsRowCount s.post.entries (length s.docs) };
 }
 
 impl Segment {

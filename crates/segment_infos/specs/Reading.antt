@@ -1,6 +1,5 @@
 -- How the fronts of bodies are read, and what reading a file of infos is to answer.
-use Rattle.std.specs.Prelude.{◌≡◌, ℕ, ◌&&◌, ◌||◌, ◌==◌, ◌↔◌, nat_lt, nat_le, nat_eq, Bool, List, [], ◌∷◌, Option, Some, None, Result, Err, IfOk, if◌then◌else◌}
-use Rattle.std.specs.Cmp.Lexicographic.{pointwise}
+use Rattle.std.specs.Prelude.{◌≡◌, ℕ, ◌&&◌, ◌||◌, ◌==◌, ◌↔◌, nat_lt, nat_le, Bool, List, [], ◌∷◌, Option, Some, None, Result, Err, IfOk, if◌then◌else◌}
 use Rattle.codec_frame.specs.Frame.{IsFramed}
 use Rattle.codec_frame.specs.Checking.{IsFirstFault}
 use Rattle.codec_frame.specs.declared.frame.FrameFault.{FrameFault}
@@ -15,10 +14,19 @@ use Rattle.body_forms.specs.declared.read_fault.ReadFault.{ReadFault}
 use Rattle.body_forms.specs.declared.read_fault.ReadFault.TheVariants.{File}
 use Rattle.segment_infos.specs.Infos.{infos_wanted, IsInfosFile, IsOfNoInfos}
 
+-- an info has a row, and its format is 1 or 2
+abbrev pub is_info : (rows format : ℕ) → Bool
+is_info rows format = nat_lt 0 rows && (nat_le 1 format && nat_le format 2)
+
+-- what a segment's number, its rows and the bytes after them say of it: these are its format alone
+abbrev pub info_from : (seg rows : ℕ) → List ℕ → Option SegInfo
+info_from seg rows [] = None
+info_from seg rows (format ∷ []) = if is_info rows format then Some (record { seg = record { 0 = seg }; rows = rows; format = format }) else None
+info_from seg rows (format ∷ next ∷ rest) = None
+
 -- what a whole body says of a segment, or nothing where it is not the body of an info file
 unfoldable pub info_in : List ℕ → Option SegInfo
-info_in body = u64_at body >>= λ seg. u32_at seg.1 >>= λ rows.
-    if nat_lt 0 rows.0 && pointwise nat_eq rows.1 (1 ∷ []) then Some (record { seg = record { 0 = seg.0 }; rows = rows.0; format = 1 }) else None
+info_in body = u64_at body >>= λ seg. u32_at seg.1 >>= λ rows. info_from seg.0 rows.0 rows.1
 
 -- the four numbers of a head, or of a record
 abbrev pub Four : Type 0

@@ -1,5 +1,5 @@
 -- What a segment's info file says of it: the body, and the file.
-use Rattle.std.specs.Prelude.{◌≡◌, ℕ, ◌^◌, ◌<◌, List, [], ◌∷◌, ◌++◌, codes, Some}
+use Rattle.std.specs.Prelude.{◌≡◌, ℕ, ◌^◌, ◌<◌, ◌≤◌, List, [], ◌∷◌, ◌++◌, codes, Some}
 use Rattle.codec_frame.specs.Frame.{Wanted}
 use Rattle.body_forms.specs.Numbers.{u32_bytes, u64_bytes}
 use Rattle.body_forms.specs.File.{IsFile}
@@ -9,10 +9,11 @@ use Rattle.segment_infos.specs.declared.info.SegInfo.{SegInfo}
 unfoldable pub info_body : SegInfo → List ℕ
 info_body info = u64_bytes info.seg.0 ++ (u32_bytes info.rows ++ info.format ∷ [])
 
--- an info file can say this of a segment: it has a row, and its format is the first
+-- an info file can say this of a segment: it has a row, and its format is 1 or 2
 pub record CanSpellInfo (info : SegInfo) : Type 0 where
   pub some : 0 < info.rows
-  pub format : info.format ≡ 1
+  pub not_older : 1 ≤ info.format
+  pub not_newer : info.format ≤ 2
 
 -- the bytes are the body of this info
 pub record SpellsSegmentInfo (body : List ℕ) (info : SegInfo) : Type 0 where

@@ -18,8 +18,10 @@ const NAME: &[u8; 14] = b"NrtSegmentInfo";
 /// The version of the format.
 const VERSION: u32 = 1;
 
-/// The number of the one format that a segment's files may have.
-const FORMAT: u8 = 1;
+/// The numbers of the oldest and of the newest format that a segment's files may have.
+const OLDEST: u8 = 1;
+
+const NEWEST: u8 = 2;
 
 /// What a segment's info file says of it.
 #[derive(Clone, Copy, Debug, PartialEq, Eq)]
@@ -27,7 +29,7 @@ pub struct SegInfo {
     pub seg: SegNo,
     /// How many rows it has, at least 1.
     pub rows: u32,
-    /// The number of the format that its files have, 1.
+    /// The number of the format that its postings have, 1 or 2.
     pub format: u8,
 }
 
@@ -77,14 +79,13 @@ fn info_of(body: &[u8]) -> Option<SegInfo>
 {
     let (seg, rest) = u64_of(body)?;
     let (rows, rest) = u32_of(rest)?;
-    if rows > 0 && rest == [FORMAT].as_slice() {
-        Some(SegInfo {
+    match rest {
+        [format] if rows > 0 && *format >= OLDEST && *format <= NEWEST => Some(SegInfo {
             seg: SegNo(seg),
             rows,
-            format: FORMAT,
-        })
-    } else {
-        None
+            format: *format,
+        }),
+        _ => None,
     }
 }
 

@@ -89,7 +89,7 @@ fn info_file_of_one_row(rt: HostRuntime) -> Result<(), Fail> {
 #[test]
 fn info_bodies_outside_the_grammar(rt: HostRuntime) -> Result<(), Fail> {
     let bodies: [(&str, &[u8]); 2] = [
-        ("another format", b"\0\0\0\0\0\x19\xa1\0\0\0\0\x01\x02"),
+        ("another format", b"\0\0\0\0\0\x19\xa1\0\0\0\0\x01\x03"),
         ("a trailing byte", b"\0\0\0\0\0\x19\xa1\0\0\0\0\x01\x01\0"),
     ];
     for (name, body) in bodies {

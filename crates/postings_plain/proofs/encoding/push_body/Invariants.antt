@@ -7,5 +7,5 @@ abbrev pub invariant-loop-term : goal.invariant-loop-term
 invariant-loop-term l = record {
   can : (goal.iterator-loop-term).can_next l.term-iterator;
   finite : (goal.iterator-loop-term).is_finite l.term-iterator;
-  has : HasEntries (map deref_pair l.yielded) l.offsets.items l.area.items;
+  has : HasEntries l.format (map deref_pair l.yielded) l.offsets.items l.area.items;
 }

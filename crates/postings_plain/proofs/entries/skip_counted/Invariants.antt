@@ -4,6 +4,6 @@ use Rattle.postings_plain.proofs.entries.skip_counted.Given as goal
 
 abbrev pub invariant-loop : goal.invariant-loop
 invariant-loop l = record {
-  below : l.least ≤ 2 ^ 32;
-  passed : HasPassed l.field l.count l.counter l.least l.rest l.bytes;
+  below : l.end ≤ 2 ^ 32;
+  passed : HasPassed l.field l.count l.least l.counter l.end l.rest l.bytes;
 }
