@@ -6,3 +6,6 @@ mod writing;
 
 pub use reading::{ImageFault, read_image};
 pub use writing::write_image;
+
+#[cfg(test)]
+mod tests;

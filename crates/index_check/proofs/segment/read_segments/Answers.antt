@@ -1,0 +1,37 @@
+use Rattle.std.proofs.Common.{refl, sym, ap, subst, ◌∙◌, arith}
+use Rattle.std.specs.List.{AllZip}
+use Rattle.disk_model.specs.Disk.{Cells, reads_of}
+use Rattle.body_forms.proofs.FileLaws.{err_of}
+use Rattle.index_check.specs.Answers.{IsExact}
+use Rattle.index_check.specs.Segments.{IsRightSegment, IsSegmentWrong, IsFirstWrong}
+use Rattle.index_check.proofs.Walk.{read_none, read_next, read_wrong, read_all, exact_at}
+use Rattle.index_check.proofs.segment.read_segments.Goals as goal
+
+pub loop-record-init : goal.loop-record-init
+loop-record-init g c = record { read = read_none (reads_of (g.D.Dir.cells c.args.dir.now)) c.args.records.now c.new-segments.result c.new-segments.ensures; cells = refl; later = omega arith }
+
+pub loop-record-preserved : goal.loop-record-preserved
+loop-record-preserved g c =
+    let first = g.D.Dir.cells c.args.dir.now in
+    let h = c.loop-record.invariant in
+    let own = c.in_ok-read_segment.ensures in
+    let segment = c.in_ok-read_segment.field-0 in
+    record {
+      read = read_next (reads_of first) c.args.records.now c.loop-record.record-index c.record-item.result c.loop-record-test.true c.record-item.is c.loop-record.segments c.push.new.self segment
+          (exact_at first (g.D.Dir.cells c.loop-record.dir) c.record-item.result _ h.cells own.exact) c.in_ok-push.ensures.ok h.read;
+      cells = own.cells ∙ h.cells;
+      later = omega (arith, h.later, own.later);
+    }
+
+pub returns-in_err-read_segment-clause-exact : goal.returns-in_err-read_segment-clause-exact
+returns-in_err-read_segment-clause-exact g c =
+    let first = g.D.Dir.cells c.args.dir.now in
+    let reads = reads_of first in
+    let h = c.loop-record.invariant in
+    let e = c.in_err-read_segment.field-0.0 in
+    subst (IsExact (AllZip (IsRightSegment reads) c.args.records.now) (IsFirstWrong reads c.args.records.now)) (sym (err_of c.from_residual.result e c.from_residual.ensures.1))
+    (read_wrong reads c.args.records.now c.loop-record.record-index c.record-item.result c.loop-record-test.true c.record-item.is c.loop-record.segments e
+    (exact_at first (g.D.Dir.cells c.loop-record.dir) c.record-item.result _ h.cells c.in_err-read_segment.ensures.exact) h.read)
+
+pub returns-clause-exact : goal.returns-clause-exact
+returns-clause-exact g c = read_all (reads_of (g.D.Dir.cells c.args.dir.now)) c.args.records.now c.loop-record.record-index c.loop-record.segments c.loop-record-test.false c.loop-record.invariant.read
