@@ -15,7 +15,7 @@ use Rattle.index_check.specs.Answers.{IsCutShort, IsDue}
 use Rattle.index_check.specs.Commit.{IsCommitFault, IsCommitRead, IsDueCommit}
 use Rattle.check_run.specs.declared.checking.Checked.{Checked}
 use Rattle.check_run.specs.Lines.{none_line, commit_line, name_and_number, fault_line}
-use Rattle.check_run.specs.Checks.{TellsCommit, TellsFault, IsToldOf, IsCheckOf, IsExactCheck, IsRefusalOf}
+use Rattle.check_run.specs.Checks.{TellsCommit, TellsFault, IsToldOf, IsCheckOf, TellsNone, TellsNumbers, IsRefusalOf, IsExactCheck}
 
 abbrev pub Answer : Type 0
 Answer = Result (Option (ℕ × Infos × Vec Doc Global)) CheckFault
@@ -53,33 +53,39 @@ module _ (reads : Image) where
   its_parts x n infos docs (inr (inr e)) = e
 
   -- there is no commit
-  pub nothing_told : (result : Answer) (line : List ℕ) → IsCommitAnswer reads result → result ≡ Ok None → line ≡ none_line → IsExactCheck alloc_error reads (Ok (record { line = line; fault = None }))
-  nothing_told result line h e is = record { told = inl (own.commit, is); each = λ checked k. inr (by checked.fault checked.line k) }
+  pub nothing_told : (result : Answer) (said : Result Checked AllocError) → IsCommitAnswer reads result → result ≡ Ok None → IfOk said TellsNone → IsExactCheck alloc_error reads said
+  nothing_told result (Err none) h e is = record { told = tt; each = λ checked k. inl refl }
+  nothing_told result (Ok said) h e is =
+      record { told = subst (λ (o : Option CheckFault). IsToldOf reads o said.line) (sym is.fault_is) (inl (own.commit, is.line_is)); each = λ checked k. inr (by checked.fault checked.line k) }
     where
       own : IsCommitAnswer reads (Ok None)
       own = subst (IsCommitAnswer reads) e h
 
-      by : (fault : Option CheckFault) (other : List ℕ) → IsToldOf reads fault other → ◌≡◌ {A = Result Checked AllocError} (Ok (record { line = line; fault = None })) (Ok (record { line = other; fault = fault }))
-      by None other (inl k) = same_checked line other None None (is ∙ sym k.1) refl
+      by : (fault : Option CheckFault) (other : List ℕ) → IsToldOf reads fault other → ◌≡◌ {A = Result Checked AllocError} (Ok said) (Ok (record { line = other; fault = fault }))
+      by None other (inl k) = same_checked said.line other said.fault None (is.line_is ∙ sym k.1) is.fault_is
       by None other (inr k) = absurd (never_commit k.number k.infos k.docs (own.each_commit k.number k.infos k.docs k.shown k.stands))
       by (Some f) other k = absurd (never_fault None f (own.each_fault f k.wrong))
 
   -- there is one
-  pub commit_told : (result : Answer) (line : List ℕ) (n : ℕ) (infos : Infos) (docs : Vec Doc Global) → IsCommitAnswer reads result → result ≡ Ok (Some (n, infos, docs)) → line ≡ commit_line n infos docs.items
-      → IsExactCheck alloc_error reads (Ok (record { line = line; fault = None }))
-  commit_told result line n infos docs h e is =
-      record { told = inr (record { number = n; infos = infos; docs = docs.items; shown = own.commit.0; stands = own.commit.1; line_is = is }); each = λ checked k. inr (by checked.fault checked.line k) }
+  pub commit_told : (result : Answer) (said : Result Checked AllocError) (x : ℕ × Infos × Vec Doc Global) → IsCommitAnswer reads result → result ≡ Ok (Some x) → IfOk said (TellsNumbers x.0 x.1 x.2.items)
+      → IsExactCheck alloc_error reads said
+  commit_told result (Err none) x h e is = record { told = tt; each = λ checked k. inl refl }
+  commit_told result (Ok said) x h e is = record {
+    told = subst (λ (o : Option CheckFault). IsToldOf reads o said.line) (sym is.fault_is)
+        (inr (record { number = x.0; infos = x.1; docs = x.2.items; shown = own.commit.0; stands = own.commit.1; line_is = is.line_is }));
+    each = λ checked k. inr (by checked.fault checked.line k);
+  }
     where
-      own : IsCommitAnswer reads (Ok (Some (n, infos, docs)))
+      own : IsCommitAnswer reads (Ok (Some x))
       own = subst (IsCommitAnswer reads) e h
 
-      by : (fault : Option CheckFault) (other : List ℕ) → IsToldOf reads fault other → ◌≡◌ {A = Result Checked AllocError} (Ok (record { line = line; fault = None })) (Ok (record { line = other; fault = fault }))
-      by None other (inl k) = absurd (never_nothing (n, infos, docs) (own.nothing k.0))
+      by : (fault : Option CheckFault) (other : List ℕ) → IsToldOf reads fault other → ◌≡◌ {A = Result Checked AllocError} (Ok said) (Ok (record { line = other; fault = fault }))
+      by None other (inl k) = absurd (never_nothing x (own.nothing k.0))
       by None other (inr k) =
-          let p = its_parts (n, infos, docs) k.number k.infos k.docs (own.each_commit k.number k.infos k.docs k.shown k.stands) in
-          same_checked line other None None
-          (is ∙ ap (λ m. commit_line m infos docs.items) p.0 ∙ ap (λ (i : Infos). commit_line k.number i docs.items) p.1 ∙ ap (commit_line k.number k.infos) p.2 ∙ sym k.line_is) refl
-      by (Some f) other k = absurd (never_fault (Some (n, infos, docs)) f (own.each_fault f k.wrong))
+          let p = its_parts x k.number k.infos k.docs (own.each_commit k.number k.infos k.docs k.shown k.stands) in
+          same_checked said.line other said.fault None
+          (is.line_is ∙ ap (λ m. commit_line m x.1 x.2.items) p.0 ∙ ap (λ (i : Infos). commit_line k.number i x.2.items) p.1 ∙ ap (commit_line k.number k.infos) p.2 ∙ sym k.line_is) is.fault_is
+      by (Some f) other k = absurd (never_fault (Some x) f (own.each_fault f k.wrong))
 
   -- it is refused
   not_cut : (f : CheckFault) (x : List ℕ × ℕ) → name_and_number f ≡ Some x → IsCutShort f → ⊥

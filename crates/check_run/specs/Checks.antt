@@ -39,6 +39,16 @@ IsToldOf reads (Some fault) line = TellsFault reads fault line
 abbrev pub IsCheckOf : Image → Checked → Type 0
 IsCheckOf reads checked = IsToldOf reads checked.fault checked.line
 
+-- there is no commit, and the line says so
+pub record TellsNone (checked : Checked) : Type 0 where
+  pub fault_is : checked.fault ≡ None
+  pub line_is : checked.line ≡ none_line
+
+-- nothing is wrong, and the line has the numbers of this commit
+pub record TellsNumbers (n : ℕ) (infos : Infos) (docs : List Doc) (checked : Checked) : Type 0 where
+  pub fault_is : checked.fault ≡ None
+  pub line_is : checked.line ≡ commit_line n infos docs
+
 -- the line names the file and the number of this fault
 pub record IsRefusalOf (fault : CheckFault) (checked : Checked) : Type 0 where
   pub fault_is : checked.fault ≡ Some fault

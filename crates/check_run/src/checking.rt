@@ -1,10 +1,10 @@
 //! What a check of an image finds.
 
-ghost use Rattle.std.specs.Prelude.{◌≡◌, ◌⊎◌, List, Ok, Err, IfOk, alloc_error};
+ghost use Rattle.std.specs.Prelude.{◌≡◌, ◌⊎◌, Ok, Err, IfOk, alloc_error};
 ghost use Rattle.disk_model.specs.Disk.{reads_of};
-ghost use Rattle.dir_images.specs.Images.{NamedFile, IsImageOf, IsNoImage};
+ghost use Rattle.dir_images.specs.Images.{IsNoImage};
 ghost use Rattle.check_run.specs.Directory.{directory_of as directory_lem};
-ghost use Rattle.check_run.specs.Checks.{IsCheckOf, IsCheckOfImage, IsExactCheck, IsRefusalOf};
+ghost use Rattle.check_run.specs.Checks.{TellsNone, TellsNumbers, IsRefusalOf, IsCheckOfImage, IsExactCheck};
 
 use crate::directory::directory_of;
 use crate::line::{commit_line, fault_line, name_and_number, none_line};
@@ -12,7 +12,8 @@ use bytes::Bytes;
 use disk_model::Dir;
 use file_names::FileName;
 use index_check::{CheckFault, ImageFault, read_commit, read_image};
-use nrt_base::{List, NoMemory};
+use nrt_base::{Doc, List, NoMemory};
+use segment_infos::Infos;
 use std::alloc::{AllocError, Global};
 
 /// What a check finds: the line that it writes, and what is wrong with the directory, if anything is.
@@ -20,6 +21,27 @@ use std::alloc::{AllocError, Global};
 pub struct Checked {
     pub line: List<u8>,
     pub fault: Option<CheckFault>,
+}
+
+// A directory without a commit, with its line.
+fn without_commit(alloc: Global) -> Result<Checked, NoMemory>
+    ensures { IfOk result TellsNone }
+{
+    let line = none_line(alloc)?;
+    Ok(Checked { line, fault: None })
+}
+
+// A commit, with its line.
+fn with_commit(
+    alloc: Global,
+    number: u64,
+    infos: &Infos,
+    docs: &[Doc],
+) -> Result<Checked, NoMemory>
+    ensures { IfOk result (TellsNumbers number infos.now docs.now) }
+{
+    let line = commit_line(alloc, number, infos, docs)?;
+    Ok(Checked { line, fault: None })
 }
 
 // What is wrong, with its line. No line speaks of want of memory or of a disk that failed, which no directory in memory does
@@ -42,14 +64,8 @@ fn check<D: Dir>(alloc: Global, dir: &mut D) -> Result<Checked, NoMemory>
     ensures { IsExactCheck alloc_error (reads_of (D.cells dir.old)) result }
 {
     match read_commit(alloc, dir) {
-        Ok(None) => Ok(Checked {
-            line: none_line(alloc)?,
-            fault: None,
-        }),
-        Ok(Some((number, infos, docs))) => Ok(Checked {
-            line: commit_line(alloc, number, &infos, docs.as_slice())?,
-            fault: None,
-        }),
+        Ok(None) => without_commit(alloc),
+        Ok(Some(found)) => with_commit(alloc, found.0, &found.1, found.2.as_slice()),
         Err(fault) => refusal(alloc, fault),
     }
 }
