@@ -1,5 +1,5 @@
 -- The laws of blocks: what is spelled with skip entries is read back, and what is read is spelled so.
-use Rattle.std.proofs.Common.{◌≡◌, ℕ, zero, suc, ◌+◌, ◌-◌, ◌*◌, ◌^◌, ◌<◌, ◌≤◌, ◌==◌, ◌&&◌, min, Bool, true, false, cond, List, [], ◌∷◌, ◌++◌, length, take, drop, Some, None, refl, sym, ap, subst, ◌∙◌, append_assoc, inl, inr, arith, length-append, length-take, length-drop, take-append-drop, take_at, drop_at, take_all, append-nil}
+use Rattle.std.proofs.Common.{◌≡◌, ℕ, zero, suc, ◌+◌, ◌-◌, ◌^◌, ◌<◌, ◌≤◌, ◌==◌, min, Bool, true, false, cond, List, [], ◌∷◌, ◌++◌, length, take, drop, Some, None, refl, sym, ap, subst, ◌∙◌, append_assoc, inl, inr, arith, length-append, length-take, length-drop, take-append-drop, take_at, drop_at, take_all, append-nil}
 use Rattle.std.specs.Prelude.{nat_lt}
 use Rattle.std.proofs.lemmas.Bool.{eqb-true, eq-eqb, and_parts, and_from, cases_lt}
 use Rattle.std.proofs.lemmas.List.{drop_all, nil_from_length}
@@ -137,7 +137,7 @@ pub record TakesBlocks (field : ℕ) (skips : List Skip) (count k : ℕ) (bytes 
   pub fits : HitsFitFrom field k hs
   pub skips_are : skips ≡ skips_from field (length skips) k hs
 
-same_pair : (a b c d : ℕ) → a ≡ b → c ≡ d → ◌≡◌ {A = Skip} (a, c) (b, d)
+pub same_pair : (a b c d : ℕ) → a ≡ b → c ≡ d → ◌≡◌ {A = Skip} (a, c) (b, d)
 same_pair a b c d e f = cc
 
 same_skip : (field k : ℕ) (s : Skip) (block : List Hit) → s.0 ≡ last_row block → s.1 ≡ length (hits_from field k block) → s ≡ skip_of field k block

@@ -1,18 +1,16 @@
 -- A cursor that passes whole blocks.
-use Rattle.std.proofs.Common.{◌≡◌, ℕ, zero, suc, ◌+◌, ◌-◌, ◌^◌, ◌<◌, ◌≤◌, ◌⊎◌, min, List, [], ◌∷◌, ◌++◌, length, get_or, take, drop, Option, Some, None, refl, sym, ap, subst, ◌∙◌, inl, inr, append_assoc, arith, length-append, length-take, length-drop, take-append-drop, drop_at}
+use Rattle.std.proofs.Common.{◌≡◌, ℕ, zero, suc, ◌+◌, ◌-◌, ◌^◌, ◌<◌, ◌≤◌, ◌⊎◌, List, [], ◌∷◌, ◌++◌, length, get_or, take, drop, Option, Some, None, refl, sym, ap, subst, ◌∙◌, inl, inr, append_assoc, arith, length-append, length-drop, take-append-drop, drop_at}
 use Rattle.std.specs.List.{All}
-use Rattle.std.proofs.lemmas.List.{nil_from_length}
-use Rattle.std.proofs.lemmas.List.Elements.{All-head, All-tail, All-weaker}
+use Rattle.std.proofs.lemmas.List.Elements.{All-head, All-tail}
 use Rattle.codec_frame.specs.Bytes.{AreBytes}
-use Rattle.body_forms.specs.Format.{Read, Takes}
 use Rattle.body_forms.proofs.Formats.{bind_some, read_is}
 use Rattle.nrt_base.proofs.Plain.{cons_first, cons_rest}
 use Rattle.postings_plain.specs.declared.format.Format.{Format}
 use Rattle.postings_plain.specs.declared.blocks.BlockStart.{BlockStart}
 use Rattle.postings_plain.specs.Postings.{Hit, row_of, above_hit, block_rows, block_count, skip_count, Skip, above_block, hits_from, HitsFitFrom, skip_of, skips_from}
 use Rattle.postings_plain.specs.Rows.{from_row, first_row}
-use Rattle.postings_plain.specs.Reading.{hit_at, counted_from_at, end_after, skip_at, skips_at, blocks_at, rows_of_term_at, hits_or_none, AreHits}
-use Rattle.postings_plain.specs.Blocks.{IsBlockStart, Precedes, IsAhead, IsReached}
+use Rattle.postings_plain.specs.Reading.{hit_at, end_after, skip_at, skips_at, blocks_at, rows_of_term_at, hits_or_none, AreHits}
+use Rattle.postings_plain.specs.Blocks.{IsBlockStart, IsAhead, IsReached}
 use Rattle.postings_plain.proofs.HitLaws.{rows_format, hits_from-append, fits_parts, all_below}
 use Rattle.postings_plain.proofs.BlockLaws.{block_rows-is, block_count-more, skip_count-blocks, length-block, above_end, term_takes}
 use Rattle.postings_plain.proofs.CountedHits.{next_skip}

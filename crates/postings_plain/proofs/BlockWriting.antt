@@ -1,15 +1,12 @@
 -- A loop that writes blocks: the skip entries at once, and the hits into an area of their own.
-use Rattle.std.proofs.Common.{◌≡◌, ℕ, zero, suc, ◌+◌, ◌-◌, ◌^◌, ◌<◌, ◌≤◌, min, List, [], ◌∷◌, ◌++◌, length, take, drop, refl, sym, ap, subst, ◌∙◌, append_assoc, append-nil, arith, length-append, take-append-drop}
+use Rattle.std.proofs.Common.{◌≡◌, ℕ, zero, suc, ◌-◌, ◌^◌, ◌<◌, ◌≤◌, min, List, [], ◌∷◌, ◌++◌, length, take, drop, sym, ap, subst, ◌∙◌, append_assoc, append-nil, arith, length-append, take-append-drop}
 use Rattle.std.proofs.lemmas.List.{take_min, drop_min}
 use Rattle.body_forms.specs.Format.{chain, ChainFits}
 use Rattle.postings_plain.specs.Postings.{Hit, block_rows, block_count, Skip, above_block, skip, SkipFits, hits_from, HitsFitFrom, last_row, skip_of, skips_from}
 use Rattle.postings_plain.specs.Reading.{end_after}
 use Rattle.postings_plain.specs.Gathering.{AddsRows, AddsBlock, AddsBlocks}
 use Rattle.postings_plain.proofs.HitLaws.{hits_from-append, fits_parts, end_after-last_row, end_above}
-use Rattle.postings_plain.proofs.BlockLaws.{block_rows-is, AreBlocks, some_rows, blocks_after, length-block}
-
-same_pair : (a b c d : ℕ) → a ≡ b → c ≡ d → ◌≡◌ {A = Skip} (a, c) (b, d)
-same_pair a b c d e f = cc
+use Rattle.postings_plain.proofs.BlockLaws.{same_pair, block_rows-is, AreBlocks, some_rows, blocks_after, length-block}
 
 pub last_row_is : (field k : ℕ) (block : List Hit) (end : ℕ) → 0 < length block → end ≡ end_after k block → end - 1 ≡ last_row block
 last_row_is field k block end pos e = omega (arith, e, end_after-last_row k block pos)

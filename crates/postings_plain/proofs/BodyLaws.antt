@@ -29,9 +29,6 @@ one_list format body es others s t = sym (entries_in-is format body es s) ∙ en
 pub one_body : (format : Format) (a b : List ℕ) (es : List Entry) → SpellsPostings format a es → SpellsPostings format b es → a ≡ b
 one_body format a b es s t = s.table.whole ∙ sym t.table.whole
 
-abbrev pub IsBody : (format : Format) → List ℕ → Type 0
-IsBody format body = (es : List Entry) × SpellsPostings format body es
-
 -- the rows of an entry, as a cursor begins on them
 pub record Begins (format : Format) (field : ℕ) (bytes : List ℕ) (hs : List Hit) : Type 0 where
   pub count : ℕ
@@ -57,6 +54,3 @@ rows_read format rest after e field count fit f same r =
 
 pub reads_as_itself : (format : Format) (bytes : List ℕ) (es : List Entry) → SpellsPostings format bytes es → SpellsPostings format bytes (entries_in format bytes)
 reads_as_itself format bytes es p = subst (SpellsPostings format bytes) (sym (entries_in-is format bytes es p)) p
-
-pub reads_alike : (format : Format) (bytes body : List ℕ) (es : List Entry) → bytes ≡ body → SpellsPostings format bytes es → SpellsPostings format body (entries_in format body)
-reads_alike format bytes body es e p = reads_as_itself format body es (subst (λ (b : List ℕ). SpellsPostings format b es) e p)

@@ -9,7 +9,7 @@ use Rattle.body_forms.specs.Format.{Takes, IsFormat, chain, then_at}
 use Rattle.body_forms.specs.VInts.{vint}
 use Rattle.body_forms.specs.Numbers.{string, string_at, positive_at}
 use Rattle.postings_plain.specs.declared.format.Format.{Format}
-use Rattle.postings_plain.specs.Postings.{Entry, field_of, term_of, hits_of, skip, above_block, skips_of, SkipsFit, hits_from, HitsFitFrom, hits, HitsFit, entry, IsFileEntry}
+use Rattle.postings_plain.specs.Postings.{field_of, term_of, hits_of, skip, above_block, skips_of, SkipsFit, hits_from, HitsFitFrom, hits, HitsFit, entry, IsFileEntry}
 use Rattle.postings_plain.specs.Reading.{rows_of_term_at, hits_at, field_at, term_at, entry_at}
 use Rattle.body_forms.proofs.NumberLaws.{positive_format}
 use Rattle.codec_frame.proofs.ByteLaws.{AreBytes-rest}

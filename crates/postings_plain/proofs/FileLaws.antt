@@ -1,9 +1,9 @@
 -- A file of postings, in either format.
-use Rattle.std.proofs.Common.{◌≡◌, ℕ, ◌+◌, ◌^◌, ◌<◌, ◌≤◌, List, [], ◌++◌, length, Some, Result, Ok, Err, refl, sym, ap, subst, ◌∙◌, inl, inr, arith}
-use Rattle.std.specs.Prelude.{IsOkAnd, slice_range}
+use Rattle.std.proofs.Common.{◌≡◌, ℕ, ◌≤◌, List, [], length, Result, Ok, Err, refl, sym, ap, subst, ◌∙◌, inl, inr, arith}
+use Rattle.std.specs.Prelude.{IsOkAnd}
 use Rattle.std.proofs.lemmas.Bool.{cases_lt}
 use Rattle.nrt_base.proofs.Plain.{ok_never_err, same_ok, same_err}
-use Rattle.codec_frame.specs.Frame.{IsFramed, IsFrame, IsFramedAs, framed}
+use Rattle.codec_frame.specs.Frame.{IsFramed, IsFrame, framed}
 use Rattle.codec_frame.specs.Checking.{IsFirstFault, IsChecked}
 use Rattle.codec_frame.specs.declared.frame.Framed.{Framed}
 use Rattle.codec_frame.specs.declared.frame.FrameFault.{FrameFault}

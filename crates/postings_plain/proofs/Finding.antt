@@ -101,9 +101,6 @@ is_not_there es key low high b le i h same =
       | inr ge ↦ let bad = sym (b.after i (omega arith) h) ∙ tie in cc
     ]
 
-pub count_is : (format : Format) (bytes : List ℕ) (es : List Entry) → SpellsPostings format bytes es → length (map (entry format) es) ≡ length es
-count_is format bytes es p = length-map es (entry format)
-
 -- bytes spell as many entries in each format
 pub same_size : (bytes : List ℕ) (format other : Format) (es fs : List Entry) → SpellsPostings format bytes es → SpellsPostings other bytes fs → length es ≡ length fs
 same_size bytes format other es fs p q = sym (length-map es (entry format)) ∙ sym (table_count bytes (map (entry format) es) p.table) ∙ table_count bytes (map (entry other) fs) q.table ∙ length-map fs (entry other)

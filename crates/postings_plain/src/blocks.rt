@@ -1,10 +1,10 @@
 //! Blocks of rows, and their skip entries.
 
-ghost use Rattle.std.specs.Prelude.{◌≡◌, ℕ, ◌<◌, ◌≤◌, ◌^◌, ◌++◌, min, take, drop, Option, List, Some, None, IfSome, IsTrue, ◌↔◌, OnOk};
+ghost use Rattle.std.specs.Prelude.{◌≡◌, ℕ, ◌<◌, ◌≤◌, ◌^◌, ◌++◌, ◌↔◌, min, take, drop, List, IfSome, IsTrue, OnOk};
 ghost use Rattle.std.specs.List.{All};
 ghost use Rattle.std.specs.Option.{option_map};
 ghost use Rattle.body_forms.specs.Format.{Skips};
-ghost use Rattle.postings_plain.specs.Postings.{Hit, row_of, block_rows, block_count, skip_count, Skip, skip};
+ghost use Rattle.postings_plain.specs.Postings.{Hit, row_of, block_rows, block_count, skip_count, skip};
 ghost use Rattle.postings_plain.specs.Reading.{skip_at, skips_at};
 ghost use Rattle.postings_plain.specs.Blocks.{IsBlockStart, IsReached};
 
@@ -90,7 +90,8 @@ impl<'a> BlockStart<'a> {
 
     /// The block after this one begins there. It has no rows where this one is the last.
     pub fn following(&self) -> BlockStart<'a>
-        requires { (field : ℕ) × (hs : List Hit) × IsBlockStart field self.now hs × (0 < self.now.count) }
+        requires { (field : ℕ) × (hs : List Hit) × IsBlockStart field self.now hs
+            × (0 < self.now.count) }
         ensures begins { (field : ℕ) (hs : List Hit) → IsBlockStart field self.now hs
             → IsBlockStart field result (drop block_rows hs) }
         ensures below { (field : ℕ) (hs : List Hit) → IsBlockStart field self.now hs

@@ -26,7 +26,8 @@ fn is_below_next(body: &[u8], place: u32) -> bool
         × AreEntries format items × (place + 1 < length items) }
     ensures { (format : Format) (items : List (List ℕ)) → IsItemTable body.now items
         → AreEntries format items
-        → IsTrue result ↔ IsBefore (entry_of format items place) (entry_of format items (place + 1)) }
+        → IsTrue result
+        ↔ IsBefore (entry_of format items place) (entry_of format items (place + 1)) }
 {
     let (field, term) = heading_in(item_at(body, place));
     let (next_field, next_term) = heading_in(item_at(body, place + 1));

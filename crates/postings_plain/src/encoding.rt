@@ -4,7 +4,7 @@ ghost use Rattle.std.specs.Prelude.{◌≡◌, ◌++◌, ◌<◌, ◌≤◌, ◌
 ghost use Rattle.body_forms.specs.File.{HasSmallBody};
 ghost use Rattle.body_forms.specs.Numbers.{ascending, Ascend};
 ghost use Rattle.postings_plain.specs.declared.row.TermRow.{TermRow};
-ghost use Rattle.postings_plain.specs.Postings.{format_for, block_count, hit, HitFits, hits_from, HitsFitFrom, HitsFit, positions, PositionsFit};
+ghost use Rattle.postings_plain.specs.Postings.{format_for, block_count, hit, HitFits, HitsFitFrom, HitsFit, positions, PositionsFit};
 ghost use Rattle.postings_plain.specs.Body.{format_wanted};
 ghost use Rattle.postings_plain.specs.Inverting.{IsPostingsFileOf};
 ghost use Rattle.postings_plain.specs.Gathering.{Gathers, AreFew, AddsRows, AddsBlock, AddsBlocks, AddsHits, AddsEntry, AddsPostings};

@@ -64,7 +64,8 @@ pub fn skip_hit(field: u8, least: u64, bytes: &[u8]) -> Option<(u32, &[u8])>
 
 /// Reads past the hits of a term, and says which row is one above the last of them.
 pub fn skip_hits(format: Format, field: u8, bytes: &[u8]) -> Option<(u64, &[u8])>
-    ensures { SkipsHits 0 (option_map (λ x. (x.0, x.1.now)) result) (hits_at format field bytes.now) }
+    ensures { SkipsHits 0 (option_map (λ x. (x.0, x.1.now)) result)
+        (hits_at format field bytes.now) }
 {
     let (count, rest) = positive_of(bytes)?;
     skip_rows(format, field, count, rest)
@@ -88,9 +89,12 @@ fn skip_blocks<'a>(
     skips: &[u8],
     rows: &'a [u8],
 ) -> Option<(u64, &'a [u8])>
-    requires { (list : List Skip) × (after : List ℕ) × (skips_at blocks 0 skips.now ≡ Some (list, after)) }
-    ensures { (list : List Skip) (after : List ℕ) → skips_at blocks 0 skips.now ≡ Some (list, after)
-        → SkipsHits 0 (option_map (λ x. (x.0, x.1.now)) result) (blocks_at field list count 0 rows.now) }
+    requires { (list : List Skip) × (after : List ℕ)
+        × (skips_at blocks 0 skips.now ≡ Some (list, after)) }
+    ensures { (list : List Skip) (after : List ℕ)
+        → skips_at blocks 0 skips.now ≡ Some (list, after)
+        → SkipsHits 0 (option_map (λ x. (x.0, x.1.now)) result)
+        (blocks_at field list count 0 rows.now) }
 {
     let mut skips = skips;
     let mut rest = rows;

@@ -38,14 +38,16 @@ impl<'a> Model for Postings<'a> {
     ghost view = { λ a. hits_or_none (counted_from_at a.field a.count a.least a.rest.now) };
 
     ghost invariant = { λ a. (a.least ≤ 2 ^ 32) × AreHits (counted_from_at a.field a.count a.least a.rest.now)
-        × IsAhead a.field (hits_or_none (counted_from_at a.field a.count a.least a.rest.now)) a.next };
+        × IsAhead a.field (hits_or_none (counted_from_at a.field a.count a.least a.rest.now))
+        a.next };
 }
 
 impl<'a> Postings<'a> {
     /// The hits of an entry.
     pub(crate) fn of_entry(format: Format, item: &'a [u8]) -> Postings<'a>
         requires { IsEntry format item.now }
-        ensures { (e : Entry) → IsFileEntry format e → item.now ≡ entry format e → result ≡ hits_of e }
+        ensures { (e : Entry) → IsFileEntry format e → item.now ≡ entry format e
+            → result ≡ hits_of e }
     {
         match field_of(item) {
             Some((field, rest)) => match term_of(rest) {

@@ -37,7 +37,8 @@ fn compare_live(live: &Option<LiveBits>, record: &SegRecord) -> Result<(), SegFa
 
 // Whether the version of postings is the format that the info file gives.
 fn compare_format(format: Format, want: u8) -> Result<(), SegFault>
-    ensures { result ≡ compared (find differs (number SegFile.Post want (format_number format) ∷ [])) }
+    ensures { result
+        ≡ compared (find differs (number SegFile.Post want (format_number format) ∷ [])) }
 {
     compare(SegFile::Post, u64::from(want), u64::from(format.number()))
 }

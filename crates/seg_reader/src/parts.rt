@@ -34,7 +34,8 @@ pub enum SegFault {
     /// This file is the first outside its grammar.
     File(SegFile, FileFault),
     /// Every file is in its grammar, and this file is the first in which the segment's number, the number of rows or that
-    /// of live rows is not the one that infos want.
+    /// of live rows is not the one that infos want; or it is the postings, whose version is not the format, which is
+    /// wanted, of the info file.
     Disagrees {
         part: SegFile,
         want: u64,

@@ -12,13 +12,14 @@ use std::test::Fail;
 // The first segment of generation 1.
 const SEG: SegNo = SegNo(1_679_616);
 
-// What files are made to say: how many rows documents, postings, info and live rows have, whether the last row is dead, and
-// the segment's number; and how many of the files are whole. The others are empty.
+// What files are made to say: how many rows documents, postings, info and live rows have, whether the last row is dead, the
+// segment's number, and the format that the info gives; and how many of the files are whole. The others are empty.
 #[derive(Clone, Copy)]
 struct Made {
     docs: u32,
     post: u32,
     seg: u64,
+    format: u8,
     info: u32,
     live: u32,
     dead: bool,
@@ -30,6 +31,7 @@ const TWO: Made = Made {
     docs: 2,
     post: 2,
     seg: SEG.0,
+    format: 1,
     info: 2,
     live: 2,
     dead: true,
@@ -68,15 +70,15 @@ fn post_file(alloc: Global, rows: u32) -> Result<Bytes, Fail> {
     Ok(encode_postings(alloc, &segment_id(SEG), &terms)?)
 }
 
-// The info file of so many rows, which says this number of the segment.
-fn info_file(alloc: Global, seg: u64, rows: u32) -> Result<Bytes, Fail> {
-    if rows == 0 {
-        return Err(Fail::from("no row"));
+// The info file of so many rows, which says this number of the segment, and this format.
+fn info_file(alloc: Global, seg: u64, format: u8, rows: u32) -> Result<Bytes, Fail> {
+    if rows == 0 || format == 0 || format > 2 {
+        return Err(Fail::from("no row, or another format"));
     }
     let info = SegInfo {
         seg: SegNo(seg),
         rows,
-        format: 1,
+        format,
     };
     Ok(encode_info(alloc, &segment_id(SEG), &info)?)
 }
@@ -103,7 +105,7 @@ fn whole_or_empty(alloc: Global, file: Bytes, whole: bool) -> Result<Bytes, Fail
 fn read(alloc: Global, made: Made) -> Result<Result<Segment, SegFault>, Fail> {
     let docs = docs_file(alloc, made.docs)?;
     let post = post_file(alloc, made.post)?;
-    let info = info_file(alloc, made.seg, made.info)?;
+    let info = info_file(alloc, made.seg, made.format, made.info)?;
     let live = live_file(alloc, made.live, made.dead)?;
     let parts = SegParts {
         docs: whole_or_empty(alloc, docs, made.whole > 0)?,
@@ -125,7 +127,7 @@ fn segment_of_one(alloc: Global) -> Result<Segment, Fail> {
     let parts = SegParts {
         docs: docs_file(alloc, 1)?,
         post: post_file(alloc, 1)?,
-        info: info_file(alloc, SEG.0, 1)?,
+        info: info_file(alloc, SEG.0, 1, 1)?,
         live: None,
     };
     let record = SegRecord {
@@ -208,10 +210,13 @@ fn first_number_that_differs(rt: HostRuntime) -> Result<(), Fail> {
     };
     let info = Made { info: 1, ..live };
     let seg = Made { seg: 7, ..info };
-    let post = Made { post: 1, ..seg };
+    let format = Made { format: 2, ..seg };
+    let post = Made { post: 3, ..format };
     let docs = Made { docs: 1, ..post };
     let table = [
         (docs, differs(SegFile::Docs, 2, 1)),
+        (post, differs(SegFile::Post, 2, 3)),
+        (format, differs(SegFile::Post, 2, 1)),
         (seg, differs(SegFile::Info, SEG.0, 7)),
         (live_rows, differs(SegFile::Live, 1, 2)),
     ];

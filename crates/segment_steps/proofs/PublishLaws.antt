@@ -134,6 +134,7 @@ module _ (before after : Name → Content) where
         segment = record {
           docs = is.segment.docs;
           docs_rows = is.segment.docs_rows;
+          format = is.segment.format;
           post = is.segment.post;
           post_rows = is.segment.post_rows;
           info = is.segment.info;

@@ -1,5 +1,5 @@
-use Rattle.std.proofs.Common.{◌≡◌, ◌-◌, ◌<◌, refl, arith}
-use Rattle.postings_plain.proofs.BlockWriting.{last_row_is, last_not_below, block_added}
+use Rattle.std.proofs.Common.{◌-◌, refl, arith}
+use Rattle.postings_plain.proofs.BlockWriting.{last_not_below, block_added}
 use Rattle.postings_plain.proofs.encoding.push_block.Goals as goal
 
 pub overflow_sub-end : goal.overflow_sub-end

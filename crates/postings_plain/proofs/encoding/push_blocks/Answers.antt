@@ -1,5 +1,4 @@
-use Rattle.std.proofs.Common.{◌≡◌, ◌+◌, ◌-◌, ◌<◌, ◌++◌, ℕ, List, sym, ap, subst, ◌∙◌, arith}
-use Rattle.postings_plain.specs.Postings.{Hit}
+use Rattle.std.proofs.Common.{◌≡◌, ◌+◌, ◌-◌, ◌++◌, ℕ, List, ap, subst, ◌∙◌, arith}
 use Rattle.postings_plain.proofs.BlockWriting.{BlocksWritten, BlockNext, cut_at, blocks_unwritten, block_next, block_written, blocks_added}
 use Rattle.postings_plain.proofs.encoding.push_blocks.Goals as goal
 

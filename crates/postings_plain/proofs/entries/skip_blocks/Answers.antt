@@ -1,5 +1,5 @@
-use Rattle.std.proofs.Common.{◌≡◌, ℕ, ◌+◌, ◌-◌, ◌<◌, min, List, length, Some, None, sym, ap, subst, ◌∙◌, arith}
-use Rattle.postings_plain.specs.Postings.{Skip, block_rows}
+use Rattle.std.proofs.Common.{◌≡◌, ℕ, ◌+◌, ◌-◌, sym, ap, subst, ◌∙◌, arith}
+use Rattle.postings_plain.specs.Postings.{block_rows}
 use Rattle.postings_plain.specs.Reading.{counted_from_at, skips_at}
 use Rattle.postings_plain.proofs.CountedHits.{HasPassedBlocks, blocks_start, no_entry_left, block_stops, block_differs, block_passed, blocks_done}
 use Rattle.postings_plain.proofs.entries.skip_blocks.Goals as goal

@@ -1,7 +1,7 @@
-use Rattle.std.proofs.Common.{◌≡◌, ◌<◌, ◌-◌, ℕ, List, sym, ap, ◌∙◌, arith}
-use Rattle.postings_plain.specs.Postings.{Hit, block_rows}
+use Rattle.std.proofs.Common.{◌≡◌, ◌-◌, sym, ◌∙◌, arith}
+use Rattle.postings_plain.specs.Postings.{block_rows}
 use Rattle.postings_plain.proofs.BlockLaws.{block_rows-is}
-use Rattle.postings_plain.proofs.BlockPassing.{Follows, follows, skip_is_there}
+use Rattle.postings_plain.proofs.BlockPassing.{follows, skip_is_there}
 use Rattle.postings_plain.proofs.blocks.BlockStart.following.Goals as goal
 
 pub split_at-requires : goal.split_at-requires

@@ -1,9 +1,9 @@
-use Rattle.std.proofs.Common.{◌≡◌, ℕ, ◌<◌, List, refl, sym, ap, subst, ◌∙◌, arith}
+use Rattle.std.proofs.Common.{ℕ, List, refl, sym, ap, subst, ◌∙◌, arith}
 use Rattle.postings_plain.specs.declared.blocks.BlockStart.{BlockStart}
 use Rattle.postings_plain.specs.Postings.{Hit}
 use Rattle.postings_plain.specs.Reading.{rows_of_term_at, skips_at, hits_or_none}
 use Rattle.postings_plain.specs.Blocks.{IsAhead}
-use Rattle.postings_plain.proofs.Passing.{was_read, is_read, rows_at}
+use Rattle.postings_plain.proofs.Passing.{was_read, is_read}
 use Rattle.postings_plain.proofs.BlockPassing.{BeginsAt, begins_at, table_is_there}
 use Rattle.postings_plain.proofs.postings.Postings.counted.Goals as goal
 use Rattle.postings_plain.proofs.postings.Postings.counted.Goals.{then-blocks-gt0, else-blocks-gt0}
