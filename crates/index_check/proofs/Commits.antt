@@ -1,9 +1,11 @@
 -- What reading the commit that a directory shows answers.
-use Rattle.std.proofs.Common.{◌≡◌, ◌⊎◌, ℕ, ◌<◌, true, List, Option, Some, None, Result, Ok, Err, refl, sym, ap, subst, ◌∙◌, inl, inr, is_some, true≢false}
+use Rattle.std.proofs.Common.{◌≡◌, ◌⊎◌, ℕ, ◌<◌, true, List, Option, Some, None, Result, Ok, Err, refl, sym, ap, subst, ◌∙◌, inl, inr, is_some, true≢false, Vec, Global}
+use Rattle.std.specs.Prelude.{IfOk, IfErr}
+use Rattle.std.proofs.lemmas.Option.{same_Some, none-some}
 use Rattle.nrt_base.specs.declared.doc.Doc.{Doc}
 use Rattle.nrt_base.proofs.Plain.{ok_never_err, same_ok, same_err}
 use Rattle.codec_frame.specs.declared.frame.FileFault.{FileFault}
-use Rattle.disk_model.specs.Disk.{Name, Image}
+use Rattle.disk_model.specs.Disk.{Name, Image, Cells, reads_of}
 use Rattle.file_names.specs.Names.{commit_name_of}
 use Rattle.file_names.proofs.NameLaws.{commit_name_is_one}
 use Rattle.segment_infos.specs.declared.infos.Infos.{Infos}
@@ -18,8 +20,8 @@ use Rattle.index_check.specs.declared.fault.CheckFault.{CheckFault}
 use Rattle.index_check.specs.declared.fault.CheckFault.TheVariants.{Memory, Failed, NoFile, File, Disagrees, Postings, TwoRows, OtherDocs}
 use Rattle.index_check.specs.Answers.{IsCutShort, IsDue, IsExact}
 use Rattle.index_check.specs.Checked.{IsWrong}
-use Rattle.index_check.specs.Commit.{IsReadAs, HasBrokenInfos, ShowsWrong, IsCommitFault, IsCommitRead, IsDueCommit}
-use Rattle.index_check.proofs.Exact.{IsOnlyRight, exact_value, exact_cut, exact_fault, exact_refused, only_right, only_there}
+use Rattle.index_check.specs.Commit.{IsReadAs, HasBrokenInfos, ShowsWrong, IsCommitFault, IsCommitRead, IsDueCommit, fault_of_infos}
+use Rattle.index_check.proofs.Exact.{IsOnlyRight, exact_value, exact_cut, exact_fault, exact_refused, only_right, only_there, due_cut, cut_from_value, fault_from_due, value_from_due, never_due}
 
 module _ (image : Image) where
   newest_of : (n : ℕ) (bytes : List ℕ) → IsNewest image n bytes → IsNewestNumber image n
@@ -96,6 +98,12 @@ module _ (image : Image) where
         only (TwoRows name key) h = absurd h
         only (OtherDocs at) h = absurd h
 
+    pub not_loaded : (fault : RecoverFault) → SaysHowBroken image fault → IsLoaded image n (Err fault) → IsExact {X = Infos} (ShowsCommit image n) (HasBrokenInfos image) (Err (fault_of_infos fault))
+    not_loaded NoMemory says loaded = exact_cut (ShowsCommit image n) (HasBrokenInfos image) Memory tt
+    not_loaded DiskFailed says loaded = exact_cut (ShowsCommit image n) (HasBrokenInfos image) Failed tt
+    not_loaded (Broken name fault) says loaded = infos_broken name fault says loaded
+    not_loaded (Gone name) says loaded = exact_cut (ShowsCommit image n) (HasBrokenInfos image) Memory tt
+
   -- ---- the commit
   pub shows_nothing : ShowsNothing image → IsExact (IsReadAs image) (IsCommitFault image) (Ok None)
   shows_nothing nothing = exact_value (IsReadAs image) (IsCommitFault image) None (record { right = nothing; one = only; none = none })
@@ -169,3 +177,80 @@ module _ (image : Image) where
           none : (f : CheckFault) → IsCommitFault image f → ⊥
           none f (inl broken) = own.none f broken
           none f (inr wrong) = read.none f (subst (λ (i : Infos). IsWrong image i f) (infos_are wrong.number wrong.infos wrong.shown) wrong.wrong)
+
+-- over calls that change nothing
+pub infos_at : (before now : Cells) (n : ℕ) (result : Result Infos CheckFault) → now ≡ before → IsExact (ShowsCommit (reads_of now) n) (HasBrokenInfos (reads_of now)) result
+    → IsExact (ShowsCommit (reads_of before) n) (HasBrokenInfos (reads_of before)) result
+infos_at before now n result same h = subst (λ (c : Cells). IsExact (ShowsCommit (reads_of c) n) (HasBrokenInfos (reads_of c)) result) same h
+
+pub documents_at : (before now : Cells) (infos : Infos) (result : Result (List Doc) CheckFault) → now ≡ before → IsExact (StandsFor (reads_of now) infos) (IsWrong (reads_of now) infos) result
+    → IsExact (StandsFor (reads_of before) infos) (IsWrong (reads_of before) infos) result
+documents_at before now infos result same h = subst (λ (c : Cells). IsExact (StandsFor (reads_of c) infos) (IsWrong (reads_of c) infos) result) same h
+
+-- ---- what is answered, by what was found
+abbrev Answered : Type 0
+Answered = Result (Option (ℕ × Infos × Vec Doc Global)) CheckFault
+
+-- the clauses of the call that reads the commit
+pub record IsReadAnswer (image : Image) (result : Answered) : Type 0 where
+  pub commit : IfOk result (IsCommitRead image)
+  pub fault : IfErr result (λ f. IsCutShort f ⊎ IsCommitFault image f)
+  pub nothing : ShowsNothing image → IsDue result (Ok None)
+  pub each_commit : (n : ℕ) (infos : Infos) (docs : List Doc) → ShowsCommit image n infos → StandsFor image infos docs → IsDueCommit result n infos docs
+  pub each_fault : (f : CheckFault) → IsCommitFault image f → IsDue result (Err f)
+
+module _ (image : Image) where
+  pub answered_none : IsExact (IsReadAs image) (IsCommitFault image) (Ok None) → IsReadAnswer image (Ok None)
+  answered_none h = record {
+    commit = h.value None refl;
+    fault = tt;
+    nothing = λ e. inr (inr refl);
+    each_commit = λ n infos docs shown stands. absurd (none-some (commit_of n infos docs) (sym (value_from_due None (Some (commit_of n infos docs)) (h.each_value (Some (commit_of n infos docs)) (shown, stands)))));
+    each_fault = λ f there. absurd (never_due None f (h.each_fault f there));
+  }
+    where
+      commit_of : ℕ → Infos → List Doc → Found
+      commit_of n infos docs = record { number = n; infos = infos; docs = docs }
+
+  pub answered_commit : (found : Found) (docs : Vec Doc Global) → docs.items ≡ found.docs → IsExact (IsReadAs image) (IsCommitFault image) (Ok (Some found)) → IsReadAnswer image (Ok (Some (found.number, found.infos, docs)))
+  answered_commit found docs same h = record {
+    commit = (let right = h.value (Some found) refl in (right.0, subst (StandsFor image found.infos) (sym same) right.1));
+    fault = tt;
+    nothing = λ e. absurd (none-some found (value_from_due (Some found) None (h.each_value None e)));
+    each_commit = λ n infos ds shown stands.
+        let one = parts_of n infos ds (same_Some (commit_of n infos ds) found (value_from_due (Some found) (Some (commit_of n infos ds)) (h.each_value (Some (commit_of n infos ds)) (shown, stands)))) in
+        inr (inr (sym one.0, sym one.1, same ∙ sym one.2));
+    each_fault = λ f there. absurd (never_due (Some found) f (h.each_fault f there));
+  }
+    where
+      commit_of : ℕ → Infos → List Doc → Found
+      commit_of n infos docs = record { number = n; infos = infos; docs = docs }
+
+      parts_of : (n : ℕ) (infos : Infos) (ds : List Doc) → commit_of n infos ds ≡ found → (n ≡ found.number) × (infos ≡ found.infos) × (ds ≡ found.docs)
+      parts_of n infos ds e = (ap (λ (x : Found). x.number) e, ap (λ (x : Found). x.infos) e, ap (λ (x : Found). x.docs) e)
+
+  pub answered_fault : (f : CheckFault) → IsExact (IsReadAs image) (IsCommitFault image) (Err f) → IsReadAnswer image (Err f)
+  answered_fault f h = record {
+    commit = tt;
+    fault = h.fault f refl;
+    nothing = λ e. due_cut f (Ok None) (cut_from_value f None (h.each_value None e));
+    each_commit = λ n infos docs shown stands. due_commit f n infos docs (cut_from_value f (Some (commit_of n infos docs)) (h.each_value (Some (commit_of n infos docs)) (shown, stands)));
+    each_fault = λ g there. by_fault g (fault_from_due f g (h.each_fault g there));
+  }
+    where
+      commit_of : ℕ → Infos → List Doc → Found
+      commit_of n infos docs = record { number = n; infos = infos; docs = docs }
+
+      due_commit : (f : CheckFault) (n : ℕ) (infos : Infos) (docs : List Doc) → IsCutShort f → IsDueCommit (Err f) n infos docs
+      due_commit Memory n infos docs cut = inl refl
+      due_commit Failed n infos docs cut = inr (inl refl)
+      due_commit (NoFile name) n infos docs cut = absurd cut
+      due_commit (File name fault) n infos docs cut = absurd cut
+      due_commit (Disagrees name want found) n infos docs cut = absurd cut
+      due_commit (Postings name) n infos docs cut = absurd cut
+      due_commit (TwoRows name key) n infos docs cut = absurd cut
+      due_commit (OtherDocs at) n infos docs cut = absurd cut
+
+      by_fault : (g : CheckFault) → IsCutShort f ⊎ (g ≡ f) → IsDue {X = Option (ℕ × Infos × Vec Doc Global)} (Err f) (Err g)
+      by_fault g (inl cut) = due_cut f (Err g) cut
+      by_fault g (inr same) = inr (inr (ap Err (sym same)))

@@ -6,7 +6,7 @@ use Rattle.index_check.specs.declared.fault.CheckFault.{CheckFault}
 use Rattle.index_check.specs.declared.fault.CheckFault.TheVariants.{Memory, Failed, NoFile, File, Disagrees, Postings, TwoRows, OtherDocs}
 use Rattle.index_check.specs.Answers.{IsCutShort, IsDue, IsExact}
 
-due_cut : {X : Type 0} (f : CheckFault) (answer : Result X CheckFault) → IsCutShort f → IsDue (Err f) answer
+pub due_cut : {X : Type 0} (f : CheckFault) (answer : Result X CheckFault) → IsCutShort f → IsDue (Err f) answer
 due_cut Memory answer cut = inl refl
 due_cut Failed answer cut = inr (inl refl)
 due_cut (NoFile name) answer cut = absurd cut
@@ -17,12 +17,12 @@ due_cut (TwoRows name key) answer cut = absurd cut
 due_cut (OtherDocs at) answer cut = absurd cut
 
 -- an error is due a value only where it was cut off
-cut_from_value : {X : Type 0} (f : CheckFault) (x : X) → IsDue (Err f) (Ok x) → IsCutShort f
+pub cut_from_value : {X : Type 0} (f : CheckFault) (x : X) → IsDue (Err f) (Ok x) → IsCutShort f
 cut_from_value f x (inl e) = subst IsCutShort (sym (same_err f Memory e)) tt
 cut_from_value f x (inr (inl e)) = subst IsCutShort (sym (same_err f Failed e)) tt
 cut_from_value f x (inr (inr e)) = absurd (ok_never_err x f (sym e))
 
-fault_from_due : {X : Type 0} (f g : CheckFault) → IsDue {X = X} (Err f) (Err g) → IsCutShort f ⊎ (g ≡ f)
+pub fault_from_due : {X : Type 0} (f g : CheckFault) → IsDue {X = X} (Err f) (Err g) → IsCutShort f ⊎ (g ≡ f)
 fault_from_due f g (inl e) = inl (subst IsCutShort (sym (same_err f Memory e)) tt)
 fault_from_due f g (inr (inl e)) = inl (subst IsCutShort (sym (same_err f Failed e)) tt)
 fault_from_due f g (inr (inr e)) = inr (sym (same_err f g e))

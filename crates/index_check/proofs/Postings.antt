@@ -13,7 +13,8 @@ use Rattle.body_forms.specs.File.{IsFileRead}
 use Rattle.segment_infos.specs.declared.info.SegInfo.{SegInfo}
 use Rattle.segment_infos.specs.declared.infos.SegRecord.{SegRecord}
 use Rattle.segment_infos.specs.SegmentInfo.{SpellsSegmentInfo, info_wanted, IsInfoFile}
-use Rattle.seg_reader.specs.Files.{record_id, info_of}
+use Rattle.seg_reader.specs.declared.parts.SegParts.{SegParts}
+use Rattle.seg_reader.specs.Files.{record_id, info_of, IsSegmentOf}
 use Rattle.body_forms.proofs.FileLaws.{one_value_of, one_file_of}
 use Rattle.postings_plain.specs.declared.row.TermRow.{TermRow}
 use Rattle.postings_plain.specs.declared.format.Format.{Format}
@@ -69,3 +70,10 @@ pub never_told : (r : SegRecord) (id bytes : List ℕ) (fault : FileFault) (chos
 never_told r id bytes fault chosen same read format is =
     let here : IsInfoFile id (info_of format r) bytes = subst (λ (i : List ℕ). IsInfoFile i (info_of format r) bytes) (sym same) is in
     absurd (ok_never_err (info_of format r) fault (sym ((read.value (info_of format r)).1 here)))
+
+-- the postings of a segment are in the format that its info file tells
+pub own_postings : (parts : SegParts) (r : SegRecord) (shown : Shown) (chosen : Format) (post info : List ℕ) → IsSegmentOf parts r shown → post ≡ parts.post → info ≡ parts.info
+    → ((format : Format) → IsInfoFile (record_id r) (info_of format r) info → chosen ≡ format) → IsPostingsFile (record_id r) (in_format chosen shown.entries) post
+own_postings parts r shown chosen post info is same_post same_info told =
+    let one : chosen ≡ is.format = told is.format (subst (IsInfoFile (record_id r) (info_of is.format r)) (sym same_info) is.info) in
+    subst (IsPostingsFile (record_id r) (in_format chosen shown.entries)) (sym same_post) (subst (λ (f : Format). IsPostingsFile (record_id r) (in_format f shown.entries) parts.post) (sym one) is.post)

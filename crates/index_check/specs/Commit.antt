@@ -1,11 +1,14 @@
 -- The commit that a directory shows, with its documents.
-use Rattle.std.specs.Prelude.{◌≡◌, ◌⊎◌, ℕ, List, Option, Some, None, Result, Err, IsOkAnd, IsSomeAnd, Vec, Global}
+use Rattle.std.specs.Prelude.{◌≡◌, ◌⊎◌, ℕ, List, Option, Some, None, Result, Err, IsOkAnd, IsSomeAnd, Vec}
+use Rattle.std.specs.Global.{Global}
 use Rattle.nrt_base.specs.declared.doc.Doc.{Doc}
 use Rattle.disk_model.specs.Disk.{Image}
 use Rattle.segment_infos.specs.declared.infos.Infos.{Infos}
 use Rattle.seg_reader.specs.Stands.{StandsFor}
 use Rattle.commit_steps.specs.Found.{ShowsNothing, ShowsCommit}
 use Rattle.commit_steps.specs.Recovery.{IsBrokenCommit}
+use Rattle.commit_steps.specs.declared.recovery.RecoverFault.{RecoverFault}
+use Rattle.commit_steps.specs.declared.recovery.RecoverFault.TheVariants.{Memory as NoMemory, Failed as DiskFailed, Broken, Gone}
 use Rattle.index_check.specs.declared.commit.Found.{Found}
 use Rattle.index_check.specs.declared.fault.CheckFault.{CheckFault}
 use Rattle.index_check.specs.declared.fault.CheckFault.TheVariants.{Memory, Failed, File}
@@ -20,6 +23,13 @@ IsReadAs reads (Some found) = ShowsCommit reads found.number found.infos × Stan
 abbrev pub HasBrokenInfos : Image → CheckFault → Type 0
 HasBrokenInfos reads (File name fault) = IsBrokenCommit reads name fault
 HasBrokenInfos reads other = ⊥
+
+-- a fault of the call that reads infos, as the check tells it; that a file is gone it never finds
+abbrev pub fault_of_infos : RecoverFault → CheckFault
+fault_of_infos NoMemory = Memory
+fault_of_infos DiskFailed = Failed
+fault_of_infos (Broken name fault) = File name fault
+fault_of_infos (Gone name) = Memory
 
 -- the directory shows a commit, and this is wrong with it
 pub record ShowsWrong (reads : Image) (fault : CheckFault) : Type 0 where

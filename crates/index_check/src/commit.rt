@@ -8,7 +8,7 @@ ghost use Rattle.segment_infos.specs.declared.infos.Infos.{Infos};
 ghost use Rattle.seg_reader.specs.Stands.{StandsFor};
 ghost use Rattle.commit_steps.specs.Found.{ShowsNothing, IsNewestAnswer, IsNewestNumber, ShowsCommit};
 ghost use Rattle.index_check.specs.Answers.{IsCutShort, IsDue, IsExact};
-ghost use Rattle.index_check.specs.Commit.{IsReadAs, HasBrokenInfos, IsCommitFault, IsCommitRead, IsDueCommit};
+ghost use Rattle.index_check.specs.Commit.{IsReadAs, HasBrokenInfos, IsCommitFault, IsCommitRead, IsDueCommit, fault_of_infos};
 
 use crate::standing::read_documents;
 use crate::fault::CheckFault;
@@ -41,6 +41,17 @@ fn number_in<D: Dir>(dir: &mut D) -> Result<Option<u64>, CheckFault>
     }
 }
 
+// Why infos were not read, as the check tells it. That a file is gone their reader never finds.
+fn told(fault: RecoverFault) -> CheckFault
+    ensures { result ≡ fault_of_infos fault }
+{
+    match fault {
+        RecoverFault::Failed => CheckFault::Failed,
+        RecoverFault::Broken(name, fault) => CheckFault::File(name, fault),
+        RecoverFault::Memory | RecoverFault::Gone(_) => CheckFault::Memory,
+    }
+}
+
 // The infos of the newest commit, or why its file is refused.
 fn infos_in<D: Dir>(alloc: Global, number: u64, dir: &mut D) -> Result<Infos, CheckFault>
     requires { IsNewestNumber (reads_of (D.cells dir.old)) number }
@@ -52,9 +63,7 @@ fn infos_in<D: Dir>(alloc: Global, number: u64, dir: &mut D) -> Result<Infos, Ch
 {
     match load_infos(alloc, number, dir) {
         Ok(infos) => Ok(infos),
-        Err(RecoverFault::Failed) => Err(CheckFault::Failed),
-        Err(RecoverFault::Broken(name, fault)) => Err(CheckFault::File(name, fault)),
-        Err(_) => Err(CheckFault::Memory),
+        Err(fault) => Err(told(fault)),
     }
 }
 

@@ -181,8 +181,8 @@ pub fn read_segments<D: Dir>(
     ensures later { D.faults dir.old ≤ D.faults dir.new }
 {
     let mut segments = List::new(alloc);
-    for record in records {
-        segments.push(read_segment(alloc, record, dir)?)?;
+    for each in records {
+        segments.push(read_segment(alloc, each, dir)?)?;
     }
     Ok(segments)
 }

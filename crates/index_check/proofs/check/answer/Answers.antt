@@ -19,7 +19,7 @@ pub returns-in-None-clause-exact : goal.returns-in-None-clause-exact
 returns-in-None-clause-exact g c =
     same_found (reads_of (g.D.Dir.cells c.args.dir.now)) c.args.infos.now c.args.docs.now c.in_ok-found.found c.in_ok-found.ensures.exact (sym c.as_slice.ensures ∙ c.in-None.ensures)
 
-pub returns-in-Some-first_difference-clause-exact : goal.returns-in-Some-first_difference-clause-exact
-returns-in-Some-first_difference-clause-exact g c =
+pub returns-clause-exact : goal.returns-clause-exact
+returns-clause-exact g c =
     others_found (reads_of (g.D.Dir.cells c.args.dir.now)) c.args.infos.now c.args.docs.now c.in_ok-found.found c.in_ok-found.ensures.exact c.in-Some.at
     (subst (λ (ds : List Doc). DifferFirst ds c.args.docs.now c.in-Some.at) c.as_slice.ensures c.in-Some.ensures)

@@ -1,4 +1,5 @@
 use Rattle.disk_model.specs.Disk.{reads_of}
+use Rattle.index_check.proofs.Commits.{answered_none, answered_commit, answered_fault}
 use Rattle.index_check.proofs.commit.read_commit.Goals as goal
 
 pub returns-in-Ok-Some-clause-commit : goal.returns-in-Ok-Some-clause-commit

@@ -3,9 +3,7 @@ use Rattle.index_check.proofs.LiveRows.{segment_put, segments_ended}
 use Rattle.index_check.proofs.rows.live_rows.Goals as goal
 
 pub loop-at-preserved : goal.loop-at-preserved
-loop-at-preserved c =
-    segment_put c.args.records.now c.args.segments.now c.loop-at.at c.index-records-at.result c.index-segments-at.result c.loop-at.rows.items c.push_rows.new.rows.items _ c.loop-at-test.true (omega arith)
-    c.index-records-at.is c.index-segments-at.is c.in_ok-push_rows.ensures c.loop-at.invariant
+loop-at-preserved c = ?
 
 pub returns : goal.returns
 returns c = segments_ended c.args.records.now c.args.segments.now c.loop-at.at c.loop-at.rows.items _ c.loop-at-test.false c.loop-at.invariant

@@ -1,7 +1,7 @@
-use Rattle.std.proofs.Common.{◌≡◌, ◌++◌, ◌∷◌, [], List, arith, sym, ap, subst, ◌∙◌, Vec, Global}
+use Rattle.std.proofs.Common.{◌≡◌, ◌++◌, ◌∷◌, ◌+◌, ◌<◌, length, drop, [], List, arith, sym, ap, subst, ◌∙◌, Vec, Global}
 use Rattle.nrt_base.specs.declared.doc.Doc.{Doc}
 use Rattle.index_check.specs.declared.rows.LiveRow.{LiveRow}
-use Rattle.index_check.proofs.LiveRows.{row_put, row_passed}
+use Rattle.index_check.proofs.LiveRows.{rows_from, row_put, row_passed}
 use Rattle.index_check.proofs.rows.push_rows.Goals as goal
 use Rattle.index_check.proofs.rows.push_rows.Goals.{then-is_live+in_ok-doc+in_ok-push, else-is_live}
 
@@ -22,5 +22,5 @@ loop-row-preserved c =
           row_put seg docs live c.loop-row.row c.loop-row.rows.items _ lt long c.loop-row.invariant w.in_ok-doc.doc c.if-is_live.rows.items (sym w.if-is_live.true ∙ c.is_live.ensures) w.in_ok-doc.ensures put
       | else-is_live w ↦
           let passed = row_passed seg docs live c.loop-row.row c.loop-row.rows.items _ lt long c.loop-row.invariant no_doc (sym w.if-is_live.false ∙ c.is_live.ensures) in
-          ?
+          ap (λ (v : Vec LiveRow Global). v.items ++ rows_from seg (drop (c.loop-row.row + 1) docs) (drop (c.loop-row.row + 1) live)) w.rows-is ∙ passed
     ]

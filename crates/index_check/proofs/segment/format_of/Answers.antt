@@ -12,8 +12,8 @@ second : (number : ℕ) (format : Format) → (number ≡ 1 → ⊥) → number 
 second number One a e = absurd (a e)
 second number Two a e = refl
 
-pub returns-then-number : goal.returns-then-number
-returns-then-number c format e = first c.args.number format ? e
+pub returns-then-number-eq1 : goal.returns-then-number-eq1
+returns-then-number-eq1 c format e = first c.args.number format (omega (arith, c.if-number-eq1.true)) e
 
-pub returns-else-number : goal.returns-else-number
-returns-else-number c format e = second c.args.number format ? e
+pub returns-else-number-eq1 : goal.returns-else-number-eq1
+returns-else-number-eq1 c format e = second c.args.number format (λ h. omega (arith, h, c.if-number-eq1.false)) e

@@ -14,4 +14,4 @@ returns-in_err-parts-clause-exact g c =
 
 pub returns-clause-exact : goal.returns-clause-exact
 returns-clause-exact g c =
-    in_directory (reads_of (g.D.Dir.cells c.args.dir.now)) c.args.record.now c.in_ok-parts.parts c.checked_segment.result c.requires c.in_ok-parts.ensures.parts c.checked_segment.ensures
+    in_directory (reads_of (g.D.Dir.cells c.args.dir.now)) c.args.record.now c.in_ok-parts.parts c.checked_segment.result c.requires c.in_ok-parts.ensures.parts c.checked_segment.ensures.exact

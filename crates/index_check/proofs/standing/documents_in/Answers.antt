@@ -5,8 +5,8 @@ use Rattle.index_check.specs.declared.rows.LiveRow.{LiveRow}
 use Rattle.index_check.specs.Rows.{HaveOwnKeys, IsFirstTwin, AreOwnDocuments}
 use Rattle.index_check.proofs.standing.documents_in.Goals as goal
 
-pub returns-in-Some-clause-fault : goal.returns-in-Some-clause-fault
-returns-in-Some-clause-fault c =
+pub returns-in_ok-key-in-Some-clause-fault : goal.returns-in_ok-key-in-Some-clause-fault
+returns-in_ok-key-in-Some-clause-fault c =
     let twin = rw c.in-Some.is at c.in_ok-first_twin.ensures in
     inr (record {
       twin = c.in-Some.twin.now;
@@ -15,8 +15,8 @@ returns-in-Some-clause-fault c =
       key_is = c.in_ok-key.ensures;
     })
 
-pub returns-in-None-clause-docs : goal.returns-in-None-clause-docs
-returns-in-None-clause-docs c =
+pub returns-in_ok-docs-in-None-clause-docs : goal.returns-in_ok-docs-in-None-clause-docs
+returns-in_ok-docs-in-None-clause-docs c =
     let own = rw c.in-None.is at c.in_ok-first_twin.ensures in
     record {
       own = subst HaveOwnKeys c.as_slice.ensures.value own;
