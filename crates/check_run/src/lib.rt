@@ -4,9 +4,12 @@
 mod checking;
 mod directory;
 mod line;
+mod words;
 
 pub use checking::{Checked, check_image};
 pub use index_check::{CheckFault, ImageFault};
+pub use line::name_and_number;
+pub use words::words_of;
 
 #[cfg(test)]
 mod tests;
