@@ -4,8 +4,6 @@
 #[cfg(test)]
 mod names;
 #[cfg(test)]
-mod postings;
-#[cfg(test)]
 mod small_types;
 #[cfg(test)]
 mod streams;

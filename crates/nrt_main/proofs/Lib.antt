@@ -1,4 +1,3 @@
 pub mod Writes
 pub mod PlainScripts
 pub mod AnswerLaws
-pub mod FrameAnswers

@@ -1,5 +1,3 @@
 pub mod Headline
-pub mod Frames
-pub mod Rows
 pub mod Statuses
 pub mod TopCalls

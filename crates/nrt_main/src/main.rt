@@ -1,4 +1,4 @@
-//! The program: it runs a script and writes its report, or tells the messages of a stream.
+//! The program: it runs a script and writes its report.
 #![tactic(auto)]
 
 ghost use Rattle.std.specs.Prelude.{◌≡◌};
@@ -13,7 +13,7 @@ mod tests;
 mod top;
 mod writing;
 
-use crate::message::{line_of, stream_cause, unknown_word};
+use crate::message::{line_of, unknown_word};
 use crate::standard::{StdSink, StdSource};
 use crate::status::Status;
 use crate::top::run_nrt;
@@ -62,18 +62,11 @@ fn explain_line(rt: &HostRuntime, line: &str, cause: LineFault) -> io::Result<()
 /// Says on standard error why nothing was run.
 fn explain(rt: &HostRuntime, status: Status, script: &[u8]) -> io::Result<()> {
     match status {
-        Status::Usage => {
-            eprintln!(rt; "usage: nrt run < SCRIPT")?;
-            eprintln!(rt; "       nrt frames < STREAM")
-        }
+        Status::Usage => eprintln!(rt; "usage: nrt run < SCRIPT"),
         Status::BadScript(line, cause) => {
             eprintln!(rt; "line {} cause {}", line.0, cause_number(cause))?;
             eprint!(rt; "nrt: line {}: ", line.0)?;
             explain_line(rt, line_of(script, line), cause)
-        }
-        Status::BadStream(cause) => {
-            eprintln!(rt; "bad stream, cause {}", cause)?;
-            eprintln!(rt; "nrt: {}", stream_cause(cause))
         }
         _ => Ok(()),
     }

@@ -7,23 +7,20 @@ use script_text::LineFault;
 /// What the program answers.
 #[derive(Clone, Copy, Debug, PartialEq, Eq)]
 pub enum Status {
-    /// The source was read to its end, and the text of what it gave fully written.
+    /// The script was read to its end and run, and its report fully written.
     Done,
-    /// The words are no row of the table.
+    /// The words are not `run`.
     Usage,
     /// This line is the first that is refused, for this cause.
     BadScript(LineNo, LineFault),
     /// The source failed.
     ReadFault,
-    /// The sink failed; a part of the text from its front is written.
+    /// The sink failed; a part of the report from its front is written.
     WriteFault,
     /// Want of memory.
     Memory,
     /// The source has more than 16,777,216 bytes.
     TooLarge,
-    /// The stream is bad: its first faulty frame has a wrong length (1), a wrong kind (2) or a wrong body (3), or it ends
-    /// within a frame (4).
-    BadStream(u8),
 }
 
 impl Status {
@@ -39,7 +36,6 @@ impl Status {
             Status::WriteFault => 5,
             Status::Memory => 6,
             Status::TooLarge => 7,
-            Status::BadStream(_) => 10,
         }
     }
 }

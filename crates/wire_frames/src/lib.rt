@@ -13,6 +13,3 @@ pub use decoder::Decoder;
 pub use encoding::encode;
 pub use message::{Message, StateFault, WireFault};
 pub use states::{state_messages, state_of};
-
-#[cfg(test)]
-mod tests;
