@@ -67,13 +67,13 @@ moved want other a b found e f k = subst (λ (w : Wanted). IsChecked w b found) 
 abbrev pub Tells : {E : Type 0} → (FileFault → E) → Type 0
 Tells {E} told = (a b : FileFault) → told a ≡ told b → a ≡ b
 
-same_fault : (a b : FrameFault) → ◌≡◌ {A = FileFault} (Frame a) (Frame b) → a ≡ b
+pub same_fault : (a b : FrameFault) → ◌≡◌ {A = FileFault} (Frame a) (Frame b) → a ≡ b
 same_fault a b e = cc
 
-kinds : (a : FrameFault) → ◌≡◌ {A = FileFault} (Frame a) Body → ⊥
+pub kinds : (a : FrameFault) → ◌≡◌ {A = FileFault} (Frame a) Body → ⊥
 kinds a e = cc
 
-not_ok : (found : Result Framed FrameFault) (fault : FrameFault) (P : Framed → Type 0) → found ≡ Err fault → IsOkAnd found P → ⊥
+pub not_ok : (found : Result Framed FrameFault) (fault : FrameFault) (P : Framed → Type 0) → found ≡ Err fault → IsOkAnd found P → ⊥
 not_ok found fault P e h = subst (λ (r : Result Framed FrameFault). IsOkAnd r P) e h
 
 pub err_of : {X E : Type 0} (result : Result X E) (e : E) → IsErrAnd result (λ x. x ≡ e) → result ≡ Err e

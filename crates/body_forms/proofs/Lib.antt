@@ -1,5 +1,5 @@
 pub mod Formats
-pub mod VIntLemmas
+mod VIntLemmas
 pub mod Numerals
 pub mod NumberLaws
 pub mod Loops

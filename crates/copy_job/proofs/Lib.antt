@@ -1,7 +1,7 @@
-pub mod Arrivals
+mod Arrivals
 pub mod Placings
-pub mod Naming
+mod Naming
 mod Lookups
 mod TestLaws
-pub mod Kept
+mod Kept
 pub mod Points

@@ -1,5 +1,5 @@
 pub mod DocumentLemmas
 pub mod InOrderLemmas
-pub mod WordLemmas
+mod WordLemmas
 pub mod MatchingLemmas
 pub mod RankLemmas

@@ -1,6 +1,6 @@
 pub mod Base36Lemmas
 pub mod NameLaws
-pub mod NameLemmas
-pub mod ReadingLemmas
-pub mod SpellingLemmas
+mod NameLemmas
+mod ReadingLemmas
+mod SpellingLemmas
 pub mod NameReading

@@ -17,7 +17,7 @@ use Rattle.history_tables.specs.declared.rows.NodeRow.{NodeRow}
 use Rattle.history_tables.specs.declared.lines.Begun.{Begun}
 use Rattle.history_tables.specs.declared.lines.LineRow.{LineRow}
 use Rattle.history_tables.specs.declared.tickets.TicketRow.{TicketRow}
-use Rattle.history_tables.specs.Begins.{event_of, open_line, row_of, begun_by}
+use Rattle.history_tables.specs.Begins.{event_of, open_line, begun_under, begun_by}
 use Rattle.history_tables.specs.Numbering.{NumbersTell, IsFound}
 use Rattle.history_tables.specs.NodeRows.{NodeTells, IsTold, RowsTell, AreRowsLow}
 use Rattle.history_tables.specs.WorkRows.{IsCommitter}
@@ -76,7 +76,7 @@ pub tells_next : (size : ℕ) (past : Past) (at : At) (e : Event) (count : ℕ) 
     → ((p : Past) → length p ≡ count → IsFound at p e started → NumbersTell p k → NumbersTell (record { at = at; event = e } ∷ p) k') → IsFound at past e started
     → length rows' ≡ length rows
     → ((p : Past) → IsTold p at e count k.primary line → RowsTell p rows → RowsTell (record { at = at; event = e } ∷ p) rows') → IsCommitter at past e line
-    → ((b : At) → row_of lines' b ≡ (if same_at at b then begun_by e count k.accepted (row_of lines b) else row_of lines b))
+    → ((b : At) → begun_under lines' b ≡ (if same_at at b then begun_by e count k.accepted (begun_under lines b) else begun_under lines b))
     → ((p : Past) (l t : ℕ) → IsLife e p life → opened_of tickets' l t ≡ ticket_by l t at e p (opened_of tickets l t)) → IsLife e past life
     → Tells (record { at = at; event = e } ∷ past) size (count + 1) k' rows' lines' tickets'
 tells_next size past at e count k k' rows rows' lines lines' tickets tickets' started life line t keeps turn numbers found same nodes commit step ticket lived = record {

@@ -24,7 +24,7 @@ use Rattle.history_tables.specs.declared.jobs.Job.{Job}
 use Rattle.history_tables.specs.declared.jobs.JobRow.{JobRow}
 use Rattle.history_tables.specs.declared.jobs.JobStep.{JobStep}
 use Rattle.history_tables.specs.declared.jobs.JobStep.TheVariants.{Begins, Ends, Passes}
-use Rattle.history_tables.specs.JobRows.{first_row, is_going, row_by, row_if_some, last_job_by, while_going}
+use Rattle.history_tables.specs.JobRows.{new_job_row, is_going, row_by, row_if_some, last_job_by, while_going}
 use Rattle.history_book.specs.Jobs.{job_step, last_job, job_at, job_of, StartsJob, IsOlder, MayBeginJob, IsInside, AreInside, IsCancelled, LaneJobShows}
 use Rattle.history_book.specs.Log.{Log, printed}
 use Rattle.history_book.specs.Turns.{StartsOnce, InTurn, AreInTurn}
@@ -59,7 +59,7 @@ going_apart job r going =
 going_more : (s : JobStep) (before : ℕ) (log : Log) (r : JobRow) → is_going (row_by s r) ≡ true → last_job false r.job.node.0 log ≡ Some r
     → last_job_by false r.job.node.0 s before (last_job false r.job.node.0 log) ≡ Some (row_by s r)
 going_more (Begins job) before log r going was =
-    ap (λ (b : Bool). if b then Some (first_row job before) else row_if_some (Begins job) (last_job false r.job.node.0 log)) (going_apart job r going) ∙ ap (row_if_some (Begins job)) was
+    ap (λ (b : Bool). if b then Some (new_job_row job before) else row_if_some (Begins job) (last_job false r.job.node.0 log)) (going_apart job r going) ∙ ap (row_if_some (Begins job)) was
 going_more (Ends n number) before log r going was = ap (row_if_some (Ends n number)) was
 going_more Passes before log r going was = ap (row_if_some Passes) was
 
@@ -80,12 +80,12 @@ going_step : (lane : ℕ) (s : JobStep) (before : ℕ) (log : Log) (row : JobRow
     → last_job_by false row.job.node.0 s before (last_job false row.job.node.0 log) ≡ Some row
 going_step lane (Begins job) before log row is going was = begins (job.at.lane.0 == lane) is
   where
-    begins : (b : Bool) → (if b then Some (first_row job before) else row_if_some (Begins job) (last_job true lane log)) ≡ Some row
+    begins : (b : Bool) → (if b then Some (new_job_row job before) else row_if_some (Begins job) (last_job true lane log)) ≡ Some row
         → last_job_by false row.job.node.0 (Begins job) before (last_job false row.job.node.0 log) ≡ Some row
     begins true new =
-        let made : first_row job before ≡ row = cc in
+        let made : new_job_row job before ≡ row = cc in
         subst (λ (x : JobRow). last_job_by false x.job.node.0 (Begins job) before (last_job false x.job.node.0 log) ≡ Some x) made
-        (ap (λ (b : Bool). if b then Some (first_row job before) else row_if_some (Begins job) (last_job false job.node.0 log)) (eq-eqb job.node.0 job.node.0 refl))
+        (ap (λ (b : Bool). if b then Some (new_job_row job before) else row_if_some (Begins job) (last_job false job.node.0 log)) (eq-eqb job.node.0 job.node.0 refl))
     begins false old = going_old (Begins job) before log (last_job true lane log) row old going was
 going_step lane (Ends n number) before log row is going was = going_old (Ends n number) before log (last_job true lane log) row is going was
 going_step lane Passes before log row is going was = going_old Passes before log (last_job true lane log) row is going was
@@ -302,7 +302,7 @@ shows_more size past e row keeps legal turn s =
     }
 
 -- what the log shows of a job that begins
-shows_new : (size : ℕ) (log : Log) (job : Job) → IsLegalPast size (printed log) → MayBeginJob size log job.at job.node.0 job.version.0 → LaneJobShows size (printed log) (first_row job (length (printed log)))
+shows_new : (size : ℕ) (log : Log) (job : Job) → IsLegalPast size (printed log) → MayBeginJob size log job.at job.node.0 job.version.0 → LaneJobShows size (printed log) (new_job_row job (length (printed log)))
 shows_new size log job legal may = record {
   node = may.node;
   started = may.started;
@@ -367,8 +367,8 @@ lane_by lane s before old row is was = steps s is
     steps : (s' : JobStep) → last_job_by true lane s' before old ≡ Some row → row.job.at.lane.0 ≡ lane
     steps (Begins job) got = begins (job.at.lane.0 == lane) refl got
       where
-        begins : (b : Bool) → (job.at.lane.0 == lane) ≡ b → (if b then Some (first_row job before) else row_if_some (Begins job) old) ≡ Some row → row.job.at.lane.0 ≡ lane
-        begins true here new = let made : first_row job before ≡ row = cc in ap (λ (x : JobRow). x.job.at.lane.0) (sym made) ∙ eqb-true job.at.lane.0 lane here
+        begins : (b : Bool) → (job.at.lane.0 == lane) ≡ b → (if b then Some (new_job_row job before) else row_if_some (Begins job) old) ≡ Some row → row.job.at.lane.0 ≡ lane
+        begins true here new = let made : new_job_row job before ≡ row = cc in ap (λ (x : JobRow). x.job.at.lane.0) (sym made) ∙ eqb-true job.at.lane.0 lane here
         begins false other new = goes (Begins job) old refl new
     steps (Ends n number) got = goes (Ends n number) old refl got
     steps Passes got = goes Passes old refl got
@@ -479,10 +479,10 @@ kept_step size lane log (JobBegun line n number (Some v) (Some at)) legal turns 
         (λ mine going alive source. cancels size log job r legal turns inside.1 s (apart_at at r.job.at lane other (lane_is lane log r there)) (eqb-true r.job.node.0 n.0 mine) going
         (going_at lane log r there going) alive source))
 
-    begins : (b : Bool) → (at.lane.0 == lane) ≡ b → (if b then Some (first_row job (length (printed log))) else row_if_some (Begins job) (last_job true lane log)) ≡ Some row
+    begins : (b : Bool) → (at.lane.0 == lane) ≡ b → (if b then Some (new_job_row job (length (printed log))) else row_if_some (Begins job) (last_job true lane log)) ≡ Some row
         → LaneJobShows size (printed log) row
     begins true here new =
-        let made : first_row job (length (printed log)) ≡ row = cc in
+        let made : new_job_row job (length (printed log)) ≡ row = cc in
         subst (λ (x : JobRow). LaneJobShows size (printed log) x) made (shows_new size log job legal inside.1)
     begins false other old = goes other (last_job true lane log) refl old
 kept_step size lane log (JobEnd line n number) legal turns inside was row is = goes (last_job true lane log) refl is

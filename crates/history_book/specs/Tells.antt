@@ -9,7 +9,7 @@ use Rattle.history_tables.specs.declared.numbers.Numbers.{Numbers}
 use Rattle.history_tables.specs.declared.rows.NodeRow.{NodeRow}
 use Rattle.history_tables.specs.declared.lines.LineRow.{LineRow}
 use Rattle.history_tables.specs.declared.tickets.TicketRow.{TicketRow}
-use Rattle.history_tables.specs.Begins.{open_line, row_of}
+use Rattle.history_tables.specs.Begins.{open_line, begun_under}
 use Rattle.history_tables.specs.Numbering.{NumbersTell}
 use Rattle.history_tables.specs.NodeRows.{RowsTell}
 use Rattle.history_tables.specs.Openings.{opened_of}
@@ -25,7 +25,7 @@ pub record Tells (past : Past) (size count : ℕ) (numbers : Numbers) (rows : Li
   pub nodes : length rows ≡ size
   pub numbers_tell : NumbersTell past numbers
   pub rows_tell : RowsTell past rows
-  pub lines_tell : (at : At) → row_of lines at ≡ open_line at past
+  pub lines_tell : (at : At) → begun_under lines at ≡ open_line at past
   pub tickets_tell : (lane t : ℕ) → opened_of tickets lane t ≡ last_opened lane t past
 
 -- each entry has its stop, and each fault of a merge's task follows the start of its merge

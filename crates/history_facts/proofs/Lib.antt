@@ -1,3 +1,3 @@
-pub mod DrawnLemmas
+mod DrawnLemmas
 pub mod TicketLemmas
 pub mod WrittenLemmas

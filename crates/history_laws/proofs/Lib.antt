@@ -1,6 +1,6 @@
-pub mod AnswerLemmas
+mod AnswerLemmas
 pub mod PastLemmas
 pub mod NodeLemmas
-pub mod CommitLemmas
-pub mod LawLemmas
+mod CommitLemmas
+mod LawLemmas
 pub mod PointLemmas

@@ -22,7 +22,7 @@ use Rattle.history_book.specs.declared.inner.Inner.{Inner}
 use Rattle.history_book.specs.declared.inner.Inner.TheVariants.{MergeEnd}
 use Rattle.history_book.proofs.LineLaws.{without_some, fresh_apart, flying}
 use Rattle.history_merges.specs.declared.merges.MergeRow.{MergeRow}
-use Rattle.history_merges.specs.Merging.{Table, line_of, cut_after, merge_by, merge_on, next_name, one_if, MergesShow, ends_reign, is_apart, ends_no_merge}
+use Rattle.history_merges.specs.Merging.{MergeTable, line_of, cut_after, merge_by, merge_on, next_name, cut_overs, MergesShow, ends_reign, is_apart, ends_no_merge}
 
 -- the publish in flight after such an entry was so before, and started where it did
 flight_back : (size : ℕ) (past : Past) (x : At) (e : Event) (at : At) → IsLegalPast size past → AreInTurn past → InTurn past x e → is_apart e ≡ true
@@ -70,7 +70,7 @@ merge_apart seg x (Merging s) p old apart reigns = absurd (true≢false (sym apa
 merge_apart seg x e p old apart reigns = ap (λ (b : Bool). if b then None else old) reigns
 
 -- what a table shows is shown where merges, numbers, primary and publish are as they were
-stays : (log now : Log) (t : Table) → ((seg : ℕ) → merge_on seg now ≡ merge_on seg log) → NumbersStay (printed now) (printed log) → primary_of (printed now) ≡ primary_of (printed log)
+stays : (log now : Log) (t : MergeTable) → ((seg : ℕ) → merge_on seg now ≡ merge_on seg log) → NumbersStay (printed now) (printed log) → primary_of (printed now) ≡ primary_of (printed log)
     → ((at : At) → publish_in_flight (printed now) ≡ Some at → (publish_in_flight (printed log) ≡ Some at) × (before_start at (printed now) ≡ before_start at (printed log)))
     → MergesShow log t → MergesShow now t
 stays log now t same n primary back s = record {
@@ -86,33 +86,33 @@ stays log now t same n primary back s = record {
 }
 
 -- most entries leave the merges in flight as they are
-pub merges_still : (size : ℕ) (log : Log) (t : Table) (x : At) (e : Event) → IsLegalPast size (printed log) → AreInTurn (printed log) → InTurn (printed log) x e → is_apart e ≡ true → ends_reign e (primary_of (printed log)) ≡ false
+pub merges_still : (size : ℕ) (log : Log) (t : MergeTable) (x : At) (e : Event) → IsLegalPast size (printed log) → AreInTurn (printed log) → InTurn (printed log) x e → is_apart e ≡ true → ends_reign e (primary_of (printed log)) ≡ false
     → MergesShow log t → MergesShow (shown x e ∷ log) t
 merges_still size log t x e legal turns turn apart reigns s =
     stays log (shown x e ∷ log) t (λ seg. merge_apart seg x e (primary_of (printed log)) (merge_on seg log) apart reigns) (numbers_apart x (printed log) e apart)
     (primary_apart e (primary_of (printed log)) apart reigns) (λ at is. flight_back size (printed log) x e at legal turns turn apart is) s
 
 -- so does a fault of a merge's task
-pub merges_faulted : (log : Log) (t : Table) (x : At) (n : NodeNo) (kind : FaultKind) → MergesShow log t → MergesShow (mark_for true (record { at = x; event = Fault n kind }) ∷ log) t
+pub merges_faulted : (log : Log) (t : MergeTable) (x : At) (n : NodeNo) (kind : FaultKind) → MergesShow log t → MergesShow (mark_for true (record { at = x; event = Fault n kind }) ∷ log) t
 merges_faulted log t x n kind s = record { lines = s.lines; names = s.names; paid = s.paid; flight = s.flight; vacant = s.vacant }
 
 -- and an entry of inner work that ends no merge
-pub merges_kept : (log : Log) (t : Table) (i : Inner) → ends_no_merge i ≡ true → MergesShow log t → MergesShow (kept i ∷ log) t
+pub merges_kept : (log : Log) (t : MergeTable) (i : Inner) → ends_no_merge i ≡ true → MergesShow log t → MergesShow (kept i ∷ log) t
 merges_kept log t (MergeEnd seg) apart s = absurd (true≢false (sym apart))
 merges_kept log t i apart s = record { lines = s.lines; names = s.names; paid = s.paid; flight = s.flight; vacant = s.vacant }
 
 -- the room of a table says nothing of merges
-pub merges_same : (log : Log) (t new : Table) → new.rows ≡ t.rows → new.cut ≡ t.cut → MergesShow log t → MergesShow log new
+pub merges_same : (log : Log) (t new : MergeTable) → new.rows ≡ t.rows → new.cut ≡ t.cut → MergesShow log t → MergesShow log new
 merges_same log t new rows cut s = record {
   lines = λ seg. ap (λ (l : List MergeRow). line_of l seg) rows ∙ s.lines seg;
   names = s.names;
-  paid = let p = s.paid in let r : length new.rows ≡ length t.rows = ap length rows in let c : one_if new.cut ≡ one_if t.cut = ap one_if cut in omega arith;
+  paid = let p = s.paid in let r : length new.rows ≡ length t.rows = ap length rows in let c : cut_overs new.cut ≡ cut_overs t.cut = ap cut_overs cut in omega arith;
   flight = λ at is low. cut ∙ s.flight at is low;
   vacant = λ none. (rows ∙ (s.vacant none).0, cut ∙ (s.vacant none).1);
 }
 
 -- a publish starts where there is an operation to publish, or a cut-over
-pub merges_publishing : (log : Log) (t : Table) (x : At) → (length (operations_of_generation (printed log)) ≤ published_in_generation (printed log) → t.cut ≡ true) → MergesShow log t → MergesShow (shown x Publishing ∷ log) t
+pub merges_publishing : (log : Log) (t : MergeTable) (x : At) → (length (operations_of_generation (printed log)) ≤ published_in_generation (printed log) → t.cut ≡ true) → MergesShow log t → MergesShow (shown x Publishing ∷ log) t
 merges_publishing log t x some s = record {
   lines = s.lines;
   names = λ seg on. more seg (cut_has_put (printed log)) (s.names seg on);
@@ -131,24 +131,24 @@ merges_publishing log t x some s = record {
     more seg false low = low
 
 -- the rule of a publish that ends: those that add nothing are no more than merges
-pub publish_paid : (log : Log) (t : Table) (x : At) (g : Gen) (v : Version) → publish_in_flight (printed log) ≡ Some x → MergesShow log t
+pub publish_paid : (log : Log) (t : MergeTable) (x : At) (g : Gen) (v : Version) → publish_in_flight (printed log) ≡ Some x → MergesShow log t
     → idle_publishes (record { at = x; event = Published g v } ∷ printed log) + length t.rows ≤ merges_started (printed log)
 publish_paid log t x g v is s = tests (adds_none x (printed log)) refl
   where
     tests : (b : Bool) → adds_none x (printed log) ≡ b → (if b then idle_publishes (printed log) + 1 else idle_publishes (printed log)) + length t.rows ≤ merges_started (printed log)
     tests true idle =
         let low : accepted_at_start x (printed log) ≤ published_in_generation (printed log) = grind (arith, nat_tests) in
-        let paid : idle_publishes (printed log) + 1 + length t.rows ≤ merges_started (printed log) = subst (λ (b : Bool). idle_publishes (printed log) + one_if b + length t.rows ≤ merges_started (printed log)) (s.flight x is low) s.paid in
+        let paid : idle_publishes (printed log) + 1 + length t.rows ≤ merges_started (printed log) = subst (λ (b : Bool). idle_publishes (printed log) + cut_overs b + length t.rows ≤ merges_started (printed log)) (s.flight x is low) s.paid in
         paid
     tests false idle = let paid = s.paid in omega arith
 
-pub merges_published : (log : Log) (t new : Table) (x : At) (g : Gen) (v : Version) → publish_in_flight (printed log) ≡ Some x → new.rows ≡ t.rows → new.cut ≡ false → MergesShow log t
+pub merges_published : (log : Log) (t new : MergeTable) (x : At) (g : Gen) (v : Version) → publish_in_flight (printed log) ≡ Some x → new.rows ≡ t.rows → new.cut ≡ false → MergesShow log t
     → MergesShow (shown x (Published g v) ∷ log) new
 merges_published log t new x g v is rows cut s = record {
   lines = λ seg. ap (λ (l : List MergeRow). line_of l seg) rows ∙ s.lines seg;
   names = s.names;
   vacant = λ none. (rows ∙ (s.vacant none).0, cut);
-  paid = let p = publish_paid log t x g v is s in let r : length new.rows ≡ length t.rows = ap length rows in let c : one_if new.cut ≡ 0 = ap one_if cut in omega arith;
+  paid = let p = publish_paid log t x g v is s in let r : length new.rows ≡ length t.rows = ap length rows in let c : cut_overs new.cut ≡ 0 = ap cut_overs cut in omega arith;
   flight = λ at some low.
       let old = without_some x at (publish_in_flight (printed log)) some in
       let line : Some x ≡ Some at = sym is ∙ old.0 in
@@ -157,14 +157,14 @@ merges_published log t new x g v is rows cut s = record {
 }
 
 -- a merge starts, into the next name
-pub merges_begun : (log : Log) (t new : Table) (x : At) (seg : SegNo) → seg.0 ≡ next_name (printed log) → primary_of (printed log) ≢ None
+pub merges_begun : (log : Log) (t new : MergeTable) (x : At) (seg : SegNo) → seg.0 ≡ next_name (printed log) → primary_of (printed log) ≢ None
     → ((s : ℕ) → line_of new.rows s ≡ (if seg.0 == s then Some x else line_of t.rows s)) → length new.rows ≡ length t.rows + 1 → new.cut ≡ t.cut → MergesShow log t
     → MergesShow (shown x (Merging seg) ∷ log) new
 merges_begun log t new x seg next runs lines count cut s = record {
   vacant = λ none. absurd (runs none);
   lines = λ n. lines n ∙ ap (λ (o : Option At). if seg.0 == n then Some x else o) (s.lines n);
   names = λ n on. low n (seg.0 == n) refl on;
-  paid = let p = s.paid in let c : one_if new.cut ≡ one_if t.cut = ap one_if cut in omega arith;
+  paid = let p = s.paid in let c : cut_overs new.cut ≡ cut_overs t.cut = ap cut_overs cut in omega arith;
   flight = λ at some few.
       let old = without_some x at (publish_in_flight (printed log)) some in cut ∙ s.flight at old.0 few;
 }
@@ -174,7 +174,7 @@ merges_begun log t new x seg next runs lines count cut s = record {
     low n false apart on = let was = s.names n on in omega arith
 
 -- no merge is in flight into the next name
-pub next_free : (log : Log) (t : Table) (seg : SegNo) → seg.0 ≡ next_name (printed log) → MergesShow log t → line_of t.rows seg.0 ≡ None
+pub next_free : (log : Log) (t : MergeTable) (seg : SegNo) → seg.0 ≡ next_name (printed log) → MergesShow log t → line_of t.rows seg.0 ≡ None
 next_free log t seg next s = free (merge_on seg.0 log) refl
   where
     free : (o : Option At) → merge_on seg.0 log ≡ o → line_of t.rows seg.0 ≡ None
@@ -182,7 +182,7 @@ next_free log t seg next s = free (merge_on seg.0 log) refl
     free (Some at) is = let low = s.names seg.0 (λ none. absurd (let both : Some at ≡ None = sym is ∙ none in cc)) in absurd (omega arith)
 
 -- a merge ends; where it was cut over, no publish is in flight
-pub merges_ended : (log : Log) (t new : Table) (seg : SegNo) (cut : Bool) → line_of t.rows seg.0 ≢ None → (cut ≡ true → publish_in_flight (printed log) ≡ None)
+pub merges_ended : (log : Log) (t new : MergeTable) (seg : SegNo) (cut : Bool) → line_of t.rows seg.0 ≢ None → (cut ≡ true → publish_in_flight (printed log) ≡ None)
     → ((n : ℕ) → line_of new.rows n ≡ (if seg.0 == n then None else line_of t.rows n)) → length new.rows + 1 ≤ length t.rows → new.cut ≡ cut_after cut t.cut
     → MergesShow log t → MergesShow (kept (MergeEnd seg) ∷ log) new
 merges_ended log t new seg cut there calm lines fewer after s = record {
@@ -197,9 +197,9 @@ merges_ended log t new seg cut there calm lines fewer after s = record {
     ended n true none = refl
     ended n false none = none
 
-    paid : (c : Bool) → new.cut ≡ cut_after c t.cut → idle_publishes (printed log) + one_if new.cut + length new.rows ≤ merges_started (printed log)
-    paid true is = let p = s.paid in let one : one_if new.cut ≡ 1 = ap one_if is in omega arith
-    paid false is = let p = s.paid in let one : one_if new.cut ≡ one_if t.cut = ap one_if is in omega arith
+    paid : (c : Bool) → new.cut ≡ cut_after c t.cut → idle_publishes (printed log) + cut_overs new.cut + length new.rows ≤ merges_started (printed log)
+    paid true is = let p = s.paid in let one : cut_overs new.cut ≡ 1 = ap cut_overs is in omega arith
+    paid false is = let p = s.paid in let one : cut_overs new.cut ≡ cut_overs t.cut = ap cut_overs is in omega arith
 
     flight : (c : Bool) → new.cut ≡ cut_after c t.cut → (c ≡ true → publish_in_flight (printed log) ≡ None) → (at : At) → publish_in_flight (printed log) ≡ Some at
         → accepted_at_start at (printed log) ≤ published_in_generation (printed log) → new.cut ≡ true
@@ -207,28 +207,28 @@ merges_ended log t new seg cut there calm lines fewer after s = record {
     flight false is none at some low = is ∙ s.flight at some low
 
 -- a crash of the primary ends its merges
-pub merges_crashed : (log : Log) (t new : Table) (x : At) (m : NodeNo) → is_at (primary_of (printed log)) m.0 ≡ true → new.rows ≡ [] → new.cut ≡ false → MergesShow log t → MergesShow (shown x (Crashed m) ∷ log) new
+pub merges_crashed : (log : Log) (t new : MergeTable) (x : At) (m : NodeNo) → is_at (primary_of (printed log)) m.0 ≡ true → new.rows ≡ [] → new.cut ≡ false → MergesShow log t → MergesShow (shown x (Crashed m) ∷ log) new
 merges_crashed log t new x m here rows cut s = record {
   lines = λ seg. ap (λ (l : List MergeRow). line_of l seg) rows ∙ sym (ap (λ (b : Bool). if b then None else merge_on seg log) here);
   names = λ seg on. absurd (on (ap (λ (b : Bool). if b then None else merge_on seg log) here));
-  paid = let p = s.paid in let r : length new.rows ≡ 0 = ap length rows in let c : one_if new.cut ≡ 0 = ap one_if cut in omega arith;
+  paid = let p = s.paid in let r : length new.rows ≡ 0 = ap length rows in let c : cut_overs new.cut ≡ 0 = ap cut_overs cut in omega arith;
   flight = λ at is low. let none : publish_in_flight (record { at = x; event = Crashed m } ∷ printed log) ≡ None = ap (λ (b : Bool). if b then None else without_at x (publish_in_flight (printed log))) here in absurd (cc);
   vacant = λ none. (rows, cut);
 }
 
 -- a new generation has no merge
-pub merges_promoted : (size : ℕ) (log : Log) (t : Table) (x : At) (m : NodeNo) (g : Gen) (f v : Version) → IsLegalPast size (printed log) → AreInTurn (printed log) → primary_of (printed log) ≡ None → MergesShow log t → MergesShow (shown x (Promoted m g f v) ∷ log) t
+pub merges_promoted : (size : ℕ) (log : Log) (t : MergeTable) (x : At) (m : NodeNo) (g : Gen) (f v : Version) → IsLegalPast size (printed log) → AreInTurn (printed log) → primary_of (printed log) ≡ None → MergesShow log t → MergesShow (shown x (Promoted m g f v) ∷ log) t
 merges_promoted size log t x m g f v legal turns none s =
     let v0 = s.vacant none in
     let lines0 : (seg : ℕ) → merge_on seg log ≡ None = λ seg. sym (s.lines seg) ∙ ap (λ (l : List MergeRow). line_of l seg) v0.0 in
     record {
       lines = s.lines;
       names = λ seg on. absurd (on (lines0 seg));
-      paid = let rows : length t.rows ≡ 0 = ap length v0.0 in let cut : one_if t.cut ≡ 0 = ap one_if v0.1 in omega arith;
+      paid = let rows : length t.rows ≡ 0 = ap length v0.0 in let cut : cut_overs t.cut ≡ 0 = ap cut_overs v0.1 in omega arith;
       flight = λ at is low. let old = without_some x at (publish_in_flight (printed log)) is in absurd ((flying size (printed log) at legal turns old.0).runs none);
       vacant = λ is. absurd (cc);
     }
 
 -- what is shown at the start of a publish: an operation, or a merge that none took
-pub publish_some : (log : Log) (t : Table) → t.cut ≡ true → MergesShow log t → idle_publishes (printed log) < merges_started (printed log)
-publish_some log t cut s = let p = s.paid in let one : one_if t.cut ≡ 1 = ap one_if cut in omega arith
+pub publish_some : (log : Log) (t : MergeTable) → t.cut ≡ true → MergesShow log t → idle_publishes (printed log) < merges_started (printed log)
+publish_some log t cut s = let p = s.paid in let one : cut_overs t.cut ≡ 1 = ap cut_overs cut in omega arith

@@ -15,7 +15,7 @@ use Rattle.history_book.specs.Log.{Log, printed}
 use Rattle.history_merges.specs.declared.merges.MergeRow.{MergeRow}
 
 -- rows of merges, and whether one was cut over since the last point
-pub record Table : Type 0 where
+pub record MergeTable : Type 0 where
   pub rows : List MergeRow
   pub cut : Bool
   pub room : ℕ
@@ -51,15 +51,15 @@ merge_on seg (Kept i ∷ log) = elim i [ MergeEnd s ↦ if s.0 == seg then None 
 abbrev pub next_name : Past → ℕ
 next_name past = segment_number (generation_of past) (names_drawn past)
 
-abbrev pub one_if : Bool → ℕ
-one_if true = 1
-one_if false = 0
+abbrev pub cut_overs : Bool → ℕ
+cut_overs true = 1
+cut_overs false = 0
 
 -- what a table of merges shows of the list: each publish that adds no operation is paid by a merge that was cut over
-pub record MergesShow (log : Log) (t : Table) : Type 0 where
+pub record MergesShow (log : Log) (t : MergeTable) : Type 0 where
   pub lines : (seg : ℕ) → line_of t.rows seg ≡ merge_on seg log
   pub names : (seg : ℕ) → merge_on seg log ≢ None → seg < next_name (printed log)
-  pub paid : idle_publishes (printed log) + one_if t.cut + length t.rows ≤ merges_started (printed log)
+  pub paid : idle_publishes (printed log) + cut_overs t.cut + length t.rows ≤ merges_started (printed log)
   pub flight : (at : At) → publish_in_flight (printed log) ≡ Some at
       → accepted_at_start at (printed log) ≤ published_in_generation (printed log) → t.cut ≡ true
   pub vacant : primary_of (printed log) ≡ None → (t.rows ≡ []) × (t.cut ≡ false)

@@ -24,9 +24,9 @@ pub struct Merges {
 
 impl Model for Merges {
     ghost use Rattle.std.specs.Prelude.{vec_capacity, vec_len, ◌-◌};
-    ghost use Rattle.history_merges.specs.Merging.{Table};
+    ghost use Rattle.history_merges.specs.Merging.{MergeTable};
 
-    ghost Value = { Table };
+    ghost Value = { MergeTable };
 
     ghost view = { λ m. record { rows = m.rows.items; cut = m.cut; room = vec_capacity m.rows - vec_len m.rows } };
 }

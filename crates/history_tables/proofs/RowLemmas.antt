@@ -11,7 +11,7 @@ use Rattle.history_entries.specs.Lines.{same_at}
 use Rattle.history_tables.specs.declared.lines.Begun.{Begun}
 use Rattle.history_tables.specs.declared.lines.LineRow.{LineRow}
 use Rattle.history_tables.specs.declared.tickets.TicketRow.{TicketRow}
-use Rattle.history_tables.specs.Begins.{row_of}
+use Rattle.history_tables.specs.Begins.{begun_under}
 use Rattle.history_tables.specs.Openings.{opened_of, ticket_of}
 
 -- a fact by which way a test went
@@ -22,7 +22,7 @@ by_test false P f g = g refl
 pub same_at_self : (at : At) → same_at at at ≡ true
 same_at_self at = grind (arith, nat_tests)
 
-row_without : (rows : List LineRow) (at b : At) → row_of (filter (λ r. not (same_at r.at at)) rows) b ≡ (if same_at at b then None else row_of rows b)
+row_without : (rows : List LineRow) (at b : At) → begun_under (filter (λ r. not (same_at r.at at)) rows) b ≡ (if same_at at b then None else begun_under rows b)
 row_without [] at b = grind (arith, nat_tests)
 row_without (r ∷ rows) at b = grind (arith, nat_tests, row_without rows at b)
 
@@ -30,25 +30,25 @@ opened_without : (rows : List TicketRow) (lane number l t : ℕ) → opened_of (
 opened_without [] lane number l t = grind (arith, nat_tests)
 opened_without (r ∷ rows) lane number l t = grind (arith, nat_tests, opened_without rows lane number l t)
 
-pub row_kept : (old new : List LineRow) (at b : At) → new ≡ filter (λ r. not (same_at r.at at)) old → row_of new b ≡ (if same_at at b then None else row_of old b)
-row_kept old new at b e = ap (λ rows. row_of rows b) e ∙ row_without old at b
+pub row_kept : (old new : List LineRow) (at b : At) → new ≡ filter (λ r. not (same_at r.at at)) old → begun_under new b ≡ (if same_at at b then None else begun_under old b)
+row_kept old new at b e = ap (λ rows. begun_under rows b) e ∙ row_without old at b
 
 pub opened_kept : (old new : List TicketRow) (lane number l t : ℕ) → new ≡ filter (λ r. not ((r.lane.0 == lane) && (r.number.0 == number))) old → opened_of new l t ≡ (if (lane == l) && (number == t) then None else opened_of old l t)
 opened_kept old new lane number l t e = ap (λ rows. opened_of rows l t) e ∙ opened_without old lane number l t
 
-row_end : (rows : List LineRow) (r : LineRow) (b : At) → row_of rows r.at ≡ None → row_of (rows ++ r ∷ []) b ≡ (if same_at r.at b then Some r.begun else row_of rows b)
+row_end : (rows : List LineRow) (r : LineRow) (b : At) → begun_under rows r.at ≡ None → begun_under (rows ++ r ∷ []) b ≡ (if same_at r.at b then Some r.begun else begun_under rows b)
 row_end [] r b fresh = refl
 row_end (q ∷ rows) r b fresh = ends (same_at q.at r.at) refl fresh (row_end rows r b)
   where
-    ends : (t : Bool) → same_at q.at r.at ≡ t → (if t then Some q.begun else row_of rows r.at) ≡ None
-        → (row_of rows r.at ≡ None → row_of (rows ++ r ∷ []) b ≡ (if same_at r.at b then Some r.begun else row_of rows b))
-        → (if same_at q.at b then Some q.begun else row_of (rows ++ r ∷ []) b) ≡ (if same_at r.at b then Some r.begun else if same_at q.at b then Some q.begun else row_of rows b)
+    ends : (t : Bool) → same_at q.at r.at ≡ t → (if t then Some q.begun else begun_under rows r.at) ≡ None
+        → (begun_under rows r.at ≡ None → begun_under (rows ++ r ∷ []) b ≡ (if same_at r.at b then Some r.begun else begun_under rows b))
+        → (if same_at q.at b then Some q.begun else begun_under (rows ++ r ∷ []) b) ≡ (if same_at r.at b then Some r.begun else if same_at q.at b then Some q.begun else begun_under rows b)
     ends true is none more = absurd (cc)
     ends false is none more = let rest = more none in grind (arith, nat_tests, rest, is)
 
-pub row_last : (old new : List LineRow) (at : At) (begun : Begun) (b : At) → new ≡ old ++ (record { at = at; begun = begun }) ∷ [] → row_of old at ≡ None
-    → row_of new b ≡ (if same_at at b then Some begun else row_of old b)
-row_last old new at begun b e fresh = ap (λ rows. row_of rows b) e ∙ row_end old (record { at = at; begun = begun }) b fresh
+pub row_last : (old new : List LineRow) (at : At) (begun : Begun) (b : At) → new ≡ old ++ (record { at = at; begun = begun }) ∷ [] → begun_under old at ≡ None
+    → begun_under new b ≡ (if same_at at b then Some begun else begun_under old b)
+row_last old new at begun b e fresh = ap (λ rows. begun_under rows b) e ∙ row_end old (record { at = at; begun = begun }) b fresh
 
 opened_end : (rows : List TicketRow) (r : TicketRow) (l t : ℕ) → opened_of rows r.lane.0 r.number.0 ≡ None
     → opened_of (rows ++ r ∷ []) l t ≡ (if (r.lane.0 == l) && (r.number.0 == t) then Some (ticket_of r.opening) else opened_of rows l t)

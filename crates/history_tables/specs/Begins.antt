@@ -53,6 +53,6 @@ pub record LineRows : Type 0 where
   pub room : ℕ
 
 -- what the rows say of a line
-abbrev pub row_of : List LineRow → At → Option Begun
-row_of [] at = None
-row_of (row ∷ rows) at = if same_at row.at at then Some row.begun else row_of rows at
+abbrev pub begun_under : List LineRow → At → Option Begun
+begun_under [] at = None
+begun_under (row ∷ rows) at = if same_at row.at at then Some row.begun else begun_under rows at

@@ -10,8 +10,8 @@ use Rattle.history_tables.specs.NodeRows.{crashed_at}
 use Rattle.history_tables.specs.Numbering.{primary_crashed}
 
 -- what is remembered of a job that begins behind so many printed entries
-abbrev pub first_row : Job → ℕ → JobRow
-first_row job before = record { job = job; before = before; ended = false; later = None }
+abbrev pub new_job_row : Job → ℕ → JobRow
+new_job_row job before = record { job = job; before = before; ended = false; later = None }
 
 -- the step begins a job
 abbrev pub is_begin : JobStep → Bool
@@ -40,7 +40,7 @@ key_of false job = job.node.0
 
 -- what is remembered of the last job of a key after one more step
 abbrev pub last_job_by : Bool → ℕ → JobStep → ℕ → Option JobRow → Option JobRow
-last_job_by lanes k (Begins job) before old = if key_of lanes job == k then Some (first_row job before) else row_if_some (Begins job) old
+last_job_by lanes k (Begins job) before old = if key_of lanes job == k then Some (new_job_row job before) else row_if_some (Begins job) old
 last_job_by lanes k (Ends n number) before old = row_if_some (Ends n number) old
 last_job_by lanes k Passes before old = row_if_some Passes old
 

@@ -2,7 +2,7 @@
 
 ghost use Rattle.std.specs.Prelude.{◌≡◌, ◌≤◌, ◌==◌, not, map, vec_capacity, vec_len};
 ghost use Rattle.std.specs.List.{filter};
-ghost use Rattle.history_tables.specs.JobRows.{first_row, is_going, row_by, keyed_by, key_of};
+ghost use Rattle.history_tables.specs.JobRows.{new_job_row, is_going, row_by, keyed_by, key_of};
 
 use nrt_base::{At, NodeNo, Version};
 use std::alloc::{AllocError, Global};
@@ -66,7 +66,7 @@ fn key_of(job: Job, lanes: bool) -> u8
 
 impl JobRow {
     fn first(job: Job, before: usize) -> Self
-        ensures { result ≡ first_row job before }
+        ensures { result ≡ new_job_row job before }
     {
         JobRow {
             job,

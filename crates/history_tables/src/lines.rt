@@ -99,7 +99,7 @@ impl Lines {
     ghost use Rattle.std.specs.Prelude.{ℕ, ◌≡◌, ◌≤◌, [], true, if◌then◌else◌, OnOk};
     ghost use Rattle.nrt_base.specs.declared.numbers.At.{At};
     ghost use Rattle.history_entries.specs.Lines.{same_at, is_start};
-    ghost use Rattle.history_tables.specs.Begins.{row_of, begun_by};
+    ghost use Rattle.history_tables.specs.Begins.{begun_under, begun_by};
 
     pub fn new(alloc: Global) -> Self
         ensures { result.rows ≡ [] }
@@ -111,7 +111,7 @@ impl Lines {
 
     /// What is remembered of a line.
     pub fn get(&self, at: At) -> Option<Begun>
-        ensures { result ≡ row_of self.now.rows at }
+        ensures { result ≡ begun_under self.now.rows at }
     {
         for row in self.rows.as_slice() {
             if same_at(row.at, at) {
@@ -132,8 +132,8 @@ impl Lines {
     /// Forgets a line.
     #[tactic(auto, using(crate::proofs::RowLemmas::row_kept))]
     fn forget(&mut self, at: At)
-        ensures { (b : At) → row_of self.new.rows b
-            ≡ (if same_at at b then None else row_of self.old.rows b) }
+        ensures { (b : At) → begun_under self.new.rows b
+            ≡ (if same_at at b then None else begun_under self.old.rows b) }
     {
         without(&mut self.rows, at);
     }
@@ -142,9 +142,9 @@ impl Lines {
     #[tactic(auto, using(crate::proofs::RowLemmas::row_last))]
     fn remember(&mut self, at: At, begun: Begun)
         requires room { 1 ≤ self.old.room }
-        requires fresh { row_of self.old.rows at ≡ None }
-        ensures { (b : At) → row_of self.new.rows b
-            ≡ (if same_at at b then Some begun else row_of self.old.rows b) }
+        requires fresh { begun_under self.old.rows at ≡ None }
+        ensures { (b : At) → begun_under self.new.rows b
+            ≡ (if same_at at b then Some begun else begun_under self.old.rows b) }
     {
         self.rows.push_reserved(LineRow { at, begun });
     }
@@ -152,10 +152,10 @@ impl Lines {
     /// After one more entry, where so many stood before it, and the generation had accepted so many operations.
     pub fn step(&mut self, at: At, event: &Event, before: usize, accepted: usize)
         requires room { is_start event.now ≡ true → 1 ≤ self.old.room }
-        requires fresh { is_start event.now ≡ true → row_of self.old.rows at ≡ None }
-        ensures { (b : At) → row_of self.new.rows b
-            ≡ (if same_at at b then begun_by event.now before accepted (row_of self.old.rows b)
-            else row_of self.old.rows b) }
+        requires fresh { is_start event.now ≡ true → begun_under self.old.rows at ≡ None }
+        ensures { (b : At) → begun_under self.new.rows b
+            ≡ (if same_at at b then begun_by event.now before accepted (begun_under self.old.rows b)
+            else begun_under self.old.rows b) }
     {
         match event {
             Event::Switched { .. } | Event::Fault { .. } => {}

@@ -1,1 +1,1 @@
-pub mod EventParts
+mod EventParts

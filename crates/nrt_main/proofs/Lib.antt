@@ -1,3 +1,3 @@
-pub mod Writes
-pub mod PlainScripts
-pub mod AnswerLaws
+mod Writes
+mod PlainScripts
+mod AnswerLaws

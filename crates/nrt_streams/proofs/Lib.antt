@@ -1,1 +1,1 @@
-pub mod StreamLemmas
+mod StreamLemmas

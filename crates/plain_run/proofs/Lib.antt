@@ -1,5 +1,5 @@
-pub mod BuiltLemmas
-pub mod FreshLines
-pub mod DocumentCounts
-pub mod Steps
-pub mod Serving
+mod BuiltLemmas
+mod FreshLines
+mod DocumentCounts
+mod Steps
+mod Serving

@@ -1,3 +1,3 @@
-pub mod WalkLemmas
-pub mod HitLemmas
-pub mod ListingLemmas
+mod WalkLemmas
+mod HitLemmas
+mod ListingLemmas

@@ -11,7 +11,7 @@ use Rattle.codec_frame.specs.declared.frame.FileFault.{FileFault}
 use Rattle.codec_frame.specs.declared.frame.FileFault.TheVariants.{Frame, Body}
 use Rattle.codec_frame.proofs.CheckLaws.{one_reading_lem}
 use Rattle.body_forms.specs.File.{IsOneToOne}
-use Rattle.body_forms.proofs.FileLaws.{IsFileKind, body_of, same_body, one_file_of}
+use Rattle.body_forms.proofs.FileLaws.{IsFileKind, body_of, same_body, one_file_of, same_fault, kinds, not_ok}
 use Rattle.postings_plain.specs.declared.format.Format.{Format}
 use Rattle.postings_plain.specs.declared.format.Format.TheVariants.{One, Two}
 use Rattle.postings_plain.specs.Postings.{Entry, format_number}
@@ -101,15 +101,6 @@ pub files_one_to_one : (id : List ℕ) → IsOneToOne (λ bytes post. IsPostings
 files_one_to_one id = record { one_value = one_post id; one_spelling = λ a b post d e. one_file_of (postings_kind post.format id) a b post.entries d e }
 
 -- ---- what reading answers
-
-same_fault : (a b : FrameFault) → ◌≡◌ {A = FileFault} (Frame a) (Frame b) → a ≡ b
-same_fault a b e = cc
-
-kinds : (a : FrameFault) → ◌≡◌ {A = FileFault} (Frame a) Body → ⊥
-kinds a e = cc
-
-not_ok : (found : Result Framed FrameFault) (fault : FrameFault) (P : Framed → Type 0) → found ≡ Err fault → IsOkAnd found P → ⊥
-not_ok found fault P e h = subst (λ (r : Result Framed FrameFault). IsOkAnd r P) e h
 
 module _ {id bytes : List ℕ} {found : Result Framed FrameFault} (k : IsChecked (postings_wanted id) bytes found) where
   no_fault : (frame : Framed) → found ≡ Ok frame → (fault : FrameFault) → IsFirstFault (postings_wanted id) bytes fault → ⊥

@@ -1,15 +1,15 @@
-pub mod HitLemmas
-pub mod AdvanceLemmas
-pub mod RestLemmas
-pub mod BestLemmas
-pub mod RowLemmas
-pub mod SearchLemmas
-pub mod BuildLemmas
-pub mod PhraseLemmas
-pub mod PassLemmas
-pub mod PlaceLemmas
-pub mod ReaderLemmas
-pub mod AnswerLemmas
-pub mod TestLaws
-pub mod RankLemmas
-pub mod FormLemmas
+mod HitLemmas
+mod AdvanceLemmas
+mod RestLemmas
+mod BestLemmas
+mod RowLemmas
+mod SearchLemmas
+mod BuildLemmas
+mod PhraseLemmas
+mod PassLemmas
+mod PlaceLemmas
+mod ReaderLemmas
+mod AnswerLemmas
+mod TestLaws
+mod RankLemmas
+mod FormLemmas

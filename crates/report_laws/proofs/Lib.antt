@@ -1,2 +1,2 @@
-pub mod FitLemmas
-pub mod Unprinted
+mod FitLemmas
+mod Unprinted

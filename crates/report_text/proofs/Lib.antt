@@ -1,2 +1,2 @@
-pub mod TextCuts
+mod TextCuts
 pub mod TextLaws

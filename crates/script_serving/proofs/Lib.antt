@@ -1,3 +1,3 @@
 pub mod OneLane
 pub mod ServingLemmas
-pub mod LogLemmas
+mod LogLemmas

@@ -1,5 +1,5 @@
 pub mod LiveMarks
-pub mod EntryRows
+mod EntryRows
 pub mod NameOrder
-pub mod Records
-pub mod ReadBack
+mod Records
+mod ReadBack

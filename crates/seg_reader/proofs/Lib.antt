@@ -1,6 +1,6 @@
-pub mod Files
-pub mod Contents
-pub mod Numbers
-pub mod Answering
+mod Files
+mod Contents
+mod Numbers
+mod Answering
 pub mod SortedLists
 pub mod StandingLaws

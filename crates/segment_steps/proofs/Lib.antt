@@ -1,20 +1,20 @@
-pub mod Bags
-pub mod Documents
+mod Bags
+mod Documents
 pub mod Segments
 pub mod PublishLaws
 pub mod CuttingOver
-pub mod Merges
-pub mod CutRows
+mod Merges
+mod CutRows
 pub mod TermRows
-pub mod RowsLeft
-pub mod FlushLemmas
-pub mod Taking
-pub mod Looping
+mod RowsLeft
+mod FlushLemmas
+mod Taking
+mod Looping
 pub mod NextLemmas
 pub mod AfterPublish
 pub mod NextNames
-pub mod Openings
-pub mod Placing
+mod Openings
+mod Placing
 pub mod NextSpelling
 pub mod MergeStarts
 pub mod AfterCutOver

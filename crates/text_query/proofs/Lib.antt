@@ -1,8 +1,8 @@
-pub mod AnswerLemmas
+mod AnswerLemmas
 pub mod FaultLemmas
-pub mod LevelLemmas
-pub mod ReadingLemmas
-pub mod Suffixes
-pub mod SyntaxLemmas
-pub mod TokenLemmas
-pub mod TreeLemmas
+mod LevelLemmas
+mod ReadingLemmas
+mod Suffixes
+mod SyntaxLemmas
+mod TokenLemmas
+mod TreeLemmas

@@ -2,7 +2,7 @@ use Rattle.std.proofs.Common.{◌≡◌, ◌+◌, sym, subst, ap, Some, arith}
 use Rattle.history_entries.specs.Nodes.{generation_of, newest_version}
 use Rattle.history_entries.specs.Lines.{publish_in_flight}
 use Rattle.history_book.specs.Log.{Log, printed}
-use Rattle.history_merges.specs.Merging.{MergesShow, Sheet, Table}
+use Rattle.history_merges.specs.Merging.{MergesShow, Sheet, MergeTable}
 use Rattle.history_merges.proofs.MergeFrames.{merges_published, publish_paid}
 use Rattle.history_merges.proofs.ledger.Ledger.show_published.Goals as goal
 
@@ -22,4 +22,4 @@ invariant_of-self c =
     let flight = subst (λ (s : Sheet). publish_in_flight (printed s.log) ≡ Some c.args.at) (sym c.self.view_is) c.requires.flight in
     subst (λ (l : Log). MergesShow l c.publish.new.self) (sym c.show.ensures.log)
     (merges_published _ c.self.inside.merges c.publish.new.self c.args.at c.args.generation c.args.v flight
-    (ap (λ (t : Table). t.rows) c.publish.ensures) (ap (λ (t : Table). t.cut) c.publish.ensures) c.self.invariant)
+    (ap (λ (t : MergeTable). t.rows) c.publish.ensures) (ap (λ (t : MergeTable). t.cut) c.publish.ensures) c.self.invariant)
