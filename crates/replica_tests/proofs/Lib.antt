@@ -1,0 +1,4 @@
+mod Due
+mod Emptiness
+mod Listing
+mod Noticing

@@ -1,0 +1,16 @@
+//! Tests of replicas over a directory in memory.
+#![tactic(auto)]
+
+#[cfg(test)]
+mod bench;
+#[cfg(test)]
+mod calls;
+#[cfg(test)]
+mod files;
+#[cfg(test)]
+mod jobs;
+#[cfg(test)]
+mod openings;
+mod seen;
+
+pub use seen::Seen;
