@@ -1,0 +1,15 @@
+//! Tests of what publishes and merges make of segments, which need nothing private.
+#![tactic(auto)]
+
+#[cfg(test)]
+mod cut_overs;
+#[cfg(test)]
+mod drops;
+#[cfg(test)]
+mod formats;
+#[cfg(test)]
+mod many_rows;
+#[cfg(test)]
+mod random_cuts;
+#[cfg(test)]
+mod writer;
