@@ -164,8 +164,8 @@ fn repeated_words_are_found(rt: HostRuntime) -> Result<(), Fail> {
     Ok(())
 }
 
-// So many rows with the key `a` and the text `x`.
-fn rows_of_x(alloc: Global, count: u32) -> Result<Vec<TermRow>, Fail> {
+// The file of so many rows with the key `a` and the text `x`.
+fn file_of_x(alloc: Global, count: u32) -> Result<Bytes, Fail> {
     let mut rows = Vec::new(alloc);
     for _ in 0..count {
         rows.push(row(alloc, Key::new(alloc, b"a")?, b"x")?)?;
@@ -173,7 +173,7 @@ fn rows_of_x(alloc: Global, count: u32) -> Result<Vec<TermRow>, Fail> {
     if rows.is_empty() {
         return Err(Fail::from("no row"));
     }
-    Ok(rows)
+    Ok(encode(alloc, &ID, &rows)?)
 }
 
 // The file with one byte made another and its footer made right.
@@ -192,7 +192,7 @@ fn altered(alloc: Global, file: &[u8], at: usize, byte: u8) -> Result<Vec<u8>, F
 #[test]
 fn blocks_of_129_rows(rt: HostRuntime) -> Result<(), Fail> {
     let alloc = rt.alloc();
-    let file = encode(alloc, &ID, &rows_of_x(alloc, 129)?)?;
+    let file = file_of_x(alloc, 129)?;
     let bytes = file.as_slice();
     assert_eq!(rt; bytes.len(), 192 + 397 + 16);
     let begins = b"\x01\x01x\x81\x01\x7f\x80\x03\x01\x03\0\x01\0\x01\x01\0";
@@ -213,7 +213,7 @@ fn blocks_of_129_rows(rt: HostRuntime) -> Result<(), Fail> {
 fn formats_by_rows(rt: HostRuntime) -> Result<(), Fail> {
     let alloc = rt.alloc();
     for (count, format) in [(128, Format::One), (129, Format::Two)] {
-        let file = encode(alloc, &ID, &rows_of_x(alloc, count)?)?;
+        let file = file_of_x(alloc, count)?;
         let post = read_postings(file, &ID).ok().ok_or("refused")?;
         assert_eq!(rt; post.format(), format, "{count} rows");
         assert_eq!(rt; post.rows(), u64::from(count));
@@ -224,7 +224,7 @@ fn formats_by_rows(rt: HostRuntime) -> Result<(), Fail> {
 #[test]
 fn prefixes_and_altered_bytes(rt: HostRuntime) -> Result<(), Fail> {
     let alloc = rt.alloc();
-    let file = encode(alloc, &ID, &rows_of_x(alloc, 129)?)?;
+    let file = file_of_x(alloc, 129)?;
     let bytes = file.as_slice();
     for end in 0..bytes.len() {
         let prefix = bytes.get(..end).unwrap_or(bytes);
@@ -256,25 +256,30 @@ fn file_of_300(alloc: Global, format: Format) -> Result<PostFile, Fail> {
     Ok(read_postings(file, &ID).ok().ok_or("refused")?)
 }
 
-// From each row on, a reader of the word that begins anew, and one that goes on by steps of so many rows.
+// Whether readers of the word in both files, which go on by steps of so many rows, find each row with its position.
+fn find_alike(one: &PostFile, two: &PostFile, step: u32) -> Result<bool, Fail> {
+    let mut first = one.find(1, b"x").ok_or("the word is absent")?;
+    let mut second = two.find(1, b"x").ok_or("the word is absent")?;
+    for turn in 0..310u32 {
+        let row = turn.saturating_mul(step);
+        let found = if row < 300 { Some(row) } else { None };
+        if first.next_from(row) != found || second.next_from(row) != found {
+            return Ok(false);
+        }
+        let place = if row % 7 == 0 { 1 } else { 0 };
+        if row < 300 && second.positions().next() != Some(place) {
+            return Ok(false);
+        }
+    }
+    Ok(true)
+}
+
 #[test]
 fn formats_answer_alike(rt: HostRuntime) -> Result<(), Fail> {
     let one = file_of_300(rt.alloc(), Format::One)?;
     let two = file_of_300(rt.alloc(), Format::Two)?;
     for step in [1, 100, 130, 299] {
-        let mut first = one.find(1, b"x").ok_or("the word is absent")?;
-        let mut second = two.find(1, b"x").ok_or("the word is absent")?;
-        let mut row = 0;
-        while row < 310 {
-            let place = if row % 7 == 0 { 1 } else { 0 };
-            let found = if row < 300 { Some(row) } else { None };
-            assert_eq!(rt; first.next_from(row), found, "row {row}");
-            assert_eq!(rt; second.next_from(row), found, "row {row}");
-            if row < 300 {
-                assert_eq!(rt; second.positions().next(), Some(place), "row {row}");
-            }
-            row += step;
-        }
+        assert!(rt; find_alike(&one, &two, step)?, "steps of {step} rows");
     }
     Ok(())
 }
