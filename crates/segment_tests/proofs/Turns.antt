@@ -25,7 +25,7 @@ use Rattle.segment_steps.proofs.AfterPublish.{IsOther, publish_keeps_merge}
 use Rattle.segment_steps.proofs.NextSpelling.{IsUnused, next_apart}
 use Rattle.segment_steps.proofs.CutNumbers.{cut_apart}
 use Rattle.segment_steps.proofs.MergeStarts.{merge_begins, task_fits}
-use Rattle.segment_tests.specs.declared.writer.Started.{Started}
+use Rattle.segment_tests.specs.declared.started.Started.{Started}
 use Rattle.segment_tests.specs.Writing.{IsOfRecord, IsFree, IsWriter, KeepsMerge, IsInFlight}
 use Rattle.segment_tests.proofs.Records.{next_agree, made_in, all_sound, all_bounded, work_fits, cut_agrees}
 

@@ -11,7 +11,7 @@ use Rattle.seg_merge.specs.Merging.{docs_by_input, IsMergedOf}
 use Rattle.segment_steps.specs.declared.next.NextSegments.{NextSegments}
 use Rattle.segment_steps.specs.Next.{IsBounded}
 use Rattle.segment_steps.specs.CutOver.{IsMergeOf}
-use Rattle.segment_tests.specs.declared.writer.Started.{Started}
+use Rattle.segment_tests.specs.declared.started.Started.{Started}
 
 -- A segment agrees with its record: it is sound, each document has a mark, as many rows are live as the record says, and the record's
 -- numbers are bounded.

@@ -11,5 +11,8 @@ mod formats;
 mod many_rows;
 #[cfg(test)]
 mod random_cuts;
+mod started;
 #[cfg(test)]
 mod writer;
+
+pub use started::Started;

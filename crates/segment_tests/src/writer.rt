@@ -6,13 +6,12 @@ ghost use Rattle.nrt_base.specs.Bytes.{is_key_byte, is_key, is_text, is_word};
 ghost use Rattle.documents.specs.Documents.{is_put};
 ghost use Rattle.segment_tests.specs.Writing.{IsFree, IsWriter, KeepsMerge, IsInFlight};
 
+use crate::Started;
 use documents::Op;
 use nrt_base::{Doc, Gen, Key, List, NoMemory, SegNo, Share, Text, Word};
-use seg_merge::{Merged, merge};
+use seg_merge::merge;
 use segment_infos::SegRecord;
-use segment_steps::{
-    FlushTask, MergeStart, NextSegments, cut_over, flush, next_segments, start_merge,
-};
+use segment_steps::{FlushTask, NextSegments, cut_over, flush, next_segments, start_merge};
 use std::alloc::{AllocError, Global};
 
 /// The first segment of generation 1.
@@ -176,13 +175,6 @@ pub fn after(
 {
     *made = publish(alloc, made, place, ops, &[])?;
     Ok(())
-}
-
-/// A merge in flight, of which the work is done.
-#[derive(Drop)]
-pub struct Started {
-    pub start: MergeStart,
-    pub merged: Merged,
 }
 
 /// The merge of the first neighbours that are a range, where there are some.
