@@ -1,0 +1,110 @@
+-- A replica that was just opened.
+use Rattle.std.proofs.Common.{◌≡◌, ℕ, zero, suc, ◌+◌, ◌<◌, Bool, true, false, List, [], ◌∷◌, ◌++◌, Option, Some, None, cond, refl, sym, ap, subst, ◌∙◌, arith, true≢false}
+use Rattle.std.specs.Prelude.{Contains}
+use Rattle.std.specs.List.{flat_map}
+use Rattle.nrt_base.specs.declared.numbers.Gen.{Gen}
+use Rattle.file_deleter.specs.Holdings.{count_of, times}
+use Rattle.file_deleter.proofs.NameLemmas.{times-append, times_one}
+use Rattle.file_names.specs.Names.{is_commit_name}
+use Rattle.disk_model.specs.Disk.{same}
+use Rattle.disk_model.proofs.CellLemmas.{same_true}
+use Rattle.segment_infos.specs.Files.{files_of_segment, AreFilesOf}
+use Rattle.seg_reader.specs.Shown.{Shown}
+use Rattle.node_files.specs.Node.{IsWholeNode}
+use Rattle.node_files.proofs.Carry.{node_same_names}
+use Rattle.searcher_switch.specs.declared.open.Open.{Open}
+use Rattle.searcher_switch.specs.declared.searchers.Searchers.{Searchers}
+use Rattle.searcher_switch.specs.Tickets.{ticket_names}
+use Rattle.searcher_switch.specs.Searching.{searcher_names}
+use Rattle.replica_opening.specs.Known.{IsLasting}
+use Rattle.replica_opening.specs.Opening.{FindsPoint}
+use Rattle.replica_node.specs.Sources.{IsSourced}
+use Rattle.replica_node.proofs.Advances.{among_file, some_among}
+use Rattle.commit_steps.proofs.Safe.{own_is}
+use Rattle.replica_opening.specs.declared.opening.Opened.{Opened}
+use Rattle.replica_opening.specs.Opened.{IsNodeOpened, IsHandedBack}
+use Rattle.replica_node.specs.Waiting.{HasNoTemporary}
+use Rattle.replica_node.specs.Replica.{IsWholeReplica}
+use Rattle.replica_node.proofs.Temporary.{joins, files_no_temporary}
+use Rattle.std.specs.Prelude.{IfSome}
+use Rattle.disk_model.specs.Disk.{Name, Content, Cells, reads_of}
+use Rattle.segment_infos.specs.declared.infos.Infos.{Infos}
+use Rattle.commit_steps.specs.declared.states.Commit.{Commit}
+use Rattle.commit_steps.specs.declared.stage.Stage.{Stage}
+use Rattle.commit_steps.specs.declared.stage.CommitBook.{CommitBook}
+use Rattle.commit_steps.specs.Flights.{IsCommit, own_name}
+use Rattle.commit_steps.specs.Book.{commit_of, last_names, flying_names}
+use Rattle.node_files.specs.Standing.{StandsForSome, IsStanding}
+
+last_stands : (reads : Name → Content) (infos : Infos) (last : Option Commit) → IfSome last (λ c. IsCommit c × (c.infos ≡ infos)) → StandsForSome reads infos → IfSome last (λ c. StandsForSome reads c.infos)
+last_stands reads infos None is stands = tt
+last_stands reads infos (Some c) is stands = subst (λ (i : Infos). StandsForSome reads i) (sym is.1) stands
+
+-- the commit that was found is of the point's documents
+pub book_stands : (reads : Name → Content) (infos : Infos) (book : CommitBook) → IfSome book.last (λ c. IsCommit c × (c.infos ≡ infos)) → book.stage ≡ None → StandsForSome reads infos → IsStanding reads book
+book_stands reads infos book last none stands = record {
+  last = last_stands reads infos book.last last stands;
+  flight = subst (λ (o : Option Stage). IfSome o (λ s. StandsForSome reads (commit_of s).infos)) (sym none) tt;
+}
+
+-- ---- what an opened node holds
+-- a file of a segment that is held is the point's
+module _ (cells : Cells) (o : Opened) (node : IsWholeNode cells o.files (searcher_names o.searchers) o.commits) (is : IsNodeOpened (reads_of cells) o) where
+  point_file : (q : Name) → 0 < times o.searchers.point.names q → Contains (flat_map files_of_segment o.infos.segs) q
+  point_file q some = among_file o.infos o.searchers.point.names is.names q (some_among o.searchers.point.names q some)
+
+  commit_file : (last : Option Commit) → IfSome last (λ c. IsCommit c × (c.infos ≡ o.infos)) → (q : Name) → IsLasting q → 0 < times (last_names last) q → Contains (flat_map files_of_segment o.infos.segs) q
+  commit_file None commit q lasting some = absurd (let none : times [] q ≡ 0 = refl in omega (arith, some, none))
+  commit_file (Some c) commit q lasting some = by (times c.files q) refl
+    where
+      all : times c.names q ≡ times c.files q + times (own_name c ∷ []) q
+      all = ap (λ (ns : List Name). times ns q) commit.0.names ∙ times-append c.files (own_name c ∷ []) q
+
+      own : (b : Bool) → same (own_name c) q ≡ b → times (own_name c ∷ []) q ≡ 0
+      own true e = absurd (true≢false (sym (own_is c commit.0) ∙ ap is_commit_name (same_true (own_name c) q e) ∙ lasting.commit))
+      own false e = times_one (own_name c) q ∙ ap (λ b. cond b 1 0) e
+
+      by : (n : ℕ) → times c.files q ≡ n → Contains (flat_map files_of_segment o.infos.segs) q
+      by zero e = absurd (omega (arith, e, some, all, own (same (own_name c) q) refl))
+      by (suc n) e = subst (λ (i : Infos). Contains (flat_map files_of_segment i.segs) q) commit.1 (among_file c.infos c.files commit.0.files q (some_among c.files q (omega (arith, e))))
+
+  pub file_opened : (q : Name) → IsLasting q → 0 < count_of o.files q → Contains (flat_map files_of_segment o.infos.segs) q
+  file_opened q lasting some = by (times o.searchers.point.names q) refl
+    where
+      tickets : times (ticket_names o.searchers.tickets) q ≡ 0
+      tickets = ap (λ (ts : List (Open Shown)). times (ticket_names ts) q) is.tickets
+
+      flying : times (flying_names o.commits.stage) q ≡ 0
+      flying = ap (λ (s : Option Stage). times (flying_names s) q) is.none
+
+      by : (n : ℕ) → times o.searchers.point.names q ≡ n → Contains (flat_map files_of_segment o.infos.segs) q
+      by (suc n) e = point_file q (omega (arith, e))
+      by zero e = commit_file o.commits.last is.last q lasting
+          (omega (arith, e, some, tickets, flying, node.counts q, times-append o.searchers.point.names (ticket_names o.searchers.tickets) q, times-append (last_names o.commits.last) (flying_names o.commits.stage) q))
+
+-- ---- the replica
+just_names : (s : Searchers Shown) → s.tickets ≡ [] → (infos : Infos) → AreFilesOf infos s.point.names → HasNoTemporary (searcher_names s)
+just_names s none infos are =
+    joins s.point.names (ticket_names s.tickets) (files_no_temporary infos s.point.names are) (subst (λ (ts : List (Open Shown)). HasNoTemporary (ticket_names ts)) (sym none) (record { each = λ name job. refl }))
+
+module _ {D : Type 0} (cells : D → Cells) (dir : D) (o : Opened) (node : IsWholeNode (cells dir) o.files (searcher_names o.searchers) o.commits) (is : IsNodeOpened (reads_of (cells dir)) o) (seen : Gen) where
+  pub just_opened : IsWholeReplica cells (record { dir = dir; files = o.files; searchers = o.searchers; commits = o.commits; infos = o.infos; segs = o.segs; seen = seen; jobs = 0; job = None; known = o.known })
+  just_opened = record {
+    node = node_same_names (cells dir) o.files (searcher_names o.searchers) (searcher_names o.searchers ++ []) o.commits node (λ q. let none : times [] q ≡ 0 = refl in omega (arith, none, times-append (searcher_names o.searchers) [] q));
+    point = record { version = is.version; names = is.names; readers = is.readers };
+    spelled = is.spelled;
+    segs = is.segs;
+    known = record { each = λ q lasting some. is.known.each q (file_opened (cells dir) o node is q lasting some) };
+    lasting = just_names o.searchers is.tickets o.infos is.names;
+    newer = tt;
+    waits = tt;
+    copied = tt;
+  }
+
+  pub just_sourced : (before : Cells) (number : Option ℕ) → IsHandedBack before (cells dir) → FindsPoint (reads_of before) number o.infos → (source : Name → Content)
+      → ((q : Name) → Contains (flat_map files_of_segment o.infos.segs) q → (before q).now ≡ source q)
+      → IsSourced source cells (record { dir = dir; files = o.files; searchers = o.searchers; commits = o.commits; infos = o.infos; segs = o.segs; seen = seen; jobs = 0; job = None; known = o.known })
+  just_sourced before number back finds source reads = record {
+    held = record { each = λ q lasting some. let named = file_opened (cells dir) o node is q lasting some in back.files number o.infos finds q named ∙ reads q named };
+    job = tt;
+  }

@@ -1,0 +1,31 @@
+-- A replica that was just opened, and one that was not.
+use Rattle.std.specs.Prelude.{◌≡◌, ℕ, List, [], None}
+use Rattle.nrt_base.specs.Causes.{Rose}
+use Rattle.nrt_base.specs.declared.doc.Doc.{Doc}
+use Rattle.disk_model.specs.Disk.{Cells, reads_of}
+use Rattle.seg_reader.specs.Stands.{StandsFor, AreSegmentsOf}
+use Rattle.replica_node.specs.declared.parts.Parts.{Parts}
+use Rattle.replica_node.specs.declared.replica.Refused.{Refused}
+use Rattle.replica_opening.specs.Opening.{IsDiskFault, IsStartFaultOf}
+use Rattle.replica_opening.specs.Opened.{IsHandedBack}
+use Rattle.replica_node.specs.Replica.{AreStanding}
+
+-- nothing is in flight, no ticket is open, there is no job and there was none, and the greatest generation seen is that of the point
+pub record IsJustOpened {D : Type 0} (p : Parts D) : Type 0 where
+  pub stage : p.commits.stage ≡ None
+  pub tickets : p.searchers.tickets ≡ []
+  pub job : p.job ≡ None
+  pub jobs : p.jobs ≡ 0
+  pub seen : p.seen ≡ p.infos.generation
+
+-- the replica searches just these documents, its directory has them, and its commits are of some
+pub record SearchesJust {D : Type 0} (cells : D → Cells) (docs : List Doc) (p : Parts D) : Type 0 where
+  pub searched : AreSegmentsOf docs p.searchers.point.readers
+  pub stands : StandsFor (reads_of (cells p.dir)) p.infos docs
+  pub standing : AreStanding cells p
+
+-- The opening was refused as the directory is, or cut off; what the directory shows stays, and where the disk failed its faults rose.
+pub record IsHandedOut {D : Type 0} (cells : D → Cells) (faults : D → ℕ) (dir : D) (r : Refused D) : Type 0 where
+  pub fault : IsStartFaultOf (reads_of (cells dir)) r.fault
+  pub back : IsHandedBack (cells dir) (cells r.dir)
+  pub failed : IsDiskFault r.fault → Rose (faults dir) (faults r.dir)

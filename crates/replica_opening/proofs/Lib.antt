@@ -1,0 +1,8 @@
+mod Clearings
+pub mod Metas
+pub mod Openings
+mod Placed
+mod Recoveries
+mod Releasing
+pub mod Segments
+pub mod Settled

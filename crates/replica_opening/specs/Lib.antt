@@ -1,0 +1,6 @@
+pub mod Known
+pub mod Opened
+pub mod Opening
+pub mod Places
+pub mod Readers
+pub mod Reading

@@ -1,0 +1,16 @@
+//! Opening a node on a directory: which point the directory shows, what reads its segments, and what is known of its files. The
+//! readers of a newer point, too.
+#![tactic(auto)]
+
+mod clearing;
+mod fault;
+mod known;
+mod opening;
+mod reading;
+mod sharing;
+
+pub use fault::StartFault;
+pub use known::Known;
+pub use opening::{Opened, open};
+pub use reading::{ReadFault, SegmentRead, read_segment};
+pub use sharing::readers_of;
