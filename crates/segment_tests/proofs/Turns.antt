@@ -26,7 +26,7 @@ use Rattle.segment_steps.proofs.NextSpelling.{IsUnused, next_apart}
 use Rattle.segment_steps.proofs.CutNumbers.{cut_apart}
 use Rattle.segment_steps.proofs.MergeStarts.{merge_begins, task_fits}
 use Rattle.segment_tests.specs.declared.started.Started.{Started}
-use Rattle.segment_tests.specs.Writing.{IsOfRecord, IsFree, IsWriter, KeepsMerge, IsInFlight}
+use Rattle.segment_tests.specs.Writing.{IsOfRecord, IsFreeNumber, IsWriter, KeepsMerge, IsInFlight}
 use Rattle.segment_tests.proofs.Records.{next_agree, made_in, all_sound, all_bounded, work_fits, cut_agrees}
 
 -- ---- numbers
@@ -86,14 +86,14 @@ module _ (made : NextSegments) (rs : List SegRecord) (ss : List Shown) (writer :
   rows_so task work same flushed = (work_fits 1 rs ss task work agree_so (same ∙ sym segs) flushed).1
 
   -- A WRITER stays one over a publish
-  pub published : (next : NextSegments) (seg : SegNo) (task : FlushTask) (work : FlushWork) (held : List SegNo) → IsFree rs held seg → IsNumberFor seg task.seg → task.segs ≡ made.segs → IsFlushOf task work → IsNextOf 1 rs ss work held next → IsWriter next
+  pub published : (next : NextSegments) (seg : SegNo) (task : FlushTask) (work : FlushWork) (held : List SegNo) → IsFreeNumber rs held seg → IsNumberFor seg task.seg → task.segs ≡ made.segs → IsFlushOf task work → IsNextOf 1 rs ss work held next → IsWriter next
   published next seg task work held free number same flushed is = record {
     agree = next_agree 1 rs ss task work held next agree_so flushed (same ∙ sym segs) is (made_in 1 task.seg task.ops work.files flushed.files (made_so seg task.seg number free.made));
     apart = next_apart 1 held rs ss work next is apart_so (new_unused seg task.seg task.ops rs work.files number flushed.files free.used);
   }
 
   -- A MERGE of the segments that are held stays one
-  pub merge_kept : (next : NextSegments) (seg : SegNo) (task : FlushTask) (work : FlushWork) (held : List SegNo) → IsFree rs held seg → IsNumberFor seg task.seg → task.segs ≡ made.segs → IsFlushOf task work → IsNextOf 1 rs ss work held next → KeepsMerge made held next
+  pub merge_kept : (next : NextSegments) (seg : SegNo) (task : FlushTask) (work : FlushWork) (held : List SegNo) → IsFreeNumber rs held seg → IsNumberFor seg task.seg → task.segs ≡ made.segs → IsFlushOf task work → IsNextOf 1 rs ss work held next → KeepsMerge made held next
   merge_kept next seg task work held free number same flushed is docs noted flight =
       let here : IsMergeOf (zip rs ss) held docs noted = subst (λ (xs : List SegRecord). IsMergeOf (zip xs ss) held docs noted) (sym records) (subst (λ (ys : List Shown). IsMergeOf (zip made.records ys) held docs noted) (sym segs) flight) in
       publish_keeps_merge 1 rs ss task work held held next docs noted flushed (same ∙ sym segs) is (new_other seg task.seg task.ops held work.files number flushed.files free.among) (λ n e. e) here
@@ -109,7 +109,7 @@ module _ (made : NextSegments) (rs : List SegRecord) (ss : List Shown) (writer :
   inputs_sound seg factor held start is = subst (All IsSound) (sym is.segs_are) (All-take IsSound factor (drop is.from ss) (All-drop IsSound is.from ss (all_sound 1 rs ss agree_so)))
 
   -- A MERGE THAT STARTS is in flight
-  pub begun : (seg : SegNo) (factor : ℕ) (held none : List SegNo) (start : MergeStart) (merged : Merged) → 2 ≤ factor → IsFree rs none seg → IsStart seg factor held rs ss start → IsMergedOf start.task merged
+  pub begun : (seg : SegNo) (factor : ℕ) (held none : List SegNo) (start : MergeStart) (merged : Merged) → 2 ≤ factor → IsFreeNumber rs none seg → IsStart seg factor held rs ss start → IsMergedOf start.task merged
       → IsInFlight made (record { start = start; merged = merged })
   begun seg factor held none start merged some free is of =
       let flight : IsMergeOf (zip rs ss) start.inputs (docs_by_input start.task.inputs) start.task.live = merge_begins (IsOfRecord 1) marks_of seg factor held rs ss start is some agree_so apart_so in

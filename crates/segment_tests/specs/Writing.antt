@@ -22,7 +22,7 @@ pub record IsOfRecord (g : ℕ) (r : SegRecord) (shown : Shown) : Type 0 where
   pub bounded : IsBounded g r
 
 -- no segment has the number, no merge in flight needs it, and it is of generation 0 or 1
-pub record IsFree (records : List SegRecord) (held : List SegNo) (seg : SegNo) : Type 0 where
+pub record IsFreeNumber (records : List SegRecord) (held : List SegNo) (seg : SegNo) : Type 0 where
   pub used : list_any (λ r. r.seg.0 == seg.0) records ≡ false
   pub among : list_any (λ other. other.0 == seg.0) held ≡ false
   pub made : seg.0 / 1679616 ≤ 1

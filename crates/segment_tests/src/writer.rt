@@ -4,7 +4,7 @@ ghost use Rattle.std.specs.Prelude.{◌≡◌, ◌↔◌, ◌≤◌, ◌==◌, I
 ghost use Rattle.std.specs.List.{list_all, list_any};
 ghost use Rattle.nrt_base.specs.Bytes.{is_key_byte, is_key, is_text, is_word};
 ghost use Rattle.documents.specs.Documents.{is_put};
-ghost use Rattle.segment_tests.specs.Writing.{IsFree, IsWriter, KeepsMerge, IsInFlight};
+ghost use Rattle.segment_tests.specs.Writing.{IsFreeNumber, IsWriter, KeepsMerge, IsInFlight};
 
 use crate::Started;
 use documents::Op;
@@ -124,7 +124,7 @@ fn is_among(held: &[SegNo], seg: SegNo) -> bool
 
 // The number in this place, where no segment has it and no merge in flight needs it.
 fn free_number(records: &[SegRecord], held: &[SegNo], place: u64) -> Result<SegNo, NoMemory>
-    ensures { IfOk result (IsFree records.now held.now) }
+    ensures { IfOk result (IsFreeNumber records.now held.now) }
 {
     let seg = SegNo(FIRST.wrapping_add(place));
     let generation = seg.generation();
