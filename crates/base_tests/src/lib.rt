@@ -4,6 +4,8 @@
 #[cfg(test)]
 mod names;
 #[cfg(test)]
+mod postings;
+#[cfg(test)]
 mod small_types;
 #[cfg(test)]
 mod streams;

@@ -1,3 +1,5 @@
 mod Writes
 mod PlainScripts
 mod AnswerLaws
+mod FrameAnswers
+mod CheckAnswers

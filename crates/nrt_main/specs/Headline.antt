@@ -15,7 +15,7 @@ use Rattle.plain_run.specs.Built.{IsFirstUnbuilt, RunsWhole}
 use Rattle.nrt_main.specs.declared.status.Status.{Status}
 use Rattle.nrt_main.specs.declared.status.Status.TheVariants.{Done, BadScript, WriteFault}
 
--- the one row of words: `run`
+-- the row of words: `run`
 abbrev pub IsRun : List (List ℕ) → Type 0
 IsRun words = words ≡ codes "run" ∷ []
 

@@ -1,3 +1,6 @@
 pub mod Headline
+pub mod Frames
+pub mod Check
+pub mod Rows
 pub mod Statuses
 pub mod TopCalls

@@ -1,9 +1,10 @@
-//! The program: it runs a script and writes its report.
+//! The program: it runs a script and writes its report, or tells the messages of a stream, or checks an image.
 #![tactic(auto)]
 
 ghost use Rattle.std.specs.Prelude.{◌≡◌};
 ghost use Rattle.nrt_main.specs.Statuses.{cause_number};
 
+mod checking;
 mod message;
 mod reading;
 mod standard;
@@ -13,14 +14,15 @@ mod tests;
 mod top;
 mod writing;
 
-use crate::message::{line_of, unknown_word};
+use crate::message::{line_of, stream_cause, unknown_word};
 use crate::standard::{StdSink, StdSource};
 use crate::status::Status;
 use crate::top::run_nrt;
+use check_run::{check_image, name_and_number, words_of};
 use nrt_streams::Arg;
 use script_text::LineFault;
 use std::process::ExitCode;
-use std::{env, io};
+use std::{env, io, str};
 
 /// The words after the program's name.
 fn words(rt: &HostRuntime) -> io::Result<Vec<Arg>> {
@@ -59,15 +61,42 @@ fn explain_line(rt: &HostRuntime, line: &str, cause: LineFault) -> io::Result<()
     }
 }
 
+/// Says in words what is wrong with the directory of an image.
+fn explain_image(rt: &HostRuntime, image: &[u8]) -> io::Result<()> {
+    let Ok(checked) = check_image(rt.alloc(), image) else {
+        return Ok(());
+    };
+    let Some(fault) = &checked.fault else {
+        return Ok(());
+    };
+    match name_and_number(fault) {
+        Some((name, _)) => {
+            let name = str::from_utf8(name.as_slice()).unwrap_or("");
+            eprintln!(rt; "nrt: {}: {}", name, words_of(fault))
+        }
+        None => Ok(()),
+    }
+}
+
 /// Says on standard error why nothing was run.
 fn explain(rt: &HostRuntime, status: Status, script: &[u8]) -> io::Result<()> {
     match status {
-        Status::Usage => eprintln!(rt; "usage: nrt run < SCRIPT"),
+        Status::Usage => {
+            eprintln!(rt; "usage: nrt run < SCRIPT")?;
+            eprintln!(rt; "       nrt frames < STREAM")?;
+            eprintln!(rt; "       nrt check < IMAGE")
+        }
         Status::BadScript(line, cause) => {
             eprintln!(rt; "line {} cause {}", line.0, cause_number(cause))?;
             eprint!(rt; "nrt: line {}: ", line.0)?;
             explain_line(rt, line_of(script, line), cause)
         }
+        Status::BadStream(cause) => {
+            eprintln!(rt; "bad stream, cause {}", cause)?;
+            eprintln!(rt; "nrt: {}", stream_cause(cause))
+        }
+        Status::BadIndex => explain_image(rt, script),
+        Status::BadImage => eprintln!(rt; "nrt: the input is no image of a directory"),
         _ => Ok(()),
     }
 }

@@ -1,4 +1,4 @@
-//! What a message quotes of a script: a line, and the word of it that is not known.
+//! What a message quotes of a script: a line, and the word of it that is not known; and what it says of a stream.
 
 use nrt_base::LineNo;
 use std::str;
@@ -25,5 +25,15 @@ pub fn unknown_word(line: &str) -> &str {
         Some("fault") => words.next().unwrap_or(""),
         Some(second) => second,
         None => "",
+    }
+}
+
+/// Why a stream is bad.
+pub fn stream_cause(cause: u8) -> &'static str {
+    match cause {
+        1 => "the length of a frame is 0, or above 65536",
+        2 => "a frame has no known kind",
+        3 => "the body of a frame is of no message of its kind",
+        _ => "the stream ends within a frame",
     }
 }

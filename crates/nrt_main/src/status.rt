@@ -7,20 +7,27 @@ use script_text::LineFault;
 /// What the program answers.
 #[derive(Clone, Copy, Debug, PartialEq, Eq)]
 pub enum Status {
-    /// The script was read to its end and run, and its report fully written.
+    /// The source was read to its end, and the text of what it gave fully written.
     Done,
-    /// The words are not `run`.
+    /// The words are no row of the table.
     Usage,
     /// This line is the first that is refused, for this cause.
     BadScript(LineNo, LineFault),
     /// The source failed.
     ReadFault,
-    /// The sink failed; a part of the report from its front is written.
+    /// The sink failed; a part of the text from its front is written.
     WriteFault,
     /// Want of memory.
     Memory,
     /// The source has more than 16,777,216 bytes.
     TooLarge,
+    /// Something is wrong with the directory, and the line that names it is written.
+    BadIndex,
+    /// The bytes are no image of a directory.
+    BadImage,
+    /// The stream is bad: its first faulty frame has a wrong length (1), a wrong kind (2) or a wrong body (3), or it ends
+    /// within a frame (4).
+    BadStream(u8),
 }
 
 impl Status {
@@ -36,6 +43,9 @@ impl Status {
             Status::WriteFault => 5,
             Status::Memory => 6,
             Status::TooLarge => 7,
+            Status::BadIndex => 8,
+            Status::BadImage => 9,
+            Status::BadStream(_) => 10,
         }
     }
 }

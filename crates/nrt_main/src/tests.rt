@@ -60,6 +60,57 @@ fn statuses(rt: HostRuntime) -> Result<(), Fail> {
     Ok(())
 }
 
+const NOTICE: &[u8] = b"\0\0\0\x11\x01\0\0\0\0\0\0\0\x01\0\0\0\0\0\0\0\x02";
+
+const NOTICE_AND_MORE: &[u8] = b"\0\0\0\x11\x01\0\0\0\0\0\0\0\x01\0\0\0\0\0\0\0\x02\0";
+
+#[test]
+fn frames(rt: HostRuntime) -> Result<(), Fail> {
+    let rows: &[(&[u8], &[u64], &[u64], Status, &[u8])] = &[
+        (NOTICE, &[], &[], Status::Done, b"notice 1 2\n"),
+        (b"", &[], &[], Status::Done, b""),
+        (NOTICE, &[2], &[], Status::ReadFault, b""),
+        (NOTICE, &[], &[2], Status::WriteFault, b"not"),
+        (b"\0\0\0\0", &[], &[], Status::BadStream(1), b""),
+        (b"\0\0\0\x01\x09", &[], &[], Status::BadStream(2), b""),
+        (b"\0\0\0\x01\x01", &[], &[], Status::BadStream(3), b""),
+        (b"\0\0\0", &[], &[], Status::BadStream(4), b""),
+        (NOTICE_AND_MORE, &[], &[], Status::BadStream(4), b""),
+    ];
+    for (stream, reads, writes, wanted, text) in rows {
+        let (status, written) = run(rt.alloc(), &[b"frames"], stream, reads, writes)?;
+        assert_eq!(rt; status, *wanted);
+        assert_eq!(rt; written.as_slice(), *text);
+    }
+    Ok(())
+}
+
+// The image of one empty file of infos.
+const EMPTY_INFOS: &[u8] = b"\0\0\0\x01\x0asegments_1\0\0\0\0";
+
+#[test]
+fn check(rt: HostRuntime) -> Result<(), Fail> {
+    let rows: &[(&[u8], &[u64], &[u64], Status, &[u8])] = &[
+        (b"\0\0\0\0", &[], &[], Status::Done, b"check none\n"),
+        (b"\0\0\0", &[], &[], Status::BadImage, b""),
+        (
+            EMPTY_INFOS,
+            &[],
+            &[],
+            Status::BadIndex,
+            b"check fault segments_1 3\n",
+        ),
+        (EMPTY_INFOS, &[2], &[], Status::ReadFault, b""),
+        (EMPTY_INFOS, &[], &[2], Status::WriteFault, b"che"),
+    ];
+    for (image, reads, writes, wanted, text) in rows {
+        let (status, written) = run(rt.alloc(), &[b"check"], image, reads, writes)?;
+        assert_eq!(rt; status, *wanted);
+        assert_eq!(rt; written.as_slice(), *text);
+    }
+    Ok(())
+}
+
 #[test]
 fn replica_never_copied(rt: HostRuntime) -> Result<(), Fail> {
     let script = b"nodes 2\n1 put a x\n1 publish\n1 search 2 x";

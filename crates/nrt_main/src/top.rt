@@ -1,13 +1,19 @@
-ghost use Rattle.std.specs.Prelude.{◌≡◌, ◌≤◌, length, ◌<◌, ◌-◌, ◌^◌, ◌↔◌, ◌≢◌, ℕ, IsTrue, IfOk, IfErr, codes};
+ghost use Rattle.std.specs.Prelude.{◌≡◌, ◌≤◌, length, ◌<◌, ◌-◌, ◌^◌, ◌↔◌, ◌≢◌, ℕ, [], ◌∷◌, IsTrue, IfOk, IfErr};
 ghost use Rattle.nrt_base.specs.Causes.{Rose};
 ghost use Rattle.script_serving.specs.Form.{IsInForm};
 ghost use Rattle.plain_run.specs.PlainRun.{IsPlainScript};
 ghost use Rattle.nrt_main.specs.Headline.{Ran, Answers, RanInPart, AnswersInPart, IsRunnable, RefusesLine, IsAnswer, AnswersWhole, Refuses, IsRun, TakesWithin, TakesMore, longest};
+ghost use Rattle.frames_run.specs.Runs.{GaveBadStream, GaveMore};
+ghost use Rattle.nrt_main.specs.Frames.{IsFrames, RanFrames, RanFramesInPart, IsFramesAnswer};
+ghost use Rattle.nrt_main.specs.Check.{IsCheck, RanCheck, FoundWrong, RanCheckInPart, GaveNoImage, AnswersCheck};
+ghost use Rattle.nrt_main.specs.Rows.{IsKnownRow};
 ghost use Rattle.nrt_main.specs.TopCalls.{IsRefusal, IsReport};
 
+use crate::checking::check_source;
 use crate::reading::{ReadEnd, read_all};
 use crate::status::Status;
 use crate::writing::write_all;
+use frames_run::{FramesEnd, run_frames};
 use nrt_base::{LineNo, NoMemory};
 use nrt_streams::{Arg, Sink, Source};
 use plain_run::{first_not_built, run_script};
@@ -61,7 +67,8 @@ fn run_bytes<K: Sink>(alloc: Global, bytes: &[u8], sink: &mut K) -> Status
         (K.fault_count sink.new) }
     ensures kept { result ≢ Status.Done → result ≢ Status.WriteFault → sink.new ≡ sink.old }
     ensures others { (result ≢ Status.Usage) × (result ≢ Status.ReadFault) ×
-        (result ≢ Status.TooLarge) }
+        (result ≢ Status.TooLarge) × (result ≢ Status.BadIndex) × (result ≢ Status.BadImage) ×
+        ((k : ℕ) → result ≢ Status.BadStream k) }
 {
     let script = match read_script(alloc, bytes) {
         Ok(script) => script,
@@ -76,27 +83,103 @@ fn run_bytes<K: Sink>(alloc: Global, bytes: &[u8], sink: &mut K) -> Status
     }
 }
 
-fn is_run_word(word: &[u8]) -> bool
-    ensures { IsTrue result ↔ (word.now ≡ codes "run") }
+fn is_same(word: &[u8], other: &[u8]) -> bool
+    ensures { IsTrue result ↔ (word.now ≡ other.now) }
 {
-    word == b"run".as_slice()
+    word == other
 }
 
-fn is_run(words: &[Arg]) -> bool
-    ensures { IsTrue result ↔ IsRun words.now }
+/// Whether the words are this one alone.
+fn is_word(words: &[Arg], word: &[u8]) -> bool
+    ensures { IsTrue result ↔ (words.now ≡ word.now ∷ []) }
 {
     match words {
-        [word] => is_run_word(word.as_slice()),
+        [only] => is_same(only.as_slice(), word),
         _ => false,
     }
 }
 
-/// The whole program: it reads a script from the source, runs it, and writes its report to the sink.
+/// Reads a script from the source, runs it, and writes its report to the sink.
+fn run_source<S: Source, K: Sink>(alloc: Global, source: &mut S, sink: &mut K) -> Status
+    requires reads { S.fault_count source.old < 2 ^ 64 - 1 }
+    requires writes { K.fault_count sink.old < 2 ^ 64 - 1 }
+    ensures done { result ≡ Status.Done → Ran (S.left source.old) (S.left source.new)
+        (K.held sink.old) (K.held sink.new) }
+    ensures part { result ≡ Status.WriteFault → RanInPart (S.left source.old) (S.left source.new)
+        (K.held sink.old) (K.held sink.new) }
+    ensures bad { (n : LineNo) (cause : LineFault) → result ≡ Status.BadScript n cause → Refuses
+        (S.left source.old) (S.left source.new) n.0 cause }
+    ensures answers { result ≢ Status.ReadFault → result ≢ Status.TooLarge → result ≢ Status.Memory
+        → AnswersWhole (S.left source.old) (S.left source.new) result }
+    ensures read { result ≡ Status.ReadFault → S.fault_count source.old < S.fault_count source.new }
+    ensures write { result ≡ Status.WriteFault → K.fault_count sink.old < K.fault_count sink.new }
+    ensures large { result ≡ Status.TooLarge → TakesMore (S.left source.old) (S.left source.new) }
+    ensures small { result ≢ Status.TooLarge → result ≢ Status.Memory
+        → TakesWithin (S.left source.old) (S.left source.new) }
+    ensures kept { result ≢ Status.Done → result ≢ Status.WriteFault → sink.new ≡ sink.old }
+    ensures others { (result ≢ Status.Usage) × (result ≢ Status.BadIndex) ×
+        (result ≢ Status.BadImage) × ((k : ℕ) → result ≢ Status.BadStream k) }
+{
+    match read_all(alloc, source) {
+        Ok(bytes) => run_bytes(alloc, bytes.as_slice(), sink),
+        Err(ReadEnd::Memory) => Status::Memory,
+        Err(ReadEnd::Fault) => Status::ReadFault,
+        Err(ReadEnd::TooLarge) => Status::TooLarge,
+    }
+}
+
+/// Reads a stream of frames from the source, and writes the lines of its messages to the sink.
+#[tactic(auto, using(crate::proofs::FrameAnswers::text_answer, crate::proofs::FrameAnswers::bad_answer))]
+fn frames_source<S: Source, K: Sink>(alloc: Global, source: &mut S, sink: &mut K) -> Status
+    requires reads { S.fault_count source.old < 2 ^ 64 - 1 }
+    requires writes { K.fault_count sink.old < 2 ^ 64 - 1 }
+    ensures done { result ≡ Status.Done → RanFrames (S.left source.old) (S.left source.new)
+        (K.held sink.old) (K.held sink.new) }
+    ensures part { result ≡ Status.WriteFault → RanFramesInPart (S.left source.old)
+        (S.left source.new) (K.held sink.old) (K.held sink.new) }
+    ensures bad { (k : ℕ) → result ≡ Status.BadStream k → GaveBadStream (S.left source.old)
+        (S.left source.new) k }
+    ensures answers { result ≢ Status.ReadFault → result ≢ Status.TooLarge → result ≢ Status.Memory
+        → IsFramesAnswer (S.left source.old) (S.left source.new) result }
+    ensures read { result ≡ Status.ReadFault → S.fault_count source.old < S.fault_count source.new }
+    ensures write { result ≡ Status.WriteFault → K.fault_count sink.old < K.fault_count sink.new }
+    ensures large { result ≡ Status.TooLarge → GaveMore (S.left source.old) (S.left source.new) }
+    ensures small { result ≢ Status.TooLarge → result ≢ Status.Memory
+        → TakesWithin (S.left source.old) (S.left source.new) }
+    ensures kept { result ≢ Status.Done → result ≢ Status.WriteFault → sink.new ≡ sink.old }
+    ensures others { (result ≢ Status.Usage) × (result ≢ Status.BadIndex) ×
+        (result ≢ Status.BadImage) × ((n : LineNo) (cause : LineFault)
+        → result ≢ Status.BadScript n cause) }
+{
+    let text = match run_frames(alloc, source) {
+        Ok(text) => text,
+        Err(FramesEnd::Memory) => return Status::Memory,
+        Err(FramesEnd::Fault) => return Status::ReadFault,
+        Err(FramesEnd::TooLarge) => return Status::TooLarge,
+        Err(FramesEnd::BadStream(k)) => return Status::BadStream(k),
+    };
+    match write_all(sink, text.as_slice()) {
+        Ok(()) => Status::Done,
+        Err(_) => Status::WriteFault,
+    }
+}
+
+/// The whole program.
 ///
-/// Where it is done, the source was read to its end, its bytes are a script that the program runs, and the sink gained
-/// the text of a legal history that serves that script. `BadScript` names the first line that is refused, and why; for
-/// the cause `NotBuilt` the bytes are a script, and it is the first line that the program does not run yet. On every
-/// answer but `Done` and `WriteFault` the sink is as before.
+/// `run`: it reads a script from the source, runs it, and writes its report to the sink. Where it is done, the source
+/// was read to its end, its bytes are a script that the program runs, and the sink gained the text of a legal history
+/// that serves that script. `BadScript` names the first line that is refused, and why; for the cause `NotBuilt` the
+/// bytes are a script, and it is the first line that the program does not run yet.
+///
+/// `frames`: it reads a stream of frames from the source, and writes a line for each message to the sink. Where it is
+/// done, the source was read to its end, and the sink gained the lines of the messages of its bytes, and nothing else.
+/// `BadStream` tells the fault of the first faulty frame, or that the stream ends within a frame.
+///
+/// `check`: it reads an image of a directory from the source, checks the directory, and writes the line of its check to the
+/// sink. Where it is done, the source was read to its end, and the directory has no commit, or stands for the documents of
+/// the newest. `BadIndex` names the first thing that is wrong with it, and `BadImage` says that the bytes are no image.
+///
+/// On every answer but `Done`, `WriteFault` and `BadIndex` the sink is as before.
 pub fn run_nrt<S: Source, K: Sink>(
     alloc: Global,
     words: &[Arg],
@@ -105,30 +188,63 @@ pub fn run_nrt<S: Source, K: Sink>(
 ) -> Status
     requires reads { S.fault_count source.old < 2 ^ 64 - 1 }
     requires writes { K.fault_count sink.old < 2 ^ 64 - 1 }
-    ensures done { result ≡ Status.Done → Ran (S.left source.old) (S.left source.new)
-        (K.held sink.old) (K.held sink.new) }
-    ensures part { result ≡ Status.WriteFault → RanInPart (S.left source.old) (S.left source.new)
-        (K.held sink.old) (K.held sink.new) }
-    ensures usage { result ≡ Status.Usage ↔ ¬ IsRun words.now }
+
+    // The words.
+    ensures usage { result ≡ Status.Usage ↔ ¬ IsKnownRow words.now }
     ensures unread { result ≡ Status.Usage → source.new ≡ source.old }
+
+    // `run`.
+    ensures done { IsRun words.now → result ≡ Status.Done → Ran (S.left source.old)
+        (S.left source.new) (K.held sink.old) (K.held sink.new) }
+    ensures part { IsRun words.now → result ≡ Status.WriteFault → RanInPart (S.left source.old)
+        (S.left source.new) (K.held sink.old) (K.held sink.new) }
     ensures bad { (n : LineNo) (cause : LineFault) → result ≡ Status.BadScript n cause → Refuses
         (S.left source.old) (S.left source.new) n.0 cause }
-    ensures answers { result ≢ Status.Usage → result ≢ Status.ReadFault → result ≢ Status.TooLarge
+    ensures answers { IsRun words.now → result ≢ Status.ReadFault → result ≢ Status.TooLarge
         → result ≢ Status.Memory → AnswersWhole (S.left source.old) (S.left source.new) result }
+
+    // `frames`.
+    ensures frames_done { IsFrames words.now → result ≡ Status.Done → RanFrames (S.left source.old)
+        (S.left source.new) (K.held sink.old) (K.held sink.new) }
+    ensures frames_part { IsFrames words.now → result ≡ Status.WriteFault → RanFramesInPart
+        (S.left source.old) (S.left source.new) (K.held sink.old) (K.held sink.new) }
+    ensures frames_bad { (k : ℕ) → result ≡ Status.BadStream k → GaveBadStream (S.left source.old)
+        (S.left source.new) k }
+    ensures frames_answers { IsFrames words.now → result ≢ Status.ReadFault
+        → result ≢ Status.TooLarge → result ≢ Status.Memory
+        → IsFramesAnswer (S.left source.old) (S.left source.new) result }
+    ensures frames_large { IsFrames words.now → result ≡ Status.TooLarge
+        → GaveMore (S.left source.old) (S.left source.new) }
+
+    // `check`.
+    ensures check_done { IsCheck words.now → result ≡ Status.Done → RanCheck (S.left source.old)
+        (S.left source.new) (K.held sink.old) (K.held sink.new) }
+    ensures check_wrong { result ≡ Status.BadIndex → FoundWrong (S.left source.old)
+        (S.left source.new) (K.held sink.old) (K.held sink.new) }
+    ensures check_part { IsCheck words.now → result ≡ Status.WriteFault → RanCheckInPart
+        (S.left source.old) (S.left source.new) (K.held sink.old) (K.held sink.new) }
+    ensures check_bad { result ≡ Status.BadImage → GaveNoImage (S.left source.old)
+        (S.left source.new) }
+    ensures check_answers { IsCheck words.now → result ≢ Status.ReadFault
+        → result ≢ Status.TooLarge → result ≢ Status.Memory
+        → AnswersCheck (S.left source.old) (S.left source.new) result }
+
+    // All three.
     ensures read { result ≡ Status.ReadFault → S.fault_count source.old < S.fault_count source.new }
     ensures write { result ≡ Status.WriteFault → K.fault_count sink.old < K.fault_count sink.new }
     ensures large { result ≡ Status.TooLarge → TakesMore (S.left source.old) (S.left source.new) }
     ensures small { result ≢ Status.TooLarge → result ≢ Status.Memory → result ≢ Status.Usage
         → TakesWithin (S.left source.old) (S.left source.new) }
-    ensures kept { result ≢ Status.Done → result ≢ Status.WriteFault → sink.new ≡ sink.old }
+    ensures kept { result ≢ Status.Done → result ≢ Status.WriteFault → result ≢ Status.BadIndex
+        → sink.new ≡ sink.old }
 {
-    if !is_run(words) {
-        return Status::Usage;
-    }
-    match read_all(alloc, source) {
-        Ok(bytes) => run_bytes(alloc, bytes.as_slice(), sink),
-        Err(ReadEnd::Memory) => Status::Memory,
-        Err(ReadEnd::Fault) => Status::ReadFault,
-        Err(ReadEnd::TooLarge) => Status::TooLarge,
+    if is_word(words, b"run") {
+        run_source(alloc, source, sink)
+    } else if is_word(words, b"frames") {
+        frames_source(alloc, source, sink)
+    } else if is_word(words, b"check") {
+        check_source(alloc, source, sink)
+    } else {
+        Status::Usage
     }
 }

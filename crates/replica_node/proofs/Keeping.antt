@@ -12,7 +12,7 @@ use Rattle.searcher_switch.specs.Searching.{searcher_names}
 use Rattle.replica_opening.specs.Known.{HasMeta, KnowsFile, KnowsHeld}
 use Rattle.replica_node.specs.declared.job.PointJob.{PointJob}
 use Rattle.replica_node.specs.declared.parts.Parts.{Parts}
-use Rattle.replica_node.specs.Sources.{CopiesFrom, ReadsAs, KeepsSource, HoldsOnly}
+use Rattle.replica_node.specs.Sources.{CopiesFrom, HeldReadAs, KeepsSource, HoldsOnly}
 use Rattle.replica_node.specs.Replica.{IsWholeReplica, IsJobAbove, HasMetas, names_of_job}
 use Rattle.replica_node.proofs.Carried.{HeldReads, JobReads, HoldsNoOther, held_along, job_along, was_held}
 use Rattle.replica_node.proofs.Cores.{IsCore}
@@ -46,10 +46,10 @@ metas_reads cells j h = record { each = λ q wanted here meta e. meta_here _ (re
 pub reads_metas : (cells : Cells) (j : Job) → JobReads (HasWanted j.want.files) cells j → HasMetas (reads_of cells) j
 reads_metas cells j h = record { each = λ q meta e here. meta_here (reads_under j.parts (reads_of cells)) _ q q meta refl (h.each q (meta_some j.want.files q meta e) here meta e) }
 
-pub as_reads : (source : Name → Content) (cells : Cells) (holdings : Holdings) → ReadsAs source cells holdings → HeldReads (Matches source) cells holdings
+pub as_reads : (source : Name → Content) (cells : Cells) (holdings : Holdings) → HeldReadAs source cells holdings → HeldReads (Matches source) cells holdings
 as_reads source cells holdings h = record { each = h.each }
 
-pub reads_as : (source : Name → Content) (cells : Cells) (holdings : Holdings) → HeldReads (Matches source) cells holdings → ReadsAs source cells holdings
+pub reads_as : (source : Name → Content) (cells : Cells) (holdings : Holdings) → HeldReads (Matches source) cells holdings → HeldReadAs source cells holdings
 reads_as source cells holdings h = record { each = h.each }
 
 pub copies_reads : (source : Name → Content) (cells : Cells) (j : Job) → CopiesFrom source (reads_of cells) j → JobReads (Matches source) cells j

@@ -16,13 +16,13 @@ pub record CopiesFrom (source reads : Name → Content) (j : Job) : Type 0 where
   pub each : (q : Name) → 0 < times (meta_names j.want.files) q → times j.missing q ≡ 0 → reads_under j.parts reads q ≡ source q
 
 -- each file of a segment that is held reads as at the source
-pub record ReadsAs (source : Name → Content) (cells : Cells) (holdings : Holdings) : Type 0 where
+pub record HeldReadAs (source : Name → Content) (cells : Cells) (holdings : Holdings) : Type 0 where
   pub each : (q : Name) → IsLasting q → 0 < count_of holdings q → (cells q).now ≡ source q
 
 module _ {D : Type 0} where
   -- each file of a segment that the replica holds, and each that its job has, reads as at the source
   pub record IsSourced (source : Name → Content) (cells : D → Cells) (p : Parts D) : Type 0 where
-    pub held : ReadsAs source (cells p.dir) p.files
+    pub held : HeldReadAs source (cells p.dir) p.files
     pub job : IfSome p.job (λ j. CopiesFrom source (reads_of (cells p.dir)) j.copy)
 
   -- where it was so, it is so

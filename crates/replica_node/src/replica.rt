@@ -125,7 +125,7 @@ impl<D: Dir> Replica<D> {
     ghost use Rattle.copy_job.specs.Jobs.{with_part, reads_under};
     ghost use Rattle.replica_node.specs.Answers.{point_answer};
     ghost use Rattle.replica_node.specs.Jobs.{IsPointJob, Agrees, IsStartingFault};
-    ghost use Rattle.replica_node.specs.Sources.{ReadsAs, IsSourced, KeepsSource, HoldsOnly, IsStillCopying, IsTakenApart};
+    ghost use Rattle.replica_node.specs.Sources.{HeldReadAs, IsSourced, KeepsSource, HoldsOnly, IsStillCopying, IsTakenApart};
     ghost use Rattle.replica_node.specs.Replica.{IsWholeReplica, AreStanding, IsWanted};
     ghost use Rattle.node_files.specs.Standing.{StandsForSome, IsStanding, ImagesStand};
 
@@ -479,7 +479,7 @@ impl<D: Dir> Replica<D> {
         // What stays.
         ensures same { IsTakenApart self result }
         ensures sourced { (source : Name → Content) → IsSourced source D.cells self
-            → ReadsAs source (D.cells result.dir) result.files }
+            → HeldReadAs source (D.cells result.dir) result.files }
         ensures fewer { (q : List ℕ) → count_of result.files q ≤ count_of self.files q }
         ensures stays { KeepsBytes self.files result.files (D.cells self.dir) (D.cells result.dir) }
         ensures later { D.faults self.dir ≤ D.faults result.dir }

@@ -17,8 +17,8 @@ use Rattle.wire_frames.specs.declared.message.Message.{Message}
 use Rattle.wire_frames.specs.declared.message.WireFault.{WireFault}
 use Rattle.wire_frames.specs.declared.message.WireFault.TheVariants.{Length, Kind, Body, Memory}
 use Rattle.wire_frames.specs.Wire.{message_kind, message_body, frame_of, wire_of, longest_frame, HasParts, IsFramable}
-use Rattle.wire_frames.specs.Streams.{told_length, IsFrameLength, IsUnfinished, IsWrongLength, HasFrame, is_kind, IsOfNoMessage, IsFrameFault, IsFrontFault, TakesMessage, TellsFront}
-use Rattle.wire_frames.specs.Reading.{Front, message_in, front_seen, front_read, whole_front, front_by, front_of}
+use Rattle.wire_frames.specs.Streams.{told_length, IsFrameLength, IsUnfinished, IsWrongLength, HasFrame, is_message_kind, IsOfNoMessage, IsFrameFault, IsFrontFault, TakesMessage, TellsFront}
+use Rattle.wire_frames.specs.Reading.{Front, message_in, front_seen, front_read, whole_front, front_by, stream_front}
 use Rattle.wire_frames.proofs.MessageLaws.{IsOfBody, message_takes, message_again}
 
 -- ---- the length of a frame
@@ -120,7 +120,7 @@ module _ (bytes : List ℕ) where
         framable = record { parts = t.parts; short = subst (λ (b : List ℕ). length b < longest_frame) (sym t.body_is) short };
         parts = whole ∙ ap (λ (b : List ℕ). frame_of kind b ++ after) (sym t.body_is) ∙ ap (λ (k : ℕ). frame_of k (message_body m) ++ after) (sym t.kind_is);
       }
-  by_message kind body after None e fits whole short = by (is_kind kind) refl
+  by_message kind body after None e fits whole short = by (is_message_kind kind) refl
     where
       frame : HasFrame bytes kind body
       frame = record { after = after; whole = whole; short = short }
@@ -131,7 +131,7 @@ module _ (bytes : List ℕ) where
           let no : Some m ≡ None = sym same ∙ e in
           cc
 
-      by : (b : Bool) → is_kind kind ≡ b → Tells (cond b (Err Body) (Err (Kind kind)))
+      by : (b : Bool) → is_message_kind kind ≡ b → Tells (cond b (Err Body) (Err (Kind kind)))
       by true h = (kind, body, frame, h, none)
       by false h = (body, frame, ap not h)
 
@@ -175,12 +175,12 @@ module _ (bytes : List ℕ) where
       let t = u32_format.takes bytes n rest fits e in
       by_length n rest e fits t.0.rest_fits (n == 0 || nat_lt longest_frame n) refl (nat_lt (length rest) n) refl
 
-  pub front_tells : AreBytes bytes → Tells (front_of bytes)
-  unfolding front_of
+  pub front_tells : AreBytes bytes → Tells (stream_front bytes)
+  unfolding stream_front
   front_tells fits = by_read (u32_at bytes) refl fits
 
   -- the same of what a function found
-  pub tells_seen : {X : Type 0} (see : X → Message × List ℕ) (r : Result (Option X) WireFault) → AreBytes bytes → front_seen see r ≡ front_of bytes → TellsFront see bytes r
+  pub tells_seen : {X : Type 0} (see : X → Message × List ℕ) (r : Result (Option X) WireFault) → AreBytes bytes → front_seen see r ≡ stream_front bytes → TellsFront see bytes r
   tells_seen see (Ok None) fits e = subst Tells (sym e) (front_tells fits)
   tells_seen see (Ok (Some x)) fits e = subst Tells (sym e) (front_tells fits)
   tells_seen see (Err fault) fits e = subst Tells (sym e) (front_tells fits)

@@ -12,7 +12,7 @@ use Rattle.wire_frames.specs.declared.message.Message.TheVariants.{Notice, State
 use Rattle.wire_frames.specs.declared.message.StateFault.{StateFault}
 use Rattle.wire_frames.specs.declared.message.StateFault.TheVariants.{Order, Memory}
 use Rattle.wire_frames.specs.Wire.{message_kind}
-use Rattle.wire_frames.specs.States.{file_message, state_message, messages_of_state, kind_behind, kind_wanted, kind_found, IsFirstDifference, IsFirstDisorder, AreInOrder, AreListed, TellsState}
+use Rattle.wire_frames.specs.States.{file_message, state_message, messages_of_state, kind_behind, kind_wanted, kind_found, IsFirstMismatch, IsFirstDisorder, AreInOrder, AreListed, TellsState}
 
 -- ---- the kind that is wanted
 
@@ -82,7 +82,7 @@ state_in_order s (suc i) = behind_in_order s.files s.completed i
 
 -- ---- the first difference
 
-pub one_difference : (found wanted : ℕ → Option ℕ) (a b : ℕ) → IsFirstDifference found wanted a → IsFirstDifference found wanted b → a ≡ b
+pub one_difference : (found wanted : ℕ → Option ℕ) (a b : ℕ) → IsFirstMismatch found wanted a → IsFirstMismatch found wanted b → a ≡ b
 one_difference found wanted a b p q = elim (cases_lt a b) [
   | inl lt ↦ absurd (p.differs (q.before a lt))
   | inr le ↦ elim (cases_lt b a) [ inl gt ↦ absurd (q.differs (p.before b gt)) | inr ge ↦ omega (arith, le, ge) ]
@@ -90,7 +90,7 @@ one_difference found wanted a b p q = elim (cases_lt a b) [
 
 -- what is out of order behind the state is so in the whole
 pub disorder_behind : (m : Message) (rest : List Message) (f c at : ℕ) → ((i : ℕ) → kind_wanted (m ∷ rest) (suc i) ≡ kind_behind f c i) → message_kind m ≡ 2
-    → IsFirstDifference (kind_found rest) (kind_behind f c) at → IsFirstDisorder (m ∷ rest) (suc at)
+    → IsFirstMismatch (kind_found rest) (kind_behind f c) at → IsFirstDisorder (m ∷ rest) (suc at)
 disorder_behind m rest f c at w k d = record {
   differs = λ e. d.differs (e ∙ w at);
   before = λ i lt. before_by i lt;

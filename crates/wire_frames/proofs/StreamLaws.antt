@@ -11,7 +11,7 @@ use Rattle.wire_frames.specs.declared.message.Message.TheVariants.{Notice, State
 use Rattle.wire_frames.specs.declared.message.WireFault.{WireFault}
 use Rattle.wire_frames.specs.declared.message.WireFault.TheVariants.{Length, Kind, Body, Memory}
 use Rattle.wire_frames.specs.Wire.{message_kind, message_body, frame_of, wire_of, IsFramable}
-use Rattle.wire_frames.specs.Streams.{BeginsWith, BeginsWithMessage, AreMessagesOf, IsUnfinished, IsFrameFault, IsStreamFault, IsCauseOf, IsFrontFault, TakesMessage, is_kind}
+use Rattle.wire_frames.specs.Streams.{BeginsWith, BeginsWithMessage, AreMessagesOf, IsUnfinished, IsFrameFault, IsStreamFault, IsCauseOf, IsFrontFault, TakesMessage, is_message_kind}
 use Rattle.wire_frames.proofs.FrameLaws.{length_frame, frame_not_unfinished, frame_not_wrong, one_frame, one_message}
 
 -- ---- one frame
@@ -20,7 +20,7 @@ use Rattle.wire_frames.proofs.FrameLaws.{length_frame, frame_not_unfinished, fra
 pub unfinished_ends : (bytes : List ℕ) → IsUnfinished bytes → ¬ BeginsWithMessage bytes
 unfinished_ends bytes u b = frame_not_unfinished (message_kind b.0) (message_body b.0) b.1 b.2.short (subst IsUnfinished b.3 u)
 
-kind_of_message : (m : Message) → is_kind (message_kind m) ≡ true
+kind_of_message : (m : Message) → is_message_kind (message_kind m) ≡ true
 kind_of_message (Notice generation version) = refl
 kind_of_message (State version generation primary_gen files completed infos) = refl
 kind_of_message (File name meta) = refl
@@ -37,7 +37,7 @@ fault_ends bytes (Length n) f b = frame_not_wrong (message_kind b.0) (message_bo
 fault_ends bytes (Kind k) f b =
     let frame = f.1 in
     let same = one_frame k (message_kind b.0) f.0 (message_body b.0) frame.after b.1 frame.short b.2.short (sym frame.whole ∙ b.3) in
-    true_not (is_kind k) (ap is_kind same.0 ∙ kind_of_message b.0) f.2
+    true_not (is_message_kind k) (ap is_message_kind same.0 ∙ kind_of_message b.0) f.2
 fault_ends bytes Body f b =
     let frame = f.2 in
     let same = one_frame f.0 (message_kind b.0) f.1 (message_body b.0) frame.after b.1 frame.short b.2.short (sym frame.whole ∙ b.3) in
@@ -72,14 +72,14 @@ one_frame_fault bytes (Kind k) Body p q =
     let a = p.1 in
     let b = q.2 in
     let same = one_frame k q.0 p.0 q.1 a.after b.after a.short b.short (sym a.whole ∙ b.whole) in
-    absurd (true_not (is_kind k) (ap is_kind same.0 ∙ q.3) p.2)
+    absurd (true_not (is_message_kind k) (ap is_message_kind same.0 ∙ q.3) p.2)
 one_frame_fault bytes Body (Length m) p q =
     let frame = p.2 in absurd (frame_not_wrong p.0 p.1 frame.after m frame.short (subst (λ (x : List ℕ). IsFrameFault x (Length m)) frame.whole q))
 one_frame_fault bytes Body (Kind l) p q =
     let a = q.1 in
     let b = p.2 in
     let same = one_frame l p.0 q.0 p.1 a.after b.after a.short b.short (sym a.whole ∙ b.whole) in
-    absurd (true_not (is_kind l) (ap is_kind same.0 ∙ p.3) q.2)
+    absurd (true_not (is_message_kind l) (ap is_message_kind same.0 ∙ p.3) q.2)
 one_frame_fault bytes Body Body p q = refl
 one_frame_fault bytes Memory g p q = absurd p
 one_frame_fault bytes f Memory p q = absurd q

@@ -11,7 +11,7 @@ use Rattle.wire_frames.specs.declared.message.WireFault.TheVariants.{Length, Kin
 use Rattle.wire_frames.specs.declared.parts.Parts.{Parts}
 use Rattle.wire_frames.specs.declared.parts.Parts.TheVariants.{Notice as NoticeParts, State as StateParts, File as FileParts, Completed as CompletedParts, Chunk as ChunkParts}
 use Rattle.wire_frames.specs.Wire.{longest_frame, longest_chunk}
-use Rattle.wire_frames.specs.Streams.{is_kind}
+use Rattle.wire_frames.specs.Streams.{is_message_kind}
 
 -- a string that passes a test
 abbrev pub tested_string_at : (List ℕ → Bool) → List ℕ → Read (List ℕ)
@@ -70,9 +70,11 @@ abbrev pub chunk_read : Read (List ℕ × ℕ) → Option Message
 chunk_read None = None
 chunk_read (Some (x, bytes)) = if nat_lt 0 (length bytes) && nat_le (length bytes) longest_chunk then Some (Chunk x.0 x.1 bytes) else None
 
+-- the notice of these numbers
 abbrev pub notice_from : ℕ × ℕ → Message
 notice_from x = Notice (record { 0 = x.0 }) (record { 0 = x.1 })
 
+-- the file of this name, with this metadata
 abbrev pub file_from : List ℕ × (List ℕ × (List ℕ × (ℕ × ℕ))) → Message
 file_from x = File x.0 (record { header = x.1.0; footer = x.1.1.0; length = x.1.1.1.0; checksum = x.1.1.1.1 })
 
@@ -99,7 +101,7 @@ front_seen see (Err fault) = Err fault
 -- a whole frame, by its message if it has one
 abbrev pub front_read : ℕ → Option Message → List ℕ → Front
 front_read kind (Some m) after = Ok (Some (m, after))
-front_read kind None after = if is_kind kind then Err Body else Err (Kind kind)
+front_read kind None after = if is_message_kind kind then Err Body else Err (Kind kind)
 
 -- the bytes of a whole frame, and what follows it
 abbrev pub whole_front : List ℕ → List ℕ → Front
@@ -115,8 +117,8 @@ front_by (Some (n, rest)) =
     else whole_front (take n rest) (drop n rest)
 
 -- the front of a stream
-unfoldable pub front_of : List ℕ → Front
-front_of bytes = front_by (u32_at bytes)
+unfoldable pub stream_front : List ℕ → Front
+stream_front bytes = front_by (u32_at bytes)
 
 -- the message of which these are the parts
 abbrev pub message_of : Parts → Message

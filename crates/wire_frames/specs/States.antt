@@ -36,13 +36,13 @@ abbrev pub kind_found : List Message → ℕ → Option ℕ
 kind_found messages i = option_map message_kind (slice_get messages i)
 
 -- the first place where what is found is not what is wanted
-pub record IsFirstDifference (found wanted : ℕ → Option ℕ) (at : ℕ) : Type 0 where
+pub record IsFirstMismatch (found wanted : ℕ → Option ℕ) (at : ℕ) : Type 0 where
   pub differs : found at ≢ wanted at
   pub before : (i : ℕ) → i < at → found i ≡ wanted i
 
 -- the first place where the messages are not those of a state: another kind, a message too many, or one that is missing
 abbrev pub IsFirstDisorder : List Message → ℕ → Type 0
-IsFirstDisorder messages at = IsFirstDifference (kind_found messages) (kind_wanted messages) at
+IsFirstDisorder messages at = IsFirstMismatch (kind_found messages) (kind_wanted messages) at
 
 -- at each place is the kind that is wanted there
 abbrev pub AreInOrder : List Message → Type 0

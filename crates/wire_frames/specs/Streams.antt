@@ -47,8 +47,8 @@ pub record HasFrame (bytes : List ℕ) (kind : ℕ) (body : List ℕ) : Type 0 w
   pub short : length body < longest_frame
 
 -- a kind of messages, 1 to 5
-abbrev pub is_kind : ℕ → Bool
-is_kind kind = nat_le 1 kind && nat_le kind 5
+abbrev pub is_message_kind : ℕ → Bool
+is_message_kind kind = nat_le 1 kind && nat_le kind 5
 
 -- the body is that of no message of this kind
 abbrev pub IsOfNoMessage : ℕ → List ℕ → Type 0
@@ -58,8 +58,8 @@ IsOfNoMessage kind body = (m : Message) → IsFramable m → message_kind m ≡ 
 -- whole, its kind is one, and its body is of no message of that kind.
 abbrev pub IsFrameFault : List ℕ → WireFault → Type 0
 IsFrameFault bytes (Length n) = IsWrongLength bytes n
-IsFrameFault bytes (Kind k) = (body : List ℕ) × HasFrame bytes k body × IsTrue (not (is_kind k))
-IsFrameFault bytes Body = (kind : ℕ) × (body : List ℕ) × HasFrame bytes kind body × IsTrue (is_kind kind) × IsOfNoMessage kind body
+IsFrameFault bytes (Kind k) = (body : List ℕ) × HasFrame bytes k body × IsTrue (not (is_message_kind k))
+IsFrameFault bytes Body = (kind : ℕ) × (body : List ℕ) × HasFrame bytes kind body × IsTrue (is_message_kind kind) × IsOfNoMessage kind body
 IsFrameFault bytes Memory = ⊥
 
 -- the first faulty frame of a stream has this fault: messages stand before it

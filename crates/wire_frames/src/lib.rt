@@ -13,3 +13,6 @@ pub use decoder::Decoder;
 pub use encoding::encode;
 pub use message::{Message, StateFault, WireFault};
 pub use states::{state_messages, state_of};
+
+#[cfg(test)]
+mod tests;

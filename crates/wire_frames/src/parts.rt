@@ -4,7 +4,7 @@ ghost use Rattle.std.specs.Prelude.{◌≡◌, IfOk, if◌then◌else◌};
 ghost use Rattle.std.specs.Option.{option_map};
 ghost use Rattle.wire_frames.specs.Wire.{HasParts};
 ghost use Rattle.wire_frames.specs.Streams.{TellsFront};
-ghost use Rattle.wire_frames.specs.Reading.{name_at, header_at, footer_at, notice_at, state_at, state_read, file_at, file_from, chunk_at, chunk_read, made_read, all_read, notice_from, message_in, message_of, front_seen, front_of};
+ghost use Rattle.wire_frames.specs.Reading.{name_at, header_at, footer_at, notice_at, state_at, state_read, file_at, file_from, chunk_at, chunk_read, made_read, all_read, notice_from, message_in, message_of, front_seen, stream_front};
 ghost use Rattle.file_names.specs.Names.{is_file_name};
 
 use crate::encoding::{CHUNK, COMPLETED, FILE, NOTICE, STATE};
@@ -187,9 +187,9 @@ fn parts_of(kind: u8, body: &[u8]) -> Option<Parts>
 }
 
 // The message at the front of a stream, and the bytes after it; nothing where its frame is not whole.
-#[tactic(auto, unfolding(crate::specs::Reading::front_of))]
+#[tactic(auto, unfolding(crate::specs::Reading::stream_front))]
 fn front_parts(bytes: &[u8]) -> Result<Option<(Parts, &[u8])>, WireFault>
-    ensures { front_seen (λ x. (message_of x.0, x.1.now)) result ≡ front_of bytes.now }
+    ensures { front_seen (λ x. (message_of x.0, x.1.now)) result ≡ stream_front bytes.now }
 {
     let Some((length, rest)) = u32_of(bytes) else {
         return Ok(None);

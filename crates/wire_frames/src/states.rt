@@ -2,7 +2,7 @@
 
 ghost use Rattle.std.specs.Prelude.{◌≡◌, ◌⊎◌, ◌<◌, ◌^◌, ◌++◌, ◌∷◌, ◌↔◌, ℕ, length, map, Some, Ok, Err, IfOk, IfSome, IfNone, OnOk};
 ghost use Rattle.copy_state.specs.declared.state.CopyState.{CopyState};
-ghost use Rattle.wire_frames.specs.States.{file_message, messages_of_state, kind_behind, kind_found, IsFirstDifference, IsFirstDisorder, AreListed, TellsState};
+ghost use Rattle.wire_frames.specs.States.{file_message, messages_of_state, kind_behind, kind_found, IsFirstMismatch, IsFirstDisorder, AreListed, TellsState};
 
 use crate::encoding::{COMPLETED, FILE, kind_of};
 use crate::message::{Message, StateFault};
@@ -75,7 +75,7 @@ fn kind_behind(files: u32, completed: u32, at: usize) -> Option<u8>
 // The first place behind a state where the messages are not its files and then its completed names.
 fn disorder_behind(files: u32, completed: u32, messages: &[Message]) -> Option<usize>
     ensures some { IfSome result (λ at.
-        IsFirstDifference (kind_found messages.now) (kind_behind files completed) at) }
+        IsFirstMismatch (kind_found messages.now) (kind_behind files completed) at) }
     ensures none { IfNone result ((i : ℕ)
         → kind_found messages.now i ≡ kind_behind files completed i) }
 {

@@ -1,0 +1,3 @@
+mod NameTests
+mod Format
+mod Taking

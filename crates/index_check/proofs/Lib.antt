@@ -1,0 +1,11 @@
+mod Exact
+mod Loads
+mod Postings
+mod Terms
+mod OneSegment
+mod Walk
+mod Twins
+mod Places
+mod DocumentsRead
+mod LiveRows
+mod Commits

@@ -1,0 +1,43 @@
+//! What is wrong with a directory.
+
+ghost use Rattle.std.specs.Prelude.{◌≡◌};
+
+use codec_frame::FileFault;
+use file_names::FileName;
+use nrt_base::{Key, NoMemory};
+
+/// Why a check was refused: the first of these, segments in the order of the infos and their files in ascending order.
+/// `NoFile` to `Postings` are looked for segment by segment, the others after all segments.
+#[derive(Debug, Drop, PartialEq, Eq)]
+pub enum CheckFault {
+    /// Out of memory.
+    Memory,
+    /// The disk failed.
+    Failed,
+    /// The infos name this file, which does not exist.
+    NoFile(FileName),
+    /// This file, that of the infos included, is refused by its reader.
+    File(FileName, FileFault),
+    /// In this file the segment's number, the number of rows or that of live rows is not the one that the infos want.
+    Disagrees {
+        name: FileName,
+        want: u64,
+        found: u64,
+    },
+    /// The postings in this file are not those of the segment's rows.
+    Postings(FileName),
+    /// A live row in this file of documents has the key of a live row before it.
+    TwoRows(FileName, Key),
+    /// The live rows in order of key are other documents, first at this place.
+    OtherDocs(usize),
+}
+
+impl From<NoMemory> for CheckFault {
+    ghost use Rattle.index_check.specs.declared.fault.CheckFault.TheVariants.{Memory};
+
+    ghost from_gives = { λ _ fault. fault ≡ Memory };
+
+    fn from(_: NoMemory) -> Self {
+        CheckFault::Memory
+    }
+}

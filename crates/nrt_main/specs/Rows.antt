@@ -1,0 +1,9 @@
+-- The words that the program knows.
+use Rattle.std.specs.Prelude.{ℕ, ◌⊎◌, List}
+use Rattle.nrt_main.specs.Headline.{IsRun}
+use Rattle.nrt_main.specs.Frames.{IsFrames}
+use Rattle.nrt_main.specs.Check.{IsCheck}
+
+-- the words are a row of the table: `run`, `frames` or `check`
+abbrev pub IsKnownRow : List (List ℕ) → Type 0
+IsKnownRow words = IsRun words ⊎ (IsFrames words ⊎ IsCheck words)
