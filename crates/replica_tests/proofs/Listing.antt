@@ -16,7 +16,7 @@ use Rattle.copy_state.specs.declared.meta.FileMetaData.{FileMetaData}
 use Rattle.copy_state.specs.declared.state.CopyState.{CopyState}
 use Rattle.copy_state.specs.States.{meta_names, IsCopyState}
 use Rattle.replica_node.specs.Replica.{IsPointState}
-use Rattle.replica_tests.specs.States.{AreListed}
+use Rattle.replica_tests.specs.States.{HaveShortNames}
 
 -- infos of one segment
 pub one_spelled : (infos : Infos) (r : SegRecord) → 0 < infos.generation.0 → 0 < infos.version.0 → IsRecord r → infos.segs ≡ r ∷ [] → CanSpell infos
@@ -49,7 +49,7 @@ listed_more names i name meta old new lt is low push was = record {
     more = ap (λ (n : Name). take i names ++ n ∷ []) is ∙ sym (ap (λ n. take n names) (add-one i) ∙ take-suc names i name lt)
 
 -- the state is one of a point
-module _ (infos : Infos) (names slice : List Name) (are : AreFilesOf infos names) (slice_is : slice ≡ names) (state : CopyState) (listed : AreListed slice state.files) (spelled : IsInfosFile infos state.infos) where
+module _ (infos : Infos) (names slice : List Name) (are : AreFilesOf infos names) (slice_is : slice ≡ names) (state : CopyState) (listed : HaveShortNames slice state.files) (spelled : IsInfosFile infos state.infos) where
   files_are : meta_names state.files ≡ names
   files_are = listed.names_are ∙ slice_is
 

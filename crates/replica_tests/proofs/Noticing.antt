@@ -9,7 +9,7 @@ use Rattle.searcher_switch.specs.declared.searchers.Ticket.{Ticket}
 use Rattle.searcher_switch.specs.Tickets.{ticket_at, tickets_without}
 use Rattle.replica_node.specs.declared.parts.Parts.{Parts}
 use Rattle.replica_tests.specs.declared.seen.Seen.{Seen}
-use Rattle.replica_tests.specs.Seeing.{IsSeen, open_numbers, ticket_numbers}
+use Rattle.replica_tests.specs.Seeing.{IsReplicaSeen, numbers_open, numbers_given}
 
 abbrev head_of : List ℕ → ℕ
 head_of [] = 0
@@ -27,19 +27,19 @@ test_of : (m n : ℕ) → m ≡ n → (m == n) ≡ true
 test_of m n e = grind (arith, nat_tests, e)
 
 -- the first ticket that was given out is open, and closed it leaves the others
-pub first_closed : (ts : List (Open Shown)) (given : List Ticket) (ticket : Ticket) → open_numbers ts ≡ ticket_numbers given → Some ticket ≡ slice_get given 0
-    → (is_some (ticket_at ticket.number ts) ≡ true) × (open_numbers (tickets_without ticket.number ts) ≡ ticket_numbers (remove given 0))
+pub first_closed : (ts : List (Open Shown)) (given : List Ticket) (ticket : Ticket) → numbers_open ts ≡ numbers_given given → Some ticket ≡ slice_get given 0
+    → (is_some (ticket_at ticket.number ts) ≡ true) × (numbers_open (tickets_without ticket.number ts) ≡ numbers_given (remove given 0))
 first_closed ts [] ticket same first = absurd (true≢false (ap (λ (o : Option Ticket). is_some o) first))
 first_closed [] (g ∷ gs) ticket same first = absurd (omega (arith, ap (λ (l : List ℕ). length l) same))
 first_closed (o ∷ os) (g ∷ gs) ticket same first = by (o.number == ticket.number) (test_of o.number ticket.number (ap head_of same ∙ sym (ap number_of first)))
   where
-    by : (b : Bool) → b ≡ true → (is_some (if b then Some o else ticket_at ticket.number os) ≡ true) × (open_numbers (if b then os else o ∷ tickets_without ticket.number os) ≡ ticket_numbers gs)
+    by : (b : Bool) → b ≡ true → (is_some (if b then Some o else ticket_at ticket.number os) ≡ true) × (numbers_open (if b then os else o ∷ tickets_without ticket.number os) ≡ numbers_given gs)
     by true e = (refl, ap rest_of same)
     by false e = absurd (true≢false (sym e))
 
 -- what is seen of a replica, after a ticket is given back
-pub seen_closed : {D : Type 0} (old new : Parts D) (seen : Seen) → IsSeen old seen → (ticket : Ticket) (given : List Ticket) → Some ticket ≡ slice_get seen.tickets 0 → given ≡ remove seen.tickets 0
-    → new ≡ record old { dir = new.dir; files = new.files; searchers = new.searchers } → new.searchers.point ≡ old.searchers.point → new.searchers.tickets ≡ tickets_without ticket.number old.searchers.tickets → IsSeen new (record seen { tickets = given })
+pub seen_closed : {D : Type 0} (old new : Parts D) (seen : Seen) → IsReplicaSeen old seen → (ticket : Ticket) (given : List Ticket) → Some ticket ≡ slice_get seen.tickets 0 → given ≡ remove seen.tickets 0
+    → new ≡ record old { dir = new.dir; files = new.files; searchers = new.searchers } → new.searchers.point ≡ old.searchers.point → new.searchers.tickets ≡ tickets_without ticket.number old.searchers.tickets → IsReplicaSeen new (record seen { tickets = given })
 seen_closed {D} old new seen is ticket given first rest e point closed = record {
   generation = ap (λ (p : Parts D). p.seen.0) e ∙ is.generation;
   version = ap (λ (x : Point Shown). x.version.0) point ∙ is.version;
@@ -47,5 +47,5 @@ seen_closed {D} old new seen is ticket given first rest e point closed = record 
   job = ap (λ (p : Parts D). p.job) e ∙ is.job;
   next = ap (λ (p : Parts D). p.commits.next) e ∙ is.next;
   in_flight = ap (λ (p : Parts D). is_some p.commits.stage) e ∙ is.in_flight;
-  tickets = ap (λ (ts : List (Open Shown)). open_numbers ts) closed ∙ (first_closed old.searchers.tickets seen.tickets ticket is.tickets first).1 ∙ ap (λ (ts : List Ticket). ticket_numbers ts) (sym rest);
+  tickets = ap (λ (ts : List (Open Shown)). numbers_open ts) closed ∙ (first_closed old.searchers.tickets seen.tickets ticket is.tickets first).1 ∙ ap (λ (ts : List Ticket). numbers_given ts) (sym rest);
 }

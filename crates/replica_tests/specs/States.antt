@@ -15,7 +15,7 @@ use Rattle.segment_infos.specs.declared.infos.Infos.{Infos}
 use Rattle.replica_node.specs.Replica.{IsPointState}
 
 -- the files have these names, which are short
-pub record AreListed (names : List Name) (files : List (Name × FileMetaData)) : Type 0 where
+pub record HaveShortNames (names : List Name) (files : List (Name × FileMetaData)) : Type 0 where
   pub names_are : meta_names files ≡ names
   pub short : All (λ q. length q ≤ 46) names
 

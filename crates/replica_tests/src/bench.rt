@@ -2,7 +2,7 @@
 
 ghost use Rattle.std.specs.Prelude.{OnOk, IfOk};
 ghost use Rattle.replica_opening.specs.Opened.{IsSettledOn};
-ghost use Rattle.replica_tests.specs.Seeing.{IsSeen};
+ghost use Rattle.replica_tests.specs.Seeing.{IsReplicaSeen};
 
 use crate::Seen;
 use crate::calls::{self, Turn};
@@ -155,8 +155,8 @@ impl<D: Dir> Bench<D> {
     }
 
     fn new_point(&mut self, generation: u64, version: u64) -> Result<(), Fail>
-        requires { IsSeen self.old.replica self.old.seen }
-        ensures { OnOk result (IsSeen self.new.replica self.new.seen) }
+        requires { IsReplicaSeen self.old.replica self.old.seen }
+        ensures { OnOk result (IsReplicaSeen self.new.replica self.new.seen) }
     {
         let due = self.plain.answer(generation, version);
         let answer = calls::new_point(&mut self.replica, &mut self.seen, generation, version);
@@ -164,8 +164,8 @@ impl<D: Dir> Bench<D> {
     }
 
     fn copy(&mut self, alloc: Global) -> Result<(), Fail>
-        requires { IsSeen self.old.replica self.old.seen }
-        ensures { OnOk result (IsSeen self.new.replica self.new.seen) }
+        requires { IsReplicaSeen self.old.replica self.old.seen }
+        ensures { OnOk result (IsReplicaSeen self.new.replica self.new.seen) }
     {
         calls::copy(alloc, &mut self.replica, &mut self.seen)?;
         self.plain.point = PlainPoint {
@@ -176,8 +176,8 @@ impl<D: Dir> Bench<D> {
     }
 
     fn acquire(&mut self, alloc: Global) -> Result<(), Fail>
-        requires { IsSeen self.old.replica self.old.seen }
-        ensures { OnOk result (IsSeen self.new.replica self.new.seen) }
+        requires { IsReplicaSeen self.old.replica self.old.seen }
+        ensures { OnOk result (IsReplicaSeen self.new.replica self.new.seen) }
     {
         let version = calls::acquire(alloc, &mut self.replica, &mut self.seen)?;
         self.plain.tickets.push(version)?;
@@ -188,8 +188,8 @@ impl<D: Dir> Bench<D> {
     }
 
     fn release(&mut self, alloc: Global) -> Result<(), Fail>
-        requires { IsSeen self.old.replica self.old.seen }
-        ensures { OnOk result (IsSeen self.new.replica self.new.seen) }
+        requires { IsReplicaSeen self.old.replica self.old.seen }
+        ensures { OnOk result (IsReplicaSeen self.new.replica self.new.seen) }
     {
         if self.plain.tickets.is_empty() {
             return Ok(());
@@ -200,8 +200,8 @@ impl<D: Dir> Bench<D> {
     }
 
     fn commit(&mut self, alloc: Global) -> Result<(), Fail>
-        requires { IsSeen self.old.replica self.old.seen }
-        ensures { OnOk result (IsSeen self.new.replica self.new.seen) }
+        requires { IsReplicaSeen self.old.replica self.old.seen }
+        ensures { OnOk result (IsReplicaSeen self.new.replica self.new.seen) }
     {
         let commit = PlainCommit {
             number: self.seen.next,
@@ -216,8 +216,8 @@ impl<D: Dir> Bench<D> {
     }
 
     fn play_one(&mut self, alloc: Global, call: Call) -> Result<(), Fail>
-        requires { IsSeen self.old.replica self.old.seen }
-        ensures { OnOk result (IsSeen self.new.replica self.new.seen) }
+        requires { IsReplicaSeen self.old.replica self.old.seen }
+        ensures { OnOk result (IsReplicaSeen self.new.replica self.new.seen) }
     {
         match call {
             Call::NewPoint(generation, version) => self.new_point(generation, version),
@@ -229,8 +229,8 @@ impl<D: Dir> Bench<D> {
     }
 
     fn play(&mut self, alloc: Global, seed: &mut u64) -> Result<(), Fail>
-        requires { IsSeen self.old.replica self.old.seen }
-        ensures { OnOk result (IsSeen self.new.replica self.new.seen) }
+        requires { IsReplicaSeen self.old.replica self.old.seen }
+        ensures { OnOk result (IsReplicaSeen self.new.replica self.new.seen) }
     {
         for _ in 0..50 {
             let call = random_call(seed, self.plain.point);
@@ -291,8 +291,8 @@ fn played<D: FaultDir + Drop>(
     seed: &mut u64,
     pick: u64,
 ) -> Result<Bench<D>, Fail>
-    requires { IsSeen bench.replica bench.seen }
-    ensures { IfOk result (λ b. IsSeen b.replica b.seen) }
+    requires { IsReplicaSeen bench.replica bench.seen }
+    ensures { IfOk result (λ b. IsReplicaSeen b.replica b.seen) }
 {
     let mut bench = bench;
     bench.play(alloc, seed)?;
@@ -303,7 +303,7 @@ fn played<D: FaultDir + Drop>(
 
 // A bench after a crash.
 fn reopened<D: FaultDir + Drop>(alloc: Global, bench: Bench<D>, pick: u64) -> Result<Bench<D>, Fail>
-    ensures { IfOk result (λ b. IsSeen b.replica b.seen) }
+    ensures { IfOk result (λ b. IsReplicaSeen b.replica b.seen) }
 {
     let Bench {
         replica,

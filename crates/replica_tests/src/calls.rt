@@ -3,7 +3,7 @@
 ghost use Rattle.std.specs.Prelude.{◌≡◌, ◌<◌, [], OnOk, IfOk};
 ghost use Rattle.replica_opening.specs.Opened.{IsSettledOn};
 ghost use Rattle.replica_node.specs.Starting.{IsJustOpened};
-ghost use Rattle.replica_tests.specs.Seeing.{IsSeen};
+ghost use Rattle.replica_tests.specs.Seeing.{IsReplicaSeen};
 ghost use Rattle.replica_tests.specs.States.{IsEmptyState};
 
 use crate::Seen;
@@ -37,8 +37,8 @@ pub fn new_point<D: Dir>(
     generation: u64,
     version: u64,
 ) -> PointAnswer
-    requires { IsSeen replica.old seen.old }
-    ensures { IsSeen replica.new seen.new }
+    requires { IsReplicaSeen replica.old seen.old }
+    ensures { IsReplicaSeen replica.new seen.new }
 {
     let answer = replica.new_point(Gen(generation), Version(version));
     seen.generation = seen.generation.max(generation);
@@ -70,8 +70,8 @@ fn empty_state(alloc: Global, generation: Gen, version: Version) -> Result<CopyS
 
 /// Copies the next version of the greatest generation seen.
 pub fn copy<D: Dir>(alloc: Global, replica: &mut Replica<D>, seen: &mut Seen) -> Result<(), Fail>
-    requires { IsSeen replica.old seen.old }
-    ensures { OnOk result (IsSeen replica.new seen.new) }
+    requires { IsReplicaSeen replica.old seen.old }
+    ensures { OnOk result (IsReplicaSeen replica.new seen.new) }
 {
     if seen.version >= MANY || seen.jobs >= MANY || seen.generation == 0 {
         return Err(Fail::new("too many points"));
@@ -95,8 +95,8 @@ pub fn acquire<D: Dir>(
     replica: &mut Replica<D>,
     seen: &mut Seen,
 ) -> Result<u64, Fail>
-    requires { IsSeen replica.old seen.old }
-    ensures { OnOk result (IsSeen replica.new seen.new) }
+    requires { IsReplicaSeen replica.old seen.old }
+    ensures { OnOk result (IsReplicaSeen replica.new seen.new) }
 {
     let ticket = replica.acquire(alloc)?;
     let lease = replica.lease(alloc, &ticket);
@@ -110,8 +110,8 @@ pub fn release<D: Dir>(
     replica: &mut Replica<D>,
     seen: &mut Seen,
 ) -> Result<u64, Fail>
-    requires { IsSeen replica.old seen.old }
-    ensures { OnOk result (IsSeen replica.new seen.new) }
+    requires { IsReplicaSeen replica.old seen.old }
+    ensures { OnOk result (IsReplicaSeen replica.new seen.new) }
 {
     if seen.tickets.as_slice().is_empty() {
         return Err(Fail::new("no ticket is open"));
@@ -128,8 +128,8 @@ pub fn commit<D: Dir>(
     replica: &mut Replica<D>,
     seen: &mut Seen,
 ) -> Result<Turn, Fail>
-    requires { IsSeen replica.old seen.old }
-    ensures { OnOk result (IsSeen replica.new seen.new) }
+    requires { IsReplicaSeen replica.old seen.old }
+    ensures { OnOk result (IsReplicaSeen replica.new seen.new) }
 {
     if seen.next >= MANY {
         return Err(Fail::new("too many commits"));
@@ -154,7 +154,7 @@ pub fn commit<D: Dir>(
 /// What is seen of a replica that was just opened.
 fn seen_of<D: Dir>(alloc: Global, replica: &Replica<D>) -> Seen
     requires { IsJustOpened replica.now }
-    ensures { IsSeen replica.now result }
+    ensures { IsReplicaSeen replica.now result }
 {
     Seen {
         generation: replica.seen().0,
@@ -169,7 +169,7 @@ fn seen_of<D: Dir>(alloc: Global, replica: &Replica<D>) -> Seen
 /// A replica on a directory.
 pub fn open<D: FaultDir + Drop>(alloc: Global, dir: D) -> Result<(Replica<D>, Seen), Fail>
     requires { IsSettledOn (D.cells dir) }
-    ensures { IfOk result (λ b. IsSeen b.0 b.1) }
+    ensures { IfOk result (λ b. IsReplicaSeen b.0 b.1) }
 {
     let replica = opened(alloc, dir)?;
     let seen = seen_of(alloc, &replica);
@@ -182,7 +182,7 @@ pub fn reopen<D: FaultDir + Drop>(
     replica: Replica<D>,
     pick: u64,
 ) -> Result<(Replica<D>, Seen), Fail>
-    ensures { IfOk result (λ b. IsSeen b.0 b.1) }
+    ensures { IfOk result (λ b. IsReplicaSeen b.0 b.1) }
 {
     let mut dir = replica.into_dir();
     dir.crash(pick)?;

@@ -7,7 +7,7 @@ ghost use Rattle.replica_opening.specs.Opened.{IsSettledOn};
 ghost use Rattle.replica_node.specs.Replica.{IsPointState};
 ghost use Rattle.segment_infos.specs.declared.infos.Infos.{Infos};
 ghost use Rattle.segment_infos.specs.Infos.{CanSpell};
-ghost use Rattle.replica_tests.specs.States.{AreListed, IsDuePart};
+ghost use Rattle.replica_tests.specs.States.{HaveShortNames, IsDuePart};
 
 use crate::files::{DOCS, INFO, POST, SEG, crashed, opened_on};
 use crate::openings::{names_on, opened};
@@ -53,7 +53,7 @@ fn listed(
     names: &[FileName],
     metas: &[FileMetaData],
 ) -> Result<List<(FileName, FileMetaData)>, Fail>
-    ensures { IfOk result (AreListed names.now) }
+    ensures { IfOk result (HaveShortNames names.now) }
 {
     let mut files = List::new(alloc);
     let mut at = 0;
