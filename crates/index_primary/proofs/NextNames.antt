@@ -163,13 +163,13 @@ module _ (infos : Infos) (loose still : List ℕ) (kept : List Kept) (new : Opti
 
   -- AND IS OF A SEGMENT that was drawn
   own_new : (n : New) (q : Name) → IsDrawn infos loose kept n → IsNewName n q → IsOwnFile infos loose q
-  own_new n q d (new_part which e) = (n.0, (inl d.there, (omega (arith, d.below, h.small), inl (which, e))))
-  own_new n q d (new_live marked e) = (n.0, (inl d.there, (omega (arith, d.below, h.small), inr (1, (omega arith, e)))))
+  own_new n q d (new_part which e) = (n.0, inl d.there, (omega (arith, d.below, h.small), inl (which, e)))
+  own_new n q d (new_live marked e) = (n.0, inl d.there, (omega (arith, d.below, h.small), inr (1, omega arith, e)))
 
   own_raised : (q : Name) → IsRaised infos.generation.0 kept q → IsOwnFile infos loose q
   own_raised q r =
       let of : Contains infos.segs r.k.0 = all_in (λ (k : Kept). Contains infos.segs k.0) r.k kept h.of r.there in
-      (r.k.0.seg.0, (inr (r.k.0, (of, refl)), (omega (arith, (bounds r.k r.there).0, h.small), inr (next_live_gen infos.generation.0 r.k.0, ((bounds r.k r.there).1, r.is)))))
+      (r.k.0.seg.0, inr (r.k.0, of, refl), (omega (arith, (bounds r.k r.there).0, h.small), inr (next_live_gen infos.generation.0 r.k.0, (bounds r.k r.there).1, r.is)))
 
   pub written_own : (q : Name) → is_among written q ≡ true → IsOwnFile infos loose q
   written_own q there = elim (cases_of q there) [ inl (n, (d, e, is)) ↦ own_new n q d is | inr r ↦ own_raised q r ]

@@ -19,7 +19,7 @@ use Rattle.node_files.specs.Node.{IsWholeNode}
 use Rattle.node_files.specs.Appearing.{NoneAppears, AppearsOnly, IsNameInFlight}
 
 -- ---- what stands stood
-there_or : (o : Content) → (o ≡ None) ⊎ (is_some o ≡ true)
+pub there_or : (o : Content) → (o ≡ None) ⊎ (is_some o ≡ true)
 there_or None = inl refl
 there_or (Some bytes) = inr refl
 
