@@ -39,7 +39,7 @@ use Rattle.index_primary.specs.Publishing.{names_of, next_infos, IsStep}
 use Rattle.index_primary.specs.NextNames.{Kept, New, IsIn, gen_after, new_gen, raised_names, new_names, AreApart, IsDrawn, AreNextNames}
 use Rattle.segment_steps.specs.Next.{next_live_gen}
 use Rattle.index_primary.specs.NextRecords.{IsNextRecord, IsFreshRecord, AreFresh, AreNextRecords}
-use Rattle.index_primary.proofs.NextNames.{written_undrawn, written_once, still_undrawn}
+use Rattle.index_primary.proofs.NextNames.{written_undrawn, written_own, written_once, still_undrawn}
 use Rattle.index_primary.proofs.NextRecords.{next_spelled, next_numbered}
 use Rattle.index_primary.specs.Turns.{kept_of, SomeDie, SomeDieIn}
 use Rattle.index_primary.proofs.Turns.{raised_are, kept_are, each_is, through, of_turns, apart_turns, new_named, new_record}
@@ -245,5 +245,6 @@ module _ (reads : Name → Content) (infos : Infos) (segs : List Shown) (docs : 
     named = named_next;
     once = written_once infos loose still kept (new_of work.files) made.records (names_of made.files) next_names_are;
     undrawn = written_undrawn infos loose still kept (new_of work.files) made.records (names_of made.files) next_names_are;
+    own = written_own infos loose still kept (new_of work.files) made.records (names_of made.files) next_names_are;
     rest = still_undrawn infos loose still kept (new_of work.files) made.records (names_of made.files) next_names_are;
   }

@@ -13,7 +13,7 @@ use Rattle.segment_infos.specs.declared.infos.SegRecord.{SegRecord}
 use Rattle.segment_infos.specs.declared.infos.Infos.{Infos}
 use Rattle.file_deleter.specs.Holdings.{times}
 use Rattle.file_deleter.proofs.NameLemmas.{times-cons, times-append, not_among_times, among-append}
-use Rattle.index_primary.specs.Held.{drawn_to, IsNextLive, IsUndrawn, part, live, next_live}
+use Rattle.index_primary.specs.Held.{drawn_to, IsNextLive, IsUndrawn, IsOwnFile, part, live, next_live}
 use Rattle.index_primary.specs.Publishing.{next_infos}
 use Rattle.index_primary.specs.NextNames.{Kept, New, IsIn, gen_after, new_gen, raised_names, new_names, AreApart, IsDrawn, AreNextNames}
 use Rattle.segment_steps.specs.Next.{next_live_gen}
@@ -160,6 +160,19 @@ module _ (infos : Infos) (loose still : List ℕ) (kept : List Kept) (new : Opti
   -- WHAT IS WRITTEN WAS NOT WRITTEN YET
   pub written_undrawn : (q : Name) → is_among written q ≡ true → IsUndrawn infos loose q
   written_undrawn q there = elim (cases_of q there) [ inl (n, (d, e, is)) ↦ undrawn_new n q d is | inr r ↦ undrawn_raised q r ]
+
+  -- AND IS OF A SEGMENT that was drawn
+  own_new : (n : New) (q : Name) → IsDrawn infos loose kept n → IsNewName n q → IsOwnFile infos loose q
+  own_new n q d (new_part which e) = (n.0, inl d.there, (omega (arith, d.below, h.small), inl (which, e)))
+  own_new n q d (new_live marked e) = (n.0, inl d.there, (omega (arith, d.below, h.small), inr (1, omega arith, e)))
+
+  own_raised : (q : Name) → IsRaised infos.generation.0 kept q → IsOwnFile infos loose q
+  own_raised q r =
+      let of : Contains infos.segs r.k.0 = all_in (λ (k : Kept). Contains infos.segs k.0) r.k kept h.of r.there in
+      (r.k.0.seg.0, inr (r.k.0, of, refl), (omega (arith, (bounds r.k r.there).0, h.small), inr (next_live_gen infos.generation.0 r.k.0, (bounds r.k r.there).1, r.is)))
+
+  pub written_own : (q : Name) → is_among written q ≡ true → IsOwnFile infos loose q
+  written_own q there = elim (cases_of q there) [ inl (n, (d, e, is)) ↦ own_new n q d is | inr r ↦ own_raised q r ]
 
   -- the new one's names are none of the others'
   cross : (n : New) (q : Name) → IsDrawn infos loose kept n → IsNewName n q → IsRaised infos.generation.0 kept q → ⊥

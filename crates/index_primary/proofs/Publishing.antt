@@ -23,7 +23,9 @@ use Rattle.node_files.proofs.Standing.{segments_along, standing_kept}
 use Rattle.index_primary.specs.declared.parts.Parts.{Parts}
 use Rattle.index_primary.specs.declared.parts.Publish.{Publish}
 use Rattle.index_primary.specs.declared.ready.Ready.{Ready}
-use Rattle.index_primary.specs.Held.{IsHeld, IsUndrawn, AreNumbered}
+use Rattle.node_files.specs.Appearing.{AppearsOnly}
+use Rattle.node_files.proofs.Appearing.{keeps_only}
+use Rattle.index_primary.specs.Held.{IsHeld, IsUndrawn, IsOwnFile, AreNumbered}
 use Rattle.index_primary.specs.Primary.{rest_names, primary_names, rest_loose, loose_of, IsPrimary}
 use Rattle.index_primary.specs.Publishing.{names_of, ReadsSo, IsReady, HasWritten}
 use Rattle.index_primary.proofs.Holding.{named_times, undrawn_plain}
@@ -129,6 +131,12 @@ module _ {D : Type 0} (cells : D → Cells) (p : Parts D) (r : Ready) (is : IsPr
   pub primary_unwritten : (dir : D) (files : Holdings) → ((q : Name) → count_of files q ≡ count_of p.files q) → KeepsFiles r.written p.files files (cells p.dir) (cells dir) → IsPrimary cells (record p { dir = dir; files = files })
   primary_unwritten dir files same keeps = primary_same cells p is dir files
       (node_same_counts (cells p.dir) (cells dir) p.files files (primary_names p) r.written p.commits is.node apart keeps same) keeps.reads same
+
+-- what was written is the writer's own
+pub written_appears : {D : Type 0} (cells : D → Cells) (p : Parts D) (r : Ready) → IsReady p r → (dir : D) (files : Holdings) → KeepsFiles r.written p.files files (cells p.dir) (cells dir)
+    → AppearsOnly (IsOwnFile p.infos (loose_of p)) (cells p.dir) (cells dir)
+written_appears cells p r ready dir files keeps = keeps_only (IsOwnFile p.infos (loose_of p)) r.written p.files files (cells p.dir) (cells dir) keeps
+    (λ q there none. ready.step.own q (ap (λ (ns : List Name). is_among ns q) (sym ready.written) ∙ there))
 
 -- ---- the new point is put in place
 module _ {D : Type 0} (cells : D → Cells) (p : Parts D) (r : Ready) (h : HasWritten cells p r) (searchers : Searchers Shown)

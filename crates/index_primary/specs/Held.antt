@@ -1,7 +1,7 @@
 -- Infos with what reads their segments and with the names of their files, and the names that are not drawn yet.
 use Rattle.std.specs.Prelude.{◌≡◌, ◌≢◌, ◌⊎◌, ◌<◌, ◌≤◌, ◌+◌, ◌^◌, ℕ, List}
 use Rattle.std.specs.List.{All, Contains}
-use Rattle.file_names.specs.Names.{part_name_of, live_name_of}
+use Rattle.file_names.specs.Names.{part_name_of, live_name_of, IsFileOfSegment}
 use Rattle.nrt_base.specs.declared.doc.Doc.{Doc}
 use Rattle.file_names.specs.declared.composed.SegPart.{SegPart}
 use Rattle.disk_model.specs.Disk.{Name, Content}
@@ -43,6 +43,14 @@ pub data IsUndrawn (infos : Infos) (loose : List ℕ) (q : Name) : Type 0 where
   part : (seg : ℕ) (which : SegPart) → IsUnused infos loose seg → q ≡ part_name_of seg which → IsUndrawn infos loose q
   live : (seg live_gen : ℕ) → IsUnused infos loose seg → live_gen < 2 ^ 64 → q ≡ live_name_of seg live_gen → IsUndrawn infos loose q
   next_live : (r : SegRecord) (live_gen : ℕ) → IsNextLive infos r live_gen → q ≡ live_name_of r.seg.0 live_gen → IsUndrawn infos loose q
+
+-- the number is that of a segment whose files are not written yet, or of one of the infos
+abbrev pub IsOwnSegment : Infos → List ℕ → ℕ → Type 0
+IsOwnSegment infos loose seg = Contains loose seg ⊎ ((r : SegRecord) × Contains infos.segs r × (seg ≡ r.seg.0))
+
+-- the name is that of a file of such a segment
+abbrev pub IsOwnFile : Infos → List ℕ → Name → Type 0
+IsOwnFile infos loose q = (seg : ℕ) × IsOwnSegment infos loose seg × IsFileOfSegment seg q
 
 -- nobody holds a file that is not written yet
 pub record AreUndrawn (holdings : Holdings) (infos : Infos) (loose : List ℕ) : Type 0 where

@@ -17,7 +17,7 @@ use Rattle.index_primary.specs.declared.parts.Parts.{Parts}
 use Rattle.index_primary.specs.declared.ready.Ready.{Ready}
 use Rattle.node_files.specs.Standing.{IsStanding}
 use Rattle.disk_model.specs.Disk.{reads_of}
-use Rattle.index_primary.specs.Held.{IsUndrawn, AreUndrawn, AreNumbered}
+use Rattle.index_primary.specs.Held.{IsUndrawn, IsOwnFile, AreUndrawn, AreNumbered}
 use Rattle.seg_reader.specs.Stands.{AreSegmentsOf}
 use Rattle.index_primary.specs.Primary.{primary_names, rest_loose, loose_of}
 
@@ -34,7 +34,7 @@ abbrev pub next_infos : Infos → List SegRecord → Infos
 next_infos infos records = record { generation = infos.generation; version = record { 0 = infos.version.0 + 1 }; counter = infos.counter; segs = records }
 
 -- What is made of the writer's segments: where the writer's files read as they do and the new files read so, the new infos have the new segments; these are of some documents;
--- the new infos name the writer's files and the new ones; the new files were not written yet, and what is not written yet afterwards was not before.
+-- the new infos name the writer's files and the new ones; the new files were not written yet, and are the writer's own; what is not written yet afterwards was not before.
 pub record IsStep (infos : Infos) (segs : List Shown) (loose still : List ℕ) (records : List SegRecord) (fresh : List Shown) (files : List File) : Type 0 where
   pub spelled : CanSpell (next_infos infos records)
   pub numbered : AreNumbered (next_infos infos records) still
@@ -45,6 +45,7 @@ pub record IsStep (infos : Infos) (segs : List Shown) (loose still : List ℕ) (
   pub named : (q : Name) → Contains (flat_map files_of_segment records) q → Contains (flat_map files_of_segment infos.segs) q ⊎ (is_among (names_of files) q ≡ true)
   pub once : (q : Name) → times (names_of files) q ≤ 1
   pub undrawn : (q : Name) → is_among (names_of files) q ≡ true → IsUndrawn infos loose q
+  pub own : (q : Name) → is_among (names_of files) q ≡ true → IsOwnFile infos loose q
   pub rest : (q : Name) → IsUndrawn (next_infos infos records) still q → IsUndrawn infos loose q × (is_among (names_of files) q ≡ false)
 
 -- all that a publish needs memory for

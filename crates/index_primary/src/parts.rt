@@ -14,6 +14,7 @@ ghost use Rattle.copy_state.specs.States.{AreShortNames, IsCopyState};
 ghost use Rattle.searcher_switch.specs.Tickets.{ticket_at, tickets_without};
 ghost use Rattle.node_files.specs.Node.{IsWholeNode, KeepsCounts};
 ghost use Rattle.node_files.specs.Standing.{IsStanding, ImagesStand};
+ghost use Rattle.node_files.specs.Appearing.{NoneAppears, AppearsOnly, IsNameInFlight};
 ghost use Rattle.index_primary.specs.States.{state_names, is_out, out_of, states_without, IsStateOf};
 ghost use Rattle.index_primary.specs.Cut.{last_number, has_put, noted, after_cut, number_drawn, infos_drawn, IsIdle, AreSpent, AreTooMany};
 
@@ -115,7 +116,7 @@ pub struct Parts<D> {
 
 impl<D: Dir> Parts<D> {
     ghost use Rattle.index_primary.specs.Primary.{IsPrimary, KeepsHeldBytes, rest_loose, loose_of};
-    ghost use Rattle.index_primary.specs.Held.{IsHeld, AreUndrawn, AreNumbered};
+    ghost use Rattle.index_primary.specs.Held.{IsHeld, IsOwnFile, AreUndrawn, AreNumbered};
     ghost use Rattle.index_primary.specs.Calls.{SearchesWriter, IsOpenedOn, IsTaskOf, after_start, MakesPoint, IsPublished, KeepsPoint, KeepsOthers, HasSameCounts, FillsUndrawn, DrawsOnly, HoldsNoNew};
     ghost use Rattle.index_primary.specs.Publishing.{IsStep, IsReady, HasWritten, next_infos};
     ghost use Rattle.index_primary.specs.Work.{IsWorkOf, AreOfCut};
@@ -265,6 +266,7 @@ impl<D: Dir> Parts<D> {
         } }
         ensures stays { KeepsHeldBytes D.cells self.old self.new }
         ensures no_new { HoldsNoNew self.old self.new }
+        ensures appears { NoneAppears (D.cells self.old.dir) (D.cells self.new.dir) }
         ensures later { D.faults self.old.dir ≤ D.faults self.new.dir }
         ensures whole { IsPrimary D.cells self.new }
     {
@@ -320,6 +322,8 @@ impl<D: Dir> Parts<D> {
           commits = self.new.commits;
         } }
         ensures stays { KeepsHeldBytes D.cells self.old self.new }
+        ensures appears { AppearsOnly (IsNameInFlight self.old.commits.stage)
+            (D.cells self.old.dir) (D.cells self.new.dir) }
         ensures later { D.faults self.old.dir ≤ D.faults self.new.dir }
         ensures whole { IsPrimary D.cells self.new }
     {
@@ -417,6 +421,7 @@ impl<D: Dir> Parts<D> {
         } }
         ensures stays { KeepsHeldBytes D.cells self.old self.new }
         ensures no_new { HoldsNoNew self.old self.new }
+        ensures appears { NoneAppears (D.cells self.old.dir) (D.cells self.new.dir) }
         ensures later { D.faults self.old.dir ≤ D.faults self.new.dir }
         ensures whole { IsPrimary D.cells self.new }
     {
@@ -584,6 +589,8 @@ impl<D: Dir> Parts<D> {
         ensures grows { OnOk result (KeepsCounts self.old.files self.new.files) }
         ensures others { self.new ≡ record self.old { dir = self.new.dir; files = self.new.files } }
         ensures stays { KeepsHeldBytes D.cells self.old self.new }
+        ensures appears { AppearsOnly (IsOwnFile self.old.infos (loose_of self.old))
+            (D.cells self.old.dir) (D.cells self.new.dir) }
         ensures later { D.faults self.old.dir ≤ D.faults self.new.dir }
         ensures whole { OnErr result (IsPrimary D.cells self.new) }
     {
@@ -620,6 +627,7 @@ impl<D: Dir> Parts<D> {
         ensures cut_over { self.new.has_cut_over ≡ false }
         ensures others { KeepsOthers self.old self.new }
         ensures stays { KeepsHeldBytes D.cells self.old self.new }
+        ensures appears { NoneAppears (D.cells self.old.dir) (D.cells self.new.dir) }
         ensures later { D.faults self.old.dir ≤ D.faults self.new.dir }
         ensures whole { IsPrimary D.cells self.new }
     {
@@ -668,6 +676,8 @@ impl<D: Dir> Parts<D> {
             ⊎ (self.new.publish ≡ self.old.publish)) }
         ensures others { KeepsOthers self.old self.new }
         ensures stays { KeepsHeldBytes D.cells self.old self.new }
+        ensures appears { AppearsOnly (IsOwnFile self.old.infos (loose_of self.old))
+            (D.cells self.old.dir) (D.cells self.new.dir) }
         ensures later { D.faults self.old.dir ≤ D.faults self.new.dir }
         ensures whole { IsPrimary D.cells self.new }
     {
@@ -706,6 +716,8 @@ impl<D: Dir> Parts<D> {
         ensures stays { KeepsHeldBytes D.cells self.old self.new }
         ensures fresh { FillsUndrawn self.old self.new }
         ensures drawn { DrawsOnly self.old self.new }
+        ensures appears { AppearsOnly (IsOwnFile self.old.infos (loose_of self.old))
+            (D.cells self.old.dir) (D.cells self.new.dir) }
         ensures later { D.faults self.old.dir ≤ D.faults self.new.dir }
         ensures whole { IsPrimary D.cells self.new }
     {

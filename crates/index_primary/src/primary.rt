@@ -14,6 +14,7 @@ ghost use Rattle.copy_state.specs.States.{AreShortNames, IsCopyState};
 ghost use Rattle.searcher_switch.specs.Tickets.{ticket_at, tickets_without};
 ghost use Rattle.node_files.specs.Node.{IsWholeNode, KeepsCounts};
 ghost use Rattle.node_files.specs.Standing.{IsStanding, ImagesStand};
+ghost use Rattle.node_files.specs.Appearing.{NoneAppears, AppearsOnly, IsNameInFlight};
 ghost use Rattle.index_primary.specs.States.{state_names, is_out, out_of, states_without, IsStateOf};
 ghost use Rattle.index_primary.specs.Cut.{last_number, has_put, noted, after_cut, number_drawn, infos_drawn, IsIdle, AreSpent, AreTooMany};
 
@@ -53,7 +54,7 @@ impl<D: Dir> Model for Primary<D> {
 
 impl<D: Dir> Primary<D> {
     ghost use Rattle.index_primary.specs.Primary.{IsPrimary, KeepsHeldBytes, rest_loose, loose_of};
-    ghost use Rattle.index_primary.specs.Held.{IsHeld, AreUndrawn, AreNumbered};
+    ghost use Rattle.index_primary.specs.Held.{IsHeld, IsOwnFile, AreUndrawn, AreNumbered};
     ghost use Rattle.index_primary.specs.Calls.{SearchesWriter, IsOpenedOn, IsTaskOf, after_start, MakesPoint, IsPublished, KeepsPoint, KeepsOthers, HasSameCounts, FillsUndrawn, DrawsOnly, HoldsNoNew};
     ghost use Rattle.index_primary.specs.Publishing.{IsStep, IsReady, HasWritten, next_infos};
     ghost use Rattle.index_primary.specs.Work.{IsWorkOf, AreOfCut};
@@ -134,6 +135,8 @@ impl<D: Dir> Primary<D> {
         ensures stays { KeepsHeldBytes D.cells self.old self.new }
         ensures fresh { FillsUndrawn self.old self.new }
         ensures drawn { DrawsOnly self.old self.new }
+        ensures appears { AppearsOnly (IsOwnFile self.old.infos (loose_of self.old))
+            (D.cells self.old.dir) (D.cells self.new.dir) }
         ensures later { D.faults self.old.dir ≤ D.faults self.new.dir }
         ensures whole { IsPrimary D.cells self.new }
     {
@@ -191,6 +194,7 @@ impl<D: Dir> Primary<D> {
         } }
         ensures stays { KeepsHeldBytes D.cells self.old self.new }
         ensures no_new { HoldsNoNew self.old self.new }
+        ensures appears { NoneAppears (D.cells self.old.dir) (D.cells self.new.dir) }
         ensures later { D.faults self.old.dir ≤ D.faults self.new.dir }
         ensures whole { IsPrimary D.cells self.new }
     {
@@ -237,6 +241,7 @@ impl<D: Dir> Primary<D> {
         } }
         ensures stays { KeepsHeldBytes D.cells self.old self.new }
         ensures no_new { HoldsNoNew self.old self.new }
+        ensures appears { NoneAppears (D.cells self.old.dir) (D.cells self.new.dir) }
         ensures later { D.faults self.old.dir ≤ D.faults self.new.dir }
         ensures whole { IsPrimary D.cells self.new }
     {
@@ -283,6 +288,8 @@ impl<D: Dir> Primary<D> {
           commits = self.new.commits;
         } }
         ensures stays { KeepsHeldBytes D.cells self.old self.new }
+        ensures appears { AppearsOnly (IsNameInFlight self.old.commits.stage)
+            (D.cells self.old.dir) (D.cells self.new.dir) }
         ensures later { D.faults self.old.dir ≤ D.faults self.new.dir }
         ensures whole { IsPrimary D.cells self.new }
     {

@@ -5,13 +5,15 @@ ghost use Rattle.std.specs.List.{Contains, flat_map};
 ghost use Rattle.nrt_base.specs.declared.doc.Doc.{Doc};
 ghost use Rattle.disk_model.specs.Disk.{Name, Content, Cells, reads_of};
 ghost use Rattle.file_deleter.specs.Holdings.{Holdings, times};
+ghost use Rattle.file_deleter.specs.Moves.{Shifts};
 ghost use Rattle.segment_infos.specs.declared.infos.Infos.{Infos};
 ghost use Rattle.segment_infos.specs.Files.{files_of_segment, AreFilesOf};
 ghost use Rattle.seg_reader.specs.Stands.{StandsFor};
 ghost use Rattle.commit_steps.specs.Commits.{ImagesAre};
-ghost use Rattle.commit_steps.specs.Book.{shown_by, book_after, HasBegun};
+ghost use Rattle.commit_steps.specs.Book.{shown_by, book_names, book_after, HasBegun};
 ghost use Rattle.node_files.specs.Node.{IsWholeNode, HoldsNoMore};
 ghost use Rattle.node_files.specs.Standing.{IsStanding, ImagesStand};
+ghost use Rattle.node_files.specs.Appearing.{AppearsOnly, IsNameInFlight};
 
 use commit_steps::CommitBook;
 
@@ -46,4 +48,16 @@ pub fn holds_no_more()
         → IsWholeNode cells old hs was → IsWholeNode cells new hs now → HasBegun infos was now
         → AreFilesOf infos names → ((q : Name) → times hs q ≡ 0 → times names q ≡ 0)
         → HoldsNoMore old new }
+{}
+
+/// A step of the book lets no name come to stand but the two of the commit in flight.
+pub fn step_appears()
+    ensures step { (before after : Cells) (old new : Holdings) (hs : List Name) (was now : CommitBook)
+        → IsWholeNode before old hs was
+        → Shifts (book_names was) (book_names now) old new before after → now ≡ book_after was
+        → AppearsOnly (IsNameInFlight was.stage) before after }
+    ensures stopped { (before after : Cells) (old new : Holdings) (hs : List Name)
+        (was now : CommitBook) → IsWholeNode before old hs was
+        → Shifts (book_names was) (book_names now) old new before after → now ≡ was
+        → AppearsOnly (IsNameInFlight was.stage) before after }
 {}

@@ -1,5 +1,6 @@
 mod Advances
 mod Apart
+mod Appears
 mod Arrived
 mod Begun
 mod Beside

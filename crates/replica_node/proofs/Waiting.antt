@@ -103,7 +103,7 @@ module _ (infos : Infos) (j : Job) (is : IsJob j) (files : AreFilesOf infos (met
   lasting : (q : Name) → 0 < times (meta_names j.want.files) q → (name : Name) (job : ℕ) → q ≢ temp_name_of name job
   lasting q some name job = file_apart infos q (named q some) name job
 
-  own_wanted : (place : ℕ) (p : JobPart) → part_at j.parts place ≡ Some p → 0 < times (meta_names j.want.files) p.own
+  pub own_wanted : (place : ℕ) (p : JobPart) → part_at j.parts place ≡ Some p → 0 < times (meta_names j.want.files) p.own
   own_wanted place p at = omega (arith, own_some j.parts place p at, is.each p.own)
 
   wanted_once : (q : Name) → times (meta_names j.want.files) q ≤ 1

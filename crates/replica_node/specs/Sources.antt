@@ -1,5 +1,5 @@
 -- What a replica's files read, beside what they read at a source.
-use Rattle.std.specs.Prelude.{◌≡◌, ◌⊎◌, ◌<◌, IfSome, IsSomeAnd, Some}
+use Rattle.std.specs.Prelude.{◌≡◌, ◌⊎◌, ◌<◌, Option, IfSome, IsSomeAnd, Some}
 use Rattle.disk_model.specs.Disk.{Name, Content, Cells, reads_of}
 use Rattle.file_deleter.specs.Holdings.{Holdings, count_of, times}
 use Rattle.copy_state.specs.States.{meta_names}
@@ -14,6 +14,10 @@ use Rattle.replica_node.specs.declared.taking.NodeParts.{NodeParts}
 -- what the job has of its files reads as at the source
 pub record CopiesFrom (source reads : Name → Content) (j : Job) : Type 0 where
   pub each : (q : Name) → 0 < times (meta_names j.want.files) q → times j.missing q ≡ 0 → reads_under j.parts reads q ≡ source q
+
+-- the job wants a file of this name
+abbrev pub IsWantedName : Option PointJob → Name → Type 0
+IsWantedName job q = IsSomeAnd job (λ j. 0 < times (meta_names j.copy.want.files) q)
 
 -- each file of a segment that is held reads as at the source
 pub record HeldReadAs (source : Name → Content) (cells : Cells) (holdings : Holdings) : Type 0 where
@@ -31,7 +35,7 @@ module _ {D : Type 0} where
 
   -- what is held was held before, or is wanted by the job
   abbrev pub HoldsOnly : Parts D → Parts D → Type 0
-  HoldsOnly old new = (q : Name) → IsLasting q → 0 < count_of new.files q → (0 < count_of old.files q) ⊎ IsSomeAnd old.job (λ j. 0 < times (meta_names j.copy.want.files) q)
+  HoldsOnly old new = (q : Name) → IsLasting q → 0 < count_of new.files q → (0 < count_of old.files q) ⊎ IsWantedName old.job q
 
   -- the point is as before, and so is the job, but that its first parts have their own names
   pub record IsStillCopying (old new : Parts D) (j : PointJob) : Type 0 where

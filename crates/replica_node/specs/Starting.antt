@@ -1,8 +1,12 @@
 -- A replica that was just opened, and one that was not.
-use Rattle.std.specs.Prelude.{◌≡◌, ℕ, List, [], None}
+use Rattle.std.specs.Prelude.{◌≡◌, ◌⊎◌, ℕ, true, List, [], None, Contains, IsSomeAnd}
+use Rattle.std.specs.List.{flat_map}
 use Rattle.nrt_base.specs.Causes.{Rose}
 use Rattle.nrt_base.specs.declared.doc.Doc.{Doc}
-use Rattle.disk_model.specs.Disk.{Cells, reads_of}
+use Rattle.disk_model.specs.Disk.{Name, Cells, reads_of}
+use Rattle.file_names.specs.Names.{is_commit_name, commit_number}
+use Rattle.file_deleter.specs.Holdings.{IsThere}
+use Rattle.segment_infos.specs.Files.{files_of_segment}
 use Rattle.seg_reader.specs.Stands.{StandsFor, AreSegmentsOf}
 use Rattle.replica_node.specs.declared.parts.Parts.{Parts}
 use Rattle.replica_node.specs.declared.replica.Refused.{Refused}
@@ -23,6 +27,11 @@ pub record SearchesJust {D : Type 0} (cells : D → Cells) (docs : List Doc) (p 
   pub searched : AreSegmentsOf docs p.searchers.point.readers
   pub stands : StandsFor (reads_of (cells p.dir)) p.infos docs
   pub standing : AreStanding cells p
+
+-- each name that stands is that of a file of the point, or of the last commit
+pub record HasJustItsFiles {D : Type 0} (cells : D → Cells) (p : Parts D) : Type 0 where
+  pub each : (q : Name) → IsThere (cells p.dir) q
+      → Contains (flat_map files_of_segment p.infos.segs) q ⊎ IsSomeAnd p.commits.last (λ c. (is_commit_name q ≡ true) × (commit_number q ≡ c.number))
 
 -- The opening was refused as the directory is, or cut off; what the directory shows stays, and where the disk failed its faults rose.
 pub record IsHandedOut {D : Type 0} (cells : D → Cells) (faults : D → ℕ) (dir : D) (r : Refused D) : Type 0 where

@@ -74,6 +74,7 @@ impl<D: Dir> Parts<D> {
     ghost use Rattle.file_deleter.specs.Holdings.{count_of, times};
     ghost use Rattle.node_files.specs.Node.{IsWholeNode, KeepsBytes};
     ghost use Rattle.node_files.specs.Standing.{StandsForSome, IsStanding};
+    ghost use Rattle.node_files.specs.Appearing.{NoneAppears, AppearsOnly, IsNameInFlight};
     ghost use Rattle.commit_steps.specs.Commits.{ImagesAre, ImagesHave};
     ghost use Rattle.commit_steps.specs.Book.{commit_of, shown_by, book_after, is_last_step, HasBegun};
     ghost use Rattle.searcher_switch.specs.Tickets.{ticket_at, tickets_without};
@@ -83,7 +84,7 @@ impl<D: Dir> Parts<D> {
     ghost use Rattle.copy_job.specs.Jobs.{with_part, reads_under};
     ghost use Rattle.replica_node.specs.Answers.{point_answer};
     ghost use Rattle.replica_node.specs.Jobs.{IsPointJob, Agrees, IsStartingFault};
-    ghost use Rattle.replica_node.specs.Sources.{HeldReadAs, IsSourced, KeepsSource, HoldsOnly, IsStillCopying, IsTakenApart};
+    ghost use Rattle.replica_node.specs.Sources.{HeldReadAs, IsSourced, KeepsSource, HoldsOnly, IsWantedName, IsStillCopying, IsTakenApart};
     ghost use Rattle.replica_node.specs.Replica.{IsWholeReplica, AreStanding, IsWanted};
 
     /// What to do with a point of this generation and version.
@@ -156,6 +157,7 @@ impl<D: Dir> Parts<D> {
         ensures point { self.new.searchers.point ≡ self.old.searchers.point }
         ensures stays { KeepsBytes self.old.files self.new.files
             (D.cells self.old.dir) (D.cells self.new.dir) }
+        ensures appears { NoneAppears (D.cells self.old.dir) (D.cells self.new.dir) }
         ensures later { D.faults self.old.dir ≤ D.faults self.new.dir }
         ensures others { self.new ≡ record self.old {
           dir = self.new.dir;
@@ -211,6 +213,8 @@ impl<D: Dir> Parts<D> {
         ensures images { ImagesAre (D.cells self.new.dir)
             self.new.commits.last (shown_by self.new.commits.stage) }
         ensures stays { KeepsBytes self.old.files self.new.files
+            (D.cells self.old.dir) (D.cells self.new.dir) }
+        ensures appears { AppearsOnly (IsNameInFlight self.old.commits.stage)
             (D.cells self.old.dir) (D.cells self.new.dir) }
         ensures failed { IsErrOf result CommitFault.Failed
             → Rose (D.faults self.old.dir) (D.faults self.new.dir) }
@@ -304,6 +308,8 @@ impl<D: Dir> Parts<D> {
         ensures err { OnErr result (self.new.job ≡ self.old.job) }
         ensures stays { KeepsBytes self.old.files self.new.files
             (D.cells self.old.dir) (D.cells self.new.dir) }
+        ensures appears { AppearsOnly (λ q. q ≡ temp_name_of part.name job)
+            (D.cells self.old.dir) (D.cells self.new.dir) }
         ensures fault { IfErr result IsPlacingFault }
         ensures failed { IsErrOf result JobFault.DirFailed
             → Rose (D.faults self.old.dir) (D.faults self.new.dir) }
@@ -357,6 +363,8 @@ impl<D: Dir> Parts<D> {
 
         // What stays, and when the disk failed.
         ensures stays { KeepsBytes self.old.files self.new.files
+            (D.cells self.old.dir) (D.cells self.new.dir) }
+        ensures appears { AppearsOnly (IsWantedName self.old.job)
             (D.cells self.old.dir) (D.cells self.new.dir) }
         ensures fault { IfErr result IsPlacingFault }
         ensures failed { IsErrOf result JobFault.DirFailed
@@ -419,6 +427,7 @@ impl<D: Dir> Parts<D> {
         ensures fewer { (q : List ℕ) → count_of self.new.files q ≤ count_of self.old.files q }
         ensures stays { KeepsBytes self.old.files self.new.files
             (D.cells self.old.dir) (D.cells self.new.dir) }
+        ensures appears { NoneAppears (D.cells self.old.dir) (D.cells self.new.dir) }
         ensures later { D.faults self.old.dir ≤ D.faults self.new.dir }
         ensures others { self.new ≡ record self.old {
           dir = self.new.dir;
@@ -450,6 +459,7 @@ impl<D: Dir> Parts<D> {
             → HeldReadAs source (D.cells result.dir) result.files }
         ensures fewer { (q : List ℕ) → count_of result.files q ≤ count_of self.files q }
         ensures stays { KeepsBytes self.files result.files (D.cells self.dir) (D.cells result.dir) }
+        ensures appears { NoneAppears (D.cells self.dir) (D.cells result.dir) }
         ensures later { D.faults self.dir ≤ D.faults result.dir }
     {
         let mut parts = self;

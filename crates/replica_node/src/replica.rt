@@ -11,13 +11,14 @@ ghost use Rattle.std.specs.List.Sorted.{IsStrictlySortedBy};
 ghost use Rattle.file_deleter.specs.Holdings.{count_of};
 ghost use Rattle.segment_infos.specs.Files.{files_of_segment};
 ghost use Rattle.seg_reader.specs.Stands.{StandsFor};
+ghost use Rattle.node_files.specs.Appearing.{NoneAppears};
 ghost use Rattle.copy_job.specs.Placing.{IsPlacingFault};
 ghost use Rattle.replica_opening.specs.declared.fault.StartFault.{StartFault};
 ghost use Rattle.replica_opening.specs.Known.{IsLasting};
 ghost use Rattle.replica_opening.specs.Opening.{FindsPoint, number_of_last, IsStartRefusal, IsCutOffOr};
 ghost use Rattle.replica_opening.specs.Opened.{IsSettledOn, IsHandedBack};
 ghost use Rattle.replica_node.specs.Sources.{IsSourced};
-ghost use Rattle.replica_node.specs.Starting.{IsJustOpened, SearchesJust, IsHandedOut};
+ghost use Rattle.replica_node.specs.Starting.{IsJustOpened, SearchesJust, HasJustItsFiles, IsHandedOut};
 ghost use Rattle.replica_node.specs.Replica.{IsWholeReplica};
 
 use crate::answer::PointAnswer;
@@ -58,6 +59,8 @@ fn start<D: Dir>(alloc: Global, dir: D) -> Result<Parts<D>, Refused<D>>
         → Contains (flat_map files_of_segment p.infos.segs) q) }
     ensures fresh { IfOk result IsJustOpened }
     ensures back { IfOk result (λ p. IsHandedBack (D.cells dir) (D.cells p.dir)) }
+    ensures appears { IfOk result (λ p. NoneAppears (D.cells dir) (D.cells p.dir)) }
+    ensures only { IfOk result (HasJustItsFiles D.cells) }
 
     // Each refusal, in both directions.
     ensures refused { IfErr result (IsHandedOut D.cells D.faults dir) }
@@ -125,9 +128,10 @@ impl<D: Dir> Replica<D> {
     ghost use Rattle.copy_job.specs.Jobs.{with_part, reads_under};
     ghost use Rattle.replica_node.specs.Answers.{point_answer};
     ghost use Rattle.replica_node.specs.Jobs.{IsPointJob, Agrees, IsStartingFault};
-    ghost use Rattle.replica_node.specs.Sources.{HeldReadAs, IsSourced, KeepsSource, HoldsOnly, IsStillCopying, IsTakenApart};
+    ghost use Rattle.replica_node.specs.Sources.{HeldReadAs, IsSourced, KeepsSource, HoldsOnly, IsWantedName, IsStillCopying, IsTakenApart};
     ghost use Rattle.replica_node.specs.Replica.{IsWholeReplica, AreStanding, IsWanted};
     ghost use Rattle.node_files.specs.Standing.{StandsForSome, IsStanding, ImagesStand};
+    ghost use Rattle.node_files.specs.Appearing.{AppearsOnly, IsNameInFlight};
 
     /// Opens a replica on a directory, at the commit that it shows, or at the opening point where it shows none. Every other
     /// file is removed. Each image of the directory must show what the directory shows, as after a crash.
@@ -146,6 +150,8 @@ impl<D: Dir> Replica<D> {
             → Contains (flat_map files_of_segment p.infos.segs) q) }
         ensures fresh { IfOk result IsJustOpened }
         ensures back { IfOk result (λ p. IsHandedBack (D.cells dir) (D.cells p.dir)) }
+        ensures appears { IfOk result (λ p. NoneAppears (D.cells dir) (D.cells p.dir)) }
+        ensures only { IfOk result (HasJustItsFiles D.cells) }
 
         // Each refusal, in both directions.
         ensures refused { IfErr result (IsHandedOut D.cells D.faults dir) }
@@ -262,6 +268,7 @@ impl<D: Dir> Replica<D> {
         ensures point { self.new.searchers.point ≡ self.old.searchers.point }
         ensures stays { KeepsBytes self.old.files self.new.files
             (D.cells self.old.dir) (D.cells self.new.dir) }
+        ensures appears { NoneAppears (D.cells self.old.dir) (D.cells self.new.dir) }
         ensures later { D.faults self.old.dir ≤ D.faults self.new.dir }
         ensures others { self.new ≡ record self.old {
           dir = self.new.dir;
@@ -308,6 +315,8 @@ impl<D: Dir> Replica<D> {
         ensures images { ImagesAre (D.cells self.new.dir)
             self.new.commits.last (shown_by self.new.commits.stage) }
         ensures stays { KeepsBytes self.old.files self.new.files
+            (D.cells self.old.dir) (D.cells self.new.dir) }
+        ensures appears { AppearsOnly (IsNameInFlight self.old.commits.stage)
             (D.cells self.old.dir) (D.cells self.new.dir) }
         ensures failed { IsErrOf result CommitFault.Failed
             → Rose (D.faults self.old.dir) (D.faults self.new.dir) }
@@ -379,6 +388,8 @@ impl<D: Dir> Replica<D> {
         ensures err { OnErr result (self.new.job ≡ self.old.job) }
         ensures stays { KeepsBytes self.old.files self.new.files
             (D.cells self.old.dir) (D.cells self.new.dir) }
+        ensures appears { AppearsOnly (λ q. q ≡ temp_name_of part.name job)
+            (D.cells self.old.dir) (D.cells self.new.dir) }
         ensures fault { IfErr result IsPlacingFault }
         ensures failed { IsErrOf result JobFault.DirFailed
             → Rose (D.faults self.old.dir) (D.faults self.new.dir) }
@@ -418,6 +429,8 @@ impl<D: Dir> Replica<D> {
         // What stays, and when the disk failed.
         ensures stays { KeepsBytes self.old.files self.new.files
             (D.cells self.old.dir) (D.cells self.new.dir) }
+        ensures appears { AppearsOnly (IsWantedName self.old.job)
+            (D.cells self.old.dir) (D.cells self.new.dir) }
         ensures fault { IfErr result IsPlacingFault }
         ensures failed { IsErrOf result JobFault.DirFailed
             → Rose (D.faults self.old.dir) (D.faults self.new.dir) }
@@ -446,6 +459,7 @@ impl<D: Dir> Replica<D> {
         ensures fewer { (q : List ℕ) → count_of self.new.files q ≤ count_of self.old.files q }
         ensures stays { KeepsBytes self.old.files self.new.files
             (D.cells self.old.dir) (D.cells self.new.dir) }
+        ensures appears { NoneAppears (D.cells self.old.dir) (D.cells self.new.dir) }
         ensures later { D.faults self.old.dir ≤ D.faults self.new.dir }
         ensures others { self.new ≡ record self.old {
           dir = self.new.dir;
@@ -482,6 +496,7 @@ impl<D: Dir> Replica<D> {
             → HeldReadAs source (D.cells result.dir) result.files }
         ensures fewer { (q : List ℕ) → count_of result.files q ≤ count_of self.files q }
         ensures stays { KeepsBytes self.files result.files (D.cells self.dir) (D.cells result.dir) }
+        ensures appears { NoneAppears (D.cells self.dir) (D.cells result.dir) }
         ensures later { D.faults self.dir ≤ D.faults result.dir }
     {
         let Replica { parts } = self;

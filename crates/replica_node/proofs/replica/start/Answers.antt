@@ -1,6 +1,6 @@
 use Rattle.disk_model.specs.Disk.{reads_of}
 use Rattle.replica_node.proofs.Documents.{readers_search, stands_back}
-use Rattle.replica_node.proofs.Started.{book_stands, file_opened, just_opened, just_sourced}
+use Rattle.replica_node.proofs.Started.{book_stands, file_opened, just_opened, just_sourced, just_its, none_opened}
 use Rattle.replica_node.proofs.replica.start.Goals as goal
 
 pub returns-in-Ok-clause-documents : goal.returns-in-Ok-clause-documents
@@ -24,3 +24,10 @@ returns-in-Ok-clause-sourced g c =
 
 pub returns-in-Ok-clause-held : goal.returns-in-Ok-clause-held
 returns-in-Ok-clause-held g c = file_opened (g.D.Dir.cells c.open.new.dir) c.in-Ok.opened (c.in-Ok.ensures.node c.requires) c.in-Ok.ensures.opened
+
+pub returns-in-Ok-clause-appears : goal.returns-in-Ok-clause-appears
+returns-in-Ok-clause-appears g c =
+    none_opened g.D.Dir.cells c.open.new.dir c.in-Ok.opened (c.in-Ok.ensures.node c.requires) c.in-Ok.ensures.opened c.in-Ok.opened.infos.generation c.in-Ok.ensures.names (g.D.Dir.cells c.args.dir) c.in-Ok.ensures.kept c.in-Ok.ensures.found
+
+pub returns-in-Ok-clause-only : goal.returns-in-Ok-clause-only
+returns-in-Ok-clause-only g c = just_its g.D.Dir.cells c.open.new.dir c.in-Ok.opened (c.in-Ok.ensures.node c.requires) c.in-Ok.ensures.opened c.in-Ok.opened.infos.generation c.in-Ok.ensures.names

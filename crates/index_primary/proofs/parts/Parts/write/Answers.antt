@@ -1,4 +1,7 @@
-use Rattle.index_primary.proofs.Publishing.{fresh, once, twice_there, has_written, primary_unheld, primary_unwritten}
+use Rattle.node_files.proofs.Appearing.{keeps_none, only_then_none}
+use Rattle.index_primary.specs.Held.{IsOwnFile}
+use Rattle.index_primary.specs.Primary.{loose_of}
+use Rattle.index_primary.proofs.Publishing.{fresh, once, twice_there, has_written, primary_unheld, primary_unwritten, written_appears}
 use Rattle.index_primary.proofs.parts.Parts.write.Goals as goal
 
 pub write_all-requires-clause-fresh : goal.write_all-requires-clause-fresh
@@ -22,3 +25,16 @@ pub returns-in-Err-hold_there-clause-whole : goal.returns-in-Err-hold_there-clau
 returns-in-Err-hold_there-clause-whole g c = primary_unheld g.D.Dir.cells c.args.self.now c.args.ready.now c.requires.whole c.requires.ready c.write_all.new.dir c.write_all.new.files
     (rw c.as_slice.ensures at c.in-Ok.ensures.counts) (rw c.as_slice.ensures at c.in-Ok.ensures.keeps) c.release.new.dir c.release.new.self
     (rw (c.in-Err-hold_there.ensures.err, c.as_slice-in-Err-hold_there.ensures) at c.release.ensures.lets_go)
+
+pub returns-in-Err-clause-appears : goal.returns-in-Err-clause-appears
+returns-in-Err-clause-appears g c = written_appears g.D.Dir.cells c.args.self.now c.args.ready.now c.requires.ready c.write_all.new.dir c.write_all.new.files (rw c.as_slice.ensures at c.in-Err.ensures.keeps)
+
+pub returns-in-Ok-hold_there-clause-appears : goal.returns-in-Ok-hold_there-clause-appears
+returns-in-Ok-hold_there-clause-appears g c = written_appears g.D.Dir.cells c.args.self.now c.args.ready.now c.requires.ready c.write_all.new.dir c.write_all.new.files (rw c.as_slice.ensures at c.in-Ok.ensures.keeps)
+
+pub returns-in-Err-hold_there-clause-appears : goal.returns-in-Err-hold_there-clause-appears
+returns-in-Err-hold_there-clause-appears g c =
+    let p = c.args.self.now in
+    only_then_none (IsOwnFile p.infos (loose_of p)) (g.D.Dir.cells p.dir) (g.D.Dir.cells c.write_all.new.dir) (g.D.Dir.cells c.release.new.dir)
+    (written_appears g.D.Dir.cells p c.args.ready.now c.requires.ready c.write_all.new.dir c.write_all.new.files (rw c.as_slice.ensures at c.in-Ok.ensures.keeps))
+    (keeps_none c.hold_there.new.self c.release.new.self (g.D.Dir.cells c.write_all.new.dir) (g.D.Dir.cells c.release.new.dir) c.release.ensures.lets_go.keeps)

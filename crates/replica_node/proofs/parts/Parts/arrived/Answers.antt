@@ -6,6 +6,7 @@ use Rattle.replica_node.proofs.Arrived.{free_j}
 use Rattle.replica_node.proofs.Beside.{standing_jobs}
 use Rattle.replica_node.proofs.Keeping.{core_of}
 use Rattle.replica_node.proofs.Calls.{arrived_core, arrived_whole, arrived_sourced, arrived_held, out_core, out_whole, out_sourced, out_held}
+use Rattle.replica_node.proofs.Appears.{part_appears}
 use Rattle.replica_node.proofs.parts.Parts.arrived.Goals as goal
 
 pub arrived-requires-clause-free : goal.arrived-requires-clause-free
@@ -53,3 +54,11 @@ pub returns-in-Err-clause-held : goal.returns-in-Err-clause-held
 returns-in-Err-clause-held g c =
     out_held g.D.Dir.cells c.args.self.now c.requires.whole c.in-Some.field-0 (sym c.in-Some.ensures.value) c.args.part.name c.requires.missing c.arrived.new.dir c.arrived.new.files c.arrived.new.self
     c.in-Err.ensures.moves c.told-in-Err.ensures c.in-Err.ensures.err
+
+pub returns-in-Ok-clause-appears : goal.returns-in-Ok-clause-appears
+returns-in-Ok-clause-appears g c =
+    part_appears g.D.Dir.cells c.args.self.now c.in-Some.field-0 (sym c.in-Some.ensures.value) c.arrived.new.dir c.arrived.new.files c.args.part.name c.args.job c.requires.runs c.in-Ok.ensures.moves.keeps
+
+pub returns-in-Err-clause-appears : goal.returns-in-Err-clause-appears
+returns-in-Err-clause-appears g c =
+    part_appears g.D.Dir.cells c.args.self.now c.in-Some.field-0 (sym c.in-Some.ensures.value) c.arrived.new.dir c.arrived.new.files c.args.part.name c.args.job c.requires.runs c.in-Err.ensures.moves.keeps

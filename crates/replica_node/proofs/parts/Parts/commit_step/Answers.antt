@@ -1,6 +1,8 @@
 use Rattle.replica_node.proofs.Committing.{standing_steps, standing_stopped}
 use Rattle.replica_node.proofs.Keeping.{core_of}
 use Rattle.replica_node.proofs.Calls.{step_whole, step_sourced, step_held, stop_whole, stop_sourced, stop_held}
+use Rattle.node_files.proofs.Appearing.{step_appears, stop_appears}
+use Rattle.replica_node.specs.Replica.{replica_names}
 use Rattle.replica_node.proofs.parts.Parts.commit_step.Goals as goal
 
 pub returns-in-Ok-clause-whole : goal.returns-in-Ok-clause-whole
@@ -26,3 +28,13 @@ returns-in-Ok-clause-held g c = step_held g.D.Dir.cells c.args.self.now c.requir
 
 pub returns-in-Err-clause-held : goal.returns-in-Err-clause-held
 returns-in-Err-clause-held g c = stop_held g.D.Dir.cells c.args.self.now c.requires.whole c.step.new.dir c.step.new.files c.step.new.self c.in-Err.ensures.step.shifts c.in-Err.ensures.step.sound c.in-Err.ensures.err
+
+pub returns-in-Ok-clause-appears : goal.returns-in-Ok-clause-appears
+returns-in-Ok-clause-appears g c =
+    let p = c.args.self.now in
+    step_appears (g.D.Dir.cells p.dir) (g.D.Dir.cells c.step.new.dir) p.files c.step.new.files (replica_names p) p.commits c.step.new.self c.requires.whole.node c.in-Ok.ensures.step.shifts c.in-Ok.ensures.ok
+
+pub returns-in-Err-clause-appears : goal.returns-in-Err-clause-appears
+returns-in-Err-clause-appears g c =
+    let p = c.args.self.now in
+    stop_appears (g.D.Dir.cells p.dir) (g.D.Dir.cells c.step.new.dir) p.files c.step.new.files (replica_names p) p.commits c.step.new.self c.requires.whole.node c.in-Err.ensures.step.shifts c.in-Err.ensures.err

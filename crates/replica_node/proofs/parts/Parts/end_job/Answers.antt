@@ -3,6 +3,7 @@ use Rattle.replica_node.proofs.Beside.{standing_jobs}
 use Rattle.replica_node.proofs.Ended.{job_counted}
 use Rattle.replica_node.proofs.Keeping.{core_of}
 use Rattle.replica_node.proofs.Calls.{ended_core, ended_whole, ended_sourced, ended_held}
+use Rattle.node_files.proofs.Appearing.{keeps_none}
 use Rattle.replica_node.proofs.parts.Parts.end_job.Goals as goal
 
 pub end-requires : goal.end-requires
@@ -24,3 +25,6 @@ returns-clause-held g c = ended_held g.D.Dir.cells c.args.self.now c.requires.wh
 
 pub returns-clause-fewer : goal.returns-clause-fewer
 returns-clause-fewer g c q = omega (arith, c.end.ensures.lets_go.counts q)
+
+pub returns-clause-appears : goal.returns-clause-appears
+returns-clause-appears g c = keeps_none c.args.self.now.files c.end.new.files (g.D.Dir.cells c.args.self.now.dir) (g.D.Dir.cells c.end.new.dir) c.end.ensures.lets_go.keeps

@@ -3,6 +3,9 @@ use Rattle.replica_node.proofs.Finished.{ready, gone_counted}
 use Rattle.replica_node.proofs.Beside.{standing_jobs}
 use Rattle.replica_node.proofs.Keeping.{core_of}
 use Rattle.replica_node.proofs.Switched.{noted_whole, noted_still, want_slice, refused_core, refused_whole, refused_sourced, refused_held, done_whole, done_sourced, done_held, done_stands, done_standing}
+use Rattle.node_files.proofs.Appearing.{keeps_none, only_then_none}
+use Rattle.replica_node.specs.Sources.{IsWantedName}
+use Rattle.replica_node.proofs.Appears.{parts_appear}
 use Rattle.replica_node.proofs.parts.Parts.finish.Goals as goal
 
 pub advance-requires-clause-ready : goal.advance-requires-clause-ready
@@ -74,3 +77,14 @@ returns-in_default-note_wanted-clause-held g c q lasting some = inl some
 
 pub returns-in_default-note_wanted-clause-err : goal.returns-in_default-note_wanted-clause-err
 returns-in_default-note_wanted-clause-err g c = noted_still c.args.self.now c.note_wanted.new.known
+
+pub returns-in-Ok-advance-clause-appears : goal.returns-in-Ok-advance-clause-appears
+returns-in-Ok-advance-clause-appears g c =
+    let p = c.args.self.now in
+    only_then_none (IsWantedName p.job) (g.D.Dir.cells p.dir) (g.D.Dir.cells c.advance.new.dir) (g.D.Dir.cells c.release.new.dir)
+    (parts_appear g.D.Dir.cells p c.in-Some-take.field-0 (sym c.in-Some-take.ensures.value) c.advance.new.dir c.advance.new.files c.requires.whole c.in-Ok-advance.ensures.ok.moves.keeps)
+    (keeps_none c.advance.new.files c.release.new.self (g.D.Dir.cells c.advance.new.dir) (g.D.Dir.cells c.release.new.dir) c.release.ensures.lets_go.keeps)
+
+pub returns-in-Err-clause-appears : goal.returns-in-Err-clause-appears
+returns-in-Err-clause-appears g c =
+    parts_appear g.D.Dir.cells c.args.self.now c.in-Some-take.field-0 (sym c.in-Some-take.ensures.value) c.advance.new.dir c.advance.new.files c.requires.whole c.in-Err.ensures.err.keeps

@@ -2,6 +2,7 @@ use Rattle.replica_node.proofs.Beside.{standing_searched}
 use Rattle.replica_node.proofs.Keeping.{core_of}
 use Rattle.replica_node.proofs.Searched.{searched}
 use Rattle.replica_node.proofs.Calls.{searched_whole, searched_sourced, searched_held}
+use Rattle.node_files.proofs.Appearing.{keeps_none}
 use Rattle.replica_node.proofs.parts.Parts.release.Goals as goal
 
 pub returns-clause-whole : goal.returns-clause-whole
@@ -17,3 +18,6 @@ returns-clause-sourced g c = searched_sourced g.D.Dir.cells c.args.self.now c.re
 
 pub returns-clause-held : goal.returns-clause-held
 returns-clause-held g c = searched_held g.D.Dir.cells c.args.self.now c.requires.whole c.release.new.dir c.release.new.files c.release.new.self c.release.ensures.moves c.release.ensures.only c.release.ensures.point
+
+pub returns-clause-appears : goal.returns-clause-appears
+returns-clause-appears g c = keeps_none c.args.self.now.files c.release.new.files (g.D.Dir.cells c.args.self.now.dir) (g.D.Dir.cells c.release.new.dir) c.release.ensures.moves.keeps
