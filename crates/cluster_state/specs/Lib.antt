@@ -1,0 +1,10 @@
+pub mod Run
+pub mod Held
+pub mod Places
+pub mod Lookups
+pub mod State
+pub mod Moves
+pub mod Changes
+pub mod Writes
+pub mod Calls
+pub mod Starting

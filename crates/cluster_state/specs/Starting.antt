@@ -1,0 +1,30 @@
+-- What the nodes of a cluster are that has just started.
+use Rattle.std.specs.Prelude.{ℕ, ◌≡◌, List, [], None}
+use Rattle.disk_model.specs.Disk.{Name, Cells, Image, IsImage, reads_of}
+use Rattle.segment_infos.specs.declared.infos.Infos.{Infos}
+use Rattle.seg_reader.specs.Stands.{StandsFor, AreSegmentsOf}
+use Rattle.commit_steps.specs.declared.stage.CommitBook.{CommitBook}
+use Rattle.replica_opening.specs.Opening.{opening_infos}
+use Rattle.replica_node.specs.declared.parts.Parts.{Parts as ReplicaParts}
+use Rattle.replica_node.specs.Replica.{IsWholeReplica, AreStanding}
+
+-- nothing stands in the directory, and a crash leaves nothing there
+pub record IsEmptyDir (cells : Cells) : Type 0 where
+  pub now : (q : Name) → (cells q).now ≡ None
+  pub images : (image : Image) → IsImage cells image → (q : Name) → image q ≡ None
+
+-- nothing was committed, and nothing is in flight
+pub record IsUncommitted (book : CommitBook) : Type 0 where
+  pub last : book.last ≡ None
+  pub stage : book.stage ≡ None
+
+-- a replica on an empty directory: it stands at the opening point, which has no documents, and nothing was done with it
+pub record IsOpening {D : Type 0} (cells : D → Cells) (r : ReplicaParts D) : Type 0 where
+  pub whole : IsWholeReplica cells r
+  pub standing : AreStanding cells r
+  pub infos : r.infos ≡ opening_infos
+  pub searched : AreSegmentsOf [] r.searchers.point.readers
+  pub stands : StandsFor (reads_of (cells r.dir)) r.infos []
+  pub tickets : r.searchers.tickets ≡ []
+  pub commits : IsUncommitted r.commits
+  pub seen : r.seen ≡ r.infos.generation
