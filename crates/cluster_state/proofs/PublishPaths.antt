@@ -15,7 +15,7 @@ use Rattle.seg_reader.specs.Shown.{Shown}
 use Rattle.seg_reader.specs.Sound.{IsSound}
 use Rattle.history_entries.specs.declared.entry.Event.TheVariants.{Accepted, Publishing, Published}
 use Rattle.history_entries.specs.Nodes.{IsNode, primary_of, newest_version, generation_of, accepted_count}
-use Rattle.history_entries.specs.Lines.{publish_in_flight, is_free_for}
+use Rattle.history_entries.specs.Lines.{start_entry, publish_in_flight, is_free_for}
 use Rattle.history_entries.specs.Points.{operations_of_generation, cut_of, cut_has_put, names_drawn}
 use Rattle.history_entries.specs.Legal.{KeepsRule, IsLegalPast}
 use Rattle.script_serving.specs.Refusals.{may_be_full}
@@ -39,6 +39,7 @@ use Rattle.cluster_state.specs.Places.{place_of, HasPrimary}
 use Rattle.cluster_state.specs.Run.{Run}
 use Rattle.cluster_state.specs.State.{PrimaryShows, PlaceShows, Shows}
 use Rattle.cluster_state.specs.Writes.{IsFlushed}
+use Rattle.cluster_state.proofs.Growing.{not_flying}
 use Rattle.cluster_state.proofs.Frames.{PutsBack, was, now_is, place_at, moved_at, moved_out}
 use Rattle.cluster_state.proofs.Written.{accepted_place, started_place, published_place}
 use Rattle.cluster_state.proofs.Paid.{ends_paid}
@@ -81,6 +82,11 @@ may_publish r ended b at g v view legal turns flight flying present next =
       next = past_has (λ p. v.0 ≡ newest_version p + 1) r ended b view next;
       merged = ends_paid b.nodes (printed r.log) at all order flight;
     }
+
+-- the publish in flight is not that of a line which did not start as one
+pub apart_of : (r : Run) (ended : Bool) (b : Pages) (at : At) → record { ended = ended; nodes = b.nodes; log = b.log } ≡ r → IsLegalPast b.nodes (printed b.log) → AreInTurn (printed b.log)
+    → start_entry at (printed r.log) ≢ Some Publishing → publish_in_flight (printed r.log) ≢ Some at
+apart_of r ended b at view legal turns line = not_flying r.nodes (printed r.log) at (subst (λ (x : Run). IsLegalPast x.nodes (printed x.log)) view legal) (past_has AreInTurn r ended b view turns) line
 
 -- the primary of the book is a node
 pub primary_is_node : {D : Type 0} (cells : D → Cells) (r : Run) (ended : Bool) (b : Pages) (places : List (Option (Place D))) (o : Option NodeNo)
@@ -165,17 +171,18 @@ module _ {D : Type 0} (cells : D → Cells) where
 
   -- ---- what each path leaves
 
-  pub accept_path : (r : Run) (ended : Bool) (b0 b1 b2 : Pages) (old mid new : List (Option (Place D))) (at : At) (n : NodeNo) (seq : ℕ) (op : Op) (x : Place D) (p q : PrimaryParts D) (held : Vec Held Global)
+  pub accept_path : (r : Run) (ended : Bool) (b0 b1 b2 : Pages) (old mid new : List (Option (Place D))) (at : At) (n : NodeNo) (seq : ℕ) (op copy : Op) (x : Place D) (p q : PrimaryParts D) (held : Vec Held Global)
       → record { ended = ended; nodes = b0.nodes; log = b0.log } ≡ r → r.ended ≡ false → (ended ≡ false → Shows cells b0.log b0.nodes old)
       → b1.log ≡ b0.log → b1.nodes ≡ b0.nodes → b2.log ≡ shown at (Accepted seq op) ∷ b1.log → b2.nodes ≡ b1.nodes → IsLegalPast b1.nodes (printed b1.log) → AreInTurn (printed b1.log)
       → IsFresh at (printed b0.log) → KeepsRule r.nodes (printed r.log) at (Accepted seq op) → IsNode r.nodes n.0 → primary_of (printed r.log) ≡ Some n
       → PutsBack cells old mid new n.0 (record { node = Primary q; held = held }) → place_of old n.0 ≡ Some x → x ≡ record { node = Primary p; held = held }
-      → q ≡ record p { waiting = p.waiting ++ op ∷ []; accepted = p.accepted + 1 } → IsPrimary cells q → Shows cells b2.log b2.nodes new
-  accept_path r ended b0 b1 b2 old mid new at n seq op x p q held view running shows e1 n1 e2 n2 legal turns fresh keeps node primary put there is next whole =
+      → copy ≡ op → q ≡ record p { waiting = p.waiting ++ copy ∷ []; accepted = p.accepted + 1 } → IsPrimary cells q → Shows cells b2.log b2.nodes new
+  accept_path r ended b0 b1 b2 old mid new at n seq op copy x p q held view running shows e1 n1 e2 n2 legal turns fresh keeps node primary put there is same next whole =
       let line = fresh_line (printed r.log) at (past_has (IsFresh at) r ended b0 view fresh) in
       moved_at cells r ended b0 b1 b2 old mid new at (Accepted seq op) n.0 (record { node = Primary q; held = held }) x view running shows e1 n1 e2 n2 legal turns keeps
       (λ m apart here. line) (λ m apart. others_apart (primary_of (printed r.log)) n m primary apart) (λ m apart. refl) put node there
-      (λ all order was. accepted_place cells r.nodes r.log at seq op n.0 p q held all order keeps line next whole (subst (PlaceShows cells r.log n.0) is was))
+      (λ all order was. accepted_place cells r.nodes r.log at seq op n.0 p q held all order keeps line
+          (subst (λ (o : Op). q ≡ record p { waiting = p.waiting ++ o ∷ []; accepted = p.accepted + 1 }) same next) whole (subst (PlaceShows cells r.log n.0) is was))
 
   pub start_path : (r : Run) (ended : Bool) (b0 b1 b2 b3 : Pages) (old mid new : List (Option (Place D))) (at : At) (n : NodeNo) (seg : Option SegNo) (segs : List Shown) (x : Place D) (p q : PrimaryParts D) (held : Vec Held Global)
       → record { ended = ended; nodes = b0.nodes; log = b0.log } ≡ r → r.ended ≡ false → (ended ≡ false → Shows cells b0.log b0.nodes old)

@@ -60,9 +60,10 @@ impl<D: FaultDir + Drop> ClusterState<D> {
         let copy = op.share(alloc)?;
         self.book.reserve(1)?;
         let (mut primary, held) = primary_in(take(&mut self.places, p));
-        primary.accept(copy)?;
+        let place = primary.accept(copy);
         let node = Node::Primary(primary);
         put(&mut self.places, p, Place { node, held });
+        place?;
         self.book.show(at, Event::Accepted { seq, op });
         self.ended = false;
         Ok(())
@@ -105,7 +106,10 @@ impl<D: FaultDir + Drop> ClusterState<D> {
             Ok(None) => unreachable!(),
             Err(PublishFault::NamesSpent) => unreachable!(),
         };
-        let segs = task.segs.share(alloc)?;
+        let Ok(segs) = task.segs.share(alloc) else {
+            drop(task);
+            return Err(AllocError);
+        };
         self.book.show(at, Event::Publishing);
         self.book.keep(Inner::FlushOut { at, seg: task.seg, segs });
         self.ended = false;
@@ -143,11 +147,12 @@ impl<D: FaultDir + Drop> ClusterState<D> {
         }
         self.book.reserve(1)?;
         let (mut primary, held) = primary_in(take(&mut self.places, p));
-        let Ok(v) = primary.publish_end(alloc, work) else {
-            return Err(AllocError);
-        };
+        let ended = primary.publish_end(alloc, work);
         let node = Node::Primary(primary);
         put(&mut self.places, p, Place { node, held });
+        let Ok(v) = ended else {
+            return Err(AllocError);
+        };
         self.book.show(at, Event::Published { generation, v });
         self.ended = false;
         Ok(())

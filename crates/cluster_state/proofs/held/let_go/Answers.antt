@@ -1,7 +1,3 @@
-use Rattle.cluster_state.proofs.PublishPaths.{may_accept}
-use Rattle.cluster_state.proofs.FirstNodes.{is_opening}
-use Rattle.cluster_state.proofs.Slots.{place_read}
-use Rattle.cluster_state.proofs.Filling.{is_full}
 use Rattle.std.proofs.Common.{◌≡◌, ap, ◌∙◌, List}
 use Rattle.cluster_state.specs.declared.held.Held.{Held}
 use Rattle.cluster_state.specs.Held.{held_at}
