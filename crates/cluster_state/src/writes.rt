@@ -1,6 +1,6 @@
 //! What the primary accepts, and publishes.
 
-ghost use Rattle.std.specs.Prelude.{◌≡◌, ◌+◌, ◌<◌, ◌^◌, IfSome};
+ghost use Rattle.std.specs.Prelude.{◌≡◌, ◌≢◌, ◌+◌, ◌<◌, ◌^◌, IfSome, OnOk};
 
 use crate::cluster::ClusterState;
 use crate::nodes::{Node, Place, primary_in, put, take};
@@ -20,6 +20,18 @@ fn next_number(count: usize) -> Option<u32>
         Some(count as u32 + 1)
     } else {
         None
+    }
+}
+
+// There are as many segments as there may be, or no memory was found.
+fn is_for_segments(fault: PublishFault) -> Result<(), NoMemory>
+    requires { fault ≢ PublishFault.NamesSpent }
+    ensures { OnOk result (fault ≡ PublishFault.TooManySegments) }
+{
+    match fault {
+        PublishFault::TooManySegments => Ok(()),
+        PublishFault::Memory => Err(AllocError),
+        PublishFault::NamesSpent => unreachable!(),
     }
 }
 
@@ -98,13 +110,12 @@ impl<D: FaultDir + Drop> ClusterState<D> {
         put(&mut self.places, p, Place { node, held });
         let task = match started {
             Ok(Some(task)) => task,
-            Err(PublishFault::TooManySegments) => {
+            Ok(None) => unreachable!(),
+            Err(fault) => {
+                is_for_segments(fault)?;
                 self.ended = false;
                 return Ok(None);
             }
-            Err(PublishFault::Memory) => return Err(AllocError),
-            Ok(None) => unreachable!(),
-            Err(PublishFault::NamesSpent) => unreachable!(),
         };
         let Ok(segs) = task.segs.share(alloc) else {
             drop(task);
