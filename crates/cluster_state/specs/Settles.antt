@@ -9,6 +9,12 @@ use Rattle.history_entries.specs.Lines.{start_entry, before_start, highest_switc
 use Rattle.history_tables.specs.Begins.{open_line}
 use Rattle.cluster_state.specs.declared.tasks.SettleTask.{SettleTask}
 
+-- these are the replicas, ascending
+pub record AreReplicas (size : ℕ) (past : Past) (nodes : List NodeNo) : Type 0 where
+  pub each : All (λ n. IsNode size n.0 × IsReplica past n.0) nodes
+  pub ascending : AllPairs (λ m n. m.0 < n.0) nodes
+  pub all : (n : NodeNo) → IsNode size n.0 → IsReplica past n.0 → Contains nodes n
+
 -- the node was a replica at the line's start; while it has not crashed since, it is above those that the line switched, or has reached
 -- the version
 pub record IsLeft (size : ℕ) (past : Past) (at : At) (v : ℕ) (n : NodeNo) : Type 0 where

@@ -1,17 +1,56 @@
 //! Copies of the primary's newest point to replicas, by the jobs of copies and of settles.
 
-ghost use Rattle.std.specs.Prelude.{◌≡◌, ◌≤◌, ◌+◌};
-ghost use Rattle.history_entries.specs.Nodes.{IsNode};
+ghost use Rattle.std.specs.Prelude.{◌≡◌, ◌≢◌, ◌≤◌, ◌<◌, None};
+ghost use Rattle.history_entries.specs.Nodes.{version_of, newest_version};
+ghost use Rattle.history_entries.specs.Lines.{start_entry, before_start, highest_copy, highest_switched};
+ghost use Rattle.history_tables.specs.Begins.{open_line};
+ghost use Rattle.history_book.specs.Log.{printed};
+ghost use Rattle.cluster_state.specs.Copies.{JobRuns, ended_log};
 
 use crate::cluster::ClusterState;
 use crate::tasks::{CopyTask, FileTask};
 use crate::transfers::{begin_in, finish_in, next_in, read_in, take_in};
 use copy_job::Part;
 use disk_model::FaultDir;
-use history_book::{Book, Inner, Job, JobRow, Start};
+use history_book::{Begun, Book, Inner, Job, JobRow, Start};
 use history_entries::Event;
 use nrt_base::{At, NoMemory, NodeNo, Share, Version};
 use std::alloc::{AllocError, Global};
+
+// Appends the end of a job: its node switched to its version, and a copy has its reply.
+fn show_end(book: &mut Book, row: JobRow)
+    requires room { 3 ≤ book.old.room }
+    requires runs { JobRuns book.old.log row }
+    requires line { open_line row.job.at (printed book.old.log) ≢ None }
+    requires below { version_of row.job.node.0 (printed book.old.log)
+        < newest_version (before_start row.job.at (printed book.old.log)) }
+    requires latest { highest_copy row.job.node.0 (printed book.old.log) ≤ row.job.version.0 }
+    requires ordered { highest_switched row.job.at (printed book.old.log) < row.job.node.0 }
+    ensures log { book.new.log
+        ≡ ended_log row.job (start_entry row.job.at (printed book.old.log)) book.old.log }
+    ensures nodes { book.new.nodes ≡ book.old.nodes }
+{
+    book.is_legal();
+    book.job_shows(row);
+    book.job_switches(row);
+    let Job {
+        at,
+        node: n,
+        number: job,
+        version: v,
+    } = row.job;
+    let begun = book.line(at);
+    book.show(at, Event::Switched { n, v });
+    if let Some(Begun {
+        start: Start::Copying { .. },
+        ..
+    }) = begun
+    {
+        book.show(at, Event::Copied { n, v });
+    }
+    let line = at.line;
+    book.keep(Inner::JobEnd { line, node: n, job });
+}
 
 impl<D: FaultDir + Drop> ClusterState<D> {
     ghost use Rattle.std.specs.Prelude.{ℕ, ◌≡◌, ◌≢◌, ◌<◌, ◌∷◌, [], false, true, None, Some, OnOk, OnErr, IfOk, IfSome};

@@ -1,5 +1,10 @@
 //! Settles: the replicas that are copied to, in ascending order.
 
+ghost use Rattle.std.specs.Prelude.{◌≡◌, IfOk};
+ghost use Rattle.history_entries.specs.Nodes.{is_at};
+ghost use Rattle.history_book.specs.Log.{printed};
+ghost use Rattle.cluster_state.specs.Settles.{AreReplicas};
+
 use crate::cluster::ClusterState;
 use crate::tasks::SettleTask;
 use disk_model::FaultDir;
@@ -8,7 +13,30 @@ use history_entries::Event;
 use nrt_base::{At, NoMemory, NodeNo, Version};
 use std::alloc::Global;
 
-ghost use Rattle.std.specs.Prelude.{◌≡◌};
+// Whether the node is the one.
+fn is_node(primary: Option<NodeNo>, n: NodeNo) -> bool
+    ensures { result ≡ is_at primary n.0 }
+{
+    match primary {
+        Some(p) => p.0 == n.0,
+        None => false,
+    }
+}
+
+// The replicas that run, ascending.
+fn replicas(alloc: Global, book: &Book) -> Result<Vec<NodeNo>, NoMemory>
+    ensures { IfOk result (λ left. AreReplicas book.now.nodes (printed book.now.log) left.items) }
+{
+    let primary = book.primary();
+    let mut left = Vec::new(alloc);
+    for k in 1..=book.node_count() {
+        let n = NodeNo(k);
+        if book.runs(n) && !is_node(primary, n) {
+            left.push(n)?;
+        }
+    }
+    Ok(left)
+}
 
 impl<D: FaultDir + Drop> ClusterState<D> {
     ghost use Rattle.std.specs.Prelude.{ℕ, ◌≡◌, ◌≢◌, ◌∷◌, [], false, None, Some, OnOk, OnErr, IfOk, IfSome};
@@ -33,7 +61,7 @@ impl<D: FaultDir + Drop> ClusterState<D> {
         self.book.is_fresh(at);
         self.is_apart(at);
         let version = Version(self.book.newest());
-        let left = match self.replicas(alloc) {
+        let left = match replicas(alloc, &self.book) {
             Ok(left) => left,
             Err(fault) => {
                 self.ended = true;
@@ -57,7 +85,7 @@ impl<D: FaultDir + Drop> ClusterState<D> {
         self.book.is_legal();
         while let Some(n) = task.left.first() {
             let n = *n;
-            if self.waits(at, n, task.version) {
+            if self.book.node_survives(at, n) && self.book.version(n) < task.version.0 {
                 return Some(n);
             }
             task.left.remove(0);
