@@ -18,3 +18,7 @@ pub mod Turning
 pub mod TicketPaths
 pub mod PublishPaths
 pub mod FirstNodes
+pub mod JobFrames
+pub mod OutCounts
+pub mod Wider
+pub mod FileFrames

@@ -1,5 +1,5 @@
 -- What calls leave of the files of a node, and entries of the jobs that the log shows.
-use Rattle.std.specs.Prelude.{ℕ, ◌≡◌, ◌≢◌, ◌≤◌, ◌==◌, ◌×◌, Bool, true, false, not, Some, None, ⊤, ⊥}
+use Rattle.std.specs.Prelude.{ℕ, ◌≡◌, ◌≢◌, ◌≤◌, ◌==◌, Bool, true, false, not, Some, None, ⊤}
 use Rattle.nrt_base.specs.declared.doc.Doc.{Doc}
 use Rattle.nrt_base.specs.declared.numbers.At.{At}
 use Rattle.disk_model.specs.Disk.{Name, Cells}
@@ -15,6 +15,8 @@ use Rattle.history_entries.specs.Lines.{start_entry, before_start, copy_in_fligh
 use Rattle.history_entries.specs.Points.{documents_at}
 use Rattle.history_tables.specs.declared.jobs.Job.{Job}
 use Rattle.history_book.specs.Log.{Log, printed}
+use Rattle.history_book.specs.declared.inner.Inner.{Inner}
+use Rattle.history_book.specs.declared.inner.Inner.TheVariants.{JobBegun, FileOut, JobEnd}
 use Rattle.history_book.specs.Jobs.{job_at}
 use Rattle.cluster_state.specs.declared.nodes.Node.{Node}
 use Rattle.cluster_state.specs.declared.nodes.Node.TheVariants.{Primary, Replica, Down}
@@ -29,6 +31,13 @@ keeps_jobs (Reopened m v) n = not (m.0 == n)
 keeps_jobs (Crashed m) n = false
 keeps_jobs (Promoted m g f v) n = false
 keeps_jobs e n = true
+
+-- the entry of inner work is about no job at the node
+abbrev pub leaves_job : Inner → ℕ → Bool
+leaves_job (JobBegun line m number v by) n = not (m.0 == n)
+leaves_job (FileOut line m number name source by) n = not (m.0 == n)
+leaves_job (JobEnd line m number) n = not (m.0 == n)
+leaves_job i n = true
 
 -- what the log shows of the job at a node is what it showed: no copy to the node came, and of the newest version none that was not in flight
 pub record SameJob (log now : Log) (n : ℕ) : Type 0 where

@@ -1,6 +1,6 @@
 -- What the files of a cluster's nodes have to do with each other and with the log: each name of a segment's file means the same
 -- bytes at every node, and each running job copies what the log shows of it.
-use Rattle.std.specs.Prelude.{ℕ, ◌≡◌, ◌≢◌, ◌≤◌, ◌<◌, ◌×◌, List, Option, Some, None, IsSomeAnd, ⊤, ⊥}
+use Rattle.std.specs.Prelude.{ℕ, ◌≡◌, ◌≢◌, ◌≤◌, ◌<◌, List, Option, Some, None, IsSomeAnd, ⊤}
 use Rattle.std.specs.List.{All}
 use Rattle.nrt_base.specs.declared.numbers.At.{At}
 use Rattle.disk_model.specs.Disk.{Name, Content, Cells}

@@ -1,5 +1,5 @@
 -- What the beginning and the end of a job make of the primary and of the replica.
-use Rattle.std.specs.Prelude.{ℕ, ◌≡◌, ◌<◌, ◌+◌, ◌×◌, ◌∷◌, ◌++◌, [], List, Option, Some, None, IsSome, IsSomeAnd, IfSome, ⊤, ⊥}
+use Rattle.std.specs.Prelude.{ℕ, ◌≡◌, ◌<◌, ◌+◌, ◌∷◌, ◌++◌, [], List, Option, Some, None, IsSome, IsSomeAnd, IfSome, ⊤}
 use Rattle.std.specs.List.{All}
 use Rattle.nrt_base.specs.declared.doc.Doc.{Doc}
 use Rattle.disk_model.specs.Disk.{Name, Content, Cells, reads_of}

@@ -1,5 +1,5 @@
 -- What settles hand out, and what they wait for.
-use Rattle.std.specs.Prelude.{ℕ, ◌≡◌, ◌≢◌, ◌≤◌, ◌<◌, ◌×◌, ◌⊎◌, List, None, Some}
+use Rattle.std.specs.Prelude.{ℕ, ◌≡◌, ◌≢◌, ◌≤◌, ◌<◌, ◌⊎◌, List, None, Some}
 use Rattle.std.specs.List.{All, AllPairs, Contains}
 use Rattle.nrt_base.specs.declared.numbers.At.{At}
 use Rattle.nrt_base.specs.declared.numbers.NodeNo.{NodeNo}
