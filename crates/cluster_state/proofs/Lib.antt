@@ -22,3 +22,5 @@ pub mod JobFrames
 pub mod OutCounts
 pub mod Wider
 pub mod FileFrames
+pub mod JobFiles
+pub mod Stepping

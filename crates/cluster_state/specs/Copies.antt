@@ -3,6 +3,7 @@ use Rattle.std.specs.Prelude.{ℕ, ◌≡◌, ◌≢◌, ◌<◌, ◌∷◌, fal
 use Rattle.nrt_base.specs.declared.numbers.At.{At}
 use Rattle.nrt_base.specs.declared.numbers.NodeNo.{NodeNo}
 use Rattle.nrt_base.specs.declared.numbers.Version.{Version}
+use Rattle.codec_frame.specs.Checking.{HasFooter}
 use Rattle.copy_state.specs.Meta.{IsMetaOf}
 use Rattle.history_entries.specs.declared.entry.Event.{Event}
 use Rattle.history_entries.specs.declared.entry.Event.TheVariants.{Copying, Switched, Copied}
@@ -44,16 +45,18 @@ pub record JobRuns (log : Log) (row : JobRow) : Type 0 where
   pub survives : NodeSurvives (printed log) row.job.at row.job.node.0
   pub source : SourceSurvives (printed log) row.job.at
 
--- a job of the newest version began for the line at the node, behind these entries, and the line copies by it
+-- a job of the newest version began for the line at the node, behind these entries, and runs; the line copies by it
 pub record BeginsJob (at : At) (n : NodeNo) (old new : Run) (log : Log) (task : CopyTask) : Type 0 where
   pub now : IsNow old new (kept (JobBegun at.line n task.job (Some (newest_of (printed old.log))) (Some at)) ∷ log)
   pub node : task.node ≡ n
   pub copying : IsCopying at new.log task
+  pub runs : JobRuns new.log copying.row
 
 -- a file was handed out to the job, with its metadata
 pub record HandsFile (job : Job) (old new : Run) (file : FileTask) : Type 0 where
   pub now : IsNow old new (kept (FileOut job.at.line job.node job.number file.name file.source (Some job.at)) ∷ old.log)
   pub meta : IsMetaOf file.source file.meta
+  pub footer : HasFooter file.source
 
 -- the node switched to the job's version, and the job has ended; where its line is a copy, that has its reply
 abbrev pub ended_log : Job → Option Event → Log → Log

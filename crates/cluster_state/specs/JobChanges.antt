@@ -65,13 +65,13 @@ module _ {D : Type 0} where
   -- the primary is as before, but for its directory, its counts and the copy states that are out
   pub record AltersStates (cells : D → Cells) (old new : PrimaryParts D) : Type 0 where
     pub others : new ≡ record old { dir = new.dir; files = new.files; states = new.states }
-    pub whole : IsPrimary cells new
+    pub whole : IsPrimary cells old → IsPrimary cells new
     pub files : KeepsPrimaryFiles cells old new
 
   -- the replica is as before, but for its directory, its counts, what it has seen and its job
   pub record AltersJob (cells : D → Cells) (old new : ReplicaParts D) : Type 0 where
     pub others : new ≡ record old { dir = new.dir; files = new.files; seen = new.seen; jobs = new.jobs; job = new.job }
-    pub whole : IsWholeReplica cells new
+    pub whole : IsWholeReplica cells old → IsWholeReplica cells new
     pub standing : AreStanding cells old → AreStanding cells new
     pub sourced : KeepsSource cells old new
 
@@ -108,7 +108,7 @@ module _ {D : Type 0} where
   -- the same number, state and point
   pub record TakesPart (cells : D → Cells) (part : Part) (old new : ReplicaParts D) : Type 0 where
     pub others : new ≡ record old { dir = new.dir; files = new.files; job = new.job }
-    pub whole : IsWholeReplica cells new
+    pub whole : IsWholeReplica cells old → IsWholeReplica cells new
     pub standing : AreStanding cells old → AreStanding cells new
     pub sourced : (source : Name → Content) → source part.name ≡ Some part.bytes → IsSourced source cells old → IsSourced source cells new
     pub job : IfSome old.job (λ j. IsSomeAnd new.job (λ k. (k.copy.number ≡ j.copy.number) × (k.copy.want ≡ j.copy.want) × (k.infos ≡ j.infos)))

@@ -62,10 +62,10 @@ pub fn begin_job<D: Dir + Drop>(
     };
     drop_job(alloc, primary, replica)?;
     replica.new_point(state.primary_gen, state.version);
-    match replica.start_job(alloc, state) {
-        Ok(number) => Ok(number),
-        Err(_) => Err(AllocError),
-    }
+    let Ok(number) = replica.start_job(alloc, state) else {
+        return Err(AllocError);
+    };
+    Ok(number)
 }
 
 /// Searches the point of a replica's job, of which nothing is missing, and gives back the copy state that it was begun with.
@@ -87,9 +87,9 @@ pub fn finish_job<D: Dir + Drop>(
     };
     let state = share_state(alloc, job.want())?;
     let number = job.number();
-    if replica.finish(alloc, number).is_err() {
+    let Ok(_) = replica.finish(alloc, number) else {
         return Err(AllocError);
-    }
+    };
     primary.give_back(state);
     Ok(())
 }
@@ -109,8 +109,8 @@ pub fn take_part<D: Dir + Drop>(replica: &mut Replica<D>, part: Part) -> Result<
         return Ok(());
     }
     let number = job.number();
-    match replica.arrived(number, part) {
-        Ok(()) => Ok(()),
-        Err(_) => Err(AllocError),
-    }
+    let Ok(()) = replica.arrived(number, part) else {
+        return Err(AllocError);
+    };
+    Ok(())
 }

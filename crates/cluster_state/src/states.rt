@@ -1,8 +1,9 @@
 //! Copy states, and the files of jobs.
 
-ghost use Rattle.std.specs.Prelude.{◌≡◌, IfOk, nat_lt};
+ghost use Rattle.std.specs.Prelude.{◌≡◌, IfOk};
 ghost use Rattle.std.specs.Option.{option_map};
-ghost use Rattle.file_deleter.specs.Holdings.{times};
+ghost use Rattle.disk_model.specs.Disk.{is_among};
+ghost use Rattle.copy_job.specs.Jobs.{IsJob};
 ghost use Rattle.copy_state.specs.States.{meta_in};
 ghost use Rattle.cluster_state.specs.JobChanges.{IsNextOf};
 
@@ -84,7 +85,8 @@ pub fn next_file(alloc: Global, job: &CopyJob) -> Result<Option<(FileName, FileM
 
 /// Whether a job lacks a file.
 pub fn lacks(job: &CopyJob, name: &FileName) -> bool
-    ensures { result ≡ nat_lt 0 (times job.now.missing name.now) }
+    ensures is { result ≡ is_among job.now.missing name.now }
+    ensures job { IsJob job.now }
 {
     job.missing().iter().any(|q| q == name)
 }
