@@ -24,3 +24,4 @@ pub mod Wider
 pub mod FileFrames
 pub mod JobFiles
 pub mod Stepping
+pub mod FileJobs
