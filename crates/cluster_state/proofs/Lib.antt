@@ -19,3 +19,10 @@ pub mod Turning
 pub mod TicketPaths
 pub mod PublishPaths
 pub mod FirstNodes
+pub mod JobFrames
+pub mod OutCounts
+pub mod Wider
+pub mod FileFrames
+pub mod JobFiles
+pub mod Stepping
+pub mod FileJobs
