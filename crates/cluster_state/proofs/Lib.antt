@@ -18,6 +18,7 @@ pub mod Primaries
 pub mod Turning
 pub mod TicketPaths
 pub mod PublishPaths
+pub mod PublishFiles
 pub mod FirstNodes
 pub mod JobFrames
 pub mod OutCounts
