@@ -19,3 +19,4 @@ pub mod Turning
 pub mod TicketPaths
 pub mod PublishPaths
 pub mod FirstNodes
+pub mod FirstPlaces
