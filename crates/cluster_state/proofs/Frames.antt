@@ -75,6 +75,8 @@ writes_more past now infos segs g s was =
       generation = was.generation ∙ sym s.generation;
       version = was.version ∙ sym s.newest;
       counter = was.counter ∙ sym s.names;
+      few = subst (λ (k : ℕ). length infos.segs ≤ k) (sym s.puts) was.few;
+      live = was.live;
     }
 
 -- what was handed out stays so
@@ -120,6 +122,7 @@ module _ {D : Type 0} (cells : D → Cells) where
         waiting = was.waiting ∙ sym (cut_same (printed log) (printed now) writer);
         accepted = was.accepted ∙ ap (λ (ops : List Op). length ops) (sym writer.operations);
         uncut = was.uncut;
+        calm = was.calm;
         flight = flight_same log now p.publish p.segs (s.flight was.primary) out was.flight;
       }
 

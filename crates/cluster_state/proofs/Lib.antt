@@ -10,6 +10,7 @@ pub mod Leasing
 pub mod Ended
 pub mod Cuts
 pub mod Paid
+pub mod Filling
 pub mod Writing
 pub mod Written
 pub mod Primaries

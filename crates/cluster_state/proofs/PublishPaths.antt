@@ -1,39 +1,50 @@
 -- What each path of the primary leaves, from what its calls say.
-use Rattle.std.proofs.Common.{◌≡◌, ◌≢◌, ◌<◌, ◌+◌, inl, ℕ, Bool, true, false, true≢false, List, [], ◌∷◌, ◌++◌, Some, None, Option, Vec, Global, refl, ap, ◌∙◌, sym, subst, length}
+use Rattle.std.proofs.Common.{◌≡◌, ◌≢◌, ◌≤◌, ◌<◌, ◌+◌, ◌-◌, ◌^◌, ◌==◌, ◌↔◌, inl, ℕ, Bool, true, false, true≢false, if◌then◌else◌, List, [], ◌∷◌, ◌++◌, Some, None, Option, Vec, Global, length, refl, ap, ◌∙◌, sym, subst, arith}
+use Rattle.std.specs.Prelude.{IsSomeAnd, IfSome, IsSome, IsTrue}
+use Rattle.std.specs.List.{All}
+use Rattle.std.proofs.lemmas.Bool.{eqb-true}
+use Rattle.nrt_base.specs.SegNumbers.{segments_of_generation}
 use Rattle.nrt_base.specs.declared.numbers.At.{At}
 use Rattle.nrt_base.specs.declared.numbers.Gen.{Gen}
 use Rattle.nrt_base.specs.declared.numbers.NodeNo.{NodeNo}
 use Rattle.nrt_base.specs.declared.numbers.SegNo.{SegNo}
 use Rattle.nrt_base.specs.declared.numbers.Version.{Version}
 use Rattle.documents.specs.declared.operation.Op.{Op}
-use Rattle.disk_model.specs.Disk.{Cells}
+use Rattle.disk_model.specs.Disk.{Cells, reads_of}
 use Rattle.seg_reader.specs.Shown.{Shown}
+use Rattle.seg_reader.specs.Sound.{IsSound}
 use Rattle.history_entries.specs.declared.entry.Event.TheVariants.{Accepted, Publishing, Published}
 use Rattle.history_entries.specs.Nodes.{IsNode, primary_of, newest_version, generation_of, accepted_count}
 use Rattle.history_entries.specs.Lines.{publish_in_flight, is_free_for}
-use Rattle.history_entries.specs.Points.{cut_of}
+use Rattle.history_entries.specs.Points.{operations_of_generation, cut_of, cut_has_put, names_drawn}
 use Rattle.history_entries.specs.Legal.{KeepsRule, IsLegalPast}
+use Rattle.script_serving.specs.Refusals.{may_be_full}
+use Rattle.history_tables.proofs.RowLemmas.{by_test}
 use Rattle.history_book.specs.Log.{Pages, printed, shown, kept}
 use Rattle.history_book.specs.declared.inner.Inner.TheVariants.{FlushOut}
 use Rattle.history_book.specs.Laws.{IsFresh, Flying}
 use Rattle.history_book.specs.Turns.{AreInTurn}
 use Rattle.index_primary.specs.declared.parts.Parts.{Parts as PrimaryParts}
 use Rattle.index_primary.specs.Primary.{IsPrimary}
-use Rattle.index_primary.specs.Calls.{MakesPoint}
-use Rattle.index_primary.specs.Work.{AreOfCut}
-use Rattle.index_primary.specs.Cut.{infos_drawn, noted, has_put}
-use Rattle.segment_steps.specs.declared.next.NextSegments.{NextSegments}
+use Rattle.index_primary.specs.Calls.{IsTaskOf, IsPublished}
+use Rattle.index_primary.specs.Work.{IsWorkOf, AreOfCut}
+use Rattle.index_primary.specs.Cut.{infos_drawn, noted, has_put, IsIdle, AreSpent, AreTooMany}
+use Rattle.index_primary.proofs.Callers.{task_seg, task_sound}
+use Rattle.segment_steps.specs.declared.flushing.FlushTask.{FlushTask}
+use Rattle.segment_steps.specs.declared.flushing.FlushWork.{FlushWork}
 use Rattle.cluster_state.specs.declared.held.Held.{Held}
 use Rattle.cluster_state.specs.declared.nodes.Node.TheVariants.{Primary}
 use Rattle.cluster_state.specs.declared.nodes.Place.{Place}
-use Rattle.cluster_state.specs.Places.{place_of}
+use Rattle.cluster_state.specs.Places.{place_of, HasPrimary}
 use Rattle.cluster_state.specs.Run.{Run}
-use Rattle.cluster_state.specs.State.{PlaceShows, Shows}
-use Rattle.cluster_state.proofs.Frames.{PutsBack, moved_at, moved_out}
+use Rattle.cluster_state.specs.State.{PrimaryShows, PlaceShows, Shows}
+use Rattle.cluster_state.specs.Writes.{IsFlushed}
+use Rattle.cluster_state.proofs.Frames.{PutsBack, was, now_is, place_at, moved_at, moved_out}
 use Rattle.cluster_state.proofs.Written.{accepted_place, started_place, published_place}
 use Rattle.cluster_state.proofs.Paid.{ends_paid}
-use Rattle.cluster_state.proofs.Primaries.{others_apart}
-use Rattle.cluster_state.proofs.Turning.{fresh_line, past_has}
+use Rattle.cluster_state.proofs.Filling.{is_full}
+use Rattle.cluster_state.proofs.Primaries.{others_apart, primary_there, primary_node, has_primary, numbered, unpublished, is_work}
+use Rattle.cluster_state.proofs.Turning.{fresh_line, log_is, nodes_is, past_has}
 
 pub may_accept : (r : Run) (ended : Bool) (b : Pages) (at : At) (p : NodeNo) (seq : ℕ) (op : Op) → record { ended = ended; nodes = b.nodes; log = b.log } ≡ r
     → IsFresh at (printed b.log) → primary_of (printed r.log) ≡ Some p → seq ≡ accepted_count (printed b.log) + 1 → KeepsRule r.nodes (printed r.log) at (Accepted seq op)
@@ -71,7 +82,89 @@ may_publish r ended b at g v view legal turns flight flying present next =
       merged = ends_paid b.nodes (printed r.log) at all order flight;
     }
 
+-- the primary of the book is a node
+pub primary_is_node : {D : Type 0} (cells : D → Cells) (r : Run) (ended : Bool) (b : Pages) (places : List (Option (Place D))) (o : Option NodeNo)
+    → record { ended = ended; nodes = b.nodes; log = b.log } ≡ r → r.ended ≡ false → (ended ≡ false → Shows cells b.log b.nodes places)
+    → IsLegalPast b.nodes (printed b.log) → o ≡ primary_of (printed b.log) → IfSome o (λ p. IsNode r.nodes p.0)
+primary_is_node cells r ended b places None view running shows legal is = tt
+primary_is_node cells r ended b places (Some p) view running shows legal is =
+    primary_node r.nodes (printed r.log) p (was cells r ended b.nodes b.log places view running shows).some
+    (subst (λ (x : Run). IsLegalPast x.nodes (printed x.log)) view legal)
+    (sym (ap (λ (x : Run). primary_of (printed x.log)) view) ∙ sym is)
+
 module _ {D : Type 0} (cells : D → Cells) where
+  -- ---- the primary, taken out of its place
+
+  module _ (r : Run) (ended : Bool) (b : Pages) (places : List (Option (Place D))) (n : NodeNo) (x : Place D)
+      (view : record { ended = ended; nodes = b.nodes; log = b.log } ≡ r) (running : r.ended ≡ false) (shows : ended ≡ false → Shows cells b.log b.nodes places)
+      (node : IsNode r.nodes n.0) (there : place_of places n.0 ≡ Some x) where
+    pub primary_stands : primary_of (printed r.log) ≡ Some n → HasPrimary (Some x)
+    primary_stands primary = has_primary cells r.log n.0 x (primary_there (primary_of (printed r.log)) n primary) (place_at cells r ended b.nodes n.0 b.log places x view running shows node there)
+
+    module _ (p : PrimaryParts D) (held : Vec Held Global) (is : x ≡ record { node = Primary p; held = held }) where
+      primary_at : PrimaryShows cells r.log n.0 p
+      primary_at = (subst (PlaceShows cells r.log n.0) is (place_at cells r ended b.nodes n.0 b.log places x view running shows node there)).node_shows
+
+      -- the next operation has a number
+      pub next_numbered : (seq : ℕ) → length (operations_of_generation (printed b.log)) ≤ accepted_count (printed b.log) → seq ≡ accepted_count (printed b.log) + 1 → seq < 2 ^ 32 → p.accepted + 1 < 2 ^ 32
+      next_numbered seq counted next few =
+          numbered cells r.log n.0 p (past_has (λ q. length (operations_of_generation q) ≤ accepted_count q) r ended b view counted)
+          (subst (λ (k : ℕ). k < 2 ^ 32) (past_has (λ q. seq ≡ accepted_count q + 1) r ended b view next) few) primary_at
+
+      -- no publish is in flight
+      pub none_flies : publish_in_flight (printed r.log) ≡ None → p.publish ≡ None
+      none_flies free = unpublished cells r.log n.0 p free primary_at
+
+      -- operations wait
+      pub not_idle : 0 < length (cut_of (printed r.log)) → IsIdle p.waiting p.has_cut_over → ⊥
+      not_idle some idle = let same : length p.waiting ≡ length (cut_of (printed r.log)) = ap length primary_at.waiting in let none = idle.0 in absurd (omega (arith, some, same, none))
+
+      -- a name is there where one is needed
+      pub not_spent : (cut_has_put (printed r.log) ≡ true → names_drawn (printed r.log) ≢ segments_of_generation) → AreSpent p.waiting p.infos → ⊥
+      not_spent names spent = names (sym (ap (λ (ops : List Op). has_put ops) primary_at.waiting) ∙ spent.0) (sym primary_at.writer.counter ∙ spent.1)
+
+      -- there may be as many segments as there may be
+      pub is_full_at : AreTooMany p.waiting p.infos p.segs → (cut_has_put (printed r.log) ≡ true) × (may_be_full (printed r.log) ≡ true)
+      is_full_at many = (sym (ap (λ (ops : List Op). has_put ops) primary_at.waiting) ∙ many.0,
+          is_full (printed r.log) (reads_of (cells p.dir)) p.infos.segs p.segs primary_at.whole.writer.stands.each primary_at.writer.live primary_at.writer.few primary_at.writer.documents many.2)
+
+      -- what is handed out is the cut, over sound segments
+      pub hands : (task : FlushTask) → IsTaskOf p task → (task.ops ≡ cut_of (printed r.log)) × (IsSome task.seg ↔ IsTrue (cut_has_put (printed r.log))) × All IsSound task.segs
+      hands task t = (t.ops ∙ primary_at.waiting,
+          subst (λ (ops : List Op). IsSome task.seg ↔ IsTrue (has_put ops)) (t.ops ∙ primary_at.waiting) (task_seg p task t),
+          task_sound cells p task primary_at.whole t)
+
+      -- the work is that of the publish in flight
+      pub work_at : (at : At) (work : FlushWork) → IsLegalPast b.nodes (printed b.log) → AreInTurn (printed b.log) → publish_in_flight (printed r.log) ≡ Some at → IsFlushed at r.log work → IsWorkOf p work
+      work_at at work legal turns flight flushed =
+          is_work cells r.nodes r.log at n.0 p work (past_has (IsLegalPast r.nodes) r ended b view (subst (λ (k : ℕ). IsLegalPast k (printed b.log)) (nodes_is r ended b view) legal)) (past_has AreInTurn r ended b view turns) flight flushed primary_at
+
+      -- the next version fits
+      pub next_fits : (newest : ℕ) → newest ≡ newest_version (printed b.log) → newest < 2 ^ 63 - 1 → p.infos.version.0 + 1 < 2 ^ 63
+      next_fits newest is below = let same = past_has (λ q. newest ≡ newest_version q) r ended b view is in let version = primary_at.writer.version in omega (arith, same, version, below)
+
+  -- a place that was taken out and put back as it was
+  pub back_path : (r : Run) (ended : Bool) (b0 b1 : Pages) (old mid new : List (Option (Place D))) (n : ℕ) (x y : Place D)
+      → record { ended = ended; nodes = b0.nodes; log = b0.log } ≡ r → r.ended ≡ false → (ended ≡ false → Shows cells b0.log b0.nodes old)
+      → b1.log ≡ b0.log → b1.nodes ≡ b0.nodes → PutsBack cells old mid new n y → place_of old n ≡ Some x → y ≡ x → Shows cells b1.log b1.nodes new
+  back_path r ended b0 b1 old mid new n x y view running shows e1 n1 put there same =
+      let s = was cells r ended b0.nodes b0.log old view running shows in
+      now_is cells r.log b1.log r.nodes b1.nodes new (e1 ∙ log_is r ended b0 view) (n1 ∙ nodes_is r ended b0 view) (record {
+        some = s.some;
+        count = put.again ∙ (put.count ∙ s.count);
+        each = λ m node. subst (λ (o : Option (Place D)). IsSomeAnd o (PlaceShows cells r.log m)) (sym (place_same m)) (s.each m node);
+        handed = s.handed;
+      })
+    where
+      place_same : (m : ℕ) → place_of new m ≡ place_of old m
+      place_same m =
+          by_test (n == m) (λ b. (n == m) ≡ b → place_of new m ≡ place_of old m)
+          (λ here q. (put.there m ∙ ap (λ (b : Bool). if b then Some y else place_of mid m) here) ∙ (ap (λ (z : Place D). Some z) same ∙ (sym there ∙ ap (place_of old) (eqb-true n m here))))
+          (λ apart q. (put.there m ∙ ap (λ (b : Bool). if b then Some y else place_of mid m) apart) ∙ (put.taken m ∙ ap (λ (b : Bool). if b then None else place_of old m) apart))
+          refl
+
+  -- ---- what each path leaves
+
   pub accept_path : (r : Run) (ended : Bool) (b0 b1 b2 : Pages) (old mid new : List (Option (Place D))) (at : At) (n : NodeNo) (seq : ℕ) (op : Op) (x : Place D) (p q : PrimaryParts D) (held : Vec Held Global)
       → record { ended = ended; nodes = b0.nodes; log = b0.log } ≡ r → r.ended ≡ false → (ended ≡ false → Shows cells b0.log b0.nodes old)
       → b1.log ≡ b0.log → b1.nodes ≡ b0.nodes → b2.log ≡ shown at (Accepted seq op) ∷ b1.log → b2.nodes ≡ b1.nodes → IsLegalPast b1.nodes (printed b1.log) → AreInTurn (printed b1.log)
@@ -96,14 +189,14 @@ module _ {D : Type 0} (cells : D → Cells) where
       (past_has (IsFresh at) r ended b0 view fresh).begun (λ m apart. others_apart (primary_of (printed r.log)) n m primary apart) put node there
       (λ all order out was. started_place cells r.nodes r.log at seg segs n.0 p q held all keeps out same next whole (subst (PlaceShows cells r.log n.0) is was))
 
-  pub end_path : (r : Run) (ended : Bool) (b0 b1 b2 : Pages) (old mid new : List (Option (Place D))) (at : At) (n : NodeNo) (g : Gen) (v : Version) (x : Place D) (p q : PrimaryParts D) (made : NextSegments) (held : Vec Held Global)
+  pub end_path : (r : Run) (ended : Bool) (b0 b1 b2 : Pages) (old mid new : List (Option (Place D))) (at : At) (n : NodeNo) (g : Gen) (v : Version) (x : Place D) (p q : PrimaryParts D) (work : FlushWork) (held : Vec Held Global)
       → record { ended = ended; nodes = b0.nodes; log = b0.log } ≡ r → r.ended ≡ false → (ended ≡ false → Shows cells b0.log b0.nodes old)
       → b1.log ≡ b0.log → b1.nodes ≡ b0.nodes → b2.log ≡ shown at (Published g v) ∷ b1.log → b2.nodes ≡ b1.nodes → IsLegalPast b1.nodes (printed b1.log) → AreInTurn (printed b1.log)
       → KeepsRule r.nodes (printed r.log) at (Published g v) → publish_in_flight (printed r.log) ≡ Some at → IsNode r.nodes n.0 → primary_of (printed r.log) ≡ Some n
       → PutsBack cells old mid new n.0 (record { node = Primary q; held = held }) → place_of old n.0 ≡ Some x → x ≡ record { node = Primary p; held = held }
-      → MakesPoint p made q → AreOfCut p q → q.accepted ≡ p.accepted → IsPrimary cells q → Shows cells b2.log b2.nodes new
-  end_path r ended b0 b1 b2 old mid new at n g v x p q made held view running shows e1 n1 e2 n2 legal turns keeps flight node primary put there is makes of_cut accepted whole =
+      → IsFlushed at r.log work → IsPublished p work q → AreOfCut p q → q.accepted ≡ p.accepted → q.merges ≡ p.merges → IsPrimary cells q → Shows cells b2.log b2.nodes new
+  end_path r ended b0 b1 b2 old mid new at n g v x p q work held view running shows e1 n1 e2 n2 legal turns keeps flight node primary put there is flushed published of_cut accepted calm whole =
       moved_at cells r ended b0 b1 b2 old mid new at (Published g v) n.0 (record { node = Primary q; held = held }) x view running shows e1 n1 e2 n2 legal turns keeps
       (λ m apart here. absurd (true≢false (sym here ∙ others_apart (primary_of (printed r.log)) n m primary apart)))
       (λ m apart. others_apart (primary_of (printed r.log)) n m primary apart) (λ m apart. refl) put node there
-      (λ all order was. published_place cells r.nodes r.log at g v n.0 p q made held all order keeps flight keeps.next makes of_cut accepted whole (subst (PlaceShows cells r.log n.0) is was))
+      (λ all order was. published_place cells r.nodes r.log at g v n.0 p q work held all order keeps flight keeps.next flushed published of_cut accepted calm whole (subst (PlaceShows cells r.log n.0) is was))

@@ -1,7 +1,7 @@
 -- What the primary shows after it accepted an operation, started a publish or ended one.
 use Rattle.std.proofs.Common.{◌≡◌, ◌≢◌, ◌≤◌, ◌+◌, ◌-◌, ◌==◌, ℕ, Bool, true, false, true≢false, List, [], ◌∷◌, ◌++◌, Some, None, Option, max, refl, ap, ◌∙◌, sym, subst, arith, if◌then◌else◌, length, take, drop, append_assoc}
 use Rattle.std.specs.Prelude.{IsSomeAnd}
-use Rattle.std.specs.List.{list_any}
+use Rattle.std.specs.List.{All, list_any}
 use Rattle.std.proofs.lemmas.Bool.{eq-eqb}
 use Rattle.nrt_base.specs.declared.numbers.At.{At}
 use Rattle.nrt_base.specs.declared.numbers.Gen.{Gen}
@@ -14,6 +14,7 @@ use Rattle.disk_model.specs.Disk.{Cells}
 use Rattle.seg_reader.specs.Shown.{Shown}
 use Rattle.seg_reader.specs.Stands.{AreSegmentsOf}
 use Rattle.segment_infos.specs.declared.infos.Infos.{Infos}
+use Rattle.segment_infos.specs.declared.infos.SegRecord.{SegRecord}
 use Rattle.searcher_switch.specs.declared.open.Point.{Point}
 use Rattle.history_entries.specs.declared.entry.Event.{Event}
 use Rattle.history_entries.specs.declared.entry.Event.TheVariants.{Accepted, Publishing, Published}
@@ -30,14 +31,19 @@ use Rattle.history_book.proofs.ReignLaws.{written}
 use Rattle.index_primary.specs.declared.parts.Parts.{Parts as PrimaryParts}
 use Rattle.index_primary.specs.declared.parts.Publish.{Publish}
 use Rattle.index_primary.specs.Primary.{IsPrimary}
-use Rattle.segment_steps.specs.declared.next.NextSegments.{NextSegments}
-use Rattle.index_primary.specs.Calls.{MakesPoint}
+use Rattle.segment_steps.specs.declared.flushing.FlushWork.{FlushWork}
+use Rattle.index_primary.specs.Calls.{IsPublished}
+use Rattle.index_primary.specs.States.{merge_inputs}
+use Rattle.index_primary.specs.declared.states.Merging.{Merging}
+use Rattle.script_serving.specs.Refusals.{put_publishes}
 use Rattle.index_primary.specs.Work.{AreOfCut}
 use Rattle.index_primary.specs.Cut.{infos_drawn, noted, has_put, cut_by, after_cut}
 use Rattle.cluster_state.specs.Lookups.{Handed, or_older, flush_out}
 use Rattle.cluster_state.specs.State.{Stands, IsPointAt, IsFlying, FlightShows, WritesAt, PrimaryShows}
+use Rattle.cluster_state.specs.Writes.{IsFlushed}
 use Rattle.cluster_state.proofs.Growing.{stands_more, flight_stays, not_flying}
 use Rattle.cluster_state.proofs.Frames.{some_then, flight_same}
+use Rattle.cluster_state.proofs.Filling.{IsLive, next_live, next_few}
 use Rattle.cluster_state.proofs.Cuts.{length_last, drop_last, drop_on, take_on, after_ops-append, FliesWith, flies_with}
 
 module _ {D : Type 0} (cells : D → Cells) where
@@ -58,11 +64,12 @@ module _ {D : Type 0} (cells : D → Cells) where
         point = subst (λ (o : Point Shown). IsPointAt (printed (shown at (Accepted seq op) ∷ log)) (version_of n (printed log)) o) (sym (ap (λ (z : PrimaryParts D). z.searchers.point) is))
             (record { version = was.point.version; stands = point });
         writer = subst (λ (x : Infos × List Shown). WritesAt (printed (shown at (Accepted seq op) ∷ log)) x.0 x.1) (λ i. (sym (ap (λ (z : PrimaryParts D). z.infos) is) i, sym (ap (λ (z : PrimaryParts D). z.segs) is) i))
-            (record { documents = newest.documents; generation = was.writer.generation; version = was.writer.version; counter = was.writer.counter });
+            (record { documents = newest.documents; generation = was.writer.generation; version = was.writer.version; counter = was.writer.counter; few = was.writer.few; live = was.writer.live });
         waiting = ap (λ (z : PrimaryParts D). z.waiting) is ∙ (ap (λ (ops : List Op). ops ++ op ∷ []) was.waiting
             ∙ sym (drop_last (published_in_generation (printed log)) (operations_of_generation (printed log)) (op ∷ []) (written size (printed log) legal).within));
         accepted = omega (arith, ap (λ (z : PrimaryParts D). z.accepted) is, was.accepted, length_last (operations_of_generation (printed log)) op);
         uncut = ap (λ (z : PrimaryParts D). z.has_cut_over) is ∙ was.uncut;
+        calm = ap (λ (z : PrimaryParts D). z.merges) is ∙ was.calm;
         flight = subst (λ (x : Option Publish × List Shown). FlightShows (shown at (Accepted seq op) ∷ log) (publish_in_flight (printed (shown at (Accepted seq op) ∷ log))) x.0 x.1)
             (λ i. (sym (ap (λ (z : PrimaryParts D). z.publish) is) i, sym (ap (λ (z : PrimaryParts D). z.segs) is) i)) flight;
       }
@@ -70,12 +77,12 @@ module _ {D : Type 0} (cells : D → Cells) where
   -- ---- a publish starts
 
   drawn_writes : (b : Bool) (past now : Past) (infos : Infos) (segs : List Shown) → AreSegmentsOf (documents_at now (newest_version now)) segs
-      → generation_of now ≡ generation_of past → newest_version now ≡ newest_version past → names_drawn now ≡ (if b then names_drawn past + 1 else names_drawn past)
+      → generation_of now ≡ generation_of past → newest_version now ≡ newest_version past → names_drawn now ≡ (if b then names_drawn past + 1 else names_drawn past) → put_publishes now ≡ put_publishes past
       → WritesAt past infos segs → WritesAt now (infos_drawn b infos) segs
-  drawn_writes true past now infos segs documents generation newest names was =
-      record { documents = documents; generation = was.generation ∙ sym generation; version = was.version ∙ sym newest; counter = ap (λ (k : ℕ). k + 1) was.counter ∙ sym names }
-  drawn_writes false past now infos segs documents generation newest names was =
-      record { documents = documents; generation = was.generation ∙ sym generation; version = was.version ∙ sym newest; counter = was.counter ∙ sym names }
+  drawn_writes true past now infos segs documents generation newest names puts was =
+      record { documents = documents; generation = was.generation ∙ sym generation; version = was.version ∙ sym newest; counter = ap (λ (k : ℕ). k + 1) was.counter ∙ sym names; few = subst (λ (k : ℕ). length infos.segs ≤ k) (sym puts) was.few; live = was.live }
+  drawn_writes false past now infos segs documents generation newest names puts was =
+      record { documents = documents; generation = was.generation ∙ sym generation; version = was.version ∙ sym newest; counter = was.counter ∙ sym names; few = subst (λ (k : ℕ). length infos.segs ≤ k) (sym puts) was.few; live = was.live }
 
   pub started_primary : (size : ℕ) (log : Log) (at : At) (seg : Option SegNo) (segs : List Shown) (n : ℕ) (p q : PrimaryParts D) → IsLegalPast size (printed log)
       → KeepsRule size (printed log) at Publishing → flush_out at log ≡ None → segs ≡ p.segs
@@ -85,7 +92,7 @@ module _ {D : Type 0} (cells : D → Cells) where
       let point = stands_more size (printed log) (record { at = at; event = Publishing }) (version_of n (printed log)) p.searchers.point.readers (keeps, legal) was.point.stands in
       let newest = stands_more size (printed log) (record { at = at; event = Publishing }) (newest_version (printed log)) p.segs (keeps, legal) (record { known = omega arith; documents = was.writer.documents }) in
       let writer = drawn_writes (has_put p.waiting) (printed log) (printed (shown at Publishing ∷ log)) p.infos p.segs newest.documents refl refl
-          (ap (λ (ops : List Op). if list_any is_put ops then names_drawn (printed log) + 1 else names_drawn (printed log)) (sym was.waiting)) was.writer in
+          (ap (λ (ops : List Op). if list_any is_put ops then names_drawn (printed log) + 1 else names_drawn (printed log)) (sym was.waiting)) refl was.writer in
       record {
         running = was.running;
         primary = was.primary;
@@ -96,6 +103,7 @@ module _ {D : Type 0} (cells : D → Cells) where
         waiting = ap (λ (z : PrimaryParts D). z.waiting) is ∙ was.waiting;
         accepted = ap (λ (z : PrimaryParts D). z.accepted) is ∙ was.accepted;
         uncut = ap (λ (z : PrimaryParts D). z.has_cut_over) is ∙ was.uncut;
+        calm = ap (λ (z : PrimaryParts D). z.merges) is ∙ was.calm;
         flight = subst (λ (x : Option Publish × List Shown). FlightShows (kept (FlushOut at seg segs) ∷ shown at Publishing ∷ log) (Some at) x.0 x.1)
             (λ i. (sym (ap (λ (z : PrimaryParts D). z.publish) is) i, sym (ap (λ (z : PrimaryParts D). z.segs) is) i)) flying;
       }
@@ -132,35 +140,47 @@ module _ {D : Type 0} (cells : D → Cells) where
       → IsSomeAnd publish (λ f. IsFlying log at f segs)
   flies_at log at publish segs is shows = subst (λ (o : Option At). FlightShows log o publish segs) is shows
 
-  pub published_primary : (size : ℕ) (log : Log) (at : At) (g : Gen) (v : Version) (n : ℕ) (p q : PrimaryParts D) (made : NextSegments) → IsLegalPast size (printed log) → AreInTurn (printed log)
+  pub published_primary : (size : ℕ) (log : Log) (at : At) (g : Gen) (v : Version) (n : ℕ) (p q : PrimaryParts D) (work : FlushWork) → IsLegalPast size (printed log) → AreInTurn (printed log)
       → KeepsRule size (printed log) at (Published g v) → publish_in_flight (printed log) ≡ Some at → v.0 ≡ newest_version (printed log) + 1
-      → MakesPoint p made q → AreOfCut p q → q.accepted ≡ p.accepted → IsPrimary cells q
+      → IsFlushed at log work → IsPublished p work q → AreOfCut p q → q.accepted ≡ p.accepted → q.merges ≡ p.merges → IsPrimary cells q
       → PrimaryShows cells log n p → PrimaryShows cells (shown at (Published g v) ∷ log) n q
-  published_primary size log at g v n p q made legal turns keeps flight next makes of_cut accepted whole was =
+  published_primary size log at g v n p q work legal turns keeps flight next flushed published of_cut accepted calm whole was =
       record {
         running = was.running;
         primary = was.primary;
         whole = whole;
         point = record {
-          version = makes.version ∙ (ap (λ (k : ℕ). k + 1) was.writer.version ∙ (sym next ∙ sym searched));
+          version = published.point.version ∙ (ap (λ (k : ℕ). k + 1) was.writer.version ∙ (sym next ∙ sym searched));
           stands = subst (λ (k : ℕ). Stands (printed (shown at (Published g v) ∷ log)) k q.searchers.point.readers) (sym searched)
               (record { known = omega arith; documents = subst (λ (docs : List Doc). AreSegmentsOf docs q.searchers.point.readers) docs (of_cut (documents_at (printed log) (newest_version (printed log))) was.writer.documents).1 });
         };
         writer = record {
           documents = subst (λ (docs : List Doc). AreSegmentsOf docs q.segs) (docs ∙ ap (λ (k : ℕ). documents_at (printed (shown at (Published g v) ∷ log)) k) (sym newest))
               (of_cut (documents_at (printed log) (newest_version (printed log))) was.writer.documents).0;
-          generation = ap (λ (i : Infos). i.generation.0) makes.infos ∙ was.writer.generation;
-          version = ap (λ (i : Infos). i.version.0) makes.infos ∙ (ap (λ (k : ℕ). k + 1) was.writer.version ∙ (sym next ∙ sym newest));
-          counter = ap (λ (i : Infos). i.counter) makes.infos ∙ was.writer.counter;
+          generation = ap (λ (i : Infos). i.generation.0) published.point.infos ∙ was.writer.generation;
+          version = ap (λ (i : Infos). i.version.0) published.point.infos ∙ (ap (λ (k : ℕ). k + 1) was.writer.version ∙ (sym next ∙ sym newest));
+          counter = ap (λ (i : Infos). i.counter) published.point.infos ∙ was.writer.counter;
+          few = subst (λ (rs : List SegRecord). length rs ≤ put_publishes (printed (shown at (Published g v) ∷ log))) (sym records)
+              (subst (λ (ops : List Op). length published.made.records ≤ (if list_any is_put ops then put_publishes (printed log) + 1 else put_publishes (printed log))) flushed.ops
+              (next_few p.infos.generation.0 p.infos.segs p.segs flushed.task work (merge_inputs p.merges) published.made (put_publishes (printed log)) unheld flushed.flushed published.next was.writer.few));
+          live = subst (λ (rs : List SegRecord). All IsLive rs) (sym records)
+              (next_live p.infos.generation.0 p.infos.segs p.segs flushed.task work (merge_inputs p.merges) published.made unheld flushed.flushed published.next);
         };
-        waiting = makes.waiting ∙ left;
+        waiting = published.point.waiting ∙ left;
         accepted = accepted ∙ was.accepted;
-        uncut = makes.has_cut_over;
-        flight = subst (λ (o : Option At). FlightShows (shown at (Published g v) ∷ log) o q.publish q.segs) (sym none) makes.publish;
+        uncut = published.point.has_cut_over;
+        calm = calm ∙ was.calm;
+        flight = subst (λ (o : Option At). FlightShows (shown at (Published g v) ∷ log) o q.publish q.segs) (sym none) published.point.publish;
       }
     where
       f : FliesWith (printed log) at
       f = flies_with size (printed log) at legal turns flight
+
+      records : q.infos.segs ≡ published.made.records
+      records = ap (λ (i : Infos). i.segs) published.point.infos
+
+      unheld : merge_inputs p.merges ≡ []
+      unheld = ap (λ (ms : List Merging). merge_inputs ms) was.calm
 
       searched : version_of n (printed (shown at (Published g v) ∷ log)) ≡ v.0
       searched = ap (λ (b : Bool). if b then v.0 else version_of n (printed log)) was.primary

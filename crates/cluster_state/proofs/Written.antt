@@ -18,14 +18,15 @@ use Rattle.history_book.specs.declared.inner.Inner.TheVariants.{FlushOut}
 use Rattle.history_book.specs.Turns.{AreInTurn}
 use Rattle.index_primary.specs.declared.parts.Parts.{Parts as PrimaryParts}
 use Rattle.index_primary.specs.Primary.{IsPrimary}
-use Rattle.index_primary.specs.Calls.{MakesPoint}
+use Rattle.index_primary.specs.Calls.{IsPublished}
 use Rattle.index_primary.specs.Work.{AreOfCut}
 use Rattle.index_primary.specs.Cut.{infos_drawn, noted, has_put}
-use Rattle.segment_steps.specs.declared.next.NextSegments.{NextSegments}
+use Rattle.segment_steps.specs.declared.flushing.FlushWork.{FlushWork}
 use Rattle.cluster_state.specs.declared.held.Held.{Held}
 use Rattle.cluster_state.specs.declared.nodes.Node.TheVariants.{Primary}
 use Rattle.cluster_state.specs.Lookups.{flush_out}
 use Rattle.cluster_state.specs.State.{HoldsTickets, PlaceShows}
+use Rattle.cluster_state.specs.Writes.{IsFlushed}
 use Rattle.cluster_state.specs.Moves.{moves_tickets}
 use Rattle.cluster_state.proofs.Growing.{lasts, fewer}
 use Rattle.cluster_state.proofs.Frames.{holds_same}
@@ -56,11 +57,11 @@ module _ {D : Type 0} (cells : D → Cells) where
     tickets = tickets_next size (printed log) at Publishing n p.searchers.tickets q.searchers.tickets held.items legal keeps refl (ap (λ (z : PrimaryParts D). z.searchers.tickets) is) was.tickets;
   }
 
-  pub published_place : (size : ℕ) (log : Log) (at : At) (g : Gen) (v : Version) (n : ℕ) (p q : PrimaryParts D) (made : NextSegments) (held : Vec Held Global) → IsLegalPast size (printed log) → AreInTurn (printed log)
+  pub published_place : (size : ℕ) (log : Log) (at : At) (g : Gen) (v : Version) (n : ℕ) (p q : PrimaryParts D) (work : FlushWork) (held : Vec Held Global) → IsLegalPast size (printed log) → AreInTurn (printed log)
       → KeepsRule size (printed log) at (Published g v) → publish_in_flight (printed log) ≡ Some at → v.0 ≡ newest_version (printed log) + 1
-      → MakesPoint p made q → AreOfCut p q → q.accepted ≡ p.accepted → IsPrimary cells q
+      → IsFlushed at log work → IsPublished p work q → AreOfCut p q → q.accepted ≡ p.accepted → q.merges ≡ p.merges → IsPrimary cells q
       → PlaceShows cells log n (record { node = Primary p; held = held }) → PlaceShows cells (shown at (Published g v) ∷ log) n (record { node = Primary q; held = held })
-  published_place size log at g v n p q made held legal turns keeps flight next makes of_cut accepted whole was = record {
-    node_shows = published_primary cells size log at g v n p q made legal turns keeps flight next makes of_cut accepted whole was.node_shows;
-    tickets = tickets_next size (printed log) at (Published g v) n p.searchers.tickets q.searchers.tickets held.items legal keeps refl makes.tickets was.tickets;
+  published_place size log at g v n p q work held legal turns keeps flight next flushed published of_cut accepted calm whole was = record {
+    node_shows = published_primary cells size log at g v n p q work legal turns keeps flight next flushed published of_cut accepted calm whole was.node_shows;
+    tickets = tickets_next size (printed log) at (Published g v) n p.searchers.tickets q.searchers.tickets held.items legal keeps refl published.point.tickets was.tickets;
   }

@@ -1,10 +1,12 @@
 -- What the nodes of a cluster have to do with its log.
-use Rattle.std.specs.Prelude.{ℕ, ◌≡◌, ◌≢◌, ◌≤◌, List, [], length, true, false, Option, Some, None, IsSome, IsSomeAnd, ⊤}
+use Rattle.std.specs.Prelude.{ℕ, ◌≡◌, ◌≢◌, ◌≤◌, ◌<◌, List, [], length, true, false, Option, Some, None, IsSome, IsSomeAnd, ⊤}
+use Rattle.std.specs.List.{All}
 use Rattle.nrt_base.specs.declared.numbers.At.{At}
 use Rattle.disk_model.specs.Disk.{Cells}
 use Rattle.seg_reader.specs.Shown.{Shown}
 use Rattle.seg_reader.specs.Stands.{AreSegmentsOf}
 use Rattle.segment_infos.specs.declared.infos.Infos.{Infos}
+use Rattle.script_serving.specs.Refusals.{put_publishes}
 use Rattle.searcher_switch.specs.declared.searchers.Lease.{Lease}
 use Rattle.searcher_switch.specs.declared.open.Open.{Open}
 use Rattle.searcher_switch.specs.declared.open.Point.{Point}
@@ -75,12 +77,15 @@ abbrev pub FlightShows : Log → Option At → Option Publish → List Shown →
 FlightShows log None publish segs = publish ≡ None
 FlightShows log (Some at) publish segs = IsSomeAnd publish (λ f. IsFlying log at f segs)
 
--- the writer stands for the newest point, and draws names of the present generation
+-- the writer stands for the newest point, and draws names of the present generation; a publish that had a put made each of its
+-- segments, and each has a live row
 pub record WritesAt (past : Past) (infos : Infos) (segs : List Shown) : Type 0 where
   pub documents : AreSegmentsOf (documents_at past (newest_version past)) segs
   pub generation : infos.generation.0 ≡ generation_of past
   pub version : infos.version.0 ≡ newest_version past
   pub counter : infos.counter ≡ names_drawn past
+  pub few : length infos.segs ≤ put_publishes past
+  pub live : All (λ r. 0 < r.live) infos.segs
 
 -- a node that is down
 pub record DownShows (past : Past) (n : ℕ) : Type 0 where
@@ -88,7 +93,7 @@ pub record DownShows (past : Past) (n : ℕ) : Type 0 where
   pub other : is_at (primary_of past) n ≡ false
 
 module _ {D : Type 0} where
-  -- the primary searches its point, and writes from the newest on; its operations that wait are the cut
+  -- the primary searches its point, and writes from the newest on; its operations that wait are the cut, and no merge is in flight
   pub record PrimaryShows (cells : D → Cells) (log : Log) (n : ℕ) (p : PrimaryParts D) : Type 0 where
     pub running : is_running n (printed log) ≡ true
     pub primary : is_at (primary_of (printed log)) n ≡ true
@@ -98,6 +103,7 @@ module _ {D : Type 0} where
     pub waiting : p.waiting ≡ cut_of (printed log)
     pub accepted : p.accepted ≡ length (operations_of_generation (printed log))
     pub uncut : p.has_cut_over ≡ false
+    pub calm : p.merges ≡ []
     pub flight : FlightShows log (publish_in_flight (printed log)) p.publish p.segs
 
   -- a replica searches its point, and saw no later generation than the present one

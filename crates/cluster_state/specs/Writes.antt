@@ -9,6 +9,7 @@ use Rattle.segment_steps.specs.Next.{IsFlushOf}
 use Rattle.history_entries.specs.declared.entry.Event.TheVariants.{Publishing}
 use Rattle.history_entries.specs.Lines.{before_start}
 use Rattle.history_entries.specs.Points.{cut_of, cut_has_put}
+use Rattle.script_serving.specs.Refusals.{may_be_full}
 use Rattle.history_book.specs.Log.{Log, printed, shown, kept}
 use Rattle.history_book.specs.declared.inner.Inner.TheVariants.{FlushOut}
 use Rattle.cluster_state.specs.Lookups.{flush_out}
@@ -28,7 +29,7 @@ pub record IsFlushed (at : At) (log : Log) (work : FlushWork) : Type 0 where
   pub ops : task.ops ≡ cut_of (before_start at (printed log))
   pub flushed : IsFlushOf task work
 
--- a publish starts: its work is handed out, or there is a put and as many segments as there may be, and all is as before
+-- a publish starts: its work is handed out, or there is a put and as many segments as there may be, by the log too, and all is as before
 abbrev pub StartsPublish : At → Run → Run → Option FlushTask → Type 0
 StartsPublish at old new (Some task) = HandsFlush at old new task
-StartsPublish at old new None = IsNow old new old.log × (cut_has_put (printed old.log) ≡ true)
+StartsPublish at old new None = IsNow old new old.log × (cut_has_put (printed old.log) ≡ true) × (may_be_full (printed old.log) ≡ true)

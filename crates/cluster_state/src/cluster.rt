@@ -3,7 +3,7 @@
 use crate::nodes::Place;
 use disk_model::FaultDir;
 use history_book::Book;
-use nrt_base::{At, NoMemory};
+use nrt_base::{At, NoMemory, NodeNo};
 use history_entries::Event;
 use std::marker::Model;
 
@@ -33,8 +33,9 @@ impl<D: FaultDir> Model for ClusterState<D> {
 }
 
 impl<D: FaultDir + Drop> ClusterState<D> {
-    ghost use Rattle.std.specs.Prelude.{ℕ, ◌≡◌, ◌≢◌, ◌∷◌, false, Some, Option, OnOk, OnErr};
+    ghost use Rattle.std.specs.Prelude.{ℕ, ◌≡◌, ◌≢◌, ◌∷◌, false, Some, Option, OnOk, OnErr, IfSome};
     ghost use Rattle.nrt_base.specs.declared.numbers.NodeNo.{NodeNo};
+    ghost use Rattle.history_entries.specs.Nodes.{IsNode, primary_of};
     ghost use Rattle.history_entries.specs.Lines.{start_entry, publish_in_flight};
     ghost use Rattle.history_entries.specs.Legal.{KeepsRule};
     ghost use Rattle.history_tables.specs.Openings.{opens_ticket};
@@ -51,7 +52,40 @@ impl<D: FaultDir + Drop> ClusterState<D> {
         &self.book
     }
 
-    // The publish in flight is not that of a line which did not start as one. A law.
+    /// Whether it has ended: a call found no memory, and no other may be made.
+    pub fn has_ended(&self) -> bool
+        ensures { result ≡ self.now.ended }
+    {
+        self.ended
+    }
+
+    /// The running primary, which is a node.
+    pub fn primary(&self) -> Option<NodeNo>
+        requires running { self.now.ended ≡ false }
+        ensures is { result ≡ primary_of (printed self.now.log) }
+        ensures node { IfSome result (λ p. IsNode self.now.nodes p.0) }
+    {
+        self.book.is_legal();
+        self.book.primary()
+    }
+
+    /// Ends it, for a caller that found no memory.
+    pub fn end(&mut self)
+        ensures { IsEnded self.old self.new }
+    {
+        self.ended = true;
+    }
+
+    /// What happened, once no other call is to be made.
+    pub fn into_book(self) -> Book
+        ensures log { result.log ≡ self.log }
+        ensures nodes { result.nodes ≡ self.nodes }
+    {
+        let ClusterState { book, .. } = self;
+        book
+    }
+
+    /// The publish in flight is not that of a line which did not start as one. A law.
     pub fn is_apart(&self, at: At)
         requires running { self.now.ended ≡ false }
         requires line { start_entry at (printed self.now.log) ≢ Some Event.Publishing }
@@ -60,7 +94,8 @@ impl<D: FaultDir + Drop> ClusterState<D> {
         self.book.is_legal();
     }
 
-    /// Appends an entry that moves no node and opens no ticket, of a line whose publish is not in flight.
+    /// Appends an entry that moves no node and opens no ticket, of a line whose publish is not in flight. `Err` is want of
+    /// memory: the cluster has ended, and the history is as before.
     pub fn note(&mut self, at: At, event: Event) -> Result<(), NoMemory>
         requires running { self.old.ended ≡ false }
         requires rule { KeepsRule self.old.nodes (printed self.old.log) at event }

@@ -33,7 +33,8 @@ impl<D: FaultDir + Drop> ClusterState<D> {
     ghost use Rattle.cluster_state.specs.Run.{IsNow, IsEnded};
     ghost use Rattle.cluster_state.specs.Writes.{StartsPublish, IsFlushed};
 
-    /// Accepts an operation.
+    /// The primary accepts an operation, whose number is one above that of the last that was accepted. `Err` is want of memory,
+    /// or of a number below 2^32: the cluster has ended, and the history is as before.
     pub fn accept_at(
         &mut self,
         alloc: Global,
@@ -67,8 +68,9 @@ impl<D: FaultDir + Drop> ClusterState<D> {
         Ok(())
     }
 
-    /// Starts a publish of a cut that is not empty, and hands it out. Answers None where there is a put and there are as many
-    /// segments as there may be.
+    /// Starts a publish of a cut that is not empty, and hands it out: `flush` makes the work, and `end_publish` takes it back.
+    /// None is answered where there is a put and there are as many segments as there may be, and then all is as before. `Err`
+    /// is want of memory: the cluster has ended, and the history is as before.
     pub fn start_publish(
         &mut self,
         alloc: Global,
@@ -82,7 +84,7 @@ impl<D: FaultDir + Drop> ClusterState<D> {
         requires free { publish_in_flight (printed self.old.log) ≡ None }
         requires some { 0 < length (cut_of (printed self.old.log)) }
         requires names { cut_has_put (printed self.old.log) ≡ true
-            → names_drawn (printed self.old.log) < segments_of_generation }
+            → names_drawn (printed self.old.log) ≢ segments_of_generation }
         ensures ok { IfOk result (StartsPublish at self.old self.new) }
         ensures err { OnErr result (IsEnded self.old self.new) }
     {
@@ -110,7 +112,9 @@ impl<D: FaultDir + Drop> ClusterState<D> {
         Ok(Some(task))
     }
 
-    /// Ends the publish in flight with the work that was made for it.
+    /// Ends the publish in flight with the work that was made for it: the primary writes its files, and searches the next
+    /// version. `Err` is want of memory or of a version below 2^63, or a disk that failed: the cluster has ended, and the
+    /// history is as before.
     pub fn end_publish(
         &mut self,
         alloc: Global,
