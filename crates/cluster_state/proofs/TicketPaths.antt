@@ -1,5 +1,5 @@
 -- What each path of tickets and searches leaves, from what its calls say.
-use Rattle.std.proofs.Common.{◌≡◌, ◌≢◌, ◌==◌, ℕ, Bool, true, false, List, ◌∷◌, Some, Option, refl, ap, ◌∙◌, sym, subst, arith, if◌then◌else◌, length}
+use Rattle.std.proofs.Common.{◌≡◌, ◌≢◌, ◌==◌, ℕ, Bool, true, false, List, ◌∷◌, Some, Option, refl, sym, subst, arith, if◌then◌else◌}
 use Rattle.std.specs.Prelude.{IfSome, IsSome, is_some}
 use Rattle.std.proofs.lemmas.Bool.Decides.{nat_tests}
 use Rattle.nrt_base.specs.declared.numbers.At.{At}
@@ -20,7 +20,7 @@ use Rattle.history_tables.specs.declared.tickets.Opening.{Opening}
 use Rattle.history_tables.specs.Openings.{ticket_of}
 use Rattle.history_book.specs.Log.{Log, Pages, printed, shown}
 use Rattle.history_book.specs.Laws.{IsFresh}
-use Rattle.history_book.specs.Turns.{InTurn, AreInTurn, EndsFlight}
+use Rattle.history_book.specs.Turns.{AreInTurn}
 use Rattle.cluster_state.specs.declared.held.Key.{Key}
 use Rattle.cluster_state.specs.declared.held.Key.TheVariants.{Ticket as TicketKey, Search}
 use Rattle.cluster_state.specs.declared.nodes.Place.{Place}
@@ -36,17 +36,9 @@ use Rattle.cluster_state.proofs.Opened.{ticket_opened, ticket_searched, search_t
 use Rattle.cluster_state.proofs.Opening.{TicketsAfter, SearchesAfter, opened_place, running_searches}
 use Rattle.cluster_state.proofs.Closing.{closed_place}
 use Rattle.cluster_state.proofs.Leasing.{ticket_held, ticket_reads, gives_back, opened_reads, opened_held, there_now, ticket_node, ticket_is}
-use Rattle.cluster_state.proofs.Turning.{fresh_line, fresh_turn, nodes_is, past_has}
+use Rattle.cluster_state.proofs.Turning.{fresh_line, past_has}
 
--- ---- rules and turns
-
--- the node of a call is one of the book's
-pub node_in : (r : Run) (ended : Bool) (b : Pages) (n : ℕ) → record { ended = ended; nodes = b.nodes; log = b.log } ≡ r → IsNode r.nodes n → IsNode b.nodes n
-node_in r ended b n view node = subst (λ (size : ℕ). IsNode size n) (sym (nodes_is r ended b view)) node
-
--- an entry of a line of which none stands there comes in its turn
-pub turn_fresh : (b0 b1 : Pages) (at : At) (e : Event) → b1.log ≡ b0.log → IsFresh at (printed b0.log) → EndsFlight at (printed b0.log) e → InTurn (printed b1.log) at e
-turn_fresh b0 b1 at e same fresh ends = subst (λ (log : Log). InTurn (printed log) at e) (sym same) (fresh_turn (printed b0.log) at e fresh ends)
+-- ---- rules
 
 legal_is : (r : Run) (ended : Bool) (b : Pages) → record { ended = ended; nodes = b.nodes; log = b.log } ≡ r → IsLegalPast b.nodes (printed b.log) → IsLegalPast r.nodes (printed r.log)
 legal_is r ended b view legal = subst (λ (x : Run). IsLegalPast x.nodes (printed x.log)) view legal
@@ -61,11 +53,6 @@ may_open r ended b at n t v view fresh node up version free = record {
   free = free;
   spared = (past_has (IsFresh at) r ended b view fresh).spared;
 }
-
-pub opens_at : (r : Run) (ended : Bool) (b0 b1 : Pages) (at : At) (n : NodeNo) (t : TicketNo) (v : Version) → record { ended = ended; nodes = b0.nodes; log = b0.log } ≡ r
-    → b1.log ≡ b0.log → b1.nodes ≡ b0.nodes → IsFresh at (printed b0.log) → IsNode r.nodes n.0 → is_running n.0 (printed r.log) ≡ true → v.0 ≡ version_of n.0 (printed b0.log)
-    → has_ticket at.lane.0 t.0 (printed r.log) ≡ false → KeepsRule b1.nodes (printed b1.log) at (Opened n t v)
-opens_at r ended b0 b1 at n t v view e1 n1 fresh node up version free = rule_at r ended b0 b1 at (Opened n t v) view e1 n1 (may_open r ended b0 at n t v view fresh node up version free)
 
 pub ask_node : (r : Run) (ended : Bool) (b : Pages) (at : At) (t : TicketNo) (o : Opening) → record { ended = ended; nodes = b.nodes; log = b.log } ≡ r → IsLegalPast b.nodes (printed b.log)
     → open_ticket at.lane.0 t.0 (printed r.log) ≡ Some (ticket_of o) → IsNode r.nodes o.node.0
