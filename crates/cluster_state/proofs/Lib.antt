@@ -16,6 +16,7 @@ pub mod Writing
 pub mod Written
 pub mod Primaries
 pub mod Turning
+pub mod NodeTickets
 pub mod TicketPaths
 pub mod PublishPaths
 pub mod PublishFiles
@@ -27,3 +28,4 @@ pub mod FileFrames
 pub mod JobFiles
 pub mod Stepping
 pub mod FileJobs
+pub mod FirstPlaces

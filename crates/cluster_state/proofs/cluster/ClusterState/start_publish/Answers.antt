@@ -59,7 +59,7 @@ returns-in-Err-clause-ok g c =
     } in
     let full = is_full_at g.D.Dir.cells c.args.self.now _ c.self.inside.book _ c.args.p c.take.result c.self.view_is c.requires.running (λ e. (c.self.invariant e).0) c.requires.node c.take.ensures.place
         c.primary_in-primary.result.0 c.primary_in-primary.result.1 c.primary_in-primary.ensures
-        (c.publish_start-started.ensures.too_many.0 (err_at _ _ TooManySegments c.in-Err.is c.in_ok-is_for_segments.ensures)) in
+        (c.publish_start-started.ensures.too_many.0 (err_at _ _ TooManySegments c.in-Err.is c.in_ok-is_for_segments-in-Err.ensures)) in
     (now, full.0, full.1)
 
 pub invariant_of-self-2 : goal.invariant_of-self-2
