@@ -27,3 +27,4 @@ pub mod FileFrames
 pub mod JobFiles
 pub mod Stepping
 pub mod FileJobs
+pub mod FirstPlaces
