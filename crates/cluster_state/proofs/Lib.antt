@@ -16,7 +16,6 @@ pub mod Writing
 pub mod Written
 pub mod Primaries
 pub mod Turning
-pub mod NodeTickets
 pub mod TicketPaths
 pub mod PublishPaths
 pub mod PublishFiles

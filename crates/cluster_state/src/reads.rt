@@ -51,8 +51,10 @@ impl<D: FaultDir + Drop> ClusterState<D> {
         self.ended = true;
         self.book.reserve(1)?;
         let key = Key::Ticket { lane: at.lane, t };
-        let place = hold_ticket(alloc, take(&mut self.places, n), key)?;
+        let mut place = take(&mut self.places, n);
+        let holding = hold_ticket(alloc, &mut place, key);
         put(&mut self.places, n, place);
+        holding?;
         self.book.show(at, Event::Opened { n, t, v });
         self.ended = false;
         Ok(())
@@ -82,8 +84,10 @@ impl<D: FaultDir + Drop> ClusterState<D> {
         let key = Key::Search { at };
         self.ended = true;
         self.book.reserve(1)?;
-        let place = hold_ticket(alloc, take(&mut self.places, n), key)?;
+        let mut place = take(&mut self.places, n);
+        let holding = hold_ticket(alloc, &mut place, key);
         put(&mut self.places, n, place);
+        holding?;
         let lease = lease_in(alloc, &self.places, n, key)?;
         let t = TicketNo(0);
         self.book.show(at, Event::Opened { n, t, v });
@@ -146,7 +150,8 @@ impl<D: FaultDir + Drop> ClusterState<D> {
     {
         self.ended = true;
         self.book.reserve(1)?;
-        let place = give_ticket_back(take(&mut self.places, n), key);
+        let mut place = take(&mut self.places, n);
+        give_ticket_back(&mut place, key);
         put(&mut self.places, n, place);
         self.book.show(at, event);
         self.ended = false;

@@ -15,58 +15,51 @@ use searcher_switch::{Lease, Ticket};
 use seg_reader::Segment;
 use std::alloc::Global;
 
-// Opens a ticket at a running node, and answers its number. Where no memory is found the node is let go.
-fn acquire<D: Dir + Drop>(alloc: Global, node: Node<D>) -> Result<(Node<D>, u64), NoMemory>
-    requires { IsSome (searchers_of node) }
-    ensures keeps { IfOk result (λ held. KeepsNode D.cells node held.0) }
-    ensures opens { IfOk result (λ held. OpensTicket held.1 node held.0) }
+// Opens a ticket at a running node, and answers its number.
+fn acquire<D: Dir + Drop>(alloc: Global, node: &mut Node<D>) -> Result<u64, NoMemory>
+    requires { IsSome (searchers_of node.old) }
+    ensures keeps { OnOk result (KeepsNode D.cells node.old node.new) }
+    ensures opens { IfOk result (λ number. OpensTicket number node.old node.new) }
 {
     match node {
-        Node::Primary(mut primary) => {
+        Node::Primary(primary) => {
             let Ticket { number } = primary.acquire(alloc)?;
-            Ok((Node::Primary(primary), number))
+            Ok(number)
         }
-        Node::Replica(mut replica) => {
+        Node::Replica(replica) => {
             let Ticket { number } = replica.acquire(alloc)?;
-            Ok((Node::Replica(replica), number))
+            Ok(number)
         }
         Node::Down(_) => unreachable!(),
     }
 }
 
 // Closes a ticket of a running node.
-fn release<D: Dir + Drop>(node: Node<D>, number: u64) -> Node<D>
-    requires { is_some (ticket_at number (tickets_of node)) ≡ true }
-    ensures keeps { KeepsNode D.cells node result }
-    ensures closed { tickets_of result ≡ tickets_without number (tickets_of node) }
+fn release<D: Dir + Drop>(node: &mut Node<D>, number: u64)
+    requires { is_some (ticket_at number (tickets_of node.old)) ≡ true }
+    ensures keeps { KeepsNode D.cells node.old node.new }
+    ensures closed { tickets_of node.new ≡ tickets_without number (tickets_of node.old) }
 {
     match node {
-        Node::Primary(mut primary) => {
-            primary.release(Ticket { number });
-            Node::Primary(primary)
-        }
-        Node::Replica(mut replica) => {
-            replica.release(Ticket { number });
-            Node::Replica(replica)
-        }
+        Node::Primary(primary) => primary.release(Ticket { number }),
+        Node::Replica(replica) => replica.release(Ticket { number }),
         Node::Down(_) => unreachable!(),
     }
 }
 
-/// Holds a ticket of a running node for this. Where no memory is found the node is let go.
+/// Holds a ticket of a running node for this.
 pub fn hold_ticket<D: Dir + Drop>(
     alloc: Global,
-    place: Place<D>,
+    place: &mut Place<D>,
     key: Key,
-) -> Result<Place<D>, NoMemory>
-    requires { IsSome (searchers_of place.node) }
-    ensures keeps { IfOk result (λ now. KeepsNode D.cells place.node now.node) }
-    ensures holds { IfOk result (HoldsMore key place) }
+) -> Result<(), NoMemory>
+    requires { IsSome (searchers_of place.old.node) }
+    ensures keeps { OnOk result (KeepsNode D.cells place.old.node place.new.node) }
+    ensures holds { OnOk result (HoldsMore key place.old place.new) }
 {
-    let Place { node, mut held } = place;
-    let (node, number) = acquire(alloc, node)?;
-    hold(&mut held, key, number)?;
-    Ok(Place { node, held })
+    let number = acquire(alloc, &mut place.node)?;
+    hold(&mut place.held, key, number)?;
+    Ok(())
 }
 
 // What a search reads under an open ticket of a running node.
@@ -87,21 +80,16 @@ fn lease_of<D: Dir + Drop>(
 }
 
 /// Gives back the ticket that is held for this, if one is.
-pub fn give_ticket_back<D: Dir + Drop>(place: Place<D>, key: Key) -> Place<D>
-    requires { IfSome (held_at place.held.items key)
-        (λ number. is_some (ticket_at number (tickets_of place.node)) ≡ true) }
-    ensures keeps { KeepsNode D.cells place.node result.node }
-    ensures less { HoldsLess key place result }
+pub fn give_ticket_back<D: Dir + Drop>(place: &mut Place<D>, key: Key)
+    requires { IfSome (held_at place.old.held.items key)
+        (λ number. is_some (ticket_at number (tickets_of place.old.node)) ≡ true) }
+    ensures keeps { KeepsNode D.cells place.old.node place.new.node }
+    ensures less { HoldsLess key place.old place.new }
 {
-    let Place { node, mut held } = place;
-    let number = number_held(held.as_slice(), key);
-    let_go(&mut held, key);
-    match number {
-        None => Place { node, held },
-        Some(number) => Place {
-            node: release(node, number),
-            held,
-        },
+    let number = number_held(place.held.as_slice(), key);
+    let_go(&mut place.held, key);
+    if let Some(number) = number {
+        release(&mut place.node, number);
     }
 }
 

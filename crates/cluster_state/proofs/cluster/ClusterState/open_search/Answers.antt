@@ -12,8 +12,8 @@ pub take-requires-clause-there : goal.take-requires-clause-there
 take-requires-clause-there g c =
     there_at g.D.Dir.cells c.args.self.now _ c.self.inside.book.nodes c.args.n.0 c.self.inside.book.log c.self.inside.places.items c.self.view_is c.requires.running c.self.invariant c.requires.node
 
-pub hold_ticket-requires : goal.hold_ticket-requires
-hold_ticket-requires g c =
+pub hold_ticket-holding-requires : goal.hold_ticket-holding-requires
+hold_ticket-holding-requires g c =
     running_at g.D.Dir.cells c.args.self.now _ c.self.inside.book.nodes c.args.n.0 c.self.inside.book.log c.self.inside.places.items c.take.result c.self.view_is c.requires.running c.self.invariant
     c.requires.node c.requires.up c.take.ensures.place
 
@@ -30,20 +30,20 @@ lease_in-requires-clause-slot g c =
 
 pub lease_in-requires-clause-held : goal.lease_in-requires-clause-held
 lease_in-requires-clause-held g c =
-    search_held g.D.Dir.cells c.put.new.places.items c.take.new.places.items c.args.n.0 (Search c.args.at) c.take.result c.in_ok-place.place c.put.ensures.places
+    search_held g.D.Dir.cells c.put.new.places.items c.take.new.places.items c.args.n.0 (Search c.args.at) c.take.result c.hold_ticket-holding.new.place c.put.ensures.places
     (running_at g.D.Dir.cells c.args.self.now _ c.self.inside.book.nodes c.args.n.0 c.self.inside.book.log c.self.inside.places.items c.take.result c.self.view_is c.requires.running c.self.invariant
-    c.requires.node c.requires.up c.take.ensures.place) c.in_ok-place.ensures.holds
+    c.requires.node c.requires.up c.take.ensures.place) c.in_ok-holding.ensures.holds
 
 pub invariant_of-self-2 : goal.invariant_of-self-2
 invariant_of-self-2 g c = λ running.
     search_path g.D.Dir.cells c.args.self.now _ c.self.inside.book c.reserve.new.self c.show.new.self c.self.inside.places.items c.take.new.places.items c.put.new.places.items
-    c.args.at c.args.n (record { 0 = c.version.result }) c.take.result c.in_ok-place.place
+    c.args.at c.args.n (record { 0 = c.version.result }) c.take.result c.hold_ticket-holding.new.place
     c.self.view_is c.requires.running c.self.invariant c.in_ok-reserve.ensures.log c.in_ok-reserve.ensures.nodes c.show.ensures.log c.show.ensures.nodes c.show.ensures.legal c.show.ensures.turns c.is_fresh.ensures
     (may_open c.args.self.now _ c.self.inside.book c.args.at c.args.n (record { 0 = 0 }) (record { 0 = c.version.result }) c.self.view_is c.is_fresh.ensures c.requires.node c.requires.up c.version.ensures refl)
     (record { count = c.take.ensures.count; taken = c.take.ensures.places; again = c.put.ensures.count; there = c.put.ensures.places })
-    c.take.ensures.place c.in_ok-place.ensures.keeps c.in_ok-place.ensures.holds
+    c.take.ensures.place c.in_ok-holding.ensures.keeps c.in_ok-holding.ensures.holds
 
 pub returns-clause-lease : goal.returns-clause-lease
 returns-clause-lease g c =
-    search_reads g.D.Dir.cells c.args.self.now _ c.self.inside.book.nodes c.args.n.0 c.self.inside.book.log c.self.inside.places.items c.take.new.places.items c.put.new.places.items (Search c.args.at) c.take.result c.in_ok-place.place c.in_ok-lease.lease
-    c.self.view_is c.requires.running c.self.invariant c.requires.node c.requires.up c.take.ensures.place c.put.ensures.places c.in_ok-place.ensures.holds c.in_ok-lease.ensures
+    search_reads g.D.Dir.cells c.args.self.now _ c.self.inside.book.nodes c.args.n.0 c.self.inside.book.log c.self.inside.places.items c.take.new.places.items c.put.new.places.items (Search c.args.at) c.take.result c.hold_ticket-holding.new.place c.in_ok-lease.lease
+    c.self.view_is c.requires.running c.self.invariant c.requires.node c.requires.up c.take.ensures.place c.put.ensures.places c.in_ok-holding.ensures.holds c.in_ok-lease.ensures

@@ -10,8 +10,8 @@ pub take-requires-clause-there : goal.take-requires-clause-there
 take-requires-clause-there g c =
     there_at g.D.Dir.cells c.args.self.now _ c.self.inside.book.nodes c.args.n.0 c.self.inside.book.log c.self.inside.places.items c.self.view_is c.requires.running c.self.invariant c.requires.node
 
-pub hold_ticket-requires : goal.hold_ticket-requires
-hold_ticket-requires g c =
+pub hold_ticket-holding-requires : goal.hold_ticket-holding-requires
+hold_ticket-holding-requires g c =
     running_at g.D.Dir.cells c.args.self.now _ c.self.inside.book.nodes c.args.n.0 c.self.inside.book.log c.self.inside.places.items c.take.result c.self.view_is c.requires.running c.self.invariant
     c.requires.node c.requires.up c.take.ensures.place
 
@@ -24,8 +24,8 @@ put-requires g c = record {
 pub invariant_of-self-2 : goal.invariant_of-self-2
 invariant_of-self-2 g c = λ running.
     ticket_path g.D.Dir.cells c.args.self.now _ c.self.inside.book c.reserve.new.self c.show.new.self c.self.inside.places.items c.take.new.places.items c.put.new.places.items
-    c.args.at c.args.n c.args.t (record { 0 = c.version.result }) c.take.result c.in_ok-place.place
+    c.args.at c.args.n c.args.t (record { 0 = c.version.result }) c.take.result c.hold_ticket-holding.new.place
     c.self.view_is c.requires.running c.self.invariant c.in_ok-reserve.ensures.log c.in_ok-reserve.ensures.nodes c.show.ensures.log c.show.ensures.nodes c.show.ensures.legal c.show.ensures.turns c.is_fresh.ensures
     (may_open c.args.self.now _ c.self.inside.book c.args.at c.args.n c.args.t (record { 0 = c.version.result }) c.self.view_is c.is_fresh.ensures c.requires.node c.requires.up c.version.ensures c.requires.free) c.requires.number
     (record { count = c.take.ensures.count; taken = c.take.ensures.places; again = c.put.ensures.count; there = c.put.ensures.places })
-    c.take.ensures.place c.in_ok-place.ensures.keeps c.in_ok-place.ensures.holds
+    c.take.ensures.place c.in_ok-holding.ensures.keeps c.in_ok-holding.ensures.holds
