@@ -20,8 +20,10 @@ pub put-requires : goal.put-requires
 put-requires g c = record { slot = slot_kept g.D.Dir.cells _ _ c.args.p.0 c.take.ensures.count (slot_at g.D.Dir.cells c.args.self.now _ _ c.args.p.0 _ _ c.self.view_is c.requires.running c.self.invariant c.requires.node) }
 
 pub publish_start-started-requires : goal.publish_start-started-requires
-publish_start-started-requires g c = record { none = none_flies g.D.Dir.cells c.args.self.now _ c.self.inside.book _ c.args.p c.take.result c.self.view_is c.requires.running c.self.invariant c.requires.node c.take.ensures.place
-    c.primary_in-primary.result.0 c.primary_in-primary.result.1 c.primary_in-primary.ensures c.requires.free }
+publish_start-started-requires g c = record {
+  none = none_flies g.D.Dir.cells c.args.self.now _ c.self.inside.book _ c.args.p c.take.result c.self.view_is c.requires.running c.self.invariant c.requires.node c.take.ensures.place
+      c.primary_in-primary.result.0 c.primary_in-primary.result.1 c.primary_in-primary.ensures c.requires.free;
+}
 
 pub show-requires-clause-rule : goal.show-requires-clause-rule
 show-requires-clause-rule g c = rule_at c.args.self.now _ c.self.inside.book c.reserve.new.self c.args.at Publishing c.self.view_is c.in_ok-reserve.ensures.log c.in_ok-reserve.ensures.nodes
@@ -52,8 +54,8 @@ returns-in-Err-clause-ok g c =
       log = c.in_ok-reserve.ensures.log ∙ log_is c.args.self.now _ c.self.inside.book c.self.view_is;
     } in
     let full = is_full_at g.D.Dir.cells c.args.self.now _ c.self.inside.book _ c.args.p c.take.result c.self.view_is c.requires.running c.self.invariant c.requires.node c.take.ensures.place
-        c.primary_in-primary.result.0 c.primary_in-primary.result.1 c.primary_in-primary.ensures
-        (c.publish_start-started.ensures.too_many.0 (err_at _ _ TooManySegments c.in-Err.is c.in_ok-is_for_segments-in-Err.ensures)) in
+    c.primary_in-primary.result.0 c.primary_in-primary.result.1 c.primary_in-primary.ensures
+    (c.publish_start-started.ensures.too_many.0 (err_at _ _ TooManySegments c.in-Err.is c.in_ok-is_for_segments-in-Err.ensures)) in
     (now, full.0, full.1)
 
 pub invariant_of-self-2 : goal.invariant_of-self-2
