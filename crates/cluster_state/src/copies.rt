@@ -41,10 +41,12 @@ fn show_end(book: &mut Book, row: JobRow)
     } = row.job;
     let begun = book.line(at);
     book.show(at, Event::Switched { n, v });
-    if let Some(Begun {
-        start: Start::Copying { .. },
-        ..
-    }) = begun
+    if let Some(
+        Begun {
+            start: Start::Copying { .. },
+            ..
+        },
+    ) = begun
     {
         book.show(at, Event::Copied { n, v });
     }
@@ -125,7 +127,13 @@ impl<D: FaultDir + Drop> ClusterState<D> {
         let At { line, .. } = at;
         let (version, by) = (Some(v), Some(at));
         self.book.show(at, Event::Copying { n, v });
-        self.book.keep(Inner::JobBegun { line, node: n, job, version, by });
+        self.book.keep(Inner::JobBegun {
+            line,
+            node: n,
+            job,
+            version,
+            by,
+        });
         self.ended = false;
         Ok(CopyTask { node: n, job, line })
     }
@@ -162,7 +170,13 @@ impl<D: FaultDir + Drop> ClusterState<D> {
         let job = begin_in(alloc, &mut self.places, p, n)?;
         let At { line, .. } = at;
         let (version, by) = (Some(Version(newest)), Some(at));
-        self.book.keep(Inner::JobBegun { line, node: n, job, version, by });
+        self.book.keep(Inner::JobBegun {
+            line,
+            node: n,
+            job,
+            version,
+            by,
+        });
         self.ended = false;
         Ok(CopyTask { node: n, job, line })
     }
@@ -192,7 +206,12 @@ impl<D: FaultDir + Drop> ClusterState<D> {
         ensures ok { IfOk result (GoesOn row.job self.old self.new) }
         ensures err { OnErr result (IsEnded self.old self.new) }
     {
-        let Job { at, node, number, .. } = row.job;
+        let Job {
+            at,
+            node,
+            number,
+            ..
+        } = row.job;
         let p = self.source_of(row);
         self.book.job_replica(row);
         self.ended = true;
@@ -206,7 +225,14 @@ impl<D: FaultDir + Drop> ClusterState<D> {
         let source = read_in(&mut self.places, p, &name)?;
         let copy = source.share(alloc)?;
         let (line, by) = (at.line, Some(at));
-        self.book.keep(Inner::FileOut { line, node, job: number, name, source: copy, by });
+        self.book.keep(Inner::FileOut {
+            line,
+            node,
+            job: number,
+            name,
+            source: copy,
+            by,
+        });
         self.ended = false;
         Ok(Some(FileTask { name, source, meta }))
     }

@@ -47,7 +47,14 @@ pub fn begin_in<D: Dir + Drop>(
     let (mut replica, held) = replica_in(take(places, n));
     let number = begin_job(alloc, &mut primary, &mut replica)?;
     let node = Node::Primary(primary);
-    put(places, p, Place { node, held: primary_held });
+    put(
+        places,
+        p,
+        Place {
+            node,
+            held: primary_held,
+        },
+    );
     let node = Node::Replica(replica);
     put(places, n, Place { node, held });
     Ok(number)
@@ -67,7 +74,14 @@ pub fn finish_in<D: Dir + Drop>(
     let (mut replica, held) = replica_in(take(places, n));
     finish_job(alloc, &mut primary, &mut replica)?;
     let node = Node::Primary(primary);
-    put(places, p, Place { node, held: primary_held });
+    put(
+        places,
+        p,
+        Place {
+            node,
+            held: primary_held,
+        },
+    );
     let node = Node::Replica(replica);
     put(places, n, Place { node, held });
     Ok(())
