@@ -1,9 +1,8 @@
 //! A cluster that starts: the nodes open on empty directories, and the first is the primary.
 
-ghost use Rattle.std.specs.Prelude.{ℕ, ◌≡◌, ◌≤◌, ◌≢◌, IfOk, IsSomeAnd, None, length, []};
+ghost use Rattle.std.specs.Prelude.{ℕ, ◌≡◌, ◌≤◌, IfOk, IsSomeAnd, None, length, []};
 ghost use Rattle.std.specs.List.{All};
 ghost use Rattle.history_entries.specs.Nodes.{IsNode};
-ghost use Rattle.index_primary.specs.Primary.{IsPrimary};
 ghost use Rattle.cluster_state.specs.Starting.{IsEmptyDir, IsOpening, OpensPlace};
 ghost use Rattle.cluster_state.specs.State.{PrimaryShows};
 ghost use Rattle.cluster_state.specs.Files.{PrimaryFiles};

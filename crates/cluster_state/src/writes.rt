@@ -36,7 +36,7 @@ fn is_for_segments(fault: PublishFault) -> Result<(), NoMemory>
 }
 
 impl<D: FaultDir + Drop> ClusterState<D> {
-    ghost use Rattle.std.specs.Prelude.{ℕ, ◌≡◌, ◌≢◌, ◌≤◌, ◌<◌, ◌+◌, ◌∷◌, [], false, true, None, Some, OnOk, OnErr, IfOk, length};
+    ghost use Rattle.std.specs.Prelude.{◌≡◌, ◌≢◌, ◌<◌, ◌+◌, ◌∷◌, [], false, true, None, Some, OnOk, OnErr, IfOk, length};
     ghost use Rattle.nrt_base.specs.SegNumbers.{segments_of_generation};
     ghost use Rattle.history_entries.specs.Nodes.{IsNode, primary_of, newest_version, generation_of, accepted_count};
     ghost use Rattle.history_entries.specs.Lines.{entries_of_line, publish_in_flight};
