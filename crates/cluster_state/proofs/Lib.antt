@@ -1,4 +1,5 @@
 pub mod Keys
+pub mod Slots
 pub mod HeldRows
 pub mod Growing
 pub mod Frames
@@ -17,4 +18,13 @@ pub mod Primaries
 pub mod Turning
 pub mod TicketPaths
 pub mod PublishPaths
+pub mod PublishFiles
 pub mod FirstNodes
+pub mod JobFrames
+pub mod OutCounts
+pub mod Wider
+pub mod FileFrames
+pub mod JobFiles
+pub mod Stepping
+pub mod FileJobs
+pub mod FirstPlaces

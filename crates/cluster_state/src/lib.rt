@@ -2,13 +2,20 @@
 #![tactic(auto)]
 
 mod cluster;
+mod copies;
 mod held;
+mod jobs;
 mod nodes;
 mod reads;
+mod settles;
 mod starting;
+mod states;
+mod tasks;
 mod tickets;
+mod transfers;
 mod writes;
 
 pub use cluster::ClusterState;
 pub use held::{Held, Key};
 pub use nodes::{Node, Place};
+pub use tasks::{CopyTask, FileTask, SettleTask};
