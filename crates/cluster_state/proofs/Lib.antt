@@ -18,6 +18,8 @@ pub mod Primaries
 pub mod Turning
 pub mod TicketPaths
 pub mod PublishPaths
+pub mod TicketFiles
+pub mod CopiedNow
 pub mod PublishFiles
 pub mod FirstNodes
 pub mod JobFrames
