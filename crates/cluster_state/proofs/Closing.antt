@@ -1,5 +1,5 @@
 -- What a node holds after a ticket of it was closed.
-use Rattle.std.proofs.Common.{◌≡◌, ◌≢◌, ◌==◌, ℕ, Bool, true, false, true≢false, List, [], ◌∷◌, Some, None, Option, refl, ap, ◌∙◌, sym, subst, if◌then◌else◌}
+use Rattle.std.proofs.Common.{◌≡◌, ◌≢◌, ℕ, Bool, false, true≢false, List, ◌∷◌, Some, None, Option, refl, ap, ◌∙◌, sym, subst, if◌then◌else◌}
 use Rattle.std.specs.Prelude.{IsSomeAnd}
 use Rattle.seg_reader.specs.Shown.{Shown}
 use Rattle.searcher_switch.specs.declared.open.Open.{Open}
@@ -13,7 +13,7 @@ use Rattle.cluster_state.specs.declared.held.Key.{Key}
 use Rattle.cluster_state.specs.declared.held.Key.TheVariants.{Search}
 use Rattle.cluster_state.specs.Held.{same_key, held_at}
 use Rattle.cluster_state.specs.Lookups.{IsSearching}
-use Rattle.cluster_state.specs.State.{Stands, IsOpenOn, HoldsAt, ticket_key, HoldsTickets}
+use Rattle.cluster_state.specs.State.{Stands, HoldsAt, ticket_key, HoldsTickets}
 use Rattle.disk_model.specs.Disk.{Cells}
 use Rattle.history_entries.specs.declared.entry.Event.{Event}
 use Rattle.history_entries.specs.declared.entry.Event.TheVariants.{Publishing}

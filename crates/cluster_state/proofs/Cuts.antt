@@ -1,19 +1,19 @@
 -- The operations of the publish in flight: those of its start's cut, which come first among those that wait.
-use Rattle.std.proofs.Common.{◌≡◌, ◌≢◌, ◌≤◌, ◌<◌, ◌+◌, ◌-◌, ℕ, zero, suc, Bool, true, false, true≢false, List, [], ◌∷◌, ◌++◌, Some, None, Option, refl, ap, ◌∙◌, sym, subst, arith, length, take, drop, length-drop, length-append, append_assoc}
+use Rattle.std.proofs.Common.{◌≡◌, ◌≤◌, ◌+◌, ◌-◌, ℕ, zero, suc, List, [], ◌∷◌, ◌++◌, Some, refl, ap, ◌∙◌, sym, subst, arith, length, take, drop, length-drop}
 use Rattle.nrt_base.specs.declared.numbers.At.{At}
 use Rattle.nrt_base.specs.declared.doc.Doc.{Doc}
 use Rattle.documents.specs.declared.operation.Op.{Op}
-use Rattle.documents.specs.Documents.{after_op, after_ops, documents_after}
+use Rattle.documents.specs.Documents.{after_op, after_ops}
 use Rattle.history_entries.specs.declared.entry.Event.TheVariants.{Publishing}
-use Rattle.history_entries.specs.Nodes.{Past, primary_of, newest_version}
-use Rattle.history_entries.specs.Lines.{start_entry, before_start, publish_in_flight}
-use Rattle.history_entries.specs.Points.{documents_at, operations_at, operations_at_start, operations_written, accepted_at_start, operations_of_generation, published_in_generation, cut_of}
+use Rattle.history_entries.specs.Nodes.{Past}
+use Rattle.history_entries.specs.Lines.{before_start, publish_in_flight}
+use Rattle.history_entries.specs.Points.{operations_at_start, operations_written, accepted_at_start, operations_of_generation, published_in_generation, cut_of}
 use Rattle.history_entries.specs.Legal.{IsLegalPast}
 use Rattle.history_laws.proofs.PastLemmas.{legal_before}
 use Rattle.history_facts.proofs.WrittenLemmas.{written as base_written, started as start_written}
 use Rattle.history_facts.specs.Origins.{operations_before_generation}
 use Rattle.history_book.specs.Turns.{AreInTurn}
-use Rattle.history_book.specs.Laws.{Reigns, Written, Flying}
+use Rattle.history_book.specs.Laws.{Reigns, Written}
 use Rattle.history_book.proofs.LineLaws.{flying}
 use Rattle.history_book.proofs.ReignLaws.{since_start, start_kept, reigns_on, written}
 

@@ -1,25 +1,22 @@
 -- What the log shows of tickets and searches after one has ended.
-use Rattle.std.proofs.Common.{◌≡◌, ◌==◌, ◌&&◌, ℕ, Bool, true, false, List, [], ◌∷◌, Some, None, Option, refl, ap, ◌∙◌, sym, subst, if◌then◌else◌, length}
+use Rattle.std.proofs.Common.{◌≡◌, ◌==◌, ℕ, Bool, true, false, ◌∷◌, None, Option, refl, if◌then◌else◌}
 use Rattle.nrt_base.specs.declared.numbers.At.{At}
 use Rattle.nrt_base.specs.declared.numbers.NodeNo.{NodeNo}
 use Rattle.nrt_base.specs.declared.numbers.TicketNo.{TicketNo}
 use Rattle.nrt_base.specs.declared.numbers.Version.{Version}
 use Rattle.documents.specs.declared.query.Query.{Query}
 use Rattle.documents.specs.declared.answer.Answer.{Answer}
-use Rattle.history_entries.specs.declared.entry.Event.{Event}
 use Rattle.history_entries.specs.declared.entry.Event.TheVariants.{Answered, Closed}
-use Rattle.history_entries.specs.Nodes.{Past, crashes}
-use Rattle.history_entries.specs.Lines.{same_at, before_start}
-use Rattle.history_entries.specs.Points.{operations_of_generation}
+use Rattle.history_entries.specs.Nodes.{Past}
+use Rattle.history_entries.specs.Lines.{same_at}
 use Rattle.history_entries.specs.Tickets.{Ticket, is_ticket, last_opened, while_alive, open_ticket, IsTicketOf}
-use Rattle.history_tables.specs.declared.lines.Begun.{Begun}
 use Rattle.history_tables.specs.Begins.{open_line}
 use Rattle.cluster_state.specs.declared.held.Key.TheVariants.{Ticket as TicketKey, Search}
 use Rattle.cluster_state.specs.Held.{same_key}
 use Rattle.cluster_state.specs.Lookups.{IsSearchAt, IsSearching}
 use Rattle.cluster_state.specs.State.{ticket_key}
 use Rattle.cluster_state.specs.Moves.{EndsKey}
-use Rattle.cluster_state.proofs.Growing.{alive_less, by_number, tickets_less, searches_less}
+use Rattle.cluster_state.proofs.Growing.{alive_less, tickets_less, searches_less}
 
 -- a ticket that is still open was open, and is another
 closed_apart : (b : Bool) (past : Past) (n w : ℕ) (old : Option Ticket) → IsTicketOf n w (while_alive past (if b then None else old)) → (b ≡ false) × IsTicketOf n w (while_alive past old)

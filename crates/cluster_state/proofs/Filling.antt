@@ -1,5 +1,5 @@
 -- How many segments a publish leaves, and that each has a live row; when there may be as many as there may be.
-use Rattle.std.proofs.Common.{◌≡◌, ◌≤◌, ◌<◌, ◌+◌, ◌||◌, ◌&&◌, nat_lt, nat_le, ℕ, zero, suc, Bool, true, false, true≢false, cond, if◌then◌else◌, not, List, [], ◌∷◌, ◌++◌, length, map, Option, Some, None, refl, ap, ◌∙◌, sym, subst, arith, length-append}
+use Rattle.std.proofs.Common.{◌≡◌, ◌≤◌, ◌<◌, ◌+◌, ◌||◌, ◌&&◌, nat_lt, nat_le, ℕ, suc, Bool, true, false, cond, if◌then◌else◌, List, [], ◌∷◌, length, map, Option, Some, None, refl, ap, ◌∙◌, sym, subst, arith, length-append}
 use Rattle.std.specs.List.{All, AllZip, filter, zip, list_any}
 use Rattle.std.proofs.lemmas.Bool.{ltb-true}
 use Rattle.std.proofs.lemmas.Bool.Decides.{nat_tests}
@@ -21,7 +21,7 @@ use Rattle.seg_build.specs.declared.files.SegFiles.{SegFiles}
 use Rattle.segment_steps.specs.declared.flushing.FlushTask.{FlushTask}
 use Rattle.segment_steps.specs.declared.flushing.FlushWork.{FlushWork}
 use Rattle.segment_steps.specs.declared.next.NextSegments.{NextSegments}
-use Rattle.segment_steps.specs.Cut.{removed_by, puts_live}
+use Rattle.segment_steps.specs.Cut.{puts_live}
 use Rattle.segment_steps.specs.Next.{IsNewOf, IsFlushOf, turns, Turn, record_after, stays, staying, new_records, IsNextOf}
 use Rattle.history_entries.specs.Nodes.{Past, newest_version}
 use Rattle.history_entries.specs.Points.{documents_at}

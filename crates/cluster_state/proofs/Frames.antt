@@ -1,5 +1,5 @@
 -- What stays of a node, and of all of them, at one more entry.
-use Rattle.std.proofs.Common.{◌≡◌, ◌≢◌, ◌≤◌, ◌+◌, ◌==◌, ◌&&◌, ℕ, Bool, true, false, true≢false, List, [], ◌∷◌, ◌++◌, Some, None, Option, refl, ap, ◌∙◌, sym, subst, arith, if◌then◌else◌, length, drop}
+use Rattle.std.proofs.Common.{◌≡◌, ◌≢◌, ◌≤◌, ◌==◌, ◌&&◌, ℕ, Bool, true, false, true≢false, List, ◌∷◌, Some, None, Option, refl, ap, ◌∙◌, sym, subst, arith, if◌then◌else◌, length, drop}
 use Rattle.std.specs.Prelude.{IsSomeAnd}
 use Rattle.std.proofs.lemmas.Bool.{eqb-true}
 use Rattle.nrt_base.specs.declared.numbers.At.{At}
@@ -8,7 +8,6 @@ use Rattle.documents.specs.declared.operation.Op.{Op}
 use Rattle.disk_model.specs.Disk.{Cells}
 use Rattle.seg_reader.specs.Shown.{Shown}
 use Rattle.seg_reader.specs.Stands.{AreSegmentsOf}
-use Rattle.nrt_base.specs.declared.doc.Doc.{Doc}
 use Rattle.segment_infos.specs.declared.infos.Infos.{Infos}
 use Rattle.searcher_switch.specs.declared.open.Open.{Open}
 use Rattle.searcher_switch.specs.declared.open.Point.{Point}
@@ -17,14 +16,14 @@ use Rattle.history_entries.specs.declared.entry.Entry.{Entry}
 use Rattle.history_entries.specs.declared.entry.Event.{Event}
 use Rattle.history_entries.specs.declared.entry.Event.TheVariants.{Publishing}
 use Rattle.history_entries.specs.Nodes.{Past, IsNode, is_at, primary_of, newest_version, version_of}
-use Rattle.history_entries.specs.Lines.{same_at, is_start, start_entry, before_start, publish_in_flight}
-use Rattle.history_entries.specs.Points.{documents_at, operations_of_generation, cut_of}
+use Rattle.history_entries.specs.Lines.{same_at, is_start, start_entry, publish_in_flight}
+use Rattle.history_entries.specs.Points.{documents_at, cut_of}
 use Rattle.history_entries.specs.Legal.{KeepsRule, IsLegalPast}
 use Rattle.history_tables.proofs.RowLemmas.{by_test}
 use Rattle.history_book.specs.Log.{Log, Pages, printed, shown, kept}
 use Rattle.history_book.specs.declared.inner.Inner.TheVariants.{FlushOut}
 use Rattle.nrt_base.specs.declared.numbers.SegNo.{SegNo}
-use Rattle.history_book.specs.Turns.{InTurn, AreInTurn}
+use Rattle.history_book.specs.Turns.{AreInTurn}
 use Rattle.index_primary.specs.declared.parts.Parts.{Parts as PrimaryParts}
 use Rattle.index_primary.specs.declared.parts.Publish.{Publish}
 use Rattle.replica_node.specs.declared.parts.Parts.{Parts as ReplicaParts}
@@ -32,11 +31,10 @@ use Rattle.cluster_state.specs.declared.held.Held.{Held}
 use Rattle.cluster_state.specs.declared.nodes.Node.{Node}
 use Rattle.cluster_state.specs.declared.nodes.Node.TheVariants.{Primary, Replica, Down}
 use Rattle.cluster_state.specs.declared.nodes.Place.{Place}
-use Rattle.cluster_state.specs.Held.{held_at}
-use Rattle.cluster_state.specs.Lookups.{Handed, handed_by, or_older, flush_out, IsSearching}
+use Rattle.cluster_state.specs.Lookups.{Handed, handed_by, or_older, flush_out}
 use Rattle.cluster_state.specs.Places.{place_of, IsSlot, tickets_of}
 use Rattle.cluster_state.specs.Run.{Run}
-use Rattle.cluster_state.specs.State.{Stands, IsPointAt, IsOpenOn, HoldsTickets, IsFlying, FlightShows, WritesAt, PrimaryShows, ReplicaShows, DownShows, NodeShows, PlaceShows, Shows}
+use Rattle.cluster_state.specs.State.{Stands, IsPointAt, HoldsTickets, FlightShows, WritesAt, PrimaryShows, ReplicaShows, NodeShows, PlaceShows, Shows}
 use Rattle.cluster_state.specs.Moves.{moves, moves_tickets, FlightStays, Lasts, Fewer, WritesOn, Same}
 use Rattle.cluster_state.proofs.Growing.{same, fewer, not_flying}
 

@@ -1,7 +1,6 @@
 -- What one more entry leaves of points, of tickets and searches, and of the publish in flight.
-use Rattle.std.proofs.Common.{◌≡◌, ◌≢◌, ◌≤◌, ◌<◌, ◌+◌, ◌&&◌, ◌==◌, ℕ, Bool, true, false, true≢false, List, [], ◌∷◌, ◌++◌, Some, None, Option, max, refl, ap, ◌∙◌, sym, subst, arith, if◌then◌else◌, length}
+use Rattle.std.proofs.Common.{◌≡◌, ◌≢◌, ◌≤◌, ◌+◌, ◌&&◌, ◌==◌, ℕ, Bool, true, false, true≢false, List, [], ◌∷◌, Some, None, Option, refl, ap, ◌∙◌, sym, subst, arith, if◌then◌else◌, length}
 use Rattle.std.specs.Prelude.{not}
-use Rattle.std.proofs.lemmas.Bool.{eqb-true}
 use Rattle.std.proofs.lemmas.Bool.Decides.{nat_tests}
 use Rattle.nrt_base.specs.declared.numbers.At.{At}
 use Rattle.nrt_base.specs.declared.numbers.NodeNo.{NodeNo}
@@ -10,18 +9,18 @@ use Rattle.seg_reader.specs.Stands.{AreSegmentsOf}
 use Rattle.nrt_base.specs.declared.doc.Doc.{Doc}
 use Rattle.history_entries.specs.declared.entry.Entry.{Entry}
 use Rattle.history_entries.specs.declared.entry.Event.{Event}
-use Rattle.history_entries.specs.declared.entry.Event.TheVariants.{Accepted, Publishing, Published, Copying, Switched, Settling, Opened, Asking, Committing, Committed, Crashed, Reopened, Promoted, Merging, Fault, Closed}
-use Rattle.history_entries.specs.Nodes.{Past, is_at, primary_of, is_running, crashes, generation_of, version_of, newest_version}
+use Rattle.history_entries.specs.declared.entry.Event.TheVariants.{Accepted, Publishing, Published, Switched, Opened, Crashed, Reopened, Promoted, Merging, Fault, Closed}
+use Rattle.history_entries.specs.Nodes.{Past, is_at, primary_of, is_running, crashes, generation_of, version_of}
 use Rattle.history_entries.specs.Lines.{same_at, is_start, is_reply, start_entry, before_start, without_at, publish_in_flight}
-use Rattle.history_entries.specs.Points.{documents_at, operations_of_generation}
-use Rattle.history_entries.specs.Tickets.{Ticket, is_ticket, ticket_by, last_opened, while_alive, open_ticket, IsTicketOf}
+use Rattle.history_entries.specs.Points.{operations_of_generation}
+use Rattle.history_entries.specs.Tickets.{Ticket, is_ticket, last_opened, while_alive, open_ticket, IsTicketOf}
 use Rattle.history_entries.specs.Legal.{KeepsRule, IsLegalPast}
 use Rattle.history_laws.proofs.PointLemmas.{operations_stay, documents_stay_lem}
 use Rattle.history_laws.specs.Steps.{is_running_by, version_by}
 use Rattle.history_tables.specs.declared.lines.Begun.{Begun}
 use Rattle.history_tables.specs.Begins.{begin, begun_by, open_line, start_by}
-use Rattle.history_tables.proofs.RowLemmas.{by_test, same_at_self}
-use Rattle.history_book.specs.Turns.{InTurn, AreInTurn}
+use Rattle.history_tables.proofs.RowLemmas.{by_test}
+use Rattle.history_book.specs.Turns.{AreInTurn}
 use Rattle.history_book.proofs.LineLaws.{same_at_is, and_false, flying}
 use Rattle.cluster_state.specs.Lookups.{IsSearchAt, IsSearching}
 use Rattle.cluster_state.specs.State.{Stands}

@@ -1,5 +1,5 @@
 -- Equal keys.
-use Rattle.std.proofs.Common.{◌≡◌, ◌==◌, ◌&&◌, true, false, true≢false, refl, ap, sym, arith}
+use Rattle.std.proofs.Common.{◌≡◌, ◌==◌, true, true≢false, ap, sym, arith}
 use Rattle.std.proofs.lemmas.Bool.{eqb-true, and_parts}
 use Rattle.std.proofs.lemmas.Bool.Decides.{nat_tests}
 use Rattle.history_tables.proofs.RowLemmas.{same_at_self}

@@ -23,7 +23,7 @@ use Rattle.cluster_state.specs.declared.nodes.Node.TheVariants.{Primary, Replica
 use Rattle.cluster_state.specs.declared.nodes.Place.{Place}
 use Rattle.cluster_state.specs.Held.{same_key, held_at}
 use Rattle.cluster_state.specs.Places.{place_of, searchers_of, tickets_of}
-use Rattle.cluster_state.specs.State.{Stands, IsPointAt, ReadsAt, HoldsAt, ticket_key, HoldsTickets, NodeShows, PlaceShows}
+use Rattle.cluster_state.specs.State.{Stands, IsPointAt, ReadsAt, ticket_key, HoldsTickets, NodeShows, PlaceShows}
 use Rattle.cluster_state.specs.Changes.{HoldsMore, HoldsTicket, IsLeaseUnder}
 use Rattle.cluster_state.proofs.Keys.{same_key_self}
 use Rattle.cluster_state.proofs.Holding.{ticket_last}

@@ -1,21 +1,16 @@
 -- What the log shows of tickets and searches after one was opened.
-use Rattle.std.proofs.Common.{◌≡◌, ◌≢◌, ◌+◌, ◌==◌, ◌&&◌, ◌⊎◌, inl, inr, ℕ, Bool, true, false, true≢false, List, [], ◌∷◌, Some, None, Option, refl, ap, ◌∙◌, sym, subst, arith, if◌then◌else◌, length}
-use Rattle.std.proofs.lemmas.Bool.Decides.{nat_tests}
+use Rattle.std.proofs.Common.{◌≡◌, ◌==◌, ◌&&◌, inl, inr, ℕ, Bool, true, false, true≢false, ◌∷◌, Some, None, Option, refl, ap, ◌∙◌, sym, subst, if◌then◌else◌, length}
 use Rattle.nrt_base.specs.declared.numbers.At.{At}
 use Rattle.nrt_base.specs.declared.numbers.NodeNo.{NodeNo}
 use Rattle.nrt_base.specs.declared.numbers.TicketNo.{TicketNo}
 use Rattle.nrt_base.specs.declared.numbers.Version.{Version}
-use Rattle.history_entries.specs.declared.entry.Entry.{Entry}
-use Rattle.history_entries.specs.declared.entry.Event.{Event}
-use Rattle.history_entries.specs.declared.entry.Event.TheVariants.{Opened, Closed}
+use Rattle.history_entries.specs.declared.entry.Event.TheVariants.{Opened}
 use Rattle.history_entries.specs.Nodes.{Past, crashes}
-use Rattle.history_entries.specs.Lines.{same_at, is_start, before_start}
+use Rattle.history_entries.specs.Lines.{same_at, before_start}
 use Rattle.history_entries.specs.Points.{operations_of_generation}
 use Rattle.history_entries.specs.Tickets.{Ticket, is_ticket, last_opened, while_alive, open_ticket, IsTicketOf}
 use Rattle.history_tables.specs.declared.lines.Begun.{Begun}
 use Rattle.history_tables.specs.Begins.{begin, begun_by, open_line, start_by}
-use Rattle.history_tables.proofs.RowLemmas.{by_test}
-use Rattle.history_book.proofs.LineLaws.{and_false}
 use Rattle.cluster_state.specs.declared.held.Key.TheVariants.{Ticket as TicketKey, Search}
 use Rattle.cluster_state.specs.Held.{same_key}
 use Rattle.cluster_state.specs.Lookups.{IsSearchAt, IsSearching}

@@ -1,5 +1,5 @@
 -- What a node shows after a ticket of it was opened, for a lane or for a search.
-use Rattle.std.proofs.Common.{◌≡◌, ◌≢◌, ◌==◌, ℕ, Bool, true, false, true≢false, List, [], ◌∷◌, ◌++◌, Some, None, Option, refl, ap, ◌∙◌, sym, subst, if◌then◌else◌}
+use Rattle.std.proofs.Common.{◌≡◌, ◌≢◌, ℕ, true, false, true≢false, List, [], ◌∷◌, ◌++◌, Some, refl, ◌∙◌, sym, subst, if◌then◌else◌}
 use Rattle.std.specs.Prelude.{IfSome, is_some, IsSome}
 use Rattle.nrt_base.specs.declared.numbers.At.{At}
 use Rattle.nrt_base.specs.declared.numbers.NodeNo.{NodeNo}
@@ -8,10 +8,8 @@ use Rattle.nrt_base.specs.declared.numbers.Version.{Version}
 use Rattle.disk_model.specs.Disk.{Cells}
 use Rattle.seg_reader.specs.Shown.{Shown}
 use Rattle.searcher_switch.specs.declared.open.Open.{Open}
-use Rattle.searcher_switch.specs.declared.open.Point.{Point}
 use Rattle.searcher_switch.specs.declared.searchers.Searchers.{Searchers}
 use Rattle.searcher_switch.specs.Tickets.{ticket_at}
-use Rattle.history_entries.specs.declared.entry.Event.{Event}
 use Rattle.history_entries.specs.declared.entry.Event.TheVariants.{Publishing, Opened}
 use Rattle.history_entries.specs.Nodes.{Past, is_running, version_of}
 use Rattle.history_entries.specs.Lines.{start_entry}
@@ -29,7 +27,7 @@ use Rattle.cluster_state.specs.Held.{same_key, held_at}
 use Rattle.cluster_state.specs.Lookups.{IsSearching}
 use Rattle.cluster_state.specs.Places.{searchers_of, tickets_of}
 use Rattle.cluster_state.specs.State.{Stands, IsPointAt, ticket_key, HoldsTickets, NodeShows, PlaceShows}
-use Rattle.cluster_state.specs.Changes.{KeepsNode, OpensTicket, HoldsMore}
+use Rattle.cluster_state.specs.Changes.{KeepsNode, HoldsMore}
 use Rattle.cluster_state.proofs.Growing.{stands_more, same, not_flying}
 use Rattle.cluster_state.proofs.Frames.{node_same}
 use Rattle.cluster_state.proofs.Holding.{IsNewOr, holds_more, node_kept}

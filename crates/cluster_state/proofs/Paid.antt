@@ -1,5 +1,5 @@
 -- Publishes that add nothing are no more than merges, with the one in flight.
-use Rattle.std.proofs.Common.{◌≡◌, ◌≢◌, ◌≤◌, ◌<◌, ◌+◌, ◌-◌, ◌&&◌, ◌==◌, ◌⊎◌, ⊎_elim, ℕ, Bool, true, false, true≢false, List, [], ◌∷◌, Some, None, Option, refl, ap, ◌∙◌, sym, subst, arith, if◌then◌else◌, length, length-drop}
+use Rattle.std.proofs.Common.{◌≡◌, ◌≤◌, ◌<◌, ◌+◌, ◌&&◌, ◌⊎◌, ⊎_elim, ℕ, Bool, true, false, true≢false, [], ◌∷◌, Some, None, refl, ap, ◌∙◌, sym, subst, arith, if◌then◌else◌, length, length-drop}
 use Rattle.std.specs.Prelude.{nat_le}
 use Rattle.std.proofs.lemmas.Bool.{leb-true}
 use Rattle.nrt_base.specs.declared.numbers.At.{At}
@@ -8,7 +8,7 @@ use Rattle.history_entries.specs.declared.entry.Event.{Event}
 use Rattle.history_entries.specs.declared.entry.Event.TheVariants.{Publishing, Published, Crashed, Promoted, Merging}
 use Rattle.history_entries.specs.Nodes.{Past, is_at, primary_of}
 use Rattle.history_entries.specs.Lines.{same_at, is_start, is_reply, start_entry, before_start, without_at, publish_in_flight}
-use Rattle.history_entries.specs.Points.{operations_of_generation, accepted_at_start, published_in_generation, cut_of, merges_started, adds_none, idle_publishes}
+use Rattle.history_entries.specs.Points.{operations_of_generation, published_in_generation, cut_of, merges_started, adds_none, idle_publishes}
 use Rattle.history_entries.specs.Legal.{KeepsRule, IsLegalPast}
 use Rattle.history_tables.proofs.RowLemmas.{same_at_self}
 use Rattle.history_book.specs.Turns.{StartsOnce, InTurn, AreInTurn}

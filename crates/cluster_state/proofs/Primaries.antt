@@ -1,33 +1,27 @@
 -- What the calls of the primary ask for, by what it shows.
-use Rattle.std.proofs.Common.{◌≡◌, ◌==◌, ◌≢◌, ◌≤◌, ◌<◌, ◌+◌, ◌-◌, ◌^◌, ℕ, Bool, true, false, true≢false, List, [], ◌∷◌, Some, None, Option, Vec, Global, refl, ap, ◌∙◌, sym, subst, arith, if◌then◌else◌, length, take}
+use Rattle.std.proofs.Common.{◌≡◌, ◌==◌, ◌≤◌, ◌<◌, ◌+◌, ◌^◌, ℕ, Bool, true, false, true≢false, List, [], ◌∷◌, Some, None, Option, Vec, Global, refl, ap, ◌∙◌, sym, subst, arith, if◌then◌else◌, length, take}
 use Rattle.std.proofs.lemmas.Bool.{eq-eqb}
 use Rattle.std.specs.Prelude.{IsSomeAnd}
-use Rattle.nrt_base.specs.SegNumbers.{segments_of_generation}
 use Rattle.nrt_base.specs.declared.numbers.At.{At}
 use Rattle.nrt_base.specs.declared.numbers.NodeNo.{NodeNo}
-use Rattle.documents.specs.declared.operation.Op.{Op}
-use Rattle.documents.specs.Documents.{is_put}
-use Rattle.std.specs.List.{list_any}
 use Rattle.disk_model.specs.Disk.{Cells}
-use Rattle.seg_reader.specs.Shown.{Shown}
 use Rattle.segment_steps.specs.declared.flushing.FlushWork.{FlushWork}
 use Rattle.history_entries.specs.declared.entry.Event.{Event}
 use Rattle.history_entries.specs.declared.entry.Event.TheVariants.{Crashed, Promoted}
-use Rattle.history_entries.specs.Nodes.{Past, IsNode, is_at, primary_of, newest_version, accepted_count}
-use Rattle.history_entries.specs.Lines.{before_start, publish_in_flight}
-use Rattle.history_entries.specs.Points.{operations_of_generation, cut_of, cut_has_put, names_drawn}
+use Rattle.history_entries.specs.Nodes.{Past, IsNode, is_at, primary_of, accepted_count}
+use Rattle.history_entries.specs.Lines.{publish_in_flight}
+use Rattle.history_entries.specs.Points.{operations_of_generation}
 use Rattle.history_entries.specs.Legal.{KeepsRule, IsLegalPast}
 use Rattle.history_book.specs.Log.{Log, printed}
 use Rattle.history_book.specs.Turns.{AreInTurn}
 use Rattle.index_primary.specs.declared.parts.Parts.{Parts as PrimaryParts}
 use Rattle.index_primary.specs.declared.parts.Publish.{Publish}
 use Rattle.index_primary.specs.Work.{IsWorkOf}
-use Rattle.index_primary.specs.Cut.{has_put}
 use Rattle.cluster_state.specs.declared.held.Held.{Held}
 use Rattle.cluster_state.specs.declared.nodes.Node.{Node}
 use Rattle.cluster_state.specs.declared.nodes.Node.TheVariants.{Primary, Replica, Down}
 use Rattle.cluster_state.specs.declared.nodes.Place.{Place}
-use Rattle.cluster_state.specs.Lookups.{Handed, flush_out}
+use Rattle.cluster_state.specs.Lookups.{Handed}
 use Rattle.cluster_state.specs.Places.{HasPrimary}
 use Rattle.cluster_state.specs.State.{IsFlying, FlightShows, PrimaryShows, NodeShows, PlaceShows}
 use Rattle.cluster_state.specs.Writes.{IsFlushed}

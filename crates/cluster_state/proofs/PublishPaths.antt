@@ -1,7 +1,6 @@
 -- What each path of the primary leaves, from what its calls say.
 use Rattle.std.proofs.Common.{◌≡◌, ◌≢◌, ◌≤◌, ◌<◌, ◌+◌, ◌-◌, ◌^◌, ◌==◌, ◌↔◌, inl, ℕ, Bool, true, false, true≢false, if◌then◌else◌, List, [], ◌∷◌, ◌++◌, Some, None, Option, Ok, Err, Result, Vec, Global, length, refl, ap, ◌∙◌, sym, subst, arith}
 use Rattle.std.specs.Prelude.{IsSomeAnd, IfSome, IsSome, IsTrue, OnErr}
-use Rattle.std.specs.List.{All}
 use Rattle.std.proofs.lemmas.Bool.{eqb-true}
 use Rattle.nrt_base.specs.SegNumbers.{segments_of_generation}
 use Rattle.nrt_base.specs.declared.numbers.At.{At}
@@ -12,7 +11,6 @@ use Rattle.nrt_base.specs.declared.numbers.Version.{Version}
 use Rattle.documents.specs.declared.operation.Op.{Op}
 use Rattle.disk_model.specs.Disk.{Cells, reads_of}
 use Rattle.seg_reader.specs.Shown.{Shown}
-use Rattle.seg_reader.specs.Sound.{IsSound}
 use Rattle.history_entries.specs.declared.entry.Event.TheVariants.{Accepted, Publishing, Published}
 use Rattle.history_entries.specs.Nodes.{IsNode, primary_of, newest_version, generation_of, accepted_count}
 use Rattle.history_entries.specs.Lines.{same_at, start_entry, publish_in_flight, is_free_for}

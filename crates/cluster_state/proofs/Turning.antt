@@ -1,5 +1,5 @@
 -- Entries in their turn, and what the log of a call has.
-use Rattle.std.proofs.Common.{◌≡◌, ◌≢◌, ◌==◌, ℕ, Bool, true, false, true≢false, List, [], ◌∷◌, Some, None, Option, refl, ap, ◌∙◌, sym, subst, if◌then◌else◌}
+use Rattle.std.proofs.Common.{◌≡◌, ◌≢◌, Bool, true, false, Some, None, ap, ◌∙◌, sym, subst}
 use Rattle.nrt_base.specs.declared.numbers.At.{At}
 use Rattle.history_entries.specs.declared.entry.Event.{Event}
 use Rattle.history_entries.specs.declared.entry.Event.TheVariants.{Publishing}

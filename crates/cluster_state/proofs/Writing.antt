@@ -1,5 +1,5 @@
 -- What the primary shows after it accepted an operation, started a publish or ended one.
-use Rattle.std.proofs.Common.{◌≡◌, ◌≢◌, ◌≤◌, ◌+◌, ◌-◌, ◌==◌, ℕ, Bool, true, false, true≢false, List, [], ◌∷◌, ◌++◌, Some, None, Option, max, refl, ap, ◌∙◌, sym, subst, arith, if◌then◌else◌, length, take, drop, append_assoc}
+use Rattle.std.proofs.Common.{◌≡◌, ◌≢◌, ◌≤◌, ◌+◌, ◌-◌, ℕ, Bool, true, false, List, [], ◌∷◌, ◌++◌, Some, None, Option, refl, ap, ◌∙◌, sym, subst, arith, if◌then◌else◌, length, take, drop, append_assoc}
 use Rattle.std.specs.Prelude.{IsSomeAnd}
 use Rattle.std.specs.List.{All, list_any}
 use Rattle.std.proofs.lemmas.Bool.{eq-eqb}
@@ -16,11 +16,10 @@ use Rattle.seg_reader.specs.Stands.{AreSegmentsOf}
 use Rattle.segment_infos.specs.declared.infos.Infos.{Infos}
 use Rattle.segment_infos.specs.declared.infos.SegRecord.{SegRecord}
 use Rattle.searcher_switch.specs.declared.open.Point.{Point}
-use Rattle.history_entries.specs.declared.entry.Event.{Event}
 use Rattle.history_entries.specs.declared.entry.Event.TheVariants.{Accepted, Publishing, Published}
-use Rattle.history_entries.specs.Nodes.{Past, primary_of, is_at, generation_of, newest_version, version_of}
+use Rattle.history_entries.specs.Nodes.{Past, generation_of, newest_version, version_of}
 use Rattle.history_entries.specs.Lines.{same_at, start_entry, before_start, without_at, publish_in_flight}
-use Rattle.history_entries.specs.Points.{documents_at, operations_at, operations_at_start, accepted_at_start, operations_of_generation, published_in_generation, cut_of, cut_has_put, names_drawn}
+use Rattle.history_entries.specs.Points.{documents_at, operations_at, operations_at_start, accepted_at_start, operations_of_generation, published_in_generation, cut_of, names_drawn}
 use Rattle.history_entries.specs.Legal.{KeepsRule, IsLegalPast}
 use Rattle.history_facts.specs.Origins.{operations_before_generation}
 use Rattle.history_tables.proofs.RowLemmas.{same_at_self}
@@ -42,7 +41,7 @@ use Rattle.cluster_state.specs.Lookups.{Handed, or_older, flush_out}
 use Rattle.cluster_state.specs.State.{Stands, IsPointAt, IsFlying, FlightShows, WritesAt, PrimaryShows}
 use Rattle.cluster_state.specs.Writes.{IsFlushed}
 use Rattle.cluster_state.proofs.Growing.{stands_more, flight_stays, not_flying}
-use Rattle.cluster_state.proofs.Frames.{some_then, flight_same}
+use Rattle.cluster_state.proofs.Frames.{flight_same}
 use Rattle.cluster_state.proofs.Filling.{IsLive, next_live, next_few}
 use Rattle.cluster_state.proofs.Cuts.{length_last, drop_last, drop_on, take_on, after_ops-append, FliesWith, flies_with}
 

@@ -1,5 +1,5 @@
 -- Nodes by their numbers, from 1, and what they search.
-use Rattle.std.specs.Prelude.{ℕ, zero, suc, ◌≤◌, ◌≡◌, List, [], Option, Some, None, length, ⊤}
+use Rattle.std.specs.Prelude.{ℕ, zero, suc, ◌≤◌, List, [], Option, Some, None, length, ⊤}
 use Rattle.std.specs.List.{slice_get}
 use Rattle.seg_reader.specs.Shown.{Shown}
 use Rattle.searcher_switch.specs.declared.open.Open.{Open}

@@ -1,5 +1,5 @@
 -- What the nodes of a cluster have to do with its log.
-use Rattle.std.specs.Prelude.{ℕ, ◌≡◌, ◌≢◌, ◌≤◌, ◌<◌, List, [], length, true, false, Option, Some, None, IsSome, IsSomeAnd, ⊤}
+use Rattle.std.specs.Prelude.{ℕ, ◌≡◌, ◌≤◌, ◌<◌, List, [], length, true, false, Option, Some, None, IsSomeAnd}
 use Rattle.std.specs.List.{All}
 use Rattle.nrt_base.specs.declared.numbers.At.{At}
 use Rattle.disk_model.specs.Disk.{Cells}
@@ -28,7 +28,7 @@ use Rattle.cluster_state.specs.declared.nodes.Node.{Node}
 use Rattle.cluster_state.specs.declared.nodes.Node.TheVariants.{Primary, Replica, Down}
 use Rattle.cluster_state.specs.declared.nodes.Place.{Place}
 use Rattle.cluster_state.specs.Held.{same_key, held_at}
-use Rattle.cluster_state.specs.Lookups.{Handed, flush_out, IsSearching}
+use Rattle.cluster_state.specs.Lookups.{flush_out, IsSearching}
 use Rattle.cluster_state.specs.Places.{place_of, tickets_of}
 
 -- the segments are of the documents of the point of this version

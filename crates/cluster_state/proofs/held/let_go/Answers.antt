@@ -1,4 +1,4 @@
-use Rattle.std.proofs.Common.{◌≡◌, ap, ◌∙◌, List}
+use Rattle.std.proofs.Common.{ap, ◌∙◌, List}
 use Rattle.cluster_state.specs.declared.held.Held.{Held}
 use Rattle.cluster_state.specs.Held.{held_at}
 use Rattle.cluster_state.proofs.HeldRows.{held_without}

@@ -1,4 +1,3 @@
-use Rattle.cluster_state.proofs.Growing.{not_flying}
 use Rattle.cluster_state.proofs.PublishPaths.{apart_of}
 use Rattle.cluster_state.proofs.cluster.ClusterState.is_apart.Goals as goal
 
