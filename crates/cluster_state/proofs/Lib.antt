@@ -25,3 +25,4 @@ pub mod FileFrames
 pub mod JobFiles
 pub mod Stepping
 pub mod FileJobs
+pub mod Taking
