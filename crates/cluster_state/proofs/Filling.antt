@@ -45,19 +45,19 @@ module _ (g : ℕ) where
   -- those that stay are live
   staying_live : (ts : List Turn) → All IsLive (map (record_after g) (staying g [] ts))
   staying_live [] = All-nil IsLive
-  staying_live (t ∷ ts) = go (stays g [] t) (stays_live t)
+  staying_live (t ∷ ts) = go (stays g [] t) (stays_live t) (staying_live ts)
     where
-      go : (b : Bool) → (b ≡ true → IsLive (record_after g t)) → All IsLive (map (record_after g) (cond b (t ∷ staying g [] ts) (staying g [] ts)))
-      go true live = All-cons IsLive (record_after g t) (map (record_after g) (staying g [] ts)) (live refl) (staying_live ts)
-      go false live = staying_live ts
+      go : (b : Bool) → (b ≡ true → IsLive (record_after g t)) → All IsLive (map (record_after g) (staying g [] ts)) → All IsLive (map (record_after g) (cond b (t ∷ staying g [] ts) (staying g [] ts)))
+      go true live more = All-cons IsLive (record_after g t) (map (record_after g) (staying g [] ts)) (live refl) more
+      go false live more = more
 
   staying_few : (ts : List Turn) → length (map (record_after g) (staying g [] ts)) ≤ length ts
   staying_few [] = omega arith
-  staying_few (t ∷ ts) = go (stays g [] t)
+  staying_few (t ∷ ts) = go (stays g [] t) (staying_few ts)
     where
-      go : (b : Bool) → length (map (record_after g) (cond b (t ∷ staying g [] ts) (staying g [] ts))) ≤ suc (length ts)
-      go true = omega (arith, staying_few ts)
-      go false = omega (arith, staying_few ts)
+      go : (b : Bool) → length (map (record_after g) (staying g [] ts)) ≤ length ts → length (map (record_after g) (cond b (t ∷ staying g [] ts) (staying g [] ts))) ≤ suc (length ts)
+      go true more = omega (arith, more)
+      go false more = omega (arith, more)
 
 zip_few : {A B : Type 0} (xs : List A) (ys : List B) → length (zip xs ys) ≤ length xs
 zip_few [] ys = omega arith

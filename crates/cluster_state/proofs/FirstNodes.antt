@@ -1,29 +1,53 @@
 -- The nodes of a cluster that has just started.
-use Rattle.std.proofs.Common.{◌≡◌, ◌≢◌, ◌≤◌, ◌<◌, ◌+◌, ◌++◌, ◌==◌, inl, inr, ℕ, suc, zero, Bool, true, false, List, [], ◌∷◌, Some, None, Option, length, length-append, refl, ap, ◌∙◌, sym, subst, arith, if◌then◌else◌}
+use Rattle.std.proofs.Common.{◌≡◌, ◌≢◌, ◌≤◌, ◌<◌, ◌+◌, ◌++◌, ◌^◌, ◌==◌, inl, inr, ℕ, suc, zero, Bool, true, false, List, [], ◌∷◌, Some, None, Option, Vec, Global, length, length-append, refl, ap, ◌∙◌, sym, subst, arith, rules, if◌then◌else◌}
 use Rattle.std.specs.Prelude.{IsSomeAnd, IfSome, Contains}
 use Rattle.std.specs.List.{slice_get, flat_map}
 use Rattle.std.proofs.lemmas.Bool.Decides.{nat_tests, eqb_tells}
+use Rattle.std.proofs.lemmas.List.Elements.{All-nil}
 use Rattle.file_names.specs.Names.{commit_name_of}
-use Rattle.commit_steps.specs.Commits.{HasFilesOf}
-use Rattle.disk_model.specs.Disk.{Name, Cells, Image, IsImage, reads_of}
+use Rattle.nrt_base.specs.declared.doc.Doc.{Doc}
+use Rattle.nrt_base.specs.declared.numbers.Gen.{Gen}
+use Rattle.nrt_base.specs.declared.numbers.Version.{Version}
+use Rattle.disk_model.specs.Disk.{Name, Content, Cells, Image, IsImage, reads_of}
+use Rattle.file_deleter.specs.Holdings.{times}
 use Rattle.seg_reader.specs.Shown.{Shown}
-use Rattle.seg_reader.specs.Stands.{StandsFor, AreSegmentsOf}
+use Rattle.seg_reader.specs.Stands.{StandsFor, StandsWith, AreSegmentsOf}
 use Rattle.segment_infos.specs.declared.infos.Infos.{Infos}
+use Rattle.segment_infos.specs.declared.infos.SegRecord.{SegRecord}
+use Rattle.segment_infos.specs.Infos.{CanSpell}
+use Rattle.segment_infos.specs.Files.{files_of_segment, AreFilesOf}
+use Rattle.segment_steps.proofs.PublishLaws.{here}
 use Rattle.searcher_switch.specs.declared.open.Open.{Open}
+use Rattle.searcher_switch.specs.declared.searchers.Searchers.{Searchers}
+use Rattle.searcher_switch.specs.Searching.{searcher_names}
+use Rattle.searcher_switch.specs.Tickets.{ticket_names}
+use Rattle.node_files.specs.Node.{IsWholeNode}
 use Rattle.history_entries.specs.Nodes.{Past, IsNode, is_at}
 use Rattle.history_entries.specs.Tickets.{open_ticket, IsTicketOf}
 use Rattle.history_book.specs.Log.{Log}
+use Rattle.commit_steps.specs.Commits.{HasFilesOf}
+use Rattle.commit_steps.specs.Book.{book_names, last_names, flying_names}
 use Rattle.commit_steps.specs.Found.{ShowsNothing, ShowsCommit}
 use Rattle.commit_steps.specs.declared.states.Commit.{Commit}
+use Rattle.commit_steps.specs.declared.stage.CommitBook.{CommitBook}
 use Rattle.replica_opening.specs.Opening.{opening_infos, FindsPoint, number_of_last}
 use Rattle.replica_opening.specs.Opened.{IsSettledAt, IsSettledOn}
 use Rattle.replica_node.specs.declared.parts.Parts.{Parts as ReplicaParts}
+use Rattle.replica_node.specs.declared.taking.NodeParts.{NodeParts}
+use Rattle.replica_node.specs.Replica.{IsWholeReplica}
+use Rattle.replica_node.specs.Sources.{IsTakenApart}
+use Rattle.replica_node.specs.Starting.{IsJustOpened, SearchesJust}
+use Rattle.index_primary.specs.declared.parts.Parts.{Parts as PrimaryParts}
+use Rattle.index_primary.specs.Primary.{IsPrimary}
+use Rattle.index_primary.specs.Held.{IsHeld, AreUndrawn, AreNumbered}
+use Rattle.index_primary.specs.Calls.{IsOpenedOn}
+use Rattle.index_primary.proofs.Callers.{empty_numbered}
 use Rattle.cluster_state.specs.declared.held.Held.{Held}
-use Rattle.cluster_state.specs.declared.nodes.Node.TheVariants.{Replica}
+use Rattle.cluster_state.specs.declared.nodes.Node.TheVariants.{Primary, Replica}
 use Rattle.cluster_state.specs.declared.nodes.Place.{Place}
 use Rattle.cluster_state.specs.Places.{place_of, unwrapped}
 use Rattle.cluster_state.specs.Starting.{IsEmptyDir, IsOpening}
-use Rattle.cluster_state.specs.State.{Stands, HoldsTickets, ReplicaShows, PlaceShows, Shows}
+use Rattle.cluster_state.specs.State.{Stands, IsPointAt, WritesAt, HoldsTickets, PrimaryShows, ReplicaShows, PlaceShows, Shows}
 
 -- an empty directory shows no commit
 no_commit : (cells : Cells) (n : ℕ) (infos : Infos) → IsEmptyDir cells → ShowsCommit (reads_of cells) n infos → ⊥
@@ -54,8 +78,8 @@ slice_get_seam : {X : Type 0} (xs : List X) (y : X) → slice_get (xs ++ y ∷ [
 slice_get_seam [] y = refl
 slice_get_seam (x ∷ xs) y = slice_get_seam xs y
 
-pub nothing_held : (n : ℕ) → HoldsTickets [] n [] []
-nothing_held n = record {
+pub nothing_held : (n : ℕ) (tickets : List (Open Shown)) → HoldsTickets [] n tickets []
+nothing_held n tickets = record {
   each = λ key number is. absurd (none_some number is);
   apart = λ a b number is is'. absurd (none_some number is);
   opened = λ lane t v is. none_open v (t == 0) is;
@@ -69,7 +93,127 @@ nothing_held n = record {
     none_some : (number : ℕ) → None ≡ Some number → ⊥
     none_some number is = absurd (cc)
 
+-- ---- the opening point
+
+no_segments : AreSegmentsOf [] []
+no_segments = record { sound = λ k d lt. absurd (omega (arith, lt)); apart = λ i j d lt in'. absurd (omega (arith, lt, in')); documents = search rules }
+
+-- it is of no documents, whatever a directory has
+opening_stands : (reads : Name → Content) (infos : Infos) → infos ≡ opening_infos → StandsFor reads infos []
+opening_stands reads infos is = subst (λ (i : Infos). StandsFor reads i []) (sym is) (record { segs = []; stands = record { each = tt; stand = no_segments } })
+
+-- it has no file
+no_names : (infos : Infos) (names : List Name) → infos ≡ opening_infos → AreFilesOf infos names → names ≡ []
+no_names infos [] is files = refl
+no_names infos (name ∷ names) is files =
+    let c : Contains (flat_map files_of_segment infos.segs) name = (files.named name).0 (here name names) in
+    let none : Contains [] name = subst (λ (i : Infos). Contains (flat_map files_of_segment i.segs) name) is c in
+    absurd (omega (arith, none.1))
+
+nothing_named : {R : Type 0} (s : Searchers R) → s.point.names ≡ [] → s.tickets ≡ [] → searcher_names s ≡ []
+nothing_named {R} s names tickets = λ i. names i ++ ticket_names (tickets i)
+
+nothing_booked : (book : CommitBook) → book.last ≡ None → book.stage ≡ None → book_names book ≡ []
+nothing_booked book last stage = λ i. last_names (last i) ++ flying_names (stage i)
+
 module _ {D : Type 0} (cells : D → Cells) where
+  -- ---- a replica on an empty directory
+
+  pub is_opening : (dir : Cells) (r : ReplicaParts D) → IsEmptyDir dir → IsWholeReplica cells r → FindsPoint (reads_of dir) (number_of_last r.commits.last) r.infos
+      → ((docs : List Doc) → StandsFor (reads_of dir) r.infos docs → SearchesJust cells docs r) → IsJustOpened r → IsOpening cells r
+  is_opening dir r empty whole finds searches opened =
+      let found = finds_opening dir r.commits.last r.infos empty finds in
+      let just = searches [] (opening_stands (reads_of dir) r.infos found.1) in
+      record {
+        whole = whole;
+        standing = just.standing;
+        infos = found.1;
+        searched = just.searched;
+        stands = just.stands;
+        tickets = opened.tickets;
+        commits = record { last = found.0; stage = opened.stage };
+        seen = opened.seen;
+      }
+
+  opening_point : (r : ReplicaParts D) → IsOpening cells r → IsPointAt [] 1 r.searchers.point
+  opening_point r is = record {
+    version = ap (λ (v : Version). v.0) is.whole.point.version ∙ ap (λ (i : Infos). i.version.0) is.infos;
+    stands = record { known = omega arith; documents = is.searched };
+  }
+
+  -- it is the replica of a number above 1
+  pub first_replica : (n : ℕ) (r : ReplicaParts D) (held : Vec Held Global) → n ≢ 1 → held.items ≡ [] → IsOpening cells r → PlaceShows cells [] n (record { node = Replica r; held = held })
+  first_replica n r held other none is = record {
+    node_shows = record {
+      running = refl;
+      other = grind (arith, nat_tests, other);
+      whole = is.whole;
+      standing = is.standing;
+      point = opening_point r is;
+      seen = let same : r.seen.0 ≡ 1 = ap (λ (g : Gen). g.0) is.seen ∙ ap (λ (i : Infos). i.generation.0) is.infos in omega (arith, same);
+    };
+    tickets = subst (λ (rows : List Held). HoldsTickets [] n r.searchers.tickets rows) (sym none) (nothing_held n r.searchers.tickets);
+  }
+
+  -- ---- the first primary, of its parts
+
+  module _ (r : ReplicaParts D) (p : NodeParts D) (is : IsOpening cells r) (same : IsTakenApart r p) where
+    infos_are : p.infos ≡ opening_infos
+    infos_are = same.infos ∙ is.infos
+
+    pub parts_held : CanSpell p.infos → AreFilesOf p.infos p.searchers.point.names
+        → ((docs : List Doc) → StandsFor (reads_of (cells r.dir)) r.infos docs → StandsWith (reads_of (cells p.dir)) p.infos p.segs docs) → IsHeld (reads_of (cells p.dir)) p.infos p.segs p.searchers.point.names
+    parts_held spelled files stands = record { spelled = spelled; files = files; docs = []; stands = stands [] is.stands }
+
+    -- no file is counted
+    pub parts_undrawn : IsWholeNode (cells p.dir) p.files (searcher_names p.searchers) p.commits → AreFilesOf p.infos p.searchers.point.names → AreUndrawn p.files p.infos []
+    parts_undrawn node files = record { each = λ q undrawn. node.counts q ∙ λ i. times (named i) q + times (booked i) q }
+      where
+        named : searcher_names p.searchers ≡ []
+        named = nothing_named p.searchers (no_names p.infos p.searchers.point.names infos_are files) (ap (λ (s : Searchers Shown). s.tickets) same.searchers ∙ is.tickets)
+
+        booked : book_names p.commits ≡ []
+        booked = nothing_booked p.commits (ap (λ (b : CommitBook). b.last) same.commits ∙ is.commits.last) (ap (λ (b : CommitBook). b.stage) same.commits ∙ is.commits.stage)
+
+    pub parts_numbered : AreNumbered p.infos []
+    parts_numbered = empty_numbered p.infos (ap (λ (i : Infos). i.segs) infos_are) (subst (λ (i : Infos). i.generation.0 < 2 ^ 31) (sym infos_are) (omega arith)) (subst (λ (i : Infos). i.counter ≤ 1679616) (sym infos_are) (omega arith))
+
+    -- it is the primary of node 1
+    pub first_primary : (q : PrimaryParts D) → IsPrimary cells q → IsOpenedOn p.dir p.searchers p.commits p.infos p.segs q → PrimaryShows cells [] 1 q
+    first_primary q whole opened = record {
+      running = refl;
+      primary = refl;
+      whole = whole;
+      point = record {
+        version = ap (λ (v : Version). v.0) opened.version ∙ ap (λ (i : Infos). i.version.0) infos_are;
+        stands = record { known = omega arith; documents = subst (AreSegmentsOf []) (sym (opened.readers ∙ segs_are)) is.searched };
+      };
+      writer = subst (λ (i : Infos). WritesAt [] i q.segs) (sym (opened.infos_are ∙ infos_are)) (record {
+        documents = subst (AreSegmentsOf []) (sym (opened.segs_are ∙ segs_are)) is.searched;
+        generation = refl;
+        version = refl;
+        counter = refl;
+        few = omega arith;
+        live = All-nil (λ (r : SegRecord). 0 < r.live);
+      });
+      waiting = opened.waiting;
+      accepted = opened.accepted;
+      uncut = opened.has_cut_over;
+      calm = opened.merges;
+      flight = opened.publish;
+    }
+      where
+        segs_are : p.segs ≡ r.searchers.point.readers
+        segs_are = same.segs ∙ is.whole.segs
+
+  pub first_place : (p : PrimaryParts D) (held : Vec Held Global) → held.items ≡ [] → PrimaryShows cells [] 1 p → PlaceShows cells [] 1 (record { node = Primary p; held = held })
+  first_place p held none shows = record {
+    node_shows = shows;
+    tickets = subst (λ (rows : List Held). HoldsTickets [] 1 p.searchers.tickets rows) (sym none) (nothing_held 1 p.searchers.tickets);
+  }
+
+  -- ---- all of them
+
   -- one more node at the end
   pub place_more : (places new : List (Option (Place D))) (x : Place D) → new ≡ places ++ Some x ∷ [] → ((n : ℕ) → IsNode (length places) n → IsSomeAnd (place_of places n) (PlaceShows cells [] n))
       → PlaceShows cells [] (length places + 1) x → (n : ℕ) → IsNode (length new) n → IsSomeAnd (place_of new n) (PlaceShows cells [] n)
@@ -87,3 +231,8 @@ module _ {D : Type 0} (cells : D → Cells) where
                 let within : k < length places = let d = other.1 in omega (arith, l, d, length-append places (Some x ∷ [])) in
                 subst (λ (o : Option (Place D)). IsSomeAnd o (PlaceShows cells [] (suc k))) (sym (ap unwrapped (slice_get_before places (Some x ∷ []) k within))) (was (suc k) (omega arith, omega (arith, within)))
           ]
+
+  -- each is in its place
+  pub first_shows : (log : Log) (size : ℕ) (places : List (Option (Place D))) → log ≡ [] → 1 ≤ size → length places ≡ size
+      → ((n : ℕ) → IsNode size n → IsSomeAnd (place_of places n) (PlaceShows cells [] n)) → Shows cells log size places
+  first_shows log size places none some count each = subst (λ (l : Log). Shows cells l size places) (sym none) (record { some = some; count = count; each = each; handed = λ at is. refl })

@@ -1,4 +1,5 @@
 pub mod Keys
+pub mod Slots
 pub mod HeldRows
 pub mod Growing
 pub mod Frames

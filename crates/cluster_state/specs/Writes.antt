@@ -15,9 +15,11 @@ use Rattle.history_book.specs.declared.inner.Inner.TheVariants.{FlushOut}
 use Rattle.cluster_state.specs.Lookups.{flush_out}
 use Rattle.cluster_state.specs.Run.{Run, IsNow}
 
--- A publish is handed out: the cut, a number exactly where it has a put, and the segments that it stands on; they stand in the log.
+-- A publish is handed out: the cut, a number exactly where it has a put, and the segments that it stands on, which the log shows of
+-- its line.
 pub record HandsFlush (at : At) (old new : Run) (task : FlushTask) : Type 0 where
   pub now : IsNow old new (kept (FlushOut at task.seg task.segs) ∷ shown at Publishing ∷ old.log)
+  pub out : flush_out at new.log ≡ Some (record { seg = task.seg; segs = task.segs })
   pub ops : task.ops ≡ cut_of (printed old.log)
   pub seg : IsSome task.seg ↔ IsTrue (cut_has_put (printed old.log))
   pub sound : All IsSound task.segs

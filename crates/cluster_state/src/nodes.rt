@@ -8,6 +8,7 @@ use disk_model::Dir;
 use index_primary::Primary;
 use nrt_base::NodeNo;
 use replica_node::Replica;
+use std::mem::replace;
 
 /// A node: the primary, a replica, or the directory of one that is down.
 #[derive(Drop)]
@@ -44,7 +45,7 @@ pub fn put<D: Dir + Drop>(places: &mut Vec<Option<Place<D>>>, n: NodeNo, place: 
     ensures places { (m : ℕ) → place_of places.new.items m
         ≡ (if n.0 == m then Some place else place_of places.old.items m) }
 {
-    places[n.0 as usize - 1] = Some(place);
+    drop(replace(&mut places[n.0 as usize - 1], Some(place)));
 }
 
 /// The primary that is in this place.

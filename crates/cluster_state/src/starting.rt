@@ -82,7 +82,8 @@ impl<D: FaultDir + Drop> ClusterState<D> {
     ghost use Rattle.std.specs.List.{All};
     ghost use Rattle.cluster_state.specs.Starting.{IsEmptyDir};
 
-    /// A cluster over these empty directories. Node 1 is the primary, and the others are replicas.
+    /// A cluster over these directories, where nothing stands: node n is on the n-th of them, from 1. Node 1 is the primary, and
+    /// the others are replicas. `Err` is want of memory, or a disk that failed.
     pub fn start(alloc: Global, dirs: Vec<D>) -> Result<Self, NoMemory>
         requires some { 1 ≤ length dirs.items }
         requires few { length dirs.items ≤ 16 }

@@ -1,6 +1,6 @@
 //! What the primary accepts, and publishes.
 
-ghost use Rattle.std.specs.Prelude.{◌≡◌, ◌+◌, ◌<◌, ◌^◌, IfSome};
+ghost use Rattle.std.specs.Prelude.{◌≡◌, ◌≢◌, ◌+◌, ◌<◌, ◌^◌, IfSome, OnOk};
 
 use crate::cluster::ClusterState;
 use crate::nodes::{Node, Place, primary_in, put, take};
@@ -20,6 +20,18 @@ fn next_number(count: usize) -> Option<u32>
         Some(count as u32 + 1)
     } else {
         None
+    }
+}
+
+// There are as many segments as there may be, or no memory was found.
+fn is_for_segments(fault: PublishFault) -> Result<(), NoMemory>
+    requires { fault ≢ PublishFault.NamesSpent }
+    ensures { OnOk result (fault ≡ PublishFault.TooManySegments) }
+{
+    match fault {
+        PublishFault::TooManySegments => Ok(()),
+        PublishFault::Memory => Err(AllocError),
+        PublishFault::NamesSpent => unreachable!(),
     }
 }
 
@@ -60,9 +72,10 @@ impl<D: FaultDir + Drop> ClusterState<D> {
         let copy = op.share(alloc)?;
         self.book.reserve(1)?;
         let (mut primary, held) = primary_in(take(&mut self.places, p));
-        primary.accept(copy)?;
+        let place = primary.accept(copy);
         let node = Node::Primary(primary);
         put(&mut self.places, p, Place { node, held });
+        place?;
         self.book.show(at, Event::Accepted { seq, op });
         self.ended = false;
         Ok(())
@@ -97,15 +110,17 @@ impl<D: FaultDir + Drop> ClusterState<D> {
         put(&mut self.places, p, Place { node, held });
         let task = match started {
             Ok(Some(task)) => task,
-            Err(PublishFault::TooManySegments) => {
+            Ok(None) => unreachable!(),
+            Err(fault) => {
+                is_for_segments(fault)?;
                 self.ended = false;
                 return Ok(None);
             }
-            Err(PublishFault::Memory) => return Err(AllocError),
-            Ok(None) => unreachable!(),
-            Err(PublishFault::NamesSpent) => unreachable!(),
         };
-        let segs = task.segs.share(alloc)?;
+        let Ok(segs) = task.segs.share(alloc) else {
+            drop(task);
+            return Err(AllocError);
+        };
         self.book.show(at, Event::Publishing);
         self.book.keep(Inner::FlushOut { at, seg: task.seg, segs });
         self.ended = false;
@@ -143,11 +158,12 @@ impl<D: FaultDir + Drop> ClusterState<D> {
         }
         self.book.reserve(1)?;
         let (mut primary, held) = primary_in(take(&mut self.places, p));
-        let Ok(v) = primary.publish_end(alloc, work) else {
-            return Err(AllocError);
-        };
+        let ended = primary.publish_end(alloc, work);
         let node = Node::Primary(primary);
         put(&mut self.places, p, Place { node, held });
+        let Ok(v) = ended else {
+            return Err(AllocError);
+        };
         self.book.show(at, Event::Published { generation, v });
         self.ended = false;
         Ok(())
