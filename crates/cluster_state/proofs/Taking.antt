@@ -1,6 +1,12 @@
 -- Nodes that are taken out of their places and put back.
 use Rattle.std.proofs.Common.{◌≡◌, ◌≢◌, ◌≤◌, ◌<◌, ◌==◌, ℕ, Bool, true, false, true≢false, List, Some, None, Option, Vec, Global, refl, ap, ◌∙◌, sym, subst, if◌then◌else◌, length}
-use Rattle.std.specs.Prelude.{IfSome, IsSome}
+use Rattle.std.specs.Prelude.{IfSome, IsSome, IfOk, OnOk}
+use Rattle.std.proofs.Common.{Result, Ok, Err}
+use Rattle.std.specs.declared.alloc.AllocError.{AllocError}
+use Rattle.copy_job.specs.declared.copying.Part.{Part}
+use Rattle.index_primary.specs.Primary.{IsPrimary}
+use Rattle.index_primary.specs.Calls.{HoldsNoNew}
+use Rattle.cluster_state.proofs.Stepping.{alters_by}
 use Rattle.std.proofs.lemmas.Bool.{eqb-true}
 use Rattle.disk_model.specs.Disk.{Name, Cells}
 use Rattle.index_primary.specs.declared.parts.Parts.{Parts as PrimaryParts}
@@ -11,7 +17,7 @@ use Rattle.cluster_state.specs.declared.nodes.Node.TheVariants.{Primary, Replica
 use Rattle.cluster_state.specs.declared.nodes.Place.{Place}
 use Rattle.cluster_state.specs.Places.{place_of, IsSlot, HasPrimary}
 use Rattle.cluster_state.specs.JobChanges.{HasReplica, HasJob, AltersStates, BeginsAt, FinishesAt, TakesPart}
-use Rattle.cluster_state.specs.JobPlaces.{StandThere, AreBoth, MovesOne, MovesBoth, CanBegin, BeginsIn, FinishesIn, ReadsIn, TakesIn}
+use Rattle.cluster_state.specs.JobPlaces.{StandThere, HoldsOfBoth, AreBoth, MovesOne, MovesBoth, CanBegin, BeginsIn, FinishesIn, ReadsIn, TakesIn}
 
 module _ {D : Type 0} where
   pub primary_some : (o : Option (Place D)) → HasPrimary o → o ≢ None
@@ -64,10 +70,67 @@ module _ {D : Type 0} where
       → (m : ℕ) → place_of new m ≡ (if n == m then Some y else if p == m then Some x else place_of old m)
   put_twice old mid new p n x y first second m = second m ∙ ap (λ (o : Option (Place D)). if n == m then Some y else o) (first m)
 
-  pub are_both : (old a : List (Option (Place D))) (p n : ℕ) (q : PrimaryParts D) (r : ReplicaParts D) (hq hr : Vec Held Global) → StandThere p n old → ((m : ℕ) → place_of a m ≡ (if p == m then None else place_of old m))
+  abbrev pub are_both : (old a : List (Option (Place D))) (p n : ℕ) (q : PrimaryParts D) (r : ReplicaParts D) (hq hr : Vec Held Global) → StandThere p n old → ((m : ℕ) → place_of a m ≡ (if p == m then None else place_of old m))
       → place_of old p ≡ Some (record { node = Primary q; held = hq }) → place_of a n ≡ Some (record { node = Replica r; held = hr }) → AreBoth old p n
   are_both old a p n q r hq hr stand taken there_q there_r = record {
     primary = record { slot = stand.slot_primary; parts = q; held = hq; there = there_q };
     replica = record { slot = stand.slot_replica; parts = r; held = hr; there = sym (other_still old a p n stand.apart taken) ∙ there_r };
     apart = stand.apart;
+  }
+
+  -- what holds of the two that stand there
+  pub may_of : (P : PrimaryParts D → ReplicaParts D → Type 0) (old a : List (Option (Place D))) (p n : ℕ) (q : PrimaryParts D) (r : ReplicaParts D) (hq hr : Vec Held Global) → StandThere p n old
+      → ((m : ℕ) → place_of a m ≡ (if p == m then None else place_of old m)) → place_of old p ≡ Some (record { node = Primary q; held = hq }) → place_of a n ≡ Some (record { node = Replica r; held = hr }) → HoldsOfBoth P p n old → P q r
+  may_of P old a p n q r hq hr stand taken there_q there_r holds = holds q r hq hr there_q (sym (other_still old a p n stand.apart taken) ∙ there_r)
+
+  pub begun_in : (cells : D → Cells) (result : Result ℕ AllocError) (old a b new : List (Option (Place D))) (p n : ℕ) (q q' : PrimaryParts D) (r r' : ReplicaParts D) (hq hr : Vec Held Global) → StandThere p n old
+      → length a ≡ length old → ((m : ℕ) → place_of a m ≡ (if p == m then None else place_of old m)) → length b ≡ length a → ((m : ℕ) → place_of b m ≡ (if n == m then None else place_of a m)) → length new ≡ length b
+      → ((m : ℕ) → place_of new m ≡ (if n == m then Some (record { node = Replica r'; held = hr }) else if p == m then Some (record { node = Primary q'; held = hq }) else place_of b m))
+      → place_of old p ≡ Some (record { node = Primary q; held = hq }) → place_of a n ≡ Some (record { node = Replica r; held = hr })
+      → IfOk result (λ number. BeginsAt cells number q q' r r') → IfOk result (λ number. BeginsIn cells p n number old new)
+  begun_in cells (Ok number) old a b new p n q q' r r' hq hr stand ca ta cb tb cn tn there_q there_r begins = record {
+    both = are_both old a p n q r hq hr stand ta there_q there_r;
+    primary = q';
+    replica = r';
+    moves = moved_both old a b new p n (record { node = Primary q'; held = hq }) (record { node = Replica r'; held = hr }) ca ta cb tb cn tn;
+    begins = begins;
+  }
+  begun_in cells (Err fault) old a b new p n q q' r r' hq hr stand ca ta cb tb cn tn there_q there_r begins = tt
+
+  pub finished_in : (cells : D → Cells) (result : Result Unit AllocError) (old a b new : List (Option (Place D))) (p n : ℕ) (q q' : PrimaryParts D) (r r' : ReplicaParts D) (hq hr : Vec Held Global) → StandThere p n old
+      → length a ≡ length old → ((m : ℕ) → place_of a m ≡ (if p == m then None else place_of old m)) → length b ≡ length a → ((m : ℕ) → place_of b m ≡ (if n == m then None else place_of a m)) → length new ≡ length b
+      → ((m : ℕ) → place_of new m ≡ (if n == m then Some (record { node = Replica r'; held = hr }) else if p == m then Some (record { node = Primary q'; held = hq }) else place_of b m))
+      → place_of old p ≡ Some (record { node = Primary q; held = hq }) → place_of a n ≡ Some (record { node = Replica r; held = hr })
+      → OnOk result (IfSome r.job (λ j. FinishesAt cells j q q' r r')) → OnOk result (FinishesIn cells p n old new)
+  finished_in cells (Ok number) old a b new p n q q' r r' hq hr stand ca ta cb tb cn tn there_q there_r finishes = record {
+    both = are_both old a p n q r hq hr stand ta there_q there_r;
+    primary = q';
+    replica = r';
+    moves = moved_both old a b new p n (record { node = Primary q'; held = hq }) (record { node = Replica r'; held = hr }) ca ta cb tb cn tn;
+    finishes = finishes;
+  }
+  finished_in cells (Err fault) old a b new p n q q' r r' hq hr stand ca ta cb tb cn tn there_q there_r finishes = tt
+
+  pub taken_in : (cells : D → Cells) (result : Result Unit AllocError) (part : Part) (old mid new : List (Option (Place D))) (n : ℕ) (r r' : ReplicaParts D) (held : Vec Held Global) → IsSlot old n
+      → length mid ≡ length old → ((m : ℕ) → place_of mid m ≡ (if n == m then None else place_of old m)) → length new ≡ length mid → ((m : ℕ) → place_of new m ≡ (if n == m then Some (record { node = Replica r'; held = held }) else place_of mid m))
+      → place_of old n ≡ Some (record { node = Replica r; held = held }) → OnOk result (TakesPart cells part r r') → OnOk result (TakesIn cells n part old new)
+  taken_in cells (Ok x) part old mid new n r r' held slot cm tm cn tn there takes = record {
+    at = record { slot = slot; parts = r; held = held; there = there };
+    replica = r';
+    moves = moved_one old mid new n (record { node = Replica r'; held = held }) cm tm cn tn;
+    takes = takes;
+  }
+  taken_in cells (Err fault) part old mid new n r r' held slot cm tm cn tn there takes = tt
+
+  pub read_at : (cells : D → Cells) (bytes : List ℕ) (name : Name) (old mid new : List (Option (Place D))) (p : ℕ) (q q' : PrimaryParts D) (held : Vec Held Global) → IsSlot old p
+      → length mid ≡ length old → ((m : ℕ) → place_of mid m ≡ (if p == m then None else place_of old m)) → length new ≡ length mid → ((m : ℕ) → place_of new m ≡ (if p == m then Some (record { node = Primary q'; held = held }) else place_of mid m))
+      → place_of old p ≡ Some (record { node = Primary q; held = held }) → (cells q.dir name).now ≡ Some bytes → cells q'.dir ≡ cells q.dir → q' ≡ record q { dir = q'.dir } → HoldsNoNew q q' → IsPrimary cells q' → ReadsIn cells p name bytes old new
+  read_at cells bytes name old mid new p q q' held slot cm tm cn tn there reads same is no_new whole = record {
+    at = record { slot = slot; parts = q; held = held; there = there };
+    primary = q';
+    moves = moved_one old mid new p (record { node = Primary q'; held = held }) cm tm cn tn;
+    alters = alters_by cells q q' (record { held = λ r a b. ap (λ (c : Cells). (c r).now) same }) no_new
+        (is ∙ ap (λ (x : PrimaryParts D). record q { dir = q'.dir; files = x.files; states = x.states }) (sym is)) (λ w. whole);
+    states = ap (λ (x : PrimaryParts D). x.states) is;
+    there = reads;
   }
