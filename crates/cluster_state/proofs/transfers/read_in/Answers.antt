@@ -2,7 +2,7 @@ use Rattle.cluster_state.proofs.Taking.{read_at}
 use Rattle.cluster_state.proofs.transfers.read_in.Goals as goal
 
 pub source-read-requires : goal.source-read-requires
-source-read-requires g c = c.requires.out _ _ c.take_primary-primary.ensures.place
+source-read-requires g c = record { out = c.requires.out _ _ c.take_primary-primary.ensures.place }
 
 pub returns-in-Ok : goal.returns-in-Ok
 returns-in-Ok g c = read_at g.D.Dir.cells c.in-Ok.bytes c.args.name.now c.args.places.now.items c.take_primary-primary.new.places.items c.put.new.places.items c.args.p.0 _ _ _ c.requires.slot
