@@ -27,3 +27,5 @@ pub mod JobFiles
 pub mod Stepping
 pub mod FileJobs
 pub mod Taking
+pub mod Settling
+pub mod JobEnds
