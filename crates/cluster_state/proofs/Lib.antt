@@ -29,3 +29,5 @@ pub mod FileJobs
 pub mod Taking
 pub mod JobMoves
 pub mod Beginning
+pub mod Settling
+pub mod JobEnds
