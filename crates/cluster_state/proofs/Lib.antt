@@ -16,8 +16,10 @@ pub mod Writing
 pub mod Written
 pub mod Primaries
 pub mod Turning
+pub mod NodeTickets
 pub mod TicketPaths
 pub mod PublishPaths
+pub mod PublishFiles
 pub mod FirstNodes
 pub mod JobFrames
 pub mod OutCounts
@@ -31,3 +33,4 @@ pub mod JobMoves
 pub mod Beginning
 pub mod Settling
 pub mod JobEnds
+pub mod FirstPlaces

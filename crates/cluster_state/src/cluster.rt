@@ -26,14 +26,16 @@ impl<D: FaultDir> Model for ClusterState<D> {
     ghost coded = { Prim.hlevel (codes, query.the_row.coded) };
 
     ghost use Rattle.cluster_state.specs.State.{Shows};
+    ghost use Rattle.cluster_state.specs.Files.{FilesShow};
 
     ghost view = { λ c. record { ended = c.ended; nodes = c.book.nodes; log = c.book.log } };
 
-    ghost invariant = { λ c. c.ended ≡ false → Shows D.cells c.book.log c.book.nodes c.places.items };
+    ghost invariant = { λ c. c.ended ≡ false → Shows D.cells c.book.log c.book.nodes c.places.items
+        × FilesShow D.cells c.book.log c.book.nodes c.places.items };
 }
 
 impl<D: FaultDir + Drop> ClusterState<D> {
-    ghost use Rattle.std.specs.Prelude.{ℕ, ◌≡◌, ◌≢◌, ◌∷◌, false, Some, Option, OnOk, OnErr, IfSome};
+    ghost use Rattle.std.specs.Prelude.{ℕ, ◌≡◌, ◌≢◌, ◌∷◌, false, true, Some, Option, OnOk, OnErr, IfSome};
     ghost use Rattle.nrt_base.specs.declared.numbers.NodeNo.{NodeNo};
     ghost use Rattle.history_entries.specs.Nodes.{IsNode, primary_of};
     ghost use Rattle.history_entries.specs.Lines.{start_entry, publish_in_flight};
@@ -43,6 +45,7 @@ impl<D: FaultDir + Drop> ClusterState<D> {
     ghost use Rattle.history_book.specs.Turns.{InTurn};
     ghost use Rattle.cluster_state.specs.Run.{IsNow, IsEnded};
     ghost use Rattle.cluster_state.specs.Moves.{moves, moves_tickets};
+    ghost use Rattle.cluster_state.specs.FileChanges.{keeps_jobs};
 
     /// What happened, for readers.
     pub fn book(&self) -> &Book
@@ -94,7 +97,7 @@ impl<D: FaultDir + Drop> ClusterState<D> {
         self.book.is_legal();
     }
 
-    /// Appends an entry that moves no node and opens no ticket, of a line whose publish is not in flight. `Err` is want of
+    /// Appends an entry that moves no node, starts no copy and opens no ticket, of a line whose publish is not in flight. `Err` is want of
     /// memory: the cluster has ended, and the history is as before.
     pub fn note(&mut self, at: At, event: Event) -> Result<(), NoMemory>
         requires running { self.old.ended ≡ false }
@@ -103,6 +106,7 @@ impl<D: FaultDir + Drop> ClusterState<D> {
         requires line { publish_in_flight (printed self.old.log) ≢ Some at }
         requires still { (p : Option NodeNo) (m : ℕ) → moves event p m ≡ false }
         requires apart { (m : ℕ) → moves_tickets event m ≡ false }
+        requires jobs { (m : ℕ) → keeps_jobs event m ≡ true }
         requires tickets { opens_ticket event ≡ false }
         ensures ok { OnOk result (IsNow self.old self.new (shown at event ∷ self.old.log)) }
         ensures err { OnErr result (IsEnded self.old self.new) }

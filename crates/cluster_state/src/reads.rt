@@ -13,22 +13,23 @@ use seg_reader::Segment;
 use std::alloc::Global;
 
 impl<D: FaultDir + Drop> ClusterState<D> {
-    ghost use Rattle.std.specs.Prelude.{ℕ, ◌≡◌, ◌≢◌, ◌∷◌, [], false, true, Some, OnOk, OnErr, IfOk};
-    ghost use Rattle.history_entries.specs.Nodes.{IsNode, is_running, version_of};
-    ghost use Rattle.std.specs.Prelude.{Option};
+    ghost use Rattle.std.specs.Prelude.{ℕ, ◌≡◌, ◌≢◌, ◌∷◌, [], false, true, Some, Option, OnOk, OnErr, IfOk};
     ghost use Rattle.nrt_base.specs.declared.numbers.NodeNo.{NodeNo};
+    ghost use Rattle.history_entries.specs.Nodes.{IsNode, is_running, version_of};
     ghost use Rattle.history_entries.specs.Lines.{is_start, start_entry, entries_of_line};
+    ghost use Rattle.history_entries.specs.Tickets.{has_ticket, open_ticket};
     ghost use Rattle.history_entries.specs.Legal.{KeepsRule};
     ghost use Rattle.history_tables.specs.Openings.{opens_ticket, ticket_of};
-    ghost use Rattle.history_book.specs.Turns.{InTurn};
-    ghost use Rattle.cluster_state.specs.Moves.{moves, moves_tickets, EndsKey};
-    ghost use Rattle.history_entries.specs.Tickets.{has_ticket, open_ticket};
     ghost use Rattle.history_book.specs.Log.{printed, shown};
+    ghost use Rattle.history_book.specs.Turns.{InTurn};
     ghost use Rattle.cluster_state.specs.Run.{IsNow, IsEnded};
     ghost use Rattle.cluster_state.specs.State.{ReadsAt};
+    ghost use Rattle.cluster_state.specs.Moves.{moves, moves_tickets, EndsKey};
 
-    /// Opens a ticket of a lane at the point that a running node searches.
-    pub(crate) fn open_ticket(
+    /// Opens ticket `t` of the lane of `at`, on the point that the running node `n` searches, and appends `Opened` with that
+    /// point's version. `t` is above 0, and the lane has no open ticket of that number. The point's files stay until the ticket
+    /// is closed or the node crashes. An error is want of memory: the cluster has ended, and its log is as before.
+    pub fn open_ticket(
         &mut self,
         alloc: Global,
         at: At,
@@ -57,8 +58,10 @@ impl<D: FaultDir + Drop> ClusterState<D> {
         Ok(())
     }
 
-    /// Starts a search at the point that a running node searches, and hands that point out.
-    pub(crate) fn open_search(
+    /// Starts a search of the line `at` on the point that the running node `n` searches, appends `Opened` with ticket 0 and that
+    /// point's version, and hands the point out. Its files stay until the search is answered or the node crashes. An error is
+    /// want of memory: the cluster has ended, and its log is as before.
+    pub fn open_search(
         &mut self,
         alloc: Global,
         at: At,
@@ -88,8 +91,10 @@ impl<D: FaultDir + Drop> ClusterState<D> {
         Ok(lease)
     }
 
-    /// Starts a search at an open ticket of the lane, and hands out the point on which it was opened.
-    pub(crate) fn ask_ticket(
+    /// Starts a search of the line `at` under the lane's open ticket `t`, whose opening this is, appends `Asking` with the
+    /// ticket's node and version, and hands out the point on which it was opened. An error is want of memory: the cluster has
+    /// ended, and its log is as before.
+    pub fn ask_ticket(
         &mut self,
         alloc: Global,
         at: At,
@@ -116,8 +121,10 @@ impl<D: FaultDir + Drop> ClusterState<D> {
         Ok(lease)
     }
 
-    /// Appends an entry that moves no node, and gives back the ticket of a node that was held for this.
-    pub(crate) fn note_without(
+    /// Appends an entry that moves no node and starts no line, and gives back the ticket of node `n` that is held for `key`, if
+    /// one is: after the entry nothing of the history needs it. An error is want of memory: the cluster has ended, and its log
+    /// is as before.
+    pub fn note_without(
         &mut self,
         at: At,
         n: NodeNo,
