@@ -31,6 +31,7 @@ pub mod FileJobs
 pub mod Taking
 pub mod JobMoves
 pub mod Beginning
+pub mod CopyPaths
 pub mod Settling
 pub mod JobEnds
 pub mod FirstPlaces

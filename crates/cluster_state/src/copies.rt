@@ -15,6 +15,7 @@ use disk_model::FaultDir;
 use history_book::{Book, Inner, Job, JobRow, Start};
 use history_entries::Event;
 use nrt_base::{At, NoMemory, NodeNo, Share, Version};
+use replica_node::laws::files_last;
 use std::alloc::{AllocError, Global};
 
 // Whether an open line started as a copy.
@@ -129,7 +130,7 @@ impl<D: FaultDir + Drop> ClusterState<D> {
         ensures err { OnErr result (IsEnded self.old self.new) }
     {
         self.book.is_fresh(at);
-        self.book.is_legal();
+        files_last();
         let newest = self.book.newest();
         self.ended = true;
         if newest >= 1 << 62 {
@@ -138,12 +139,20 @@ impl<D: FaultDir + Drop> ClusterState<D> {
         self.book.reserve(2)?;
         let job = begin_in(alloc, &mut self.places, p, n)?;
         let v = Version(newest);
-        let At { line, .. } = at;
-        let (version, by) = (Some(v), Some(at));
         self.book.show(at, Event::Copying { n, v });
-        self.book.keep(Inner::JobBegun { line, node: n, job, version, by });
+        self.book.keep(Inner::JobBegun {
+            line: at.line,
+            node: n,
+            job,
+            version: Some(v),
+            by: Some(at),
+        });
         self.ended = false;
-        Ok(CopyTask { node: n, job, line })
+        Ok(CopyTask {
+            node: n,
+            job,
+            line: at.line,
+        })
     }
 
     /// Begins a job of a settle at a replica that it waits for, which is behind the newest version. A job for an older version there
@@ -169,6 +178,7 @@ impl<D: FaultDir + Drop> ClusterState<D> {
         ensures err { OnErr result (IsEnded self.old self.new) }
     {
         self.book.is_legal();
+        files_last();
         let newest = self.book.newest();
         self.ended = true;
         if newest >= 1 << 62 {
@@ -176,11 +186,19 @@ impl<D: FaultDir + Drop> ClusterState<D> {
         }
         self.book.reserve(1)?;
         let job = begin_in(alloc, &mut self.places, p, n)?;
-        let At { line, .. } = at;
-        let (version, by) = (Some(Version(newest)), Some(at));
-        self.book.keep(Inner::JobBegun { line, node: n, job, version, by });
+        self.book.keep(Inner::JobBegun {
+            line: at.line,
+            node: n,
+            job,
+            version: Some(Version(newest)),
+            by: Some(at),
+        });
         self.ended = false;
-        Ok(CopyTask { node: n, job, line })
+        Ok(CopyTask {
+            node: n,
+            job,
+            line: at.line,
+        })
     }
 
     // The running primary, which is the source of a job that runs.
