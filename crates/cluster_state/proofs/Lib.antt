@@ -29,4 +29,10 @@ pub mod FileFrames
 pub mod JobFiles
 pub mod Stepping
 pub mod FileJobs
+pub mod Taking
+pub mod JobMoves
+pub mod Beginning
+pub mod CopyPaths
+pub mod Settling
+pub mod JobEnds
 pub mod FirstPlaces

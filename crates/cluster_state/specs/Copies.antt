@@ -1,5 +1,5 @@
 -- What copies hand out, take back and end with.
-use Rattle.std.specs.Prelude.{ℕ, ◌≡◌, ◌≢◌, ◌<◌, ◌∷◌, false, Option, Some, None}
+use Rattle.std.specs.Prelude.{ℕ, ◌≡◌, ◌≢◌, ◌<◌, ◌∷◌, false, Bool, true, Option, Some, None}
 use Rattle.nrt_base.specs.declared.numbers.At.{At}
 use Rattle.nrt_base.specs.declared.numbers.NodeNo.{NodeNo}
 use Rattle.nrt_base.specs.declared.numbers.Version.{Version}
@@ -57,6 +57,11 @@ pub record HandsFile (job : Job) (old new : Run) (file : FileTask) : Type 0 wher
   pub now : IsNow old new (kept (FileOut job.at.line job.node job.number file.name file.source (Some job.at)) ∷ old.log)
   pub meta : IsMetaOf file.source file.meta
   pub footer : HasFooter file.source
+
+-- the line started as a copy
+abbrev pub is_copy_start : Option Event → Bool
+is_copy_start (Some (Copying n v)) = true
+is_copy_start begun = false
 
 -- the node switched to the job's version, and the job has ended; where its line is a copy, that has its reply
 abbrev pub ended_log : Job → Option Event → Log → Log

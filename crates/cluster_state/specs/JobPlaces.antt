@@ -9,15 +9,14 @@ use Rattle.copy_state.specs.States.{meta_in}
 use Rattle.copy_job.specs.declared.copying.Part.{Part}
 use Rattle.copy_job.specs.Jobs.{reads_under}
 use Rattle.index_primary.specs.declared.parts.Parts.{Parts as PrimaryParts}
-use Rattle.index_primary.specs.States.{out_of, state_names, is_out}
-use Rattle.replica_node.specs.declared.job.PointJob.{PointJob}
+use Rattle.index_primary.specs.States.{state_names, is_out}
 use Rattle.replica_node.specs.declared.parts.Parts.{Parts as ReplicaParts}
 use Rattle.cluster_state.specs.declared.held.Held.{Held}
 use Rattle.cluster_state.specs.declared.nodes.Node.TheVariants.{Primary, Replica}
 use Rattle.cluster_state.specs.declared.nodes.Place.{Place}
-use Rattle.cluster_state.specs.Places.{place_of, IsSlot}
+use Rattle.cluster_state.specs.Places.{place_of, IsSlot, HasPrimary}
 use Rattle.cluster_state.specs.Outs.{want_of}
-use Rattle.cluster_state.specs.JobChanges.{AltersStates, BeginsAt, FinishesAt, TakesPart}
+use Rattle.cluster_state.specs.JobChanges.{HasReplica, AltersStates, BeginsAt, FinishesAt, TakesPart}
 
 module _ {D : Type 0} where
   -- the primary stands in this place
@@ -50,13 +49,31 @@ module _ {D : Type 0} where
     pub count : length new ≡ length old
     pub there : (m : ℕ) → place_of new m ≡ (if n == m then Some x else place_of old m)
 
-  -- a job can begin at a replica that is behind the primary's point
+  -- a job can begin, by these values of the two: the replica is behind the primary's point and has seen no later generation, its
+  -- jobs can be counted on, and the state of an older job is out
+  pub record MayBegin (q : PrimaryParts D) (r : ReplicaParts D) : Type 0 where
+    pub behind : r.searchers.point.version.0 < q.point_infos.version.0
+    pub seen : r.seen.0 ≤ q.point_infos.generation.0
+    pub few : r.jobs + 1 < 2 ^ 63
+    pub out : IfSome (want_of r.job) (λ s. is_out s q.states ≡ true)
+
+  -- the primary and a replica stand in these two places
+  pub record StandThere (p n : ℕ) (places : List (Option (Place D))) : Type 0 where
+    pub slot_primary : IsSlot places p
+    pub slot_replica : IsSlot places n
+    pub apart : (p == n) ≡ false
+    pub primary : HasPrimary (place_of places p)
+    pub replica : HasReplica (place_of places n)
+
+  -- whatever stands there, it is so
+  abbrev pub HoldsOfBoth : (PrimaryParts D → ReplicaParts D → Type 0) → ℕ → ℕ → List (Option (Place D)) → Type 0
+  HoldsOfBoth P p n places = (q : PrimaryParts D) (r : ReplicaParts D) (primary_held held : Vec Held Global)
+      → place_of places p ≡ Some (record { node = Primary q; held = primary_held }) → place_of places n ≡ Some (record { node = Replica r; held = held }) → P q r
+
+  -- a job can begin at a replica
   pub record CanBegin (p n : ℕ) (places : List (Option (Place D))) : Type 0 where
-    pub both : AreBoth places p n
-    pub behind : both.replica.parts.searchers.point.version.0 < both.primary.parts.point_infos.version.0
-    pub seen : both.replica.parts.seen.0 ≤ both.primary.parts.point_infos.generation.0
-    pub few : both.replica.parts.jobs + 1 < 2 ^ 63
-    pub out : IfSome (want_of both.replica.parts.job) (λ s. is_out s both.primary.parts.states ≡ true)
+    pub stand : StandThere p n places
+    pub may : HoldsOfBoth MayBegin p n places
 
   -- it began, with this number
   pub record BeginsIn (cells : D → Cells) (p n number : ℕ) (old new : List (Option (Place D))) : Type 0 where
@@ -66,29 +83,31 @@ module _ {D : Type 0} where
     pub moves : MovesBoth p n (record { node = Primary primary; held = both.primary.held }) (record { node = Replica replica; held = both.replica.held }) old new
     pub begins : BeginsAt cells number both.primary.parts primary both.replica.parts replica
 
-  -- the job of a replica can end, whose files read as those of some documents
+  -- the job of the replica can end: nothing is missing, and its files read as those of some documents
+  pub record MayFinish (cells : D → Cells) (q : PrimaryParts D) (r : ReplicaParts D) : Type 0 where
+    pub some : IsSome r.job
+    pub complete : IfSome r.job (λ j. j.copy.missing ≡ [])
+    pub standing : IfSome r.job (λ j. StandsForSome (reads_under j.copy.parts (reads_of (cells r.dir))) j.infos)
+    pub out : IfSome (want_of r.job) (λ s. is_out s q.states ≡ true)
+
+  -- the same of what stands there
   pub record CanFinish (cells : D → Cells) (p n : ℕ) (places : List (Option (Place D))) : Type 0 where
-    pub both : AreBoth places p n
-    pub job : PointJob
-    pub runs : both.replica.parts.job ≡ Some job
-    pub complete : job.copy.missing ≡ []
-    pub standing : StandsForSome (reads_under job.copy.parts (reads_of (cells both.replica.parts.dir))) job.infos
-    pub out : is_out (out_of job.copy.want) both.primary.parts.states ≡ true
+    pub stand : StandThere p n places
+    pub may : HoldsOfBoth (MayFinish cells) p n places
 
   -- it has ended
   pub record FinishesIn (cells : D → Cells) (p n : ℕ) (old new : List (Option (Place D))) : Type 0 where
     pub both : AreBoth old p n
-    pub job : PointJob
-    pub runs : both.replica.parts.job ≡ Some job
     pub primary : PrimaryParts D
     pub replica : ReplicaParts D
     pub moves : MovesBoth p n (record { node = Primary primary; held = both.primary.held }) (record { node = Replica replica; held = both.replica.held }) old new
-    pub finishes : FinishesAt cells job both.primary.parts primary both.replica.parts replica
+    pub finishes : IfSome both.replica.parts.job (λ j. FinishesAt cells j both.primary.parts primary both.replica.parts replica)
 
   -- a copy state that is out names the file
   pub record CanRead (p : ℕ) (name : Name) (places : List (Option (Place D))) : Type 0 where
-    pub at : IsPrimaryAt places p
-    pub out : 0 < times (state_names at.parts.states) name
+    pub slot : IsSlot places p
+    pub primary : HasPrimary (place_of places p)
+    pub out : (q : PrimaryParts D) (held : Vec Held Global) → place_of places p ≡ Some (record { node = Primary q; held = held }) → 0 < times (state_names q.states) name
 
   -- its bytes were read
   pub record ReadsIn (cells : D → Cells) (p : ℕ) (name : Name) (bytes : List ℕ) (old new : List (Option (Place D))) : Type 0 where
@@ -101,10 +120,11 @@ module _ {D : Type 0} where
 
   -- a replica's job can take a part, of the metadata that is wanted of it
   pub record CanTake (n : ℕ) (part : Part) (places : List (Option (Place D))) : Type 0 where
-    pub at : IsReplicaAt places n
-    pub job : PointJob
-    pub runs : at.parts.job ≡ Some job
-    pub wanted : (meta : FileMetaData) → meta_in job.copy.want.files part.name ≡ Some meta → meta ≡ part.meta
+    pub slot : IsSlot places n
+    pub replica : HasReplica (place_of places n)
+    pub some : (r : ReplicaParts D) (held : Vec Held Global) → place_of places n ≡ Some (record { node = Replica r; held = held }) → IsSome r.job
+    pub wanted : (r : ReplicaParts D) (held : Vec Held Global) → place_of places n ≡ Some (record { node = Replica r; held = held })
+        → IfSome r.job (λ j. (meta : FileMetaData) → meta_in j.copy.want.files part.name ≡ Some meta → meta ≡ part.meta)
 
   -- it took it, or did not lack it
   pub record TakesIn (cells : D → Cells) (n : ℕ) (part : Part) (old new : List (Option (Place D))) : Type 0 where

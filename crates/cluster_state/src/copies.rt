@@ -5,17 +5,37 @@ ghost use Rattle.history_entries.specs.Nodes.{version_of, newest_version};
 ghost use Rattle.history_entries.specs.Lines.{start_entry, before_start, highest_copy, highest_switched};
 ghost use Rattle.history_tables.specs.Begins.{open_line};
 ghost use Rattle.history_book.specs.Log.{printed};
-ghost use Rattle.cluster_state.specs.Copies.{JobRuns, ended_log};
+ghost use Rattle.cluster_state.specs.Copies.{is_copy_start, JobRuns, ended_log};
 
 use crate::cluster::ClusterState;
 use crate::tasks::{CopyTask, FileTask};
 use crate::transfers::{begin_in, finish_in, next_in, read_in, take_in};
 use copy_job::Part;
 use disk_model::FaultDir;
-use history_book::{Begun, Book, Inner, Job, JobRow, Start};
+use history_book::{Book, Inner, Job, JobRow, Start};
 use history_entries::Event;
 use nrt_base::{At, NoMemory, NodeNo, Share, Version};
+use replica_node::laws::files_last;
 use std::alloc::{AllocError, Global};
+
+// Whether an open line started as a copy.
+fn starts_as_copy(book: &Book, at: At) -> bool
+    requires { open_line at (printed book.now.log) ≢ None }
+    ensures { result ≡ is_copy_start (start_entry at (printed book.now.log)) }
+{
+    book.is_legal();
+    match book.line(at) {
+        None => unreachable!(),
+        Some(begun) => match begun.start {
+            Start::Copying { .. } => true,
+            Start::Publishing => false,
+            Start::Settling { .. } => false,
+            Start::Searching { .. } => false,
+            Start::Asking { .. } => false,
+            Start::Committing { .. } => false,
+        },
+    }
+}
 
 // Appends the end of a job: its node switched to its version, and a copy has its reply.
 fn show_end(book: &mut Book, row: JobRow)
@@ -30,7 +50,6 @@ fn show_end(book: &mut Book, row: JobRow)
         ≡ ended_log row.job (start_entry row.job.at (printed book.old.log)) book.old.log }
     ensures nodes { book.new.nodes ≡ book.old.nodes }
 {
-    book.is_legal();
     book.job_shows(row);
     book.job_switches(row);
     let Job {
@@ -39,16 +58,14 @@ fn show_end(book: &mut Book, row: JobRow)
         number: job,
         version: v,
     } = row.job;
-    let begun = book.line(at);
-    book.show(at, Event::Switched { n, v });
-    if let Some(Begun {
-        start: Start::Copying { .. },
-        ..
-    }) = begun
-    {
-        book.show(at, Event::Copied { n, v });
-    }
     let line = at.line;
+    let is_copy = starts_as_copy(book, at);
+    book.show(at, Event::Switched { n, v });
+    if !is_copy {
+        book.keep(Inner::JobEnd { line, node: n, job });
+        return;
+    }
+    book.show(at, Event::Copied { n, v });
     book.keep(Inner::JobEnd { line, node: n, job });
 }
 
@@ -113,7 +130,7 @@ impl<D: FaultDir + Drop> ClusterState<D> {
         ensures err { OnErr result (IsEnded self.old self.new) }
     {
         self.book.is_fresh(at);
-        self.book.is_legal();
+        files_last();
         let newest = self.book.newest();
         self.ended = true;
         if newest >= 1 << 62 {
@@ -122,12 +139,20 @@ impl<D: FaultDir + Drop> ClusterState<D> {
         self.book.reserve(2)?;
         let job = begin_in(alloc, &mut self.places, p, n)?;
         let v = Version(newest);
-        let At { line, .. } = at;
-        let (version, by) = (Some(v), Some(at));
         self.book.show(at, Event::Copying { n, v });
-        self.book.keep(Inner::JobBegun { line, node: n, job, version, by });
+        self.book.keep(Inner::JobBegun {
+            line: at.line,
+            node: n,
+            job,
+            version: Some(v),
+            by: Some(at),
+        });
         self.ended = false;
-        Ok(CopyTask { node: n, job, line })
+        Ok(CopyTask {
+            node: n,
+            job,
+            line: at.line,
+        })
     }
 
     /// Begins a job of a settle at a replica that it waits for, which is behind the newest version. A job for an older version there
@@ -153,6 +178,7 @@ impl<D: FaultDir + Drop> ClusterState<D> {
         ensures err { OnErr result (IsEnded self.old self.new) }
     {
         self.book.is_legal();
+        files_last();
         let newest = self.book.newest();
         self.ended = true;
         if newest >= 1 << 62 {
@@ -160,11 +186,19 @@ impl<D: FaultDir + Drop> ClusterState<D> {
         }
         self.book.reserve(1)?;
         let job = begin_in(alloc, &mut self.places, p, n)?;
-        let At { line, .. } = at;
-        let (version, by) = (Some(Version(newest)), Some(at));
-        self.book.keep(Inner::JobBegun { line, node: n, job, version, by });
+        self.book.keep(Inner::JobBegun {
+            line: at.line,
+            node: n,
+            job,
+            version: Some(Version(newest)),
+            by: Some(at),
+        });
         self.ended = false;
-        Ok(CopyTask { node: n, job, line })
+        Ok(CopyTask {
+            node: n,
+            job,
+            line: at.line,
+        })
     }
 
     // The running primary, which is the source of a job that runs.

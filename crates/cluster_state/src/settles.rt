@@ -29,8 +29,8 @@ fn replicas(alloc: Global, book: &Book) -> Result<Vec<NodeNo>, NoMemory>
 {
     let primary = book.primary();
     let mut left = Vec::new(alloc);
-    for k in 1..=book.node_count() {
-        let n = NodeNo(k);
+    for k in 0..book.node_count() {
+        let n = NodeNo(k + 1);
         if book.runs(n) && !is_node(primary, n) {
             left.push(n)?;
         }
@@ -39,7 +39,8 @@ fn replicas(alloc: Global, book: &Book) -> Result<Vec<NodeNo>, NoMemory>
 }
 
 impl<D: FaultDir + Drop> ClusterState<D> {
-    ghost use Rattle.std.specs.Prelude.{ℕ, ◌≡◌, ◌≢◌, ◌∷◌, [], false, None, Some, OnOk, OnErr, IfOk, IfSome};
+    ghost use Rattle.std.specs.Prelude.{ℕ, ◌≡◌, ◌≢◌, ◌≤◌, ◌∷◌, [], false, None, Some, OnOk, OnErr, IfOk, IfSome};
+    ghost use Rattle.std.specs.List.{All};
     ghost use Rattle.history_entries.specs.Nodes.{primary_of};
     ghost use Rattle.history_entries.specs.Lines.{entries_of_line, SourceSurvives};
     ghost use Rattle.history_entries.specs.Rules.{MaySettle};
@@ -79,6 +80,7 @@ impl<D: FaultDir + Drop> ClusterState<D> {
         requires survives { SourceSurvives (printed self.now.log) at }
         ensures settling { IsSettling self.now.nodes (printed self.now.log) at task.new }
         ensures version { task.new.version ≡ task.old.version }
+        ensures first { IfSome result (λ n. All (λ m. n.0 ≤ m.0) task.new.left.items) }
         ensures waits { IfSome result (WaitsFor self.now.nodes (printed self.now.log) at task.new.version.0) }
         ensures done { result ≡ None → MaySettle self.now.nodes (printed self.now.log) at task.new.version }
     {

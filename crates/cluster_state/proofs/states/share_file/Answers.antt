@@ -1,2 +1,2 @@
-use Rattle.cluster_state.proofs.FileJobs.{reached_older}
+use Rattle.cluster_state.proofs.CopyPaths.{settle_path}
 use Rattle.cluster_state.proofs.states.share_file.Goals as goal
