@@ -78,7 +78,7 @@ flies_by past start at is published reigns was found =
     let low : published_in_generation past ≤ length (operations_of_generation start) = subst (λ (j : ℕ). j ≤ length (operations_of_generation start)) (sym published) was.within in
     let accepted : accepted_at_start at past ≡ length (operations_of_generation start) = ap (λ (p : Past). length (operations_of_generation p)) (sym is) in
     let cut : cut_of (before_start at past) ≡ drop (published_in_generation past) (operations_of_generation start) =
-        ap cut_of (sym is) ∙ ap (λ (j : ℕ). drop j (operations_of_generation start)) (sym published) in
+    ap cut_of (sym is) ∙ ap (λ (j : ℕ). drop j (operations_of_generation start)) (sym published) in
     record {
       found = found ∙ (base_written start ∙ λ i. (sym reigns.base i) ++
           ((sym (take_whole (operations_of_generation start) reigns.more) ∙ λ j. take (sym accepted j) (sym reigns.accepted j)) i));
@@ -99,4 +99,3 @@ flies_with size past at legal turns is =
     written_start size past at legal =
         let s = since_start at past in
         written size (before_start at past) (legal_before size s.newer (before_start at past) (subst (IsLegalPast size) s.split legal))
-

@@ -35,7 +35,7 @@ pub ticket_closed : (past : Past) (at : At) (n : NodeNo) (t : TicketNo) (lane u 
 ticket_closed past at n t lane u w is =
     apart_or_none (u == 0) (is_ticket at t.0 lane u) (while_alive (record { at = at; event = Closed n t } ∷ past) (last_opened lane u (record { at = at; event = Closed n t } ∷ past))) (while_alive past (last_opened lane u past)) n.0 w
     (λ got. closed_apart (is_ticket at t.0 lane u) past n.0 w (last_opened lane u past)
-        (alive_less past (record { at = at; event = Closed n t } ∷ past) (last_opened lane u (record { at = at; event = Closed n t } ∷ past)) n.0 w refl got)) is
+    (alive_less past (record { at = at; event = Closed n t } ∷ past) (last_opened lane u (record { at = at; event = Closed n t } ∷ past)) n.0 w refl got)) is
 
 pub ticket_searches : (past : Past) (at : At) (n : NodeNo) (t : TicketNo) (a : At) (w : ℕ) → IsSearching (record { at = at; event = Closed n t } ∷ past) a n.0 w
     → (same_key (TicketKey at.lane t) (Search a) ≡ false) × IsSearching past a n.0 w

@@ -64,9 +64,9 @@ module _ {D : Type 0} where
   one_each {P = P} {Q = Q} size n x old new moves was others mine m node =
       by_test (n == m) (λ b. (n == m) ≡ b → IsSomeAnd (place_of new m) (Q m))
       (λ here q. subst (λ (o : Option (Place D)). IsSomeAnd o (Q m)) (sym (moves.there m ∙ ap (λ (b : Bool). if b then Some x else place_of old m) here))
-          (subst (λ (k : ℕ). Q k x) (eqb-true n m here) mine))
+      (subst (λ (k : ℕ). Q k x) (eqb-true n m here) mine))
       (λ apart q. subst (λ (o : Option (Place D)). IsSomeAnd o (Q m)) (sym (moves.there m ∙ ap (λ (b : Bool). if b then Some x else place_of old m) apart))
-          (some_then (place_of old m) (was m node) (λ z has. others m z node apart has)))
+      (some_then (place_of old m) (was m node) (λ z has. others m z node apart has)))
       refl
 
   pub both_each : {P Q : ℕ → Place D → Type 0} (size p n : ℕ) (x y : Place D) (old new : List (Option (Place D))) → MovesBoth p n x y old new → ((m : ℕ) → IsNode size m → IsSomeAnd (place_of old m) (P m))
@@ -97,8 +97,8 @@ module _ {D : Type 0} where
   wants_same n x y old new moves there same m =
       by_test (n == m) (λ b. (n == m) ≡ b → want_at (place_of new m) ≡ want_at (place_of old m))
       (λ here q.
-          let is : n ≡ m = eqb-true n m here in
-          ap want_at (moves.there m ∙ ap (λ (b : Bool). if b then Some x else place_of old m) here) ∙ (same ∙ (ap want_at (sym there) ∙ ap (λ (k : ℕ). want_at (place_of old k)) is)))
+      let is : n ≡ m = eqb-true n m here in
+      ap want_at (moves.there m ∙ ap (λ (b : Bool). if b then Some x else place_of old m) here) ∙ (same ∙ (ap want_at (sym there) ∙ ap (λ (k : ℕ). want_at (place_of old k)) is)))
       (λ apart q. ap want_at (moves.there m ∙ ap (λ (b : Bool). if b then Some x else place_of old m) apart))
       refl
 
@@ -260,7 +260,7 @@ module _ {D : Type 0} (cells : D → Cells) where
         source = wider;
         each = one_each {P = Both files.source log (λ s. jobs_like old s size)} {Q = λ m z. NodeFiles wider cells now (λ s. jobs_like new s size) m z.node} size n x old new moves (both_of log size old shows files)
             (λ m z node apart both. node_files wider now now (λ s. jobs_like old s size) (λ s. jobs_like new s size) m z.node (λ r is. still now m) (λ s. (let is = jobs s in omega (arith, is)))
-                (node_wider files.source wider log now (λ s. jobs_like old s size) m z.node (widened_more files.source (cells q.dir) q.files) (others m apart) same both.0.node_shows both.1))
+            (node_wider files.source wider log now (λ s. jobs_like old s size) m z.node (widened_more files.source (cells q.dir) q.files) (others m apart) same both.0.node_shows both.1))
             (record { held = full.held; unwritten = full.unwritten; generation = full.generation; outs = λ s. (let is = jobs s in omega (arith, is, full.outs s)) });
       }
     where

@@ -91,8 +91,8 @@ pub next_live : (g : ℕ) (records : List SegRecord) (segs : List Shown) (task :
 next_live g records segs task work held made none flushed next =
     subst (λ (rs : List SegRecord). All IsLive rs) (sym next.records_are)
     (All-append IsLive (map (record_after g) (staying g held (turns records segs work.live))) (new_records work.files)
-        (subst (λ (h : List SegNo). All IsLive (map (record_after g) (staying g h (turns records segs work.live)))) (sym none) (staying_live g (turns records segs work.live)))
-        (new_live task.seg task.ops work.files flushed.files))
+    (subst (λ (h : List SegNo). All IsLive (map (record_after g) (staying g h (turns records segs work.live)))) (sym none) (staying_live g (turns records segs work.live)))
+    (new_live task.seg task.ops work.files flushed.files))
 
 pub next_few : (g : ℕ) (records : List SegRecord) (segs : List Shown) (task : FlushTask) (work : FlushWork) (held : List SegNo) (made : NextSegments) (puts : ℕ) → held ≡ [] → IsFlushOf task work
     → IsNextOf g records segs work held made → length records ≤ puts → length made.records ≤ (if list_any is_put task.ops then puts + 1 else puts)

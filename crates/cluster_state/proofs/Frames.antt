@@ -164,10 +164,10 @@ module _ {D : Type 0} (cells : D → Cells) where
   each_moved size log now old mid new n x others fewers out put mine was m node =
       by_test (n == m) (λ b. (n == m) ≡ b → IsSomeAnd (place_of new m) (PlaceShows cells now m))
       (λ here q. subst (λ (o : Option (Place D)). IsSomeAnd o (PlaceShows cells now m)) (sym (put.there m ∙ ap (λ (b : Bool). if b then Some x else place_of mid m) here))
-          (subst (λ (k : ℕ). PlaceShows cells now k x) (eqb-true n m here) mine))
+      (subst (λ (k : ℕ). PlaceShows cells now k x) (eqb-true n m here) mine))
       (λ apart q. subst (λ (o : Option (Place D)). IsSomeAnd o (PlaceShows cells now m))
-          (sym ((put.there m ∙ ap (λ (b : Bool). if b then Some x else place_of mid m) apart) ∙ (put.taken m ∙ ap (λ (b : Bool). if b then None else place_of old m) apart)))
-          (some_then (place_of old m) (was m node) (λ y shows. place_same log now m y (others m apart) (fewers m apart) out shows)))
+      (sym ((put.there m ∙ ap (λ (b : Bool). if b then Some x else place_of mid m) apart) ∙ (put.taken m ∙ ap (λ (b : Bool). if b then None else place_of old m) apart)))
+      (some_then (place_of old m) (was m node) (λ y shows. place_same log now m y (others m apart) (fewers m apart) out shows)))
       refl
 
   pub shows_moved : (size : ℕ) (log now : Log) (old mid new : List (Option (Place D))) (n : ℕ) (x : Place D)

@@ -33,7 +33,7 @@ held_without [] key k = by_test (same_key key k) (λ b. held_at [] k ≡ (if b t
 held_without (r ∷ rows) key k =
     by_test (same_key r.key key)
     (λ b. same_key r.key key ≡ b → held_at (if not b then r ∷ filter (λ h. not (same_key h.key key)) rows else filter (λ h. not (same_key h.key key)) rows) k
-        ≡ (if same_key key k then None else if same_key r.key k then Some r.number else held_at rows k))
+    ≡ (if same_key key k then None else if same_key r.key k then Some r.number else held_at rows k))
     (λ here q. gone r rows (filter (λ h. not (same_key h.key key)) rows) key k here (held_without rows key k))
     (λ apart q. left r rows (filter (λ h. not (same_key h.key key)) rows) key k apart (held_without rows key k))
     refl

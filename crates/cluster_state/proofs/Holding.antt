@@ -106,7 +106,7 @@ module _ (past now : Past) (n number v : ℕ) (key : Key) (point : Point Shown) 
   each_more stands at was k m is =
       by_test (same_key key k) (λ b. same_key key k ≡ b → IsOpenOn now after m)
       (λ same q. let here : Some number ≡ Some m = sym (row_new k same) ∙ is in let eq : number ≡ m = cc in
-          subst (λ (j : ℕ). IsOpenOn now after j) eq (new_there (λ o. Stands now o.point.version.0 o.point.readers) (subst (λ (w : ℕ). Stands now w point.readers) (sym at.version) at.stands)))
+      subst (λ (j : ℕ). IsOpenOn now after j) eq (new_there (λ o. Stands now o.point.version.0 o.point.readers) (subst (λ (w : ℕ). Stands now w point.readers) (sym at.version) at.stands)))
       (λ apart q. old_there (λ o. Stands now o.point.version.0 o.point.readers) m (some_then (ticket_at m tickets) (was.each k m (sym (row_old k apart) ∙ is)) (λ o s. stands o.point.version.0 o.point.readers s)))
       refl
 
@@ -114,11 +114,11 @@ module _ (past now : Past) (n number v : ℕ) (key : Key) (point : Point Shown) 
   apart_more was a b m is is' =
       by_test (same_key key a) (λ t. same_key key a ≡ t → same_key a b ≡ true)
       (λ sa q. by_test (same_key key b) (λ t. same_key key b ≡ t → same_key a b ≡ true)
-          (λ sb r. subst (λ (k : Key). same_key k b ≡ true) (same_key_is key a sa) sb)
-          (λ ob r. absurd (other a b m is is' sa ob)) refl)
+      (λ sb r. subst (λ (k : Key). same_key k b ≡ true) (same_key_is key a sa) sb)
+      (λ ob r. absurd (other a b m is is' sa ob)) refl)
       (λ oa q. by_test (same_key key b) (λ t. same_key key b ≡ t → same_key a b ≡ true)
-          (λ sb r. absurd (other b a m is' is sb oa))
-          (λ ob r. was.apart a b m (sym (row_old a oa) ∙ is) (sym (row_old b ob) ∙ is')) refl)
+      (λ sb r. absurd (other b a m is' is sb oa))
+      (λ ob r. was.apart a b m (sym (row_old a oa) ∙ is) (sym (row_old b ob) ∙ is')) refl)
       refl
     where
       other : (k l : Key) (m : ℕ) → held_at rows k ≡ Some m → held_at rows l ≡ Some m → same_key key k ≡ true → same_key key l ≡ false → ⊥

@@ -136,7 +136,7 @@ module _ (size : ℕ) (log : Log) (at : At) (n : ℕ) (legal : IsLegalPast size 
   latest_same : (e : Event) → keeps_jobs e n ≡ true → highest_copy n (after e) ≤ highest_copy n (printed log)
   latest_same (Copying m w) keeps =
       let is : (if m.0 == n then max (highest_copy n (printed log)) w.0 else highest_copy n (printed log)) ≡ highest_copy n (printed log)
-          = ap (λ (b : Bool). if b then max (highest_copy n (printed log)) w.0 else highest_copy n (printed log)) (not_false (m.0 == n) keeps) in
+      = ap (λ (b : Bool). if b then max (highest_copy n (printed log)) w.0 else highest_copy n (printed log)) (not_false (m.0 == n) keeps) in
       omega (arith, is)
   latest_same e keeps = omega arith
 

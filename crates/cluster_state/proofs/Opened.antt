@@ -44,9 +44,9 @@ pub ticket_opened : (past : Past) (at : At) (n : NodeNo) (t : TicketNo) (v : Ver
 ticket_opened past at n t v lane u w some is =
     new_or_none (u == 0) (is_ticket at t.0 lane u) (while_alive (record { at = at; event = Opened n t v } ∷ past) (last_opened lane u (record { at = at; event = Opened n t v } ∷ past))) (while_alive past (last_opened lane u past)) n.0 v.0 w
     (λ got. new_ticket (is_ticket at t.0 lane u) past n.0 v.0 w (last_opened lane u past)
-        (subst (λ (o : Option Ticket). IsTicketOf n.0 w (while_alive past o))
-        (ap (λ (b : Bool). if b then last_opened lane u past else if is_ticket at t.0 lane u then Some (record { node = n.0; version = v.0; life = crashes n.0 past }) else last_opened lane u past) some)
-        (alive_less past (record { at = at; event = Opened n t v } ∷ past) (last_opened lane u (record { at = at; event = Opened n t v } ∷ past)) n.0 w refl got)))
+    (subst (λ (o : Option Ticket). IsTicketOf n.0 w (while_alive past o))
+    (ap (λ (b : Bool). if b then last_opened lane u past else if is_ticket at t.0 lane u then Some (record { node = n.0; version = v.0; life = crashes n.0 past }) else last_opened lane u past) some)
+    (alive_less past (record { at = at; event = Opened n t v } ∷ past) (last_opened lane u (record { at = at; event = Opened n t v } ∷ past)) n.0 w refl got)))
     is
 
 -- a line that has opened a ticket searches nothing
@@ -61,18 +61,24 @@ opened_line false past n t v m w before accepted old some is = is
 
 pub ticket_searched : (past : Past) (at : At) (n : NodeNo) (t : TicketNo) (v : Version) (a : At) (w : ℕ) → (t.0 == 0) ≡ false
     → IsSearching (record { at = at; event = Opened n t v } ∷ past) a n.0 w → IsNewOr (same_key (TicketKey at.lane t) (Search a)) v.0 w (IsSearching past a n.0 w)
-ticket_searched past at n t v a w some is = inr (refl, record {
-  line = opened_line (same_at at a) past n t v n.0 w (length past) (length (operations_of_generation past)) (open_line a past) some is.line;
-  survives = record { node = is.survives.node ∙ ap (λ (b : Bool). crashes n.0 (if b && same_at at a then past else before_start a past)) some };
-})
+ticket_searched past at n t v a w some is = inr (
+  refl,
+  record {
+    line = opened_line (same_at at a) past n t v n.0 w (length past) (length (operations_of_generation past)) (open_line a past) some is.line;
+    survives = record { node = is.survives.node ∙ ap (λ (b : Bool). crashes n.0 (if b && same_at at a then past else before_start a past)) some };
+  },
+)
 
 -- ---- a search
 
 pub search_ticket : (past : Past) (at : At) (n : NodeNo) (v : Version) (lane u w : ℕ) → IsTicketOf n.0 w (open_ticket lane u (record { at = at; event = Opened n (record { 0 = 0 }) v } ∷ past))
     → IsNewOr (same_key (Search at) (ticket_key lane u)) v.0 w (IsTicketOf n.0 w (open_ticket lane u past))
 search_ticket past at n v lane u w is =
-    inr (refl, by_number (u == 0) (while_alive (record { at = at; event = Opened n (record { 0 = 0 }) v } ∷ past) (last_opened lane u past)) (while_alive past (last_opened lane u past)) n.0 w
-    (λ got. alive_less past (record { at = at; event = Opened n (record { 0 = 0 }) v } ∷ past) (last_opened lane u past) n.0 w refl got) is)
+    inr (
+      refl,
+      by_number (u == 0) (while_alive (record { at = at; event = Opened n (record { 0 = 0 }) v } ∷ past) (last_opened lane u past)) (while_alive past (last_opened lane u past)) n.0 w
+          (λ got. alive_less past (record { at = at; event = Opened n (record { 0 = 0 }) v } ∷ past) (last_opened lane u past) n.0 w refl got) is,
+    )
 
 pub search_opened : (past : Past) (at : At) (n : NodeNo) (v : Version) (a : At) (w : ℕ) → IsSearching (record { at = at; event = Opened n (record { 0 = 0 }) v } ∷ past) a n.0 w
     → IsNewOr (same_key (Search at) (Search a)) v.0 w (IsSearching past a n.0 w)

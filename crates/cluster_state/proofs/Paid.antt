@@ -44,7 +44,7 @@ begins past at a is some none =
     let same : at ≡ a = cc in
     let here : same_at at a ≡ true = subst (λ (x : At). same_at at x ≡ true) same (same_at_self at) in
     let le : nat_le (length (operations_of_generation past)) (published_in_generation past) ≡ true =
-        sym (ap (λ (b : Bool). nat_le (length (operations_of_generation (if b then past else before_start a past))) (published_in_generation past)) here) ∙ none in
+    sym (ap (λ (b : Bool). nat_le (length (operations_of_generation (if b then past else before_start a past))) (published_in_generation past)) here) ∙ none in
     ⊎_elim (λ cut. absurd (omega (arith, cut, leb-true (length (operations_of_generation past)) (published_in_generation past) le, length-drop {A = Op} (published_in_generation past) (operations_of_generation past))))
     (λ paid. paid) some
 

@@ -56,32 +56,41 @@ module _ {D : Type 0} (cells : D → Cells) where
   -- ---- the primary's files
 
   primary_alone : (p : PrimaryParts D) → KeepsFiles cells (Primary p) (Primary p)
-  primary_alone p = (record {
-    stays = record { held = λ q old new. refl };
-    no_new = record { each = λ q is. is };
-    drawn = record { each = λ q is. is };
-    point = refl;
-    generation = refl;
-  }, refl)
+  primary_alone p = (
+    record {
+      stays = record { held = λ q old new. refl };
+      no_new = record { each = λ q is. is };
+      drawn = record { each = λ q is. is };
+      point = refl;
+      generation = refl;
+    },
+    refl,
+  )
 
   accepted_alone : (p : PrimaryParts D) (waiting : List Op) (accepted : ℕ) → KeepsFiles cells (Primary p) (Primary (record p { waiting = waiting; accepted = accepted }))
-  accepted_alone p waiting accepted = (record {
-    stays = record { held = λ q old new. refl };
-    no_new = record { each = λ q is. is };
-    drawn = record { each = λ q is. is };
-    point = refl;
-    generation = refl;
-  }, refl)
+  accepted_alone p waiting accepted = (
+    record {
+      stays = record { held = λ q old new. refl };
+      no_new = record { each = λ q is. is };
+      drawn = record { each = λ q is. is };
+      point = refl;
+      generation = refl;
+    },
+    refl,
+  )
 
   started_alone : (p q : PrimaryParts D) (seg : Option SegNo) → q ≡ record p { infos = infos_drawn (has_put p.waiting) p.infos; publish = noted seg p.waiting } → DrawsOnly p q → KeepsFiles cells (Primary p) (Primary q)
   started_alone p q seg is drawn = subst (λ (z : PrimaryParts D). DrawsOnly p z → KeepsFiles cells (Primary p) (Primary z)) (sym is)
-      (λ drawn. (record {
-        stays = record { held = λ n old new. refl };
-        no_new = record { each = λ n none. none };
-        drawn = drawn;
-        point = refl;
-        generation = drawn_generation (has_put p.waiting) p.infos;
-      }, refl)) drawn
+      (λ drawn. (
+        record {
+          stays = record { held = λ n old new. refl };
+          no_new = record { each = λ n none. none };
+          drawn = drawn;
+          point = refl;
+          generation = drawn_generation (has_put p.waiting) p.infos;
+        },
+        refl,
+      )) drawn
 
   published_fills : (p q : PrimaryParts D) (work : FlushWork) → IsPublished p work q → KeepsHeldBytes cells p q → FillsUndrawn p q → DrawsOnly p q → q.states ≡ p.states → FillsPrimaryFiles cells p q
   published_fills p q work published stays fresh drawn states = record {

@@ -158,8 +158,10 @@ module _ {D : Type 0} (cells : D → Cells) where
 
       -- there may be as many segments as there may be
       pub is_full_at : AreTooMany p.waiting p.infos p.segs → (cut_has_put (printed r.log) ≡ true) × (may_be_full (printed r.log) ≡ true)
-      is_full_at many = (sym (ap (λ (ops : List Op). has_put ops) primary_at.waiting) ∙ many.0,
-          is_full (printed r.log) (reads_of (cells p.dir)) p.infos.segs p.segs primary_at.whole.writer.stands.each primary_at.writer.live primary_at.writer.few primary_at.writer.documents many.2)
+      is_full_at many = (
+        sym (ap (λ (ops : List Op). has_put ops) primary_at.waiting) ∙ many.0,
+        is_full (printed r.log) (reads_of (cells p.dir)) p.infos.segs p.segs primary_at.whole.writer.stands.each primary_at.writer.live primary_at.writer.few primary_at.writer.documents many.2,
+      )
 
       -- the work is that of the publish in flight
       pub work_at : (at : At) (work : FlushWork) → IsLegalPast b.nodes (printed b.log) → AreInTurn (printed b.log) → publish_in_flight (printed r.log) ≡ Some at → IsFlushed at r.log work → IsWorkOf p work
@@ -236,7 +238,7 @@ module _ {D : Type 0} (cells : D → Cells) where
       moved_at cells r ended b0 b1 b2 old mid new at (Accepted seq op) n.0 (record { node = Primary q; held = held }) x view running shows e1 n1 e2 n2 legal turns keeps
       (λ m apart here. line) (λ m apart. others_apart (primary_of (printed r.log)) n m primary apart) (λ m apart. refl) put node there
       (λ all order was. accepted_place cells r.nodes r.log at seq op n.0 p q held all order keeps line
-          (subst (λ (o : Op). q ≡ record p { waiting = p.waiting ++ o ∷ []; accepted = p.accepted + 1 }) same next) whole (subst (PlaceShows cells r.log n.0) is was))
+      (subst (λ (o : Op). q ≡ record p { waiting = p.waiting ++ o ∷ []; accepted = p.accepted + 1 }) same next) whole (subst (PlaceShows cells r.log n.0) is was))
 
   pub start_path : (r : Run) (ended : Bool) (b0 b1 b2 b3 : Pages) (old mid new : List (Option (Place D))) (at : At) (n : NodeNo) (seg : Option SegNo) (segs : List Shown) (x : Place D) (p q : PrimaryParts D) (held : Vec Held Global)
       → record { ended = ended; nodes = b0.nodes; log = b0.log } ≡ r → r.ended ≡ false → (ended ≡ false → Shows cells b0.log b0.nodes old)

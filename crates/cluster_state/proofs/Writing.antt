@@ -92,7 +92,7 @@ module _ {D : Type 0} (cells : D → Cells) where
       let point = stands_more size (printed log) (record { at = at; event = Publishing }) (version_of n (printed log)) p.searchers.point.readers (keeps, legal) was.point.stands in
       let newest = stands_more size (printed log) (record { at = at; event = Publishing }) (newest_version (printed log)) p.segs (keeps, legal) (record { known = omega arith; documents = was.writer.documents }) in
       let writer = drawn_writes (has_put p.waiting) (printed log) (printed (shown at Publishing ∷ log)) p.infos p.segs newest.documents refl refl
-          (ap (λ (ops : List Op). if list_any is_put ops then names_drawn (printed log) + 1 else names_drawn (printed log)) (sym was.waiting)) refl was.writer in
+      (ap (λ (ops : List Op). if list_any is_put ops then names_drawn (printed log) + 1 else names_drawn (printed log)) (sym was.waiting)) refl was.writer in
       record {
         running = was.running;
         primary = was.primary;
@@ -127,8 +127,8 @@ module _ {D : Type 0} (cells : D → Cells) where
   published_docs past at newest f =
       sym (after_ops-append [] (operations_at past (newest_version past)) (take (accepted_at_start at past - published_in_generation past) (cut_of past)))
       ∙ ap documents_after (ap (λ (ops : List Op). ops ++ take (accepted_at_start at past - published_in_generation past) (cut_of past)) newest
-          ∙ (append_assoc (operations_before_generation past) (take (published_in_generation past) (operations_of_generation past)) (take (accepted_at_start at past - published_in_generation past) (cut_of past))
-          ∙ (ap (λ (ops : List Op). operations_before_generation past ++ ops) (take_on (published_in_generation past) (accepted_at_start at past) (operations_of_generation past) f.low) ∙ sym f.found)))
+      ∙ (append_assoc (operations_before_generation past) (take (published_in_generation past) (operations_of_generation past)) (take (accepted_at_start at past - published_in_generation past) (cut_of past))
+      ∙ (ap (λ (ops : List Op). operations_before_generation past ++ ops) (take_on (published_in_generation past) (accepted_at_start at past) (operations_of_generation past) f.low) ∙ sym f.found)))
 
   -- what the publish in flight takes of what waits, and what it leaves
   flight_cut : (log : Log) (at : At) (x : Option Publish) (segs : List Shown) (w : List Op) → IsSomeAnd x (λ f. IsFlying log at f segs)

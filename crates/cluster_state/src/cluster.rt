@@ -3,8 +3,8 @@
 use crate::nodes::Place;
 use disk_model::FaultDir;
 use history_book::Book;
-use nrt_base::{At, NoMemory, NodeNo};
 use history_entries::Event;
+use nrt_base::{At, NoMemory, NodeNo};
 use std::marker::Model;
 
 /// All nodes of a cluster and what happened in it. A call that finds no memory ends it: no other has a condition to rest on.

@@ -1,6 +1,6 @@
 //! The tickets of a node that are held, and for what.
 
-ghost use Rattle.std.specs.Prelude.{ℕ, ◌≡◌, None, Some, OnOk, not, if◌then◌else◌};
+ghost use Rattle.std.specs.Prelude.{◌≡◌, None, Some, OnOk, not, if◌then◌else◌};
 ghost use Rattle.std.specs.List.{filter};
 ghost use Rattle.cluster_state.specs.Held.{same_key, held_at};
 

@@ -116,7 +116,11 @@ impl<D: FaultDir + Drop> ClusterState<D> {
     {
         self.book.is_fresh(at);
         self.book.is_legal();
-        let Opening { node: n, version: v, .. } = opening;
+        let Opening {
+            node: n,
+            version: v,
+            ..
+        } = opening;
         let key = Key::Ticket { lane: at.lane, t };
         self.ended = true;
         self.book.reserve(1)?;

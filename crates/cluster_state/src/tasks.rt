@@ -1,8 +1,8 @@
 //! What copies and settles hand out.
 
+use bytes::Bytes;
 use copy_state::FileMetaData;
 use file_names::FileName;
-use bytes::Bytes;
 use nrt_base::{LineNo, NodeNo, Version};
 
 /// A job that copies a point to a node.

@@ -1,9 +1,9 @@
 //! Tickets of nodes: opened, closed, and what a search reads under one.
 
-ghost use Rattle.std.specs.Prelude.{ℕ, ◌≡◌, ◌∷◌, ◌++◌, [], None, Some, true, false, is_some, IsSome, IfSome, IsSomeAnd, IfOk, OnOk, OnErr, if◌then◌else◌};
+ghost use Rattle.std.specs.Prelude.{◌≡◌, None, Some, true, is_some, IsSome, IfSome, IfOk, OnOk};
 ghost use Rattle.searcher_switch.specs.Tickets.{ticket_at, tickets_without};
 ghost use Rattle.searcher_switch.specs.Searching.{IsLeaseOf};
-ghost use Rattle.cluster_state.specs.Held.{same_key, held_at};
+ghost use Rattle.cluster_state.specs.Held.{held_at};
 ghost use Rattle.cluster_state.specs.Places.{place_of, IsSlot, searchers_of, tickets_of};
 ghost use Rattle.cluster_state.specs.FileChanges.{KeepsFiles};
 ghost use Rattle.cluster_state.specs.Changes.{KeepsNode, OpensTicket, HoldsMore, HoldsLess, HoldsTicket, IsLeaseUnder};

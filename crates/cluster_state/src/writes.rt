@@ -36,7 +36,7 @@ fn is_for_segments(fault: PublishFault) -> Result<(), NoMemory>
 }
 
 impl<D: FaultDir + Drop> ClusterState<D> {
-    ghost use Rattle.std.specs.Prelude.{ℕ, ◌≡◌, ◌≢◌, ◌≤◌, ◌<◌, ◌+◌, ◌∷◌, [], false, true, None, Some, OnOk, OnErr, IfOk, length};
+    ghost use Rattle.std.specs.Prelude.{◌≡◌, ◌≢◌, ◌<◌, ◌+◌, ◌∷◌, [], false, true, None, Some, OnOk, OnErr, IfOk, length};
     ghost use Rattle.nrt_base.specs.SegNumbers.{segments_of_generation};
     ghost use Rattle.history_entries.specs.Nodes.{IsNode, primary_of, newest_version, generation_of, accepted_count};
     ghost use Rattle.history_entries.specs.Lines.{entries_of_line, publish_in_flight};
@@ -47,13 +47,7 @@ impl<D: FaultDir + Drop> ClusterState<D> {
 
     /// The primary accepts an operation, whose number is one above that of the last that was accepted. `Err` is want of memory,
     /// or of a number below 2^32: the cluster has ended, and the history is as before.
-    pub fn accept_at(
-        &mut self,
-        alloc: Global,
-        at: At,
-        p: NodeNo,
-        op: Op,
-    ) -> Result<(), NoMemory>
+    pub fn accept_at(&mut self, alloc: Global, at: At, p: NodeNo, op: Op) -> Result<(), NoMemory>
         requires running { self.old.ended ≡ false }
         requires fresh { entries_of_line at (printed self.old.log) ≡ [] }
         requires node { IsNode self.old.nodes p.0 }
@@ -122,7 +116,11 @@ impl<D: FaultDir + Drop> ClusterState<D> {
             return Err(AllocError);
         };
         self.book.show(at, Event::Publishing);
-        self.book.keep(Inner::FlushOut { at, seg: task.seg, segs });
+        self.book.keep(Inner::FlushOut {
+            at,
+            seg: task.seg,
+            segs,
+        });
         self.ended = false;
         Ok(Some(task))
     }

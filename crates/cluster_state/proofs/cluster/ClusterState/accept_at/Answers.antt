@@ -22,19 +22,21 @@ show-requires-clause-rule g c = rule_at c.args.self.now _ c.self.inside.book c.r
     (may_accept c.args.self.now _ c.self.inside.book c.args.at c.args.p c.in-Some.seq c.args.op c.self.view_is c.is_fresh.ensures c.requires.primary (c.in-Some.ensures.0 ∙ ap (λ (k : ℕ). k + 1) c.accepted.ensures))
 
 pub invariant_of-self-2 : goal.invariant_of-self-2
-invariant_of-self-2 g c = λ running. (accept_path g.D.Dir.cells c.args.self.now _ c.self.inside.book c.reserve.new.self c.show.new.self _ c.take.new.places.items _ c.args.at c.args.p c.in-Some.seq c.args.op c.in_ok-copy.copy
-    c.take.result c.primary_in-primary.result.0 c.accept-place.new.self c.primary_in-primary.result.1
-    c.self.view_is c.requires.running (λ e. (c.self.invariant e).0) c.in_ok-reserve.ensures.log c.in_ok-reserve.ensures.nodes c.show.ensures.log c.show.ensures.nodes c.show.ensures.legal c.show.ensures.turns
-    c.is_fresh.ensures
-    (may_accept c.args.self.now _ c.self.inside.book c.args.at c.args.p c.in-Some.seq c.args.op c.self.view_is c.is_fresh.ensures c.requires.primary (c.in-Some.ensures.0 ∙ ap (λ (k : ℕ). k + 1) c.accepted.ensures))
-    c.requires.node c.requires.primary
-    (record { count = c.take.ensures.count; taken = c.take.ensures.places; again = c.put.ensures.count; there = c.put.ensures.places })
-    c.take.ensures.place c.primary_in-primary.ensures
-    c.in_ok-copy.ensures c.in_ok-place.ensures.waits c.accept-place.ensures.whole,
-    accept_files g.D.Dir.cells c.args.self.now _ c.self.inside.book c.reserve.new.self _ c.take.new.places.items _ c.args.p c.take.result c.primary_in-primary.result.0 c.accept-place.new.self c.primary_in-primary.result.1
-    c.self.view_is c.requires.running (λ e. (c.self.invariant e).0) (λ e. (c.self.invariant e).1) c.in_ok-reserve.ensures.log c.in_ok-reserve.ensures.nodes c.requires.node
-    (record { count = c.take.ensures.count; taken = c.take.ensures.places; again = c.put.ensures.count; there = c.put.ensures.places })
-    c.take.ensures.place c.primary_in-primary.ensures
-    c.show.new.self c.args.at c.show.ensures.legal c.show.ensures.turns c.in-Some.seq c.args.op c.in_ok-copy.copy c.show.ensures.log c.show.ensures.nodes c.is_fresh.ensures
-    (may_accept c.args.self.now _ c.self.inside.book c.args.at c.args.p c.in-Some.seq c.args.op c.self.view_is c.is_fresh.ensures c.requires.primary (c.in-Some.ensures.0 ∙ ap (λ (k : ℕ). k + 1) c.accepted.ensures))
-    c.in_ok-place.ensures.waits)
+invariant_of-self-2 g c = λ running. (
+  accept_path g.D.Dir.cells c.args.self.now _ c.self.inside.book c.reserve.new.self c.show.new.self _ c.take.new.places.items _ c.args.at c.args.p c.in-Some.seq c.args.op c.in_ok-copy.copy
+      c.take.result c.primary_in-primary.result.0 c.accept-place.new.self c.primary_in-primary.result.1
+      c.self.view_is c.requires.running (λ e. (c.self.invariant e).0) c.in_ok-reserve.ensures.log c.in_ok-reserve.ensures.nodes c.show.ensures.log c.show.ensures.nodes c.show.ensures.legal c.show.ensures.turns
+      c.is_fresh.ensures
+      (may_accept c.args.self.now _ c.self.inside.book c.args.at c.args.p c.in-Some.seq c.args.op c.self.view_is c.is_fresh.ensures c.requires.primary (c.in-Some.ensures.0 ∙ ap (λ (k : ℕ). k + 1) c.accepted.ensures))
+      c.requires.node c.requires.primary
+      (record { count = c.take.ensures.count; taken = c.take.ensures.places; again = c.put.ensures.count; there = c.put.ensures.places })
+      c.take.ensures.place c.primary_in-primary.ensures
+      c.in_ok-copy.ensures c.in_ok-place.ensures.waits c.accept-place.ensures.whole,
+  accept_files g.D.Dir.cells c.args.self.now _ c.self.inside.book c.reserve.new.self _ c.take.new.places.items _ c.args.p c.take.result c.primary_in-primary.result.0 c.accept-place.new.self c.primary_in-primary.result.1
+      c.self.view_is c.requires.running (λ e. (c.self.invariant e).0) (λ e. (c.self.invariant e).1) c.in_ok-reserve.ensures.log c.in_ok-reserve.ensures.nodes c.requires.node
+      (record { count = c.take.ensures.count; taken = c.take.ensures.places; again = c.put.ensures.count; there = c.put.ensures.places })
+      c.take.ensures.place c.primary_in-primary.ensures
+      c.show.new.self c.args.at c.show.ensures.legal c.show.ensures.turns c.in-Some.seq c.args.op c.in_ok-copy.copy c.show.ensures.log c.show.ensures.nodes c.is_fresh.ensures
+      (may_accept c.args.self.now _ c.self.inside.book c.args.at c.args.p c.in-Some.seq c.args.op c.self.view_is c.is_fresh.ensures c.requires.primary (c.in-Some.ensures.0 ∙ ap (λ (k : ℕ). k + 1) c.accepted.ensures))
+      c.in_ok-place.ensures.waits,
+)
