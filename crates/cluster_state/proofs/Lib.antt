@@ -34,3 +34,4 @@ pub mod Beginning
 pub mod Settling
 pub mod JobEnds
 pub mod FirstPlaces
+pub mod JobLaw
