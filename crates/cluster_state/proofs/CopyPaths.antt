@@ -215,6 +215,18 @@ module _ {D : Type 0} (cells : D → Cells) where
       let now : newest ≡ newest_version (printed r.log) = is ∙ ap (λ (l : Log). newest_version (printed l)) same_log in
       can_begin_of r.log r.nodes places p n (was cells r ended size log places view running (λ e. (pair e).0)) (files_was cells r ended size log places view running (λ e. (pair e).1)) node_p node_n primary replica behind (omega (arith, now, bound))
 
+  pub can_begin_settling : (r : Run) (ended : Bool) (size : ℕ) (log : Log) (places : List (Option (Place D))) (at : At) (p n : NodeNo) (w : Version) (newest : ℕ) → record { ended = ended; nodes = size; log = log } ≡ r → r.ended ≡ false
+      → (ended ≡ false → Shows cells log size places × FilesShow cells log size places) → IsLegalPast size (printed log) → start_entry at (printed r.log) ≡ Some (Settling w) → WaitsFor r.nodes (printed r.log) at w.0 n → IsNode r.nodes p.0
+      → primary_of (printed r.log) ≡ Some p → newest ≡ newest_version (printed log) → newest < 2 ^ 62 → CanBegin p.0 n.0 places
+  can_begin_settling r ended size log places at p n w newest view running pair legal started waits node_p primary is bound =
+      let same_log : log ≡ r.log = ap (λ (x : Run). x.log) view in
+      let same_size : size ≡ r.nodes = ap (λ (x : Run). x.nodes) view in
+      let all : IsLegalPast r.nodes (printed r.log) = subst (λ (x : Log × ℕ). IsLegalPast x.1 (printed x.0)) (λ i. (same_log i, same_size i)) legal in
+      let noted : w.0 ≡ newest_version (before_start at (printed r.log)) = (start_kept r.nodes at (printed r.log) (Settling w) all started).newest in
+      let late = newest_before at (printed r.log) in
+      let low = waits.behind in
+      can_begin r ended size log places p n newest view running pair node_p waits.node primary waits.replica (omega (arith, noted, late, low)) is bound
+
   -- the rule of a copy's start
   pub may_copy : (r : Run) (ended : Bool) (size : ℕ) (log : Log) (places : List (Option (Place D))) (at : At) (p n : NodeNo) (v : Version) → record { ended = ended; nodes = size; log = log } ≡ r → r.ended ≡ false
       → (ended ≡ false → Shows cells log size places × FilesShow cells log size places) → IsNode r.nodes n.0 → primary_of (printed r.log) ≡ Some p → IsReplica (printed r.log) n.0
@@ -304,3 +316,52 @@ module _ {D : Type 0} (cells : D → Cells) where
     where
       begun : Some (Settling w) ≡ None → ⊥
       begun is = absurd (cc)
+
+-- ---- turns
+
+-- the job of a copy begins in its turn
+pub copy_turn : (r : Run) (b0 b1 b2 : Pages) (at : At) (n : NodeNo) (v : Version) → b1.log ≡ r.log → b1.nodes ≡ r.nodes → b2.log ≡ shown at (Copying n v) ∷ b1.log → b2.nodes ≡ b1.nodes
+    → IsNode r.nodes n.0 → v.0 ≡ newest_version (printed r.log) → IsOlder (newest_version (printed r.log)) (job_at n.0 r.log) → MayBeginJob b2.nodes b2.log at n.0 v.0
+copy_turn r b0 b1 b2 at n v log size e2 n2 node newest older =
+    subst (λ (x : Log × ℕ). MayBeginJob x.1 x.0 at n.0 v.0) (λ i. (sym (e2 ∙ ap (λ (l : Log). shown at (Copying n v) ∷ l) log) i, sym (n2 ∙ size) i)) (record {
+      node = node;
+      is_open = copy_open (printed r.log) at n v;
+      started = subst (λ (o : Option Event). StartsJob (before_start at mid) n.0 v.0 o) (sym (copy_entry (printed r.log) at n v)) (refl, refl);
+      newest = newest;
+      survives = record { node = ap (crashes n.0) (sym (copy_before (printed r.log) at n v)) };
+      source = record { source = ap primary_crashes (sym (copy_before (printed r.log) at n v)) };
+      older = subst (IsOlder v.0) (sym (copy_job (printed r.log) at n v (last_job false n.0 r.log))) (subst (λ (w : ℕ). IsOlder w (job_at n.0 r.log)) (sym newest) older);
+    })
+  where
+    mid : Past
+    mid = record { at = at; event = Copying n v } ∷ printed r.log
+
+-- that of a settle
+pub settle_turn : (r : Run) (b : Pages) (at : At) (n : NodeNo) (v w : Version) → b.log ≡ r.log → b.nodes ≡ r.nodes → open_line at (printed r.log) ≢ None → start_entry at (printed r.log) ≡ Some (Settling w) → SourceSurvives (printed r.log) at
+    → WaitsFor r.nodes (printed r.log) at w.0 n → v.0 ≡ newest_version (printed r.log) → IsOlder (newest_version (printed r.log)) (job_at n.0 r.log) → MayBeginJob b.nodes b.log at n.0 v.0
+settle_turn r b at n v w log size is_open started source waits newest older =
+    subst (λ (x : Log × ℕ). MayBeginJob x.1 x.0 at n.0 v.0) (λ i. (sym log i, sym size i)) (record {
+      node = waits.node;
+      is_open = is_open;
+      started = subst (λ (o : Option Event). StartsJob (before_start at (printed r.log)) n.0 v.0 o) (sym started) waits.was;
+      newest = newest;
+      survives = waits.survives;
+      source = source;
+      older = subst (λ (k : ℕ). IsOlder k (job_at n.0 r.log)) (sym newest) older;
+    })
+
+-- ---- answers
+
+pub copy_begun : (r now : Run) (at : At) (n : NodeNo) (v : Version) (number : ℕ) → now.ended ≡ false → now.nodes ≡ r.nodes → IsNode r.nodes n.0 → v ≡ newest_of (printed r.log)
+    → now.log ≡ kept (JobBegun at.line n number (Some v) (Some at)) ∷ shown at (Copying n v) ∷ r.log
+    → BeginsJob at n r now (shown at (Copying n (newest_of (printed r.log))) ∷ r.log) (record { node = n; job = number; line = at.line })
+copy_begun r now at n v number running size node newest log =
+    let w : Version = newest_of (printed r.log) in
+    begins_copying r now (shown at (Copying n w) ∷ r.log) at n number running size (log ∙ ap (λ (x : Version). kept (JobBegun at.line n number (Some x) (Some at)) ∷ shown at (Copying n x) ∷ r.log) newest)
+    (copy_open (printed r.log) at n w) (let none = copy_switched (printed r.log) at n w in let some = node.0 in omega (arith, none, some))
+    (record { node = ap (crashes n.0) (sym (copy_before (printed r.log) at n w)) }) (record { source = ap primary_crashes (sym (copy_before (printed r.log) at n w)) })
+
+pub settle_job_begun : (r now : Run) (at : At) (n : NodeNo) (v w : Version) (number : ℕ) → now.ended ≡ false → now.nodes ≡ r.nodes → v ≡ newest_of (printed r.log) → now.log ≡ kept (JobBegun at.line n number (Some v) (Some at)) ∷ r.log
+    → open_line at (printed r.log) ≢ None → WaitsFor r.nodes (printed r.log) at w.0 n → SourceSurvives (printed r.log) at → BeginsJob at n r now r.log (record { node = n; job = number; line = at.line })
+settle_job_begun r now at n v w number running size newest log is_open waits source =
+    begins_copying r now r.log at n number running size (log ∙ ap (λ (x : Version). kept (JobBegun at.line n number (Some x) (Some at)) ∷ r.log) newest) is_open waits.ordered waits.survives source
