@@ -36,3 +36,4 @@ pub mod PartPaths
 pub mod Settling
 pub mod JobEnds
 pub mod FirstPlaces
+pub mod JobLaw
