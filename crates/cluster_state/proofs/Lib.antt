@@ -33,6 +33,7 @@ pub mod Taking
 pub mod JobMoves
 pub mod Beginning
 pub mod CopyPaths
+pub mod PartPaths
 pub mod Settling
 pub mod JobEnds
 pub mod FirstPlaces
