@@ -51,13 +51,12 @@ job_stays at m v n log = found (last_job false n log)
 
 -- and no copy to it is in flight
 none_flies : (at : At) (n : NodeNo) (v : Version) (log : Log) → v.0 ≡ newest_version (printed log) → copy_in_flight n.0 (newest_version (printed (copied_log at n v log))) (printed (copied_log at n v log)) ≡ None
-none_flies at n v log newest = tests (n.0 == n.0) (v.0 == newest_version (printed log)) (same_at at at) (eq-eqb n.0 n.0 refl) (eq-eqb v.0 (newest_version (printed log)) newest) (same_at_self at)
+none_flies at n v log newest = tests (n.0 == n.0) (v.0 == newest_version (printed log)) (eq-eqb n.0 n.0 refl) (eq-eqb v.0 (newest_version (printed log)) newest)
   where
-    tests : (b c s : Bool) → b ≡ true → c ≡ true → same_at at at ≡ s → s ≡ true → without_at at (if b && c then Some at else copy_in_flight n.0 (newest_version (printed log)) (printed log)) ≡ None
-    tests true true true one two same three = ap (λ (t : Bool). if t then None else Some at) same
-    tests true true false one two same three = absurd (true≢false (sym three))
-    tests true false s one two same three = absurd (true≢false (sym two))
-    tests false c s one two same three = absurd (true≢false (sym one))
+    tests : (b c : Bool) → b ≡ true → c ≡ true → without_at at (if b && c then Some at else copy_in_flight n.0 (newest_version (printed log)) (printed log)) ≡ None
+    tests true true one two = ap (λ (t : Bool). if t then None else Some at) (same_at_self at)
+    tests true false one two = absurd (true≢false (sym two))
+    tests false c one two = absurd (true≢false (sym one))
 
 -- ---- rules
 

@@ -7,8 +7,8 @@ show-requires-clause-rule g c =
     c.self.view_is c.requires.running (λ e. (c.self.invariant e).0) (λ e. (c.self.invariant e).1) c.in_ok-reserve.ensures.log c.in_ok-reserve.ensures.nodes c.is_fresh.ensures
     c.requires.node c.requires.replica c.requires.source c.requires.reached c.newest.ensures
 
-pub show-2-requires-clause-rule : goal.show-2-requires-clause-rule
-show-2-requires-clause-rule g c =
+pub show-requires-2-clause-rule : goal.show-requires-2-clause-rule
+show-requires-2-clause-rule g c =
     copied_rule g.D.Dir.cells c.args.self.now _ c.self.inside.book c.reserve.new.self c.self.inside.places.items c.args.at c.args.n (record { 0 = c.newest.result })
     c.self.view_is c.requires.running (λ e. (c.self.invariant e).0) (λ e. (c.self.invariant e).1) c.in_ok-reserve.ensures.log c.in_ok-reserve.ensures.nodes c.is_fresh.ensures
     c.requires.node c.requires.replica c.requires.source c.requires.reached c.newest.ensures c.show.new.self c.show.ensures.log c.show.ensures.nodes
