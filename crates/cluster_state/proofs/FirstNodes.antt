@@ -1,6 +1,6 @@
 -- The nodes of a cluster that has just started.
 use Rattle.std.proofs.Common.{◌≡◌, ◌≢◌, ◌≤◌, ◌<◌, ◌+◌, ◌++◌, ◌^◌, ◌==◌, inl, inr, ℕ, suc, zero, Bool, true, false, List, [], ◌∷◌, Some, None, Option, Vec, Global, length, length-append, refl, ap, ◌∙◌, sym, subst, arith, rules, if◌then◌else◌}
-use Rattle.std.specs.Prelude.{IsSomeAnd, IfSome, Contains}
+use Rattle.std.specs.Prelude.{IsSomeAnd, IfSome, Contains, Result, Ok, Err, IfOk}
 use Rattle.std.specs.List.{slice_get, flat_map}
 use Rattle.std.proofs.lemmas.Bool.Decides.{nat_tests, eqb_tells}
 use Rattle.std.proofs.lemmas.List.Elements.{All-nil}
@@ -35,7 +35,7 @@ use Rattle.replica_opening.specs.Opened.{IsSettledAt, IsSettledOn}
 use Rattle.replica_node.specs.declared.parts.Parts.{Parts as ReplicaParts}
 use Rattle.replica_node.specs.declared.taking.NodeParts.{NodeParts}
 use Rattle.replica_node.specs.Replica.{IsWholeReplica}
-use Rattle.replica_node.specs.Sources.{IsTakenApart}
+use Rattle.replica_node.specs.Sources.{HeldReadAs, IsSourced, IsTakenApart}
 use Rattle.replica_node.specs.Starting.{IsJustOpened, SearchesJust}
 use Rattle.index_primary.specs.declared.parts.Parts.{Parts as PrimaryParts}
 use Rattle.index_primary.specs.Primary.{IsPrimary}
@@ -43,10 +43,19 @@ use Rattle.index_primary.specs.Held.{IsHeld, AreUndrawn, AreNumbered}
 use Rattle.index_primary.specs.Calls.{IsOpenedOn}
 use Rattle.index_primary.proofs.Callers.{empty_numbered}
 use Rattle.cluster_state.specs.declared.held.Held.{Held}
-use Rattle.cluster_state.specs.declared.nodes.Node.TheVariants.{Primary, Replica}
+use Rattle.cluster_state.specs.declared.nodes.Node.TheVariants.{Primary, Replica, Down}
 use Rattle.cluster_state.specs.declared.nodes.Place.{Place}
 use Rattle.cluster_state.specs.Places.{place_of, unwrapped}
-use Rattle.cluster_state.specs.Starting.{IsEmptyDir, IsOpening}
+use Rattle.cluster_state.specs.Starting.{IsEmptyDir, IsOpening, OpensPlace}
+use Rattle.cluster_state.specs.Files.{JobShows, reached_version, PrimaryFiles, ReplicaFiles, NodeFiles, FilesShow}
+use Rattle.cluster_state.specs.Outs.{want_of, one_like, want_at, jobs_like}
+use Rattle.index_primary.specs.declared.states.Out.{Out}
+use Rattle.index_primary.specs.Primary.{primary_names}
+use Rattle.index_primary.specs.States.{state_names, merge_names}
+use Rattle.file_deleter.specs.Holdings.{count_of}
+use Rattle.nrt_base.specs.declared.numbers.At.{At}
+use Rattle.replica_node.specs.declared.job.PointJob.{PointJob}
+use Rattle.cluster_state.specs.declared.nodes.Node.{Node}
 use Rattle.cluster_state.specs.State.{Stands, IsPointAt, WritesAt, HoldsTickets, PrimaryShows, ReplicaShows, PlaceShows, Shows}
 
 -- an empty directory shows no commit
@@ -120,8 +129,9 @@ module _ {D : Type 0} (cells : D → Cells) where
   -- ---- a replica on an empty directory
 
   pub is_opening : (dir : Cells) (r : ReplicaParts D) → IsEmptyDir dir → IsWholeReplica cells r → FindsPoint (reads_of dir) (number_of_last r.commits.last) r.infos
-      → ((docs : List Doc) → StandsFor (reads_of dir) r.infos docs → SearchesJust cells docs r) → IsJustOpened r → IsOpening cells r
-  is_opening dir r empty whole finds searches opened =
+      → ((docs : List Doc) → StandsFor (reads_of dir) r.infos docs → SearchesJust cells docs r)
+      → ((source : Name → Content) → ((q : Name) → Contains (flat_map files_of_segment r.infos.segs) q → (dir q).now ≡ source q) → IsSourced source cells r) → IsJustOpened r → IsOpening cells r
+  is_opening dir r empty whole finds searches sourced opened =
       let found = finds_opening dir r.commits.last r.infos empty finds in
       let just = searches [] (opening_stands (reads_of dir) r.infos found.1) in
       record {
@@ -133,6 +143,9 @@ module _ {D : Type 0} (cells : D → Cells) where
         tickets = opened.tickets;
         commits = record { last = found.0; stage = opened.stage };
         seen = opened.seen;
+        sourced = sourced (λ q. None) (λ q named. empty.now q);
+        job = opened.job;
+        jobs = opened.jobs;
       }
 
   opening_point : (r : ReplicaParts D) → IsOpening cells r → IsPointAt [] 1 r.searchers.point
@@ -206,31 +219,120 @@ module _ {D : Type 0} (cells : D → Cells) where
         segs_are : p.segs ≡ r.searchers.point.readers
         segs_are = same.segs ∙ is.whole.segs
 
+    -- it holds no file
+    pub first_files : (q : PrimaryParts D) → IsPrimary cells q → IsOpenedOn p.dir p.searchers p.commits p.infos p.segs q → PrimaryFiles (λ name. None) cells (λ s. 0) q
+    first_files q whole opened = record {
+      held = record { each = λ name lasting some. absurd (none_some (count_of q.files name) (uncounted name) some) };
+      unwritten = λ name undrawn. refl;
+      generation = ap (λ (i : Infos). i.generation) (opened.point_infos ∙ sym opened.infos_are);
+      outs = λ s. omega arith;
+    }
+      where
+        none_some : (k : ℕ) → k ≡ 0 → 0 < k → ⊥
+        none_some k none some = omega (arith, none, some)
+
+        no_point : searcher_names q.searchers ≡ []
+        no_point = nothing_named q.searchers (no_names q.point_infos q.searchers.point.names (opened.point_infos ∙ infos_are) whole.searched.files)
+            (opened.tickets ∙ (ap (λ (s : Searchers Shown). s.tickets) same.searchers ∙ is.tickets))
+
+        no_writer : q.names ≡ []
+        no_writer = no_names q.infos q.names (opened.infos_are ∙ infos_are) whole.writer.files
+
+        no_rest : primary_names q ≡ []
+        no_rest = λ i. no_point i ++ (no_writer i ++ (state_names (opened.states i) ++ merge_names (opened.merges i)))
+
+        no_book : book_names q.commits ≡ []
+        no_book = nothing_booked q.commits (ap (λ (b : CommitBook). b.last) (opened.commits_are ∙ same.commits) ∙ is.commits.last)
+            (ap (λ (b : CommitBook). b.stage) (opened.commits_are ∙ same.commits) ∙ is.commits.stage)
+
+        uncounted : (name : Name) → count_of q.files name ≡ 0
+        uncounted name = whole.node.counts name ∙ λ i. times (no_rest i) name + times (no_book i) name
+
+    pub files_done : {E : Type 0} (result : Result (PrimaryParts D) E) → IfOk result (IsPrimary cells) → IfOk result (IsOpenedOn p.dir p.searchers p.commits p.infos p.segs)
+        → IfOk result (PrimaryFiles (λ name. None) cells (λ s. 0))
+    files_done (Ok q) whole opened = first_files q whole opened
+    files_done (Err e) whole opened = tt
+
+  -- a replica of the opening has files as at a source where nothing stands, and no job
+  pub replica_files : (n : ℕ) (r : ReplicaParts D) → IsOpening cells r → ReplicaFiles (λ q. None) cells [] n r
+  replica_files n r is = record {
+    sourced = is.sourced;
+    job = subst (λ (o : Option PointJob). JobShows (λ q. None) [] n None o) (sym is.job) tt;
+    few = few (opening_point r is).version is.jobs (ap (λ (o : Option PointJob). reached_version o r) is.job);
+    flight = λ at flies. absurd (none_at at flies);
+  }
+    where
+      few : {v j w : ℕ} → v ≡ 1 → j ≡ 0 → w ≡ v → j < w
+      few v j w = omega (arith, v, j, w)
+
+      none_at : (at : At) → ◌≡◌ {A = Option At} None (Some at) → ⊥
+      none_at at same = absurd (cc)
+
   pub first_place : (p : PrimaryParts D) (held : Vec Held Global) → held.items ≡ [] → PrimaryShows cells [] 1 p → PlaceShows cells [] 1 (record { node = Primary p; held = held })
   first_place p held none shows = record {
     node_shows = shows;
     tickets = subst (λ (rows : List Held). HoldsTickets [] 1 p.searchers.tickets rows) (sym none) (nothing_held 1 p.searchers.tickets);
   }
 
+  pub opens_primary : (n : ℕ) (p : PrimaryParts D) (held : Vec Held Global) (x : Node D) → n ≡ 1 → x ≡ Primary p → held.items ≡ [] → PrimaryShows cells [] 1 p → PrimaryFiles (λ q. None) cells (λ s. 0) p
+      → OpensPlace cells n (record { node = x; held = held })
+  opens_primary n p held x one is none shows files =
+      subst (λ (y : ℕ × Node D). OpensPlace cells y.0 (record { node = y.1; held = held })) (λ i. (sym one i, sym is i)) (record { shows = first_place p held none shows; files = files; idle = refl })
+
+  pub opens_replica : (n : ℕ) (r : ReplicaParts D) (held : Vec Held Global) (x : Node D) → n ≢ 1 → x ≡ Replica r → held.items ≡ [] → IsOpening cells r → OpensPlace cells n (record { node = x; held = held })
+  opens_replica n r held x other is none opening =
+      subst (λ (y : Node D). OpensPlace cells n (record { node = y; held = held })) (sym is)
+      (record { shows = first_replica n r held other none opening; files = replica_files n r opening; idle = ap want_of opening.job })
+
   -- ---- all of them
 
   -- one more node at the end
-  pub place_more : (places new : List (Option (Place D))) (x : Place D) → new ≡ places ++ Some x ∷ [] → ((n : ℕ) → IsNode (length places) n → IsSomeAnd (place_of places n) (PlaceShows cells [] n))
-      → PlaceShows cells [] (length places + 1) x → (n : ℕ) → IsNode (length new) n → IsSomeAnd (place_of new n) (PlaceShows cells [] n)
-  place_more places new x is was mine n node = subst (λ (l : List (Option (Place D))). IsNode (length l) n → IsSomeAnd (place_of l n) (PlaceShows cells [] n)) (sym is) (λ node. more n node) node
+  pub place_more : (P : ℕ → Place D → Type 0) (places new : List (Option (Place D))) (x : Place D) → new ≡ places ++ Some x ∷ [] → ((n : ℕ) → IsNode (length places) n → IsSomeAnd (place_of places n) (P n))
+      → P (length places + 1) x → (n : ℕ) → IsNode (length new) n → IsSomeAnd (place_of new n) (P n)
+  place_more P places new x is was mine n node = subst (λ (l : List (Option (Place D))). IsNode (length l) n → IsSomeAnd (place_of l n) (P n)) (sym is) (λ node. more n node) node
     where
-      more : (n : ℕ) → IsNode (length (places ++ Some x ∷ [])) n → IsSomeAnd (place_of (places ++ Some x ∷ []) n) (PlaceShows cells [] n)
+      more : (n : ℕ) → IsNode (length (places ++ Some x ∷ [])) n → IsSomeAnd (place_of (places ++ Some x ∷ []) n) (P n)
       more zero node = absurd (let f = node.0 in omega arith)
       more (suc k) node =
           elim (eqb_tells k (length places)) [
             | inl here ↦
-                let mine' : PlaceShows cells [] (suc k) x = subst (λ (j : ℕ). PlaceShows cells [] j x) (let h = here.1 in omega (arith, h)) mine in
-                subst (λ (o : Option (Place D)). IsSomeAnd o (PlaceShows cells [] (suc k))) (sym (ap unwrapped (ap (slice_get (places ++ Some x ∷ [])) here.1 ∙ slice_get_seam places (Some x)))) mine'
+                let mine' : P (suc k) x = subst (λ (j : ℕ). P j x) (let h = here.1 in omega (arith, h)) mine in
+                subst (λ (o : Option (Place D)). IsSomeAnd o (P (suc k))) (sym (ap unwrapped (ap (slice_get (places ++ Some x ∷ [])) here.1 ∙ slice_get_seam places (Some x)))) mine'
             | inr other ↦
                 let l : suc k ≤ length (places ++ Some x ∷ []) = node.1 in
                 let within : k < length places = let d = other.1 in omega (arith, l, d, length-append places (Some x ∷ [])) in
-                subst (λ (o : Option (Place D)). IsSomeAnd o (PlaceShows cells [] (suc k))) (sym (ap unwrapped (slice_get_before places (Some x ∷ []) k within))) (was (suc k) (omega arith, omega (arith, within)))
+                subst (λ (o : Option (Place D)). IsSomeAnd o (P (suc k))) (sym (ap unwrapped (slice_get_before places (Some x ∷ []) k within))) (was (suc k) (omega arith, omega (arith, within)))
           ]
+
+  -- no node of the first ones has a job
+  jobs_none : (places : List (Option (Place D))) (size k : ℕ) (s : Out) → k ≤ size → ((n : ℕ) → IsNode size n → IsSomeAnd (place_of places n) (OpensPlace cells n)) → jobs_like places s k ≡ 0
+  jobs_none places size zero s low each = refl
+  jobs_none places size (suc k) s low each = λ i. jobs_none places size k s (omega (arith, low)) each i + one_like s (idle (place_of places (suc k)) (each (suc k) (omega arith, low)) i)
+    where
+      idle : (o : Option (Place D)) → IsSomeAnd o (OpensPlace cells (suc k)) → want_at o ≡ None
+      idle None is = absurd is
+      idle (Some place) is = is.idle
+
+  -- the files of all nodes are as at a source where nothing stands
+  pub first_sources : (log : Log) (size : ℕ) (places : List (Option (Place D))) → log ≡ [] → ((n : ℕ) → IsNode size n → IsSomeAnd (place_of places n) (OpensPlace cells n)) → FilesShow cells log size places
+  first_sources log size places none each = subst (λ (l : Log). FilesShow cells l size places) (sym none) (record {
+    source = λ q. None;
+    each = λ n node. at (place_of places n) n (each n node);
+  })
+    where
+      node_files : (n : ℕ) (x : Node D) → NodeFiles (λ q. None) cells [] (λ s. 0) n x → NodeFiles (λ q. None) cells [] (λ s. jobs_like places s size) n x
+      node_files n (Primary p) files = record {
+        held = files.held;
+        unwritten = files.unwritten;
+        generation = files.generation;
+        outs = λ s. let none' = jobs_none places size size s (omega arith) each in omega (arith, none');
+      }
+      node_files n (Replica r) files = files
+      node_files n (Down d) files = files
+
+      at : (o : Option (Place D)) (n : ℕ) → IsSomeAnd o (OpensPlace cells n) → IsSomeAnd o (λ place. NodeFiles (λ q. None) cells [] (λ s. jobs_like places s size) n place.node)
+      at None n is = absurd is
+      at (Some place) n is = node_files n place.node is.files
 
   -- each is in its place
   pub first_shows : (log : Log) (size : ℕ) (places : List (Option (Place D))) → log ≡ [] → 1 ≤ size → length places ≡ size

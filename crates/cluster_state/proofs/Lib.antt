@@ -34,6 +34,8 @@ pub mod Beginning
 pub mod CopyPaths
 pub mod Handing
 pub mod Finishing
+pub mod PartPaths
 pub mod Settling
 pub mod JobEnds
 pub mod FirstPlaces
+pub mod JobLaw

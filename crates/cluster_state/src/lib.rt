@@ -5,6 +5,7 @@ mod cluster;
 mod copies;
 mod held;
 mod jobs;
+mod laws;
 mod nodes;
 mod reads;
 mod settles;

@@ -1,11 +1,12 @@
 //! A cluster that starts: the nodes open on empty directories, and the first is the primary.
 
-ghost use Rattle.std.specs.Prelude.{ℕ, ◌≡◌, ◌≤◌, ◌≢◌, IfOk, IsSomeAnd, length, []};
+ghost use Rattle.std.specs.Prelude.{ℕ, ◌≡◌, ◌≤◌, ◌≢◌, IfOk, IsSomeAnd, None, length, []};
 ghost use Rattle.std.specs.List.{All};
 ghost use Rattle.history_entries.specs.Nodes.{IsNode};
 ghost use Rattle.index_primary.specs.Primary.{IsPrimary};
-ghost use Rattle.cluster_state.specs.Starting.{IsEmptyDir, IsOpening};
-ghost use Rattle.cluster_state.specs.State.{PrimaryShows, PlaceShows};
+ghost use Rattle.cluster_state.specs.Starting.{IsEmptyDir, IsOpening, OpensPlace};
+ghost use Rattle.cluster_state.specs.State.{PrimaryShows};
+ghost use Rattle.cluster_state.specs.Files.{PrimaryFiles};
 ghost use Rattle.cluster_state.specs.Places.{place_of};
 
 use crate::cluster::ClusterState;
@@ -31,7 +32,8 @@ fn open_replica<D: Dir + Drop>(alloc: Global, dir: D) -> Result<Replica<D>, NoMe
 // The first primary, which was a replica on an empty directory.
 fn first_primary<D: Dir + Drop>(alloc: Global, replica: Replica<D>) -> Result<Primary<D>, NoMemory>
     requires { IsOpening D.cells replica }
-    ensures { IfOk result (PrimaryShows D.cells [] 1) }
+    ensures shows { IfOk result (PrimaryShows D.cells [] 1) }
+    ensures files { IfOk result (PrimaryFiles (λ q. None) D.cells (λ s. 0)) }
 {
     let NodeParts {
         dir,
@@ -47,7 +49,7 @@ fn first_primary<D: Dir + Drop>(alloc: Global, replica: Replica<D>) -> Result<Pr
 // A node on an empty directory.
 fn first_place<D: Dir + Drop>(alloc: Global, n: usize, dir: D) -> Result<Place<D>, NoMemory>
     requires empty { IsEmptyDir (D.cells dir) }
-    ensures { IfOk result (PlaceShows D.cells [] n) }
+    ensures { IfOk result (OpensPlace D.cells n) }
 {
     let replica = open_replica(alloc, dir)?;
     let node = if n == 1 {
@@ -67,7 +69,7 @@ fn first_places<D: Dir + Drop>(
     requires { All (λ dir. IsEmptyDir (D.cells dir)) dirs.items }
     ensures count { IfOk result (λ places. length places.items ≡ length dirs.items) }
     ensures each { IfOk result (λ places. (n : ℕ) → IsNode (length dirs.items) n
-        → IsSomeAnd (place_of places.items n) (PlaceShows D.cells [] n)) }
+        → IsSomeAnd (place_of places.items n) (OpensPlace D.cells n)) }
 {
     let mut places = Vec::new(alloc);
     for dir in dirs {

@@ -2,9 +2,8 @@ use Rattle.std.proofs.Common.{ap, ◌∙◌, subst, length, ℕ, List, arith}
 use Rattle.std.proofs.IntoIterSteps.{All-taken}
 use Rattle.history_entries.specs.Nodes.{IsNode}
 use Rattle.std.specs.Prelude.{IsSomeAnd, []}
-use Rattle.cluster_state.specs.Starting.{IsEmptyDir}
+use Rattle.cluster_state.specs.Starting.{IsEmptyDir, OpensPlace}
 use Rattle.cluster_state.specs.Places.{place_of}
-use Rattle.cluster_state.specs.State.{PlaceShows}
 use Rattle.cluster_state.proofs.FirstPlaces.{given_has, more_count, more_each}
 use Rattle.cluster_state.proofs.starting.first_places.Goals as goal
 
@@ -33,5 +32,5 @@ returns-clause-count g c =
 pub returns-clause-each : goal.returns-clause-each
 returns-clause-each g c =
     let it = c.into_iter-dir-iterator in
-    subst (λ (ds : List g.row.D.Denot). (n : ℕ) → IsNode (length ds) n → IsSomeAnd (place_of c.loop-dir.places.items n) (PlaceShows g.D.Dir.cells [] n))
+    subst (λ (ds : List g.row.D.Denot). (n : ℕ) → IsNode (length ds) n → IsSomeAnd (place_of c.loop-dir.places.items n) (OpensPlace g.D.Dir.cells n))
     (All-taken it.result c.loop-dir.yielded (c.next.new.self, (c.loop-dir.dir-iterator, c.loop-dir.yielded_by, c.in-None.ensures.steps)) ∙ it.ensures.into_iter_gives.0) c.loop-dir.invariant.each
