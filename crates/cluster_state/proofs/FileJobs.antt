@@ -102,7 +102,7 @@ going_step lane (Ends n number) before log row is going was = going_old (Ends n 
 going_step lane Passes before log row is going was = going_old Passes before log (last_job true lane log) row is going was
 
 -- a job of a lane that goes on is the last one at its node
-going_at : (lane : ℕ) (log : Log) (row : JobRow) → job_of lane log ≡ Some row → is_going row ≡ true → last_job false row.job.node.0 log ≡ Some row
+pub going_at : (lane : ℕ) (log : Log) (row : JobRow) → job_of lane log ≡ Some row → is_going row ≡ true → last_job false row.job.node.0 log ≡ Some row
 going_at lane [] row is going = absurd (cc)
 going_at lane (Shown e ∷ log) row is going = going_at lane log row is going
 going_at lane (TaskFault e ∷ log) row is going = going_at lane log row is going

@@ -33,6 +33,8 @@ pub mod Taking
 pub mod JobMoves
 pub mod Beginning
 pub mod CopyPaths
+pub mod Handing
+pub mod Finishing
 pub mod PartPaths
 pub mod Settling
 pub mod JobEnds
