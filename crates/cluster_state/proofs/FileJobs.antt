@@ -1,0 +1,217 @@
+-- What the invariant of files says of the nodes of a call, and of the job that runs at one.
+use Rattle.std.proofs.Common.{◌≡◌, ◌≢◌, ◌≤◌, ◌<◌, ◌+◌, ◌&&◌, ◌==◌, ℕ, Bool, true, false, true≢false, List, [], ◌∷◌, Some, None, Option, Vec, Global, refl, ap, ◌∙◌, sym, subst, arith, if◌then◌else◌, nat_le}
+use Rattle.std.specs.Prelude.{IsSomeAnd, IfSome, not, is_some}
+use Rattle.std.proofs.lemmas.Bool.{eqb-true, eq-eqb}
+use Rattle.std.proofs.lemmas.Bool.Decides.{nat_tests}
+use Rattle.nrt_base.specs.declared.numbers.At.{At}
+use Rattle.nrt_base.specs.declared.numbers.NodeNo.{NodeNo}
+use Rattle.disk_model.specs.Disk.{Name, Content, Cells}
+use Rattle.index_primary.specs.declared.parts.Parts.{Parts as PrimaryParts}
+use Rattle.index_primary.specs.declared.states.Out.{Out}
+use Rattle.index_primary.specs.States.{is_out, out_of}
+use Rattle.replica_node.specs.declared.job.PointJob.{PointJob}
+use Rattle.replica_node.specs.declared.parts.Parts.{Parts as ReplicaParts}
+use Rattle.replica_node.specs.Replica.{IsJobAbove}
+use Rattle.history_entries.specs.Nodes.{Past, IsNode, IsReplica, is_at, is_running, primary_of, newest_version, version_of}
+use Rattle.history_entries.specs.Lines.{copy_in_flight, is_free_for, NodeSurvives, SourceSurvives, before_start}
+use Rattle.history_entries.specs.Legal.{IsLegalPast}
+use Rattle.history_tables.specs.declared.jobs.Job.{Job}
+use Rattle.history_tables.specs.declared.jobs.JobRow.{JobRow}
+use Rattle.history_tables.specs.declared.jobs.JobStep.{JobStep}
+use Rattle.history_tables.specs.declared.jobs.JobStep.TheVariants.{Begins, Ends, Passes}
+use Rattle.history_tables.specs.JobRows.{new_job_row, is_going, row_by, row_if_some, last_job_by, while_going}
+use Rattle.history_tables.specs.NodeRows.{crashed_at}
+use Rattle.history_tables.specs.Numbering.{primary_crashed}
+use Rattle.history_book.specs.declared.inner.Mark.TheVariants.{Shown, TaskFault, Kept}
+use Rattle.history_book.specs.Log.{Log, printed}
+use Rattle.history_book.specs.Jobs.{job_step, last_job, job_at, job_of, IsOlder, LaneJobShows}
+use Rattle.history_book.proofs.LineLaws.{and_false}
+use Rattle.history_book.proofs.ReignLaws.{node_alive, source_alive}
+use Rattle.cluster_state.specs.declared.held.Held.{Held}
+use Rattle.cluster_state.specs.declared.nodes.Node.{Node}
+use Rattle.cluster_state.specs.declared.nodes.Node.TheVariants.{Primary, Replica, Down}
+use Rattle.cluster_state.specs.declared.nodes.Place.{Place}
+use Rattle.cluster_state.specs.Places.{place_of, IsSlot}
+use Rattle.cluster_state.specs.State.{NodeShows, PlaceShows, Shows}
+use Rattle.cluster_state.specs.Outs.{want_of, want_at, jobs_like, states_like}
+use Rattle.cluster_state.specs.Files.{CopyShows, JobShows, IsJobFor, ReplicaFiles, PrimaryFiles, NodeFiles, FilesShow}
+use Rattle.cluster_state.specs.Copies.{JobRuns}
+use Rattle.cluster_state.specs.JobPlaces.{IsPrimaryAt, IsReplicaAt, AreBoth}
+use Rattle.cluster_state.proofs.Frames.{some_at, slot_of}
+use Rattle.cluster_state.proofs.OutCounts.{is_there, job_counted}
+use Rattle.cluster_state.proofs.FileFrames.{some_both, both_of, Both}
+
+-- ---- the job of a lane that runs is the one that runs at its node
+
+going_if : (b : Bool) (r : JobRow) (v : _) → is_going (if b then record r { later = Some v } else r) ≡ true → b ≡ false
+going_if true r v going = absurd (true≢false (sym going ∙ and_false (not r.ended)))
+going_if false r v going = refl
+
+ended_if : (b : Bool) (r : JobRow) → is_going (if b then record r { ended = true } else r) ≡ true → b ≡ false
+ended_if true r going = absurd (true≢false (sym going))
+ended_if false r going = refl
+
+-- a job that goes on is as it was
+going_same : (s : JobStep) (r : JobRow) → is_going (row_by s r) ≡ true → row_by s r ≡ r
+going_same (Begins job) r going = ap (λ (b : Bool). if b then record r { later = Some job.version } else r) (going_if ((r.job.node.0 == job.node.0) && is_going r) r job.version going)
+going_same (Ends n number) r going = ap (λ (b : Bool). if b then record r { ended = true } else r) (ended_if ((r.job.node.0 == n.0) && (r.job.number == number)) r going)
+going_same Passes r going = refl
+
+-- no later job has begun at the node of one that goes on
+going_apart : (job : Job) (r : JobRow) → is_going (row_by (Begins job) r) ≡ true → (job.node.0 == r.job.node.0) ≡ false
+going_apart job r going =
+    let on : is_going r ≡ true = ap is_going (sym (going_same (Begins job) r going)) ∙ going in
+    apart (r.job.node.0 == job.node.0) refl (going_if ((r.job.node.0 == job.node.0) && is_going r) r job.version going) on
+  where
+    apart : (b : Bool) → (r.job.node.0 == job.node.0) ≡ b → (b && is_going r) ≡ false → is_going r ≡ true → (job.node.0 == r.job.node.0) ≡ false
+    apart true is none on = absurd (true≢false (sym on ∙ none))
+    apart false is none on = grind (arith, nat_tests)
+
+going_more : (s : JobStep) (before : ℕ) (log : Log) (r : JobRow) → is_going (row_by s r) ≡ true → last_job false r.job.node.0 log ≡ Some r
+    → last_job_by false r.job.node.0 s before (last_job false r.job.node.0 log) ≡ Some (row_by s r)
+going_more (Begins job) before log r going was =
+    ap (λ (b : Bool). if b then Some (new_job_row job before) else row_if_some (Begins job) (last_job false r.job.node.0 log)) (going_apart job r going) ∙ ap (row_if_some (Begins job)) was
+going_more (Ends n number) before log r going was = ap (row_if_some (Ends n number)) was
+going_more Passes before log r going was = ap (row_if_some Passes) was
+
+going_old : (s : JobStep) (before : ℕ) (log : Log) (o : Option JobRow) (row : JobRow) → row_if_some s o ≡ Some row → is_going row ≡ true
+    → ((r : JobRow) → o ≡ Some r → is_going r ≡ true → last_job false r.job.node.0 log ≡ Some r)
+    → last_job_by false row.job.node.0 s before (last_job false row.job.node.0 log) ≡ Some row
+going_old s before log None row is going was = absurd (cc)
+going_old s before log (Some r) row is going was =
+    let made : row_by s r ≡ row = cc in
+    let on : is_going (row_by s r) ≡ true = ap is_going made ∙ going in
+    let same : row_by s r ≡ r = going_same s r on in
+    let old : last_job false r.job.node.0 log ≡ Some r = was r refl (ap is_going (sym same) ∙ on) in
+    subst (λ (x : JobRow). last_job_by false x.job.node.0 s before (last_job false x.job.node.0 log) ≡ Some x) (sym same ∙ made)
+    (going_more s before log r on old ∙ ap Some same)
+
+going_step : (lane : ℕ) (s : JobStep) (before : ℕ) (log : Log) (row : JobRow) → last_job_by true lane s before (last_job true lane log) ≡ Some row → is_going row ≡ true
+    → ((r : JobRow) → last_job true lane log ≡ Some r → is_going r ≡ true → last_job false r.job.node.0 log ≡ Some r)
+    → last_job_by false row.job.node.0 s before (last_job false row.job.node.0 log) ≡ Some row
+going_step lane (Begins job) before log row is going was = begins (job.at.lane.0 == lane) is
+  where
+    begins : (b : Bool) → (if b then Some (new_job_row job before) else row_if_some (Begins job) (last_job true lane log)) ≡ Some row
+        → last_job_by false row.job.node.0 (Begins job) before (last_job false row.job.node.0 log) ≡ Some row
+    begins true new =
+        let made : new_job_row job before ≡ row = cc in
+        subst (λ (x : JobRow). last_job_by false x.job.node.0 (Begins job) before (last_job false x.job.node.0 log) ≡ Some x) made
+        (ap (λ (b : Bool). if b then Some (new_job_row job before) else row_if_some (Begins job) (last_job false job.node.0 log)) (eq-eqb job.node.0 job.node.0 refl))
+    begins false old = going_old (Begins job) before log (last_job true lane log) row old going was
+going_step lane (Ends n number) before log row is going was = going_old (Ends n number) before log (last_job true lane log) row is going was
+going_step lane Passes before log row is going was = going_old Passes before log (last_job true lane log) row is going was
+
+-- a job of a lane that goes on is the last one at its node
+pub going_at : (lane : ℕ) (log : Log) (row : JobRow) → job_of lane log ≡ Some row → is_going row ≡ true → last_job false row.job.node.0 log ≡ Some row
+going_at lane [] row is going = absurd (cc)
+going_at lane (Shown e ∷ log) row is going = going_at lane log row is going
+going_at lane (TaskFault e ∷ log) row is going = going_at lane log row is going
+going_at lane (Kept i ∷ log) row is going = going_step lane (job_step i) _ log row is going (λ r was on. going_at lane log r was on)
+
+le_more : (a b c : ℕ) → nat_le a b ≡ true → b ≤ c → nat_le a c ≡ true
+le_more a b c low more = grind (arith, nat_tests)
+
+-- the job that runs at its node
+pub runs_at : (size : ℕ) (log : Log) (row : JobRow) → JobRuns log row → LaneJobShows size (printed log) row → job_at row.job.node.0 log ≡ Some row.job
+runs_at size log row runs shows =
+    let going : is_going row ≡ true = rw (runs.unended, runs.alone) refl in
+    let last = going_at row.job.at.lane.0 log row runs.last going in
+    let node : nat_le (crashed_at row.job.node.0 (printed log)) row.before ≡ true = le_more _ _ row.before (node_alive row.job.node.0 row.job.at (printed log) ∙ eq-eqb _ _ runs.survives.node) shows.before in
+    let primary : nat_le (primary_crashed (printed log)) row.before ≡ true = le_more _ _ row.before (source_alive row.job.at (printed log) ∙ eq-eqb _ _ runs.source.source) shows.before in
+    ap (while_going row.job.node.0 (printed log)) last ∙ rw (runs.unended, node, primary) refl
+
+-- ---- nodes
+
+module _ {D : Type 0} (cells : D → Cells) where
+  -- what stands in a place with what its files are
+  pub record IsFileNode (source : Name → Content) (log : Log) (jobs : Out → ℕ) (n : ℕ) (places : List (Option (Place D))) : Type 0 where
+    pub place : Place D
+    pub there : place_of places n ≡ Some place
+    pub both : Both cells source log jobs n place
+
+  pub file_node : (log : Log) (size n : ℕ) (places : List (Option (Place D))) (shows : Shows cells log size places) (files : FilesShow cells log size places) → IsNode size n
+      → IsFileNode files.source log (λ s. jobs_like places s size) n places
+  file_node log size n places shows files node = found (place_of places n) refl (both_of cells log size places shows files n node)
+    where
+      found : (o : Option (Place D)) → place_of places n ≡ o → IsSomeAnd o (Both cells files.source log (λ s. jobs_like places s size) n) → IsFileNode files.source log (λ s. jobs_like places s size) n places
+      found None is none = absurd none
+      found (Some place) is both = record { place = place; there = is; both = both }
+
+  -- the primary in its place
+  pub record PrimaryHere (source : Name → Content) (log : Log) (jobs : Out → ℕ) (p : ℕ) (places : List (Option (Place D))) : Type 0 where
+    pub at : IsPrimaryAt places p
+    pub shows : PlaceShows cells log p (record { node = Primary at.parts; held = at.held })
+    pub files : PrimaryFiles source cells jobs at.parts
+
+  -- a replica in its place
+  pub record ReplicaHere (source : Name → Content) (log : Log) (n : ℕ) (places : List (Option (Place D))) : Type 0 where
+    pub at : IsReplicaAt places n
+    pub shows : PlaceShows cells log n (record { node = Replica at.parts; held = at.held })
+    pub files : ReplicaFiles source cells log n at.parts
+
+  pub primary_here : (log : Log) (size p : ℕ) (places : List (Option (Place D))) (shows : Shows cells log size places) (files : FilesShow cells log size places) → IsNode size p → is_at (primary_of (printed log)) p ≡ true
+      → PrimaryHere files.source log (λ s. jobs_like places s size) p places
+  primary_here log size p places shows files node primary = let f = file_node log size p places shows files node in found f.place.node f.place.held f.there f.both
+    where
+      found : (x : Node D) (held : Vec Held Global) → place_of places p ≡ Some (record { node = x; held = held }) → Both cells files.source log (λ s. jobs_like places s size) p (record { node = x; held = held }) → PrimaryHere files.source log (λ s. jobs_like places s size) p places
+      found (Primary q) held there both = record { at = record { slot = slot_of cells log size p places node shows; parts = q; held = held; there = there }; shows = both.0; files = both.1 }
+      found (Replica r) held there both = absurd (true≢false (sym primary ∙ both.0.node_shows.other))
+      found (Down d) held there both = absurd (true≢false (sym primary ∙ both.0.node_shows.other))
+
+  pub replica_here : (log : Log) (size n : ℕ) (places : List (Option (Place D))) (shows : Shows cells log size places) (files : FilesShow cells log size places) → IsNode size n → IsReplica (printed log) n → ReplicaHere files.source log n places
+  replica_here log size n places shows files node replica = let f = file_node log size n places shows files node in found f.place.node f.place.held f.there f.both
+    where
+      found : (x : Node D) (held : Vec Held Global) → place_of places n ≡ Some (record { node = x; held = held }) → Both cells files.source log (λ s. jobs_like places s size) n (record { node = x; held = held }) → ReplicaHere files.source log n places
+      found (Primary q) held there both = absurd (true≢false (sym both.0.node_shows.primary ∙ replica.other))
+      found (Replica r) held there both = record { at = record { slot = slot_of cells log size n places node shows; parts = r; held = held; there = there }; shows = both.0; files = both.1 }
+      found (Down d) held there both = absurd (true≢false (sym replica.running ∙ both.0.node_shows.down))
+
+  -- the job of a replica, where the log shows one that runs
+  pub record JobHere (source : Name → Content) (log : Log) (n : ℕ) (job : Job) (r : ReplicaParts D) : Type 0 where
+    pub point : PointJob
+    pub runs : r.job ≡ Some point
+    pub shows : CopyShows source log n job point
+
+  pub job_here : (source : Name → Content) (log : Log) (n : ℕ) (job : Job) (r : ReplicaParts D) → job_at n log ≡ Some job → ReplicaFiles source cells log n r → JobHere source log n job r
+  job_here source log n job r is files = found r.job refl (subst (λ (o : Option Job). JobShows source log n o r.job) is files.job)
+    where
+      found : (o : Option PointJob) → r.job ≡ o → JobShows source log n (Some job) o → JobHere source log n job r
+      found None none shows = absurd shows
+      found (Some point) there shows = record { point = point; runs = there; shows = shows }
+
+  -- its copy state is out
+  pub job_out : (log : Log) (size n : ℕ) (places : List (Option (Place D))) (p : PrimaryParts D) (r : ReplicaParts D) (held : Vec Held Global) (source : Name → Content) → IsNode size n → place_of places n ≡ Some (record { node = Replica r; held = held })
+      → PrimaryFiles source cells (λ s. jobs_like places s size) p → IfSome (want_of r.job) (λ s. is_out s p.states ≡ true)
+  job_out log size n places p r held source node there files = found r.job refl
+    where
+      found : (o : Option PointJob) → r.job ≡ o → IfSome (want_of o) (λ s. is_out s p.states ≡ true)
+      found None is = tt
+      found (Some point) is =
+          let s : Out = out_of point.copy.want in
+          let counted = job_counted places s n size node.0 node.1 (ap want_at there ∙ ap want_of is) in
+          is_there s p.states (let low = files.outs s in omega (arith, counted, low))
+
+  -- where no job for the newest version runs at a replica, no copy of it is in flight there
+  pub no_flight : (log : Log) (n : ℕ) (r : ReplicaParts D) (source : Name → Content) → IsOlder (newest_version (printed log)) (job_at n log) → ReplicaFiles source cells log n r
+      → (at : At) → is_free_for at (copy_in_flight n (newest_version (printed log)) (printed log)) ≡ true
+  no_flight log n r source older files at = found (copy_in_flight n (newest_version (printed log)) (printed log)) refl
+    where
+      clash : (o : Option Job) (a : At) → IsOlder (newest_version (printed log)) o → IsSomeAnd o (IsJobFor a (newest_version (printed log))) → ⊥
+      clash None a older is = is
+      clash (Some job) a older is = absurd (omega (arith, older, is.1))
+
+      found : (o : Option At) → copy_in_flight n (newest_version (printed log)) (printed log) ≡ o → is_free_for at o ≡ true
+      found None is = refl
+      found (Some a) is = absurd (clash (job_at n log) a older (files.flight a is))
+
+  -- nor where the replica searches the newest version
+  pub reached_older : (log : Log) (n : ℕ) (r : ReplicaParts D) (held : Vec Held Global) (source : Name → Content) → PlaceShows cells log n (record { node = Replica r; held = held }) → version_of n (printed log) ≡ newest_version (printed log)
+      → ReplicaFiles source cells log n r → IsOlder (newest_version (printed log)) (job_at n log)
+  reached_older log n r held source shows reached files = found (job_at n log) r.job refl files.job shows.node_shows.whole.newer
+    where
+      found : (o : Option Job) (p : Option PointJob) → job_at n log ≡ o → JobShows source log n o p → IfSome p (IsJobAbove r.searchers.point.version.0) → IsOlder (newest_version (printed log)) o
+      found None p is shows_job newer = tt
+      found (Some job) None is shows_job newer = absurd shows_job
+      found (Some job) (Some point) is shows_job newer =
+          let version : r.searchers.point.version.0 ≡ version_of n (printed log) = shows.node_shows.point.version in
+          absurd (omega (arith, newer.above, shows_job.version, shows_job.known, version, reached))

@@ -1,0 +1,199 @@
+-- What files mean, where names get a meaning that had none.
+use Rattle.std.proofs.Common.{◌≡◌, ◌≤◌, ◌<◌, ◌+◌, ℕ, zero, suc, Bool, true, false, true≢false, List, [], ◌∷◌, Some, None, Option, is_some, refl, ap, ◌∙◌, sym, subst, arith, if◌then◌else◌}
+use Rattle.std.specs.Prelude.{IfSome, nat_lt}
+use Rattle.std.proofs.lemmas.Bool.Decides.{nat_tests}
+use Rattle.std.specs.List.{All, AllZip}
+use Rattle.std.specs.Option.{option_or}
+use Rattle.nrt_base.specs.declared.doc.Doc.{Doc}
+use Rattle.disk_model.specs.Disk.{Name, Content, Cells, same, reads_of}
+use Rattle.file_deleter.specs.Holdings.{Holdings, count_of, times}
+use Rattle.file_deleter.proofs.Keeping.{known_counted}
+use Rattle.file_deleter.proofs.NameLemmas.{times-cons, same_self}
+use Rattle.disk_model.proofs.CellLemmas.{same_true}
+use Rattle.segment_infos.specs.declared.infos.Infos.{Infos}
+use Rattle.segment_infos.specs.declared.infos.SegRecord.{SegRecord}
+use Rattle.seg_reader.specs.Shown.{Shown}
+use Rattle.seg_reader.specs.Stands.{IsLiveFileIn, ArePartsIn, IsSegmentIn, StandsWith, StandsFor}
+use Rattle.copy_state.specs.declared.meta.FileMetaData.{FileMetaData}
+use Rattle.copy_state.specs.States.{meta_names, meta_in}
+use Rattle.copy_job.specs.Jobs.{reads_under}
+use Rattle.index_primary.specs.declared.parts.Parts.{Parts as PrimaryParts}
+use Rattle.index_primary.specs.declared.states.Out.{Out}
+use Rattle.index_primary.specs.Primary.{IsPrimary, loose_of}
+use Rattle.index_primary.specs.Held.{IsUndrawn}
+use Rattle.replica_opening.specs.Known.{IsLasting, HasMeta}
+use Rattle.replica_node.specs.declared.job.PointJob.{PointJob}
+use Rattle.replica_node.specs.declared.parts.Parts.{Parts as ReplicaParts}
+use Rattle.replica_node.specs.Replica.{IsWholeReplica, HasMetas}
+use Rattle.replica_node.specs.Sources.{CopiesFrom, HeldReadAs, IsSourced}
+use Rattle.history_entries.specs.Points.{documents_at}
+use Rattle.history_tables.specs.declared.jobs.Job.{Job}
+use Rattle.history_book.specs.Log.{Log, printed}
+use Rattle.cluster_state.specs.Outs.{states_like}
+use Rattle.cluster_state.specs.Files.{CopyShows, JobShows, PrimaryFiles}
+use Rattle.cluster_state.specs.FileChanges.{KeepsPrimaryFiles, FillsPrimaryFiles}
+
+-- what stands there stands there still
+abbrev pub Extends : (Name → Content) → (Name → Content) → Type 0
+Extends source wider = (q : Name) (bytes : List ℕ) → source q ≡ Some bytes → wider q ≡ Some bytes
+
+-- the same of what is there under a name
+pub some_wider : (source wider : Name → Content) (q : Name) → Extends source wider → is_some (source q) ≡ true → wider q ≡ source q
+some_wider source wider q more there = go (source q) refl there
+  where
+    go : (o : Content) → source q ≡ o → is_some o ≡ true → wider q ≡ source q
+    go None is none = absurd (true≢false (sym none))
+    go (Some bytes) is some = more q bytes is ∙ sym is
+
+-- ---- documents
+
+live_wider : (source wider : Name → Content) (r : SegRecord) (live : Option (List ℕ)) → Extends source wider → IsLiveFileIn source r live → IsLiveFileIn wider r live
+live_wider source wider r None more was = was
+live_wider source wider r (Some bytes) more was = (was.0, more _ bytes was.1)
+
+segment_wider : (source wider : Name → Content) (r : SegRecord) (shown : Shown) → Extends source wider → IsSegmentIn source r shown → IsSegmentIn wider r shown
+segment_wider source wider r shown more was = record {
+  parts = was.parts;
+  files = record {
+    docs = more _ was.parts.docs was.files.docs;
+    post = more _ was.parts.post was.files.post;
+    info = more _ was.parts.info was.files.info;
+    live = live_wider source wider r was.parts.live more was.files.live;
+  };
+  segment = was.segment;
+  live = was.live;
+}
+
+segments_wider : (source wider : Name → Content) (records : List SegRecord) (segs : List Shown) → Extends source wider → AllZip (IsSegmentIn source) records segs → AllZip (IsSegmentIn wider) records segs
+segments_wider source wider [] [] more was = tt
+segments_wider source wider [] (s ∷ ss) more was = absurd was
+segments_wider source wider (r ∷ rs) [] more was = absurd was
+segments_wider source wider (r ∷ rs) (s ∷ ss) more was = (segment_wider source wider r s more was.0, segments_wider source wider rs ss more was.1)
+
+pub stands_wider : (source wider : Name → Content) (infos : Infos) (docs : List Doc) → Extends source wider → StandsFor source infos docs → StandsFor wider infos docs
+stands_wider source wider infos docs more was = record {
+  segs = was.segs;
+  stands = record { each = segments_wider source wider infos.segs was.segs more was.stands.each; stand = was.stands.stand };
+}
+
+-- ---- metadata
+
+pub metas_wider : (source wider : Name → Content) (files : List (Name × FileMetaData)) → Extends source wider → All (λ f. HasMeta source f.0 f.1) files → All (λ f. HasMeta wider f.0 f.1) files
+metas_wider source wider files more was = λ i d lt. let h = was i d lt in record { bytes = h.bytes; there = more _ h.bytes h.there; meta_is = h.meta_is }
+
+-- a name among those of files has metadata
+pub named_meta : (files : List (Name × FileMetaData)) (q : Name) → 0 < times (meta_names files) q → (meta : FileMetaData) × (meta_in files q ≡ Some meta)
+named_meta [] q some = absurd (let none : times [] q ≡ 0 = refl in omega (arith, some, none))
+named_meta (f ∷ fs) q some = by (named_meta fs q) (same q f.0) refl
+  where
+    by : (0 < times (meta_names fs) q → (meta : FileMetaData) × (meta_in fs q ≡ Some meta)) → (b : Bool) → same q f.0 ≡ b → (meta : FileMetaData) × ((if b then Some f.1 else meta_in fs q) ≡ Some meta)
+    by rest true here = (f.1, refl)
+    by rest false here = rest (other (same f.0 q) refl)
+      where
+        other : (c : Bool) → same f.0 q ≡ c → 0 < times (meta_names fs) q
+        other true e = absurd (true≢false (sym (same_self q) ∙ (ap (λ (n : Name). same q n) (sym (same_true f.0 q e)) ∙ here)))
+        other false e = let parts : times (f.0 ∷ meta_names fs) q ≡ (if same f.0 q then 1 else 0) + times (meta_names fs) q = times-cons f.0 (meta_names fs) q in
+            let none : (if same f.0 q then 1 else 0) ≡ 0 = ap (λ (b : Bool). let k : ℕ = if b then 1 else 0 in k) e in omega (arith, some, parts, none)
+
+-- ---- a replica
+
+module _ {D : Type 0} (cells : D → Cells) (source wider : Name → Content) (more : Extends source wider) where
+  held_wider : (r : ReplicaParts D) → IsWholeReplica cells r → HeldReadAs source (cells r.dir) r.files → HeldReadAs wider (cells r.dir) r.files
+  held_wider r whole was = record {
+    each = λ q lasting counted.
+        let is = was.each q lasting counted in
+        let there : is_some (source q) ≡ true = ap is_some (sym is) ∙ (whole.node.whole.names q ∙ known_counted r.files q counted) in
+        is ∙ sym (some_wider source wider q more there);
+  }
+
+  job_wider : (reads : Name → Content) (o : Option PointJob) → IfSome o (λ j. HasMetas reads j.copy) → IfSome o (λ j. CopiesFrom source reads j.copy) → IfSome o (λ j. CopiesFrom wider reads j.copy)
+  job_wider reads None has was = was
+  job_wider reads (Some j) has was = record {
+    each = λ q wanted here.
+        let is = was.each q wanted here in
+        let meta = named_meta j.copy.want.files q wanted in
+        let h = has.each q meta.0 meta.1 here in
+        is ∙ sym (some_wider source wider q more (ap is_some (sym is ∙ h.there)));
+  }
+
+  pub sourced_wider : (r : ReplicaParts D) → IsWholeReplica cells r → IsSourced source cells r → IsSourced wider cells r
+  sourced_wider r whole was = record {
+    held = held_wider r whole was.held;
+    job = job_wider (reads_of (cells r.dir)) r.job whole.copied was.job;
+  }
+
+-- what the log shows of a job
+copy_wider : (source wider : Name → Content) (log : Log) (n : ℕ) (job : Job) (j : PointJob) → Extends source wider → CopyShows source log n job j → CopyShows wider log n job j
+copy_wider source wider log n job j more was = record {
+  number = was.number;
+  version = was.version;
+  known = was.known;
+  latest = was.latest;
+  begun = was.begun;
+  behind = was.behind;
+  metas = metas_wider source wider j.copy.want.files more was.metas;
+  stands = stands_wider source wider j.infos (documents_at (printed log) job.version.0) more was.stands;
+  handed = λ q bytes out. more q bytes (was.handed q bytes out);
+}
+
+pub shows_wider : (source wider : Name → Content) (log : Log) (n : ℕ) (o : Option Job) (p : Option PointJob) → Extends source wider → JobShows source log n o p → JobShows wider log n o p
+shows_wider source wider log n None None more was = was
+shows_wider source wider log n None (Some j) more was = was
+shows_wider source wider log n (Some job) None more was = was
+shows_wider source wider log n (Some job) (Some j) more was = copy_wider source wider log n job j more was
+
+-- ---- the primary
+
+-- what a name means, or what now stands there of a file that is held
+abbrev pub widened : (Name → Content) → Cells → Holdings → Name → Content
+widened source cells holdings q = option_or (source q) (if nat_lt 0 (count_of holdings q) then (cells q).now else None)
+
+pub widened_more : (source : Name → Content) (cells : Cells) (holdings : Holdings) → Extends source (widened source cells holdings)
+widened_more source cells holdings q bytes is = ap (λ (o : Content). option_or o (if nat_lt 0 (count_of holdings q) then (cells q).now else None)) is
+
+test_some : (k : ℕ) → 0 < k → nat_lt 0 k ≡ true
+test_some k some = grind (arith, nat_tests)
+
+test_none : (k : ℕ) → k ≡ 0 → nat_lt 0 k ≡ false
+test_none k none = ap (nat_lt 0) none
+
+module _ {D : Type 0} (cells : D → Cells) (source : Name → Content) where
+  -- calls that hold no new file
+  pub primary_kept : (jobs now : Out → ℕ) (p q : PrimaryParts D) → KeepsPrimaryFiles cells p q → ((s : Out) → now s ≤ states_like s q.states) → PrimaryFiles source cells jobs p → PrimaryFiles source cells now q
+  primary_kept jobs now p q keeps outs was = record {
+    held = record { each = λ name lasting counted. held name lasting counted (count_of p.files name) refl };
+    unwritten = λ name undrawn. was.unwritten name (keeps.drawn.each name undrawn);
+    generation = keeps.point ∙ (was.generation ∙ sym keeps.generation);
+    outs = outs;
+  }
+    where
+      held : (name : Name) → IsLasting name → 0 < count_of q.files name → (k : ℕ) → count_of p.files name ≡ k → (cells q.dir name).now ≡ source name
+      held name lasting counted zero is = absurd (let none = keeps.no_new.each name is in omega (arith, none, counted))
+      held name lasting counted (suc k) is =
+          let before : 0 < count_of p.files name = omega (arith, is) in
+          keeps.stays.held name before counted ∙ was.held.each name lasting before
+
+  -- a call that fills files which were not written yet
+  pub primary_filled : (jobs : Out → ℕ) (p q : PrimaryParts D) → FillsPrimaryFiles cells p q → IsPrimary cells q → PrimaryFiles source cells jobs p
+      → PrimaryFiles (widened source (cells q.dir) q.files) cells jobs q
+  primary_filled jobs p q fills whole was = record {
+    held = record { each = λ name lasting counted. held name lasting counted (count_of p.files name) refl };
+    unwritten = λ name undrawn.
+        let none : source name ≡ None = was.unwritten name (fills.drawn.each name undrawn) in
+        let free : count_of q.files name ≡ 0 = whole.undrawn.each name undrawn in
+        ap (λ (o : Content). option_or o (if nat_lt 0 (count_of q.files name) then (cells q.dir name).now else None)) none
+        ∙ ap (λ (b : Bool). if b then (cells q.dir name).now else None) (test_none (count_of q.files name) free);
+    generation = fills.point;
+    outs = λ s. subst (λ (ts : List Out). jobs s ≤ states_like s ts) (sym fills.states) (was.outs s);
+  }
+    where
+      held : (name : Name) → IsLasting name → 0 < count_of q.files name → (k : ℕ) → count_of p.files name ≡ k → (cells q.dir name).now ≡ widened source (cells q.dir) q.files name
+      held name lasting counted zero is =
+          let none : source name ≡ None = was.unwritten name (fills.fresh.each name is counted) in
+          sym (ap (λ (o : Content). option_or o (if nat_lt 0 (count_of q.files name) then (cells q.dir name).now else None)) none
+          ∙ ap (λ (b : Bool). if b then (cells q.dir name).now else None) (test_some (count_of q.files name) counted))
+      held name lasting counted (suc k) is =
+          let before : 0 < count_of p.files name = omega (arith, is) in
+          let now : (cells q.dir name).now ≡ source name = fills.stays.held name before counted ∙ was.held.each name lasting before in
+          let there : is_some (source name) ≡ true = ap is_some (sym now) ∙ (whole.node.whole.names name ∙ known_counted q.files name counted) in
+          now ∙ sym (some_wider source (widened source (cells q.dir) q.files) name (widened_more source (cells q.dir) q.files) there)

@@ -1,0 +1,73 @@
+-- What copies hand out, take back and end with.
+use Rattle.std.specs.Prelude.{ℕ, ◌≡◌, ◌≢◌, ◌<◌, ◌∷◌, false, Bool, true, Option, Some, None}
+use Rattle.nrt_base.specs.declared.numbers.At.{At}
+use Rattle.nrt_base.specs.declared.numbers.NodeNo.{NodeNo}
+use Rattle.nrt_base.specs.declared.numbers.Version.{Version}
+use Rattle.copy_state.specs.Meta.{IsMetaOf}
+use Rattle.history_entries.specs.declared.entry.Event.{Event}
+use Rattle.history_entries.specs.declared.entry.Event.TheVariants.{Copying, Switched, Copied}
+use Rattle.history_entries.specs.Nodes.{Past, newest_version}
+use Rattle.history_entries.specs.Lines.{start_entry, highest_switched, NodeSurvives, SourceSurvives}
+use Rattle.history_tables.specs.declared.jobs.JobRow.{JobRow}
+use Rattle.history_tables.specs.declared.jobs.Job.{Job}
+use Rattle.history_tables.specs.Begins.{open_line}
+use Rattle.history_book.specs.Log.{Log, printed, shown, kept}
+use Rattle.history_book.specs.Jobs.{job_of}
+use Rattle.history_book.specs.declared.inner.Inner.TheVariants.{JobBegun, FileOut, JobEnd}
+use Rattle.cluster_state.specs.declared.tasks.CopyTask.{CopyTask}
+use Rattle.cluster_state.specs.declared.tasks.FileTask.{FileTask}
+use Rattle.cluster_state.specs.Run.{Run, IsNow}
+
+-- the newest version
+abbrev pub newest_of : Past → Version
+newest_of past = record { 0 = newest_version past }
+
+-- A line copies by this job: the line has no reply, the job is the last one of its lane and has no end, and the line has switched
+-- no node as high.
+pub record IsCopying (at : At) (log : Log) (task : CopyTask) : Type 0 where
+  pub row : JobRow
+  pub last : job_of at.lane.0 log ≡ Some row
+  pub at_is : row.job.at ≡ at
+  pub node : row.job.node ≡ task.node
+  pub number : row.job.number ≡ task.job
+  pub line : task.line ≡ at.line
+  pub unended : row.ended ≡ false
+  pub is_open : open_line at (printed log) ≢ None
+  pub ordered : highest_switched at (printed log) < task.node.0
+
+-- the last job of a lane runs: it has no end, no later one began at its node, and neither that nor the source has crashed since
+-- the line's start
+pub record JobRuns (log : Log) (row : JobRow) : Type 0 where
+  pub last : job_of row.job.at.lane.0 log ≡ Some row
+  pub unended : row.ended ≡ false
+  pub alone : row.later ≡ None
+  pub survives : NodeSurvives (printed log) row.job.at row.job.node.0
+  pub source : SourceSurvives (printed log) row.job.at
+
+-- a job of the newest version began for the line at the node, behind these entries, and runs; the line copies by it
+pub record BeginsJob (at : At) (n : NodeNo) (old new : Run) (log : Log) (task : CopyTask) : Type 0 where
+  pub now : IsNow old new (kept (JobBegun at.line n task.job (Some (newest_of (printed old.log))) (Some at)) ∷ log)
+  pub node : task.node ≡ n
+  pub copying : IsCopying at new.log task
+  pub runs : JobRuns new.log copying.row
+
+-- a file was handed out to the job, with its metadata
+pub record HandsFile (job : Job) (old new : Run) (file : FileTask) : Type 0 where
+  pub now : IsNow old new (kept (FileOut job.at.line job.node job.number file.name file.source (Some job.at)) ∷ old.log)
+  pub meta : IsMetaOf file.source file.meta
+
+-- the line started as a copy
+abbrev pub is_copy_start : Option Event → Bool
+is_copy_start (Some (Copying n v)) = true
+is_copy_start begun = false
+
+-- the node switched to the job's version, and the job has ended; where its line is a copy, that has its reply
+abbrev pub ended_log : Job → Option Event → Log → Log
+ended_log job (Some (Copying n v)) log =
+    kept (JobEnd job.at.line job.node job.number) ∷ shown job.at (Copied n v) ∷ shown job.at (Switched job.node job.version) ∷ log
+ended_log job begun log = kept (JobEnd job.at.line job.node job.number) ∷ shown job.at (Switched job.node job.version) ∷ log
+
+-- a job goes on: the next file is handed out, or none is missing and it has ended
+abbrev pub GoesOn : Job → Run → Run → Option FileTask → Type 0
+GoesOn job old new (Some file) = HandsFile job old new file
+GoesOn job old new None = IsNow old new (ended_log job (start_entry job.at (printed old.log)) old.log)

@@ -1,0 +1,84 @@
+-- What calls leave of the files of a node, and entries of the jobs that the log shows.
+use Rattle.std.specs.Prelude.{ℕ, ◌≡◌, ◌≢◌, ◌≤◌, ◌==◌, Bool, true, false, not, Some, None, ⊤}
+use Rattle.nrt_base.specs.declared.doc.Doc.{Doc}
+use Rattle.nrt_base.specs.declared.numbers.At.{At}
+use Rattle.disk_model.specs.Disk.{Name, Cells}
+use Rattle.index_primary.specs.declared.parts.Parts.{Parts as PrimaryParts}
+use Rattle.index_primary.specs.Primary.{KeepsHeldBytes}
+use Rattle.index_primary.specs.Calls.{FillsUndrawn, DrawsOnly, HoldsNoNew}
+use Rattle.replica_node.specs.declared.parts.Parts.{Parts as ReplicaParts}
+use Rattle.replica_node.specs.Sources.{KeepsSource}
+use Rattle.history_entries.specs.declared.entry.Event.{Event}
+use Rattle.history_entries.specs.declared.entry.Event.TheVariants.{Copying, Switched, Crashed, Reopened, Promoted}
+use Rattle.history_entries.specs.Nodes.{newest_version, version_of}
+use Rattle.history_entries.specs.Lines.{start_entry, before_start, copy_in_flight, highest_copy}
+use Rattle.history_entries.specs.Points.{documents_at}
+use Rattle.history_tables.specs.declared.jobs.Job.{Job}
+use Rattle.history_book.specs.Log.{Log, printed}
+use Rattle.history_book.specs.declared.inner.Inner.{Inner}
+use Rattle.history_book.specs.declared.inner.Inner.TheVariants.{JobBegun, FileOut, JobEnd}
+use Rattle.history_book.specs.Jobs.{job_at}
+use Rattle.cluster_state.specs.declared.nodes.Node.{Node}
+use Rattle.cluster_state.specs.declared.nodes.Node.TheVariants.{Primary, Replica, Down}
+use Rattle.cluster_state.specs.FilesOut.{file_out}
+
+-- the entry leaves what the log shows of the job at a replica: it starts no copy to it and does not switch it, and nothing crashes or
+-- is promoted
+abbrev pub keeps_jobs : Event → ℕ → Bool
+keeps_jobs (Copying m v) n = not (m.0 == n)
+keeps_jobs (Switched m v) n = not (m.0 == n)
+keeps_jobs (Reopened m v) n = not (m.0 == n)
+keeps_jobs (Crashed m) n = false
+keeps_jobs (Promoted m g f v) n = false
+keeps_jobs e n = true
+
+-- the entry of inner work is about no job at the node
+abbrev pub leaves_job : Inner → ℕ → Bool
+leaves_job (JobBegun line m number v by) n = not (m.0 == n)
+leaves_job (FileOut line m number name source by) n = not (m.0 == n)
+leaves_job (JobEnd line m number) n = not (m.0 == n)
+leaves_job i n = true
+
+-- what the log shows of the job at a node is what it showed: no copy to the node came, and of the newest version none that was not in flight
+pub record SameJob (log now : Log) (n : ℕ) : Type 0 where
+  pub job : job_at n now ≡ job_at n log
+  pub newest : newest_version (printed log) ≤ newest_version (printed now)
+  pub documents : (v : ℕ) → v ≤ newest_version (printed log) → documents_at (printed now) v ≡ documents_at (printed log) v
+  pub latest : highest_copy n (printed now) ≤ highest_copy n (printed log)
+  pub version : version_of n (printed now) ≡ version_of n (printed log)
+  pub start : (job : Job) → job_at n log ≡ Some job → start_entry job.at (printed log) ≢ None
+      → (start_entry job.at (printed now) ≢ None) × (before_start job.at (printed now) ≡ before_start job.at (printed log))
+  pub flight : (at : At) → copy_in_flight n (newest_version (printed now)) (printed now) ≡ Some at
+      → (copy_in_flight n (newest_version (printed log)) (printed log) ≡ Some at) × (newest_version (printed now) ≡ newest_version (printed log))
+  pub handed : (job : Job) (q : Name) → job_at n log ≡ Some job → file_out job.at n job.number q now ≡ file_out job.at n job.number q log
+
+module _ {D : Type 0} where
+  -- the primary holds no new file, wrote no name, and reads, numbers and searches as before
+  pub record KeepsPrimaryFiles (cells : D → Cells) (old new : PrimaryParts D) : Type 0 where
+    pub stays : KeepsHeldBytes cells old new
+    pub no_new : HoldsNoNew old new
+    pub drawn : DrawsOnly old new
+    pub point : new.point_infos.generation ≡ old.point_infos.generation
+    pub generation : new.infos.generation ≡ old.infos.generation
+
+  -- the primary's files are those from before and such as were not written yet
+  pub record FillsPrimaryFiles (cells : D → Cells) (old new : PrimaryParts D) : Type 0 where
+    pub stays : KeepsHeldBytes cells old new
+    pub fresh : FillsUndrawn old new
+    pub drawn : DrawsOnly old new
+    pub point : new.point_infos.generation ≡ new.infos.generation
+    pub states : new.states ≡ old.states
+
+  -- the replica's files read as at the source where they did, and its job and its point's version are those from before
+  pub record KeepsReplicaFiles (cells : D → Cells) (old new : ReplicaParts D) : Type 0 where
+    pub sourced : KeepsSource cells old new
+    pub job : new.job ≡ old.job
+    pub jobs : new.jobs ≡ old.jobs
+    pub version : new.searchers.point.version ≡ old.searchers.point.version
+
+  -- a call of a node left its files and its job as they were
+  abbrev pub KeepsFiles : (D → Cells) → Node D → Node D → Type 0
+  KeepsFiles cells (Primary p) (Primary q) = KeepsPrimaryFiles cells p q × (q.states ≡ p.states)
+  KeepsFiles cells (Replica r) (Replica s) = KeepsReplicaFiles cells r s
+  KeepsFiles cells (Down d) (Down e) = ⊤
+  KeepsFiles cells old new = ⊥

@@ -1,0 +1,85 @@
+-- What the files of a cluster's nodes have to do with each other and with the log: each name of a segment's file means the same
+-- bytes at every node, and each running job copies what the log shows of it.
+use Rattle.std.specs.Prelude.{ℕ, ◌≡◌, ◌≢◌, ◌≤◌, ◌<◌, List, Option, Some, None, IsSomeAnd, ⊤}
+use Rattle.std.specs.List.{All}
+use Rattle.nrt_base.specs.declared.numbers.At.{At}
+use Rattle.disk_model.specs.Disk.{Name, Content, Cells}
+use Rattle.seg_reader.specs.Stands.{StandsFor}
+use Rattle.index_primary.specs.declared.parts.Parts.{Parts as PrimaryParts}
+use Rattle.index_primary.specs.declared.states.Out.{Out}
+use Rattle.index_primary.specs.Primary.{loose_of}
+use Rattle.index_primary.specs.Held.{IsUndrawn}
+use Rattle.replica_opening.specs.Known.{HasMeta}
+use Rattle.replica_node.specs.declared.job.PointJob.{PointJob}
+use Rattle.replica_node.specs.declared.parts.Parts.{Parts as ReplicaParts}
+use Rattle.replica_node.specs.Sources.{HeldReadAs, IsSourced}
+use Rattle.history_entries.specs.Nodes.{Past, IsNode, newest_version, version_of}
+use Rattle.history_entries.specs.Lines.{start_entry, before_start, copy_in_flight, highest_copy}
+use Rattle.history_entries.specs.Points.{documents_at}
+use Rattle.history_tables.specs.declared.jobs.Job.{Job}
+use Rattle.history_book.specs.Log.{Log, printed}
+use Rattle.history_book.specs.Jobs.{job_at}
+use Rattle.cluster_state.specs.declared.nodes.Node.{Node}
+use Rattle.cluster_state.specs.declared.nodes.Node.TheVariants.{Primary, Replica, Down}
+use Rattle.cluster_state.specs.declared.nodes.Place.{Place}
+use Rattle.cluster_state.specs.Places.{place_of}
+use Rattle.cluster_state.specs.FilesOut.{file_out}
+use Rattle.cluster_state.specs.Outs.{states_like, jobs_like}
+
+-- The job of a replica is the one that the log shows to run there: of its number and version, which no copy to the node passed;
+-- the node was behind what its line noted, and is. The files that it wants have their metadata at the source, its point is of the
+-- documents of the version, and each file that was handed out to it is as at the source.
+pub record CopyShows (source : Name → Content) (log : Log) (n : ℕ) (job : Job) (j : PointJob) : Type 0 where
+  pub number : j.copy.number ≡ job.number
+  pub version : j.infos.version.0 ≡ job.version.0
+  pub known : job.version.0 ≤ newest_version (printed log)
+  pub latest : highest_copy n (printed log) ≤ job.version.0
+  pub begun : start_entry job.at (printed log) ≢ None
+  pub behind : version_of n (printed log) < newest_version (before_start job.at (printed log))
+  pub metas : All (λ f. HasMeta source f.0 f.1) j.copy.want.files
+  pub stands : StandsFor source j.infos (documents_at (printed log) job.version.0)
+  pub handed : (q : Name) (bytes : List ℕ) → file_out job.at n job.number q log ≡ Some bytes → source q ≡ Some bytes
+
+-- a replica has a job exactly where the log shows one that runs there, and it is that one
+abbrev pub JobShows : (Name → Content) → Log → ℕ → Option Job → Option PointJob → Type 0
+JobShows source log n None None = ⊤
+JobShows source log n (Some job) (Some j) = CopyShows source log n job j
+JobShows source log n _ _ = ⊥
+
+-- the job is of this line and for this version
+abbrev pub IsJobFor : At → ℕ → Job → Type 0
+IsJobFor at v job = (job.at ≡ at) × (job.version.0 ≡ v)
+
+module _ {D : Type 0} where
+  -- the version that a replica copies, or else the one that it searches
+  abbrev pub reached_version : Option PointJob → ReplicaParts D → ℕ
+  reached_version None r = r.searchers.point.version.0
+  reached_version (Some j) r = j.infos.version.0
+
+  -- The replica's files read as at the source, its job is what the log shows, and it began fewer jobs than the version that it
+  -- has reached; a copy of the newest version to it that is in flight is its job.
+  pub record ReplicaFiles (source : Name → Content) (cells : D → Cells) (log : Log) (n : ℕ) (r : ReplicaParts D) : Type 0 where
+    pub sourced : IsSourced source cells r
+    pub job : JobShows source log n (job_at n log) r.job
+    pub few : r.jobs < reached_version r.job r
+    pub flight : (at : At) → copy_in_flight n (newest_version (printed log)) (printed log) ≡ Some at
+        → IsSomeAnd (job_at n log) (IsJobFor at (newest_version (printed log)))
+
+  -- The primary's files read as at the source, where nothing stands under a name that is not written yet; its point is of its
+  -- generation, and of each state as many are out as there are jobs that began with one like it.
+  pub record PrimaryFiles (source : Name → Content) (cells : D → Cells) (jobs : Out → ℕ) (p : PrimaryParts D) : Type 0 where
+    pub held : HeldReadAs source (cells p.dir) p.files
+    pub unwritten : (q : Name) → IsUndrawn p.infos (loose_of p) q → source q ≡ None
+    pub generation : p.point_infos.generation ≡ p.infos.generation
+    pub outs : (s : Out) → jobs s ≤ states_like s p.states
+
+  abbrev pub NodeFiles : (Name → Content) → (D → Cells) → Log → (Out → ℕ) → ℕ → Node D → Type 0
+  NodeFiles source cells log jobs n (Primary p) = PrimaryFiles source cells jobs p
+  NodeFiles source cells log jobs n (Replica r) = ReplicaFiles source cells log n r
+  NodeFiles source cells log jobs n (Down d) = ⊤
+
+  -- what each name of a file means, and that all nodes have it so
+  pub record FilesShow (cells : D → Cells) (log : Log) (size : ℕ) (places : List (Option (Place D))) : Type 0 where
+    pub source : Name → Content
+    pub each : (n : ℕ) → IsNode size n
+        → IsSomeAnd (place_of places n) (λ place. NodeFiles source cells log (λ s. jobs_like places s size) n place.node)

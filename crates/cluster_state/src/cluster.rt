@@ -1,0 +1,120 @@
+//! The cluster.
+
+use crate::nodes::Place;
+use disk_model::FaultDir;
+use history_book::Book;
+use history_entries::Event;
+use nrt_base::{At, NoMemory, NodeNo};
+use std::marker::Model;
+
+/// All nodes of a cluster and what happened in it. A call that finds no memory ends it: no other has a condition to rest on.
+#[derive(Drop)]
+pub struct ClusterState<D: FaultDir> {
+    pub(crate) book: Book,
+    pub(crate) places: Vec<Option<Place<D>>>,
+    pub(crate) ended: bool,
+}
+
+impl<D: FaultDir> Model for ClusterState<D> {
+    ghost use Rattle.std.specs.Prelude.{◌≡◌, false};
+    ghost use Rattle.cluster_state.specs.Run.{Run};
+    ghost use Rattle.documents.specs.contracts.query.Query as query;
+    ghost use Rattle.std.specs.Coded.{codes};
+
+    ghost Value = { Run };
+
+    ghost coded = { Prim.hlevel (codes, query.the_row.coded) };
+
+    ghost use Rattle.cluster_state.specs.State.{Shows};
+    ghost use Rattle.cluster_state.specs.Files.{FilesShow};
+
+    ghost view = { λ c. record { ended = c.ended; nodes = c.book.nodes; log = c.book.log } };
+
+    ghost invariant = { λ c. c.ended ≡ false → Shows D.cells c.book.log c.book.nodes c.places.items
+        × FilesShow D.cells c.book.log c.book.nodes c.places.items };
+}
+
+impl<D: FaultDir + Drop> ClusterState<D> {
+    ghost use Rattle.std.specs.Prelude.{ℕ, ◌≡◌, ◌≢◌, ◌∷◌, false, true, Some, Option, OnOk, OnErr, IfSome};
+    ghost use Rattle.nrt_base.specs.declared.numbers.NodeNo.{NodeNo};
+    ghost use Rattle.history_entries.specs.Nodes.{IsNode, primary_of};
+    ghost use Rattle.history_entries.specs.Lines.{start_entry, publish_in_flight};
+    ghost use Rattle.history_entries.specs.Legal.{KeepsRule};
+    ghost use Rattle.history_tables.specs.Openings.{opens_ticket};
+    ghost use Rattle.history_book.specs.Log.{printed, shown};
+    ghost use Rattle.history_book.specs.Turns.{InTurn};
+    ghost use Rattle.cluster_state.specs.Run.{IsNow, IsEnded};
+    ghost use Rattle.cluster_state.specs.Moves.{moves, moves_tickets};
+    ghost use Rattle.cluster_state.specs.FileChanges.{keeps_jobs};
+
+    /// What happened, for readers.
+    pub fn book(&self) -> &Book
+        ensures log { result.now.log ≡ self.now.log }
+        ensures nodes { result.now.nodes ≡ self.now.nodes }
+    {
+        &self.book
+    }
+
+    /// Whether it has ended: a call found no memory, and no other may be made.
+    pub fn has_ended(&self) -> bool
+        ensures { result ≡ self.now.ended }
+    {
+        self.ended
+    }
+
+    /// The running primary, which is a node.
+    pub fn primary(&self) -> Option<NodeNo>
+        requires running { self.now.ended ≡ false }
+        ensures is { result ≡ primary_of (printed self.now.log) }
+        ensures node { IfSome result (λ p. IsNode self.now.nodes p.0) }
+    {
+        self.book.is_legal();
+        self.book.primary()
+    }
+
+    /// Ends it, for a caller that found no memory.
+    pub fn end(&mut self)
+        ensures { IsEnded self.old self.new }
+    {
+        self.ended = true;
+    }
+
+    /// What happened, once no other call is to be made.
+    pub fn into_book(self) -> Book
+        ensures log { result.log ≡ self.log }
+        ensures nodes { result.nodes ≡ self.nodes }
+    {
+        let ClusterState { book, .. } = self;
+        book
+    }
+
+    /// The publish in flight is not that of a line which did not start as one. A law.
+    pub fn is_apart(&self, at: At)
+        requires running { self.now.ended ≡ false }
+        requires line { start_entry at (printed self.now.log) ≢ Some Event.Publishing }
+        ensures { publish_in_flight (printed self.now.log) ≢ Some at }
+    {
+        self.book.is_legal();
+    }
+
+    /// Appends an entry that moves no node, starts no copy and opens no ticket, of a line whose publish is not in flight. `Err` is want of
+    /// memory: the cluster has ended, and the history is as before.
+    pub fn note(&mut self, at: At, event: Event) -> Result<(), NoMemory>
+        requires running { self.old.ended ≡ false }
+        requires rule { KeepsRule self.old.nodes (printed self.old.log) at event }
+        requires turn { InTurn (printed self.old.log) at event }
+        requires line { publish_in_flight (printed self.old.log) ≢ Some at }
+        requires still { (p : Option NodeNo) (m : ℕ) → moves event p m ≡ false }
+        requires apart { (m : ℕ) → moves_tickets event m ≡ false }
+        requires jobs { (m : ℕ) → keeps_jobs event m ≡ true }
+        requires tickets { opens_ticket event ≡ false }
+        ensures ok { OnOk result (IsNow self.old self.new (shown at event ∷ self.old.log)) }
+        ensures err { OnErr result (IsEnded self.old self.new) }
+    {
+        self.ended = true;
+        self.book.reserve(1)?;
+        self.book.show(at, event);
+        self.ended = false;
+        Ok(())
+    }
+}
