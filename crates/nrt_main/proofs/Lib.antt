@@ -1,5 +1,5 @@
 mod Writes
-mod PlainScripts
+mod BuiltScripts
 mod AnswerLaws
 mod FrameAnswers
 mod CheckAnswers

@@ -1,0 +1,6 @@
+mod Steps
+mod Jobs
+mod Parts
+mod Phases
+mod Scripts
+mod CopyLemmas
