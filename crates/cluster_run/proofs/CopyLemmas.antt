@@ -15,6 +15,7 @@ use Rattle.history_entries.specs.Lines.{same_at, is_answered, start_entry}
 use Rattle.history_tables.specs.declared.jobs.Job.{Job}
 use Rattle.history_tables.specs.declared.jobs.JobRow.{JobRow}
 use Rattle.history_tables.specs.declared.jobs.JobStep.TheVariants.{Begins, Ends, Passes}
+use Rattle.history_tables.specs.Begins.{open_line}
 use Rattle.history_tables.specs.JobRows.{new_job_row, is_going, row_by, row_if_some, while_going}
 use Rattle.history_book.specs.Log.{Log, printed, shown, kept}
 use Rattle.history_book.specs.Jobs.{last_job, job_at, job_of, IsOlder}
@@ -32,10 +33,11 @@ use Rattle.cluster_state.specs.Settles.{IsSettling}
 use Rattle.cluster_core.specs.declared.turn.Turn.{Turn}
 use Rattle.cluster_core.specs.declared.turn.Turn.TheVariants.{Work, Done, Busy}
 use Rattle.cluster_core.specs.Doing.{Does, IsReplied}
-use Rattle.cluster_core.specs.CopyCalls.{CopiesFor, CopyAnswered, IsUpToDate, CopyStarts, JobGoesOn, SettleAnswered, SettleStarts, SettleGoesOn}
+use Rattle.cluster_core.specs.CopyCalls.{CopiesFor, CopyAnswered, IsUpToDate, CopyStarts, JobGoesOn, AreFrom, SettleStarts, SettleGoesOn, SettlesOn}
 use Rattle.cluster_run.specs.Going.{HasEnded, HaveJobsEnded}
 use Rattle.cluster_run.specs.Copies.{HasEndedOrIs, HaveOthersEnded, Copies, IsCopyStart, EndsCopy}
 use Rattle.cluster_run.specs.Running.{EndsLine}
+use Rattle.cluster_run.proofs.Jobs.{refused_for_jobs}
 use Rattle.cluster_run.proofs.Steps.{does_then}
 
 -- ---- no job runs where every one has ended
@@ -145,6 +147,12 @@ ended_reply : (at : At) (job : Job) (begun : Option Event) (log : Log) → job.a
 ended_reply at job (Some (Copying n v)) log mine start = rw (mine, same_at_self at) refl
 ended_reply at job begun log mine start = absurd start
 
+-- a settle stays open behind a switch
+still_open : (at : At) (job : Job) (v : Version) (begun : Option Event) (log : Log) → begun ≡ Some (Settling v) → job.at ≡ at → open_line at (printed log) ≢ None
+    → open_line at (printed (ended_log job begun log)) ≢ None
+still_open at job v begun log is mine open' =
+    subst (λ (o : Option Event). open_line at (printed (ended_log job o log)) ≢ None) (sym is) (rw (mine, same_at_self at) open')
+
 -- ---- file after file
 
 -- the job goes on, and some files of it were brought over
@@ -153,7 +161,7 @@ pub record CopyGoes (at : At) (task : CopyTask) (initial now : Run) : Type 0 whe
   pub copies : Copies at task now.log
   pub start : start_entry at (printed now.log) ≡ start_entry at (printed initial.log)
   pub does : (command : LineCommand) → CopiesFor command (start_entry at (printed initial.log)) → Does command at initial now
-  pub settling : (left : SettleTask) → IsSettling initial.nodes (printed initial.log) at left → IsSettling now.nodes (printed now.log) at left
+  pub settling : (left : SettleTask) → IsSettling initial.nodes (printed initial.log) at left → AreFrom task.node left.left.items → IsSettling now.nodes (printed now.log) at left
 
 does_nothing : (command : LineCommand) (at : At) (old new : Run) → IsNow old new old.log → Does command at old new
 does_nothing command at old new now = record { running = now.running; nodes = now.nodes; goes = record { more = []; log = now.log; adds = tt } }
@@ -165,7 +173,7 @@ copy_at_first at task r running c =
       copies = c;
       start = refl;
       does = λ command asks. does_nothing command at r r (record { running = running; nodes = refl; log = refl });
-      settling = λ left s. s;
+      settling = λ left s last. s;
     }
 
 module _ (at : At) (task : CopyTask) (initial old new : Run) (goes : CopyGoes at task initial old) where
@@ -175,24 +183,27 @@ module _ (at : At) (task : CopyTask) (initial old new : Run) (goes : CopyGoes at
   copy_does does command asks =
       does_then command at initial old new (goes.does command asks) (does command (subst (CopiesFor command) (sym goes.start) asks))
 
-  settles : new.nodes ≡ old.nodes → ((left : SettleTask) → IsSettling old.nodes (printed old.log) at left → IsSettling old.nodes (printed new.log) at left)
-      → (left : SettleTask) → IsSettling initial.nodes (printed initial.log) at left → IsSettling new.nodes (printed new.log) at left
-  settles nodes f left s = subst (λ (size : ℕ). IsSettling size (printed new.log) at left) (sym nodes) (f left (goes.settling left s))
+  -- what the call leaves of a settle
+  abbrev Settles : Type 0
+  Settles = (left : SettleTask) → IsSettling old.nodes (printed old.log) at left → AreFrom task.node left.left.items → SettlesOn at left new
 
-  job : Job
-  job = goes.copies.copying.row.job
+  settles : Settles → ((left : SettleTask) → IsSettling old.nodes (printed old.log) at left → open_line at (printed new.log) ≢ None)
+      → (left : SettleTask) → IsSettling initial.nodes (printed initial.log) at left → AreFrom task.node left.left.items → IsSettling new.nodes (printed new.log) at left
+  settles f still left s last =
+      let now : IsSettling old.nodes (printed old.log) at left = goes.settling left s last in
+      f left now last (still left now)
 
   -- a file was handed out
   pub copy_goes_on : (file : FileTask) → GoesOn goes.copies.copying.row.job old new (Some file)
       → ((command : LineCommand) → CopiesFor command (start_entry at (printed old.log)) → Does command at old new)
-      → ((left : SettleTask) → IsSettling old.nodes (printed old.log) at left → IsSettling old.nodes (printed new.log) at left) → CopyGoes at task initial new
+      → Settles → CopyGoes at task initial new
   copy_goes_on file hands does f =
       record {
         running = hands.now.running;
         copies = copy_hands at goes.copies.copying.row.job task old new file goes.copies hands;
         start = ap (λ (l : Log). start_entry at (printed l)) hands.now.log ∙ goes.start;
         does = copy_does does;
-        settling = settles hands.now.nodes f;
+        settling = settles f (λ left s. subst (λ (l : Log). open_line at (printed l) ≢ None) (sym hands.now.log) goes.copies.copying.is_open);
       }
 
   -- a file arrived
@@ -203,13 +214,15 @@ module _ (at : At) (task : CopyTask) (initial old new : Run) (goes : CopyGoes at
         copies = subst (Copies at task) (sym now.log) goes.copies;
         start = ap (λ (l : Log). start_entry at (printed l)) now.log ∙ goes.start;
         does = copy_does (λ command asks. does_nothing command at old new now);
-        settling = settles now.nodes (λ left s. subst (λ (l : Log). IsSettling old.nodes (printed l) at left) (sym now.log) s);
+        settling = λ left s last.
+            subst (λ (size : ℕ). IsSettling size (printed new.log) at left) (sym now.nodes)
+            (subst (λ (l : Log). IsSettling old.nodes (printed l) at left) (sym now.log) (goes.settling left s last));
       }
 
   -- the job has ended
   pub copy_ends : GoesOn goes.copies.copying.row.job old new None
       → ((command : LineCommand) → CopiesFor command (start_entry at (printed old.log)) → Does command at old new)
-      → ((left : SettleTask) → IsSettling old.nodes (printed old.log) at left → IsSettling old.nodes (printed new.log) at left) → EndsCopy at initial new
+      → Settles → EndsCopy at task initial new
   copy_ends now does f =
       let row : JobRow = goes.copies.copying.row in
       let mine : row.job.at ≡ at = goes.copies.copying.at_is in
@@ -220,7 +233,9 @@ module _ (at : At) (task : CopyTask) (initial old new : Run) (goes : CopyGoes at
             let here : start_entry row.job.at (printed old.log) ≡ start_entry at (printed initial.log) = ap (λ (a : At). start_entry a (printed old.log)) mine ∙ goes.start in
             ap (λ (l : Log). is_answered at (printed l)) now.log
             ∙ ended_reply at row.job (start_entry row.job.at (printed old.log)) old.log mine (subst IsCopyStart (sym here) copy);
-        settling = settles now.nodes f;
+        settling = settles f (λ left s.
+            subst (λ (l : Log). open_line at (printed l) ≢ None) (sym now.log)
+            (still_open at row.job left.version (start_entry row.job.at (printed old.log)) old.log (ap (λ (a : At). start_entry a (printed old.log)) mine ∙ s.started) mine goes.copies.copying.is_open));
         jobs = subst HaveJobsEnded (sym now.log) (jobs_end task row.job (start_entry row.job.at (printed old.log)) old.log goes.copies.others goes.copies.copying.node goes.copies.copying.number);
       }
 
@@ -241,7 +256,7 @@ copy_start_entry at n old new task starts =
     ap (λ (l : Log). start_entry at (printed l)) starts.now.log
     ∙ ap (λ (b : Bool). if b then Some (Copying n (newest_of (printed old.log))) else start_entry at (printed old.log)) (same_at_self at)
 
-pub copy_ended : (at : At) (n : NodeNo) (old mid new : Run) (task : CopyTask) → CopyStarts at n old mid (Work task) → Does (Copy n) at old mid → EndsCopy at mid new → EndsLine (Copy n) at old new
+pub copy_ended : (at : At) (n : NodeNo) (old mid new : Run) (task : CopyTask) → CopyStarts at n old mid (Work task) → Does (Copy n) at old mid → EndsCopy at task mid new → EndsLine (Copy n) at old new
 copy_ended at n old mid new task starts does ends =
     let start = copy_start_entry at n old mid task starts in
     record {
@@ -263,13 +278,9 @@ pub settle_at_first : (at : At) (left : SettleTask) (old new : Run) → SettleSt
 settle_at_first at left old new starts does jobs =
     record { running = does.running; does = does; settling = starts.1; jobs = subst HaveJobsEnded (sym starts.0.log) jobs }
 
-settle_refused : (at : At) (o : Option Cause) (old new : Run) → SettleAnswered at o old new → HaveJobsEnded old.log → HaveJobsEnded new.log
-settle_refused at (Some cause) old new refused jobs = subst HaveJobsEnded (sym refused.log) jobs
-settle_refused at None old new refused jobs = absurd refused
-
 pub settle_answered : (at : At) (old new : Run) → SettleStarts at old new Done → Does Settle at old new → IsReplied at new → HaveJobsEnded old.log → EndsLine Settle at old new
 settle_answered at old new starts does replied jobs =
-    record { does = does; replied = replied; jobs = settle_refused at (refusal Settle at.lane.0 (printed old.log)) old new starts jobs }
+    record { does = does; replied = replied; jobs = refused_for_jobs at (refusal Settle at.lane.0 (printed old.log)) old new starts jobs }
 
 module _ (at : At) (initial old mid : Run) (left left' : SettleTask) (goes : SettleGoes at left initial old) (does : Does Settle at old mid) where
   -- a job was begun
@@ -277,14 +288,14 @@ module _ (at : At) (initial old mid : Run) (left left' : SettleTask) (goes : Set
   settle_begins task starts = copy_begins at task.node old mid old.log task starts.0 goes.jobs
 
   -- and has ended
-  pub settle_goes_on : (task : CopyTask) (new : Run) → SettleGoesOn at old mid left' (Work task) → EndsCopy at mid new → SettleGoes at left' initial new
+  pub settle_goes_on : (task : CopyTask) (new : Run) → SettleGoesOn at old mid left' (Work task) → EndsCopy at task mid new → SettleGoes at left' initial new
   settle_goes_on task new starts ends =
       let both : Does Settle at old new =
       does_then Settle at old mid new does (ends.does Settle (subst (CopiesFor Settle) (sym starts.1.started) tt)) in
       record {
         running = ends.running;
         does = does_then Settle at initial old new goes.does both;
-        settling = ends.settling left' starts.1;
+        settling = ends.settling left' starts.1 starts.2.first;
         jobs = ends.jobs;
       }
 

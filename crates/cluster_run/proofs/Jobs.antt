@@ -49,7 +49,7 @@ publish_jobs at old new Busy starts h = subst (λ (r : Run). HaveJobsEnded r.log
 
 -- ---- searches
 
-refused_for_jobs : (at : At) (o : Option Cause) (old new : Run) → IsRefusedFor at o old new → HaveJobsEnded old.log → HaveJobsEnded new.log
+pub refused_for_jobs : (at : At) (o : Option Cause) (old new : Run) → IsRefusedFor at o old new → HaveJobsEnded old.log → HaveJobsEnded new.log
 refused_for_jobs at None old new refused h = absurd refused
 refused_for_jobs at (Some cause) old new refused h = subst HaveJobsEnded (sym refused.log) h
 

@@ -1,6 +1,8 @@
 mod Steps
 mod Jobs
+mod Publishes
+mod Searches
+mod CopyLemmas
 mod Parts
 mod Phases
 mod Scripts
-mod CopyLemmas

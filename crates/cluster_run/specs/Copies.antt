@@ -13,7 +13,7 @@ use Rattle.cluster_state.specs.declared.tasks.SettleTask.{SettleTask}
 use Rattle.cluster_state.specs.Run.{Run}
 use Rattle.cluster_state.specs.Copies.{IsCopying, JobRuns}
 use Rattle.cluster_state.specs.Settles.{IsSettling}
-use Rattle.cluster_core.specs.CopyCalls.{CopiesFor}
+use Rattle.cluster_core.specs.CopyCalls.{CopiesFor, AreFrom}
 use Rattle.cluster_core.specs.Doing.{Does, IsReplied}
 use Rattle.cluster_run.specs.Going.{HaveJobsEnded}
 
@@ -36,10 +36,11 @@ abbrev pub IsCopyStart : Option Event → Type 0
 IsCopyStart (Some (Copying n v)) = ⊤
 IsCopyStart begun = ⊥
 
--- the job has ended: where its line is a copy that has its reply, and a settle goes on
-pub record EndsCopy (at : At) (old new : Run) : Type 0 where
+-- the job has ended: where its line is a copy that has its reply, and a settle that has no node left below the job's goes on
+pub record EndsCopy (at : At) (task : CopyTask) (old new : Run) : Type 0 where
   pub running : new.ended ≡ false
   pub does : (command : LineCommand) → CopiesFor command (start_entry at (printed old.log)) → Does command at old new
   pub replied : IsCopyStart (start_entry at (printed old.log)) → IsReplied at new
-  pub settling : (left : SettleTask) → IsSettling old.nodes (printed old.log) at left → IsSettling new.nodes (printed new.log) at left
+  pub settling : (left : SettleTask) → IsSettling old.nodes (printed old.log) at left → AreFrom task.node left.left.items
+      → IsSettling new.nodes (printed new.log) at left
   pub jobs : HaveJobsEnded new.log

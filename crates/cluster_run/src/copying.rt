@@ -59,7 +59,7 @@ fn bring_over<D: FaultDir + Drop>(
 ) -> Result<(), NoMemory>
     requires running { cluster.old.ended ≡ false }
     requires copies { Copies at task.now cluster.old.log }
-    ensures { OnOk result (EndsCopy at cluster.old cluster.new) }
+    ensures { OnOk result (EndsCopy at task.now cluster.old cluster.new) }
 {
     for _ in 0..usize::MAX {
         match cluster.copy_next(alloc, at, task)? {
@@ -67,7 +67,7 @@ fn bring_over<D: FaultDir + Drop>(
             Turn::Done => return Ok(()),
             Turn::Work(file) => {
                 let part = carry(alloc, &file)?;
-                cluster.copy_arrived(alloc, at, task, part)?;
+                cluster.copy_arrived(at, task, part)?;
             }
         }
     }

@@ -1,6 +1,6 @@
 //! Tickets, and searches, which are evaluated outside the cluster.
 
-ghost use Rattle.std.specs.Prelude.{List, ◌≡◌, ◌≢◌, [], false, OnOk, IfOk, IfSome, IsTrue};
+ghost use Rattle.std.specs.Prelude.{List, ◌≡◌, ◌≢◌, ◌<◌, ◌^◌, [], false, true, OnOk, IfOk, IsTrue};
 ghost use Rattle.std.specs.List.{All};
 ghost use Rattle.nrt_base.specs.declared.doc.Doc.{Doc};
 ghost use Rattle.documents.specs.Matching.{is_well_formed};
@@ -56,15 +56,18 @@ pub fn close<D: FaultDir + Drop>(
     cluster.ticket_close(at, t)
 }
 
-// How many rows segments have together, where they are fewer than 2^32.
-fn count_rows(segs: &[Segment]) -> Option<u32>
-    ensures { IfSome result (λ rows. rows_of segs.now ≡ rows) }
+// Whether segments have fewer than 2^32 rows together.
+fn have_few_rows(segs: &[Segment]) -> bool
+    ensures { result ≡ true → rows_of segs.now < 2 ^ 32 }
 {
     let mut rows = 0u32;
     for seg in segs {
-        rows = rows.checked_add(seg.rows())?;
+        let Some(sum) = rows.checked_add(seg.rows()) else {
+            return false;
+        };
+        rows = sum;
     }
-    Some(rows)
+    true
 }
 
 // What a search answers over what was handed out to it, whose live rows are some documents.
@@ -75,7 +78,7 @@ fn evaluate(alloc: Global, lease: &Lease<Segment>, query: &Query) -> Result<Answ
         → answer ≡ scan_of docs query.now) }
 {
     let segs = lease.readers.as_slice();
-    if count_rows(segs).is_none() {
+    if !have_few_rows(segs) {
         return Err(AllocError);
     }
     answer(alloc, segs, query)
