@@ -1,6 +1,6 @@
 -- A job from its begin to its end, where nothing else goes on.
 use Rattle.std.proofs.Common.{◌≡◌, ◌≢◌, ◌&&◌, ◌==◌, ℕ, Bool, true, false, List, [], ◌∷◌, Some, None, Option, refl, ap, ◌∙◌, sym, subst, inl, inr, if◌then◌else◌, length}
-use Rattle.std.specs.Prelude.{◌⊎◌, ⊤, IfSome, not, is_some}
+use Rattle.std.specs.Prelude.{◌⊎◌, ⊤, IfSome, OnOk, Result, Ok, Err}
 use Rattle.std.proofs.lemmas.Bool.{eq-eqb}
 use Rattle.history_tables.proofs.RowLemmas.{same_at_self}
 use Rattle.file_deleter.proofs.NameLemmas.{same_self}
@@ -303,3 +303,10 @@ module _ (at : At) (initial old mid : Run) (left left' : SettleTask) (goes : Set
   pub settle_ends : SettleGoesOn at old mid left' Done → IsReplied at mid → EndsLine Settle at initial mid
   settle_ends starts replied =
       record { does = does_then Settle at initial old mid goes.does does; replied = replied; jobs = subst HaveJobsEnded (sym starts.1.log) goes.jobs }
+
+-- ---- answers
+
+pub on_copy : {T E : Type 0} (r : Result T E) (at : At) (n : NodeNo) (old mid new : Run) (task : CopyTask) → CopyStarts at n old mid (Work task) → Does (Copy n) at old mid
+    → OnOk r (EndsCopy at task mid new) → OnOk r (EndsLine (Copy n) at old new)
+on_copy (Ok x) at n old mid new task starts does ends = copy_ended at n old mid new task starts does ends
+on_copy (Err x) at n old mid new task starts does ends = tt

@@ -5,4 +5,5 @@ mod Searches
 mod CopyLemmas
 mod Parts
 mod Phases
+mod EmptyDirs
 mod Scripts

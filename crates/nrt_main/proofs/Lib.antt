@@ -1,5 +1,6 @@
 mod Writes
 mod BuiltScripts
+mod Leaving
 mod AnswerLaws
 mod FrameAnswers
 mod CheckAnswers

@@ -57,7 +57,7 @@ fn run_report(alloc: Global, script: &Script) -> Result<(Cluster<MemDir>, Vec<u8
 }
 
 /// Runs the script that the bytes are.
-#[tactic(auto, using(crate::proofs::BuiltScripts::is_built_script, crate::proofs::AnswerLaws::run_answer, crate::proofs::AnswerLaws::refusal_answer))]
+#[tactic(auto, using(crate::proofs::BuiltScripts::is_built_script, crate::proofs::Leaving::leaves_text, crate::proofs::Leaving::leaves_front, crate::proofs::Leaving::answers_text, crate::proofs::Leaving::answers_front, crate::proofs::AnswerLaws::run_answer, crate::proofs::AnswerLaws::refusal_answer))]
 fn run_bytes<K: Sink>(
     alloc: Global,
     bytes: &[u8],
