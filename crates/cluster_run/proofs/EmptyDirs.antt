@@ -1,6 +1,6 @@
 -- A new directory in memory is empty, and so is each image of it.
 use Rattle.std.proofs.Common.{◌≡◌, ℕ, Bool, true, false, List, Some, None, Option, refl, ap, sym, subst, ◌∙◌}
-use Rattle.std.specs.Prelude.{is_none}
+use Rattle.std.specs.Prelude.{is_none, Result, Ok, Err, IfOk}
 use Rattle.std.proofs.lemmas.Bool.{false≢true}
 use Rattle.disk_model.specs.Disk.{Name, Content, Cell, may_leave}
 use Rattle.disk_memory.specs.declared.memory.MemDir.{MemDir}
@@ -18,3 +18,7 @@ empty_dir dir table =
       now = λ q. ap (λ (h : Held). (cell h).now) (table q);
       images = λ image is q. none_left (image q) (subst (λ (h : Held). may_leave (cell h) (image q) ≡ true) (table q) (is q));
     }
+
+pub on_empty : {E : Type 0} (r : Result MemDir E) → IfOk r (λ dir. (q : List ℕ) → table_of dir q ≡ untouched) → IfOk r (λ dir. IsEmptyDir (cells_in dir))
+on_empty (Ok dir) table = empty_dir dir table
+on_empty (Err e) table = tt

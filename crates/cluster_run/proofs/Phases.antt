@@ -129,15 +129,27 @@ between_low low high n h = grind (arith, nat_tests)
 between_high : (low high n : ℕ) → is_between low high n ≡ true → n ≤ high
 between_high low high n h = grind (arith, nat_tests)
 
-module _ (phase : Phase) (form : is_phase phase ≡ true) (i : ℕ) (l : LaneNo × List Line) (item : l ≡ get_or phase.lanes i l) (within : i < length phase.lanes) where
+-- the lane with its lines stands at this place of the phase
+pub record IsLaneAt (phase : Phase) (i : ℕ) (l : LaneNo × List Line) : Type 0 where
+  pub item : l ≡ get_or phase.lanes i l
+  pub within : i < length phase.lanes
+
+pub lane_at : (phase : Phase) (lanes : List (LaneNo × List Line)) (i : ℕ) (l : LaneNo × List Line) → lanes ≡ phase.lanes → l ≡ get_or lanes i l → i < length lanes → IsLaneAt phase i l
+lane_at phase lanes i l is item within =
+    record {
+      item = item ∙ ap (λ (ls : Lanes). get_or ls i l) is;
+      within = subst (λ (ls : Lanes). i < length ls) is within;
+    }
+
+module _ (phase : Phase) (form : is_phase phase ≡ true) (i : ℕ) (l : LaneNo × List Line) (here : IsLaneAt phase i l) where
   dropped : drop i phase.lanes ≡ l ∷ drop (i + 1) phase.lanes
-  dropped = rw (add-one, drop-cons phase.lanes i l) (ap (λ (x : LaneNo × List Line). x ∷ drop (suc i) phase.lanes) (sym item))
+  dropped = let within : i < length phase.lanes = here.within in rw (add-one, drop-cons phase.lanes i l) (ap (λ (x : LaneNo × List Line). x ∷ drop (suc i) phase.lanes) (sym here.item))
 
   whole : phase.lanes ≡ take i phase.lanes ++ l ∷ drop (i + 1) phase.lanes
   whole = sym (take-append-drop i phase.lanes) ∙ ap (λ (ls : Lanes). take i phase.lanes ++ ls) dropped
 
   taken : take (i + 1) phase.lanes ≡ take i phase.lanes ++ l ∷ []
-  taken = take_more phase.lanes i l within ∙ ap (λ (x : LaneNo × List Line). take i phase.lanes ++ x ∷ []) (sym item)
+  taken = take_more phase.lanes i l here.within ∙ ap (λ (x : LaneNo × List Line). take i phase.lanes ++ x ∷ []) (sym here.item)
 
   both : (list_all is_under phase.lanes ≡ true) × (are_apart phase.lanes ≡ true)
   both = and_parts (list_all is_under phase.lanes) (are_apart phase.lanes) form
@@ -146,7 +158,7 @@ module _ (phase : Phase) (form : is_phase phase ≡ true) (i : ℕ) (l : LaneNo 
   apart_here = subst (λ (ls : Lanes). are_apart ls ≡ true) whole both.1
 
   under_here : (is_between 1 8 l.0.0 ≡ true) × (list_all (λ line. line.at.lane.0 == l.0.0) l.1 ≡ true)
-  under_here = and_parts (is_between 1 8 l.0.0) (list_all (λ (line : Line). line.at.lane.0 == l.0.0) l.1) (item_passes is_under phase.lanes i l item within both.0)
+  under_here = and_parts (is_between 1 8 l.0.0) (list_all (λ (line : Line). line.at.lane.0 == l.0.0) l.1) (item_passes is_under phase.lanes i l here.item here.within both.0)
 
   -- the lane is one of the eight
   pub lane_inside : is_between 1 8 l.0.0 ≡ true

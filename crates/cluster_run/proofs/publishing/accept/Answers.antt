@@ -3,4 +3,4 @@ use Rattle.cluster_run.proofs.Steps.{on_reply}
 use Rattle.cluster_run.proofs.publishing.accept.Goals as goal
 
 pub returns : goal.returns
-returns g c = on_reply (writing_command c.args.op) c.args.at c.accept.result _ c.args.cluster.now c.accept.new.cluster c.accept.ensures.does c.accept.ensures.replied c.accept.ensures.ok c.requires.jobs
+returns g c = on_reply (writing_command c.args.op) c.args.at c.accept.result _ c.args.cluster.now c.accept.new.self c.accept.ensures.does c.accept.ensures.replied c.accept.ensures.ok c.requires.jobs
