@@ -68,7 +68,7 @@ later_suits command at past begun e last unanswered follows = subst (λ (l : Opt
 pub started_unanswered : (at : At) (past : Past) (begun : Event) → AreInTurn past → is_start begun ≡ true → last_of_line at past ≡ Some begun → is_answered at past ≡ false
 started_unanswered at past begun turns start last = open_unanswered at past turns (last_started at past begun start last).is_open
 
-replied_by : (b r s : Bool) → b ≡ true → r ≡ true → ((b && r) || s) ≡ true
+pub replied_by : (b r s : Bool) → b ≡ true → r ≡ true → ((b && r) || s) ≡ true
 replied_by b r s e f = rw (e, f) refl
 
 -- a reply is there
@@ -77,7 +77,7 @@ one_replied at old new e reply now =
     subst (λ (log : Log). is_answered at (printed log) ≡ true) (sym now.log) (replied_by (is_reply e) (same_at at at) (is_answered at (printed old.log)) reply (same_at_self at))
 
 -- a start is there
-begun_by : (at : At) (old new : Run) (begun : Event) → is_reply begun ≡ false → last_of_line at (record { at = at; event = begun } ∷ printed old.log) ≡ Some begun → IsFresh at (printed old.log)
+pub begun_by : (at : At) (old new : Run) (begun : Event) → is_reply begun ≡ false → last_of_line at (record { at = at; event = begun } ∷ printed old.log) ≡ Some begun → IsFresh at (printed old.log)
     → printed new.log ≡ record { at = at; event = begun } ∷ printed old.log → IsBegun at begun new
 begun_by at old new begun reply last fresh log = record {
   last = ap (last_of_line at) log ∙ last;
@@ -145,11 +145,11 @@ close_replied at t old new (Some ticket) now = one_replied at old new (Closed (r
 
 -- ---- search and ask
 
-refused_for_does : (command : LineCommand) (at : At) (old new : Run) (o : Option Cause) → IsFresh at (printed old.log) → refusal command at.lane.0 (printed old.log) ≡ o → IsRefusedFor at o old new → Does command at old new
+pub refused_for_does : (command : LineCommand) (at : At) (old new : Run) (o : Option Cause) → IsFresh at (printed old.log) → refusal command at.lane.0 (printed old.log) ≡ o → IsRefusedFor at o old new → Does command at old new
 refused_for_does command at old new None fresh is refused = absurd refused
 refused_for_does command at old new (Some cause) fresh is refused = refused_does command at old new cause fresh is refused
 
-refused_for_replied : (at : At) (old new : Run) (o : Option Cause) → IsRefusedFor at o old new → IsReplied at new
+pub refused_for_replied : (at : At) (old new : Run) (o : Option Cause) → IsRefusedFor at o old new → IsReplied at new
 refused_for_replied at old new None refused = absurd refused
 refused_for_replied at old new (Some cause) refused = one_replied at old new (Refused cause) refl refused
 
@@ -246,7 +246,7 @@ answer_does command at (Some (Asking n t v)) query answer old new is turns scans
     asking_answer command at n t v query answer old new is (started_unanswered at (printed old.log) (Asking n t v) turns refl is) asks ends
 answer_does command at e query answer old new is turns scans asks ends = absurd ends
 
-lost_reply : (b : Bool) (e : Event) → is_reply e ≡ true → is_reply (if b then Refused Lost else e) ≡ true
+pub lost_reply : (b : Bool) (e : Event) → is_reply e ≡ true → is_reply (if b then Refused Lost else e) ≡ true
 lost_reply true e reply = refl
 lost_reply false e reply = reply
 

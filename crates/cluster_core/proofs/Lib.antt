@@ -1,2 +1,4 @@
 pub mod Does
 mod Rows
+mod CopyRows
+pub mod CopyDoes

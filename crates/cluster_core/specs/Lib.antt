@@ -1,3 +1,4 @@
 pub mod Owes
 pub mod Doing
 pub mod Calls
+pub mod CopyCalls

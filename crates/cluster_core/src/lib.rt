@@ -5,9 +5,13 @@
 mod asks;
 mod calls;
 mod cluster;
+mod copies;
+mod copying;
 mod publishes;
 mod refusals;
 mod searches;
+mod settles;
+mod standing;
 mod tickets;
 mod turn;
 
