@@ -32,6 +32,7 @@ use Rattle.cluster_state.specs.declared.tasks.FileTask.{FileTask}
 use Rattle.cluster_state.specs.declared.tasks.SettleTask.{SettleTask}
 use Rattle.cluster_state.specs.Run.{Run, IsNow}
 use Rattle.cluster_state.specs.Copies.{newest_of, GoesOn, ended_log}
+use Rattle.cluster_state.specs.Settles.{IsSettling}
 use Rattle.cluster_core.specs.declared.standing.Standing.{Standing}
 use Rattle.cluster_core.specs.declared.standing.Standing.TheVariants.{Runs, Passed, Ends}
 use Rattle.cluster_core.specs.declared.turn.Turn.{Turn}
@@ -39,8 +40,8 @@ use Rattle.cluster_core.specs.declared.turn.Turn.TheVariants.{Work, Done, Busy}
 use Rattle.cluster_core.specs.Owes.{SuitsOrFault}
 use Rattle.cluster_core.specs.Doing.{Does, IsReplied, IsBegun, IsRepliedAtDone, IsBegunAtWork}
 use Rattle.cluster_core.specs.Calls.{IsRefused, IsRefusedFor}
-use Rattle.cluster_core.specs.CopyCalls.{CopiesFor, CopyAnswered, CopyStarts, CopyStartsWhen, is_node_lost, overtaken, standing_of, log_after, stopped_log, JobGoesOn, JobSteps, PartArrives, SettleStarts, settle_end_event, SettleGoesOn}
-use Rattle.cluster_core.proofs.Does.{does_was, one_does, none_does, first_suits, refused_does, replied_by, one_replied, lost_reply, refused_for_does, refused_for_replied, begun_by}
+use Rattle.cluster_core.specs.CopyCalls.{CopiesFor, CopyAnswered, CopyStarts, CopyStartsWhen, is_node_lost, overtaken, standing_of, log_after, IsOpenJob, stopped_log, JobGoesOn, JobSteps, PartArrives, SettleStarts, settle_end_event, SettleGoesOn}
+use Rattle.cluster_core.proofs.Does.{does_was, runs_in, one_does, none_does, first_suits, refused_does, replied_by, one_replied, lost_reply, refused_for_does, refused_for_replied, begun_by}
 use Rattle.cluster_core.proofs.CopyRows.{copy_newest, started_newest}
 
 -- ---- copy starts
@@ -287,3 +288,47 @@ settled_replied at left old new Done goes =
     one_replied at old new (settle_end_event at left.version (printed old.log)) (lost_reply (is_lost (printed old.log) (before_start at (printed old.log)) (Settling left.version)) (Settled left.version) refl)
     (subst (λ (e : Event). IsNow old new (shown at e ∷ old.log)) goes.2 goes.1)
 settled_replied at left old new Busy goes = tt
+
+-- ---- in the terms of a call, whose cluster has this state
+
+pub next_done : (command : LineCommand) (at : At) (row : JobRow) (size : ℕ) (s r new : Run) (l : Log) (result : Result (Turn FileTask) AllocError) → s ≡ r → l ≡ s.log → row.job.at ≡ at → IsOpenJob s.log row
+    → IsLegalPast size (printed s.log) → AreInTurn (printed s.log) → StartsJob (before_start row.job.at (printed l)) row.job.node.0 row.job.version.0 (start_entry row.job.at (printed l))
+    → IfOk result (λ turn. (begun : Event) → start_entry row.job.at (printed s.log) ≡ Some begun → JobSteps (stopped_log begun row s.log) row.job s new turn)
+    → CopiesFor command (start_entry at (printed r.log)) → OnOk result (Does command at r new)
+next_done command at row size s r new l (Err e) view same at_is job legal turns starts ok copies = tt
+next_done command at row size s r new l (Ok turn) view same at_is job legal turns starts ok copies =
+    does_was command at s r new view (subst (λ (a : At). Does command a s new) at_is
+    (by (start_entry row.job.at (printed s.log)) refl (subst (λ (x : Log). StartsJob (before_start row.job.at (printed x)) row.job.node.0 row.job.version.0 (start_entry row.job.at (printed x))) same starts)
+    (copies_in command at row.job.at s r view at_is copies)))
+  where
+    copies_in : (command : LineCommand) (at a : At) (s r : Run) → s ≡ r → a ≡ at → CopiesFor command (start_entry at (printed r.log)) → CopiesFor command (start_entry a (printed s.log))
+    copies_in command at a s r view at_is copies = subst (λ (x : Run × At). CopiesFor command (start_entry x.1 (printed x.0.log))) (λ i. (sym view i, sym at_is i)) copies
+
+    by : (o : Option Event) → start_entry row.job.at (printed s.log) ≡ o → StartsJob (before_start row.job.at (printed s.log)) row.job.node.0 row.job.version.0 o → CopiesFor command o → Does command row.job.at s new
+    by None is starts copies = absurd starts
+    by (Some begun) is starts copies = goes_does command row size s new begun turn legal turns is job.is_open job.ordered starts copies (ok begun is)
+
+pub arrived_done : (command : LineCommand) (at : At) (row : JobRow) (size : ℕ) (s r new : Run) (result : Result (Turn (Unit {0})) AllocError) → s ≡ r → row.job.at ≡ at → IsOpenJob s.log row
+    → IsLegalPast size (printed s.log) → AreInTurn (printed s.log)
+    → IfOk result (λ turn. (begun : Event) → start_entry row.job.at (printed s.log) ≡ Some begun → PartArrives (stopped_log begun row s.log) s new turn)
+    → CopiesFor command (start_entry at (printed r.log)) → OnOk result (Does command at r new)
+arrived_done command at row size s r new (Err e) view at_is job legal turns ok copies = tt
+arrived_done command at row size s r new (Ok turn) view at_is job legal turns ok copies =
+    does_was command at s r new view (subst (λ (a : At). Does command a s new) at_is
+    (by (start_entry row.job.at (printed s.log)) refl (subst (λ (x : Run × At). CopiesFor command (start_entry x.1 (printed x.0.log))) (λ i. (sym view i, sym at_is i)) copies)))
+  where
+    uncopied : (command : LineCommand) → CopiesFor command None → ⊥
+    uncopied (Copy n) copies = copies
+    uncopied Settle copies = copies
+    uncopied command copies = copies
+
+    by : (o : Option Event) → start_entry row.job.at (printed s.log) ≡ o → CopiesFor command o → Does command row.job.at s new
+    by None is copies = absurd (uncopied command copies)
+    by (Some begun) is copies = arrives_does command row size s new begun turn legal turns is job.is_open copies (ok begun is)
+
+pub settle_done : (at : At) (size : ℕ) (old left : SettleTask) (s r new : Run) (result : Result (Turn CopyTask) AllocError) → s ≡ r → r.ended ≡ false → IsSettling r.nodes (printed r.log) at old
+    → IsLegalPast size (printed s.log) → AreInTurn (printed s.log) → IfOk result (SettleGoesOn at s new left) → OnOk result (Does Settle at r new)
+settle_done at size old left s r new (Err e) view running settling legal turns ok = tt
+settle_done at size old left s r new (Ok turn) view running settling legal turns ok =
+    let here = subst (λ (x : Run). IsSettling x.nodes (printed x.log) at old) (sym view) settling in
+    does_was Settle at s r new view (settled_does at size left s new (Settling old.version) turn (runs_in s r view running) legal turns here.started here.is_open ok)

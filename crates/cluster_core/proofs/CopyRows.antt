@@ -1,7 +1,7 @@
 -- How far a line has come that copies or settles.
 use Rattle.std.proofs.Common.{◌≡◌, ◌≢◌, ◌≤◌, ◌<◌, ◌&&◌, ◌||◌, ◌==◌, ℕ, Bool, true, false, true≢false, [], ◌∷◌, Some, None, Option, max, refl, ap, ◌∙◌, sym, subst, if◌then◌else◌, inr, arith, length}
 use Rattle.std.specs.Prelude.{not, nat_lt, IfSome, IsSomeAnd, ⊤}
-use Rattle.std.proofs.lemmas.Bool.{eqb-true, ltb-false}
+use Rattle.std.proofs.lemmas.Bool.{eqb-true, eq-eqb, ltb-false}
 use Rattle.nrt_base.specs.declared.numbers.At.{At}
 use Rattle.nrt_base.specs.declared.numbers.NodeNo.{NodeNo}
 use Rattle.nrt_base.specs.declared.numbers.Version.{Version}
@@ -15,7 +15,8 @@ use Rattle.history_entries.specs.Legal.{KeepsRule, IsLegalPast}
 use Rattle.history_tables.specs.declared.lines.Start.TheVariants.{Searching as SearchStart}
 use Rattle.history_tables.specs.Begins.{begin, begun_by, event_of, open_line}
 use Rattle.history_tables.specs.declared.jobs.Job.{Job}
-use Rattle.history_book.specs.Jobs.{StartsJob, LaneJobShows, IsCancelled, IsOlder}
+use Rattle.history_tables.specs.declared.jobs.JobRow.{JobRow}
+use Rattle.history_book.specs.Jobs.{job_of, StartsJob, IsCancelled, IsOlder}
 use Rattle.history_book.specs.Steps.{last_by, highest_by}
 use Rattle.history_book.proofs.LineLaws.{same_at_is}
 use Rattle.history_entries.specs.Rules.{StartedCopy, is_copy, is_lost, MayRefuse, MayRefuseLine}
@@ -35,7 +36,8 @@ use Rattle.cluster_state.specs.Run.{Run}
 use Rattle.cluster_core.specs.declared.turn.Turn.{Turn}
 use Rattle.cluster_core.specs.declared.turn.Turn.TheVariants.{Work, Done, Busy}
 use Rattle.cluster_core.specs.Calls.{IsRefusedTurn}
-use Rattle.cluster_core.specs.CopyCalls.{CopyAnswered, CopyStarts, CopyStartsWhen}
+use Rattle.cluster_state.specs.Copies.{IsCopying}
+use Rattle.cluster_core.specs.CopyCalls.{CopyAnswered, CopyStarts, CopyStartsWhen, IsOpenJob}
 use Rattle.cluster_core.proofs.Rows.{legal_at}
 
 -- what one more entry of the line leaves of a copy that is open, and has switched no node as high as its own
@@ -243,3 +245,63 @@ settle_source size m at log l k v r o nodes same like legal start alive source i
     let here : (primary_crashes past == primary_crashes (before_start at past)) ≡ true =
     subst (λ (x : Log). (primary_crashes (printed x) == primary_crashes (before_start at (printed x))) ≡ true) like (sym source ∙ alive) in
     runs (sym (reigns_on size at past whole runs (eqb-true (primary_crashes past) (primary_crashes (before_start at past)) here)).primary ∙ (sym is ∙ none))
+
+-- a job that runs is not lost
+unlost : (past start : Past) (n v : ℕ) (begun : Event) → StartsJob start n v (Some begun) → crashes n past ≡ crashes n start → primary_crashes past ≡ primary_crashes start → is_lost past start begun ≡ false
+unlost past start n v (Copying m w) starts node source =
+    none (not (crashes m.0 past == crashes m.0 start)) (not (primary_crashes past == primary_crashes start))
+    (ap not (eq-eqb (crashes m.0 past) (crashes m.0 start) (subst (λ (k : ℕ). crashes k past ≡ crashes k start) (sym starts.0) node))) (ap not (eq-eqb (primary_crashes past) (primary_crashes start) source))
+  where
+    none : (x y : Bool) → x ≡ false → y ≡ false → (x || y) ≡ false
+    none true y e f = absurd (true≢false e)
+    none false y e f = f
+unlost past start n v (Settling w) starts node source = ap not (eq-eqb (primary_crashes past) (primary_crashes start) source)
+unlost past start n v begun starts node source = absurd starts
+
+job_unlost : (past : Past) (at : At) (n v : ℕ) (b : Bool) (o : Option Event) → start_entry at past ≡ o → StartsJob (before_start at past) n v o → Says past at b → NodeSurvives past at n → SourceSurvives past at → b ≡ false
+job_unlost past at n v b None is starts says node source = absurd starts
+job_unlost past at n v b (Some begun) is starts says node source = says begun is ∙ unlost past (before_start at past) n v begun starts node.node source.source
+
+pub lost_rests : (past : Past) (at : At) (n v : ℕ) (b : Bool) → StartsJob (before_start at past) n v (start_entry at past) → Says past at b → b ≡ true → NodeSurvives past at n → SourceSurvives past at → ⊥
+lost_rests past at n v b starts says lost node source = true≢false (sym lost ∙ job_unlost past at n v b (start_entry at past) refl starts says node source)
+
+pub crashed_rests : (past : Past) (at : At) (n : ℕ) (r : Bool) → r ≡ false → r ≡ (crashes n past == crashes n (before_start at past)) → NodeSurvives past at n → ⊥
+crashed_rests past at n r crashed is node = true≢false (sym (eq-eqb (crashes n past) (crashes n (before_start at past)) node.node) ∙ (sym is ∙ crashed))
+
+-- ---- the job of a line that copies
+
+-- the job that the line copies by
+pub record IsJobAt (at : At) (log : Log) (task : CopyTask) (row : JobRow) : Type 0 where
+  pub at_is : row.job.at ≡ at
+  pub node : row.job.node ≡ task.node
+  pub number : row.job.number ≡ task.job
+  pub copies : IsOpenJob log row
+
+row_found : (at : At) (log : Log) (task : CopyTask) (row : JobRow) (copying : IsCopying at log task) → copying.row ≡ row → IsJobAt at log task row
+row_found at log task row copying same = subst (IsJobAt at log task) same (record {
+  at_is = copying.at_is;
+  node = copying.node;
+  number = copying.number;
+  copies = record {
+    last = subst (λ (a : At). job_of a.lane.0 log ≡ Some copying.row) (sym copying.at_is) copying.last;
+    unended = copying.unended;
+    is_open = subst (λ (a : At). open_line a (printed log) ≢ None) (sym copying.at_is) copying.is_open;
+    ordered = subst (λ (x : At × NodeNo). highest_switched x.0 (printed log) < x.1.0) (λ i. (sym copying.at_is i, sym copying.node i)) copying.ordered;
+  };
+})
+
+same_row : (x y : JobRow) (o : Option JobRow) → o ≡ Some x → o ≡ Some y → x ≡ y
+same_row x y o first second = let same : ◌≡◌ {A = Option JobRow} (Some x) (Some y) = sym first ∙ second in cc
+
+pub copying_in : (at : At) (task : CopyTask) (s r : Run) → s ≡ r → IsCopying at r.log task → IsCopying at s.log task
+copying_in at task s r is copying = subst (λ (x : Run). IsCopying at x.log task) (sym is) copying
+
+pub job_found : (at : At) (s r : Run) (l : Log) (task : CopyTask) (o : Option JobRow) (row : JobRow) → s ≡ r → l ≡ s.log → IsCopying at r.log task → o ≡ job_of at.lane.0 l → o ≡ Some row → IsJobAt at s.log task row
+job_found at s r l task o row is same copying told found =
+    let here = copying_in at task s r is copying in
+    row_found at s.log task row here (same_row here.row row o (told ∙ (ap (job_of at.lane.0) same ∙ here.last)) found)
+
+pub job_missing : (at : At) (s r : Run) (l : Log) (task : CopyTask) (o : Option JobRow) → s ≡ r → l ≡ s.log → IsCopying at r.log task → o ≡ job_of at.lane.0 l → o ≢ None
+job_missing at s r l task o is same copying told none =
+    let here = copying_in at task s r is copying in
+    let clash : ◌≡◌ {A = Option JobRow} (Some here.row) None = sym (told ∙ (ap (job_of at.lane.0) same ∙ here.last)) ∙ none in absurd (cc)

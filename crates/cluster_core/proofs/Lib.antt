@@ -2,3 +2,4 @@ pub mod Does
 mod Rows
 mod CopyRows
 pub mod CopyDoes
+mod SettleStays

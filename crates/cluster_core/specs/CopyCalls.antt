@@ -130,6 +130,10 @@ abbrev pub Stops : Option Log → JobRow → Run → Run → Bool → Type 0
 Stops (Some log) row old new stopped = (stopped ≡ true) × IsNow old new log
 Stops None row old new stopped = (stopped ≡ false) × RunsOn row old new
 
+-- the job was stopped, and this is the log now
+abbrev pub StopsTurn : {W : Type 0} → Log → Run → Run → Turn W → Type 0
+StopsTurn log old new turn = (turn ≡ Done) × IsNow old new log
+
 -- a job that runs goes on: the next file is handed out, or none is missing and it has ended
 abbrev pub JobGoesOn : Job → Run → Run → Turn FileTask → Type 0
 JobGoesOn job old new (Work file) = GoesOn job old new (Some file)
@@ -138,13 +142,17 @@ JobGoesOn job old new Busy = ⊥
 
 -- the next step of a job: it was stopped, or it goes on
 abbrev pub JobSteps : Option Log → Job → Run → Run → Turn FileTask → Type 0
-JobSteps (Some log) job old new turn = (turn ≡ Done) × IsNow old new log
+JobSteps (Some log) job old new turn = StopsTurn log old new turn
 JobSteps None job old new turn = JobGoesOn job old new turn
+
+-- a job that runs has the part now, and all that is seen is as before
+abbrev pub HasPart : Run → Run → Turn (Unit {0}) → Type 0
+HasPart old new turn = (turn ≡ Work tt) × IsNow old new old.log
 
 -- a part arrives: its job was stopped, or has the part
 abbrev pub PartArrives : Option Log → Run → Run → Turn (Unit {0}) → Type 0
-PartArrives (Some log) old new turn = (turn ≡ Done) × IsNow old new log
-PartArrives None old new turn = (turn ≡ Work tt) × IsNow old new old.log
+PartArrives (Some log) old new turn = StopsTurn log old new turn
+PartArrives None old new turn = HasPart old new turn
 
 -- none of these nodes is below this one
 abbrev pub AreFrom : NodeNo → List NodeNo → Type 0
@@ -175,3 +183,7 @@ abbrev pub SettleGoesOn : At → Run → Run → SettleTask → Turn CopyTask �
 SettleGoesOn at old new left (Work task) = BeginsJob at task.node old new old.log task × IsSettling new.nodes (printed new.log) at left × SettleWaits at left old task.node
 SettleGoesOn at old new left Done = (e : Event) × IsNow old new (shown at e ∷ old.log) × (e ≡ settle_end_event at left.version (printed old.log))
 SettleGoesOn at old new left Busy = (new ≡ old) × ((n : NodeNo) × IsUpToDate n.0 old.log × IsBeingCopied old.log n.0 × SettleWaits at left old n)
+
+-- while the line has no reply it settles on with what was left
+abbrev pub SettlesOn : At → SettleTask → Run → Type 0
+SettlesOn at left r = open_line at (printed r.log) ≢ None → IsSettling r.nodes (printed r.log) at left

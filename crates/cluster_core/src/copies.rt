@@ -17,7 +17,7 @@ ghost use Rattle.cluster_state.specs.Run.{IsEnded};
 ghost use Rattle.cluster_state.specs.Copies.{JobRuns};
 ghost use Rattle.cluster_state.specs.FilesOut.{file_out};
 ghost use Rattle.cluster_core.specs.Calls.{IsRefused};
-ghost use Rattle.cluster_core.specs.CopyCalls.{IsBeingCopied, CopyStarts, CopyStartsWhen, IsSourceFor, IsOpenJob, standing_of, MayEnd, stopped_log, Stops, RunsOn, JobSteps, PartArrives};
+ghost use Rattle.cluster_core.specs.CopyCalls.{IsBeingCopied, CopyStarts, CopyStartsWhen, IsSourceFor, IsOpenJob, standing_of, MayEnd, stopped_log, Stops, RunsOn, JobGoesOn, JobSteps, HasPart, PartArrives};
 
 use crate::refusals::refuse_turn;
 use crate::standing::Standing;
@@ -150,6 +150,7 @@ fn standing(book: &Book, row: JobRow) -> Standing
         → result ≡ standing_of begun row (printed book.now.log) }
     ensures rule { MayEnd book.now.nodes (printed book.now.log) row.job.at result }
     ensures runs { result ≡ Standing.Runs → JobRuns book.now.log row }
+    ensures going { JobRuns book.now.log row → result ≡ Standing.Runs }
 {
     book.is_legal();
     book.job_shows(row);
@@ -194,6 +195,7 @@ fn is_stopped<D: FaultDir + Drop>(
         → start_entry row.job.at (printed state.old.log) ≡ Some begun
         → Stops (stopped_log begun row state.old.log) row state.old state.new stopped) }
     ensures runs { IfOk result (λ stopped. stopped ≡ false → RunsOn row state.old state.new) }
+    ensures going { IfOk result (λ stopped. JobRuns state.old.log row → stopped ≡ false) }
     ensures err { OnErr result (IsEnded state.old state.new) }
 {
     match standing(state.book(), row) {
@@ -217,6 +219,8 @@ pub fn copy_next<D: FaultDir + Drop>(
     ensures ok { IfOk result (λ turn. (begun : Event)
         → start_entry row.job.at (printed state.old.log) ≡ Some begun
         → JobSteps (stopped_log begun row state.old.log) row.job state.old state.new turn) }
+    ensures goes { IfOk result (λ turn. JobRuns state.old.log row
+        → JobGoesOn row.job state.old state.new turn) }
     ensures err { OnErr result (IsEnded state.old state.new) }
 {
     if is_stopped(state, row)? {
@@ -242,6 +246,8 @@ pub fn copy_arrived<D: FaultDir + Drop>(
     ensures ok { IfOk result (λ turn. (begun : Event)
         → start_entry row.job.at (printed state.old.log) ≡ Some begun
         → PartArrives (stopped_log begun row state.old.log) state.old state.new turn) }
+    ensures goes { IfOk result (λ turn. JobRuns state.old.log row
+        → HasPart state.old state.new turn) }
     ensures err { OnErr result (IsEnded state.old state.new) }
 {
     if is_stopped(state, row)? {
