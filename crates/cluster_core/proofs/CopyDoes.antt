@@ -37,7 +37,7 @@ use Rattle.cluster_core.specs.declared.standing.Standing.{Standing}
 use Rattle.cluster_core.specs.declared.standing.Standing.TheVariants.{Runs, Passed, Ends}
 use Rattle.cluster_core.specs.declared.turn.Turn.{Turn}
 use Rattle.cluster_core.specs.declared.turn.Turn.TheVariants.{Work, Done, Busy}
-use Rattle.cluster_core.specs.Owes.{SuitsOrFault}
+use Rattle.lane_walks.specs.Owes.{SuitsOrFault}
 use Rattle.cluster_core.specs.Doing.{Does, IsReplied, IsBegun, IsRepliedAtDone, IsBegunAtWork}
 use Rattle.cluster_core.specs.Calls.{IsRefused, IsRefusedFor}
 use Rattle.cluster_core.specs.CopyCalls.{CopiesFor, CopyAnswered, CopyStarts, CopyStartsWhen, is_node_lost, overtaken, standing_of, log_after, IsOpenJob, stopped_log, JobGoesOn, JobSteps, PartArrives, SettleStarts, settle_end_event, SettleGoesOn}

@@ -41,7 +41,7 @@ use Rattle.script_serving.specs.Serves.{First, Follows, Suits}
 use Rattle.cluster_state.specs.Run.{Run, IsNow}
 use Rattle.cluster_core.specs.declared.turn.Turn.{Turn}
 use Rattle.cluster_core.specs.declared.turn.Turn.TheVariants.{Work, Done, Busy}
-use Rattle.cluster_core.specs.Owes.{SuitsOrFault}
+use Rattle.lane_walks.specs.Owes.{SuitsOrFault}
 use Rattle.cluster_core.specs.Doing.{Does, IsReplied, IsBegun, IsRepliedAtDone, IsBegunAtWork, writing_command, AsksFor}
 use Rattle.cluster_core.specs.Calls.{by_refusal, IsRefused, IsRefusedFor, cut_refusal, publish_refusal, PublishRefused, PublishStarts, publish_end_event, open_event, SearchStarts, AsksTicket, AskStarts, asked_event, close_by, ScansAt, answer_event, AnswerEnds}
 

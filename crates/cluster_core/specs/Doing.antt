@@ -13,7 +13,7 @@ use Rattle.script_serving.specs.declared.script.LineCommand.TheVariants.{Put, De
 use Rattle.cluster_state.specs.Run.{Run}
 use Rattle.cluster_core.specs.declared.turn.Turn.{Turn}
 use Rattle.cluster_core.specs.declared.turn.Turn.TheVariants.{Work, Done, Busy}
-use Rattle.cluster_core.specs.Owes.{GoesByLine}
+use Rattle.lane_walks.specs.Owes.{GoesByLine}
 
 -- a call of a line did some of what its command asks for, in a cluster without a log of operations
 pub record Does (command : LineCommand) (at : At) (old new : Run) : Type 0 where

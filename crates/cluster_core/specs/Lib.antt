@@ -1,4 +1,3 @@
-pub mod Owes
 pub mod Doing
 pub mod Calls
 pub mod CopyCalls
