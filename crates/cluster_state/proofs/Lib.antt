@@ -14,5 +14,6 @@ pub mod Writing
 pub mod Written
 pub mod Primaries
 pub mod Turning
-pub mod Paths
+pub mod TicketPaths
+pub mod PublishPaths
 pub mod FirstNodes

@@ -6,5 +6,4 @@ pub mod State
 pub mod Moves
 pub mod Changes
 pub mod Writes
-pub mod Calls
 pub mod Starting

@@ -43,8 +43,16 @@ impl<D: FaultDir + Drop> ClusterState<D> {
     ghost use Rattle.cluster_state.specs.Run.{IsNow, IsEnded};
     ghost use Rattle.cluster_state.specs.Moves.{moves, moves_tickets};
 
+    /// What happened, for readers.
+    pub fn book(&self) -> &Book
+        ensures log { result.now.log ≡ self.now.log }
+        ensures nodes { result.now.nodes ≡ self.now.nodes }
+    {
+        &self.book
+    }
+
     // The publish in flight is not that of a line which did not start as one. A law.
-    pub(crate) fn is_apart(&self, at: At)
+    pub fn is_apart(&self, at: At)
         requires running { self.now.ended ≡ false }
         requires line { start_entry at (printed self.now.log) ≢ Some Event.Publishing }
         ensures { publish_in_flight (printed self.now.log) ≢ Some at }
@@ -53,7 +61,7 @@ impl<D: FaultDir + Drop> ClusterState<D> {
     }
 
     /// Appends an entry that moves no node and opens no ticket, of a line whose publish is not in flight.
-    pub(crate) fn note(&mut self, at: At, event: Event) -> Result<(), NoMemory>
+    pub fn note(&mut self, at: At, event: Event) -> Result<(), NoMemory>
         requires running { self.old.ended ≡ false }
         requires rule { KeepsRule self.old.nodes (printed self.old.log) at event }
         requires turn { InTurn (printed self.old.log) at event }

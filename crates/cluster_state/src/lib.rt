@@ -1,8 +1,6 @@
 //! All nodes of a cluster, the tickets that are held of them, and the history: what is true of them between two calls.
 #![tactic(auto)]
 
-mod asks;
-mod calls;
 mod cluster;
 mod held;
 mod nodes;
@@ -11,7 +9,6 @@ mod starting;
 mod tickets;
 mod writes;
 
-pub use calls::Turn;
 pub use cluster::ClusterState;
 pub use held::{Held, Key};
 pub use nodes::{Node, Place};

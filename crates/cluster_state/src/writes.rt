@@ -34,7 +34,7 @@ impl<D: FaultDir + Drop> ClusterState<D> {
     ghost use Rattle.cluster_state.specs.Writes.{StartsPublish, IsFlushed};
 
     /// Accepts an operation.
-    pub(crate) fn accept_at(
+    pub fn accept_at(
         &mut self,
         alloc: Global,
         at: At,
@@ -69,7 +69,7 @@ impl<D: FaultDir + Drop> ClusterState<D> {
 
     /// Starts a publish of a cut that is not empty, and hands it out. Answers None where there is a put and there are as many
     /// segments as there may be.
-    pub(crate) fn start_publish(
+    pub fn start_publish(
         &mut self,
         alloc: Global,
         at: At,
@@ -111,7 +111,7 @@ impl<D: FaultDir + Drop> ClusterState<D> {
     }
 
     /// Ends the publish in flight with the work that was made for it.
-    pub(crate) fn end_publish(
+    pub fn end_publish(
         &mut self,
         alloc: Global,
         at: At,
