@@ -1,4 +1,4 @@
-//! Copies, settles and lists of files. Files are carried outside the cluster, chunk by chunk.
+//! Copies and settles. Files are carried outside the cluster, chunk by chunk.
 
 ghost use Rattle.std.specs.Prelude.{◌≡◌, [], false, OnOk, IfOk};
 ghost use Rattle.codec_frame.specs.Checking.{HasFooter};
@@ -7,7 +7,7 @@ ghost use Rattle.copy_job.specs.Copying.{IsPartOf};
 ghost use Rattle.history_entries.specs.Nodes.{IsNode};
 ghost use Rattle.history_entries.specs.Lines.{entries_of_line};
 ghost use Rattle.history_book.specs.Log.{printed};
-ghost use Rattle.script_serving.specs.declared.script.LineCommand.TheVariants.{Copy, Settle, Files};
+ghost use Rattle.script_serving.specs.declared.script.LineCommand.TheVariants.{Copy, Settle};
 ghost use Rattle.cluster_run.specs.Copies.{Copies, EndsCopy};
 ghost use Rattle.cluster_run.specs.Going.{HaveJobsEnded};
 ghost use Rattle.cluster_run.specs.Running.{EndsLine};
@@ -19,22 +19,6 @@ use disk_model::FaultDir;
 use link_model::MemLink;
 use nrt_base::{At, NoMemory, NodeNo};
 use std::alloc::{AllocError, Global};
-
-/// Lists the files of a node.
-pub fn list_files<D: FaultDir + Drop>(
-    cluster: &mut Cluster<D>,
-    alloc: Global,
-    at: At,
-    n: NodeNo,
-) -> Result<(), NoMemory>
-    requires running { cluster.old.ended ≡ false }
-    requires jobs { HaveJobsEnded cluster.old.log }
-    requires fresh { entries_of_line at (printed cluster.old.log) ≡ [] }
-    requires node { IsNode cluster.old.nodes n.0 }
-    ensures { OnOk result (EndsLine (Files n) at cluster.old cluster.new) }
-{
-    cluster.files(alloc, at, n)
-}
 
 // Carries a file whole over a link.
 fn carry(alloc: Global, file: &FileTask) -> Result<Part, NoMemory>

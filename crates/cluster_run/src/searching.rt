@@ -8,7 +8,7 @@ ghost use Rattle.documents.specs.Ranking.{scan_of};
 ghost use Rattle.history_entries.specs.Nodes.{IsNode};
 ghost use Rattle.history_entries.specs.Lines.{entries_of_line};
 ghost use Rattle.history_book.specs.Log.{printed};
-ghost use Rattle.script_serving.specs.declared.script.LineCommand.TheVariants.{Search, Open, Ask, Close, Files};
+ghost use Rattle.script_serving.specs.declared.script.LineCommand.TheVariants.{Search, Open, Ask, Close};
 ghost use Rattle.seg_reader.specs.Shown.{AreLiveDocuments};
 ghost use Rattle.seg_reader.specs.Sound.{IsSound};
 ghost use Rattle.query_eval.specs.Matching.{rows_of};

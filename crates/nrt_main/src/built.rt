@@ -22,7 +22,6 @@ fn is_built_command(name: &[u8]) -> bool
         || is_word(b"open", name)
         || is_word(b"ask", name)
         || is_word(b"close", name)
-        || is_word(b"files", name)
 }
 
 /// Whether the program runs this statement so far.
