@@ -34,6 +34,7 @@ use Rattle.cluster_core.specs.declared.turn.Turn.{Turn}
 use Rattle.cluster_core.specs.declared.turn.Turn.TheVariants.{Work, Done, Busy}
 use Rattle.cluster_core.specs.Doing.{Does, IsReplied}
 use Rattle.cluster_core.specs.CopyCalls.{CopiesFor, CopyAnswered, IsUpToDate, CopyStarts, JobGoesOn, AreFrom, SettleStarts, SettleGoesOn, SettlesOn}
+use Rattle.cluster_core.proofs.Does.{none_does}
 use Rattle.cluster_run.specs.Going.{HasEnded, HaveJobsEnded}
 use Rattle.cluster_run.specs.Copies.{HasEndedOrIs, HaveOthersEnded, Copies, IsCopyStart, EndsCopy}
 use Rattle.cluster_run.specs.Running.{EndsLine}
@@ -142,7 +143,6 @@ jobs_end : (task : CopyTask) (job : Job) (begun : Option Event) (log : Log) → 
 jobs_end task job (Some (Copying n v)) log others node number k = ends_by task job (last_job false k log) (others k) node number
 jobs_end task job begun log others node number k = ends_by task job (last_job false k log) (others k) node number
 
-
 ended_reply : (at : At) (job : Job) (begun : Option Event) (log : Log) → job.at ≡ at → IsCopyStart begun → is_answered at (printed (ended_log job begun log)) ≡ true
 ended_reply at job (Some (Copying n v)) log mine start = rw (mine, same_at_self at) refl
 ended_reply at job begun log mine start = absurd start
@@ -163,16 +163,13 @@ pub record CopyGoes (at : At) (task : CopyTask) (initial now : Run) : Type 0 whe
   pub does : (command : LineCommand) → CopiesFor command (start_entry at (printed initial.log)) → Does command at initial now
   pub settling : (left : SettleTask) → IsSettling initial.nodes (printed initial.log) at left → AreFrom task.node left.left.items → IsSettling now.nodes (printed now.log) at left
 
-does_nothing : (command : LineCommand) (at : At) (old new : Run) → IsNow old new old.log → Does command at old new
-does_nothing command at old new now = record { running = now.running; nodes = now.nodes; goes = record { more = []; log = now.log; adds = tt } }
-
 pub copy_at_first : (at : At) (task : CopyTask) (r : Run) → r.ended ≡ false → Copies at task r.log → CopyGoes at task r r
 copy_at_first at task r running c =
     record {
       running = running;
       copies = c;
       start = refl;
-      does = λ command asks. does_nothing command at r r (record { running = running; nodes = refl; log = refl });
+      does = λ command asks. none_does command at r r (record { running = running; nodes = refl; log = refl });
       settling = λ left s last. s;
     }
 
@@ -213,7 +210,7 @@ module _ (at : At) (task : CopyTask) (initial old new : Run) (goes : CopyGoes at
         running = now.running;
         copies = subst (Copies at task) (sym now.log) goes.copies;
         start = ap (λ (l : Log). start_entry at (printed l)) now.log ∙ goes.start;
-        does = copy_does (λ command asks. does_nothing command at old new now);
+        does = copy_does (λ command asks. none_does command at old new now);
         settling = λ left s last.
             subst (λ (size : ℕ). IsSettling size (printed new.log) at left) (sym now.nodes)
             (subst (λ (l : Log). IsSettling old.nodes (printed l) at left) (sym now.log) (goes.settling left s last));

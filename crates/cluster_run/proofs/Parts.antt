@@ -22,7 +22,7 @@ use Rattle.lane_walks.proofs.LineLemmas.{going_first, line_lane, line_fresh, goi
 use Rattle.cluster_state.specs.Run.{Run}
 use Rattle.cluster_run.specs.Built.{is_run}
 use Rattle.cluster_run.specs.Going.{AreOfLane, GoesByLane, IsQuiet}
-use Rattle.cluster_run.specs.Running.{are_run, IsIdle, RunsLine, RunsLines}
+use Rattle.cluster_run.specs.Running.{are_run, IsAtRest, RunsLine, RunsLines}
 
 -- ---- an item of a list all of whose items pass a test
 
@@ -95,19 +95,20 @@ pub still_fresh : (lane : ℕ) (lines : List Line) (old new : Log) → list_all 
 still_fresh lane [] old new own apart fresh = tt
 still_fresh lane (line ∷ lines) old new own apart fresh =
     let parts = and_parts (line.at.lane.0 == lane) (list_all (λ (l : Line). l.at.lane.0 == lane) lines) own in
-    let mine : line.at.lane.0 ≡ lane = lane_is line.at.lane.0 lane parts.0 in
-    ((line_stays line.at false old new (subst (λ (k : ℕ). IsApart false k old new) (sym mine) apart)).fresh fresh.0,
-    still_fresh lane lines old new parts.1 apart fresh.1)
+    let mine : line.at.lane.0 ≡ lane = lane_is line.at.lane.0 lane parts.0 in (
+      (line_stays line.at false old new (subst (λ (k : ℕ). IsApart false k old new) (sym mine) apart)).fresh fresh.0,
+      still_fresh lane lines old new parts.1 apart fresh.1,
+    )
 
 -- ---- line after line
 
 -- the first i lines of a lane's part were done, by the lane alone
 pub record LinesGo (size lane : ℕ) (lines : List Line) (i : ℕ) (initial now : Run) : Type 0 where
-  pub idle : IsIdle size now
+  pub idle : IsAtRest size now
   pub going : Going false lane lines i initial.log now.log
   pub alone : GoesByLane lane initial.log now.log
 
-pub lines_begin : (lane : ℕ) (lines : List Line) (r : Run) → IsIdle r.nodes r → FaultsFollow r.log → AreFresh lines (printed r.log) → LinesGo r.nodes lane lines 0 r r
+pub lines_begin : (lane : ℕ) (lines : List Line) (r : Run) → IsAtRest r.nodes r → FaultsFollow r.log → AreFresh lines (printed r.log) → LinesGo r.nodes lane lines 0 r r
 lines_begin lane lines r idle faults fresh =
     record {
       idle = idle;
@@ -116,10 +117,10 @@ lines_begin lane lines r idle faults fresh =
     }
 
 -- the cluster is idle, whatever its size is called
-pub idle_now : (size : ℕ) (r : Run) → IsIdle size r → IsIdle r.nodes r
+pub idle_now : (size : ℕ) (r : Run) → IsAtRest size r → IsAtRest r.nodes r
 idle_now size r idle = record { running = idle.running; nodes = refl; quiet = idle.quiet }
 
-pub idle_as : (size : ℕ) (old new : Run) → old.nodes ≡ size → IsIdle old.nodes new → IsIdle size new
+pub idle_as : (size : ℕ) (old new : Run) → old.nodes ≡ size → IsAtRest old.nodes new → IsAtRest size new
 idle_as size old new is idle = record { running = idle.running; nodes = idle.nodes ∙ is; quiet = idle.quiet }
 
 pub lines_go_on : (size lane : ℕ) (lines : List Line) (i : ℕ) (line : Line) (initial old new : Run) → line ≡ get_or lines i line → i < length lines → ArePart lane lines

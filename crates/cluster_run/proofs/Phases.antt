@@ -23,7 +23,7 @@ use Rattle.lane_walks.proofs.FormLemmas.{answered-append, phase_answered, lane_w
 use Rattle.lane_walks.proofs.PhaseLemmas.{fresh_front, fresh_back, ready_first, phase_form, part_of, part_fresh, ready_after}
 use Rattle.cluster_state.specs.Run.{Run}
 use Rattle.cluster_run.specs.Going.{GoesByLane, IsQuiet}
-use Rattle.cluster_run.specs.Running.{are_run, ArePartsInForm, IsIdle, RunsLines, RunsPhase, RunsPhases}
+use Rattle.cluster_run.specs.Running.{are_run, ArePartsInForm, IsAtRest, RunsLines, RunsPhase, RunsPhases}
 use Rattle.cluster_run.proofs.Parts.{item_passes, apart_from, of_lanes, still_fresh, idle_as}
 
 abbrev Lanes : Type 0
@@ -108,12 +108,12 @@ part_apart lane lines a b c h k =
 
 -- the parts of the first i lanes were done
 pub record LanesGo (size : ℕ) (phase : Phase) (i : ℕ) (initial now : Run) : Type 0 where
-  pub idle : IsIdle size now
+  pub idle : IsAtRest size now
   pub each : (lane : ℕ) → 1 ≤ lane → lane ≤ 8 → LinesRan false lane (lines_under lane (take i phase.lanes)) initial.log now.log
   pub fresh : (lane : ℕ) → 1 ≤ lane → lane ≤ 8 → AreFresh (lines_under lane (drop i phase.lanes)) (printed now.log)
   pub others : AreOfLanes initial.log → AreOfLanes now.log
 
-pub lanes_begin : (phase : Phase) (r : Run) → IsIdle r.nodes r → FaultsFollow r.log → ((lane : ℕ) → 1 ≤ lane → lane ≤ 8 → AreFresh (lines_under lane phase.lanes) (printed r.log))
+pub lanes_begin : (phase : Phase) (r : Run) → IsAtRest r.nodes r → FaultsFollow r.log → ((lane : ℕ) → 1 ≤ lane → lane ≤ 8 → AreFresh (lines_under lane phase.lanes) (printed r.log))
     → LanesGo r.nodes phase 0 r r
 lanes_begin phase r idle faults fresh =
     record {

@@ -21,7 +21,7 @@ use Rattle.lane_walks.specs.Phases.{LaneReady, LaneEnds, LanesEnd, AreOfLanes}
 use Rattle.lane_walks.proofs.PhaseLemmas.{ready_first}
 use Rattle.lane_walks.proofs.ScriptLemmas.{form_of, script_served}
 use Rattle.cluster_state.specs.Run.{Run}
-use Rattle.cluster_run.specs.Built.{is_run, IsBuilt}
+use Rattle.cluster_run.specs.Built.{is_run, IsPlainScript}
 use Rattle.cluster_run.specs.Going.{HaveJobsEnded, IsQuiet}
 use Rattle.cluster_run.specs.Running.{history_of, are_run, RunsPhases}
 
@@ -49,14 +49,14 @@ all_both {X} p q (x ∷ xs) h k =
     and_from (p x && q x) (list_all (λ (y : X). p y && q y) xs) (and_from (p x) (q x) a.0 b.0) (all_both p q xs a.1 b.1)
 
 -- the lines of a script in form that is built are run
-pub script_run : (script : Script) → IsInForm script → IsBuilt script → are_run script.nodes (lines_of script) ≡ true
+pub script_run : (script : Script) → IsInForm script → IsPlainScript script → are_run script.nodes (lines_of script) ≡ true
 script_run script form built =
     all_both (λ (line : Line). is_command script.nodes line.command) (λ (line : Line). is_run line.command) (lines_of script) form.commands built.commands
 
 drop-whole : {X : Type 0} (xs : List X) → drop (length xs) xs ≡ []
 drop-whole xs = grind (arith, common_steps)
 
-module _ (script : Script) (form : IsInForm script) (built : IsBuilt script) (r : Run) (nodes : r.nodes ≡ script.nodes) (ran : RunsPhases r.nodes script.phases (length script.phases) r) where
+module _ (script : Script) (form : IsInForm script) (built : IsPlainScript script) (r : Run) (nodes : r.nodes ≡ script.nodes) (ran : RunsPhases r.nodes script.phases (length script.phases) r) where
   lane_ready : (lane : ℕ) → 1 ≤ lane → lane ≤ 8 → LaneReady script.log lane script.phases script.phases [] r.log
   lane_ready lane low high =
       subst (λ (b : Bool). LaneReady b lane script.phases script.phases [] r.log) (sym built.log)

@@ -26,7 +26,7 @@ use Rattle.cluster_state.specs.Run.{Run, IsNow}
 use Rattle.cluster_core.specs.Doing.{Does, IsReplied}
 use Rattle.cluster_core.specs.Calls.{AnswerEnds}
 use Rattle.cluster_run.specs.Going.{AreOfLane, GoesByLane, HaveJobsEnded, IsQuiet}
-use Rattle.cluster_run.specs.Running.{EndsLine, IsIdle, RunsLine}
+use Rattle.cluster_run.specs.Running.{EndsLine, IsAtRest, RunsLine}
 use Rattle.cluster_run.proofs.Jobs.{jobs_now, answer_jobs}
 
 -- ---- two steps are one
@@ -126,7 +126,7 @@ quiet_lines command at old new quiet turns h a =
 
 -- ---- the line was run
 
-pub runs_line : (command : LineCommand) (at : At) (old new : Run) → IsIdle old.nodes old → FaultsFollow old.log → AreInTurn (printed new.log) → EndsLine command at old new
+pub runs_line : (command : LineCommand) (at : At) (old new : Run) → IsAtRest old.nodes old → FaultsFollow old.log → AreInTurn (printed new.log) → EndsLine command at old new
     → RunsLine old.nodes command at old new
 runs_line command at old new idle faults turns h =
     record {

@@ -35,31 +35,31 @@ pub record EndsLine (command : LineCommand) (at : At) (old new : Run) : Type 0 w
   pub jobs : HaveJobsEnded new.log
 
 -- the cluster goes on with as many nodes, and nothing is in flight
-pub record IsIdle (size : ℕ) (r : Run) : Type 0 where
+pub record IsAtRest (size : ℕ) (r : Run) : Type 0 where
   pub running : r.ended ≡ false
   pub nodes : r.nodes ≡ size
   pub quiet : IsQuiet r.log
 
 -- a line was done, by its lane alone
 pub record RunsLine (size : ℕ) (command : LineCommand) (at : At) (old new : Run) : Type 0 where
-  pub idle : IsIdle size new
+  pub idle : IsAtRest size new
   pub ran : LineRan false command at old.log new.log
   pub alone : GoesByLane at.lane.0 old.log new.log
 
 -- lines of a lane were done, by the lane alone
 pub record RunsLines (size lane : ℕ) (lines : List Line) (old new : Run) : Type 0 where
-  pub idle : IsIdle size new
+  pub idle : IsAtRest size new
   pub ran : LinesRan false lane lines old.log new.log
   pub alone : GoesByLane lane old.log new.log
 
 -- a phase was done
 pub record RunsPhase (size : ℕ) (phase : Phase) (old new : Run) : Type 0 where
-  pub idle : IsIdle size new
+  pub idle : IsAtRest size new
   pub each : (lane : ℕ) → 1 ≤ lane → lane ≤ 8 → PhaseDone false lane phase old.log new.log
   pub others : AreOfLanes old.log → AreOfLanes new.log
 
 -- the first k phases were done, and the lines of the others have no entry
 pub record RunsPhases (size : ℕ) (phases : List Phase) (k : ℕ) (r : Run) : Type 0 where
-  pub idle : IsIdle size r
+  pub idle : IsAtRest size r
   pub ready : (lane : ℕ) → 1 ≤ lane → lane ≤ 8 → LaneReady false lane phases (take k phases) (drop k phases) r.log
   pub others : AreOfLanes r.log

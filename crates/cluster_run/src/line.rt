@@ -7,7 +7,7 @@ ghost use Rattle.history_book.specs.Log.{printed};
 ghost use Rattle.script_serving.specs.Form.{is_command};
 ghost use Rattle.cluster_run.specs.Built.{is_run};
 ghost use Rattle.cluster_run.specs.Going.{IsQuiet};
-ghost use Rattle.cluster_run.specs.Running.{EndsLine, IsIdle, RunsLine};
+ghost use Rattle.cluster_run.specs.Running.{EndsLine, IsAtRest, RunsLine};
 
 use crate::copying::{copy, settle};
 use crate::publishing::{accept, publish};
@@ -61,7 +61,7 @@ pub fn run_line<D: FaultDir + Drop>(
     alloc: Global,
     line: &Line,
 ) -> Result<(), NoMemory>
-    requires idle { IsIdle cluster.old.nodes cluster.old }
+    requires idle { IsAtRest cluster.old.nodes cluster.old }
     requires fresh { entries_of_line line.now.at (printed cluster.old.log) ≡ [] }
     requires lane { IsTrue (is_between 1 8 line.now.at.lane.0) }
     requires command { IsTrue (is_command cluster.old.nodes line.now.command) }

@@ -4,7 +4,7 @@ ghost use Rattle.std.specs.Prelude.{◌≡◌, true, IsTrue, OnOk};
 ghost use Rattle.nrt_base.specs.Bytes.{is_between};
 ghost use Rattle.history_book.specs.Log.{printed};
 ghost use Rattle.lane_walks.specs.Walks.{AreFresh, ArePart};
-ghost use Rattle.cluster_run.specs.Running.{are_run, IsIdle, RunsLines};
+ghost use Rattle.cluster_run.specs.Running.{are_run, IsAtRest, RunsLines};
 
 use crate::line::run_line;
 use cluster_core::Cluster;
@@ -20,7 +20,7 @@ pub fn run_lines<D: FaultDir + Drop>(
     lane: LaneNo,
     lines: &[Line],
 ) -> Result<(), NoMemory>
-    requires idle { IsIdle cluster.old.nodes cluster.old }
+    requires idle { IsAtRest cluster.old.nodes cluster.old }
     requires lane { IsTrue (is_between 1 8 lane.0) }
     requires part { ArePart lane.0 lines.now }
     requires run { IsTrue (are_run cluster.old.nodes lines.now) }

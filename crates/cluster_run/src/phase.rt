@@ -1,13 +1,12 @@
 //! Phases: their lanes' parts one after another, which is one of the orders in which the lanes may go.
 
 ghost use Rattle.std.specs.Prelude.{ℕ, ◌≡◌, ◌≤◌, IsTrue, OnOk, length};
-
 ghost use Rattle.history_book.specs.Log.{printed};
 ghost use Rattle.script_serving.specs.Form.{is_phase};
 ghost use Rattle.script_serving.specs.Lines.{lines_of_phase, lines_under};
 ghost use Rattle.lane_walks.specs.Walks.{AreFresh};
 ghost use Rattle.lane_walks.specs.Phases.{ArePhasesInForm, lines_in};
-ghost use Rattle.cluster_run.specs.Running.{are_run, IsIdle, RunsPhase, RunsPhases, ArePartsInForm};
+ghost use Rattle.cluster_run.specs.Running.{are_run, IsAtRest, RunsPhase, RunsPhases, ArePartsInForm};
 
 use crate::part::run_lines;
 use cluster_core::Cluster;
@@ -22,11 +21,12 @@ fn run_phase<D: FaultDir + Drop>(
     alloc: Global,
     phase: &Phase,
 ) -> Result<(), NoMemory>
-    requires idle { IsIdle cluster.old.nodes cluster.old }
+    requires idle { IsAtRest cluster.old.nodes cluster.old }
     requires form { IsTrue (is_phase phase.now) }
     requires parts { ArePartsInForm phase.now }
     requires run { IsTrue (are_run cluster.old.nodes (lines_of_phase phase.now)) }
-    requires fresh { (lane : ℕ) → 1 ≤ lane → lane ≤ 8 → AreFresh (lines_under lane phase.now.lanes) (printed cluster.old.log) }
+    requires fresh { (lane : ℕ) → 1 ≤ lane → lane ≤ 8
+        → AreFresh (lines_under lane phase.now.lanes) (printed cluster.old.log) }
     ensures { OnOk result (RunsPhase cluster.old.nodes phase.now cluster.old cluster.new) }
 {
     cluster.ended();

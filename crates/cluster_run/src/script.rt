@@ -7,7 +7,7 @@ ghost use Rattle.script_serving.specs.Form.{IsInForm};
 ghost use Rattle.script_serving.specs.Serves.{Serves};
 ghost use Rattle.disk_memory.specs.Memory.{cells_in};
 ghost use Rattle.cluster_state.specs.Starting.{IsEmptyDir};
-ghost use Rattle.cluster_run.specs.Built.{IsBuilt};
+ghost use Rattle.cluster_run.specs.Built.{IsPlainScript};
 ghost use Rattle.cluster_run.specs.Running.{history_of, RunsPhases};
 
 use crate::phase::run_phases;
@@ -39,7 +39,7 @@ fn empty_dirs(alloc: Global, count: u8) -> Result<Vec<MemDir>, NoMemory>
 /// Runs a script on a new cluster, and answers the cluster as the script leaves it. `Err` is want of memory alone.
 pub fn run_script(alloc: Global, script: &Script) -> Result<Cluster<MemDir>, NoMemory>
     requires form { IsInForm script.now }
-    requires built { IsBuilt script.now }
+    requires built { IsPlainScript script.now }
     ensures running { IfOk result (λ c. c.ended ≡ false) }
     ensures legal { IfOk result (λ c. IsLegal (history_of c)) }
     ensures serves { IfOk result (λ c. Serves script.now (history_of c)) }

@@ -17,7 +17,7 @@ use Rattle.script_text.specs.Grammar.{Statement, statements_of, words_in, word_a
 use Rattle.script_text.specs.Refused.{is_digit, value_of}
 use Rattle.script_text.proofs.NumberLaws.{value_of-decimal, digits_of-decimal, other_word}
 use Rattle.script_text.proofs.RightLines.{between_high}
-use Rattle.cluster_run.specs.Built.{is_run, IsBuilt}
+use Rattle.cluster_run.specs.Built.{is_run, IsPlainScript}
 use Rattle.nrt_main.specs.Built.{is_built_command, is_built, first_unbuilt}
 use Rattle.nrt_main.specs.Headline.{IsRunnable}
 
@@ -138,7 +138,7 @@ built_body size workers log (statement ∷ statements) phases (inl spells) built
     (no_workers statement workers spells.0.0 spells.0.1 parts.first, built_logged size log statements phases spells.1 parts.others)
 built_body size workers log (statement ∷ statements) phases (inr spells) built = (spells.0, built_logged size log (statement ∷ statements) phases spells.1 built)
 
-built_statements : (statements : List Statement) (script : Script) → SpellsStatements statements script → first_unbuilt statements ≡ None → IsBuilt script
+built_statements : (statements : List Statement) (script : Script) → SpellsStatements statements script → first_unbuilt statements ≡ None → IsPlainScript script
 built_statements [] script spells built = absurd spells
 built_statements (statement ∷ statements) script spells built =
     let body = built_body script.nodes script.workers script.log statements spells.1.0 spells.1.1 (built_parts statement statements built).others in
@@ -149,5 +149,5 @@ built_statements (statement ∷ statements) script spells built =
     }
 
 -- the script is built
-pub is_built_script : (bytes : List ℕ) (script : Script) → IsRunnable bytes script → IsBuilt script
+pub is_built_script : (bytes : List ℕ) (script : Script) → IsRunnable bytes script → IsPlainScript script
 is_built_script bytes script runnable = built_statements (statements_of bytes) script runnable.grammar.statements runnable.built

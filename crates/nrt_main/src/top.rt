@@ -1,7 +1,7 @@
 ghost use Rattle.std.specs.Prelude.{◌≡◌, ◌≤◌, length, ◌<◌, ◌-◌, ◌^◌, ◌↔◌, ◌≢◌, ℕ, [], ◌∷◌, None, IsTrue, IsSomeAnd, IfOk, IfErr};
 ghost use Rattle.nrt_base.specs.Causes.{Rose};
 ghost use Rattle.script_serving.specs.Form.{IsInForm};
-ghost use Rattle.cluster_run.specs.Built.{IsBuilt};
+ghost use Rattle.cluster_run.specs.Built.{IsPlainScript};
 ghost use Rattle.nrt_main.specs.Headline.{Ran, Answers, RanInPart, AnswersInPart, IsRunnable, RefusesLine, IsAnswer, AnswersWhole, Refuses, IsRun, LeavesRun, LeavesRunInPart, TakesWithin, TakesMore, longest};
 ghost use Rattle.frames_run.specs.Runs.{GaveBadStream, GaveMore};
 ghost use Rattle.nrt_main.specs.Frames.{IsFrames, RanFrames, RanFramesInPart, IsFramesAnswer};
@@ -48,7 +48,7 @@ fn read_script(alloc: Global, bytes: &[u8]) -> Result<Script, Status>
 /// A run of the script, and its report.
 fn run_report(alloc: Global, script: &Script) -> Result<(Cluster<MemDir>, Vec<u8>), NoMemory>
     requires form { IsInForm script.now }
-    requires built { IsBuilt script.now }
+    requires built { IsPlainScript script.now }
     ensures { IfOk result (λ run. IsReport script.now run.0 run.1.items) }
 {
     let cluster = run_script(alloc, script)?;
