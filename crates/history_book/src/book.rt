@@ -750,6 +750,14 @@ impl Book {
         let _numbers = &self.numbers;
     }
 
+    /// The printed entries, in order.
+    #[tactic(auto, using(crate::proofs::Weaving::reverse_printed))]
+    pub fn entries(&self) -> &[Entry]
+        ensures { reverse result.now ≡ printed self.now.log }
+    {
+        self.entries.as_slice()
+    }
+
     /// The printed entries alone.
     #[tactic(auto, using(crate::proofs::Weaving::reverse_printed))]
     pub fn into_history(self) -> History

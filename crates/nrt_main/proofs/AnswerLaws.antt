@@ -8,7 +8,7 @@ use Rattle.script_text.specs.declared.fault.LineFault.TheVariants.{NoNodes, NotB
 use Rattle.script_serving.specs.declared.script.Script.{Script}
 use Rattle.script_text.specs.Grammar.{Statement, lines_of_text, statements_of, SpellsScript}
 use Rattle.script_text.specs.Refused.{Place, first as first_place, next_place, none_counted, counted_with, RefusesAmong, RefusesStatements, IsFirstRefused}
-use Rattle.plain_run.specs.Built.{IsFirstUnbuilt}
+use Rattle.nrt_main.specs.Built.{IsFirstUnbuilt}
 use Rattle.script_text.proofs.RefusalLaws.{never_both, one_refusal}
 use Rattle.nrt_main.specs.declared.status.Status.{Status}
 use Rattle.nrt_main.specs.declared.status.Status.TheVariants.{Done, BadScript, WriteFault, Memory}

@@ -1,5 +1,6 @@
 mod Writes
-mod PlainScripts
+mod BuiltScripts
+mod Leaving
 mod AnswerLaws
 mod FrameAnswers
 mod CheckAnswers

@@ -1,5 +1,5 @@
 -- What the program promises for what it reads.
-use Rattle.std.specs.Prelude.{ℕ, ◌≡◌, ◌≤◌, ◌<◌, ◌⊎◌, List, [], ◌∷◌, length, take, codes, Option}
+use Rattle.std.specs.Prelude.{ℕ, ◌≡◌, ◌≤◌, ◌<◌, ◌⊎◌, List, [], ◌∷◌, length, take, codes, false, Option}
 use Rattle.std.specs.Io.KnownBytes.{Consumes, IsAtEnd, Appends}
 use Rattle.nrt_base.specs.declared.numbers.LineNo.{LineNo}
 use Rattle.history_entries.specs.declared.entry.History.{History}
@@ -11,7 +11,9 @@ use Rattle.script_serving.specs.declared.script.Script.{Script}
 use Rattle.script_serving.specs.Serves.{Serves}
 use Rattle.script_text.specs.Grammar.{SpellsScript}
 use Rattle.script_text.specs.Refused.{IsFirstRefused}
-use Rattle.plain_run.specs.Built.{IsFirstUnbuilt, RunsWhole}
+use Rattle.cluster_state.specs.Run.{Run}
+use Rattle.cluster_run.specs.Running.{history_of}
+use Rattle.nrt_main.specs.Built.{IsFirstUnbuilt, RunsWhole}
 use Rattle.nrt_main.specs.declared.status.Status.{Status}
 use Rattle.nrt_main.specs.declared.status.Status.TheVariants.{Done, BadScript, WriteFault}
 
@@ -36,6 +38,14 @@ pub record Answers (bytes : List ℕ) (before after : Option (List ℕ)) : Type 
   pub legal : IsLegal history
   pub serves : Serves script history
   pub written : Appends before after (text_of history)
+
+-- the cluster has run the script that the bytes are: it has not ended, and its history is legal and serves the script
+pub record HasRun (bytes : List ℕ) (r : Run) : Type 0 where
+  pub script : Script
+  pub runnable : IsRunnable bytes script
+  pub running : r.ended ≡ false
+  pub legal : IsLegal (history_of r)
+  pub serves : Serves script (history_of r)
 
 -- the source was read to its end, and gave these bytes
 pub record ReadWhole (before after : Option (List ℕ)) (bytes : List ℕ) : Type 0 where
@@ -64,6 +74,21 @@ pub record RanInPart (left_before left_after held_before held_after : Option (Li
   pub bytes : List ℕ
   pub read : ReadWhole left_before left_after bytes
   pub answers : AnswersInPart bytes held_before held_after
+
+-- the source was read to its end, the cluster has run what it gave, and the sink gained the text of its history
+pub record LeavesRun (left_before left_after held_before held_after : Option (List ℕ)) (r : Run) : Type 0 where
+  pub bytes : List ℕ
+  pub read : ReadWhole left_before left_after bytes
+  pub ran : HasRun bytes r
+  pub written : Appends held_before held_after (text_of (history_of r))
+
+-- the source was read to its end, the cluster has run what it gave, and the sink gained the front of the text of its history
+pub record LeavesRunInPart (left_before left_after held_before held_after : Option (List ℕ)) (r : Run) : Type 0 where
+  pub bytes : List ℕ
+  pub read : ReadWhole left_before left_after bytes
+  pub ran : HasRun bytes r
+  pub front : ℕ
+  pub written : Appends held_before held_after (take front (text_of (history_of r)))
 
 -- line n of the bytes is refused for this cause: as the grammar says; or, of a script, as the first that the program does not run yet
 abbrev pub RefusesLine : List ℕ → ℕ → LineFault → Type 0

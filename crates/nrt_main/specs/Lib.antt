@@ -1,3 +1,4 @@
+pub mod Built
 pub mod Headline
 pub mod Frames
 pub mod Check

@@ -4,6 +4,7 @@
 ghost use Rattle.std.specs.Prelude.{◌≡◌};
 ghost use Rattle.nrt_main.specs.Statuses.{cause_number};
 
+mod built;
 mod checking;
 mod message;
 mod reading;
@@ -19,6 +20,8 @@ use crate::standard::{StdSink, StdSource};
 use crate::status::Status;
 use crate::top::run_nrt;
 use check_run::{check_image, name_and_number, words_of};
+use cluster_core::Cluster;
+use disk_memory::MemDir;
 use nrt_streams::Arg;
 use script_text::LineFault;
 use std::process::ExitCode;
@@ -104,8 +107,15 @@ fn explain(rt: &HostRuntime, status: Status, script: &[u8]) -> io::Result<()> {
 fn main(rt: HostRuntime) -> ExitCode {
     let mut source = StdSource::new(rt.alloc(), rt.stdin());
     let mut sink = StdSink::new(rt.stdout());
+    let mut kept: Option<Cluster<MemDir>> = None;
     let status = match words(&rt) {
-        Ok(words) => run_nrt(rt.alloc(), words.as_slice(), &mut source, &mut sink),
+        Ok(words) => run_nrt(
+            rt.alloc(),
+            words.as_slice(),
+            &mut source,
+            &mut sink,
+            &mut kept,
+        ),
         Err(error) => match error.kind() {
             io::ErrorKind::InvalidData => Status::Usage,
             _ => Status::Memory,

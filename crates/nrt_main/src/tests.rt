@@ -31,7 +31,8 @@ fn run(
     let words = words(alloc, texts)?;
     let mut source = MemSource::new(script.to_vec(alloc)?, 3, reads.to_vec(alloc)?);
     let mut sink = MemSink::new(alloc, 4096, 3, writes.to_vec(alloc)?)?;
-    let status = run_nrt(alloc, words.as_slice(), &mut source, &mut sink);
+    let mut kept = None;
+    let status = run_nrt(alloc, words.as_slice(), &mut source, &mut sink, &mut kept);
     Ok((status, sink.bytes().to_vec(alloc)?))
 }
 
@@ -178,12 +179,13 @@ fn refused_lines(rt: HostRuntime) -> Result<(), Fail> {
 #[test]
 fn lines_not_built(rt: HostRuntime) -> Result<(), Fail> {
     let rows: &[(&[u8], u32)] = &[
-        (b"nodes 3", 1),
-        (b"nodes 2\nworkers 0", 2),
+        (b"nodes 2\nworkers 1", 2),
         (b"nodes 2\nlog", 2),
-        (b"nodes 2\n1 put a x\njoin", 3),
-        (b"nodes 2\n# x\n2 publish", 3),
-        (b"nodes 2\n1 copy 1", 2),
+        (b"nodes 2\n1 drop x\n1 commit 1", 3),
+        (b"nodes 3\n8 settle\njoin\n2 crash 1 0", 4),
+        (b"nodes 2\n1 merge 2", 2),
+        (b"nodes 2\n# x\n2 drain 1", 3),
+        (b"nodes 2\n1 files 1", 2),
     ];
     for (script, line) in rows {
         let (status, text) = run(rt.alloc(), &[b"run"], script, &[], &[])?;
@@ -201,7 +203,8 @@ fn line_feeds(alloc: Global, count: usize) -> Result<Status, Fail> {
     let words = words(alloc, &[b"run"])?;
     let mut source = MemSource::new(vec![in alloc; b'\n'; count]?, 4096, Vec::new(alloc));
     let mut sink = MemSink::new(alloc, 0, 1, Vec::new(alloc))?;
-    Ok(run_nrt(alloc, words.as_slice(), &mut source, &mut sink))
+    let mut kept = None;
+    Ok(run_nrt(alloc, words.as_slice(), &mut source, &mut sink, &mut kept))
 }
 
 #[test]

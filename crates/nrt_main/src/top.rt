@@ -1,23 +1,26 @@
-ghost use Rattle.std.specs.Prelude.{◌≡◌, ◌≤◌, length, ◌<◌, ◌-◌, ◌^◌, ◌↔◌, ◌≢◌, ℕ, [], ◌∷◌, IsTrue, IfOk, IfErr};
+ghost use Rattle.std.specs.Prelude.{◌≡◌, ◌≤◌, length, ◌<◌, ◌-◌, ◌^◌, ◌↔◌, ◌≢◌, ℕ, [], ◌∷◌, None, IsTrue, IsSomeAnd, IfOk, IfErr};
 ghost use Rattle.nrt_base.specs.Causes.{Rose};
 ghost use Rattle.script_serving.specs.Form.{IsInForm};
-ghost use Rattle.plain_run.specs.PlainRun.{IsPlainScript};
-ghost use Rattle.nrt_main.specs.Headline.{Ran, Answers, RanInPart, AnswersInPart, IsRunnable, RefusesLine, IsAnswer, AnswersWhole, Refuses, IsRun, TakesWithin, TakesMore, longest};
+ghost use Rattle.cluster_run.specs.Built.{IsPlainScript};
+ghost use Rattle.nrt_main.specs.Headline.{Ran, Answers, RanInPart, AnswersInPart, IsRunnable, RefusesLine, IsAnswer, AnswersWhole, Refuses, IsRun, LeavesRun, LeavesRunInPart, TakesWithin, TakesMore, longest};
 ghost use Rattle.frames_run.specs.Runs.{GaveBadStream, GaveMore};
 ghost use Rattle.nrt_main.specs.Frames.{IsFrames, RanFrames, RanFramesInPart, IsFramesAnswer};
 ghost use Rattle.nrt_main.specs.Check.{IsCheck, RanCheck, FoundWrong, RanCheckInPart, GaveNoImage, AnswersCheck};
 ghost use Rattle.nrt_main.specs.Rows.{IsKnownRow};
-ghost use Rattle.nrt_main.specs.TopCalls.{IsRefusal, IsReport};
+ghost use Rattle.nrt_main.specs.TopCalls.{IsRefusal, IsReport, LeavesText, LeavesFront};
 
+use crate::built::first_not_built;
 use crate::checking::check_source;
 use crate::reading::{ReadEnd, read_all};
 use crate::status::Status;
 use crate::writing::write_all;
+use cluster_core::Cluster;
+use cluster_run::run_script;
+use disk_memory::MemDir;
 use frames_run::{FramesEnd, run_frames};
 use nrt_base::{LineNo, NoMemory};
 use nrt_streams::{Arg, Sink, Source};
-use plain_run::{first_not_built, run_script};
-use report_text::report;
+use report_text::report_entries;
 use script_serving::Script;
 use script_text::{LineFault, ScriptFault, parse_script};
 use std::alloc::Global;
@@ -42,21 +45,27 @@ fn read_script(alloc: Global, bytes: &[u8]) -> Result<Script, Status>
     }
 }
 
-/// The report of a run of the script.
-fn run_report(alloc: Global, script: &Script) -> Result<Vec<u8>, NoMemory>
+/// A run of the script, and its report.
+fn run_report(alloc: Global, script: &Script) -> Result<(Cluster<MemDir>, Vec<u8>), NoMemory>
     requires form { IsInForm script.now }
-    requires plain { IsPlainScript script.now }
-    ensures { IfOk result (λ text. IsReport script.now text.items) }
+    requires built { IsPlainScript script.now }
+    ensures { IfOk result (λ run. IsReport script.now run.0 run.1.items) }
 {
-    let history = run_script(alloc, script)?;
-    let text = report(alloc, &history)?;
-    Ok(text)
+    let cluster = run_script(alloc, script)?;
+    let text = report_entries(alloc, cluster.entries())?;
+    Ok((cluster, text))
 }
 
 /// Runs the script that the bytes are.
-#[tactic(auto, using(crate::proofs::PlainScripts::is_plain_script, crate::proofs::AnswerLaws::run_answer, crate::proofs::AnswerLaws::refusal_answer))]
-fn run_bytes<K: Sink>(alloc: Global, bytes: &[u8], sink: &mut K) -> Status
-    requires { length bytes.now ≤ longest }
+#[tactic(auto, using(crate::proofs::BuiltScripts::is_built_script, crate::proofs::Leaving::leaves_text, crate::proofs::Leaving::leaves_front, crate::proofs::Leaving::answers_text, crate::proofs::Leaving::answers_front, crate::proofs::AnswerLaws::run_answer, crate::proofs::AnswerLaws::refusal_answer))]
+fn run_bytes<K: Sink>(
+    alloc: Global,
+    bytes: &[u8],
+    sink: &mut K,
+    left: &mut Option<Cluster<MemDir>>,
+) -> Status
+    requires long { length bytes.now ≤ longest }
+    requires empty { left.old ≡ None }
     ensures done { result ≡ Status.Done → Answers bytes.now (K.held sink.old) (K.held sink.new) }
     ensures part { result ≡ Status.WriteFault → AnswersInPart bytes.now (K.held sink.old)
         (K.held sink.new) }
@@ -69,14 +78,22 @@ fn run_bytes<K: Sink>(alloc: Global, bytes: &[u8], sink: &mut K) -> Status
     ensures others { (result ≢ Status.Usage) × (result ≢ Status.ReadFault) ×
         (result ≢ Status.TooLarge) × (result ≢ Status.BadIndex) × (result ≢ Status.BadImage) ×
         ((k : ℕ) → result ≢ Status.BadStream k) }
+
+    // The cluster that is left.
+    ensures whole { result ≡ Status.Done → IsSomeAnd left.new
+        (LeavesText bytes.now (K.held sink.old) (K.held sink.new)) }
+    ensures front { result ≡ Status.WriteFault → IsSomeAnd left.new
+        (LeavesFront bytes.now (K.held sink.old) (K.held sink.new)) }
+    ensures none { result ≢ Status.Done → result ≢ Status.WriteFault → left.new ≡ None }
 {
     let script = match read_script(alloc, bytes) {
         Ok(script) => script,
         Err(status) => return status,
     };
-    let Ok(text) = run_report(alloc, &script) else {
+    let Ok((cluster, text)) = run_report(alloc, &script) else {
         return Status::Memory;
     };
+    *left = Some(cluster);
     match write_all(sink, text.as_slice()) {
         Ok(()) => Status::Done,
         Err(_) => Status::WriteFault,
@@ -100,9 +117,15 @@ fn is_word(words: &[Arg], word: &[u8]) -> bool
 }
 
 /// Reads a script from the source, runs it, and writes its report to the sink.
-fn run_source<S: Source, K: Sink>(alloc: Global, source: &mut S, sink: &mut K) -> Status
+fn run_source<S: Source, K: Sink>(
+    alloc: Global,
+    source: &mut S,
+    sink: &mut K,
+    left: &mut Option<Cluster<MemDir>>,
+) -> Status
     requires reads { S.fault_count source.old < 2 ^ 64 - 1 }
     requires writes { K.fault_count sink.old < 2 ^ 64 - 1 }
+    requires empty { left.old ≡ None }
     ensures done { result ≡ Status.Done → Ran (S.left source.old) (S.left source.new)
         (K.held sink.old) (K.held sink.new) }
     ensures part { result ≡ Status.WriteFault → RanInPart (S.left source.old) (S.left source.new)
@@ -119,9 +142,16 @@ fn run_source<S: Source, K: Sink>(alloc: Global, source: &mut S, sink: &mut K) -
     ensures kept { result ≢ Status.Done → result ≢ Status.WriteFault → sink.new ≡ sink.old }
     ensures others { (result ≢ Status.Usage) × (result ≢ Status.BadIndex) ×
         (result ≢ Status.BadImage) × ((k : ℕ) → result ≢ Status.BadStream k) }
+
+    // The cluster that is left.
+    ensures whole { result ≡ Status.Done → IsSomeAnd left.new (LeavesRun (S.left source.old)
+        (S.left source.new) (K.held sink.old) (K.held sink.new)) }
+    ensures front { result ≡ Status.WriteFault → IsSomeAnd left.new (LeavesRunInPart
+        (S.left source.old) (S.left source.new) (K.held sink.old) (K.held sink.new)) }
+    ensures none { result ≢ Status.Done → result ≢ Status.WriteFault → left.new ≡ None }
 {
     match read_all(alloc, source) {
-        Ok(bytes) => run_bytes(alloc, bytes.as_slice(), sink),
+        Ok(bytes) => run_bytes(alloc, bytes.as_slice(), sink, left),
         Err(ReadEnd::Memory) => Status::Memory,
         Err(ReadEnd::Fault) => Status::ReadFault,
         Err(ReadEnd::TooLarge) => Status::TooLarge,
@@ -168,7 +198,8 @@ fn frames_source<S: Source, K: Sink>(alloc: Global, source: &mut S, sink: &mut K
 ///
 /// `run`: it reads a script from the source, runs it, and writes its report to the sink. Where it is done, the source
 /// was read to its end, its bytes are a script that the program runs, and the sink gained the text of a legal history
-/// that serves that script. `BadScript` names the first line that is refused, and why; for the cause `NotBuilt` the
+/// that serves that script. Then, and where the sink failed, `kept` has the cluster that ran it: it has not ended, and the text is
+/// that of its history. `BadScript` names the first line that is refused, and why; for the cause `NotBuilt` the
 /// bytes are a script, and it is the first line that the program does not run yet.
 ///
 /// `frames`: it reads a stream of frames from the source, and writes a line for each message to the sink. Where it is
@@ -185,9 +216,11 @@ pub fn run_nrt<S: Source, K: Sink>(
     words: &[Arg],
     source: &mut S,
     sink: &mut K,
+    kept: &mut Option<Cluster<MemDir>>,
 ) -> Status
     requires reads { S.fault_count source.old < 2 ^ 64 - 1 }
     requires writes { K.fault_count sink.old < 2 ^ 64 - 1 }
+    requires empty { kept.old ≡ None }
 
     // The words.
     ensures usage { result ≡ Status.Usage ↔ ¬ IsKnownRow words.now }
@@ -202,6 +235,14 @@ pub fn run_nrt<S: Source, K: Sink>(
         (S.left source.old) (S.left source.new) n.0 cause }
     ensures answers { IsRun words.now → result ≢ Status.ReadFault → result ≢ Status.TooLarge
         → result ≢ Status.Memory → AnswersWhole (S.left source.old) (S.left source.new) result }
+
+    // The cluster that `run` leaves.
+    ensures leaves { IsRun words.now → result ≡ Status.Done → IsSomeAnd kept.new (LeavesRun
+        (S.left source.old) (S.left source.new) (K.held sink.old) (K.held sink.new)) }
+    ensures leaves_part { IsRun words.now → result ≡ Status.WriteFault → IsSomeAnd kept.new
+        (LeavesRunInPart (S.left source.old) (S.left source.new) (K.held sink.old) (K.held sink.new)) }
+    ensures leaves_none { result ≢ Status.Done → result ≢ Status.WriteFault → kept.new ≡ None }
+    ensures leaves_run { ¬ IsRun words.now → kept.new ≡ None }
 
     // `frames`.
     ensures frames_done { IsFrames words.now → result ≡ Status.Done → RanFrames (S.left source.old)
@@ -239,7 +280,7 @@ pub fn run_nrt<S: Source, K: Sink>(
         → sink.new ≡ sink.old }
 {
     if is_word(words, b"run") {
-        run_source(alloc, source, sink)
+        run_source(alloc, source, sink, kept)
     } else if is_word(words, b"frames") {
         frames_source(alloc, source, sink)
     } else if is_word(words, b"check") {

@@ -8,4 +8,4 @@ mod lines;
 mod tests;
 mod words;
 
-pub use lines::{line, report};
+pub use lines::{line, report, report_entries};

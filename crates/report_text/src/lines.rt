@@ -1,6 +1,7 @@
 //! The line of an entry, and the report of a history.
 
 ghost use Rattle.std.specs.Prelude.{◌≡◌, ◌++◌, OnOk, IfOk};
+ghost use Rattle.std.specs.List.{flat_map};
 ghost use Rattle.report_text.specs.Texts.{text_of_entry, text_of};
 
 use crate::events::push_event;
@@ -27,13 +28,20 @@ pub fn line(alloc: Global, entry: &Entry) -> Result<Vec<u8>, NoMemory>
     Ok(out)
 }
 
+/// The lines of entries, in order.
+pub fn report_entries(alloc: Global, entries: &[Entry]) -> Result<Vec<u8>, NoMemory>
+    ensures { IfOk result (λ text. text.items ≡ flat_map text_of_entry entries.now) }
+{
+    let mut out = Vec::new(alloc);
+    for entry in entries {
+        push_line(&mut out, alloc, entry)?;
+    }
+    Ok(out)
+}
+
 /// The report of a history: the lines of its entries, in order.
 pub fn report(alloc: Global, history: &History) -> Result<Vec<u8>, NoMemory>
     ensures { IfOk result (λ text. text.items ≡ text_of history.now) }
 {
-    let mut out = Vec::new(alloc);
-    for entry in history.entries.as_slice() {
-        push_line(&mut out, alloc, entry)?;
-    }
-    Ok(out)
+    report_entries(alloc, history.entries.as_slice())
 }

@@ -1,0 +1,5 @@
+pub mod Does
+mod Rows
+mod CopyRows
+pub mod CopyDoes
+mod SettleStays

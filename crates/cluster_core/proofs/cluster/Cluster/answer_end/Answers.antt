@@ -1,0 +1,16 @@
+use Rattle.std.proofs.Common.{refl}
+use Rattle.std.proofs.lemmas.Result.{on_ok_weaker}
+use Rattle.history_entries.specs.Nodes.{Past}
+use Rattle.history_entries.specs.Lines.{last_of_line}
+use Rattle.cluster_core.specs.Calls.{ScansAt}
+use Rattle.cluster_core.specs.Doing.{AsksFor}
+use Rattle.cluster_core.proofs.Rows.{turns_at}
+use Rattle.cluster_core.proofs.Does.{answer_does, does_was, past_in}
+use Rattle.cluster_core.proofs.cluster.Cluster.answer_end.Goals as goal
+
+pub returns-clause-does : goal.returns-clause-does
+returns-clause-does g c = λ command asks. on_ok_weaker c.answer_end.result
+    (λ ends. does_was command c.args.at _ _ _ c.self.view_is
+    (answer_does command c.args.at _ c.args.query.now c.args.answer _ _ refl (turns_at _ _ c.book.ensures.log c.is_legal.ensures.turns)
+    (past_in (λ (past : Past). ScansAt past (last_of_line c.args.at past) c.args.query.now c.args.answer) _ _ c.self.view_is c.requires.right)
+    (past_in (λ (past : Past). AsksFor command c.args.query.now (last_of_line c.args.at past)) _ _ c.self.view_is asks) ends)) c.answer_end.ensures.ok

@@ -1,0 +1,9 @@
+use Rattle.std.proofs.Common.{refl}
+use Rattle.std.proofs.lemmas.Result.{on_ok_weaker}
+use Rattle.cluster_core.proofs.Rows.{fresh_in}
+use Rattle.cluster_core.proofs.Does.{close_does, does_was}
+use Rattle.cluster_core.proofs.cluster.Cluster.ticket_close.Goals as goal
+
+pub returns-clause-does : goal.returns-clause-does
+returns-clause-does g c = on_ok_weaker c.ticket_close.result
+    (λ now. does_was _ c.args.at _ _ _ c.self.view_is (close_does c.args.at c.args.t _ _ _ refl (fresh_in c.args.at _ _ c.self.view_is c.requires.fresh) now)) c.ticket_close.ensures.ok

@@ -1,0 +1,11 @@
+use Rattle.cluster_core.proofs.Rows.{fresh_start, refusal_rule, refusal_turn}
+use Rattle.cluster_core.proofs.refusals.refuse.Goals as goal
+
+pub is_apart-requires-clause-line : goal.is_apart-requires-clause-line
+is_apart-requires-clause-line g c = fresh_start _ c.args.at c.requires.fresh
+
+pub note-requires-clause-rule : goal.note-requires-clause-rule
+note-requires-clause-rule g c = refusal_rule _ _ c.args.at c.args.cause c.requires.fresh c.requires.cause
+
+pub note-requires-clause-turn : goal.note-requires-clause-turn
+note-requires-clause-turn g c = refusal_turn _ c.args.at c.args.cause c.requires.fresh

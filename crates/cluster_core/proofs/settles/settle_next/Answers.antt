@@ -1,0 +1,7 @@
+use Rattle.cluster_core.proofs.CopyRows.{settle_source}
+use Rattle.cluster_core.proofs.settles.settle_next.Goals as goal
+
+pub unreachable-requires : goal.unreachable-requires
+unreachable-requires g c =
+    settle_source _ _ c.args.at _ _ _ _ c.source_survives.result _ c.book.ensures.nodes c.book.ensures.log c.book-2.ensures.log c.is_legal.ensures.legal c.requires.settling.started c.if-not-source_survives.false c.source_survives.ensures
+    c.primary.ensures.is c.in-None.is

@@ -1,0 +1,13 @@
+use Rattle.cluster_core.proofs.Rows.{fresh_start, legal_at, ticket_told, close_rule, close_node}
+use Rattle.cluster_core.proofs.tickets.ticket_close.Goals as goal
+
+pub note_without-requires-clause-rule : goal.note_without-requires-clause-rule
+note_without-requires-clause-rule g c =
+    close_rule _ _ c.args.at c.args.t c.in-Some.opening (legal_at _ _ _ _ c.book-in-Some.ensures.nodes c.book-in-Some.ensures.log c.is_legal.ensures.legal) (ticket_told _ _ _ _ c.ticket.result _ c.book.ensures.log c.ticket.ensures.some c.in-Some.is)
+
+pub note_without-requires-clause-line : goal.note_without-requires-clause-line
+note_without-requires-clause-line g c = fresh_start _ c.args.at c.requires.fresh
+
+pub note_without-requires-clause-node : goal.note_without-requires-clause-node
+note_without-requires-clause-node g c =
+    close_node _ _ c.args.at c.args.t _ _ c.in-Some.opening c.book-in-Some.ensures.nodes c.book-in-Some.ensures.log c.is_legal.ensures.legal (ticket_told _ _ _ _ c.ticket.result _ c.book.ensures.log c.ticket.ensures.some c.in-Some.is)

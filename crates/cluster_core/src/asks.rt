@@ -1,0 +1,133 @@
+//! The calls of lines that search, and of those that open and close tickets.
+
+use crate::cluster::Cluster;
+use crate::searches::{answer_end, ask_start, search_start};
+use crate::tickets::{ticket_close, ticket_open};
+use crate::turn::Turn;
+use disk_model::FaultDir;
+use documents::{Answer, Query};
+use history_entries::Event;
+use nrt_base::{At, NoMemory, NodeNo, TicketNo};
+use searcher_switch::Lease;
+use seg_reader::Segment;
+use std::alloc::Global;
+
+impl<D: FaultDir + Drop> Cluster<D> {
+    ghost use Rattle.std.specs.Prelude.{◌≡◌, ◌≢◌, ◌∷◌, [], false, OnOk, OnErr, IfOk};
+    ghost use Rattle.documents.specs.declared.query.Query.{Query};
+    ghost use Rattle.history_entries.specs.Nodes.{IsNode};
+    ghost use Rattle.history_entries.specs.Lines.{entries_of_line, last_of_line};
+    ghost use Rattle.history_entries.specs.Tickets.{open_ticket};
+    ghost use Rattle.history_book.specs.Log.{printed, shown};
+    ghost use Rattle.script_serving.specs.declared.script.LineCommand.{LineCommand};
+    ghost use Rattle.script_serving.specs.declared.script.LineCommand.TheVariants.{Open, Close, Search, Ask};
+    ghost use Rattle.cluster_state.specs.Run.{IsNow, IsEnded};
+    ghost use Rattle.cluster_core.specs.Doing.{Does, IsReplied, IsRepliedAtDone, IsBegunAtWork, AsksFor};
+    ghost use Rattle.cluster_core.specs.Calls.{open_event, SearchStarts, AskStarts, asked_event, close_by, ScansAt, AnswerEnds};
+
+    /// Opens a ticket of the lane.
+    pub fn ticket_open(
+        &mut self,
+        alloc: Global,
+        at: At,
+        n: NodeNo,
+        t: TicketNo,
+    ) -> Result<(), NoMemory>
+        requires running { self.old.ended ≡ false }
+        requires fresh { entries_of_line at (printed self.old.log) ≡ [] }
+        requires node { IsNode self.old.nodes n.0 }
+        requires number { t.0 ≢ 0 }
+        ensures ok { OnOk result (IsNow self.old self.new (shown at
+            (open_event at.lane.0 n t (printed self.old.log)) ∷ self.old.log)) }
+        ensures err { OnErr result (IsEnded self.old self.new) }
+
+        // what the line is owed
+        ensures does { OnOk result (Does (Open n t) at self.old self.new) }
+        ensures replied { OnOk result (IsReplied at self.new) }
+    {
+        ticket_open(&mut self.state, alloc, at, n, t)
+    }
+
+    /// Starts a search, and hands out the point that the node searches.
+    pub fn search_start(
+        &mut self,
+        alloc: Global,
+        at: At,
+        n: NodeNo,
+    ) -> Result<Turn<Lease<Segment>>, NoMemory>
+        requires running { self.old.ended ≡ false }
+        requires fresh { entries_of_line at (printed self.old.log) ≡ [] }
+        requires node { IsNode self.old.nodes n.0 }
+        ensures ok { IfOk result (SearchStarts at n self.old self.new) }
+        ensures err { OnErr result (IsEnded self.old self.new) }
+
+        // what the line is owed, whatever it searches for
+        ensures does { (query : Query) → OnOk result (Does (Search n query) at self.old self.new) }
+        ensures replied { IfOk result (IsRepliedAtDone at self.new) }
+        ensures begun { IfOk result (IsBegunAtWork at
+            (λ lease. Event.Opened n (record { 0 = 0 }) lease.version) self.new) }
+    {
+        search_start(&mut self.state, alloc, at, n)
+    }
+
+    /// Starts a search at a ticket of the lane, and hands out the point on which it was opened.
+    pub fn ask_start(
+        &mut self,
+        alloc: Global,
+        at: At,
+        t: TicketNo,
+    ) -> Result<Turn<Lease<Segment>>, NoMemory>
+        requires running { self.old.ended ≡ false }
+        requires fresh { entries_of_line at (printed self.old.log) ≡ [] }
+        ensures ok { IfOk result (AskStarts at t self.old self.new) }
+        ensures err { OnErr result (IsEnded self.old self.new) }
+
+        // what the line is owed, whatever it searches for
+        ensures does { (query : Query) → OnOk result (Does (Ask t query) at self.old self.new) }
+        ensures replied { IfOk result (IsRepliedAtDone at self.new) }
+        ensures begun { IfOk result (IsBegunAtWork at (λ lease.
+            asked_event t (open_ticket at.lane.0 t.0 (printed self.old.log)) lease.version) self.new) }
+    {
+        ask_start(&mut self.state, alloc, at, t)
+    }
+
+    /// Ends a search with its answer, or refuses the line as lost exactly where its node has crashed since.
+    pub fn answer_end(
+        &mut self,
+        alloc: Global,
+        at: At,
+        query: &Query,
+        answer: Answer,
+    ) -> Result<(), NoMemory>
+        requires running { self.old.ended ≡ false }
+        requires right { ScansAt (printed self.old.log)
+            (last_of_line at (printed self.old.log)) query.now answer }
+        ensures ok { OnOk result (AnswerEnds at (last_of_line at (printed self.old.log))
+            query.now answer self.old self.new) }
+        ensures err { OnErr result (IsEnded self.old self.new) }
+
+        // what the line is owed
+        ensures does { (command : LineCommand) → AsksFor command query.now
+            (last_of_line at (printed self.old.log))
+            → OnOk result (Does command at self.old self.new) }
+        ensures replied { OnOk result (IsReplied at self.new) }
+    {
+        self.state.book().is_legal();
+        answer_end(&mut self.state, alloc, at, query, answer)
+    }
+
+    /// Closes a ticket of the lane.
+    pub fn ticket_close(&mut self, at: At, t: TicketNo) -> Result<(), NoMemory>
+        requires running { self.old.ended ≡ false }
+        requires fresh { entries_of_line at (printed self.old.log) ≡ [] }
+        ensures ok { OnOk result (IsNow self.old self.new (shown at
+            (close_by t (open_ticket at.lane.0 t.0 (printed self.old.log))) ∷ self.old.log)) }
+        ensures err { OnErr result (IsEnded self.old self.new) }
+
+        // what the line is owed
+        ensures does { OnOk result (Does (Close t) at self.old self.new) }
+        ensures replied { OnOk result (IsReplied at self.new) }
+    {
+        ticket_close(&mut self.state, at, t)
+    }
+}

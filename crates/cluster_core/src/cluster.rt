@@ -1,0 +1,80 @@
+//! The cluster.
+
+use cluster_state::ClusterState;
+use disk_model::FaultDir;
+use history_entries::{Entry, History};
+use nrt_base::NoMemory;
+use std::alloc::Global;
+use std::marker::Model;
+
+/// All nodes of a cluster and what happened in it.
+///
+/// A call that takes `at` is the next one of that line: the first where no entry of the line stands there, and a later one where the
+/// line's newest entry is its start. Where a call finds no memory the cluster has ended, with the history that it had.
+#[derive(Drop)]
+pub struct Cluster<D: FaultDir> {
+    pub(crate) state: ClusterState<D>,
+}
+
+impl<D: FaultDir> Model for Cluster<D> {
+    ghost use Rattle.cluster_state.specs.Run.{Run};
+    ghost use Rattle.documents.specs.contracts.query.Query as query;
+    ghost use Rattle.std.specs.Coded.{codes};
+
+    ghost Value = { Run };
+
+    ghost coded = { Prim.hlevel (codes, query.the_row.coded) };
+
+    ghost view = { λ c. c.state };
+}
+
+impl<D: FaultDir + Drop> Cluster<D> {
+    ghost use Rattle.std.specs.Prelude.{◌≡◌, ◌≤◌, [], false, IfOk, length, reverse};
+    ghost use Rattle.std.specs.List.{All};
+    ghost use Rattle.history_entries.specs.Legal.{IsLegal, IsLegalPast};
+    ghost use Rattle.history_book.specs.Log.{printed, FaultsFollow};
+    ghost use Rattle.history_book.specs.Turns.{AreInTurn};
+    ghost use Rattle.cluster_state.specs.Starting.{IsEmptyDir};
+
+    /// A cluster over these empty directories. Node 1 is the primary, and the others are replicas.
+    pub fn start(alloc: Global, dirs: Vec<D>) -> Result<Self, NoMemory>
+        requires some { 2 ≤ length dirs.items }
+        requires few { length dirs.items ≤ 16 }
+        requires empty { All (λ dir. IsEmptyDir (D.cells dir)) dirs.items }
+        ensures running { IfOk result (λ c. c.ended ≡ false) }
+        ensures nodes { IfOk result (λ c. c.nodes ≡ length dirs.items) }
+        ensures log { IfOk result (λ c. c.log ≡ []) }
+    {
+        let state = ClusterState::start(alloc, dirs)?;
+        Ok(Cluster { state })
+    }
+
+    /// Whether the cluster has ended. Its history is legal also then.
+    pub fn ended(&self) -> bool
+        ensures is { result ≡ self.now.ended }
+        ensures legal { IsLegalPast self.now.nodes (printed self.now.log) }
+        ensures turns { AreInTurn (printed self.now.log) }
+        ensures faults { FaultsFollow self.now.log }
+    {
+        self.state.book().is_legal();
+        self.state.has_ended()
+    }
+
+    /// The printed entries, in order.
+    pub fn entries(&self) -> &[Entry]
+        ensures { reverse result.now ≡ printed self.now.log }
+    {
+        self.state.book().entries()
+    }
+
+    /// What happened.
+    pub fn into_history(self) -> History
+        ensures entries { reverse result.entries ≡ printed self.log }
+        ensures nodes { result.nodes ≡ self.nodes }
+        ensures legal { IsLegal result }
+    {
+        let book = self.state.into_book();
+        book.is_legal();
+        book.into_history()
+    }
+}

@@ -1,0 +1,19 @@
+//! All nodes of a cluster: one call for each step of a line, which tests the refusals of the line in their order and then does what
+//! the line asks for.
+#![tactic(auto)]
+
+mod asks;
+mod calls;
+mod cluster;
+mod copies;
+mod copying;
+mod publishes;
+mod refusals;
+mod searches;
+mod settles;
+mod standing;
+mod tickets;
+mod turn;
+
+pub use cluster::Cluster;
+pub use turn::Turn;

@@ -1,0 +1,9 @@
+mod Steps
+mod Jobs
+mod Publishes
+mod Searches
+mod CopyLemmas
+mod Parts
+mod Phases
+mod EmptyDirs
+mod Scripts

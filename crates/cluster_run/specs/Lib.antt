@@ -1,0 +1,4 @@
+pub mod Built
+pub mod Going
+pub mod Running
+pub mod Copies

@@ -1,0 +1,51 @@
+//! A whole script.
+
+ghost use Rattle.std.specs.Prelude.{◌≡◌, ◌≤◌, false, IfOk, OnOk, length};
+ghost use Rattle.std.specs.List.{All};
+ghost use Rattle.history_entries.specs.Legal.{IsLegal};
+ghost use Rattle.script_serving.specs.Form.{IsInForm};
+ghost use Rattle.script_serving.specs.Serves.{Serves};
+ghost use Rattle.disk_memory.specs.Memory.{cells_in};
+ghost use Rattle.cluster_state.specs.Starting.{IsEmptyDir};
+ghost use Rattle.cluster_run.specs.Built.{IsPlainScript};
+ghost use Rattle.cluster_run.specs.Running.{history_of, RunsPhases};
+
+use crate::phase::run_phases;
+use cluster_core::Cluster;
+use disk_memory::MemDir;
+use nrt_base::NoMemory;
+use script_serving::Script;
+use std::alloc::Global;
+
+// An empty directory in memory.
+fn empty_dir(alloc: Global) -> Result<MemDir, NoMemory>
+    ensures { IfOk result (λ dir. IsEmptyDir (cells_in dir)) }
+{
+    MemDir::new(alloc)
+}
+
+// So many empty directories.
+fn empty_dirs(alloc: Global, count: u8) -> Result<Vec<MemDir>, NoMemory>
+    ensures count { IfOk result (λ dirs. length dirs.items ≡ count) }
+    ensures empty { IfOk result (λ dirs. All (λ dir. IsEmptyDir (cells_in dir)) dirs.items) }
+{
+    let mut dirs = Vec::with_capacity(alloc, count as usize)?;
+    for _ in 0..count {
+        dirs.push(empty_dir(alloc)?)?;
+    }
+    Ok(dirs)
+}
+
+/// Runs a script on a new cluster, and answers the cluster as the script leaves it. `Err` is want of memory alone.
+pub fn run_script(alloc: Global, script: &Script) -> Result<Cluster<MemDir>, NoMemory>
+    requires form { IsInForm script.now }
+    requires built { IsPlainScript script.now }
+    ensures running { IfOk result (λ c. c.ended ≡ false) }
+    ensures legal { IfOk result (λ c. IsLegal (history_of c)) }
+    ensures serves { IfOk result (λ c. Serves script.now (history_of c)) }
+{
+    let mut cluster = Cluster::start(alloc, empty_dirs(alloc, script.nodes)?)?;
+    run_phases(&mut cluster, alloc, script.phases.as_slice())?;
+    cluster.ended();
+    Ok(cluster)
+}

@@ -1,0 +1,153 @@
+-- A script of which the program runs every statement is built: it has no workers and no log, and its lines are such as are run.
+use Rattle.std.proofs.Common.{◌≡◌, ◌<◌, ◌≤◌, ◌^◌, ◌==◌, ◌&&◌, ◌||◌, ◌++◌, ℕ, zero, suc, ◌+◌, Bool, true, false, List, [], ◌∷◌, length, map, filter, Some, None, Option, refl, ap, ◌∙◌, sym, subst, arith, inl, inr, if◌then◌else◌}
+use Rattle.std.specs.Prelude.{codes, bytes_eq, IsTrue}
+use Rattle.std.specs.List.{list_all, flat_map}
+use Rattle.std.specs.Cmp.Lexicographic.{same_text}
+use Rattle.std.specs.Fmt.{decimal}
+use Rattle.std.proofs.lemmas.Bool.{false≢true, cases_Bool, and_from, and_parts}
+use Rattle.std.proofs.lemmas.List.Folds.{list_all-append}
+use Rattle.nrt_base.specs.declared.numbers.LaneNo.{LaneNo}
+use Rattle.script_serving.specs.declared.script.Line.{Line}
+use Rattle.script_serving.specs.declared.script.LineCommand.{LineCommand}
+use Rattle.script_serving.specs.declared.script.LineCommand.TheVariants.{Commit, Crash, Reopen, Promote, Merge, Drain, Files, Fault}
+use Rattle.script_serving.specs.declared.script.Phase.{Phase}
+use Rattle.script_serving.specs.declared.script.Script.{Script}
+use Rattle.script_serving.specs.Lines.{lines_of, lines_of_phase}
+use Rattle.script_text.specs.Grammar.{Statement, statements_of, words_in, word_at, command_words, Ends, SpellsPhases, SpellsLogged, SpellsBody, SpellsStatements, of_lane, lane_entry, lanes_from, phase_of}
+use Rattle.script_text.specs.Refused.{is_digit, value_of}
+use Rattle.script_text.proofs.NumberLaws.{value_of-decimal, digits_of-decimal, other_word}
+use Rattle.script_text.proofs.RightLines.{between_high}
+use Rattle.cluster_run.specs.Built.{is_run, IsPlainScript}
+use Rattle.nrt_main.specs.Built.{is_built_command, is_built, first_unbuilt}
+use Rattle.nrt_main.specs.Headline.{IsRunnable}
+
+-- the word spells the number, so the number has its value
+number_of : (word : List ℕ) (n : ℕ) → bytes_eq word (decimal n) ≡ true → n < 2 ^ 64 → n ≡ value_of word
+number_of word n same narrow = sym (value_of-decimal n narrow) ∙ ap value_of (sym (same_text word (decimal n) (sym same)))
+
+-- a line is run by its command
+by_command : (lane : List ℕ) (words : List (List ℕ)) → list_all is_digit lane ≡ true → is_built (lane ∷ words) ≡ is_built_command (word_at 0 words)
+by_command lane words digits =
+    let workers : bytes_eq (codes "workers") lane ≡ false = other_word 119 (codes "orkers") lane refl digits in
+    let nodes : bytes_eq (codes "nodes") lane ≡ false = other_word 110 (codes "odes") lane refl digits in
+    let join : bytes_eq (codes "join") lane ≡ false = other_word 106 (codes "oin") lane refl digits in
+    rw (workers, nodes, join) refl
+
+module _ (line : List ℕ) (lane : ℕ) (narrow : lane < 2 ^ 64) (built : is_built (words_in line) ≡ true) where
+  -- the command of a line that is run is one that is
+  not_command : (words : List (List ℕ)) → words_in line ≡ decimal lane ∷ words → is_built_command (word_at 0 words) ≡ true
+  not_command words e = sym (by_command (decimal lane) words (digits_of-decimal lane narrow)) ∙ (ap is_built (sym e) ∙ built)
+
+  built_command : (c : LineCommand) → Ends c line lane → is_run c ≡ true
+  built_command (Commit n) ends = absurd (false≢true (not_command (command_words (Commit n)) ends))
+  built_command (Crash n pick) ends = absurd (false≢true (not_command (command_words (Crash n pick)) ends))
+  built_command (Reopen n) ends = absurd (false≢true (not_command (command_words (Reopen n)) ends))
+  built_command (Promote n force) ends = absurd (false≢true (not_command (command_words (Promote n force)) ends))
+  built_command (Merge factor) ends = absurd (false≢true (not_command (command_words (Merge factor)) ends))
+  built_command (Drain most) ends = absurd (false≢true (not_command (command_words (Drain most)) ends))
+  built_command (Files n) ends = absurd (false≢true (not_command (command_words (Files n)) ends))
+  built_command (Fault n plan) ends = absurd (false≢true (not_command (command_words (Fault n plan)) ends))
+  built_command c ends = refl
+
+-- the program runs the first statement, and those behind it
+record AreBuilt (statement : Statement) (statements : List Statement) : Type 0 where
+  first : is_built (words_in statement.line) ≡ true
+  others : first_unbuilt statements ≡ None
+
+built_parts : (statement : Statement) (statements : List Statement) → first_unbuilt (statement ∷ statements) ≡ None → AreBuilt statement statements
+built_parts statement statements e =
+    elim (cases_Bool (is_built (words_in statement.line))) [
+      | inl here ↦ record { first = here; others = simp here at e }
+      | inr apart ↦ let none : Some statement.number ≡ None = simp apart at e in cc
+    ]
+
+-- ---- the lines of phases
+
+abbrev all_run : List Line → Bool
+all_run lines = list_all (λ line. is_run line.command) lines
+
+abbrev phases_run : List (List Line) → Bool
+phases_run phases = list_all all_run phases
+
+built_phases : (size : ℕ) (statements : List Statement) (phases : List (List Line)) → SpellsPhases size statements phases → first_unbuilt statements ≡ None → phases_run phases ≡ true
+built_phases size [] [] spells built = refl
+built_phases size [] (phase ∷ []) spells built = and_from (all_run phase) true (ap all_run spells) refl
+built_phases size [] (phase ∷ next ∷ phases) spells built = absurd spells
+built_phases size (statement ∷ statements) [] spells built = absurd spells
+built_phases size (statement ∷ statements) ([] ∷ phases) spells built = built_phases size statements phases spells.1 (built_parts statement statements built).others
+built_phases size (statement ∷ statements) ((line ∷ phase) ∷ phases) spells built =
+    let parts = built_parts statement statements built in
+    let lane : line.at.lane.0 < 2 ^ 64 = omega (arith, between_high 1 8 line.at.lane.0 spells.0.lane) in
+    let here = built_command statement.line line.at.lane.0 lane parts.first line.command spells.0.words in
+    let rest = and_parts (all_run phase) (phases_run phases) (built_phases size statements (phase ∷ phases) spells.1 parts.others) in
+    and_from (is_run line.command && all_run phase) (phases_run phases) (and_from (is_run line.command) (all_run phase) here rest.0) rest.1
+
+lane_run : (lane : ℕ) (lines : List Line) → all_run lines ≡ true → all_run (of_lane lane lines) ≡ true
+lane_run lane [] all = refl
+lane_run lane (line ∷ lines) all =
+    let parts = and_parts (is_run line.command) (all_run lines) all in
+    by_lane (line.at.lane.0 == lane) parts.0 (lane_run lane lines parts.1)
+  where
+    by_lane : (b : Bool) → is_run line.command ≡ true → all_run (of_lane lane lines) ≡ true → all_run (if b then line ∷ of_lane lane lines else of_lane lane lines) ≡ true
+    by_lane true h k = and_from (is_run line.command) (all_run (of_lane lane lines)) h k
+    by_lane false h k = k
+
+entry_lines : (lane : ℕ) (lines : List Line) (rest : List (LaneNo × List Line)) → flat_map (λ l. l.1) (lane_entry lane lines ++ rest) ≡ lines ++ flat_map (λ (l : LaneNo × List Line). l.1) rest
+entry_lines lane [] rest = refl
+entry_lines lane (line ∷ lines) rest = refl
+
+lanes_run : (count lane : ℕ) (lines : List Line) → all_run lines ≡ true → all_run (flat_map (λ l. l.1) (lanes_from count lane lines)) ≡ true
+lanes_run zero lane lines all = refl
+lanes_run (suc count) lane lines all =
+    let rest = flat_map (λ (l : LaneNo × List Line). l.1) (lanes_from count (lane + 1) lines) in
+    ap all_run (entry_lines lane (of_lane lane lines) (lanes_from count (lane + 1) lines))
+    ∙ (list_all-append (λ (line : Line). is_run line.command) (of_lane lane lines) rest
+    ∙ and_from (all_run (of_lane lane lines)) (all_run rest) (lane_run lane lines all) (lanes_run count (lane + 1) lines all))
+
+lines_run : (phases : List (List Line)) → phases_run phases ≡ true → all_run (flat_map lines_of_phase (map phase_of phases)) ≡ true
+lines_run [] all = refl
+lines_run (phase ∷ phases) all =
+    let parts = and_parts (all_run phase) (phases_run phases) all in
+    list_all-append (λ (line : Line). is_run line.command) (lines_of_phase (phase_of phase)) (flat_map lines_of_phase (map phase_of phases))
+    ∙ and_from (all_run (lines_of_phase (phase_of phase))) (all_run (flat_map lines_of_phase (map phase_of phases))) (lanes_run 8 1 phase parts.0) (lines_run phases parts.1)
+
+-- ---- the headers
+
+-- no log is asked for, and the lines are run
+record IsBuiltBody (log : Bool) (phases : List (List Line)) : Type 0 where
+  none : log ≡ false
+  run : phases_run phases ≡ true
+
+built_logged : (size : ℕ) (log : Bool) (statements : List Statement) (phases : List (List Line)) → SpellsLogged size log statements phases → first_unbuilt statements ≡ None
+    → IsBuiltBody log phases
+built_logged size log [] phases spells built = record { none = spells.0; run = ap phases_run spells.1 }
+built_logged size log (statement ∷ statements) phases (inl spells) built =
+    absurd (false≢true (ap is_built (sym spells.1) ∙ (built_parts statement statements built).first))
+built_logged size log (statement ∷ statements) phases (inr spells) built = record { none = spells.0; run = built_phases size (statement ∷ statements) phases spells.1 built }
+
+no_workers : (statement : Statement) (workers : ℕ) → words_in statement.line ≡ codes "workers" ∷ decimal workers ∷ [] → workers ≤ 8 → is_built (words_in statement.line) ≡ true → workers ≡ 0
+no_workers statement workers words few built =
+    let said : bytes_eq (codes "0") (decimal workers) ≡ true = ap is_built (sym words) ∙ built in
+    number_of (codes "0") workers said (omega (arith, few))
+
+built_body : (size workers : ℕ) (log : Bool) (statements : List Statement) (phases : List (List Line)) → SpellsBody size workers log statements phases → first_unbuilt statements ≡ None
+    → (workers ≡ 0) × IsBuiltBody log phases
+built_body size workers log [] phases spells built = (spells.0, built_logged size log [] phases spells.1 built)
+built_body size workers log (statement ∷ statements) phases (inl spells) built =
+    let parts = built_parts statement statements built in
+    (no_workers statement workers spells.0.0 spells.0.1 parts.first, built_logged size log statements phases spells.1 parts.others)
+built_body size workers log (statement ∷ statements) phases (inr spells) built = (spells.0, built_logged size log (statement ∷ statements) phases spells.1 built)
+
+built_statements : (statements : List Statement) (script : Script) → SpellsStatements statements script → first_unbuilt statements ≡ None → IsPlainScript script
+built_statements [] script spells built = absurd spells
+built_statements (statement ∷ statements) script spells built =
+    let body = built_body script.nodes script.workers script.log statements spells.1.0 spells.1.1 (built_parts statement statements built).others in
+    record {
+      workers = body.0;
+      log = body.1.none;
+      commands = ap (λ (phases : List Phase). all_run (flat_map lines_of_phase phases)) spells.1.2 ∙ lines_run spells.1.0 body.1.run;
+    }
+
+-- the script is built
+pub is_built_script : (bytes : List ℕ) (script : Script) → IsRunnable bytes script → IsPlainScript script
+is_built_script bytes script runnable = built_statements (statements_of bytes) script runnable.grammar.statements runnable.built

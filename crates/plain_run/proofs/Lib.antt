@@ -1,5 +1,0 @@
-mod BuiltLemmas
-mod FreshLines
-mod DocumentCounts
-mod Steps
-mod Serving

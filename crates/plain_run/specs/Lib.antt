@@ -1,4 +1,0 @@
-pub mod Built
-pub mod PlainRun
-pub mod Run
-pub mod Kept
