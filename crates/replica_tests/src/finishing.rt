@@ -1,6 +1,6 @@
 //! A copy that is finished and committed while the disk stops. Its source stands for a document.
 
-ghost use Rattle.std.specs.Prelude.{◌≡◌, ◌<◌, None, IfOk, OnOk};
+ghost use Rattle.std.specs.Prelude.{◌≡◌, ◌<◌, None, OnOk};
 ghost use Rattle.disk_model.specs.Disk.{Name, Content, reads_of};
 ghost use Rattle.replica_opening.specs.Opened.{IsSettledOn};
 ghost use Rattle.replica_node.specs.Sources.{IsSourced, KeepsSource};
