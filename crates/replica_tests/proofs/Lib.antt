@@ -2,3 +2,4 @@ mod Due
 mod Emptiness
 mod Listing
 mod Noticing
+mod Sources

@@ -1,10 +1,11 @@
 //! Jobs of a replica that holds files already.
 
-ghost use Rattle.std.specs.Prelude.{◌≡◌, ◌<◌, None, IfOk, IfSome};
+ghost use Rattle.std.specs.Prelude.{◌≡◌, ◌<◌, None, Some, IfOk, IfSome, slice_get};
 ghost use Rattle.std.specs.Option.{option_map};
 ghost use Rattle.copy_state.specs.States.{IsCopyState, meta_in};
 ghost use Rattle.replica_opening.specs.Opened.{IsSettledOn};
 ghost use Rattle.replica_node.specs.Replica.{IsPointState};
+ghost use Rattle.replica_node.specs.Sources.{KeepsSource};
 ghost use Rattle.segment_infos.specs.declared.infos.Infos.{Infos};
 ghost use Rattle.segment_infos.specs.Infos.{CanSpell};
 ghost use Rattle.replica_tests.specs.States.{HaveShortNames, IsDuePart};
@@ -96,14 +97,16 @@ fn state_of(
     })
 }
 
-// Begins a job of the next version.
-fn begin<D: Dir>(
+/// Begins a job of the next version.
+pub fn begin<D: Dir>(
     alloc: Global,
     replica: &mut Replica<D>,
     metas: &[FileMetaData],
 ) -> Result<Result<u64, JobFault>, Fail>
     requires none { replica.old.job ≡ None }
     requires jobs { replica.old.jobs ≡ 0 }
+    ensures sourced { KeepsSource D.cells replica.old replica.new }
+    ensures commits { replica.new.commits ≡ replica.old.commits }
 {
     let generation = replica.seen();
     let searched = replica.version();
@@ -170,8 +173,8 @@ fn meta_of(alloc: Global, file: &[u8]) -> Result<FileMetaData, Fail> {
     }
 }
 
-// The metadata of the files.
-fn file_metas(alloc: Global) -> Result<Vec<FileMetaData>, Fail> {
+/// The metadata of the files.
+pub fn file_metas(alloc: Global) -> Result<Vec<FileMetaData>, Fail> {
     let mut metas = Vec::new(alloc);
     metas.push(meta_of(alloc, &DOCS)?)?;
     metas.push(meta_of(alloc, &POST)?)?;
@@ -218,14 +221,16 @@ fn wanted<'a>(files: &'a [(FileName, FileMetaData)], name: &FileName) -> Option<
     None
 }
 
-// The first file that a job lacks, with these bytes.
-fn due_part(alloc: Global, job: &CopyJob, bytes: &[u8]) -> Result<Part, Fail>
-    ensures { IfOk result (IsDuePart job.now) }
+/// The first file that a job lacks, with these bytes.
+pub fn due_part(alloc: Global, job: &CopyJob, bytes: Bytes) -> Result<Part, Fail>
+    ensures due { IfOk result (IsDuePart job.now) }
+    ensures name { IfOk result (λ part. slice_get job.now.missing 0 ≡ Some part.name) }
+    ensures bytes { IfOk result (λ part. part.bytes ≡ bytes) }
 {
     let Some(name) = job.missing().first() else {
         return Err(Fail::new("nothing is missing"));
     };
-    let Ok(meta) = read_meta(alloc, bytes) else {
+    let Ok(meta) = read_meta(alloc, bytes.as_slice()) else {
         return Err(Fail::new("no metadata"));
     };
     let Some(want) = wanted(job.want().files.as_slice(), name) else {
@@ -236,7 +241,7 @@ fn due_part(alloc: Global, job: &CopyJob, bytes: &[u8]) -> Result<Part, Fail>
     }
     Ok(Part {
         name: *name,
-        bytes: Bytes::copy_from_slice(alloc, bytes)?,
+        bytes,
         meta,
     })
 }
@@ -247,7 +252,7 @@ fn arrive<D: Dir>(alloc: Global, replica: &mut Replica<D>, bytes: &[u8]) -> Resu
         return Err(Fail::new("no job"));
     };
     let number = job.number();
-    let part = due_part(alloc, job, bytes)?;
+    let part = due_part(alloc, job, Bytes::copy_from_slice(alloc, bytes)?)?;
     match replica.arrived(number, part) {
         Ok(()) => Ok(true),
         Err(JobFault::DirFailed) => Ok(false),

@@ -8,6 +8,8 @@ mod calls;
 #[cfg(test)]
 mod files;
 #[cfg(test)]
+mod finishing;
+#[cfg(test)]
 mod jobs;
 #[cfg(test)]
 mod openings;

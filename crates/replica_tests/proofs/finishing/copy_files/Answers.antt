@@ -1,0 +1,15 @@
+use Rattle.std.proofs.Common.{subst, sym, ap, ◌∙◌}
+use Rattle.disk_model.specs.Disk.{Cells, reads_of}
+use Rattle.commit_steps.specs.declared.stage.CommitBook.{CommitBook}
+use Rattle.replica_node.specs.Sources.{IsSourced}
+use Rattle.replica_tests.proofs.finishing.copy_files.Goals as goal
+
+pub returns : goal.returns
+returns g c =
+    let source = reads_of (g.S.Dir.cells c.args.source.now) in
+    record {
+      sourced =
+          subst (λ (x : Cells). IsSourced (reads_of x) g.D.Dir.cells c.fetch_files.new.replica) (sym c.fetch_files.ensures.cells)
+          (c.in_ok-fetch_files.ensures.sourced (c.begin_files.ensures.sourced source (c.in_ok-check_empty.ensures source)));
+      none = ap (λ (b : CommitBook). b.stage) (c.in_ok-fetch_files.ensures.commits ∙ c.begin_files.ensures.commits) ∙ c.requires.stage;
+    }
