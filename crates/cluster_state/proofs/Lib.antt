@@ -34,6 +34,7 @@ pub mod Beginning
 pub mod CopyPaths
 pub mod Handing
 pub mod Finishing
+pub mod HandPaths
 pub mod PartPaths
 pub mod Settling
 pub mod JobEnds
