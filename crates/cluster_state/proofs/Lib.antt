@@ -33,7 +33,7 @@ pub mod JobMoves
 pub mod Beginning
 pub mod CopyPaths
 pub mod Handing
-pub mod Finishing
+pub mod Ending
 pub mod HandPaths
 pub mod PartPaths
 pub mod Settling

@@ -15,7 +15,7 @@ use disk_model::FaultDir;
 use history_book::{Book, Inner, Job, JobRow, Start};
 use history_entries::Event;
 use nrt_base::{At, NoMemory, NodeNo, Share, Version};
-use replica_node::laws::{files_last, readers_search, sourced_stands};
+use replica_node::laws::{files_last, sourced_stands};
 use std::alloc::{AllocError, Global};
 
 // Whether an open line started as a copy.
@@ -231,7 +231,6 @@ impl<D: FaultDir + Drop> ClusterState<D> {
         self.book.job_replica(row);
         files_last();
         sourced_stands();
-        readers_search();
         let p = self.source_of(row);
         let Job {
             at,
@@ -245,10 +244,12 @@ impl<D: FaultDir + Drop> ClusterState<D> {
             None => {
                 finish_in(alloc, &mut self.places, p, n)?;
                 show_end(&mut self.book, row);
+                self.book.is_legal();
                 self.ended = false;
                 Ok(None)
             }
-            Some((name, meta)) => {
+            Some(file) => {
+                let name = file.0;
                 let source = read_in(&mut self.places, p, &name)?;
                 let copy = source.share(alloc)?;
                 self.book.keep(Inner::FileOut {
@@ -260,7 +261,11 @@ impl<D: FaultDir + Drop> ClusterState<D> {
                     by: Some(at),
                 });
                 self.ended = false;
-                Ok(Some(FileTask { name, source, meta }))
+                Ok(Some(FileTask {
+                    name,
+                    source,
+                    meta: file.1,
+                }))
             }
         }
     }

@@ -1,48 +1,54 @@
-use Rattle.std.proofs.Common.{rules, ◌≡◌, ◌≢◌, ◌≤◌, ◌<◌, None, ℕ, ◌∷◌, [], false, true, Some, OnOk, OnErr, IfOk, IfSome, ◌+◌, ◌-◌, ◌*◌, length, ◌/◌, ◌%◌, Bool, nat_eq, nat_lt, List, ◌++◌, slice_index_or, slice_set, bit_and, bit_or, Fits, w8, w32, w64, Bor, MutBor}
-use Rattle.history_entries.specs.Nodes.{version_of, newest_version, IsNode, IsReplica, primary_of}
-use Rattle.history_entries.specs.Lines.{start_entry, before_start, highest_copy, highest_switched, entries_of_line, SourceSurvives}
-use Rattle.history_tables.specs.Begins.{open_line}
-use Rattle.history_book.specs.Log.{printed, shown}
-use Rattle.cluster_state.specs.Copies.{is_copy_start, JobRuns, ended_log, newest_of, BeginsJob, GoesOn}
-use Rattle.copy_state.specs.Meta.{IsMetaOf}
-use Rattle.history_book.specs.Jobs.{job_at, IsOlder}
-use Rattle.cluster_state.specs.Run.{IsNow, IsEnded}
-use Rattle.cluster_state.specs.FilesOut.{file_out}
-use Rattle.cluster_state.specs.Settles.{WaitsFor}
+use Rattle.std.proofs.Common.{◌≡◌, ◌∙◌, ℕ, ap, refl, arith, sym, subst, Option, Some, None, ◌∷◌}
+use Rattle.std.specs.Prelude.{IfOk}
+use Rattle.history_book.specs.Log.{Log, printed, kept}
+use Rattle.history_book.specs.declared.inner.Inner.TheVariants.{FileOut}
+use Rattle.cluster_state.specs.Run.{Run, IsNow}
+use Rattle.cluster_state.specs.JobChanges.{HasNextFile}
+use Rattle.cluster_state.specs.Places.{place_of}
+use Rattle.cluster_state.proofs.HandPaths.{next_slot, next_job, can_read, hand_path, hand_meta}
+use Rattle.cluster_state.proofs.Ending.{can_finish, copy_here, finish_path}
 use Rattle.cluster_state.proofs.cluster.ClusterState.go_on.Goals as goal
 
--- src/copies.rt:244:15
 pub next_in-requires-clause-slot : goal.next_in-requires-clause-slot
-next_in-requires-clause-slot g c = ?
+next_in-requires-clause-slot g c = next_slot g.D.Dir.cells c.args.self.now _ c.self.inside.book _ c.args.row c.self.view_is c.requires.running c.self.invariant c.requires.runs c.job_shows.ensures c.job_replica.ensures
 
--- src/copies.rt:244:15
 pub next_in-requires-clause-job : goal.next_in-requires-clause-job
-next_in-requires-clause-job g c = ?
+next_in-requires-clause-job g c = next_job g.D.Dir.cells c.args.self.now _ c.self.inside.book _ c.args.row c.self.view_is c.requires.running c.self.invariant c.requires.runs c.job_shows.ensures c.job_replica.ensures
 
--- src/copies.rt:246:17
-pub finish_in-requires : goal.finish_in-requires
-finish_in-requires g c = ?
-
--- src/copies.rt:247:17
-pub show_end-requires-clause-below : goal.show_end-requires-clause-below
-show_end-requires-clause-below g c = ?
-
--- src/copies.rt:247:17
-pub show_end-requires-clause-latest : goal.show_end-requires-clause-latest
-show_end-requires-clause-latest g c = ?
-
--- src/copies.rt:249:17
-pub invariant_of-self-in-None : goal.invariant_of-self-in-None
-invariant_of-self-in-None g c = ?
-
--- src/copies.rt:252:30
 pub read_in-requires : goal.read_in-requires
-read_in-requires g c = ?
+read_in-requires g c = can_read g.D.Dir.cells c.args.self.now _ c.self.inside.book _ c.args.row c.self.view_is c.requires.running c.self.invariant c.requires.runs c.job_shows.ensures c.job_replica.ensures c.source_of-p.result c.in-Some.file.0 c.in-Some.file.1 c.files_last.ensures
+    c.source_of-p.ensures.node c.source_of-p.ensures.is (subst (HasNextFile (place_of c.self.inside.places.items c.args.row.job.node.0)) c.in-Some.is c.in_ok-next_in.ensures)
 
--- src/copies.rt:263:17
 pub invariant_of-self-in-Some : goal.invariant_of-self-in-Some
-invariant_of-self-in-Some g c = ?
+invariant_of-self-in-Some g c = λ running. hand_path g.D.Dir.cells c.args.self.now _ c.self.inside.book _ c.args.row c.self.view_is c.requires.running c.self.invariant c.requires.runs c.job_shows.ensures c.job_replica.ensures
+    c.reserve.new.self c.keep.new.self _ c.source_of-p.result c.in-Some.file.0 c.in-Some.file.1 c.in_ok-source-in-Some.source c.in_ok-copy-in-Some.copy c.files_last.ensures c.source_of-p.ensures.node c.source_of-p.ensures.is
+    (subst (HasNextFile (place_of c.self.inside.places.items c.args.row.job.node.0)) c.in-Some.is c.in_ok-next_in.ensures) c.in_ok-source-in-Some.ensures c.in_ok-copy-in-Some.ensures
+    c.in_ok-reserve.ensures.log c.in_ok-reserve.ensures.nodes c.keep.ensures.log c.keep.ensures.nodes
 
--- src/copies.rt:221:5
 pub returns-in_ok-copy-in-Some-clause-ok : goal.returns-in_ok-copy-in-Some-clause-ok
-returns-in_ok-copy-in-Some-clause-ok g c = ?
+returns-in_ok-copy-in-Some-clause-ok g c = record {
+  now = record {
+    running = refl;
+    nodes = c.keep.ensures.nodes ∙ (c.in_ok-reserve.ensures.nodes ∙ ap (λ (r : Run). r.nodes) c.self.view_is);
+    log = c.keep.ensures.log ∙ (ap (λ (x : _). kept (FileOut c.args.row.job.at.line c.args.row.job.node c.args.row.job.number c.in-Some.file.0 x (Some c.args.row.job.at)) ∷ c.reserve.new.self.log) c.in_ok-copy-in-Some.ensures
+        ∙ ap (λ (l : Log). kept (FileOut c.args.row.job.at.line c.args.row.job.node c.args.row.job.number c.in-Some.file.0 c.in_ok-source-in-Some.source (Some c.args.row.job.at)) ∷ l) (c.in_ok-reserve.ensures.log ∙ ap (λ (r : Run). r.log) c.self.view_is));
+  };
+  meta = hand_meta g.D.Dir.cells c.args.self.now _ c.self.inside.book _ c.args.row c.self.view_is c.requires.running c.self.invariant c.requires.runs c.job_shows.ensures c.job_replica.ensures
+      _ c.source_of-p.result c.in-Some.file.0 c.in-Some.file.1 c.in_ok-source-in-Some.source c.files_last.ensures c.source_of-p.ensures.node
+      (subst (HasNextFile (place_of c.self.inside.places.items c.args.row.job.node.0)) c.in-Some.is c.in_ok-next_in.ensures) c.in_ok-source-in-Some.ensures;
+}
+
+pub show_end-requires-clause-below : goal.show_end-requires-clause-below
+show_end-requires-clause-below g c = (copy_here g.D.Dir.cells c.args.self.now _ c.self.inside.book c.reserve.new.self _ c.args.row c.self.view_is c.requires.running c.self.invariant c.in_ok-reserve.ensures.log c.requires.runs c.job_shows.ensures c.job_replica.ensures).0
+
+pub show_end-requires-clause-latest : goal.show_end-requires-clause-latest
+show_end-requires-clause-latest g c = (copy_here g.D.Dir.cells c.args.self.now _ c.self.inside.book c.reserve.new.self _ c.args.row c.self.view_is c.requires.running c.self.invariant c.in_ok-reserve.ensures.log c.requires.runs c.job_shows.ensures c.job_replica.ensures).1
+
+pub finish_in-requires : goal.finish_in-requires
+finish_in-requires g c = can_finish g.D.Dir.cells c.args.self.now _ _ _ _ c.source_of-p.result c.args.row c.self.view_is c.requires.running c.self.invariant c.sourced_stands.ensures c.source_of-p.ensures.node c.source_of-p.ensures.is c.requires.runs c.job_shows.ensures c.job_replica.ensures
+    (subst (HasNextFile (place_of c.self.inside.places.items c.args.row.job.node.0)) c.in-None.is c.in_ok-next_in.ensures)
+
+pub invariant_of-self-in-None : goal.invariant_of-self-in-None
+invariant_of-self-in-None g c = λ running. finish_path g.D.Dir.cells c.args.self.now _ c.self.inside.book c.reserve.new.self c.show_end.new.book _ _ c.source_of-p.result c.args.row c.self.view_is c.requires.running c.self.invariant c.in_ok-reserve.ensures.log c.in_ok-reserve.ensures.nodes
+    c.show_end.ensures.log c.show_end.ensures.nodes c.is_legal-in-None.ensures.legal c.is_legal-in-None.ensures.turns c.sourced_stands.ensures c.source_of-p.ensures.node c.source_of-p.ensures.is c.requires.runs c.job_shows.ensures c.job_replica.ensures
+    (subst (HasNextFile (place_of c.self.inside.places.items c.args.row.job.node.0)) c.in-None.is c.in_ok-next_in.ensures) c.in_ok-finish_in-in-None.ensures
