@@ -7,6 +7,10 @@ use Rattle.nrt_base.specs.declared.numbers.NodeNo.{NodeNo}
 use Rattle.disk_model.specs.Disk.{Name, Content, Cells}
 use Rattle.file_deleter.specs.Holdings.{times}
 use Rattle.copy_state.specs.declared.meta.FileMetaData.{FileMetaData}
+use Rattle.codec_frame.specs.Bytes.{AreBytes}
+use Rattle.codec_frame.specs.Checking.{HasFooter}
+use Rattle.replica_node.specs.declared.job.PointJob.{PointJob}
+use Rattle.replica_node.specs.Replica.{IsJobAbove}
 use Rattle.copy_state.specs.Meta.{IsMetaOf}
 use Rattle.index_primary.specs.declared.parts.Parts.{Parts as PrimaryParts}
 use Rattle.index_primary.specs.declared.states.Out.{Out}
@@ -32,7 +36,7 @@ use Rattle.cluster_state.proofs.Frames.{some_at, was, now_is, slot_of}
 use Rattle.cluster_state.proofs.FileFrames.{both_of, Both, files_was, files_is}
 use Rattle.cluster_state.proofs.FileJobs.{PrimaryHere, ReplicaHere, JobHere, primary_here, replica_here, job_here, job_out, runs_at}
 use Rattle.cluster_state.proofs.CopyPaths.{FilesLast}
-use Rattle.cluster_state.proofs.Handing.{has_job, next_is, IsFileToCopy, file_to_copy, file_handed}
+use Rattle.cluster_state.proofs.Handing.{has_job, next_is, IsFileToCopy, file_to_copy, file_footer, file_handed}
 
 module _ {D : Type 0} (cells : D → Cells) where
   -- the replica of a job that runs, with the job
@@ -112,6 +116,15 @@ module _ {D : Type 0} (cells : D → Cells) where
 
     pub hand_meta : (new : List (Option (Place D))) (p : NodeNo) (name : Name) (meta : FileMetaData) (bytes : List ℕ) → FilesLast → IsNode r.nodes p.0 → HasNextFile (place_of places row.job.node.0) (Some (name, meta)) → ReadsIn cells p.0 name bytes places new → IsMetaOf bytes meta
     hand_meta new p name meta bytes lasting node_p next b = (read_facts r.log r.nodes places new row p name meta bytes call_shows call_files lasting runs call_lane call_replica node_p next b).1
+
+    pub hand_footer : (new : List (Option (Place D))) (p : NodeNo) (name : Name) (meta : FileMetaData) (bytes : List ℕ) → FilesLast → IsNode r.nodes p.0 → HasNextFile (place_of places row.job.node.0) (Some (name, meta)) → ReadsIn cells p.0 name bytes places new
+        → AreBytes bytes → HasFooter bytes
+    hand_footer new p name meta bytes lasting node_p next b fits =
+        let is = (read_facts r.log r.nodes places new row p name meta bytes call_shows call_files lasting runs call_lane call_replica node_p next b).0 in
+        let t = runs_here r.log r.nodes places row call_shows call_files runs call_lane call_replica in
+        let above : IsJobAbove t.here.at.parts.searchers.point.version.0 t.job.point = subst (λ (o : Option PointJob). IfSome o (IsJobAbove t.here.at.parts.searchers.point.version.0)) t.job.runs t.here.shows.node_shows.whole.newer in
+        file_footer cells call_files.source r.log row.job.node.0 t.here.at.parts.searchers.point.version.0 row.job t.job.point name meta bytes above t.job.shows
+        (next_is places row.job.node.0 t.here.at.parts t.here.at.held t.job.point (Some (name, meta)) t.here.at.there t.job.runs next) is fits
 
     pub hand_path : (b1 b2 : Pages) (new : List (Option (Place D))) (p : NodeNo) (name : Name) (meta : FileMetaData) (bytes copy : List ℕ) → FilesLast → IsNode r.nodes p.0 → primary_of (printed r.log) ≡ Some p → HasNextFile (place_of places row.job.node.0) (Some (name, meta))
         → ReadsIn cells p.0 name bytes places new → copy ≡ bytes → b1.log ≡ b0.log → b1.nodes ≡ b0.nodes → b2.log ≡ kept (FileOut row.job.at.line row.job.node row.job.number name copy (Some row.job.at)) ∷ b1.log → b2.nodes ≡ b1.nodes

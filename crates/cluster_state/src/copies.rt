@@ -1,6 +1,7 @@
 //! Copies of the primary's newest point to replicas, by the jobs of copies and of settles.
 
 ghost use Rattle.std.specs.Prelude.{◌≡◌, ◌≢◌, ◌≤◌, ◌<◌, None};
+ghost use Rattle.codec_frame.specs.Bytes.{AreBytes};
 ghost use Rattle.history_entries.specs.Nodes.{version_of, newest_version};
 ghost use Rattle.history_entries.specs.Lines.{start_entry, before_start, highest_copy, highest_switched};
 ghost use Rattle.history_tables.specs.Begins.{open_line};
@@ -17,6 +18,13 @@ use history_entries::Event;
 use nrt_base::{At, NoMemory, NodeNo, Share, Version};
 use replica_node::laws::{files_last, sourced_stands};
 use std::alloc::{AllocError, Global};
+
+// Each is a byte. A law.
+fn are_bytes(bytes: &[u8])
+    ensures { AreBytes bytes.now }
+{
+    let _bytes = bytes;
+}
 
 // Whether an open line started as a copy.
 fn starts_as_copy(book: &Book, at: At) -> bool
@@ -251,6 +259,7 @@ impl<D: FaultDir + Drop> ClusterState<D> {
             Some(file) => {
                 let name = file.0;
                 let source = read_in(&mut self.places, p, &name)?;
+                are_bytes(source.as_slice());
                 let copy = source.share(alloc)?;
                 self.book.keep(Inner::FileOut {
                     line: at.line,

@@ -1,11 +1,11 @@
 use Rattle.std.proofs.Common.{◌≡◌, ◌∙◌, ℕ, ap, refl, arith, sym, subst, Option, Some, None, ◌∷◌}
-use Rattle.std.specs.Prelude.{IfOk}
+use Rattle.codec_frame.specs.Bytes.{AreBytes}
 use Rattle.history_book.specs.Log.{Log, printed, kept}
 use Rattle.history_book.specs.declared.inner.Inner.TheVariants.{FileOut}
 use Rattle.cluster_state.specs.Run.{Run, IsNow}
 use Rattle.cluster_state.specs.JobChanges.{HasNextFile}
 use Rattle.cluster_state.specs.Places.{place_of}
-use Rattle.cluster_state.proofs.HandPaths.{next_slot, next_job, can_read, hand_path, hand_meta}
+use Rattle.cluster_state.proofs.HandPaths.{next_slot, next_job, can_read, hand_path, hand_meta, hand_footer}
 use Rattle.cluster_state.proofs.Ending.{can_finish, copy_here, finish_path}
 use Rattle.cluster_state.proofs.cluster.ClusterState.go_on.Goals as goal
 
@@ -36,6 +36,9 @@ returns-in_ok-copy-in-Some-clause-ok g c = record {
   meta = hand_meta g.D.Dir.cells c.args.self.now _ c.self.inside.book _ c.args.row c.self.view_is c.requires.running c.self.invariant c.requires.runs c.job_shows.ensures c.job_replica.ensures
       _ c.source_of-p.result c.in-Some.file.0 c.in-Some.file.1 c.in_ok-source-in-Some.source c.files_last.ensures c.source_of-p.ensures.node
       (subst (HasNextFile (place_of c.self.inside.places.items c.args.row.job.node.0)) c.in-Some.is c.in_ok-next_in.ensures) c.in_ok-source-in-Some.ensures;
+  footer = hand_footer g.D.Dir.cells c.args.self.now _ c.self.inside.book _ c.args.row c.self.view_is c.requires.running c.self.invariant c.requires.runs c.job_shows.ensures c.job_replica.ensures
+      _ c.source_of-p.result c.in-Some.file.0 c.in-Some.file.1 c.in_ok-source-in-Some.source c.files_last.ensures c.source_of-p.ensures.node
+      (subst (HasNextFile (place_of c.self.inside.places.items c.args.row.job.node.0)) c.in-Some.is c.in_ok-next_in.ensures) c.in_ok-source-in-Some.ensures (subst AreBytes c.as_slice.ensures c.are_bytes.ensures);
 }
 
 pub show_end-requires-clause-below : goal.show_end-requires-clause-below
