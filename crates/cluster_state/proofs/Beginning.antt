@@ -203,9 +203,9 @@ module _ {D : Type 0} (cells : D → Cells) where
   point_counted p q whole named =
       let counts = whole.node.counts q in
       let first : times (primary_names p) q ≡ times (searcher_names p.searchers) q + times (p.names ++ rest_names p) q
-          = times-append (searcher_names p.searchers) (p.names ++ rest_names p) q in
+      = times-append (searcher_names p.searchers) (p.names ++ rest_names p) q in
       let second : times (searcher_names p.searchers) q ≡ times p.searchers.point.names q + times (ticket_names p.searchers.tickets) q
-          = times-append p.searchers.point.names (ticket_names p.searchers.tickets) q in
+      = times-append p.searchers.point.names (ticket_names p.searchers.tickets) q in
       omega (arith, counts, first, second, named)
 
   -- a file of the point reads as at the source
@@ -274,7 +274,7 @@ module _ {D : Type 0} (cells : D → Cells) where
         source = files.source;
         each = both_each {P = Both cells files.source log jobs} {Q = λ m z. NodeFiles files.source cells now count m z.node} size p.0 n.0 x y old new b.moves (both_of cells log size old shows files)
             (λ m z node away apart both. other_files files.source log now jobs count m z.node both.0.node_shows (ap (λ (o : Option NodeNo). is_at o m) primary ∙ away)
-                (same_then log mid now m (over.same m apart (ap (λ (o : Option NodeNo). is_at o m) primary ∙ away)) (same_inner mid (JobBegun at.line n number (Some v) (Some at)) m (ap not apart))) both.1)
+            (same_then log mid now m (over.same m apart (ap (λ (o : Option NodeNo). is_at o m) primary ∙ away)) (same_inner mid (JobBegun at.line n number (Some v) (Some at)) m (ap not apart))) both.1)
             (primary_side files.source jobs count number q b.primary r b.replica b.begins (job_out cells log size n.0 old q r b.both.replica.held files.source node_n b.both.replica.there at_p.1) counted at_p.1)
             replica_side;
       }

@@ -157,11 +157,11 @@ module _ {D : Type 0} (cells : D → Cells) where
       step m (Replica r) is mine =
           by_test (n.0 == m) (λ b. (n.0 == m) ≡ b → ReplicaFiles files.source cells (copied_log at n v log) m r)
           (λ here q. subst (λ (k : ℕ). ReplicaFiles files.source cells (copied_log at n v log) k r) (eqb-true n.0 m here)
-              (mine_now (subst (λ (k : ℕ). NodeShows cells log k (Replica r)) (sym (eqb-true n.0 m here)) is) (subst (λ (k : ℕ). ReplicaFiles files.source cells log k r) (sym (eqb-true n.0 m here)) mine)))
+          (mine_now (subst (λ (k : ℕ). NodeShows cells log k (Replica r)) (sym (eqb-true n.0 m here)) is) (subst (λ (k : ℕ). ReplicaFiles files.source cells log k r) (sym (eqb-true n.0 m here)) mine)))
           (λ apart q.
-              replica_same cells files.source (shown at (Copying n v) ∷ log) (copied_log at n v log) m r
-              (same_shown size (shown at (Copying n v) ∷ log) at m (rule, legal) (turn, turns) is.other (Copied n v) later (later_turn (record { at = at; event = Copying n v } ∷ printed log) at (Copied n v) refl tt) refl)
-              (replica_same cells files.source log (shown at (Copying n v) ∷ log) m r (same_shown size log at m legal turns is.other (Copying n v) rule turn (ap not apart)) mine))
+          replica_same cells files.source (shown at (Copying n v) ∷ log) (copied_log at n v log) m r
+          (same_shown size (shown at (Copying n v) ∷ log) at m (rule, legal) (turn, turns) is.other (Copied n v) later (later_turn (record { at = at; event = Copying n v } ∷ printed log) at (Copied n v) refl tt) refl)
+          (replica_same cells files.source log (shown at (Copying n v) ∷ log) m r (same_shown size log at m legal turns is.other (Copying n v) rule turn (ap not apart)) mine))
           refl
         where
           mine_now : NodeShows cells log n.0 (Replica r) → ReplicaFiles files.source cells log n.0 r → ReplicaFiles files.source cells (copied_log at n v log) n.0 r

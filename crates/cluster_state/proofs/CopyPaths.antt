@@ -277,8 +277,7 @@ module _ {D : Type 0} (cells : D → Cells) where
       let size_now : b3.nodes ≡ r.nodes = n3 ∙ (n2 ∙ bf.size) in
       let moved = begun_places r.log r.nodes old new p n number s f node_p node_n b in
       let entry = shows_still cells r.nodes r.log mid new (λ m. same r.nodes m (printed r.log) at (Copying n v) bf.legal bf.turns rule (λ here. apart) refl) (λ m. fewer (printed r.log) at (Copying n v) m refl) (λ a h is. is)
-          (λ a none. moved.handed a (start_back a (record { at = at; event = Copying n v }) (printed r.log) none)) moved in
-      (
+      (λ a none. moved.handed a (start_back a (record { at = at; event = Copying n v }) (printed r.log) none)) moved in (
         now_is cells (kept i ∷ mid) b3.log r.nodes b3.nodes new log_now size_now (shows_kept cells r.nodes mid i new (λ a. refl) entry),
         files_is cells (kept i ∷ mid) b3.log r.nodes b3.nodes new log_now size_now
             (files_begun cells r.nodes r.log mid old new at p n v number lasting (over_copying r.nodes r.log at n v bf.legal bf.turns rule turn behind_v) b older_v behind_v primary node_p node_n s f),
@@ -306,8 +305,7 @@ module _ {D : Type 0} (cells : D → Cells) where
       let older_v : IsOlder v.0 (job_at n.0 r.log) = subst (λ (k : ℕ). IsOlder k (job_at n.0 r.log)) (sym v_is) older in
       let here = replica_here cells r.log r.nodes n.0 old s f waits.node waits.replica in
       let log_now : b2.log ≡ kept i ∷ r.log = e2 ∙ ap (λ (l : Log). kept i ∷ l) (e1 ∙ same_log) in
-      let size_now : b2.nodes ≡ r.nodes = n2 ∙ (n1 ∙ same_size) in
-      (
+      let size_now : b2.nodes ≡ r.nodes = n2 ∙ (n1 ∙ same_size) in (
         now_is cells (kept i ∷ r.log) b2.log r.nodes b2.nodes new log_now size_now (shows_kept cells r.nodes r.log i new (λ a. refl) (begun_places r.log r.nodes old new p n number s f node_p waits.node b)),
         files_is cells (kept i ∷ r.log) b2.log r.nodes b2.nodes new log_now size_now
             (files_begun cells r.nodes r.log r.log old new at p n v number lasting

@@ -14,6 +14,13 @@ use Rattle.file_deleter.proofs.NameLemmas.{times-append, same_self, among_is}
 use Rattle.segment_infos.specs.declared.infos.Infos.{Infos}
 use Rattle.segment_infos.specs.Files.{files_of_segment, AreFilesOf}
 use Rattle.copy_state.specs.declared.meta.FileMetaData.{FileMetaData}
+use Rattle.codec_frame.specs.Bytes.{AreBytes}
+use Rattle.codec_frame.specs.Checking.{HasFooter}
+use Rattle.codec_frame.proofs.FrameLaws.{framed_footer}
+use Rattle.index_primary.specs.Held.{IsHeld}
+use Rattle.index_primary.specs.States.{IsFramedIn}
+use Rattle.index_primary.proofs.Framing.{held_framed}
+use Rattle.history_entries.specs.Points.{documents_at}
 use Rattle.copy_state.specs.Meta.{IsMetaOf}
 use Rattle.copy_state.specs.States.{meta_names, meta_in}
 use Rattle.commit_steps.proofs.Safe.{contains_of}
@@ -121,6 +128,20 @@ module _ {D : Type 0} (cells : D → Cells) where
       among : (names : List Name) (q : Name) → 0 < times names q → is_among names q ≡ true
       among names q some = among_is names q ∙ lt-ltb 0 (times names q) some
 
+  -- it ends in a footer
+  pub file_footer : (source : Name → Content) (log : Log) (n v : ℕ) (job : Job) (j : PointJob) (q : Name) (meta : FileMetaData) (bytes : List ℕ) → IsJobAbove v j → CopyShows source log n job j → IsNextFile j (Some (q, meta)) → source q ≡ Some bytes → AreBytes bytes → HasFooter bytes
+  file_footer source log n v job j q meta bytes above shows next reads fits =
+      let wanted : 0 < times (meta_names j.copy.want.files) q = (let all = above.copy.each q in let lacks = next.0 in omega (arith, all, lacks)) in
+      let held : IsHeld source j.infos shows.stands.segs (meta_names j.copy.want.files)
+      = record { spelled = above.state.spelled.spelled.can; files = above.state.files; docs = documents_at (printed log) job.version.0; stands = shows.stands.stands } in
+      let framed = held_framed source j.infos shows.stands.segs (meta_names j.copy.want.files) held above.state.spelled.spelled.fit.records in
+      let here = All-contains (IsFramedIn source) (meta_names j.copy.want.files) q framed (contains_of (meta_names j.copy.want.files) q (among_is (meta_names j.copy.want.files) q ∙ lt-ltb 0 (times (meta_names j.copy.want.files) q) wanted)) in
+      let same_read : here.bytes ≡ bytes = same_bytes here.bytes (sym here.there ∙ reads) in
+      subst HasFooter same_read (framed_footer here.file.want here.file.version here.file.id here.file.body here.bytes (subst AreBytes (sym same_read) fits) here.file.framed)
+    where
+      same_bytes : (a : List ℕ) → Some a ≡ Some bytes → a ≡ bytes
+      same_bytes a e = cc
+
   -- ---- the entry
 
   -- the replica's job has a file more that was handed out
@@ -182,7 +203,7 @@ module _ {D : Type 0} (cells : D → Cells) where
       each = one_each {P = Both cells files.source log jobs} {Q = λ m z. NodeFiles files.source cells now count m z.node} size p.0 x old new b.moves (both_of cells log size old shows files)
           (λ m z node apart both. other_node m z.node (ap (λ (o : Option NodeNo). is_at o m) primary ∙ apart) both.0.node_shows both.1)
           (primary_kept cells files.source jobs count b.at.parts b.primary b.alters.files (λ s. (let low = at_p.1.outs s in let same_count = counted s in
-              let here : states_like s b.primary.states ≡ states_like s b.at.parts.states = ap (states_like s) b.states in omega (arith, low, same_count, here))) at_p.1);
+          let here : states_like s b.primary.states ≡ states_like s b.at.parts.states = ap (states_like s) b.states in omega (arith, low, same_count, here))) at_p.1);
     },
   )
     where

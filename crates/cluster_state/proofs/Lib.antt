@@ -34,7 +34,8 @@ pub mod JobMoves
 pub mod Beginning
 pub mod CopyPaths
 pub mod Handing
-pub mod Finishing
+pub mod Ending
+pub mod HandPaths
 pub mod PartPaths
 pub mod Settling
 pub mod JobEnds

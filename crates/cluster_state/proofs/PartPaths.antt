@@ -241,5 +241,5 @@ module _ {D : Type 0} (cells : D → Cells) where
       let same_size : size ≡ r.nodes = ap (λ (x : Run). x.nodes) view in
       let lane_now : LaneJobShows r.nodes (printed r.log) row = subst (λ (x : Log × ℕ). LaneJobShows x.1 (printed x.0) row) (λ i. (same_log i, same_size i)) lane in
       let now = files_took r.nodes r.log old new row.job part (was cells r ended size log old view running (λ e. (pair e).0)) (files_was cells r ended size log old view running (λ e. (pair e).1))
-              lane_now.node (runs_at r.nodes r.log row runs lane_now) out b in
+      lane_now.node (runs_at r.nodes r.log row runs lane_now) out b in
       subst (λ (x : Log × ℕ). Shows cells x.0 x.1 new × FilesShow cells x.0 x.1 new) (λ i. (sym same_log i, sym same_size i)) now

@@ -123,8 +123,8 @@ one_passed size past at task now n rest is left same passed s = record {
   ascending = subst (AllPairs (λ (a b : NodeNo). a.0 < b.0)) (sym left) (rest_ascends (subst (AllPairs (λ (a b : NodeNo). a.0 < b.0)) is s.ascending));
   reached = λ m node replica survives. ⊎_elim
       (λ (has : Contains task.left.items m). ⊎_elim
-          (λ (first : n ≡ m). inr (reach first survives))
-          (λ (later : Contains rest m). inl (subst (λ (ys : List NodeNo). Contains ys m) (sym left) later)) (in_rest task.left.items n m rest is has))
+      (λ (first : n ≡ m). inr (reach first survives))
+      (λ (later : Contains rest m). inl (subst (λ (ys : List NodeNo). Contains ys m) (sym left) later)) (in_rest task.left.items n m rest is has))
       (λ (high : task.version.0 ≤ version_of m.0 past). inr (subst (λ (v : Version). v.0 ≤ version_of m.0 past) (sym same) high)) (s.reached m node replica survives);
 }
   where

@@ -36,23 +36,29 @@ module _ {D : Type 0} (cells : D → Cells) where
 
   -- a ticket of the primary was closed
   pub primary_closed : (p q : PrimaryParts D) → q ≡ record p { dir = q.dir; files = q.files; searchers = q.searchers } → KeepsHeldBytes cells p q → HoldsNoNew p q → KeepsFiles cells (Primary p) (Primary q)
-  primary_closed p q others stays no_new = (record {
-    stays = stays;
-    no_new = no_new;
-    drawn = record { each = λ name is. subst (λ (x : Infos × List ℕ). IsUndrawn x.0 x.1 name) (λ i. (ap (λ (z : PrimaryParts D). z.infos) others i, ap (λ (z : PrimaryParts D). loose_of z) others i)) is };
-    point = ap (λ (z : PrimaryParts D). z.point_infos.generation) others;
-    generation = ap (λ (z : PrimaryParts D). z.infos.generation) others;
-  }, ap (λ (z : PrimaryParts D). z.states) others)
+  primary_closed p q others stays no_new = (
+    record {
+      stays = stays;
+      no_new = no_new;
+      drawn = record { each = λ name is. subst (λ (x : Infos × List ℕ). IsUndrawn x.0 x.1 name) (λ i. (ap (λ (z : PrimaryParts D). z.infos) others i, ap (λ (z : PrimaryParts D). loose_of z) others i)) is };
+      point = ap (λ (z : PrimaryParts D). z.point_infos.generation) others;
+      generation = ap (λ (z : PrimaryParts D). z.infos.generation) others;
+    },
+    ap (λ (z : PrimaryParts D). z.states) others,
+  )
 
   -- or opened
   pub primary_opened : (p q : PrimaryParts D) → q ≡ record p { files = q.files; searchers = q.searchers } → KeepsHeldBytes cells p q → HoldsNoNew p q → KeepsFiles cells (Primary p) (Primary q)
-  primary_opened p q others stays no_new = (record {
-    stays = stays;
-    no_new = no_new;
-    drawn = record { each = λ name is. subst (λ (x : Infos × List ℕ). IsUndrawn x.0 x.1 name) (λ i. (ap (λ (z : PrimaryParts D). z.infos) others i, ap (λ (z : PrimaryParts D). loose_of z) others i)) is };
-    point = ap (λ (z : PrimaryParts D). z.point_infos.generation) others;
-    generation = ap (λ (z : PrimaryParts D). z.infos.generation) others;
-  }, ap (λ (z : PrimaryParts D). z.states) others)
+  primary_opened p q others stays no_new = (
+    record {
+      stays = stays;
+      no_new = no_new;
+      drawn = record { each = λ name is. subst (λ (x : Infos × List ℕ). IsUndrawn x.0 x.1 name) (λ i. (ap (λ (z : PrimaryParts D). z.infos) others i, ap (λ (z : PrimaryParts D). loose_of z) others i)) is };
+      point = ap (λ (z : PrimaryParts D). z.point_infos.generation) others;
+      generation = ap (λ (z : PrimaryParts D). z.infos.generation) others;
+    },
+    ap (λ (z : PrimaryParts D). z.states) others,
+  )
 
   -- in the terms of a call on a node that is the primary
   pub opened_node : (x : Node D) (p q : PrimaryParts D) → x ≡ Primary p → q ≡ record p { files = q.files; searchers = q.searchers } → KeepsHeldBytes cells p q → HoldsNoNew p q → KeepsFiles cells x (Primary q)
@@ -63,13 +69,16 @@ module _ {D : Type 0} (cells : D → Cells) where
 
   -- a node that no call changed
   pub node_alone : (x : Node D) → KeepsFiles cells x x
-  node_alone (Primary p) = (record {
-    stays = record { held = λ q old new. refl };
-    no_new = record { each = λ q is. is };
-    drawn = record { each = λ q is. is };
-    point = refl;
-    generation = refl;
-  }, refl)
+  node_alone (Primary p) = (
+    record {
+      stays = record { held = λ q old new. refl };
+      no_new = record { each = λ q is. is };
+      drawn = record { each = λ q is. is };
+      point = refl;
+      generation = refl;
+    },
+    refl,
+  )
   node_alone (Replica r) = record { sourced = λ source is. is; job = refl; jobs = refl; version = refl }
   node_alone (Down d) = tt
 

@@ -3,6 +3,7 @@ use Rattle.std.specs.Prelude.{ℕ, ◌≡◌, ◌≢◌, ◌<◌, ◌∷◌, fal
 use Rattle.nrt_base.specs.declared.numbers.At.{At}
 use Rattle.nrt_base.specs.declared.numbers.NodeNo.{NodeNo}
 use Rattle.nrt_base.specs.declared.numbers.Version.{Version}
+use Rattle.codec_frame.specs.Checking.{HasFooter}
 use Rattle.copy_state.specs.Meta.{IsMetaOf}
 use Rattle.history_entries.specs.declared.entry.Event.{Event}
 use Rattle.history_entries.specs.declared.entry.Event.TheVariants.{Copying, Switched, Copied}
@@ -51,10 +52,11 @@ pub record BeginsJob (at : At) (n : NodeNo) (old new : Run) (log : Log) (task : 
   pub copying : IsCopying at new.log task
   pub runs : JobRuns new.log copying.row
 
--- a file was handed out to the job, with its metadata
+-- a file was handed out to the job, with its metadata; it ends in a footer
 pub record HandsFile (job : Job) (old new : Run) (file : FileTask) : Type 0 where
   pub now : IsNow old new (kept (FileOut job.at.line job.node job.number file.name file.source (Some job.at)) ∷ old.log)
   pub meta : IsMetaOf file.source file.meta
+  pub footer : HasFooter file.source
 
 -- the line started as a copy
 abbrev pub is_copy_start : Option Event → Bool

@@ -1,6 +1,7 @@
 //! Copies of the primary's newest point to replicas, by the jobs of copies and of settles.
 
 ghost use Rattle.std.specs.Prelude.{◌≡◌, ◌≢◌, ◌≤◌, ◌<◌, None};
+ghost use Rattle.codec_frame.specs.Bytes.{AreBytes};
 ghost use Rattle.history_entries.specs.Nodes.{version_of, newest_version};
 ghost use Rattle.history_entries.specs.Lines.{start_entry, before_start, highest_copy, highest_switched};
 ghost use Rattle.history_tables.specs.Begins.{open_line};
@@ -15,8 +16,15 @@ use disk_model::FaultDir;
 use history_book::{Book, Inner, Job, JobRow, Start};
 use history_entries::Event;
 use nrt_base::{At, NoMemory, NodeNo, Share, Version};
-use replica_node::laws::files_last;
+use replica_node::laws::{files_last, sourced_stands};
 use std::alloc::{AllocError, Global};
+
+// Each is a byte. A law.
+fn are_bytes(bytes: &[u8])
+    ensures { AreBytes bytes.now }
+{
+    let _bytes = bytes;
+}
 
 // Whether an open line started as a copy.
 fn starts_as_copy(book: &Book, at: At) -> bool
@@ -226,23 +234,49 @@ impl<D: FaultDir + Drop> ClusterState<D> {
         ensures ok { IfOk result (GoesOn row.job self.old self.new) }
         ensures err { OnErr result (IsEnded self.old self.new) }
     {
-        let Job { at, node, number, .. } = row.job;
-        let p = self.source_of(row);
+        self.book.is_legal();
+        self.book.job_shows(row);
         self.book.job_replica(row);
+        files_last();
+        sourced_stands();
+        let p = self.source_of(row);
+        let Job {
+            at,
+            node: n,
+            number,
+            ..
+        } = row.job;
         self.ended = true;
         self.book.reserve(3)?;
-        let Some((name, meta)) = next_in(alloc, &self.places, node)? else {
-            finish_in(alloc, &mut self.places, p, node)?;
-            show_end(&mut self.book, row);
-            self.ended = false;
-            return Ok(None);
-        };
-        let source = read_in(&mut self.places, p, &name)?;
-        let copy = source.share(alloc)?;
-        let (line, by) = (at.line, Some(at));
-        self.book.keep(Inner::FileOut { line, node, job: number, name, source: copy, by });
-        self.ended = false;
-        Ok(Some(FileTask { name, source, meta }))
+        match next_in(alloc, &self.places, n)? {
+            None => {
+                finish_in(alloc, &mut self.places, p, n)?;
+                show_end(&mut self.book, row);
+                self.book.is_legal();
+                self.ended = false;
+                Ok(None)
+            }
+            Some(file) => {
+                let name = file.0;
+                let source = read_in(&mut self.places, p, &name)?;
+                are_bytes(source.as_slice());
+                let copy = source.share(alloc)?;
+                self.book.keep(Inner::FileOut {
+                    line: at.line,
+                    node: n,
+                    job: number,
+                    name,
+                    source: copy,
+                    by: Some(at),
+                });
+                self.ended = false;
+                Ok(Some(FileTask {
+                    name,
+                    source,
+                    meta: file.1,
+                }))
+            }
+        }
     }
 
     /// Puts a part into a job that runs. Where the part is no longer missing, nothing changes.

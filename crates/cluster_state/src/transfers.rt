@@ -102,7 +102,14 @@ fn put_both<D: Dir + Drop>(
         else place_of places.old.items m) }
 {
     let node = Node::Primary(primary);
-    put(places, p, Place { node, held: primary_held });
+    put(
+        places,
+        p,
+        Place {
+            node,
+            held: primary_held,
+        },
+    );
     let node = Node::Replica(replica);
     put(places, n, Place { node, held });
 }

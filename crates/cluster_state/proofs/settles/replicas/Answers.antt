@@ -22,8 +22,8 @@ loop-k-preserved c =
       | else-runs w ↦
           subst (λ (nodes : List NodeNo). AreReplicasTo book.nodes (printed book.log) (n + 1) nodes) (sym (ap (λ (v : Vec NodeNo Global). v.items) w.left-is))
           (none_more book.nodes (printed book.log) n c.loop-k.left.items (λ is. elim w.else-runs.branch [
-              | else-runs-via-then-runs+else-not-is_node x ↦
-                  true≢false (sym (sym (ap (λ (p : Option NodeNo). is_at p n) c.primary-primary.ensures) ∙ (sym x.is_node.ensures ∙ x.if-not-is_node.false)) ∙ is.other)
-              | else-runs-via-else-runs x ↦ true≢false (sym is.running ∙ (sym c.runs.ensures ∙ x.if-runs.false))
-            ]) c.loop-k.invariant)
+            | else-runs-via-then-runs+else-not-is_node x ↦
+                true≢false (sym (sym (ap (λ (p : Option NodeNo). is_at p n) c.primary-primary.ensures) ∙ (sym x.is_node.ensures ∙ x.if-not-is_node.false)) ∙ is.other)
+            | else-runs-via-else-runs x ↦ true≢false (sym is.running ∙ (sym c.runs.ensures ∙ x.if-runs.false))
+          ]) c.loop-k.invariant)
     ]

@@ -17,11 +17,13 @@ show-requires-clause-rule g c =
     asks_at c.args.self.now _ c.self.inside.book c.reserve.new.self c.args.at c.args.t c.args.opening c.self.view_is c.in_ok-reserve.ensures.log c.in_ok-reserve.ensures.nodes c.is_legal.ensures.legal c.requires.held
 
 pub invariant_of-self-2 : goal.invariant_of-self-2
-invariant_of-self-2 g c = λ running. (ask_path g.D.Dir.cells c.args.self.now _ c.self.inside.book c.reserve.new.self c.show.new.self c.self.inside.places.items c.args.at c.args.t c.args.opening
-    c.self.view_is c.requires.running (λ e. (c.self.invariant e).0) c.in_ok-reserve.ensures.log c.in_ok-reserve.ensures.nodes c.show.ensures.log c.show.ensures.nodes c.is_legal.ensures.legal c.is_legal.ensures.turns
-    c.show.ensures.legal c.show.ensures.turns c.is_fresh.ensures c.requires.held,
-    ask_files g.D.Dir.cells c.args.self.now _ c.self.inside.book c.reserve.new.self c.show.new.self c.self.inside.places.items c.args.at c.args.t c.args.opening
-    c.self.view_is c.requires.running (λ e. (c.self.invariant e).0) (λ e. (c.self.invariant e).1) c.in_ok-reserve.ensures.log c.in_ok-reserve.ensures.nodes c.show.ensures.log c.show.ensures.nodes c.is_legal.ensures.legal c.show.ensures.legal c.show.ensures.turns c.is_fresh.ensures c.requires.held)
+invariant_of-self-2 g c = λ running. (
+  ask_path g.D.Dir.cells c.args.self.now _ c.self.inside.book c.reserve.new.self c.show.new.self c.self.inside.places.items c.args.at c.args.t c.args.opening
+      c.self.view_is c.requires.running (λ e. (c.self.invariant e).0) c.in_ok-reserve.ensures.log c.in_ok-reserve.ensures.nodes c.show.ensures.log c.show.ensures.nodes c.is_legal.ensures.legal c.is_legal.ensures.turns
+      c.show.ensures.legal c.show.ensures.turns c.is_fresh.ensures c.requires.held,
+  ask_files g.D.Dir.cells c.args.self.now _ c.self.inside.book c.reserve.new.self c.show.new.self c.self.inside.places.items c.args.at c.args.t c.args.opening
+      c.self.view_is c.requires.running (λ e. (c.self.invariant e).0) (λ e. (c.self.invariant e).1) c.in_ok-reserve.ensures.log c.in_ok-reserve.ensures.nodes c.show.ensures.log c.show.ensures.nodes c.is_legal.ensures.legal c.show.ensures.legal c.show.ensures.turns c.is_fresh.ensures c.requires.held,
+)
 
 pub returns-clause-lease : goal.returns-clause-lease
 returns-clause-lease g c =

@@ -21,9 +21,12 @@ show-requires-clause-rule g c = rule_at c.args.self.now _ c.self.inside.book c.r
     (may_copy g.D.Dir.cells c.args.self.now _ _ _ _ c.args.at c.args.p c.args.n (record { 0 = c.newest-newest.result }) c.self.view_is c.requires.running c.self.invariant c.requires.node c.requires.primary c.requires.replica c.newest-newest.ensures c.requires.older)
 
 pub keep-requires-clause-turn : goal.keep-requires-clause-turn
-keep-requires-clause-turn g c = (refl, copy_turn c.args.self.now c.self.inside.book c.reserve.new.self c.show.new.self c.args.at c.args.n (record { 0 = c.newest-newest.result })
-    (c.in_ok-reserve.ensures.log ∙ ap (λ (r : Run). r.log) c.self.view_is) (c.in_ok-reserve.ensures.nodes ∙ ap (λ (r : Run). r.nodes) c.self.view_is) c.show.ensures.log c.show.ensures.nodes c.requires.node
-    (c.newest-newest.ensures ∙ ap (λ (r : Run). newest_version (printed r.log)) c.self.view_is) c.requires.older)
+keep-requires-clause-turn g c = (
+  refl,
+  copy_turn c.args.self.now c.self.inside.book c.reserve.new.self c.show.new.self c.args.at c.args.n (record { 0 = c.newest-newest.result })
+      (c.in_ok-reserve.ensures.log ∙ ap (λ (r : Run). r.log) c.self.view_is) (c.in_ok-reserve.ensures.nodes ∙ ap (λ (r : Run). r.nodes) c.self.view_is) c.show.ensures.log c.show.ensures.nodes c.requires.node
+      (c.newest-newest.ensures ∙ ap (λ (r : Run). newest_version (printed r.log)) c.self.view_is) c.requires.older,
+)
 
 pub invariant_of-self-2 : goal.invariant_of-self-2
 invariant_of-self-2 g c = λ running. copy_path g.D.Dir.cells c.args.self.now _ c.self.inside.book c.reserve.new.self c.show.new.self c.keep.new.self _ _ c.args.at c.args.p c.args.n (record { 0 = c.newest-newest.result }) c.in_ok-job.job

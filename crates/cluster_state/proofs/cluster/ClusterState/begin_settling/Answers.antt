@@ -12,9 +12,12 @@ begin_in-requires g c = can_begin_settling g.D.Dir.cells c.args.self.now _ _ _ _
     c.newest-newest.ensures (omega (arith, c.if-newest.false))
 
 pub keep-requires-clause-turn : goal.keep-requires-clause-turn
-keep-requires-clause-turn g c = (refl, settle_turn c.args.self.now c.reserve.new.self c.args.at c.args.n (record { 0 = c.newest-newest.result }) c.args.v
-    (c.in_ok-reserve.ensures.log ∙ ap (λ (r : Run). r.log) c.self.view_is) (c.in_ok-reserve.ensures.nodes ∙ ap (λ (r : Run). r.nodes) c.self.view_is) c.requires.line c.requires.started c.requires.survives c.requires.waits
-    (c.newest-newest.ensures ∙ ap (λ (r : Run). newest_version (printed r.log)) c.self.view_is) c.requires.older)
+keep-requires-clause-turn g c = (
+  refl,
+  settle_turn c.args.self.now c.reserve.new.self c.args.at c.args.n (record { 0 = c.newest-newest.result }) c.args.v
+      (c.in_ok-reserve.ensures.log ∙ ap (λ (r : Run). r.log) c.self.view_is) (c.in_ok-reserve.ensures.nodes ∙ ap (λ (r : Run). r.nodes) c.self.view_is) c.requires.line c.requires.started c.requires.survives c.requires.waits
+      (c.newest-newest.ensures ∙ ap (λ (r : Run). newest_version (printed r.log)) c.self.view_is) c.requires.older,
+)
 
 pub invariant_of-self-2 : goal.invariant_of-self-2
 invariant_of-self-2 g c = λ running. settle_path g.D.Dir.cells c.args.self.now _ c.self.inside.book c.reserve.new.self c.keep.new.self _ _ c.args.at c.args.p c.args.n (record { 0 = c.newest-newest.result }) c.args.v c.in_ok-job.job

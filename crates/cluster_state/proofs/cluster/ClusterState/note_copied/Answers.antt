@@ -14,11 +14,13 @@ show-requires-2-clause-rule g c =
     c.requires.node c.requires.replica c.requires.source c.requires.reached c.newest.ensures c.show.new.self c.show.ensures.log c.show.ensures.nodes
 
 pub invariant_of-self-2 : goal.invariant_of-self-2
-invariant_of-self-2 g c = λ running. (copied_shows g.D.Dir.cells c.args.self.now _ c.self.inside.book c.reserve.new.self c.self.inside.places.items c.args.at c.args.n (record { 0 = c.newest.result })
-    c.self.view_is c.requires.running (λ e. (c.self.invariant e).0) (λ e. (c.self.invariant e).1) c.in_ok-reserve.ensures.log c.in_ok-reserve.ensures.nodes c.is_fresh.ensures
-    c.requires.node c.requires.replica c.requires.source c.requires.reached c.newest.ensures c.show.new.self c.show.ensures.log c.show.ensures.nodes
-    c.show-2.new.self c.show-2.ensures.log c.show-2.ensures.nodes c.show.ensures.legal c.show.ensures.turns c.show-2.ensures.legal c.show-2.ensures.turns,
-    copied_files g.D.Dir.cells c.args.self.now _ c.self.inside.book c.reserve.new.self c.self.inside.places.items c.args.at c.args.n (record { 0 = c.newest.result })
-    c.self.view_is c.requires.running (λ e. (c.self.invariant e).0) (λ e. (c.self.invariant e).1) c.in_ok-reserve.ensures.log c.in_ok-reserve.ensures.nodes c.is_fresh.ensures
-    c.requires.node c.requires.replica c.requires.source c.requires.reached c.newest.ensures c.show.new.self c.show.ensures.log c.show.ensures.nodes
-    c.show-2.new.self c.show-2.ensures.log c.show-2.ensures.nodes c.show.ensures.legal c.show.ensures.turns c.show-2.ensures.legal c.show-2.ensures.turns)
+invariant_of-self-2 g c = λ running. (
+  copied_shows g.D.Dir.cells c.args.self.now _ c.self.inside.book c.reserve.new.self c.self.inside.places.items c.args.at c.args.n (record { 0 = c.newest.result })
+      c.self.view_is c.requires.running (λ e. (c.self.invariant e).0) (λ e. (c.self.invariant e).1) c.in_ok-reserve.ensures.log c.in_ok-reserve.ensures.nodes c.is_fresh.ensures
+      c.requires.node c.requires.replica c.requires.source c.requires.reached c.newest.ensures c.show.new.self c.show.ensures.log c.show.ensures.nodes
+      c.show-2.new.self c.show-2.ensures.log c.show-2.ensures.nodes c.show.ensures.legal c.show.ensures.turns c.show-2.ensures.legal c.show-2.ensures.turns,
+  copied_files g.D.Dir.cells c.args.self.now _ c.self.inside.book c.reserve.new.self c.self.inside.places.items c.args.at c.args.n (record { 0 = c.newest.result })
+      c.self.view_is c.requires.running (λ e. (c.self.invariant e).0) (λ e. (c.self.invariant e).1) c.in_ok-reserve.ensures.log c.in_ok-reserve.ensures.nodes c.is_fresh.ensures
+      c.requires.node c.requires.replica c.requires.source c.requires.reached c.newest.ensures c.show.new.self c.show.ensures.log c.show.ensures.nodes
+      c.show-2.new.self c.show-2.ensures.log c.show-2.ensures.nodes c.show.ensures.legal c.show.ensures.turns c.show-2.ensures.legal c.show-2.ensures.turns,
+)

@@ -23,14 +23,16 @@ put-requires g c = record {
 }
 
 pub invariant_of-self-2 : goal.invariant_of-self-2
-invariant_of-self-2 g c = λ running. (ticket_path g.D.Dir.cells c.args.self.now _ c.self.inside.book c.reserve.new.self c.show.new.self c.self.inside.places.items c.take-place.new.places.items c.put.new.places.items
-    c.args.at c.args.n c.args.t (record { 0 = c.version.result }) c.take-place.result c.hold_ticket-holding.new.place
-    c.self.view_is c.requires.running (λ e. (c.self.invariant e).0) c.in_ok-reserve.ensures.log c.in_ok-reserve.ensures.nodes c.show.ensures.log c.show.ensures.nodes c.show.ensures.legal c.show.ensures.turns c.is_fresh.ensures
-    (may_open c.args.self.now _ c.self.inside.book c.args.at c.args.n c.args.t (record { 0 = c.version.result }) c.self.view_is c.is_fresh.ensures c.requires.node c.requires.up c.version.ensures c.requires.free) c.requires.number
-    (record { count = c.take-place.ensures.count; taken = c.take-place.ensures.places; again = c.put.ensures.count; there = c.put.ensures.places })
-    c.take-place.ensures.place c.in_ok-holding.ensures.keeps c.in_ok-holding.ensures.holds,
-    opened_files g.D.Dir.cells c.args.self.now _ c.self.inside.book c.reserve.new.self c.show.new.self c.self.inside.places.items c.take-place.new.places.items c.put.new.places.items
-    c.args.at c.args.n c.args.t (record { 0 = c.version.result }) c.take-place.result c.hold_ticket-holding.new.place
-    c.self.view_is c.requires.running (λ e. (c.self.invariant e).0) (λ e. (c.self.invariant e).1) c.in_ok-reserve.ensures.log c.in_ok-reserve.ensures.nodes c.show.ensures.log c.show.ensures.nodes c.show.ensures.legal c.show.ensures.turns c.is_fresh.ensures
-    (may_open c.args.self.now _ c.self.inside.book c.args.at c.args.n c.args.t (record { 0 = c.version.result }) c.self.view_is c.is_fresh.ensures c.requires.node c.requires.up c.version.ensures c.requires.free)
-    (record { count = c.take-place.ensures.count; taken = c.take-place.ensures.places; again = c.put.ensures.count; there = c.put.ensures.places }) c.take-place.ensures.place c.in_ok-holding.ensures.files)
+invariant_of-self-2 g c = λ running. (
+  ticket_path g.D.Dir.cells c.args.self.now _ c.self.inside.book c.reserve.new.self c.show.new.self c.self.inside.places.items c.take-place.new.places.items c.put.new.places.items
+      c.args.at c.args.n c.args.t (record { 0 = c.version.result }) c.take-place.result c.hold_ticket-holding.new.place
+      c.self.view_is c.requires.running (λ e. (c.self.invariant e).0) c.in_ok-reserve.ensures.log c.in_ok-reserve.ensures.nodes c.show.ensures.log c.show.ensures.nodes c.show.ensures.legal c.show.ensures.turns c.is_fresh.ensures
+      (may_open c.args.self.now _ c.self.inside.book c.args.at c.args.n c.args.t (record { 0 = c.version.result }) c.self.view_is c.is_fresh.ensures c.requires.node c.requires.up c.version.ensures c.requires.free) c.requires.number
+      (record { count = c.take-place.ensures.count; taken = c.take-place.ensures.places; again = c.put.ensures.count; there = c.put.ensures.places })
+      c.take-place.ensures.place c.in_ok-holding.ensures.keeps c.in_ok-holding.ensures.holds,
+  opened_files g.D.Dir.cells c.args.self.now _ c.self.inside.book c.reserve.new.self c.show.new.self c.self.inside.places.items c.take-place.new.places.items c.put.new.places.items
+      c.args.at c.args.n c.args.t (record { 0 = c.version.result }) c.take-place.result c.hold_ticket-holding.new.place
+      c.self.view_is c.requires.running (λ e. (c.self.invariant e).0) (λ e. (c.self.invariant e).1) c.in_ok-reserve.ensures.log c.in_ok-reserve.ensures.nodes c.show.ensures.log c.show.ensures.nodes c.show.ensures.legal c.show.ensures.turns c.is_fresh.ensures
+      (may_open c.args.self.now _ c.self.inside.book c.args.at c.args.n c.args.t (record { 0 = c.version.result }) c.self.view_is c.is_fresh.ensures c.requires.node c.requires.up c.version.ensures c.requires.free)
+      (record { count = c.take-place.ensures.count; taken = c.take-place.ensures.places; again = c.put.ensures.count; there = c.put.ensures.places }) c.take-place.ensures.place c.in_ok-holding.ensures.files,
+)
