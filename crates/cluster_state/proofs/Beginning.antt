@@ -1,5 +1,5 @@
 -- What is shown of files and jobs once a job of the newest point has begun.
-use Rattle.std.proofs.Common.{◌≡◌, ◌≢◌, ◌≤◌, ◌<◌, ◌+◌, ◌^◌, ◌&&◌, ◌==◌, ℕ, Bool, true, false, true≢false, List, [], ◌∷◌, ◌++◌, Some, None, Option, max, nat_le, zero, suc, get_or, Vec, Global, refl, ap, ◌∙◌, sym, subst, arith, if◌then◌else◌, length}
+use Rattle.std.proofs.Common.{◌≡◌, ◌≢◌, ◌≤◌, ◌<◌, ◌+◌, ◌&&◌, ◌==◌, ℕ, Bool, true, false, true≢false, List, [], ◌∷◌, ◌++◌, Some, None, Option, max, nat_le, zero, suc, get_or, refl, ap, ◌∙◌, sym, subst, arith, if◌then◌else◌, length}
 use Rattle.std.specs.Prelude.{IsSomeAnd, IfSome, not, Contains}
 use Rattle.std.specs.List.{All, flat_map}
 use Rattle.std.proofs.lemmas.Bool.{eqb-true, eq-eqb}
@@ -7,18 +7,15 @@ use Rattle.std.proofs.lemmas.Bool.Decides.{nat_tests}
 use Rattle.nrt_base.specs.declared.numbers.At.{At}
 use Rattle.nrt_base.specs.declared.numbers.NodeNo.{NodeNo}
 use Rattle.nrt_base.specs.declared.numbers.Version.{Version}
-use Rattle.nrt_base.specs.declared.numbers.Gen.{Gen}
 use Rattle.nrt_base.specs.declared.doc.Doc.{Doc}
 use Rattle.disk_model.specs.Disk.{Name, Content, Cells, same, reads_of}
-use Rattle.disk_model.proofs.CellLemmas.{same_true}
 use Rattle.file_deleter.specs.Holdings.{count_of, times}
 use Rattle.file_deleter.proofs.NameLemmas.{times-append, among_times}
 use Rattle.commit_steps.proofs.Safe.{among_of}
 use Rattle.segment_infos.specs.declared.infos.Infos.{Infos}
-use Rattle.segment_infos.specs.Infos.{IsInfosFile}
 use Rattle.segment_infos.specs.Files.{files_of_segment, AreFilesOf}
 use Rattle.segment_infos.proofs.FileLaws.{infos_files_one_to_one}
-use Rattle.seg_reader.specs.Stands.{StandsFor, StandsWith, AreSegmentsOf}
+use Rattle.seg_reader.specs.Stands.{StandsFor}
 use Rattle.node_files.proofs.Standing.{stands_along}
 use Rattle.copy_state.specs.declared.state.CopyState.{CopyState}
 use Rattle.copy_state.specs.declared.meta.FileMetaData.{FileMetaData}
@@ -28,45 +25,41 @@ use Rattle.index_primary.specs.declared.states.Out.{Out}
 use Rattle.searcher_switch.specs.Tickets.{ticket_names}
 use Rattle.searcher_switch.specs.Searching.{searcher_names}
 use Rattle.index_primary.specs.Primary.{IsPrimary, primary_names, rest_names}
-use Rattle.index_primary.specs.States.{out_of, is_out, states_without, IsMetaIn}
+use Rattle.index_primary.specs.States.{out_of, is_out}
 use Rattle.replica_opening.specs.Known.{IsLasting, HasMeta}
 use Rattle.replica_node.specs.declared.job.PointJob.{PointJob}
 use Rattle.replica_node.specs.declared.parts.Parts.{Parts as ReplicaParts}
-use Rattle.history_entries.specs.declared.entry.Entry.{Entry}
 use Rattle.history_entries.specs.declared.entry.Event.{Event}
-use Rattle.history_entries.specs.declared.entry.Event.TheVariants.{Published, Copying, Settling, Crashed, Promoted}
-use Rattle.history_entries.specs.Nodes.{Past, IsNode, is_at, primary_of, newest_version, version_of, generation_of}
+use Rattle.history_entries.specs.declared.entry.Event.TheVariants.{Published, Copying, Crashed, Promoted}
+use Rattle.history_entries.specs.Nodes.{Past, IsNode, is_at, primary_of, newest_version, version_of}
 use Rattle.history_entries.specs.Lines.{same_at, start_entry, before_start, copy_in_flight, highest_copy}
 use Rattle.history_entries.specs.Points.{documents_at}
 use Rattle.history_entries.specs.Legal.{KeepsRule, IsLegalPast}
 use Rattle.history_tables.specs.declared.jobs.Job.{Job}
-use Rattle.history_tables.specs.declared.jobs.JobRow.{JobRow}
 use Rattle.history_tables.specs.declared.jobs.JobStep.TheVariants.{Begins}
 use Rattle.history_tables.specs.JobRows.{new_job_row, row_if_some, while_going}
 use Rattle.history_tables.specs.NodeRows.{crashed_at}
 use Rattle.history_tables.specs.Numbering.{primary_crashed}
 use Rattle.history_tables.proofs.RowLemmas.{same_at_self}
 use Rattle.history_book.specs.Log.{Log, printed, shown, kept}
-use Rattle.history_book.specs.declared.inner.Inner.{Inner}
 use Rattle.history_book.specs.declared.inner.Inner.TheVariants.{JobBegun}
 use Rattle.history_book.specs.Jobs.{last_job, job_at, IsOlder}
 use Rattle.history_book.specs.Turns.{InTurn, AreInTurn}
 use Rattle.history_book.proofs.ReignLaws.{crashed_low}
-use Rattle.cluster_state.specs.declared.held.Held.{Held}
 use Rattle.cluster_state.specs.declared.nodes.Node.{Node}
 use Rattle.cluster_state.specs.declared.nodes.Node.TheVariants.{Primary, Replica, Down}
 use Rattle.cluster_state.specs.declared.nodes.Place.{Place}
 use Rattle.cluster_state.specs.Places.{place_of}
-use Rattle.cluster_state.specs.State.{PrimaryShows, NodeShows, PlaceShows, Shows}
+use Rattle.cluster_state.specs.State.{PrimaryShows, NodeShows, Shows}
 use Rattle.cluster_state.specs.FilesOut.{is_job, file_out}
 use Rattle.cluster_state.specs.Outs.{want_of, want_at, one_like, jobs_like, states_like}
 use Rattle.cluster_state.specs.Files.{CopyShows, JobShows, IsJobFor, reached_version, ReplicaFiles, PrimaryFiles, NodeFiles, FilesShow}
 use Rattle.cluster_state.specs.FileChanges.{SameJob}
 use Rattle.cluster_state.specs.JobChanges.{given_back, IsStateOfPoint, BeginsAt}
-use Rattle.cluster_state.specs.JobPlaces.{AreBoth, MovesBoth, BeginsIn}
+use Rattle.cluster_state.specs.JobPlaces.{BeginsIn}
 use Rattle.cluster_state.proofs.Frames.{some_at}
 use Rattle.cluster_state.proofs.JobFrames.{same_shown, same_inner, same_then}
-use Rattle.cluster_state.proofs.OutCounts.{states_push, states_given, jobs_moved, jobs_same, job_counted, is_there}
+use Rattle.cluster_state.proofs.OutCounts.{states_push, states_given, jobs_moved}
 use Rattle.cluster_state.proofs.Wider.{primary_kept}
 use Rattle.cluster_state.proofs.FileFrames.{replica_same, both_each, both_of, Both}
 use Rattle.cluster_state.proofs.FileJobs.{job_out}

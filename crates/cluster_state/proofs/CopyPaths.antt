@@ -1,8 +1,8 @@
 -- Jobs that begin for copies and settles, in the terms of a call.
-use Rattle.std.proofs.Common.{◌≡◌, ◌≢◌, ◌≤◌, ◌<◌, ◌+◌, ◌^◌, ◌&&◌, ◌==◌, ℕ, Bool, true, false, true≢false, List, [], ◌∷◌, ◌++◌, Some, None, Option, Vec, Global, refl, ap, ◌∙◌, sym, subst, arith, if◌then◌else◌, length}
-use Rattle.std.specs.Prelude.{IsSomeAnd, IfSome, not, Contains}
+use Rattle.std.proofs.Common.{◌≡◌, ◌≢◌, ◌≤◌, ◌<◌, ◌^◌, ◌&&◌, ℕ, Bool, true, false, List, [], ◌∷◌, Some, None, Option, refl, ap, ◌∙◌, sym, subst, arith, if◌then◌else◌, length}
+use Rattle.std.specs.Prelude.{IsSomeAnd, Contains}
 use Rattle.std.specs.List.{flat_map}
-use Rattle.std.proofs.lemmas.Bool.{eqb-true, eq-eqb}
+use Rattle.std.proofs.lemmas.Bool.{eq-eqb}
 use Rattle.nrt_base.specs.declared.numbers.At.{At}
 use Rattle.nrt_base.specs.declared.numbers.NodeNo.{NodeNo}
 use Rattle.nrt_base.specs.declared.numbers.Version.{Version}
@@ -10,16 +10,15 @@ use Rattle.nrt_base.specs.declared.numbers.Gen.{Gen}
 use Rattle.disk_model.specs.Disk.{Name, Content, Cells}
 use Rattle.segment_infos.specs.declared.infos.Infos.{Infos}
 use Rattle.segment_infos.specs.Files.{files_of_segment, AreFilesOf}
-use Rattle.index_primary.specs.declared.parts.Parts.{Parts as PrimaryParts}
 use Rattle.index_primary.specs.declared.states.Out.{Out}
 use Rattle.replica_opening.specs.Known.{IsLasting}
 use Rattle.replica_node.specs.declared.job.PointJob.{PointJob}
 use Rattle.replica_node.specs.declared.parts.Parts.{Parts as ReplicaParts}
 use Rattle.history_entries.specs.declared.entry.Entry.{Entry}
 use Rattle.history_entries.specs.declared.entry.Event.{Event}
-use Rattle.history_entries.specs.declared.entry.Event.TheVariants.{Published, Publishing, Copying, Settling, Promoted}
-use Rattle.history_entries.specs.Nodes.{Past, IsNode, IsReplica, is_at, primary_of, primary_crashes, crashes, newest_version, version_of, generation_of}
-use Rattle.history_entries.specs.Lines.{same_at, is_start, start_entry, before_start, publish_in_flight, copy_in_flight, is_free_for, highest_switched, NodeSurvives, SourceSurvives}
+use Rattle.history_entries.specs.declared.entry.Event.TheVariants.{Published, Copying, Settling, Promoted}
+use Rattle.history_entries.specs.Nodes.{Past, IsNode, IsReplica, is_at, primary_of, primary_crashes, crashes, newest_version, version_of}
+use Rattle.history_entries.specs.Lines.{same_at, is_start, start_entry, before_start, copy_in_flight, is_free_for, highest_switched, NodeSurvives, SourceSurvives}
 use Rattle.history_entries.specs.Legal.{KeepsRule, IsLegalPast}
 use Rattle.history_tables.specs.declared.jobs.Job.{Job}
 use Rattle.history_tables.specs.declared.jobs.JobRow.{JobRow}
@@ -35,18 +34,16 @@ use Rattle.history_book.specs.Jobs.{last_job, job_at, job_of, IsOlder, StartsJob
 use Rattle.history_book.specs.Turns.{InTurn, AreInTurn}
 use Rattle.history_book.specs.Laws.{IsFresh}
 use Rattle.history_book.proofs.ReignLaws.{start_kept}
-use Rattle.cluster_state.specs.declared.held.Held.{Held}
-use Rattle.cluster_state.specs.declared.nodes.Node.TheVariants.{Primary, Replica, Down}
+use Rattle.cluster_state.specs.declared.nodes.Node.TheVariants.{Primary, Replica}
 use Rattle.cluster_state.specs.declared.nodes.Place.{Place}
-use Rattle.cluster_state.specs.declared.tasks.CopyTask.{CopyTask}
-use Rattle.cluster_state.specs.Run.{Run, IsNow}
+use Rattle.cluster_state.specs.Run.{Run}
 use Rattle.cluster_state.specs.Places.{place_of, HasPrimary}
-use Rattle.cluster_state.specs.State.{PlaceShows, Shows}
+use Rattle.cluster_state.specs.State.{Shows}
 use Rattle.cluster_state.specs.Outs.{jobs_like}
-use Rattle.cluster_state.specs.Files.{JobShows, IsJobFor, reached_version, ReplicaFiles, NodeFiles, FilesShow}
+use Rattle.cluster_state.specs.Files.{JobShows, IsJobFor, reached_version, ReplicaFiles, FilesShow}
 use Rattle.cluster_state.specs.JobChanges.{HasReplica}
-use Rattle.cluster_state.specs.JobPlaces.{AreBoth, MayBegin, StandThere, CanBegin, BeginsIn}
-use Rattle.cluster_state.specs.Copies.{newest_of, IsCopying, JobRuns, BeginsJob}
+use Rattle.cluster_state.specs.JobPlaces.{CanBegin, BeginsIn}
+use Rattle.cluster_state.specs.Copies.{newest_of, BeginsJob}
 use Rattle.cluster_state.specs.Settles.{WaitsFor}
 use Rattle.cluster_state.proofs.Frames.{some_at, was, now_is, slot_of, place_shows, shows_still}
 use Rattle.cluster_state.proofs.Growing.{same, fewer, not_flying}
@@ -54,7 +51,7 @@ use Rattle.cluster_state.proofs.Turning.{fresh_line}
 use Rattle.cluster_state.proofs.FileFrames.{both_of, Both, files_was, files_is, before}
 use Rattle.cluster_state.proofs.FileJobs.{PrimaryHere, ReplicaHere, primary_here, replica_here, job_out, no_flight}
 use Rattle.cluster_state.proofs.JobMoves.{shows_kept, shows_both, primary_place, replica_place}
-use Rattle.cluster_state.proofs.Beginning.{BeginsOver, over_copying, over_settle, files_begun}
+use Rattle.cluster_state.proofs.Beginning.{over_copying, over_settle, files_begun}
 
 -- what is known of files' names
 abbrev pub FilesLast : Type 0

@@ -1,5 +1,5 @@
 -- A job that ends: its node switches to its point, and where its line is a copy, that has its reply.
-use Rattle.std.proofs.Common.{◌≡◌, ◌≢◌, ◌≤◌, ◌<◌, ◌+◌, ◌&&◌, ◌==◌, ℕ, Bool, true, false, true≢false, List, [], ◌∷◌, Some, None, Option, Vec, Global, refl, ap, ◌∙◌, sym, subst, arith, if◌then◌else◌, length, nat_le}
+use Rattle.std.proofs.Common.{◌≡◌, ◌≢◌, ◌≤◌, ◌<◌, ◌&&◌, ◌==◌, ℕ, Bool, true, false, true≢false, List, [], ◌∷◌, Some, None, Option, Vec, Global, refl, ap, ◌∙◌, sym, subst, arith, if◌then◌else◌, nat_le}
 use Rattle.std.specs.Prelude.{IsSome, IsSomeAnd, IfSome, not}
 use Rattle.std.proofs.lemmas.Bool.Decides.{nat_tests}
 use Rattle.std.proofs.lemmas.Bool.{eqb-true, eq-eqb}
@@ -40,7 +40,7 @@ use Rattle.history_tables.proofs.RowLemmas.{same_at_self}
 use Rattle.history_book.specs.Log.{Log, Pages, printed, shown, kept}
 use Rattle.history_book.specs.declared.inner.Inner.TheVariants.{JobEnd}
 use Rattle.history_book.specs.Jobs.{job_at, last_job, StartsJob, LaneJobShows}
-use Rattle.history_book.specs.Turns.{InTurn, AreInTurn}
+use Rattle.history_book.specs.Turns.{AreInTurn}
 use Rattle.history_book.proofs.LineLaws.{without_some}
 use Rattle.cluster_state.specs.declared.held.Held.{Held}
 use Rattle.cluster_state.specs.declared.nodes.Node.{Node}
@@ -49,13 +49,13 @@ use Rattle.cluster_state.specs.declared.nodes.Place.{Place}
 use Rattle.cluster_state.specs.Run.{Run}
 use Rattle.cluster_state.specs.Places.{place_of, HasPrimary}
 use Rattle.cluster_state.specs.State.{Stands, HoldsTickets, NodeShows, PlaceShows, Shows}
-use Rattle.cluster_state.specs.Moves.{Lasts, Fewer}
+use Rattle.cluster_state.specs.Moves.{Lasts}
 use Rattle.cluster_state.specs.Outs.{one_like, want_of, want_at, jobs_like, states_like}
 use Rattle.cluster_state.specs.Files.{CopyShows, JobShows, IsJobFor, reached_version, ReplicaFiles, PrimaryFiles, NodeFiles, FilesShow}
 use Rattle.cluster_state.specs.FileChanges.{SameJob}
 use Rattle.cluster_state.specs.Copies.{JobRuns, ended_log}
 use Rattle.cluster_state.specs.JobChanges.{HasReplica, HasNextFile, IsNextFile, FinishesAt}
-use Rattle.cluster_state.specs.JobPlaces.{MayFinish, CanFinish, FinishesIn, MovesBoth}
+use Rattle.cluster_state.specs.JobPlaces.{CanFinish, FinishesIn, MovesBoth}
 use Rattle.cluster_state.proofs.Growing.{lasts, fewer, same, not_flying}
 use Rattle.cluster_state.proofs.Frames.{some_at, holds_same, place_same, shows_still, slot_of, was}
 use Rattle.cluster_state.proofs.JobFrames.{IsCopyStart, copy_flying, same_shown, same_inner, same_then}

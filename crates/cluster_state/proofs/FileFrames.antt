@@ -1,6 +1,6 @@
 -- What calls and entries leave of the files of all nodes: what moves no file and no job, and publishes.
-use Rattle.std.proofs.Common.{◌≡◌, ◌≢◌, ◌≤◌, ◌<◌, ◌+◌, ◌==◌, ℕ, Bool, true, false, true≢false, List, [], ◌∷◌, Some, None, Option, Vec, Global, refl, ap, ◌∙◌, sym, subst, arith, if◌then◌else◌, length}
-use Rattle.std.specs.Prelude.{IsSomeAnd, not}
+use Rattle.std.proofs.Common.{◌≡◌, ◌≤◌, ◌<◌, ◌==◌, ℕ, Bool, true, false, true≢false, List, ◌∷◌, Some, None, Option, Vec, Global, refl, ap, ◌∙◌, sym, subst, arith, if◌then◌else◌}
+use Rattle.std.specs.Prelude.{IsSomeAnd}
 use Rattle.std.proofs.lemmas.Bool.{eqb-true, eq-eqb}
 use Rattle.nrt_base.specs.declared.numbers.At.{At}
 use Rattle.nrt_base.specs.declared.numbers.NodeNo.{NodeNo}
@@ -18,9 +18,8 @@ use Rattle.replica_node.specs.declared.job.PointJob.{PointJob}
 use Rattle.replica_node.specs.declared.parts.Parts.{Parts as ReplicaParts}
 use Rattle.history_entries.specs.declared.entry.Event.{Event}
 use Rattle.history_entries.specs.declared.entry.Event.TheVariants.{Publishing, Published}
-use Rattle.history_entries.specs.Nodes.{Past, IsNode, is_at, primary_of, newest_version, version_of}
+use Rattle.history_entries.specs.Nodes.{IsNode, is_at, primary_of, newest_version}
 use Rattle.history_entries.specs.Lines.{before_start}
-use Rattle.history_entries.specs.Points.{documents_at}
 use Rattle.history_entries.specs.Legal.{KeepsRule, IsLegalPast}
 use Rattle.history_tables.proofs.RowLemmas.{by_test}
 use Rattle.history_tables.specs.declared.jobs.Job.{Job}
@@ -37,8 +36,8 @@ use Rattle.cluster_state.specs.Places.{place_of}
 use Rattle.cluster_state.specs.Run.{Run}
 use Rattle.cluster_state.specs.State.{NodeShows, PlaceShows, Shows}
 use Rattle.cluster_state.specs.Outs.{want_of, want_at, jobs_like, states_like}
-use Rattle.cluster_state.specs.Files.{CopyShows, JobShows, IsJobFor, reached_version, ReplicaFiles, PrimaryFiles, NodeFiles, FilesShow}
-use Rattle.cluster_state.specs.FileChanges.{keeps_jobs, leaves_job, SameJob, KeepsPrimaryFiles, FillsPrimaryFiles, KeepsReplicaFiles, KeepsFiles}
+use Rattle.cluster_state.specs.Files.{CopyShows, JobShows, IsJobFor, reached_version, ReplicaFiles, NodeFiles, FilesShow}
+use Rattle.cluster_state.specs.FileChanges.{keeps_jobs, SameJob, FillsPrimaryFiles, KeepsReplicaFiles, KeepsNodeFiles}
 use Rattle.cluster_state.specs.JobPlaces.{MovesOne, MovesBoth}
 use Rattle.cluster_state.proofs.Frames.{some_then, some_at, was, PutsBack}
 use Rattle.cluster_state.proofs.JobFrames.{same_shown, same_inner, same_then}
@@ -167,7 +166,7 @@ module _ {D : Type 0} (cells : D → Cells) where
   node_files source log now jobs count n (Down d) same fewer was = was
 
   -- a node whose files and job a call left as they were
-  pub node_kept : (source : Name → Content) (log now : Log) (jobs count : Out → ℕ) (n : ℕ) (x y : Node D) → KeepsFiles cells x y → ((r : ReplicaParts D) → x ≡ Replica r → SameJob log now n) → ((s : Out) → count s ≤ jobs s)
+  pub node_kept : (source : Name → Content) (log now : Log) (jobs count : Out → ℕ) (n : ℕ) (x y : Node D) → KeepsNodeFiles cells x y → ((r : ReplicaParts D) → x ≡ Replica r → SameJob log now n) → ((s : Out) → count s ≤ jobs s)
       → NodeFiles source cells log jobs n x → NodeFiles source cells now count n y
   node_kept source log now jobs count n (Primary p) (Primary q) keeps same fewer was =
       primary_kept cells source jobs count p q keeps.0 (λ s. let low : jobs s ≤ states_like s q.states = subst (λ (ts : List Out). jobs s ≤ states_like s ts) (sym keeps.1) (was.outs s) in omega (arith, fewer s, low)) was
@@ -180,13 +179,13 @@ module _ {D : Type 0} (cells : D → Cells) where
   node_kept source log now jobs count n (Down d) (Primary q) keeps same fewer was = absurd keeps
   node_kept source log now jobs count n (Down d) (Replica t) keeps same fewer was = absurd keeps
 
-  want_kept : (x y : Place D) → KeepsFiles cells x.node y.node → want_at (Some y) ≡ want_at (Some x)
+  want_kept : (x y : Place D) → KeepsNodeFiles cells x.node y.node → want_at (Some y) ≡ want_at (Some x)
   want_kept x y keeps = wants x.node y.node keeps
     where
       want : Node D → Option Out
       want z = elim z [ Primary p ↦ None | Replica r ↦ want_of r.job | Down d ↦ None ]
 
-      wants : (a b : Node D) → KeepsFiles cells a b → want b ≡ want a
+      wants : (a b : Node D) → KeepsNodeFiles cells a b → want b ≡ want a
       wants (Primary p) (Primary q) keeps = refl
       wants (Replica r) (Replica t) keeps = ap want_of keeps.job
       wants (Down d) (Down e) keeps = refl
@@ -222,7 +221,7 @@ module _ {D : Type 0} (cells : D → Cells) where
 
   -- one place moved, of which a call left the files and the job
   pub files_one : (size : ℕ) (log now : Log) (old new : List (Option (Place D))) (n : ℕ) (x y : Place D) → ((m : ℕ) → is_at (primary_of (printed log)) m ≡ false → SameJob log now m)
-      → MovesOne n x old new → IsNode size n → place_of old n ≡ Some y → KeepsFiles cells y.node x.node
+      → MovesOne n x old new → IsNode size n → place_of old n ≡ Some y → KeepsNodeFiles cells y.node x.node
       → Shows cells log size old → FilesShow cells log size old → FilesShow cells now size new
   files_one size log now old new n x y same moves node there keeps shows files =
       let jobs : (s : Out) → jobs_like new s size ≡ jobs_like old s size = λ s. jobs_same old new s size (λ m low. wants_same n x y old new moves there (want_kept y x keeps) m) in
@@ -319,7 +318,7 @@ module _ {D : Type 0} (cells : D → Cells) where
       → record { ended = ended; nodes = b0.nodes; log = b0.log } ≡ r → r.ended ≡ false → (ended ≡ false → Shows cells b0.log b0.nodes old) → (ended ≡ false → FilesShow cells b0.log b0.nodes old)
       → b1.log ≡ b0.log → b1.nodes ≡ b0.nodes → b2.log ≡ shown at e ∷ b1.log → b2.nodes ≡ b1.nodes → IsLegalPast b1.nodes (printed b1.log) → AreInTurn (printed b1.log)
       → KeepsRule r.nodes (printed r.log) at e → InTurn (printed r.log) at e → ((m : ℕ) → keeps_jobs e m ≡ true)
-      → PutsBack cells old mid new n x → IsNode r.nodes n → place_of old n ≡ Some y → KeepsFiles cells y.node x.node → FilesShow cells b2.log b2.nodes new
+      → PutsBack cells old mid new n x → IsNode r.nodes n → place_of old n ≡ Some y → KeepsNodeFiles cells y.node x.node → FilesShow cells b2.log b2.nodes new
   files_moved r ended b0 b1 b2 old mid new at e n x y view running shows files e1 n1 e2 n2 legal turns rule turn keeps put node there kept =
       let b = before r ended b0 b1 view e1 n1 legal turns in
       files_is (shown at e ∷ r.log) b2.log r.nodes b2.nodes new (e2 ∙ ap (λ (l : Log). shown at e ∷ l) b.log) (n2 ∙ b.size)
@@ -332,7 +331,7 @@ module _ {D : Type 0} (cells : D → Cells) where
       → b1.log ≡ b0.log → b1.nodes ≡ b0.nodes → b2.log ≡ shown at Publishing ∷ b1.log → b2.nodes ≡ b1.nodes → IsLegalPast b1.nodes (printed b1.log) → AreInTurn (printed b1.log)
       → b3.log ≡ kept (FlushOut at seg segs) ∷ b2.log → b3.nodes ≡ b2.nodes
       → KeepsRule r.nodes (printed r.log) at Publishing → InTurn (printed r.log) at Publishing
-      → PutsBack cells old mid new n x → IsNode r.nodes n → place_of old n ≡ Some y → KeepsFiles cells y.node x.node → FilesShow cells b3.log b3.nodes new
+      → PutsBack cells old mid new n x → IsNode r.nodes n → place_of old n ≡ Some y → KeepsNodeFiles cells y.node x.node → FilesShow cells b3.log b3.nodes new
   files_started r ended b0 b1 b2 b3 old mid new at seg segs n x y view running shows files e1 n1 e2 n2 legal turns e3 n3 rule turn put node there kept_files =
       let b = before r ended b0 b1 view e1 n1 legal turns in
       let i : Inner = FlushOut at seg segs in

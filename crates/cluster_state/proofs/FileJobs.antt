@@ -1,10 +1,9 @@
 -- What the invariant of files says of the nodes of a call, and of the job that runs at one.
-use Rattle.std.proofs.Common.{◌≡◌, ◌≢◌, ◌≤◌, ◌<◌, ◌+◌, ◌&&◌, ◌==◌, ℕ, Bool, true, false, true≢false, List, [], ◌∷◌, Some, None, Option, Vec, Global, refl, ap, ◌∙◌, sym, subst, arith, if◌then◌else◌, nat_le}
-use Rattle.std.specs.Prelude.{IsSomeAnd, IfSome, not, is_some}
-use Rattle.std.proofs.lemmas.Bool.{eqb-true, eq-eqb}
+use Rattle.std.proofs.Common.{◌≡◌, ◌≤◌, ◌&&◌, ◌==◌, ℕ, Bool, true, false, true≢false, List, [], ◌∷◌, Some, None, Option, Vec, Global, refl, ap, ◌∙◌, sym, subst, arith, if◌then◌else◌, nat_le}
+use Rattle.std.specs.Prelude.{IsSomeAnd, IfSome, not}
+use Rattle.std.proofs.lemmas.Bool.{eq-eqb}
 use Rattle.std.proofs.lemmas.Bool.Decides.{nat_tests}
 use Rattle.nrt_base.specs.declared.numbers.At.{At}
-use Rattle.nrt_base.specs.declared.numbers.NodeNo.{NodeNo}
 use Rattle.disk_model.specs.Disk.{Name, Content, Cells}
 use Rattle.index_primary.specs.declared.parts.Parts.{Parts as PrimaryParts}
 use Rattle.index_primary.specs.declared.states.Out.{Out}
@@ -12,9 +11,8 @@ use Rattle.index_primary.specs.States.{is_out, out_of}
 use Rattle.replica_node.specs.declared.job.PointJob.{PointJob}
 use Rattle.replica_node.specs.declared.parts.Parts.{Parts as ReplicaParts}
 use Rattle.replica_node.specs.Replica.{IsJobAbove}
-use Rattle.history_entries.specs.Nodes.{Past, IsNode, IsReplica, is_at, is_running, primary_of, newest_version, version_of}
-use Rattle.history_entries.specs.Lines.{copy_in_flight, is_free_for, NodeSurvives, SourceSurvives, before_start}
-use Rattle.history_entries.specs.Legal.{IsLegalPast}
+use Rattle.history_entries.specs.Nodes.{IsNode, IsReplica, is_at, primary_of, newest_version, version_of}
+use Rattle.history_entries.specs.Lines.{copy_in_flight, is_free_for}
 use Rattle.history_tables.specs.declared.jobs.Job.{Job}
 use Rattle.history_tables.specs.declared.jobs.JobRow.{JobRow}
 use Rattle.history_tables.specs.declared.jobs.JobStep.{JobStep}
@@ -31,15 +29,15 @@ use Rattle.cluster_state.specs.declared.held.Held.{Held}
 use Rattle.cluster_state.specs.declared.nodes.Node.{Node}
 use Rattle.cluster_state.specs.declared.nodes.Node.TheVariants.{Primary, Replica, Down}
 use Rattle.cluster_state.specs.declared.nodes.Place.{Place}
-use Rattle.cluster_state.specs.Places.{place_of, IsSlot}
-use Rattle.cluster_state.specs.State.{NodeShows, PlaceShows, Shows}
-use Rattle.cluster_state.specs.Outs.{want_of, want_at, jobs_like, states_like}
-use Rattle.cluster_state.specs.Files.{CopyShows, JobShows, IsJobFor, ReplicaFiles, PrimaryFiles, NodeFiles, FilesShow}
+use Rattle.cluster_state.specs.Places.{place_of}
+use Rattle.cluster_state.specs.State.{PlaceShows, Shows}
+use Rattle.cluster_state.specs.Outs.{want_of, want_at, jobs_like}
+use Rattle.cluster_state.specs.Files.{CopyShows, JobShows, IsJobFor, ReplicaFiles, PrimaryFiles, FilesShow}
 use Rattle.cluster_state.specs.Copies.{JobRuns}
-use Rattle.cluster_state.specs.JobPlaces.{IsPrimaryAt, IsReplicaAt, AreBoth}
-use Rattle.cluster_state.proofs.Frames.{some_at, slot_of}
+use Rattle.cluster_state.specs.JobPlaces.{IsPrimaryAt, IsReplicaAt}
+use Rattle.cluster_state.proofs.Frames.{slot_of}
 use Rattle.cluster_state.proofs.OutCounts.{is_there, job_counted}
-use Rattle.cluster_state.proofs.FileFrames.{some_both, both_of, Both}
+use Rattle.cluster_state.proofs.FileFrames.{both_of, Both}
 
 -- ---- the job of a lane that runs is the one that runs at its node
 

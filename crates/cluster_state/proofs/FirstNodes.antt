@@ -1,6 +1,6 @@
 -- The nodes of a cluster that has just started.
 use Rattle.std.proofs.Common.{◌≡◌, ◌≢◌, ◌≤◌, ◌<◌, ◌+◌, ◌++◌, ◌^◌, ◌==◌, inl, inr, ℕ, suc, zero, Bool, true, false, List, [], ◌∷◌, Some, None, Option, Vec, Global, length, length-append, refl, ap, ◌∙◌, sym, subst, arith, rules, if◌then◌else◌}
-use Rattle.std.specs.Prelude.{IsSomeAnd, IfSome, Contains, Result, Ok, Err, IfOk}
+use Rattle.std.specs.Prelude.{IsSomeAnd, Contains, Result, Ok, Err, IfOk}
 use Rattle.std.specs.List.{slice_get, flat_map}
 use Rattle.std.proofs.lemmas.Bool.Decides.{nat_tests, eqb_tells}
 use Rattle.std.proofs.lemmas.List.Elements.{All-nil}
@@ -8,7 +8,7 @@ use Rattle.file_names.specs.Names.{commit_name_of}
 use Rattle.nrt_base.specs.declared.doc.Doc.{Doc}
 use Rattle.nrt_base.specs.declared.numbers.Gen.{Gen}
 use Rattle.nrt_base.specs.declared.numbers.Version.{Version}
-use Rattle.disk_model.specs.Disk.{Name, Content, Cells, Image, IsImage, reads_of}
+use Rattle.disk_model.specs.Disk.{Name, Content, Cells, reads_of}
 use Rattle.file_deleter.specs.Holdings.{times}
 use Rattle.seg_reader.specs.Shown.{Shown}
 use Rattle.seg_reader.specs.Stands.{StandsFor, StandsWith, AreSegmentsOf}
@@ -22,12 +22,12 @@ use Rattle.searcher_switch.specs.declared.searchers.Searchers.{Searchers}
 use Rattle.searcher_switch.specs.Searching.{searcher_names}
 use Rattle.searcher_switch.specs.Tickets.{ticket_names}
 use Rattle.node_files.specs.Node.{IsWholeNode}
-use Rattle.history_entries.specs.Nodes.{Past, IsNode, is_at}
-use Rattle.history_entries.specs.Tickets.{open_ticket, IsTicketOf}
+use Rattle.history_entries.specs.Nodes.{IsNode}
+use Rattle.history_entries.specs.Tickets.{IsTicketOf}
 use Rattle.history_book.specs.Log.{Log}
 use Rattle.commit_steps.specs.Commits.{HasFilesOf}
 use Rattle.commit_steps.specs.Book.{book_names, last_names, flying_names}
-use Rattle.commit_steps.specs.Found.{ShowsNothing, ShowsCommit}
+use Rattle.commit_steps.specs.Found.{ShowsCommit}
 use Rattle.commit_steps.specs.declared.states.Commit.{Commit}
 use Rattle.commit_steps.specs.declared.stage.CommitBook.{CommitBook}
 use Rattle.replica_opening.specs.Opening.{opening_infos, FindsPoint, number_of_last}
@@ -35,7 +35,7 @@ use Rattle.replica_opening.specs.Opened.{IsSettledAt, IsSettledOn}
 use Rattle.replica_node.specs.declared.parts.Parts.{Parts as ReplicaParts}
 use Rattle.replica_node.specs.declared.taking.NodeParts.{NodeParts}
 use Rattle.replica_node.specs.Replica.{IsWholeReplica}
-use Rattle.replica_node.specs.Sources.{HeldReadAs, IsSourced, IsTakenApart}
+use Rattle.replica_node.specs.Sources.{IsSourced, IsTakenApart}
 use Rattle.replica_node.specs.Starting.{IsJustOpened, SearchesJust}
 use Rattle.index_primary.specs.declared.parts.Parts.{Parts as PrimaryParts}
 use Rattle.index_primary.specs.Primary.{IsPrimary}
@@ -56,7 +56,7 @@ use Rattle.file_deleter.specs.Holdings.{count_of}
 use Rattle.nrt_base.specs.declared.numbers.At.{At}
 use Rattle.replica_node.specs.declared.job.PointJob.{PointJob}
 use Rattle.cluster_state.specs.declared.nodes.Node.{Node}
-use Rattle.cluster_state.specs.State.{Stands, IsPointAt, WritesAt, HoldsTickets, PrimaryShows, ReplicaShows, PlaceShows, Shows}
+use Rattle.cluster_state.specs.State.{IsPointAt, WritesAt, HoldsTickets, PrimaryShows, PlaceShows, Shows}
 
 -- an empty directory shows no commit
 no_commit : (cells : Cells) (n : ℕ) (infos : Infos) → IsEmptyDir cells → ShowsCommit (reads_of cells) n infos → ⊥

@@ -1,6 +1,5 @@
 -- The nodes of a cluster that has just started, one after the other.
-use Rattle.std.proofs.Common.{◌≡◌, ◌≤◌, ◌<◌, ◌+◌, ◌++◌, ℕ, List, [], ◌∷◌, Some, None, Option, length, length-append, refl, ap, ◌∙◌, sym, subst, append_assoc, arith}
-use Rattle.std.proofs.IntoIterSteps.{All-taken}
+use Rattle.std.proofs.Common.{◌≡◌, ◌≤◌, ◌+◌, ◌++◌, ℕ, List, [], ◌∷◌, Some, None, Option, length, length-append, ap, ◌∙◌, sym, subst, arith}
 use Rattle.std.proofs.lemmas.List.Elements.{All-get_or, All-tail}
 use Rattle.std.specs.List.{All}
 use Rattle.std.specs.Prelude.{IsSomeAnd}

@@ -1,11 +1,8 @@
 -- A file that is handed out to a job, in the terms of a call.
-use Rattle.std.proofs.Common.{◌≡◌, ◌≢◌, ◌≤◌, ◌<◌, ◌+◌, ◌==◌, ℕ, Bool, true, false, true≢false, List, [], ◌∷◌, Some, None, Option, Vec, Global, refl, ap, ◌∙◌, sym, subst, arith, length}
-use Rattle.std.specs.Prelude.{IsSomeAnd, IfSome}
+use Rattle.std.proofs.Common.{◌≡◌, ℕ, Bool, false, List, ◌∷◌, Some, Option, Vec, Global, refl, ap, ◌∙◌, sym, subst}
 use Rattle.std.proofs.lemmas.Bool.{eq-eqb}
-use Rattle.nrt_base.specs.declared.numbers.At.{At}
 use Rattle.nrt_base.specs.declared.numbers.NodeNo.{NodeNo}
 use Rattle.disk_model.specs.Disk.{Name, Content, Cells}
-use Rattle.file_deleter.specs.Holdings.{times}
 use Rattle.copy_state.specs.declared.meta.FileMetaData.{FileMetaData}
 use Rattle.codec_frame.specs.Bytes.{AreBytes}
 use Rattle.codec_frame.specs.Checking.{HasFooter}
@@ -13,28 +10,25 @@ use Rattle.replica_node.specs.declared.job.PointJob.{PointJob}
 use Rattle.replica_node.specs.Replica.{IsJobAbove}
 use Rattle.copy_state.specs.Meta.{IsMetaOf}
 use Rattle.index_primary.specs.declared.parts.Parts.{Parts as PrimaryParts}
-use Rattle.index_primary.specs.declared.states.Out.{Out}
-use Rattle.index_primary.specs.States.{state_names}
-use Rattle.history_entries.specs.Nodes.{Past, IsNode, IsReplica, is_at, primary_of}
-use Rattle.history_tables.specs.declared.jobs.Job.{Job}
+use Rattle.history_entries.specs.Nodes.{IsNode, IsReplica, is_at, primary_of}
 use Rattle.history_tables.specs.declared.jobs.JobRow.{JobRow}
 use Rattle.history_book.specs.Log.{Log, Pages, printed, kept}
 use Rattle.history_book.specs.declared.inner.Inner.TheVariants.{FileOut}
 use Rattle.history_book.specs.Jobs.{job_at, LaneJobShows}
 use Rattle.cluster_state.specs.declared.held.Held.{Held}
-use Rattle.cluster_state.specs.declared.nodes.Node.TheVariants.{Primary, Replica, Down}
+use Rattle.cluster_state.specs.declared.nodes.Node.TheVariants.{Primary}
 use Rattle.cluster_state.specs.declared.nodes.Place.{Place}
 use Rattle.cluster_state.specs.Run.{Run}
 use Rattle.cluster_state.specs.Places.{place_of, IsSlot, HasPrimary}
-use Rattle.cluster_state.specs.State.{PlaceShows, Shows}
+use Rattle.cluster_state.specs.State.{Shows}
 use Rattle.cluster_state.specs.Outs.{jobs_like}
-use Rattle.cluster_state.specs.Files.{NodeFiles, PrimaryFiles, FilesShow}
+use Rattle.cluster_state.specs.Files.{FilesShow}
 use Rattle.cluster_state.specs.Copies.{JobRuns}
 use Rattle.cluster_state.specs.JobChanges.{HasJob, HasNextFile}
 use Rattle.cluster_state.specs.JobPlaces.{CanRead, ReadsIn}
 use Rattle.cluster_state.proofs.Frames.{some_at, was, now_is, slot_of}
 use Rattle.cluster_state.proofs.FileFrames.{both_of, Both, files_was, files_is}
-use Rattle.cluster_state.proofs.FileJobs.{PrimaryHere, ReplicaHere, JobHere, primary_here, replica_here, job_here, job_out, runs_at}
+use Rattle.cluster_state.proofs.FileJobs.{ReplicaHere, JobHere, primary_here, replica_here, job_here, job_out, runs_at}
 use Rattle.cluster_state.proofs.CopyPaths.{FilesLast}
 use Rattle.cluster_state.proofs.Handing.{has_job, next_is, IsFileToCopy, file_to_copy, file_footer, file_handed}
 

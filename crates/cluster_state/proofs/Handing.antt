@@ -1,18 +1,15 @@
 -- A file that is handed out to a job.
-use Rattle.std.proofs.Common.{◌≡◌, ◌≢◌, ◌≤◌, ◌<◌, ◌+◌, ◌&&◌, ◌==◌, ℕ, zero, suc, Bool, true, false, true≢false, List, [], ◌∷◌, ◌++◌, Some, None, Option, get_or, Vec, Global, refl, ap, ◌∙◌, sym, subst, arith, if◌then◌else◌, length}
+use Rattle.std.proofs.Common.{◌≡◌, ◌<◌, ◌+◌, ◌&&◌, ◌==◌, ℕ, suc, Bool, true, false, true≢false, List, [], ◌∷◌, ◌++◌, Some, None, Option, Vec, Global, refl, ap, ◌∙◌, sym, subst, arith, if◌then◌else◌}
 use Rattle.std.specs.Prelude.{IsSomeAnd, IfSome, is_some, not, Contains}
-use Rattle.std.specs.List.{All, flat_map}
+use Rattle.std.specs.List.{All}
 use Rattle.std.proofs.lemmas.List.Elements.{All-contains}
-use Rattle.std.proofs.lemmas.Bool.{eqb-true, eq-eqb, lt-ltb}
-use Rattle.nrt_base.specs.declared.numbers.At.{At}
+use Rattle.std.proofs.lemmas.Bool.{eqb-true, lt-ltb}
 use Rattle.nrt_base.specs.declared.numbers.NodeNo.{NodeNo}
 use Rattle.nrt_base.specs.declared.numbers.LineNo.{LineNo}
-use Rattle.disk_model.specs.Disk.{Name, Content, Cells, same, reads_of, is_among}
+use Rattle.disk_model.specs.Disk.{Name, Content, Cells, same, is_among}
 use Rattle.disk_model.proofs.CellLemmas.{same_true}
 use Rattle.file_deleter.specs.Holdings.{count_of, times}
-use Rattle.file_deleter.proofs.NameLemmas.{times-append, same_self, among_is}
-use Rattle.segment_infos.specs.declared.infos.Infos.{Infos}
-use Rattle.segment_infos.specs.Files.{files_of_segment, AreFilesOf}
+use Rattle.file_deleter.proofs.NameLemmas.{times-append, among_is}
 use Rattle.copy_state.specs.declared.meta.FileMetaData.{FileMetaData}
 use Rattle.codec_frame.specs.Bytes.{AreBytes}
 use Rattle.codec_frame.specs.Checking.{HasFooter}
@@ -29,11 +26,11 @@ use Rattle.index_primary.specs.declared.parts.Parts.{Parts as PrimaryParts}
 use Rattle.index_primary.specs.declared.states.Out.{Out}
 use Rattle.index_primary.specs.Primary.{IsPrimary, primary_names, rest_names}
 use Rattle.index_primary.specs.States.{out_of, is_out, state_names, merge_names}
-use Rattle.replica_opening.specs.Known.{IsLasting, HasMeta}
+use Rattle.replica_opening.specs.Known.{HasMeta}
 use Rattle.replica_node.specs.declared.job.PointJob.{PointJob}
 use Rattle.replica_node.specs.declared.parts.Parts.{Parts as ReplicaParts}
 use Rattle.replica_node.specs.Replica.{IsJobAbove}
-use Rattle.history_entries.specs.Nodes.{Past, IsNode, IsReplica, is_at, primary_of, newest_version}
+use Rattle.history_entries.specs.Nodes.{IsNode, is_at, primary_of, newest_version}
 use Rattle.history_tables.specs.declared.jobs.Job.{Job}
 use Rattle.history_tables.specs.declared.jobs.JobRow.{JobRow}
 use Rattle.history_tables.specs.declared.jobs.JobStep.TheVariants.{Passes}
@@ -46,19 +43,18 @@ use Rattle.cluster_state.specs.declared.held.Held.{Held}
 use Rattle.cluster_state.specs.declared.nodes.Node.{Node}
 use Rattle.cluster_state.specs.declared.nodes.Node.TheVariants.{Primary, Replica, Down}
 use Rattle.cluster_state.specs.declared.nodes.Place.{Place}
-use Rattle.cluster_state.specs.Places.{place_of, HasPrimary}
-use Rattle.cluster_state.specs.State.{NodeShows, PlaceShows, Shows}
+use Rattle.cluster_state.specs.Places.{place_of}
+use Rattle.cluster_state.specs.State.{NodeShows, Shows}
 use Rattle.cluster_state.specs.FilesOut.{is_job, file_out}
-use Rattle.cluster_state.specs.Outs.{want_of, want_at, jobs_like, states_like}
+use Rattle.cluster_state.specs.Outs.{want_of, jobs_like, states_like}
 use Rattle.cluster_state.specs.Files.{CopyShows, JobShows, IsJobFor, ReplicaFiles, PrimaryFiles, NodeFiles, FilesShow}
-use Rattle.cluster_state.specs.JobChanges.{HasReplica, HasJob, HasNextFile, IsNextFile}
-use Rattle.cluster_state.specs.JobPlaces.{CanRead, ReadsIn, MovesOne}
-use Rattle.cluster_state.proofs.Frames.{some_at, slot_of, place_shows}
+use Rattle.cluster_state.specs.JobChanges.{HasJob, HasNextFile, IsNextFile}
+use Rattle.cluster_state.specs.JobPlaces.{ReadsIn}
+use Rattle.cluster_state.proofs.Frames.{some_at}
 use Rattle.cluster_state.proofs.JobFrames.{same_inner}
 use Rattle.cluster_state.proofs.OutCounts.{jobs_same, names_out}
 use Rattle.cluster_state.proofs.Wider.{primary_kept}
-use Rattle.cluster_state.proofs.FileFrames.{one_each, both_of, Both, wants_same, replica_same, node_files}
-use Rattle.cluster_state.proofs.FileJobs.{PrimaryHere, ReplicaHere, JobHere, primary_here, replica_here, job_here, job_out}
+use Rattle.cluster_state.proofs.FileFrames.{one_each, both_of, Both, wants_same, replica_same}
 use Rattle.cluster_state.proofs.JobMoves.{shows_kept, shows_put, primary_place}
 use Rattle.cluster_state.proofs.CopyPaths.{FilesLast}
 

@@ -1,5 +1,5 @@
 -- What one more entry leaves of the job that the log shows at a replica.
-use Rattle.std.proofs.Common.{◌≡◌, ◌≢◌, ◌≤◌, ◌<◌, ◌+◌, ◌&&◌, ◌==◌, ℕ, Bool, true, false, true≢false, List, [], ◌∷◌, Some, None, Option, max, refl, ap, ◌∙◌, sym, subst, arith, if◌then◌else◌, length}
+use Rattle.std.proofs.Common.{◌≡◌, ◌≢◌, ◌≤◌, ◌+◌, ◌&&◌, ◌==◌, ℕ, Bool, true, false, true≢false, [], ◌∷◌, Some, None, Option, max, refl, ap, ◌∙◌, sym, subst, arith, if◌then◌else◌, length}
 use Rattle.std.specs.Prelude.{not}
 use Rattle.std.proofs.Common.{◌||◌}
 use Rattle.std.proofs.lemmas.Bool.{eqb-true}
@@ -8,17 +8,13 @@ use Rattle.history_tables.proofs.RowLemmas.{same_at_self}
 use Rattle.nrt_base.specs.declared.numbers.At.{At}
 use Rattle.nrt_base.specs.declared.numbers.NodeNo.{NodeNo}
 use Rattle.nrt_base.specs.declared.numbers.Version.{Version}
-use Rattle.disk_model.specs.Disk.{Name, Content, same}
-use Rattle.history_entries.specs.declared.entry.Entry.{Entry}
+use Rattle.disk_model.specs.Disk.{Name, same}
 use Rattle.history_entries.specs.declared.entry.Event.{Event}
 use Rattle.history_entries.specs.declared.entry.Event.TheVariants.{Published, Copying, Switched, Crashed, Reopened, Promoted}
 use Rattle.history_entries.specs.Nodes.{Past, is_at, primary_of, version_of, newest_version}
 use Rattle.history_entries.specs.Lines.{same_at, is_start, is_reply, start_entry, before_start, without_at, copy_in_flight, highest_copy}
-use Rattle.history_entries.specs.Points.{documents_at}
 use Rattle.history_entries.specs.Legal.{KeepsRule, IsLegalPast}
 use Rattle.history_laws.proofs.PointLemmas.{documents_stay_lem}
-use Rattle.history_tables.specs.NodeRows.{crashed_at}
-use Rattle.history_tables.specs.Numbering.{primary_crashed}
 use Rattle.history_tables.specs.declared.jobs.Job.{Job}
 use Rattle.history_tables.specs.declared.jobs.JobRow.{JobRow}
 use Rattle.history_tables.specs.declared.jobs.JobStep.{JobStep}
@@ -28,10 +24,10 @@ use Rattle.history_book.specs.declared.inner.Inner.{Inner}
 use Rattle.history_book.specs.declared.inner.Inner.TheVariants.{JobBegun, FileOut, JobEnd}
 use Rattle.history_book.specs.declared.inner.Mark.TheVariants.{Shown, TaskFault, Kept}
 use Rattle.history_book.specs.Log.{Log, printed, shown, kept}
-use Rattle.history_book.specs.Jobs.{job_step, last_job, job_at}
+use Rattle.history_book.specs.Jobs.{job_step, last_job}
 use Rattle.history_book.specs.Turns.{StartsOnce, InTurn, AreInTurn}
-use Rattle.history_book.proofs.LineLaws.{same_at_is, and_false, without_some}
-use Rattle.cluster_state.specs.FilesOut.{is_by, is_job, handed_file, file_out}
+use Rattle.history_book.proofs.LineLaws.{same_at_is, without_some}
+use Rattle.cluster_state.specs.FilesOut.{is_by, is_job, file_out}
 use Rattle.cluster_state.specs.FileChanges.{keeps_jobs, leaves_job, SameJob}
 
 -- ---- copies in flight

@@ -1,28 +1,19 @@
 -- Nodes of which a call altered copy states and jobs alone, and inner entries of jobs: what is shown of nodes stays.
-use Rattle.std.proofs.Common.{◌≡◌, ◌≢◌, ◌≤◌, ◌<◌, ◌+◌, ◌==◌, ℕ, Bool, true, false, true≢false, List, [], ◌∷◌, Some, None, Option, Vec, Global, refl, ap, ◌∙◌, sym, subst, arith, if◌then◌else◌, length}
-use Rattle.std.specs.Prelude.{IsSomeAnd}
+use Rattle.std.proofs.Common.{◌≡◌, ◌≤◌, ℕ, List, ◌∷◌, Some, None, Option, Vec, Global, refl, ap, ◌∙◌, sym, subst, arith}
 use Rattle.nrt_base.specs.declared.numbers.At.{At}
-use Rattle.nrt_base.specs.declared.numbers.NodeNo.{NodeNo}
-use Rattle.documents.specs.declared.operation.Op.{Op}
 use Rattle.disk_model.specs.Disk.{Cells}
-use Rattle.seg_reader.specs.Shown.{Shown}
-use Rattle.searcher_switch.specs.declared.open.Open.{Open}
 use Rattle.index_primary.specs.declared.parts.Parts.{Parts as PrimaryParts}
 use Rattle.replica_node.specs.declared.parts.Parts.{Parts as ReplicaParts}
-use Rattle.history_entries.specs.Nodes.{Past, IsNode, is_at, primary_of, generation_of, version_of, newest_version}
-use Rattle.history_entries.specs.Lines.{start_entry, publish_in_flight}
-use Rattle.history_entries.specs.Points.{cut_of, operations_of_generation}
-use Rattle.history_book.specs.Log.{Log, printed, shown, kept}
+use Rattle.history_entries.specs.Nodes.{Past, generation_of, version_of}
+use Rattle.history_entries.specs.Lines.{publish_in_flight}
+use Rattle.history_book.specs.Log.{Log, printed, kept}
 use Rattle.history_book.specs.declared.inner.Inner.{Inner}
-use Rattle.history_book.specs.declared.inner.Inner.TheVariants.{JobBegun, FileOut, JobEnd}
 use Rattle.cluster_state.specs.declared.held.Held.{Held}
-use Rattle.cluster_state.specs.declared.nodes.Node.{Node}
-use Rattle.cluster_state.specs.declared.nodes.Node.TheVariants.{Primary, Replica, Down}
+use Rattle.cluster_state.specs.declared.nodes.Node.TheVariants.{Primary, Replica}
 use Rattle.cluster_state.specs.declared.nodes.Place.{Place}
 use Rattle.cluster_state.specs.Lookups.{Handed, handed_by, or_older, flush_out}
-use Rattle.cluster_state.specs.Places.{place_of, tickets_of}
-use Rattle.cluster_state.specs.State.{IsPointAt, WritesAt, FlightShows, HoldsTickets, PrimaryShows, ReplicaShows, NodeShows, PlaceShows, Shows}
-use Rattle.cluster_state.specs.Moves.{FlightStays, Lasts, Fewer, WritesOn, Same}
+use Rattle.cluster_state.specs.State.{IsPointAt, WritesAt, FlightShows, HoldsTickets, PrimaryShows, PlaceShows, Shows}
+use Rattle.cluster_state.specs.Moves.{Fewer, Same}
 use Rattle.cluster_state.specs.JobChanges.{AltersStates, AltersJob}
 use Rattle.cluster_state.specs.JobPlaces.{MovesOne, MovesBoth}
 use Rattle.cluster_state.proofs.Frames.{shows_still}

@@ -1,15 +1,13 @@
 -- How many jobs began with a copy state, and how many states like it are out.
-use Rattle.std.proofs.Common.{◌≡◌, ◌≤◌, ◌<◌, ◌+◌, ◌&&◌, ◌==◌, ℕ, zero, suc, Bool, true, false, true≢false, List, [], ◌∷◌, ◌++◌, Some, None, Option, refl, ap, ◌∙◌, sym, subst, arith, if◌then◌else◌}
+use Rattle.std.proofs.Common.{◌≡◌, ◌≤◌, ◌+◌, ◌&&◌, ◌==◌, ℕ, zero, suc, Bool, true, false, true≢false, List, [], ◌∷◌, ◌++◌, Some, None, Option, refl, ap, ◌∙◌, sym, arith, if◌then◌else◌}
 use Rattle.std.specs.Prelude.{IfSome}
 use Rattle.std.specs.Cmp.Lexicographic.{pointwise}
 use Rattle.std.proofs.lemmas.Bool.{eqb-true, eq-eqb}
 use Rattle.std.proofs.lemmas.Bool.Decides.{nat_tests}
-use Rattle.nrt_base.specs.declared.numbers.Version.{Version}
 use Rattle.disk_model.specs.Disk.{Name, same}
 use Rattle.disk_model.proofs.CellLemmas.{same_true}
 use Rattle.file_deleter.specs.Holdings.{times}
 use Rattle.file_deleter.proofs.NameLemmas.{same_self, times-append}
-use Rattle.history_tables.proofs.RowLemmas.{by_test}
 use Rattle.index_primary.specs.declared.states.Out.{Out}
 use Rattle.index_primary.specs.States.{same_out, is_out, states_without, state_names}
 use Rattle.cluster_state.specs.declared.nodes.Place.{Place}

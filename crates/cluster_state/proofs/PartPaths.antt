@@ -1,8 +1,7 @@
 -- A part that a job takes, in the terms of a call.
-use Rattle.std.proofs.Common.{◌≡◌, ◌≢◌, ◌≤◌, ◌<◌, ◌+◌, ◌==◌, ℕ, zero, suc, Bool, true, false, true≢false, List, [], ◌∷◌, Some, None, Option, Vec, Global, refl, ap, ◌∙◌, sym, subst, arith, if◌then◌else◌, length}
+use Rattle.std.proofs.Common.{◌≡◌, ◌≤◌, ◌<◌, ℕ, suc, Bool, true, false, List, [], ◌∷◌, Some, None, Option, Vec, Global, refl, ap, ◌∙◌, sym, subst, arith, if◌then◌else◌}
 use Rattle.std.specs.Prelude.{IsSome, IsSomeAnd, IfSome}
 use Rattle.std.specs.List.{All}
-use Rattle.nrt_base.specs.declared.numbers.NodeNo.{NodeNo}
 use Rattle.disk_model.specs.Disk.{Name, Content, Cells, same}
 use Rattle.disk_model.proofs.CellLemmas.{same_true}
 use Rattle.copy_state.specs.declared.meta.FileMetaData.{FileMetaData}
@@ -18,21 +17,19 @@ use Rattle.segment_infos.specs.declared.infos.Infos.{Infos}
 use Rattle.replica_opening.specs.Known.{HasMeta}
 use Rattle.replica_node.specs.declared.job.PointJob.{PointJob}
 use Rattle.replica_node.specs.declared.parts.Parts.{Parts as ReplicaParts}
-use Rattle.history_entries.specs.Nodes.{IsNode, IsReplica, version_of, newest_version, generation_of}
-use Rattle.history_entries.specs.Lines.{start_entry, before_start, copy_in_flight, highest_copy}
+use Rattle.history_entries.specs.Nodes.{IsNode, IsReplica, version_of, generation_of}
 use Rattle.history_entries.specs.Points.{documents_at}
 use Rattle.history_tables.specs.declared.jobs.Job.{Job}
 use Rattle.history_tables.specs.declared.jobs.JobRow.{JobRow}
-use Rattle.history_book.specs.Log.{Log, Pages, printed}
+use Rattle.history_book.specs.Log.{Log, printed}
 use Rattle.history_book.specs.Jobs.{job_at, LaneJobShows}
 use Rattle.cluster_state.specs.declared.held.Held.{Held}
-use Rattle.cluster_state.specs.declared.nodes.Node.{Node}
 use Rattle.cluster_state.specs.declared.nodes.Node.TheVariants.{Replica}
 use Rattle.cluster_state.specs.declared.nodes.Place.{Place}
 use Rattle.cluster_state.specs.Run.{Run}
 use Rattle.cluster_state.specs.Places.{place_of}
 use Rattle.cluster_state.specs.State.{IsPointAt, HoldsTickets, PlaceShows, Shows}
-use Rattle.cluster_state.specs.Outs.{want_of, want_at, jobs_like}
+use Rattle.cluster_state.specs.Outs.{want_of, jobs_like}
 use Rattle.cluster_state.specs.Files.{CopyShows, JobShows, reached_version, ReplicaFiles, NodeFiles, FilesShow}
 use Rattle.cluster_state.specs.FileChanges.{SameJob}
 use Rattle.cluster_state.specs.FilesOut.{file_out}

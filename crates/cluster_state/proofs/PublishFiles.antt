@@ -1,5 +1,5 @@
 -- What each path of the primary leaves of files and jobs, from what its calls say.
-use Rattle.std.proofs.Common.{◌≡◌, ◌≢◌, ◌≤◌, ◌+◌, ℕ, Bool, true, false, List, [], ◌∷◌, ◌++◌, Some, None, Option, Vec, Global, refl, ap, ◌∙◌, sym, subst, arith}
+use Rattle.std.proofs.Common.{◌≡◌, ◌+◌, ℕ, Bool, true, false, List, [], ◌∷◌, ◌++◌, Some, Option, Vec, Global, refl, ap, ◌∙◌, sym, subst, arith}
 use Rattle.nrt_base.specs.declared.numbers.At.{At}
 use Rattle.nrt_base.specs.declared.numbers.Gen.{Gen}
 use Rattle.nrt_base.specs.declared.numbers.NodeNo.{NodeNo}
@@ -19,19 +19,17 @@ use Rattle.history_book.specs.declared.inner.Inner.TheVariants.{FlushOut}
 use Rattle.history_book.specs.Laws.{IsFresh}
 use Rattle.history_book.specs.Turns.{AreInTurn}
 use Rattle.index_primary.specs.declared.parts.Parts.{Parts as PrimaryParts}
-use Rattle.index_primary.specs.declared.states.Out.{Out}
 use Rattle.index_primary.specs.Primary.{IsPrimary, KeepsHeldBytes}
 use Rattle.index_primary.specs.Calls.{IsPublished, FillsUndrawn, DrawsOnly}
 use Rattle.index_primary.specs.Cut.{infos_drawn, noted, has_put}
 use Rattle.cluster_state.specs.declared.held.Held.{Held}
-use Rattle.cluster_state.specs.declared.nodes.Node.{Node}
 use Rattle.cluster_state.specs.declared.nodes.Node.TheVariants.{Primary}
 use Rattle.cluster_state.specs.declared.nodes.Place.{Place}
 use Rattle.cluster_state.specs.Places.{place_of}
 use Rattle.cluster_state.specs.Run.{Run}
 use Rattle.cluster_state.specs.State.{Shows}
 use Rattle.cluster_state.specs.Files.{FilesShow}
-use Rattle.cluster_state.specs.FileChanges.{SameJob, FillsPrimaryFiles, KeepsFiles}
+use Rattle.cluster_state.specs.FileChanges.{SameJob, FillsPrimaryFiles, KeepsNodeFiles}
 use Rattle.cluster_state.proofs.Frames.{PutsBack, was}
 use Rattle.cluster_state.proofs.FileFrames.{files_one, files_was, files_is, files_moved, files_started, files_published, put_one}
 use Rattle.cluster_state.proofs.Turning.{log_is, nodes_is, past_has, fresh_turn, later_turn}
@@ -55,7 +53,7 @@ same_job log m = record {
 module _ {D : Type 0} (cells : D → Cells) where
   -- ---- the primary's files
 
-  primary_alone : (p : PrimaryParts D) → KeepsFiles cells (Primary p) (Primary p)
+  primary_alone : (p : PrimaryParts D) → KeepsNodeFiles cells (Primary p) (Primary p)
   primary_alone p = (
     record {
       stays = record { held = λ q old new. refl };
@@ -67,7 +65,7 @@ module _ {D : Type 0} (cells : D → Cells) where
     refl,
   )
 
-  accepted_alone : (p : PrimaryParts D) (waiting : List Op) (accepted : ℕ) → KeepsFiles cells (Primary p) (Primary (record p { waiting = waiting; accepted = accepted }))
+  accepted_alone : (p : PrimaryParts D) (waiting : List Op) (accepted : ℕ) → KeepsNodeFiles cells (Primary p) (Primary (record p { waiting = waiting; accepted = accepted }))
   accepted_alone p waiting accepted = (
     record {
       stays = record { held = λ q old new. refl };
@@ -79,8 +77,8 @@ module _ {D : Type 0} (cells : D → Cells) where
     refl,
   )
 
-  started_alone : (p q : PrimaryParts D) (seg : Option SegNo) → q ≡ record p { infos = infos_drawn (has_put p.waiting) p.infos; publish = noted seg p.waiting } → DrawsOnly p q → KeepsFiles cells (Primary p) (Primary q)
-  started_alone p q seg is drawn = subst (λ (z : PrimaryParts D). DrawsOnly p z → KeepsFiles cells (Primary p) (Primary z)) (sym is)
+  started_alone : (p q : PrimaryParts D) (seg : Option SegNo) → q ≡ record p { infos = infos_drawn (has_put p.waiting) p.infos; publish = noted seg p.waiting } → DrawsOnly p q → KeepsNodeFiles cells (Primary p) (Primary q)
+  started_alone p q seg is drawn = subst (λ (z : PrimaryParts D). DrawsOnly p z → KeepsNodeFiles cells (Primary p) (Primary z)) (sym is)
       (λ drawn. (
         record {
           stays = record { held = λ n old new. refl };
@@ -106,15 +104,15 @@ module _ {D : Type 0} (cells : D → Cells) where
   module _ (r : Run) (ended : Bool) (b0 b1 : Pages) (old mid new : List (Option (Place D))) (n : NodeNo) (x : Place D) (p q : PrimaryParts D) (held : Vec Held Global)
       (view : record { ended = ended; nodes = b0.nodes; log = b0.log } ≡ r) (running : r.ended ≡ false) (shows : ended ≡ false → Shows cells b0.log b0.nodes old) (files : ended ≡ false → FilesShow cells b0.log b0.nodes old)
       (e1 : b1.log ≡ b0.log) (n1 : b1.nodes ≡ b0.nodes) (node : IsNode r.nodes n.0) (put : PutsBack cells old mid new n.0 (record { node = Primary q; held = held })) (there : place_of old n.0 ≡ Some x) (is : x ≡ record { node = Primary p; held = held }) where
-    keeps_at : KeepsFiles cells (Primary p) (Primary q) → KeepsFiles cells x.node (Primary q)
-    keeps_at keeps = subst (λ (z : Place D). KeepsFiles cells z.node (Primary q)) (sym is) keeps
+    keeps_at : KeepsNodeFiles cells (Primary p) (Primary q) → KeepsNodeFiles cells x.node (Primary q)
+    keeps_at keeps = subst (λ (z : Place D). KeepsNodeFiles cells z.node (Primary q)) (sym is) keeps
 
     -- a place that was taken out and put back as it was
     pub back_files : q ≡ p → FilesShow cells b1.log b1.nodes new
     back_files same =
         files_is cells r.log b1.log r.nodes b1.nodes new (e1 ∙ log_is r ended b0 view) (n1 ∙ nodes_is r ended b0 view)
         (files_one cells r.nodes r.log r.log old new n.0 (record { node = Primary q; held = held }) x (λ m other. same_job r.log m) (put_one cells n.0 (record { node = Primary q; held = held }) old mid new put) node there
-        (keeps_at (subst (λ (z : PrimaryParts D). KeepsFiles cells (Primary p) (Primary z)) (sym same) (primary_alone p)))
+        (keeps_at (subst (λ (z : PrimaryParts D). KeepsNodeFiles cells (Primary p) (Primary z)) (sym same) (primary_alone p)))
         (was cells r ended b0.nodes b0.log old view running shows) (files_was cells r ended b0.nodes b0.log old view running files))
 
     module _ (b2 : Pages) (at : At) (legal : IsLegalPast b1.nodes (printed b1.log)) (turns : AreInTurn (printed b1.log)) where
@@ -123,7 +121,7 @@ module _ {D : Type 0} (cells : D → Cells) where
       accept_files seq op copy e2 n2 fresh rule next =
           files_moved cells r ended b0 b1 b2 old mid new at (Accepted seq op) n.0 (record { node = Primary q; held = held }) x view running shows files e1 n1 e2 n2 legal turns rule
           (fresh_turn (printed r.log) at (Accepted seq op) (past_has (IsFresh at) r ended b0 view fresh) tt) (λ m. refl) put node there
-          (keeps_at (subst (λ (z : PrimaryParts D). KeepsFiles cells (Primary p) (Primary z)) (sym next) (accepted_alone p (p.waiting ++ copy ∷ []) (p.accepted + 1))))
+          (keeps_at (subst (λ (z : PrimaryParts D). KeepsNodeFiles cells (Primary p) (Primary z)) (sym next) (accepted_alone p (p.waiting ++ copy ∷ []) (p.accepted + 1))))
 
       pub start_files : (b3 : Pages) (seg : Option SegNo) (segs : List Shown) → b2.log ≡ shown at Publishing ∷ b1.log → b2.nodes ≡ b1.nodes → b3.log ≡ kept (FlushOut at seg segs) ∷ b2.log → b3.nodes ≡ b2.nodes
           → IsFresh at (printed b0.log) → KeepsRule r.nodes (printed r.log) at Publishing

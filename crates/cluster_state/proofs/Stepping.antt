@@ -21,8 +21,7 @@ use Rattle.replica_node.specs.Replica.{IsWholeReplica, AreStanding}
 use Rattle.replica_node.specs.Jobs.{IsPointJob}
 use Rattle.replica_node.specs.Sources.{IsSourced, KeepsSource}
 use Rattle.cluster_state.specs.Outs.{want_of}
-use Rattle.cluster_state.specs.FileChanges.{KeepsPrimaryFiles}
-use Rattle.cluster_state.specs.JobChanges.{given_back, IsStateOfPoint, AltersStates, AltersJob, BeginsAt, FinishesAt, TakesPart}
+use Rattle.cluster_state.specs.JobChanges.{given_back, AltersStates, AltersJob, BeginsAt, FinishesAt, TakesPart}
 
 pub out_push : (s t : Out) (ts : List Out) → is_out s ts ≡ true → is_out s (ts ++ t ∷ []) ≡ true
 out_push s t [] out = absurd (true≢false (sym out))

@@ -1,23 +1,21 @@
 -- Nodes that are taken out of their places and put back.
-use Rattle.std.proofs.Common.{◌≡◌, ◌≢◌, ◌≤◌, ◌<◌, ◌==◌, ℕ, Bool, true, false, true≢false, List, Some, None, Option, Vec, Global, refl, ap, ◌∙◌, sym, subst, if◌then◌else◌, length}
-use Rattle.std.specs.Prelude.{IfSome, IsSome, IfOk, OnOk}
+use Rattle.std.proofs.Common.{◌≡◌, ◌≢◌, ◌≤◌, ◌==◌, ℕ, Bool, true, false, List, Some, None, Option, Vec, Global, refl, ap, ◌∙◌, sym, subst, if◌then◌else◌, length}
+use Rattle.std.specs.Prelude.{IfSome, IfOk, OnOk}
 use Rattle.std.proofs.Common.{Result, Ok, Err}
 use Rattle.std.specs.declared.alloc.AllocError.{AllocError}
 use Rattle.copy_job.specs.declared.copying.Part.{Part}
 use Rattle.index_primary.specs.Primary.{IsPrimary}
 use Rattle.index_primary.specs.Calls.{HoldsNoNew}
 use Rattle.cluster_state.proofs.Stepping.{alters_by}
-use Rattle.std.proofs.lemmas.Bool.{eqb-true}
 use Rattle.disk_model.specs.Disk.{Name, Cells}
 use Rattle.index_primary.specs.declared.parts.Parts.{Parts as PrimaryParts}
 use Rattle.replica_node.specs.declared.parts.Parts.{Parts as ReplicaParts}
 use Rattle.cluster_state.specs.declared.held.Held.{Held}
-use Rattle.cluster_state.specs.declared.nodes.Node.{Node}
-use Rattle.cluster_state.specs.declared.nodes.Node.TheVariants.{Primary, Replica, Down}
+use Rattle.cluster_state.specs.declared.nodes.Node.TheVariants.{Primary, Replica}
 use Rattle.cluster_state.specs.declared.nodes.Place.{Place}
 use Rattle.cluster_state.specs.Places.{place_of, IsSlot, HasPrimary}
-use Rattle.cluster_state.specs.JobChanges.{HasReplica, HasJob, AltersStates, BeginsAt, FinishesAt, TakesPart}
-use Rattle.cluster_state.specs.JobPlaces.{StandThere, HoldsOfBoth, AreBoth, MovesOne, MovesBoth, CanBegin, BeginsIn, FinishesIn, ReadsIn, TakesIn}
+use Rattle.cluster_state.specs.JobChanges.{HasReplica, BeginsAt, FinishesAt, TakesPart}
+use Rattle.cluster_state.specs.JobPlaces.{StandThere, HoldsOfBoth, AreBoth, MovesOne, MovesBoth, BeginsIn, FinishesIn, ReadsIn, TakesIn}
 
 module _ {D : Type 0} where
   pub primary_some : (o : Option (Place D)) → HasPrimary o → o ≢ None

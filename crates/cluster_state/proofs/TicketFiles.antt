@@ -25,7 +25,7 @@ use Rattle.cluster_state.specs.Places.{place_of}
 use Rattle.cluster_state.specs.Run.{Run}
 use Rattle.cluster_state.specs.State.{Shows}
 use Rattle.cluster_state.specs.Files.{FilesShow}
-use Rattle.cluster_state.specs.FileChanges.{KeepsFiles}
+use Rattle.cluster_state.specs.FileChanges.{KeepsNodeFiles}
 use Rattle.cluster_state.proofs.Frames.{PutsBack}
 use Rattle.cluster_state.proofs.FileFrames.{files_noted, files_moved}
 use Rattle.cluster_state.proofs.TicketPaths.{may_ask}
@@ -35,7 +35,7 @@ module _ {D : Type 0} (cells : D → Cells) where
   -- ---- a node
 
   -- a ticket of the primary was closed
-  pub primary_closed : (p q : PrimaryParts D) → q ≡ record p { dir = q.dir; files = q.files; searchers = q.searchers } → KeepsHeldBytes cells p q → HoldsNoNew p q → KeepsFiles cells (Primary p) (Primary q)
+  pub primary_closed : (p q : PrimaryParts D) → q ≡ record p { dir = q.dir; files = q.files; searchers = q.searchers } → KeepsHeldBytes cells p q → HoldsNoNew p q → KeepsNodeFiles cells (Primary p) (Primary q)
   primary_closed p q others stays no_new = (
     record {
       stays = stays;
@@ -48,7 +48,7 @@ module _ {D : Type 0} (cells : D → Cells) where
   )
 
   -- or opened
-  pub primary_opened : (p q : PrimaryParts D) → q ≡ record p { files = q.files; searchers = q.searchers } → KeepsHeldBytes cells p q → HoldsNoNew p q → KeepsFiles cells (Primary p) (Primary q)
+  pub primary_opened : (p q : PrimaryParts D) → q ≡ record p { files = q.files; searchers = q.searchers } → KeepsHeldBytes cells p q → HoldsNoNew p q → KeepsNodeFiles cells (Primary p) (Primary q)
   primary_opened p q others stays no_new = (
     record {
       stays = stays;
@@ -61,14 +61,14 @@ module _ {D : Type 0} (cells : D → Cells) where
   )
 
   -- in the terms of a call on a node that is the primary
-  pub opened_node : (x : Node D) (p q : PrimaryParts D) → x ≡ Primary p → q ≡ record p { files = q.files; searchers = q.searchers } → KeepsHeldBytes cells p q → HoldsNoNew p q → KeepsFiles cells x (Primary q)
-  opened_node x p q is others stays no_new = subst (λ (z : Node D). KeepsFiles cells z (Primary q)) (sym is) (primary_opened p q others stays no_new)
+  pub opened_node : (x : Node D) (p q : PrimaryParts D) → x ≡ Primary p → q ≡ record p { files = q.files; searchers = q.searchers } → KeepsHeldBytes cells p q → HoldsNoNew p q → KeepsNodeFiles cells x (Primary q)
+  opened_node x p q is others stays no_new = subst (λ (z : Node D). KeepsNodeFiles cells z (Primary q)) (sym is) (primary_opened p q others stays no_new)
 
-  pub closed_node : (x : Node D) (p q : PrimaryParts D) → x ≡ Primary p → q ≡ record p { dir = q.dir; files = q.files; searchers = q.searchers } → KeepsHeldBytes cells p q → HoldsNoNew p q → KeepsFiles cells x (Primary q)
-  closed_node x p q is others stays no_new = subst (λ (z : Node D). KeepsFiles cells z (Primary q)) (sym is) (primary_closed p q others stays no_new)
+  pub closed_node : (x : Node D) (p q : PrimaryParts D) → x ≡ Primary p → q ≡ record p { dir = q.dir; files = q.files; searchers = q.searchers } → KeepsHeldBytes cells p q → HoldsNoNew p q → KeepsNodeFiles cells x (Primary q)
+  closed_node x p q is others stays no_new = subst (λ (z : Node D). KeepsNodeFiles cells z (Primary q)) (sym is) (primary_closed p q others stays no_new)
 
   -- a node that no call changed
-  pub node_alone : (x : Node D) → KeepsFiles cells x x
+  pub node_alone : (x : Node D) → KeepsNodeFiles cells x x
   node_alone (Primary p) = (
     record {
       stays = record { held = λ q old new. refl };
@@ -88,7 +88,7 @@ module _ {D : Type 0} (cells : D → Cells) where
       → record { ended = ended; nodes = b0.nodes; log = b0.log } ≡ r → r.ended ≡ false → (ended ≡ false → Shows cells b0.log b0.nodes old) → (ended ≡ false → FilesShow cells b0.log b0.nodes old)
       → b1.log ≡ b0.log → b1.nodes ≡ b0.nodes → b2.log ≡ shown at (Opened n t v) ∷ b1.log → b2.nodes ≡ b1.nodes → IsLegalPast b1.nodes (printed b1.log) → AreInTurn (printed b1.log)
       → IsFresh at (printed b0.log) → KeepsRule r.nodes (printed r.log) at (Opened n t v)
-      → PutsBack cells old mid new n.0 y → place_of old n.0 ≡ Some x → KeepsFiles cells x.node y.node → FilesShow cells b2.log b2.nodes new
+      → PutsBack cells old mid new n.0 y → place_of old n.0 ≡ Some x → KeepsNodeFiles cells x.node y.node → FilesShow cells b2.log b2.nodes new
   opened_files r ended b0 b1 b2 old mid new at n t v x y view running shows files e1 n1 e2 n2 legal turns fresh keeps put there kept =
       files_moved cells r ended b0 b1 b2 old mid new at (Opened n t v) n.0 y x view running shows files e1 n1 e2 n2 legal turns keeps
       (fresh_turn (printed r.log) at (Opened n t v) (past_has (IsFresh at) r ended b0 view fresh) tt) (λ m. refl) put keeps.node there kept

@@ -13,14 +13,12 @@ use Rattle.disk_model.proofs.CellLemmas.{same_true}
 use Rattle.segment_infos.specs.declared.infos.Infos.{Infos}
 use Rattle.segment_infos.specs.declared.infos.SegRecord.{SegRecord}
 use Rattle.seg_reader.specs.Shown.{Shown}
-use Rattle.seg_reader.specs.Stands.{IsLiveFileIn, ArePartsIn, IsSegmentIn, StandsWith, StandsFor}
+use Rattle.seg_reader.specs.Stands.{IsLiveFileIn, IsSegmentIn, StandsFor}
 use Rattle.copy_state.specs.declared.meta.FileMetaData.{FileMetaData}
 use Rattle.copy_state.specs.States.{meta_names, meta_in}
-use Rattle.copy_job.specs.Jobs.{reads_under}
 use Rattle.index_primary.specs.declared.parts.Parts.{Parts as PrimaryParts}
 use Rattle.index_primary.specs.declared.states.Out.{Out}
-use Rattle.index_primary.specs.Primary.{IsPrimary, loose_of}
-use Rattle.index_primary.specs.Held.{IsUndrawn}
+use Rattle.index_primary.specs.Primary.{IsPrimary}
 use Rattle.replica_opening.specs.Known.{IsLasting, HasMeta}
 use Rattle.replica_node.specs.declared.job.PointJob.{PointJob}
 use Rattle.replica_node.specs.declared.parts.Parts.{Parts as ReplicaParts}

@@ -1,6 +1,5 @@
 -- What calls leave of the files of a node, and entries of the jobs that the log shows.
 use Rattle.std.specs.Prelude.{ℕ, ◌≡◌, ◌≢◌, ◌≤◌, ◌==◌, Bool, true, false, not, Some, None, ⊤}
-use Rattle.nrt_base.specs.declared.doc.Doc.{Doc}
 use Rattle.nrt_base.specs.declared.numbers.At.{At}
 use Rattle.disk_model.specs.Disk.{Name, Cells}
 use Rattle.index_primary.specs.declared.parts.Parts.{Parts as PrimaryParts}
@@ -77,8 +76,8 @@ module _ {D : Type 0} where
     pub version : new.searchers.point.version ≡ old.searchers.point.version
 
   -- a call of a node left its files and its job as they were
-  abbrev pub KeepsFiles : (D → Cells) → Node D → Node D → Type 0
-  KeepsFiles cells (Primary p) (Primary q) = KeepsPrimaryFiles cells p q × (q.states ≡ p.states)
-  KeepsFiles cells (Replica r) (Replica s) = KeepsReplicaFiles cells r s
-  KeepsFiles cells (Down d) (Down e) = ⊤
-  KeepsFiles cells old new = ⊥
+  abbrev pub KeepsNodeFiles : (D → Cells) → Node D → Node D → Type 0
+  KeepsNodeFiles cells (Primary p) (Primary q) = KeepsPrimaryFiles cells p q × (q.states ≡ p.states)
+  KeepsNodeFiles cells (Replica r) (Replica s) = KeepsReplicaFiles cells r s
+  KeepsNodeFiles cells (Down d) (Down e) = ⊤
+  KeepsNodeFiles cells old new = ⊥

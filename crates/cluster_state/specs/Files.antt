@@ -13,7 +13,7 @@ use Rattle.replica_opening.specs.Known.{HasMeta}
 use Rattle.replica_node.specs.declared.job.PointJob.{PointJob}
 use Rattle.replica_node.specs.declared.parts.Parts.{Parts as ReplicaParts}
 use Rattle.replica_node.specs.Sources.{HeldReadAs, IsSourced}
-use Rattle.history_entries.specs.Nodes.{Past, IsNode, newest_version, version_of}
+use Rattle.history_entries.specs.Nodes.{IsNode, newest_version, version_of}
 use Rattle.history_entries.specs.Lines.{start_entry, before_start, copy_in_flight, highest_copy}
 use Rattle.history_entries.specs.Points.{documents_at}
 use Rattle.history_tables.specs.declared.jobs.Job.{Job}

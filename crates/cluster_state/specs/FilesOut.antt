@@ -1,5 +1,5 @@
 -- What the log shows of files that were handed out to the jobs of copies and settles.
-use Rattle.std.specs.Prelude.{ℕ, List, [], ◌∷◌, Bool, false, ◌&&◌, ◌==◌, if◌then◌else◌, Option, Some, None}
+use Rattle.std.specs.Prelude.{ℕ, [], ◌∷◌, Bool, false, ◌&&◌, ◌==◌, if◌then◌else◌, Option, Some, None}
 use Rattle.nrt_base.specs.declared.numbers.At.{At}
 use Rattle.disk_model.specs.Disk.{Name, Content, same}
 use Rattle.history_entries.specs.Lines.{same_at}

@@ -14,7 +14,7 @@ use Rattle.copy_job.specs.Jobs.{Job, reads_under}
 use Rattle.index_primary.specs.declared.parts.Parts.{Parts as PrimaryParts}
 use Rattle.index_primary.specs.declared.states.Out.{Out}
 use Rattle.index_primary.specs.Primary.{IsPrimary}
-use Rattle.index_primary.specs.States.{out_of, states_without, is_out, IsMetaIn}
+use Rattle.index_primary.specs.States.{out_of, states_without, IsMetaIn}
 use Rattle.replica_node.specs.declared.job.PointJob.{PointJob}
 use Rattle.replica_node.specs.declared.parts.Parts.{Parts as ReplicaParts}
 use Rattle.replica_node.specs.Replica.{IsWholeReplica, AreStanding}
@@ -30,13 +30,13 @@ given_back None states = states
 given_back (Some s) states = states_without s states
 
 -- the next file of a job that is still to come, with the metadata that is wanted of it; none where it lacks none
-abbrev pub IsNextOf : Job → Option (Name × FileMetaData) → Type 0
-IsNextOf j None = j.missing ≡ []
-IsNextOf j (Some file) = (0 < times j.missing file.0) × (meta_in j.want.files file.0 ≡ Some file.1)
+abbrev pub IsNextToFetch : Job → Option (Name × FileMetaData) → Type 0
+IsNextToFetch j None = j.missing ≡ []
+IsNextToFetch j (Some file) = (0 < times j.missing file.0) × (meta_in j.want.files file.0 ≡ Some file.1)
 
 -- the same of a job that copies a point
 abbrev pub IsNextFile : PointJob → Option (Name × FileMetaData) → Type 0
-IsNextFile j file = IsNextOf j.copy file
+IsNextFile j file = IsNextToFetch j.copy file
 
 module _ {D : Type 0} where
   -- a replica is there, with a job

@@ -1,7 +1,6 @@
 -- What the nodes of a cluster are that has just started.
-use Rattle.std.specs.Prelude.{ℕ, ◌≡◌, List, [], None, Some}
+use Rattle.std.specs.Prelude.{ℕ, ◌≡◌, [], None, Some}
 use Rattle.disk_model.specs.Disk.{Name, Cells, Image, IsImage, reads_of}
-use Rattle.segment_infos.specs.declared.infos.Infos.{Infos}
 use Rattle.seg_reader.specs.Stands.{StandsFor, AreSegmentsOf}
 use Rattle.commit_steps.specs.declared.stage.CommitBook.{CommitBook}
 use Rattle.replica_opening.specs.Opening.{opening_infos}

@@ -78,7 +78,7 @@ fn show_end(book: &mut Book, row: JobRow)
 }
 
 impl<D: FaultDir + Drop> ClusterState<D> {
-    ghost use Rattle.std.specs.Prelude.{ℕ, ◌≡◌, ◌≢◌, ◌<◌, ◌∷◌, [], false, true, None, Some, OnOk, OnErr, IfOk, IfSome};
+    ghost use Rattle.std.specs.Prelude.{◌≡◌, ◌≢◌, ◌<◌, ◌∷◌, [], false, true, None, Some, OnOk, OnErr, IfOk};
     ghost use Rattle.copy_state.specs.Meta.{IsMetaOf};
     ghost use Rattle.history_entries.specs.Nodes.{IsNode, IsReplica, primary_of, version_of, newest_version};
     ghost use Rattle.history_entries.specs.Lines.{entries_of_line, start_entry, before_start, highest_switched, SourceSurvives};

@@ -1,6 +1,6 @@
 //! Jobs that copy the primary's point to a replica, in the terms of these two: begun, and ended.
 
-ghost use Rattle.std.specs.Prelude.{ℕ, ◌≡◌, ◌≤◌, ◌<◌, ◌+◌, ◌^◌, None, Some, true, IsSome, IfSome, IfOk, OnOk, [], List};
+ghost use Rattle.std.specs.Prelude.{◌≡◌, ◌≤◌, ◌<◌, ◌+◌, ◌^◌, None, Some, true, IsSome, IfSome, IfOk, OnOk, []};
 ghost use Rattle.disk_model.specs.Disk.{reads_of};
 ghost use Rattle.copy_state.specs.declared.meta.FileMetaData.{FileMetaData};
 ghost use Rattle.copy_state.specs.States.{meta_in};

@@ -39,7 +39,7 @@ fn replicas(alloc: Global, book: &Book) -> Result<Vec<NodeNo>, NoMemory>
 }
 
 impl<D: FaultDir + Drop> ClusterState<D> {
-    ghost use Rattle.std.specs.Prelude.{ℕ, ◌≡◌, ◌≢◌, ◌≤◌, ◌∷◌, [], false, None, Some, OnOk, OnErr, IfOk, IfSome};
+    ghost use Rattle.std.specs.Prelude.{◌≡◌, ◌≢◌, ◌≤◌, ◌∷◌, [], false, None, Some, OnOk, OnErr, IfOk, IfSome};
     ghost use Rattle.std.specs.List.{All};
     ghost use Rattle.history_entries.specs.Nodes.{primary_of};
     ghost use Rattle.history_entries.specs.Lines.{entries_of_line, SourceSurvives};

@@ -5,7 +5,7 @@ ghost use Rattle.std.specs.Option.{option_map};
 ghost use Rattle.disk_model.specs.Disk.{is_among};
 ghost use Rattle.copy_job.specs.Jobs.{IsJob};
 ghost use Rattle.copy_state.specs.States.{meta_in};
-ghost use Rattle.cluster_state.specs.JobChanges.{IsNextOf};
+ghost use Rattle.cluster_state.specs.JobChanges.{IsNextToFetch};
 
 use copy_job::CopyJob;
 use copy_state::{CopyState, FileMetaData};
@@ -69,7 +69,7 @@ fn meta_of<'a>(files: &'a [(FileName, FileMetaData)], name: &FileName) -> Option
 
 /// The next file that a job lacks, with the metadata that is wanted of it.
 pub fn next_file(alloc: Global, job: &CopyJob) -> Result<Option<(FileName, FileMetaData)>, NoMemory>
-    ensures { IfOk result (IsNextOf job.now) }
+    ensures { IfOk result (IsNextToFetch job.now) }
 {
     let Some(name) = job.missing().first() else {
         return Ok(None);

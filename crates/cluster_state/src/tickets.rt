@@ -5,7 +5,7 @@ ghost use Rattle.searcher_switch.specs.Tickets.{ticket_at, tickets_without};
 ghost use Rattle.searcher_switch.specs.Searching.{IsLeaseOf};
 ghost use Rattle.cluster_state.specs.Held.{held_at};
 ghost use Rattle.cluster_state.specs.Places.{place_of, IsSlot, searchers_of, tickets_of};
-ghost use Rattle.cluster_state.specs.FileChanges.{KeepsFiles};
+ghost use Rattle.cluster_state.specs.FileChanges.{KeepsNodeFiles};
 ghost use Rattle.cluster_state.specs.Changes.{KeepsNode, OpensTicket, HoldsMore, HoldsLess, HoldsTicket, IsLeaseUnder};
 
 use crate::held::{Held, Key, hold, let_go, number_held};
@@ -20,7 +20,7 @@ use std::alloc::Global;
 fn acquire<D: Dir + Drop>(alloc: Global, node: &mut Node<D>) -> Result<u64, NoMemory>
     requires { IsSome (searchers_of node.old) }
     ensures keeps { OnOk result (KeepsNode D.cells node.old node.new) }
-    ensures files { OnOk result (KeepsFiles D.cells node.old node.new) }
+    ensures files { OnOk result (KeepsNodeFiles D.cells node.old node.new) }
     ensures opens { IfOk result (λ number. OpensTicket number node.old node.new) }
 {
     match node {
@@ -40,7 +40,7 @@ fn acquire<D: Dir + Drop>(alloc: Global, node: &mut Node<D>) -> Result<u64, NoMe
 fn release<D: Dir + Drop>(node: &mut Node<D>, number: u64)
     requires { is_some (ticket_at number (tickets_of node.old)) ≡ true }
     ensures keeps { KeepsNode D.cells node.old node.new }
-    ensures files { KeepsFiles D.cells node.old node.new }
+    ensures files { KeepsNodeFiles D.cells node.old node.new }
     ensures closed { tickets_of node.new ≡ tickets_without number (tickets_of node.old) }
 {
     match node {
@@ -58,7 +58,7 @@ pub fn hold_ticket<D: Dir + Drop>(
 ) -> Result<(), NoMemory>
     requires { IsSome (searchers_of place.old.node) }
     ensures keeps { OnOk result (KeepsNode D.cells place.old.node place.new.node) }
-    ensures files { OnOk result (KeepsFiles D.cells place.old.node place.new.node) }
+    ensures files { OnOk result (KeepsNodeFiles D.cells place.old.node place.new.node) }
     ensures holds { OnOk result (HoldsMore key place.old place.new) }
 {
     let number = acquire(alloc, &mut place.node)?;
@@ -88,7 +88,7 @@ pub fn give_ticket_back<D: Dir + Drop>(place: &mut Place<D>, key: Key)
     requires { IfSome (held_at place.old.held.items key)
         (λ number. is_some (ticket_at number (tickets_of place.old.node)) ≡ true) }
     ensures keeps { KeepsNode D.cells place.old.node place.new.node }
-    ensures files { KeepsFiles D.cells place.old.node place.new.node }
+    ensures files { KeepsNodeFiles D.cells place.old.node place.new.node }
     ensures less { HoldsLess key place.old place.new }
 {
     let number = number_held(place.held.as_slice(), key);

@@ -1,4 +1,4 @@
-use Rattle.std.proofs.Common.{◌≡◌, ◌∙◌, ap, sym}
+use Rattle.std.proofs.Common.{◌∙◌, ap, sym}
 use Rattle.history_book.specs.Log.{printed}
 use Rattle.cluster_state.specs.Copies.{is_copy_start}
 use Rattle.cluster_state.proofs.JobEnds.{start_is}

@@ -1,4 +1,4 @@
-use Rattle.std.proofs.Common.{◌∙◌, ap}
+use Rattle.std.proofs.Common.{◌∙◌}
 use Rattle.cluster_state.proofs.Stepping.{finishes, alters_by}
 use Rattle.cluster_state.proofs.jobs.finish_job.Goals as goal
 

@@ -1,4 +1,4 @@
-use Rattle.std.proofs.Common.{◌≡◌, ◌∙◌, ◌+◌, ◌∷◌, ◌++◌, [], List, Vec, Global, Option, ap, sym, subst, arith, true≢false}
+use Rattle.std.proofs.Common.{◌∙◌, ◌+◌, List, Vec, Global, Option, ap, sym, subst, arith, true≢false}
 use Rattle.nrt_base.specs.declared.numbers.NodeNo.{NodeNo}
 use Rattle.history_entries.specs.Nodes.{is_at}
 use Rattle.history_book.specs.Log.{printed}

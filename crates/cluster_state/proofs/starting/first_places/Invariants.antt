@@ -1,4 +1,4 @@
-use Rattle.std.proofs.Common.{◌≡◌, ℕ, [], length}
+use Rattle.std.proofs.Common.{◌≡◌, ℕ, length}
 use Rattle.std.specs.Prelude.{IsSomeAnd}
 use Rattle.history_entries.specs.Nodes.{IsNode}
 use Rattle.cluster_state.specs.Places.{place_of}

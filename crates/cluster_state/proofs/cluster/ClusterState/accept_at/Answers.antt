@@ -1,7 +1,7 @@
 use Rattle.std.proofs.Common.{ℕ, ◌+◌, ◌∙◌, ap}
 use Rattle.history_entries.specs.declared.entry.Event.TheVariants.{Accepted}
 use Rattle.cluster_state.proofs.Frames.{slot_at, slot_kept, there_at, rule_at}
-use Rattle.cluster_state.proofs.PublishPaths.{primary_stands, next_numbered, may_accept, accept_path}
+use Rattle.cluster_state.proofs.PublishPaths.{primary_stands, may_accept, accept_path}
 use Rattle.cluster_state.proofs.PublishFiles.{accept_files}
 use Rattle.cluster_state.proofs.cluster.ClusterState.accept_at.Goals as goal
 

@@ -1,4 +1,4 @@
-use Rattle.std.proofs.Common.{◌≡◌, ◌∙◌, ℕ, ap, refl, arith, Option, Some, ◌∷◌}
+use Rattle.std.proofs.Common.{◌∙◌, ℕ, ap, refl, arith, Some, ◌∷◌}
 use Rattle.nrt_base.specs.declared.numbers.Version.{Version}
 use Rattle.history_entries.specs.declared.entry.Event.TheVariants.{Copying}
 use Rattle.history_entries.specs.Nodes.{newest_version}
@@ -6,7 +6,6 @@ use Rattle.history_book.specs.Log.{Log, printed, shown, kept}
 use Rattle.history_book.specs.declared.inner.Inner.TheVariants.{JobBegun}
 use Rattle.history_book.specs.Laws.{IsFresh}
 use Rattle.cluster_state.specs.Run.{Run}
-use Rattle.cluster_state.specs.Copies.{newest_of}
 use Rattle.cluster_state.proofs.Frames.{rule_at}
 use Rattle.cluster_state.proofs.Turning.{past_has}
 use Rattle.cluster_state.proofs.CopyPaths.{can_begin, may_copy, copy_path, copy_turn, copy_begun}

@@ -1,4 +1,4 @@
-use Rattle.std.proofs.Common.{◌≡◌, ◌∙◌, ℕ, ap, refl, arith, Option, Some, ◌∷◌}
+use Rattle.std.proofs.Common.{◌∙◌, ℕ, ap, refl, arith, Some, ◌∷◌}
 use Rattle.nrt_base.specs.declared.numbers.Version.{Version}
 use Rattle.history_entries.specs.Nodes.{newest_version}
 use Rattle.history_book.specs.Log.{Log, printed, kept}

@@ -2,7 +2,7 @@ use Rattle.std.proofs.Common.{◌≡◌, ◌∙◌, ℕ, ap, refl, arith, sym, s
 use Rattle.codec_frame.specs.Bytes.{AreBytes}
 use Rattle.history_book.specs.Log.{Log, printed, kept}
 use Rattle.history_book.specs.declared.inner.Inner.TheVariants.{FileOut}
-use Rattle.cluster_state.specs.Run.{Run, IsNow}
+use Rattle.cluster_state.specs.Run.{Run}
 use Rattle.cluster_state.specs.JobChanges.{HasNextFile}
 use Rattle.cluster_state.specs.Places.{place_of}
 use Rattle.cluster_state.proofs.HandPaths.{next_slot, next_job, can_read, hand_path, hand_meta, hand_footer}

@@ -1,7 +1,4 @@
-use Rattle.std.proofs.Common.{◌≡◌, ◌∙◌, sym, subst}
-use Rattle.history_entries.specs.Nodes.{primary_of}
-use Rattle.history_book.specs.Log.{printed}
-use Rattle.cluster_state.specs.Run.{Run}
+use Rattle.std.proofs.Common.{◌∙◌, sym}
 use Rattle.cluster_state.proofs.JobEnds.{source_ends}
 use Rattle.cluster_state.proofs.cluster.ClusterState.source_of.Goals as goal
 

@@ -1,5 +1,5 @@
-use Rattle.std.proofs.Common.{◌≡◌, refl, ap}
-use Rattle.cluster_state.specs.Run.{Run, IsNow}
+use Rattle.std.proofs.Common.{refl, ap}
+use Rattle.cluster_state.specs.Run.{Run}
 use Rattle.cluster_state.proofs.PartPaths.{can_take, part_path}
 use Rattle.cluster_state.proofs.cluster.ClusterState.take_part.Goals as goal
 
