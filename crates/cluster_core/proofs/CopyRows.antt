@@ -31,7 +31,7 @@ use Rattle.history_book.proofs.OpenLaws.{last_started}
 use Rattle.history_book.proofs.ReignLaws.{start_kept, reigns_on}
 use Rattle.script_serving.specs.declared.script.LineCommand.TheVariants.{Copy}
 use Rattle.script_serving.specs.Refusals.{refusal}
-use Rattle.cluster_state.specs.declared.tasks.CopyTask.{CopyTask}
+use Rattle.cluster_places.specs.declared.tasks.CopyTask.{CopyTask}
 use Rattle.cluster_state.specs.Run.{Run}
 use Rattle.cluster_core.specs.declared.turn.Turn.{Turn}
 use Rattle.cluster_core.specs.declared.turn.Turn.TheVariants.{Work, Done, Busy}

@@ -22,7 +22,8 @@ ghost use Rattle.cluster_core.specs.CopyCalls.{IsBeingCopied, CopyStarts, CopySt
 use crate::refusals::refuse_turn;
 use crate::standing::Standing;
 use crate::turn::Turn;
-use cluster_state::{ClusterState, CopyTask, FileTask};
+use cluster_places::{CopyTask, FileTask};
+use cluster_state::ClusterState;
 use copy_job::Part;
 use disk_model::FaultDir;
 use history_book::{Book, JobRow, Start};

@@ -4,7 +4,7 @@ use crate::cluster::Cluster;
 use crate::copies::{copy_arrived, copy_next, copy_start};
 use crate::settles::{settle_next, settle_start};
 use crate::turn::Turn;
-use cluster_state::{CopyTask, FileTask, SettleTask};
+use cluster_places::{CopyTask, FileTask, SettleTask};
 use copy_job::Part;
 use disk_model::FaultDir;
 use history_entries::Event;
@@ -23,7 +23,7 @@ impl<D: FaultDir + Drop> Cluster<D> {
     ghost use Rattle.history_book.specs.Jobs.{job_of};
     ghost use Rattle.script_serving.specs.declared.script.LineCommand.{LineCommand};
     ghost use Rattle.script_serving.specs.declared.script.LineCommand.TheVariants.{Copy, Settle};
-    ghost use Rattle.cluster_state.specs.declared.tasks.SettleTask.{SettleTask};
+    ghost use Rattle.cluster_places.specs.declared.tasks.SettleTask.{SettleTask};
     ghost use Rattle.cluster_state.specs.Run.{IsNow, IsEnded};
     ghost use Rattle.cluster_state.specs.FilesOut.{file_out};
     ghost use Rattle.cluster_state.specs.Copies.{newest_of, IsCopying, JobRuns};

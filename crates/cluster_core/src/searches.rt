@@ -13,7 +13,8 @@ ghost use Rattle.cluster_core.specs.Calls.{SearchStarts, AskStarts, ScansAt, Ans
 
 use crate::refusals::refuse_turn;
 use crate::turn::Turn;
-use cluster_state::{ClusterState, Key};
+use cluster_places::Key;
+use cluster_state::ClusterState;
 use disk_model::FaultDir;
 use documents::{Answer, Query};
 use history_book::Start;

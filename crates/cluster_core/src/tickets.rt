@@ -9,7 +9,8 @@ ghost use Rattle.cluster_state.specs.Run.{IsNow, IsEnded};
 ghost use Rattle.cluster_core.specs.Calls.{open_event, close_by};
 
 use crate::refusals::refuse;
-use cluster_state::{ClusterState, Key};
+use cluster_places::Key;
+use cluster_state::ClusterState;
 use disk_model::FaultDir;
 use history_entries::{Cause, Event};
 use nrt_base::{At, NoMemory, NodeNo, TicketNo};

@@ -23,9 +23,9 @@ use Rattle.history_entries.specs.Nodes.{Past, newest_version}
 use Rattle.script_serving.specs.declared.script.LineCommand.{LineCommand}
 use Rattle.script_serving.specs.declared.script.LineCommand.TheVariants.{Copy, Settle}
 use Rattle.script_serving.specs.Refusals.{refusal}
-use Rattle.cluster_state.specs.declared.tasks.CopyTask.{CopyTask}
-use Rattle.cluster_state.specs.declared.tasks.FileTask.{FileTask}
-use Rattle.cluster_state.specs.declared.tasks.SettleTask.{SettleTask}
+use Rattle.cluster_places.specs.declared.tasks.CopyTask.{CopyTask}
+use Rattle.cluster_places.specs.declared.tasks.FileTask.{FileTask}
+use Rattle.cluster_places.specs.declared.tasks.SettleTask.{SettleTask}
 use Rattle.cluster_state.specs.Run.{Run, IsNow}
 use Rattle.cluster_state.specs.FilesOut.{is_by, is_job, file_out}
 use Rattle.cluster_state.specs.Copies.{newest_of, IsCopying, JobRuns, BeginsJob, HandsFile, ended_log, GoesOn}

@@ -8,8 +8,8 @@ use Rattle.history_tables.specs.declared.jobs.JobRow.{JobRow}
 use Rattle.history_book.specs.Log.{Log, printed}
 use Rattle.history_book.specs.Jobs.{last_job}
 use Rattle.script_serving.specs.declared.script.LineCommand.{LineCommand}
-use Rattle.cluster_state.specs.declared.tasks.CopyTask.{CopyTask}
-use Rattle.cluster_state.specs.declared.tasks.SettleTask.{SettleTask}
+use Rattle.cluster_places.specs.declared.tasks.CopyTask.{CopyTask}
+use Rattle.cluster_places.specs.declared.tasks.SettleTask.{SettleTask}
 use Rattle.cluster_state.specs.Run.{Run}
 use Rattle.cluster_state.specs.Copies.{IsCopying, JobRuns}
 use Rattle.cluster_state.specs.Settles.{IsSettling}

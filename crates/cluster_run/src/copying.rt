@@ -13,7 +13,7 @@ ghost use Rattle.cluster_run.specs.Going.{HaveJobsEnded};
 ghost use Rattle.cluster_run.specs.Running.{EndsLine};
 
 use cluster_core::{Cluster, Turn};
-use cluster_state::{CopyTask, FileTask};
+use cluster_places::{CopyTask, FileTask};
 use copy_job::{Part, copy_file};
 use disk_model::FaultDir;
 use link_model::MemLink;

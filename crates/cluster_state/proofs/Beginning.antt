@@ -46,24 +46,24 @@ use Rattle.history_book.specs.declared.inner.Inner.TheVariants.{JobBegun}
 use Rattle.history_book.specs.Jobs.{last_job, job_at, IsOlder}
 use Rattle.history_book.specs.Turns.{InTurn, AreInTurn}
 use Rattle.history_book.proofs.ReignLaws.{crashed_low}
-use Rattle.cluster_state.specs.declared.nodes.Node.{Node}
-use Rattle.cluster_state.specs.declared.nodes.Node.TheVariants.{Primary, Replica, Down}
-use Rattle.cluster_state.specs.declared.nodes.Place.{Place}
-use Rattle.cluster_state.specs.Places.{place_of}
+use Rattle.cluster_places.specs.declared.nodes.Node.{Node}
+use Rattle.cluster_places.specs.declared.nodes.Node.TheVariants.{Primary, Replica, Down}
+use Rattle.cluster_places.specs.declared.nodes.Place.{Place}
+use Rattle.cluster_places.specs.Places.{place_of}
 use Rattle.cluster_state.specs.State.{PrimaryShows, NodeShows, Shows}
 use Rattle.cluster_state.specs.FilesOut.{is_job, file_out}
-use Rattle.cluster_state.specs.Outs.{want_of, want_at, one_like, jobs_like, states_like}
+use Rattle.cluster_places.specs.Outs.{want_of, want_at, one_like, jobs_like, states_like}
 use Rattle.cluster_state.specs.Files.{CopyShows, JobShows, IsJobFor, reached_version, ReplicaFiles, PrimaryFiles, NodeFiles, FilesShow}
 use Rattle.cluster_state.specs.FileChanges.{SameJob}
-use Rattle.cluster_state.specs.JobChanges.{given_back, IsStateOfPoint, BeginsAt}
-use Rattle.cluster_state.specs.JobPlaces.{BeginsIn}
+use Rattle.cluster_places.specs.JobChanges.{given_back, IsStateOfPoint, BeginsAt}
+use Rattle.cluster_places.specs.JobPlaces.{BeginsIn}
 use Rattle.cluster_state.proofs.Frames.{some_at}
 use Rattle.cluster_state.proofs.JobFrames.{same_shown, same_inner, same_then}
-use Rattle.cluster_state.proofs.OutCounts.{states_push, states_given, jobs_moved}
+use Rattle.cluster_places.proofs.OutCounts.{states_push, states_given, jobs_moved}
 use Rattle.cluster_state.proofs.Wider.{primary_kept}
 use Rattle.cluster_state.proofs.FileFrames.{replica_same, both_each, both_of, Both}
 use Rattle.cluster_state.proofs.FileJobs.{job_out}
-use Rattle.cluster_state.proofs.Stepping.{out_pushed}
+use Rattle.cluster_places.proofs.Stepping.{out_pushed}
 
 -- ---- the past
 

@@ -8,10 +8,10 @@ use Rattle.history_entries.specs.Nodes.{Past}
 use Rattle.history_entries.specs.Tickets.{open_ticket, IsTicketOf}
 use Rattle.nrt_base.specs.declared.numbers.At.{At}
 use Rattle.history_tables.proofs.RowLemmas.{by_test}
-use Rattle.cluster_state.specs.declared.held.Held.{Held}
-use Rattle.cluster_state.specs.declared.held.Key.{Key}
-use Rattle.cluster_state.specs.declared.held.Key.TheVariants.{Search}
-use Rattle.cluster_state.specs.Held.{same_key, held_at}
+use Rattle.cluster_places.specs.declared.held.Held.{Held}
+use Rattle.cluster_places.specs.declared.held.Key.{Key}
+use Rattle.cluster_places.specs.declared.held.Key.TheVariants.{Search}
+use Rattle.cluster_places.specs.Held.{same_key, held_at}
 use Rattle.cluster_state.specs.Lookups.{IsSearching}
 use Rattle.cluster_state.specs.State.{Stands, HoldsAt, ticket_key, HoldsTickets}
 use Rattle.disk_model.specs.Disk.{Cells}
@@ -22,11 +22,11 @@ use Rattle.history_entries.specs.Lines.{start_entry}
 use Rattle.history_entries.specs.Legal.{KeepsRule, IsLegalPast}
 use Rattle.history_book.specs.Log.{Log, printed, shown}
 use Rattle.history_book.specs.Turns.{AreInTurn}
-use Rattle.cluster_state.specs.declared.nodes.Node.{Node}
-use Rattle.cluster_state.specs.declared.nodes.Place.{Place}
-use Rattle.cluster_state.specs.Places.{tickets_of}
+use Rattle.cluster_places.specs.declared.nodes.Node.{Node}
+use Rattle.cluster_places.specs.declared.nodes.Place.{Place}
+use Rattle.cluster_places.specs.Places.{tickets_of}
 use Rattle.cluster_state.specs.State.{PlaceShows}
-use Rattle.cluster_state.specs.Changes.{KeepsNode, ClosesTicket, HoldsLess}
+use Rattle.cluster_places.specs.Changes.{KeepsNode, ClosesTicket, HoldsLess}
 use Rattle.cluster_state.specs.Moves.{moves, EndsKey}
 use Rattle.cluster_state.proofs.Growing.{stands_more, same, not_flying}
 use Rattle.cluster_state.proofs.Frames.{some_then, node_same}

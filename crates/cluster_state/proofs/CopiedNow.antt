@@ -21,11 +21,11 @@ use Rattle.history_book.specs.Log.{Log, Pages, printed, shown}
 use Rattle.history_book.specs.Laws.{IsFresh}
 use Rattle.history_book.specs.Turns.{InTurn, AreInTurn}
 use Rattle.history_book.specs.Jobs.{last_job, job_at}
-use Rattle.cluster_state.specs.declared.nodes.Node.{Node}
-use Rattle.cluster_state.specs.declared.nodes.Node.TheVariants.{Primary, Replica, Down}
-use Rattle.cluster_state.specs.declared.nodes.Place.{Place}
-use Rattle.cluster_state.specs.Places.{place_of}
-use Rattle.cluster_state.specs.Outs.{jobs_like}
+use Rattle.cluster_places.specs.declared.nodes.Node.{Node}
+use Rattle.cluster_places.specs.declared.nodes.Node.TheVariants.{Primary, Replica, Down}
+use Rattle.cluster_places.specs.declared.nodes.Place.{Place}
+use Rattle.cluster_places.specs.Places.{place_of}
+use Rattle.cluster_places.specs.Outs.{jobs_like}
 use Rattle.cluster_state.specs.Run.{Run}
 use Rattle.cluster_state.specs.State.{NodeShows, Shows}
 use Rattle.cluster_state.specs.Files.{JobShows, IsJobFor, ReplicaFiles, NodeFiles, FilesShow}

@@ -34,15 +34,15 @@ use Rattle.history_book.specs.Jobs.{last_job, job_at, job_of, IsOlder, StartsJob
 use Rattle.history_book.specs.Turns.{InTurn, AreInTurn}
 use Rattle.history_book.specs.Laws.{IsFresh}
 use Rattle.history_book.proofs.ReignLaws.{start_kept}
-use Rattle.cluster_state.specs.declared.nodes.Node.TheVariants.{Primary, Replica}
-use Rattle.cluster_state.specs.declared.nodes.Place.{Place}
+use Rattle.cluster_places.specs.declared.nodes.Node.TheVariants.{Primary, Replica}
+use Rattle.cluster_places.specs.declared.nodes.Place.{Place}
 use Rattle.cluster_state.specs.Run.{Run}
-use Rattle.cluster_state.specs.Places.{place_of, HasPrimary}
+use Rattle.cluster_places.specs.Places.{place_of, HasPrimary}
 use Rattle.cluster_state.specs.State.{Shows}
-use Rattle.cluster_state.specs.Outs.{jobs_like}
+use Rattle.cluster_places.specs.Outs.{jobs_like}
 use Rattle.cluster_state.specs.Files.{JobShows, IsJobFor, reached_version, ReplicaFiles, FilesShow}
-use Rattle.cluster_state.specs.JobChanges.{HasReplica}
-use Rattle.cluster_state.specs.JobPlaces.{CanBegin, BeginsIn}
+use Rattle.cluster_places.specs.JobChanges.{HasReplica}
+use Rattle.cluster_places.specs.JobPlaces.{CanBegin, BeginsIn}
 use Rattle.cluster_state.specs.Copies.{newest_of, BeginsJob}
 use Rattle.cluster_state.specs.Settles.{WaitsFor}
 use Rattle.cluster_state.proofs.Frames.{some_at, was, now_is, slot_of, place_shows, shows_still}

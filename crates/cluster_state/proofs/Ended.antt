@@ -11,8 +11,8 @@ use Rattle.history_entries.specs.Nodes.{Past}
 use Rattle.history_entries.specs.Lines.{same_at}
 use Rattle.history_entries.specs.Tickets.{Ticket, is_ticket, last_opened, while_alive, open_ticket, IsTicketOf}
 use Rattle.history_tables.specs.Begins.{open_line}
-use Rattle.cluster_state.specs.declared.held.Key.TheVariants.{Ticket as TicketKey, Search}
-use Rattle.cluster_state.specs.Held.{same_key}
+use Rattle.cluster_places.specs.declared.held.Key.TheVariants.{Ticket as TicketKey, Search}
+use Rattle.cluster_places.specs.Held.{same_key}
 use Rattle.cluster_state.specs.Lookups.{IsSearchAt, IsSearching}
 use Rattle.cluster_state.specs.State.{ticket_key}
 use Rattle.cluster_state.specs.Moves.{EndsKey}

@@ -42,24 +42,24 @@ use Rattle.history_book.specs.declared.inner.Inner.TheVariants.{JobEnd}
 use Rattle.history_book.specs.Jobs.{job_at, last_job, StartsJob, LaneJobShows}
 use Rattle.history_book.specs.Turns.{AreInTurn}
 use Rattle.history_book.proofs.LineLaws.{without_some}
-use Rattle.cluster_state.specs.declared.held.Held.{Held}
-use Rattle.cluster_state.specs.declared.nodes.Node.{Node}
-use Rattle.cluster_state.specs.declared.nodes.Node.TheVariants.{Primary, Replica, Down}
-use Rattle.cluster_state.specs.declared.nodes.Place.{Place}
+use Rattle.cluster_places.specs.declared.held.Held.{Held}
+use Rattle.cluster_places.specs.declared.nodes.Node.{Node}
+use Rattle.cluster_places.specs.declared.nodes.Node.TheVariants.{Primary, Replica, Down}
+use Rattle.cluster_places.specs.declared.nodes.Place.{Place}
 use Rattle.cluster_state.specs.Run.{Run}
-use Rattle.cluster_state.specs.Places.{place_of, HasPrimary}
+use Rattle.cluster_places.specs.Places.{place_of, HasPrimary}
 use Rattle.cluster_state.specs.State.{Stands, HoldsTickets, NodeShows, PlaceShows, Shows}
 use Rattle.cluster_state.specs.Moves.{Lasts}
-use Rattle.cluster_state.specs.Outs.{one_like, want_of, want_at, jobs_like, states_like}
+use Rattle.cluster_places.specs.Outs.{one_like, want_of, want_at, jobs_like, states_like}
 use Rattle.cluster_state.specs.Files.{CopyShows, JobShows, IsJobFor, reached_version, ReplicaFiles, PrimaryFiles, NodeFiles, FilesShow}
 use Rattle.cluster_state.specs.FileChanges.{SameJob}
 use Rattle.cluster_state.specs.Copies.{JobRuns, ended_log}
-use Rattle.cluster_state.specs.JobChanges.{HasReplica, HasNextFile, IsNextFile, FinishesAt}
-use Rattle.cluster_state.specs.JobPlaces.{CanFinish, FinishesIn, MovesBoth}
+use Rattle.cluster_places.specs.JobChanges.{HasReplica, HasNextFile, IsNextFile, FinishesAt}
+use Rattle.cluster_places.specs.JobPlaces.{CanFinish, FinishesIn, MovesBoth}
 use Rattle.cluster_state.proofs.Growing.{lasts, fewer, same, not_flying}
 use Rattle.cluster_state.proofs.Frames.{some_at, holds_same, place_same, shows_still, slot_of, was}
 use Rattle.cluster_state.proofs.JobFrames.{IsCopyStart, copy_flying, same_shown, same_inner, same_then}
-use Rattle.cluster_state.proofs.OutCounts.{jobs_moved, states_back}
+use Rattle.cluster_places.proofs.OutCounts.{jobs_moved, states_back}
 use Rattle.cluster_state.proofs.Wider.{primary_kept}
 use Rattle.cluster_state.proofs.FileFrames.{Both, both_of, both_each, replica_same, files_was}
 use Rattle.cluster_state.proofs.FileJobs.{PrimaryHere, ReplicaHere, JobHere, primary_here, replica_here, job_here, job_out, runs_at}

@@ -28,20 +28,21 @@ use Rattle.history_book.specs.declared.inner.Inner.{Inner}
 use Rattle.history_book.specs.declared.inner.Inner.TheVariants.{FlushOut}
 use Rattle.history_book.specs.Jobs.{job_at}
 use Rattle.history_book.specs.Turns.{InTurn, AreInTurn}
-use Rattle.cluster_state.specs.declared.held.Held.{Held}
-use Rattle.cluster_state.specs.declared.nodes.Node.{Node}
-use Rattle.cluster_state.specs.declared.nodes.Node.TheVariants.{Primary, Replica, Down}
-use Rattle.cluster_state.specs.declared.nodes.Place.{Place}
-use Rattle.cluster_state.specs.Places.{place_of}
+use Rattle.cluster_places.specs.declared.held.Held.{Held}
+use Rattle.cluster_places.specs.declared.nodes.Node.{Node}
+use Rattle.cluster_places.specs.declared.nodes.Node.TheVariants.{Primary, Replica, Down}
+use Rattle.cluster_places.specs.declared.nodes.Place.{Place}
+use Rattle.cluster_places.specs.Places.{place_of}
 use Rattle.cluster_state.specs.Run.{Run}
 use Rattle.cluster_state.specs.State.{NodeShows, PlaceShows, Shows}
-use Rattle.cluster_state.specs.Outs.{want_of, want_at, jobs_like, states_like}
+use Rattle.cluster_places.specs.Outs.{want_of, want_at, jobs_like, states_like}
 use Rattle.cluster_state.specs.Files.{CopyShows, JobShows, IsJobFor, reached_version, ReplicaFiles, NodeFiles, FilesShow}
-use Rattle.cluster_state.specs.FileChanges.{keeps_jobs, SameJob, FillsPrimaryFiles, KeepsReplicaFiles, KeepsNodeFiles}
-use Rattle.cluster_state.specs.JobPlaces.{MovesOne, MovesBoth}
+use Rattle.cluster_places.specs.KeptFiles.{FillsPrimaryFiles, KeepsReplicaFiles, KeepsNodeFiles}
+use Rattle.cluster_state.specs.FileChanges.{keeps_jobs, SameJob}
+use Rattle.cluster_places.specs.JobPlaces.{MovesOne, MovesBoth}
 use Rattle.cluster_state.proofs.Frames.{some_then, some_at, was, PutsBack}
 use Rattle.cluster_state.proofs.JobFrames.{same_shown, same_inner, same_then}
-use Rattle.cluster_state.proofs.OutCounts.{jobs_same}
+use Rattle.cluster_places.proofs.OutCounts.{jobs_same}
 use Rattle.cluster_state.proofs.Wider.{widened, widened_more, shows_wider, sourced_wider, primary_kept, primary_filled}
 
 -- ---- places

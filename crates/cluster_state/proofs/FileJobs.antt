@@ -25,18 +25,18 @@ use Rattle.history_book.specs.Log.{Log, printed}
 use Rattle.history_book.specs.Jobs.{job_step, last_job, job_at, job_of, IsOlder, LaneJobShows}
 use Rattle.history_book.proofs.LineLaws.{and_false}
 use Rattle.history_book.proofs.ReignLaws.{node_alive, source_alive}
-use Rattle.cluster_state.specs.declared.held.Held.{Held}
-use Rattle.cluster_state.specs.declared.nodes.Node.{Node}
-use Rattle.cluster_state.specs.declared.nodes.Node.TheVariants.{Primary, Replica, Down}
-use Rattle.cluster_state.specs.declared.nodes.Place.{Place}
-use Rattle.cluster_state.specs.Places.{place_of}
+use Rattle.cluster_places.specs.declared.held.Held.{Held}
+use Rattle.cluster_places.specs.declared.nodes.Node.{Node}
+use Rattle.cluster_places.specs.declared.nodes.Node.TheVariants.{Primary, Replica, Down}
+use Rattle.cluster_places.specs.declared.nodes.Place.{Place}
+use Rattle.cluster_places.specs.Places.{place_of}
 use Rattle.cluster_state.specs.State.{PlaceShows, Shows}
-use Rattle.cluster_state.specs.Outs.{want_of, want_at, jobs_like}
+use Rattle.cluster_places.specs.Outs.{want_of, want_at, jobs_like}
 use Rattle.cluster_state.specs.Files.{CopyShows, JobShows, IsJobFor, ReplicaFiles, PrimaryFiles, FilesShow}
 use Rattle.cluster_state.specs.Copies.{JobRuns}
-use Rattle.cluster_state.specs.JobPlaces.{IsPrimaryAt, IsReplicaAt}
+use Rattle.cluster_places.specs.JobPlaces.{IsPrimaryAt, IsReplicaAt}
 use Rattle.cluster_state.proofs.Frames.{slot_of}
-use Rattle.cluster_state.proofs.OutCounts.{is_there, job_counted}
+use Rattle.cluster_places.proofs.OutCounts.{is_there, job_counted}
 use Rattle.cluster_state.proofs.FileFrames.{both_of, Both}
 
 -- ---- the job of a lane that runs is the one that runs at its node

@@ -42,20 +42,20 @@ use Rattle.index_primary.specs.Primary.{IsPrimary}
 use Rattle.index_primary.specs.Held.{IsHeld, AreUndrawn, AreNumbered}
 use Rattle.index_primary.specs.Calls.{IsOpenedOn}
 use Rattle.index_primary.proofs.Callers.{empty_numbered}
-use Rattle.cluster_state.specs.declared.held.Held.{Held}
-use Rattle.cluster_state.specs.declared.nodes.Node.TheVariants.{Primary, Replica, Down}
-use Rattle.cluster_state.specs.declared.nodes.Place.{Place}
-use Rattle.cluster_state.specs.Places.{place_of, unwrapped}
+use Rattle.cluster_places.specs.declared.held.Held.{Held}
+use Rattle.cluster_places.specs.declared.nodes.Node.TheVariants.{Primary, Replica, Down}
+use Rattle.cluster_places.specs.declared.nodes.Place.{Place}
+use Rattle.cluster_places.specs.Places.{place_of, unwrapped}
 use Rattle.cluster_state.specs.Starting.{IsEmptyDir, IsOpening, OpensPlace}
 use Rattle.cluster_state.specs.Files.{JobShows, reached_version, PrimaryFiles, ReplicaFiles, NodeFiles, FilesShow}
-use Rattle.cluster_state.specs.Outs.{want_of, one_like, want_at, jobs_like}
+use Rattle.cluster_places.specs.Outs.{want_of, one_like, want_at, jobs_like}
 use Rattle.index_primary.specs.declared.states.Out.{Out}
 use Rattle.index_primary.specs.Primary.{primary_names}
 use Rattle.index_primary.specs.States.{state_names, merge_names}
 use Rattle.file_deleter.specs.Holdings.{count_of}
 use Rattle.nrt_base.specs.declared.numbers.At.{At}
 use Rattle.replica_node.specs.declared.job.PointJob.{PointJob}
-use Rattle.cluster_state.specs.declared.nodes.Node.{Node}
+use Rattle.cluster_places.specs.declared.nodes.Node.{Node}
 use Rattle.cluster_state.specs.State.{IsPointAt, WritesAt, HoldsTickets, PrimaryShows, PlaceShows, Shows}
 
 -- an empty directory shows no commit

@@ -27,12 +27,12 @@ use Rattle.history_book.specs.Turns.{AreInTurn}
 use Rattle.index_primary.specs.declared.parts.Parts.{Parts as PrimaryParts}
 use Rattle.index_primary.specs.declared.parts.Publish.{Publish}
 use Rattle.replica_node.specs.declared.parts.Parts.{Parts as ReplicaParts}
-use Rattle.cluster_state.specs.declared.held.Held.{Held}
-use Rattle.cluster_state.specs.declared.nodes.Node.{Node}
-use Rattle.cluster_state.specs.declared.nodes.Node.TheVariants.{Primary, Replica, Down}
-use Rattle.cluster_state.specs.declared.nodes.Place.{Place}
+use Rattle.cluster_places.specs.declared.held.Held.{Held}
+use Rattle.cluster_places.specs.declared.nodes.Node.{Node}
+use Rattle.cluster_places.specs.declared.nodes.Node.TheVariants.{Primary, Replica, Down}
+use Rattle.cluster_places.specs.declared.nodes.Place.{Place}
 use Rattle.cluster_state.specs.Lookups.{Handed, handed_by, or_older, flush_out}
-use Rattle.cluster_state.specs.Places.{place_of, IsSlot, tickets_of}
+use Rattle.cluster_places.specs.Places.{place_of, IsSlot, tickets_of}
 use Rattle.cluster_state.specs.Run.{Run}
 use Rattle.cluster_state.specs.State.{Stands, IsPointAt, HoldsTickets, FlightShows, WritesAt, PrimaryShows, ReplicaShows, NodeShows, PlaceShows, Shows}
 use Rattle.cluster_state.specs.Moves.{moves, moves_tickets, FlightStays, Lasts, Fewer, WritesOn, Same}

@@ -15,17 +15,17 @@ use Rattle.history_tables.specs.declared.jobs.JobRow.{JobRow}
 use Rattle.history_book.specs.Log.{Log, Pages, printed, kept}
 use Rattle.history_book.specs.declared.inner.Inner.TheVariants.{FileOut}
 use Rattle.history_book.specs.Jobs.{job_at, LaneJobShows}
-use Rattle.cluster_state.specs.declared.held.Held.{Held}
-use Rattle.cluster_state.specs.declared.nodes.Node.TheVariants.{Primary}
-use Rattle.cluster_state.specs.declared.nodes.Place.{Place}
+use Rattle.cluster_places.specs.declared.held.Held.{Held}
+use Rattle.cluster_places.specs.declared.nodes.Node.TheVariants.{Primary}
+use Rattle.cluster_places.specs.declared.nodes.Place.{Place}
 use Rattle.cluster_state.specs.Run.{Run}
-use Rattle.cluster_state.specs.Places.{place_of, IsSlot, HasPrimary}
+use Rattle.cluster_places.specs.Places.{place_of, IsSlot, HasPrimary}
 use Rattle.cluster_state.specs.State.{Shows}
-use Rattle.cluster_state.specs.Outs.{jobs_like}
+use Rattle.cluster_places.specs.Outs.{jobs_like}
 use Rattle.cluster_state.specs.Files.{FilesShow}
 use Rattle.cluster_state.specs.Copies.{JobRuns}
-use Rattle.cluster_state.specs.JobChanges.{HasJob, HasNextFile}
-use Rattle.cluster_state.specs.JobPlaces.{CanRead, ReadsIn}
+use Rattle.cluster_places.specs.JobChanges.{HasJob, HasNextFile}
+use Rattle.cluster_places.specs.JobPlaces.{CanRead, ReadsIn}
 use Rattle.cluster_state.proofs.Frames.{some_at, was, now_is, slot_of}
 use Rattle.cluster_state.proofs.FileFrames.{both_of, Both, files_was, files_is}
 use Rattle.cluster_state.proofs.FileJobs.{ReplicaHere, JobHere, primary_here, replica_here, job_here, job_out, runs_at}

@@ -18,7 +18,6 @@ use Rattle.index_primary.specs.Held.{IsHeld}
 use Rattle.index_primary.specs.States.{IsFramedIn}
 use Rattle.index_primary.proofs.Framing.{held_framed}
 use Rattle.history_entries.specs.Points.{documents_at}
-use Rattle.copy_state.specs.Meta.{IsMetaOf}
 use Rattle.copy_state.specs.States.{meta_names, meta_in}
 use Rattle.commit_steps.proofs.Safe.{contains_of}
 use Rattle.searcher_switch.specs.Searching.{searcher_names}
@@ -39,20 +38,20 @@ use Rattle.history_book.specs.Log.{Log, printed, kept}
 use Rattle.history_book.specs.declared.inner.Inner.{Inner}
 use Rattle.history_book.specs.declared.inner.Inner.TheVariants.{FileOut}
 use Rattle.history_book.specs.Jobs.{last_job, job_at}
-use Rattle.cluster_state.specs.declared.held.Held.{Held}
-use Rattle.cluster_state.specs.declared.nodes.Node.{Node}
-use Rattle.cluster_state.specs.declared.nodes.Node.TheVariants.{Primary, Replica, Down}
-use Rattle.cluster_state.specs.declared.nodes.Place.{Place}
-use Rattle.cluster_state.specs.Places.{place_of}
+use Rattle.cluster_places.specs.declared.held.Held.{Held}
+use Rattle.cluster_places.specs.declared.nodes.Node.{Node}
+use Rattle.cluster_places.specs.declared.nodes.Node.TheVariants.{Primary, Replica, Down}
+use Rattle.cluster_places.specs.declared.nodes.Place.{Place}
+use Rattle.cluster_places.specs.Places.{place_of}
 use Rattle.cluster_state.specs.State.{NodeShows, Shows}
 use Rattle.cluster_state.specs.FilesOut.{is_job, file_out}
-use Rattle.cluster_state.specs.Outs.{want_of, jobs_like, states_like}
+use Rattle.cluster_places.specs.Outs.{want_of, jobs_like, states_like}
 use Rattle.cluster_state.specs.Files.{CopyShows, JobShows, IsJobFor, ReplicaFiles, PrimaryFiles, NodeFiles, FilesShow}
-use Rattle.cluster_state.specs.JobChanges.{HasJob, HasNextFile, IsNextFile}
-use Rattle.cluster_state.specs.JobPlaces.{ReadsIn}
+use Rattle.cluster_places.specs.JobChanges.{HasJob, HasNextFile, IsNextFile}
+use Rattle.cluster_places.specs.JobPlaces.{ReadsIn}
 use Rattle.cluster_state.proofs.Frames.{some_at}
 use Rattle.cluster_state.proofs.JobFrames.{same_inner}
-use Rattle.cluster_state.proofs.OutCounts.{jobs_same, names_out}
+use Rattle.cluster_places.proofs.OutCounts.{jobs_same, names_out}
 use Rattle.cluster_state.proofs.Wider.{primary_kept}
 use Rattle.cluster_state.proofs.FileFrames.{one_each, both_of, Both, wants_same, replica_same}
 use Rattle.cluster_state.proofs.JobMoves.{shows_kept, shows_put, primary_place}

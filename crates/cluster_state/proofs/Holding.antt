@@ -18,16 +18,16 @@ use Rattle.history_book.specs.Log.{Log, printed}
 use Rattle.index_primary.specs.declared.parts.Parts.{Parts as PrimaryParts}
 use Rattle.index_primary.specs.declared.parts.Publish.{Publish}
 use Rattle.replica_node.specs.declared.parts.Parts.{Parts as ReplicaParts}
-use Rattle.cluster_state.specs.declared.held.Held.{Held}
-use Rattle.cluster_state.specs.declared.held.Key.{Key}
-use Rattle.cluster_state.specs.declared.held.Key.TheVariants.{Search}
-use Rattle.cluster_state.specs.declared.nodes.Node.{Node}
-use Rattle.cluster_state.specs.declared.nodes.Node.TheVariants.{Primary, Replica, Down}
-use Rattle.cluster_state.specs.Held.{same_key, held_at}
+use Rattle.cluster_places.specs.declared.held.Held.{Held}
+use Rattle.cluster_places.specs.declared.held.Key.{Key}
+use Rattle.cluster_places.specs.declared.held.Key.TheVariants.{Search}
+use Rattle.cluster_places.specs.declared.nodes.Node.{Node}
+use Rattle.cluster_places.specs.declared.nodes.Node.TheVariants.{Primary, Replica, Down}
+use Rattle.cluster_places.specs.Held.{same_key, held_at}
 use Rattle.cluster_state.specs.Lookups.{IsSearching}
 use Rattle.cluster_state.specs.State.{Stands, IsPointAt, IsOpenOn, HoldsAt, ticket_key, HoldsTickets, FlightShows, WritesAt, PrimaryShows, ReplicaShows, NodeShows}
-use Rattle.cluster_state.specs.Changes.{KeepsNode}
-use Rattle.cluster_state.proofs.Keys.{same_key_is}
+use Rattle.cluster_places.specs.Changes.{KeepsNode}
+use Rattle.cluster_places.proofs.Keys.{same_key_is}
 use Rattle.cluster_state.proofs.Frames.{some_then}
 
 -- ---- open tickets by their numbers

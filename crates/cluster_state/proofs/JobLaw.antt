@@ -6,7 +6,7 @@ use Rattle.history_entries.specs.Nodes.{IsNode, IsReplica, newest_version}
 use Rattle.history_tables.specs.declared.jobs.Job.{Job}
 use Rattle.history_book.specs.Log.{Log, Pages, printed}
 use Rattle.history_book.specs.Jobs.{job_at}
-use Rattle.cluster_state.specs.declared.nodes.Place.{Place}
+use Rattle.cluster_places.specs.declared.nodes.Place.{Place}
 use Rattle.cluster_state.specs.Run.{Run}
 use Rattle.cluster_state.specs.State.{Shows}
 use Rattle.cluster_state.specs.Files.{FilesShow}

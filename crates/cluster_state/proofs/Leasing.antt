@@ -16,16 +16,16 @@ use Rattle.history_entries.specs.Legal.{IsLegalPast}
 use Rattle.history_book.proofs.LineLaws.{opened_node}
 use Rattle.disk_model.specs.Disk.{Cells}
 use Rattle.history_book.specs.Log.{Log, printed}
-use Rattle.cluster_state.specs.declared.held.Held.{Held}
-use Rattle.cluster_state.specs.declared.held.Key.{Key}
-use Rattle.cluster_state.specs.declared.nodes.Node.{Node}
-use Rattle.cluster_state.specs.declared.nodes.Node.TheVariants.{Primary, Replica, Down}
-use Rattle.cluster_state.specs.declared.nodes.Place.{Place}
-use Rattle.cluster_state.specs.Held.{same_key, held_at}
-use Rattle.cluster_state.specs.Places.{place_of, searchers_of, tickets_of}
+use Rattle.cluster_places.specs.declared.held.Held.{Held}
+use Rattle.cluster_places.specs.declared.held.Key.{Key}
+use Rattle.cluster_places.specs.declared.nodes.Node.{Node}
+use Rattle.cluster_places.specs.declared.nodes.Node.TheVariants.{Primary, Replica, Down}
+use Rattle.cluster_places.specs.declared.nodes.Place.{Place}
+use Rattle.cluster_places.specs.Held.{same_key, held_at}
+use Rattle.cluster_places.specs.Places.{place_of, searchers_of, tickets_of}
 use Rattle.cluster_state.specs.State.{Stands, IsPointAt, ReadsAt, ticket_key, HoldsTickets, NodeShows, PlaceShows}
-use Rattle.cluster_state.specs.Changes.{HoldsMore, HoldsTicket, IsLeaseUnder}
-use Rattle.cluster_state.proofs.Keys.{same_key_self}
+use Rattle.cluster_places.specs.Changes.{HoldsMore, HoldsTicket, IsLeaseUnder}
+use Rattle.cluster_places.proofs.Keys.{same_key_self}
 use Rattle.cluster_state.proofs.Holding.{ticket_last}
 
 some_is : {A : Type 0} (P : A → Type 0) (o : Option A) → IsSomeAnd o P → is_some o ≡ true

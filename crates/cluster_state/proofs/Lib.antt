@@ -1,43 +1,36 @@
-pub mod Keys
-pub mod Slots
-pub mod HeldRows
-pub mod Growing
+mod Growing
 pub mod Frames
-pub mod Holding
-pub mod Opened
-pub mod Opening
-pub mod Closing
+mod Holding
+mod Opened
+mod Opening
+mod Closing
 pub mod Leasing
-pub mod Ended
-pub mod Cuts
-pub mod Paid
-pub mod Filling
-pub mod Writing
-pub mod Written
-pub mod Primaries
+mod Ended
+mod Cuts
+mod Paid
+mod Filling
+mod Writing
+mod Written
+mod Primaries
 pub mod Turning
 pub mod TicketPaths
-pub mod PublishPaths
-pub mod TicketFiles
-pub mod CopiedNow
-pub mod PublishFiles
-pub mod FirstNodes
-pub mod JobFrames
-pub mod OutCounts
-pub mod Wider
+mod PublishPaths
+mod TicketFiles
+mod CopiedNow
+mod PublishFiles
+mod FirstNodes
+mod JobFrames
+mod Wider
 pub mod FileFrames
-pub mod JobFiles
-pub mod Stepping
-pub mod FileJobs
-pub mod Taking
-pub mod JobMoves
-pub mod Beginning
-pub mod CopyPaths
-pub mod Handing
-pub mod Ending
-pub mod HandPaths
-pub mod PartPaths
-pub mod Settling
-pub mod JobEnds
-pub mod FirstPlaces
-pub mod JobLaw
+mod FileJobs
+mod JobMoves
+mod Beginning
+mod CopyPaths
+mod Handing
+mod Ending
+mod HandPaths
+mod PartPaths
+mod Settling
+mod JobEnds
+mod FirstPlaces
+mod JobLaw

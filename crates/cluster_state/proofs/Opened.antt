@@ -11,8 +11,8 @@ use Rattle.history_entries.specs.Points.{operations_of_generation}
 use Rattle.history_entries.specs.Tickets.{Ticket, is_ticket, last_opened, while_alive, open_ticket, IsTicketOf}
 use Rattle.history_tables.specs.declared.lines.Begun.{Begun}
 use Rattle.history_tables.specs.Begins.{begin, begun_by, open_line, start_by}
-use Rattle.cluster_state.specs.declared.held.Key.TheVariants.{Ticket as TicketKey, Search}
-use Rattle.cluster_state.specs.Held.{same_key}
+use Rattle.cluster_places.specs.declared.held.Key.TheVariants.{Ticket as TicketKey, Search}
+use Rattle.cluster_places.specs.Held.{same_key}
 use Rattle.cluster_state.specs.Lookups.{IsSearchAt, IsSearching}
 use Rattle.cluster_state.specs.State.{ticket_key}
 use Rattle.cluster_state.proofs.Growing.{alive_less, by_number}

@@ -17,17 +17,17 @@ use Rattle.history_entries.specs.Tickets.{open_ticket, IsTicketOf}
 use Rattle.history_entries.specs.Legal.{KeepsRule, IsLegalPast}
 use Rattle.history_book.specs.Log.{Log, printed, shown}
 use Rattle.history_book.specs.Turns.{AreInTurn}
-use Rattle.cluster_state.specs.declared.held.Held.{Held}
-use Rattle.cluster_state.specs.declared.held.Key.{Key}
-use Rattle.cluster_state.specs.declared.held.Key.TheVariants.{Search}
-use Rattle.cluster_state.specs.declared.nodes.Node.{Node}
-use Rattle.cluster_state.specs.declared.nodes.Node.TheVariants.{Primary, Replica, Down}
-use Rattle.cluster_state.specs.declared.nodes.Place.{Place}
-use Rattle.cluster_state.specs.Held.{same_key, held_at}
+use Rattle.cluster_places.specs.declared.held.Held.{Held}
+use Rattle.cluster_places.specs.declared.held.Key.{Key}
+use Rattle.cluster_places.specs.declared.held.Key.TheVariants.{Search}
+use Rattle.cluster_places.specs.declared.nodes.Node.{Node}
+use Rattle.cluster_places.specs.declared.nodes.Node.TheVariants.{Primary, Replica, Down}
+use Rattle.cluster_places.specs.declared.nodes.Place.{Place}
+use Rattle.cluster_places.specs.Held.{same_key, held_at}
 use Rattle.cluster_state.specs.Lookups.{IsSearching}
-use Rattle.cluster_state.specs.Places.{searchers_of, tickets_of}
+use Rattle.cluster_places.specs.Places.{searchers_of, tickets_of}
 use Rattle.cluster_state.specs.State.{Stands, IsPointAt, ticket_key, HoldsTickets, NodeShows, PlaceShows}
-use Rattle.cluster_state.specs.Changes.{KeepsNode, HoldsMore}
+use Rattle.cluster_places.specs.Changes.{KeepsNode, HoldsMore}
 use Rattle.cluster_state.proofs.Growing.{stands_more, same, not_flying}
 use Rattle.cluster_state.proofs.Frames.{node_same}
 use Rattle.cluster_state.proofs.Holding.{IsNewOr, holds_more, node_kept}

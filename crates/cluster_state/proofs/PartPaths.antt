@@ -23,21 +23,21 @@ use Rattle.history_tables.specs.declared.jobs.Job.{Job}
 use Rattle.history_tables.specs.declared.jobs.JobRow.{JobRow}
 use Rattle.history_book.specs.Log.{Log, printed}
 use Rattle.history_book.specs.Jobs.{job_at, LaneJobShows}
-use Rattle.cluster_state.specs.declared.held.Held.{Held}
-use Rattle.cluster_state.specs.declared.nodes.Node.TheVariants.{Replica}
-use Rattle.cluster_state.specs.declared.nodes.Place.{Place}
+use Rattle.cluster_places.specs.declared.held.Held.{Held}
+use Rattle.cluster_places.specs.declared.nodes.Node.TheVariants.{Replica}
+use Rattle.cluster_places.specs.declared.nodes.Place.{Place}
 use Rattle.cluster_state.specs.Run.{Run}
-use Rattle.cluster_state.specs.Places.{place_of}
+use Rattle.cluster_places.specs.Places.{place_of}
 use Rattle.cluster_state.specs.State.{IsPointAt, HoldsTickets, PlaceShows, Shows}
-use Rattle.cluster_state.specs.Outs.{want_of, jobs_like}
+use Rattle.cluster_places.specs.Outs.{want_of, jobs_like}
 use Rattle.cluster_state.specs.Files.{CopyShows, JobShows, reached_version, ReplicaFiles, NodeFiles, FilesShow}
 use Rattle.cluster_state.specs.FileChanges.{SameJob}
 use Rattle.cluster_state.specs.FilesOut.{file_out}
 use Rattle.cluster_state.specs.Copies.{JobRuns}
-use Rattle.cluster_state.specs.JobChanges.{HasReplica, TakesPart}
-use Rattle.cluster_state.specs.JobPlaces.{CanTake, TakesIn}
+use Rattle.cluster_places.specs.JobChanges.{HasReplica, TakesPart}
+use Rattle.cluster_places.specs.JobPlaces.{CanTake, TakesIn}
 use Rattle.cluster_state.proofs.Frames.{some_at, slot_of, was}
-use Rattle.cluster_state.proofs.OutCounts.{jobs_same}
+use Rattle.cluster_places.proofs.OutCounts.{jobs_same}
 use Rattle.cluster_state.proofs.FileFrames.{Both, both_of, node_files, one_each, wants_same, files_was}
 use Rattle.cluster_state.proofs.FileJobs.{JobHere, ReplicaHere, job_here, replica_here, runs_at}
 use Rattle.cluster_state.proofs.JobMoves.{shows_put}

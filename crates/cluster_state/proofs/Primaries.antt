@@ -17,12 +17,12 @@ use Rattle.history_book.specs.Turns.{AreInTurn}
 use Rattle.index_primary.specs.declared.parts.Parts.{Parts as PrimaryParts}
 use Rattle.index_primary.specs.declared.parts.Publish.{Publish}
 use Rattle.index_primary.specs.Work.{IsWorkOf}
-use Rattle.cluster_state.specs.declared.held.Held.{Held}
-use Rattle.cluster_state.specs.declared.nodes.Node.{Node}
-use Rattle.cluster_state.specs.declared.nodes.Node.TheVariants.{Primary, Replica, Down}
-use Rattle.cluster_state.specs.declared.nodes.Place.{Place}
+use Rattle.cluster_places.specs.declared.held.Held.{Held}
+use Rattle.cluster_places.specs.declared.nodes.Node.{Node}
+use Rattle.cluster_places.specs.declared.nodes.Node.TheVariants.{Primary, Replica, Down}
+use Rattle.cluster_places.specs.declared.nodes.Place.{Place}
 use Rattle.cluster_state.specs.Lookups.{Handed}
-use Rattle.cluster_state.specs.Places.{HasPrimary}
+use Rattle.cluster_places.specs.Places.{HasPrimary}
 use Rattle.cluster_state.specs.State.{IsFlying, FlightShows, PrimaryShows, NodeShows, PlaceShows}
 use Rattle.cluster_state.specs.Writes.{IsFlushed}
 use Rattle.cluster_state.proofs.Cuts.{FliesWith, flies_with}

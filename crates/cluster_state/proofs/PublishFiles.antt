@@ -22,14 +22,15 @@ use Rattle.index_primary.specs.declared.parts.Parts.{Parts as PrimaryParts}
 use Rattle.index_primary.specs.Primary.{IsPrimary, KeepsHeldBytes}
 use Rattle.index_primary.specs.Calls.{IsPublished, FillsUndrawn, DrawsOnly}
 use Rattle.index_primary.specs.Cut.{infos_drawn, noted, has_put}
-use Rattle.cluster_state.specs.declared.held.Held.{Held}
-use Rattle.cluster_state.specs.declared.nodes.Node.TheVariants.{Primary}
-use Rattle.cluster_state.specs.declared.nodes.Place.{Place}
-use Rattle.cluster_state.specs.Places.{place_of}
+use Rattle.cluster_places.specs.declared.held.Held.{Held}
+use Rattle.cluster_places.specs.declared.nodes.Node.TheVariants.{Primary}
+use Rattle.cluster_places.specs.declared.nodes.Place.{Place}
+use Rattle.cluster_places.specs.Places.{place_of}
 use Rattle.cluster_state.specs.Run.{Run}
 use Rattle.cluster_state.specs.State.{Shows}
 use Rattle.cluster_state.specs.Files.{FilesShow}
-use Rattle.cluster_state.specs.FileChanges.{SameJob, FillsPrimaryFiles, KeepsNodeFiles}
+use Rattle.cluster_places.specs.KeptFiles.{FillsPrimaryFiles, KeepsNodeFiles}
+use Rattle.cluster_state.specs.FileChanges.{SameJob}
 use Rattle.cluster_state.proofs.Frames.{PutsBack, was}
 use Rattle.cluster_state.proofs.FileFrames.{files_one, files_was, files_is, files_moved, files_started, files_published, put_one}
 use Rattle.cluster_state.proofs.Turning.{log_is, nodes_is, past_has, fresh_turn, later_turn}

@@ -19,7 +19,7 @@ use Rattle.history_tables.specs.Begins.{begun_by, open_line}
 use Rattle.history_tables.proofs.RowLemmas.{by_test, same_at_self}
 use Rattle.history_book.specs.Log.{Log, Pages, printed, shown}
 use Rattle.history_book.proofs.ReignLaws.{since_start, reigns_on, start_kept}
-use Rattle.cluster_state.specs.declared.tasks.SettleTask.{SettleTask}
+use Rattle.cluster_places.specs.declared.tasks.SettleTask.{SettleTask}
 use Rattle.cluster_state.specs.Run.{Run, IsNow}
 use Rattle.cluster_state.proofs.Turning.{past_has}
 use Rattle.cluster_state.specs.Settles.{AreReplicas, IsLeft, IsSettling, WaitsFor}

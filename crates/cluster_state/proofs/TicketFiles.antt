@@ -1,11 +1,10 @@
 -- What each path of tickets and searches leaves of files and jobs, from what its calls say.
-use Rattle.std.proofs.Common.{◌≡◌, ℕ, Bool, false, List, ◌∷◌, Some, Option, refl, ap, sym, subst}
+use Rattle.std.proofs.Common.{◌≡◌, Bool, false, List, ◌∷◌, Some, Option, refl}
 use Rattle.nrt_base.specs.declared.numbers.At.{At}
 use Rattle.nrt_base.specs.declared.numbers.NodeNo.{NodeNo}
 use Rattle.nrt_base.specs.declared.numbers.TicketNo.{TicketNo}
 use Rattle.nrt_base.specs.declared.numbers.Version.{Version}
 use Rattle.disk_model.specs.Disk.{Cells}
-use Rattle.segment_infos.specs.declared.infos.Infos.{Infos}
 use Rattle.history_entries.specs.declared.entry.Event.TheVariants.{Opened, Asking}
 use Rattle.history_entries.specs.Legal.{KeepsRule, IsLegalPast}
 use Rattle.history_entries.specs.Tickets.{open_ticket}
@@ -14,76 +13,18 @@ use Rattle.history_tables.specs.Openings.{ticket_of}
 use Rattle.history_book.specs.Log.{Pages, printed, shown}
 use Rattle.history_book.specs.Laws.{IsFresh}
 use Rattle.history_book.specs.Turns.{AreInTurn}
-use Rattle.index_primary.specs.declared.parts.Parts.{Parts as PrimaryParts}
-use Rattle.index_primary.specs.Held.{IsUndrawn}
-use Rattle.index_primary.specs.Primary.{KeepsHeldBytes, loose_of}
-use Rattle.index_primary.specs.Calls.{HoldsNoNew}
-use Rattle.cluster_state.specs.declared.nodes.Node.{Node}
-use Rattle.cluster_state.specs.declared.nodes.Node.TheVariants.{Primary, Replica, Down}
-use Rattle.cluster_state.specs.declared.nodes.Place.{Place}
-use Rattle.cluster_state.specs.Places.{place_of}
+use Rattle.cluster_places.specs.declared.nodes.Place.{Place}
+use Rattle.cluster_places.specs.Places.{place_of}
 use Rattle.cluster_state.specs.Run.{Run}
 use Rattle.cluster_state.specs.State.{Shows}
 use Rattle.cluster_state.specs.Files.{FilesShow}
-use Rattle.cluster_state.specs.FileChanges.{KeepsNodeFiles}
+use Rattle.cluster_places.specs.KeptFiles.{KeepsNodeFiles}
 use Rattle.cluster_state.proofs.Frames.{PutsBack}
 use Rattle.cluster_state.proofs.FileFrames.{files_noted, files_moved}
 use Rattle.cluster_state.proofs.TicketPaths.{may_ask}
 use Rattle.cluster_state.proofs.Turning.{fresh_turn, past_has}
 
 module _ {D : Type 0} (cells : D → Cells) where
-  -- ---- a node
-
-  -- a ticket of the primary was closed
-  pub primary_closed : (p q : PrimaryParts D) → q ≡ record p { dir = q.dir; files = q.files; searchers = q.searchers } → KeepsHeldBytes cells p q → HoldsNoNew p q → KeepsNodeFiles cells (Primary p) (Primary q)
-  primary_closed p q others stays no_new = (
-    record {
-      stays = stays;
-      no_new = no_new;
-      drawn = record { each = λ name is. subst (λ (x : Infos × List ℕ). IsUndrawn x.0 x.1 name) (λ i. (ap (λ (z : PrimaryParts D). z.infos) others i, ap (λ (z : PrimaryParts D). loose_of z) others i)) is };
-      point = ap (λ (z : PrimaryParts D). z.point_infos.generation) others;
-      generation = ap (λ (z : PrimaryParts D). z.infos.generation) others;
-    },
-    ap (λ (z : PrimaryParts D). z.states) others,
-  )
-
-  -- or opened
-  pub primary_opened : (p q : PrimaryParts D) → q ≡ record p { files = q.files; searchers = q.searchers } → KeepsHeldBytes cells p q → HoldsNoNew p q → KeepsNodeFiles cells (Primary p) (Primary q)
-  primary_opened p q others stays no_new = (
-    record {
-      stays = stays;
-      no_new = no_new;
-      drawn = record { each = λ name is. subst (λ (x : Infos × List ℕ). IsUndrawn x.0 x.1 name) (λ i. (ap (λ (z : PrimaryParts D). z.infos) others i, ap (λ (z : PrimaryParts D). loose_of z) others i)) is };
-      point = ap (λ (z : PrimaryParts D). z.point_infos.generation) others;
-      generation = ap (λ (z : PrimaryParts D). z.infos.generation) others;
-    },
-    ap (λ (z : PrimaryParts D). z.states) others,
-  )
-
-  -- in the terms of a call on a node that is the primary
-  pub opened_node : (x : Node D) (p q : PrimaryParts D) → x ≡ Primary p → q ≡ record p { files = q.files; searchers = q.searchers } → KeepsHeldBytes cells p q → HoldsNoNew p q → KeepsNodeFiles cells x (Primary q)
-  opened_node x p q is others stays no_new = subst (λ (z : Node D). KeepsNodeFiles cells z (Primary q)) (sym is) (primary_opened p q others stays no_new)
-
-  pub closed_node : (x : Node D) (p q : PrimaryParts D) → x ≡ Primary p → q ≡ record p { dir = q.dir; files = q.files; searchers = q.searchers } → KeepsHeldBytes cells p q → HoldsNoNew p q → KeepsNodeFiles cells x (Primary q)
-  closed_node x p q is others stays no_new = subst (λ (z : Node D). KeepsNodeFiles cells z (Primary q)) (sym is) (primary_closed p q others stays no_new)
-
-  -- a node that no call changed
-  pub node_alone : (x : Node D) → KeepsNodeFiles cells x x
-  node_alone (Primary p) = (
-    record {
-      stays = record { held = λ q old new. refl };
-      no_new = record { each = λ q is. is };
-      drawn = record { each = λ q is. is };
-      point = refl;
-      generation = refl;
-    },
-    refl,
-  )
-  node_alone (Replica r) = record { sourced = λ source is. is; job = refl; jobs = refl; version = refl }
-  node_alone (Down d) = tt
-
-  -- ---- a path
-
   pub opened_files : (r : Run) (ended : Bool) (b0 b1 b2 : Pages) (old mid new : List (Option (Place D))) (at : At) (n : NodeNo) (t : TicketNo) (v : Version) (x y : Place D)
       → record { ended = ended; nodes = b0.nodes; log = b0.log } ≡ r → r.ended ≡ false → (ended ≡ false → Shows cells b0.log b0.nodes old) → (ended ≡ false → FilesShow cells b0.log b0.nodes old)
       → b1.log ≡ b0.log → b1.nodes ≡ b0.nodes → b2.log ≡ shown at (Opened n t v) ∷ b1.log → b2.nodes ≡ b1.nodes → IsLegalPast b1.nodes (printed b1.log) → AreInTurn (printed b1.log)

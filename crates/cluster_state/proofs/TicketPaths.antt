@@ -21,14 +21,14 @@ use Rattle.history_tables.specs.Openings.{ticket_of}
 use Rattle.history_book.specs.Log.{Log, Pages, printed, shown}
 use Rattle.history_book.specs.Laws.{IsFresh}
 use Rattle.history_book.specs.Turns.{AreInTurn}
-use Rattle.cluster_state.specs.declared.held.Key.{Key}
-use Rattle.cluster_state.specs.declared.held.Key.TheVariants.{Ticket as TicketKey, Search}
-use Rattle.cluster_state.specs.declared.nodes.Place.{Place}
-use Rattle.cluster_state.specs.Held.{held_at}
-use Rattle.cluster_state.specs.Places.{place_of, searchers_of, tickets_of}
+use Rattle.cluster_places.specs.declared.held.Key.{Key}
+use Rattle.cluster_places.specs.declared.held.Key.TheVariants.{Ticket as TicketKey, Search}
+use Rattle.cluster_places.specs.declared.nodes.Place.{Place}
+use Rattle.cluster_places.specs.Held.{held_at}
+use Rattle.cluster_places.specs.Places.{place_of, searchers_of, tickets_of}
 use Rattle.cluster_state.specs.Run.{Run}
 use Rattle.cluster_state.specs.State.{ReadsAt, Shows}
-use Rattle.cluster_state.specs.Changes.{KeepsNode, HoldsMore, HoldsLess, HoldsTicket, IsLeaseUnder}
+use Rattle.cluster_places.specs.Changes.{KeepsNode, HoldsMore, HoldsLess, HoldsTicket, IsLeaseUnder}
 use Rattle.cluster_state.specs.Moves.{moves, moves_tickets, EndsKey}
 use Rattle.cluster_state.proofs.Frames.{PutsBack, was, noted, moved_at, place_at, rule_at}
 use Rattle.cluster_state.proofs.Growing.{not_flying}

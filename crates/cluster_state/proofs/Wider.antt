@@ -1,21 +1,18 @@
 -- What files mean, where names get a meaning that had none.
-use Rattle.std.proofs.Common.{◌≡◌, ◌≤◌, ◌<◌, ◌+◌, ℕ, zero, suc, Bool, true, false, true≢false, List, [], ◌∷◌, Some, None, Option, is_some, refl, ap, ◌∙◌, sym, subst, arith, if◌then◌else◌}
+use Rattle.std.proofs.Common.{◌≡◌, ◌≤◌, ◌<◌, ℕ, zero, suc, Bool, true, false, true≢false, List, [], ◌∷◌, Some, None, Option, is_some, refl, ap, ◌∙◌, sym, subst, arith, if◌then◌else◌}
 use Rattle.std.specs.Prelude.{IfSome, nat_lt}
 use Rattle.std.proofs.lemmas.Bool.Decides.{nat_tests}
 use Rattle.std.specs.List.{All, AllZip}
 use Rattle.std.specs.Option.{option_or}
 use Rattle.nrt_base.specs.declared.doc.Doc.{Doc}
-use Rattle.disk_model.specs.Disk.{Name, Content, Cells, same, reads_of}
-use Rattle.file_deleter.specs.Holdings.{Holdings, count_of, times}
+use Rattle.disk_model.specs.Disk.{Name, Content, Cells, reads_of}
+use Rattle.file_deleter.specs.Holdings.{Holdings, count_of}
 use Rattle.file_deleter.proofs.Keeping.{known_counted}
-use Rattle.file_deleter.proofs.NameLemmas.{times-cons, same_self}
-use Rattle.disk_model.proofs.CellLemmas.{same_true}
 use Rattle.segment_infos.specs.declared.infos.Infos.{Infos}
 use Rattle.segment_infos.specs.declared.infos.SegRecord.{SegRecord}
 use Rattle.seg_reader.specs.Shown.{Shown}
 use Rattle.seg_reader.specs.Stands.{IsLiveFileIn, IsSegmentIn, StandsFor}
 use Rattle.copy_state.specs.declared.meta.FileMetaData.{FileMetaData}
-use Rattle.copy_state.specs.States.{meta_names, meta_in}
 use Rattle.index_primary.specs.declared.parts.Parts.{Parts as PrimaryParts}
 use Rattle.index_primary.specs.declared.states.Out.{Out}
 use Rattle.index_primary.specs.Primary.{IsPrimary}
@@ -27,9 +24,9 @@ use Rattle.replica_node.specs.Sources.{CopiesFrom, HeldReadAs, IsSourced}
 use Rattle.history_entries.specs.Points.{documents_at}
 use Rattle.history_tables.specs.declared.jobs.Job.{Job}
 use Rattle.history_book.specs.Log.{Log, printed}
-use Rattle.cluster_state.specs.Outs.{states_like}
+use Rattle.cluster_places.specs.Outs.{states_like}
 use Rattle.cluster_state.specs.Files.{CopyShows, JobShows, PrimaryFiles}
-use Rattle.cluster_state.specs.FileChanges.{KeepsPrimaryFiles, FillsPrimaryFiles}
+use Rattle.cluster_places.specs.KeptFiles.{KeepsPrimaryFiles, FillsPrimaryFiles}
 
 -- what stands there stands there still
 abbrev pub Extends : (Name → Content) → (Name → Content) → Type 0
@@ -78,20 +75,6 @@ stands_wider source wider infos docs more was = record {
 
 pub metas_wider : (source wider : Name → Content) (files : List (Name × FileMetaData)) → Extends source wider → All (λ f. HasMeta source f.0 f.1) files → All (λ f. HasMeta wider f.0 f.1) files
 metas_wider source wider files more was = λ i d lt. let h = was i d lt in record { bytes = h.bytes; there = more _ h.bytes h.there; meta_is = h.meta_is }
-
--- a name among those of files has metadata
-pub named_meta : (files : List (Name × FileMetaData)) (q : Name) → 0 < times (meta_names files) q → (meta : FileMetaData) × (meta_in files q ≡ Some meta)
-named_meta [] q some = absurd (let none : times [] q ≡ 0 = refl in omega (arith, some, none))
-named_meta (f ∷ fs) q some = by (named_meta fs q) (same q f.0) refl
-  where
-    by : (0 < times (meta_names fs) q → (meta : FileMetaData) × (meta_in fs q ≡ Some meta)) → (b : Bool) → same q f.0 ≡ b → (meta : FileMetaData) × ((if b then Some f.1 else meta_in fs q) ≡ Some meta)
-    by rest true here = (f.1, refl)
-    by rest false here = rest (other (same f.0 q) refl)
-      where
-        other : (c : Bool) → same f.0 q ≡ c → 0 < times (meta_names fs) q
-        other true e = absurd (true≢false (sym (same_self q) ∙ (ap (λ (n : Name). same q n) (sym (same_true f.0 q e)) ∙ here)))
-        other false e = let parts : times (f.0 ∷ meta_names fs) q ≡ (if same f.0 q then 1 else 0) + times (meta_names fs) q = times-cons f.0 (meta_names fs) q in
-            let none : (if same f.0 q then 1 else 0) ≡ 0 = ap (λ (b : Bool). let k : ℕ = if b then 1 else 0 in k) e in omega (arith, some, parts, none)
 
 -- ---- a replica
 

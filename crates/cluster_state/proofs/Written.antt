@@ -22,8 +22,8 @@ use Rattle.index_primary.specs.Calls.{IsPublished}
 use Rattle.index_primary.specs.Work.{AreOfCut}
 use Rattle.index_primary.specs.Cut.{infos_drawn, noted, has_put}
 use Rattle.segment_steps.specs.declared.flushing.FlushWork.{FlushWork}
-use Rattle.cluster_state.specs.declared.held.Held.{Held}
-use Rattle.cluster_state.specs.declared.nodes.Node.TheVariants.{Primary}
+use Rattle.cluster_places.specs.declared.held.Held.{Held}
+use Rattle.cluster_places.specs.declared.nodes.Node.TheVariants.{Primary}
 use Rattle.cluster_state.specs.Lookups.{flush_out}
 use Rattle.cluster_state.specs.State.{HoldsTickets, PlaceShows}
 use Rattle.cluster_state.specs.Writes.{IsFlushed}

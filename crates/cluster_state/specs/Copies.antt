@@ -15,8 +15,8 @@ use Rattle.history_tables.specs.Begins.{open_line}
 use Rattle.history_book.specs.Log.{Log, printed, shown, kept}
 use Rattle.history_book.specs.Jobs.{job_of}
 use Rattle.history_book.specs.declared.inner.Inner.TheVariants.{JobBegun, FileOut, JobEnd}
-use Rattle.cluster_state.specs.declared.tasks.CopyTask.{CopyTask}
-use Rattle.cluster_state.specs.declared.tasks.FileTask.{FileTask}
+use Rattle.cluster_places.specs.declared.tasks.CopyTask.{CopyTask}
+use Rattle.cluster_places.specs.declared.tasks.FileTask.{FileTask}
 use Rattle.cluster_state.specs.Run.{Run, IsNow}
 
 -- the newest version

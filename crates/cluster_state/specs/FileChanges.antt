@@ -1,12 +1,7 @@
 -- What calls leave of the files of a node, and entries of the jobs that the log shows.
-use Rattle.std.specs.Prelude.{ℕ, ◌≡◌, ◌≢◌, ◌≤◌, ◌==◌, Bool, true, false, not, Some, None, ⊤}
+use Rattle.std.specs.Prelude.{ℕ, ◌≡◌, ◌≢◌, ◌≤◌, ◌==◌, Bool, true, false, not, Some, None}
 use Rattle.nrt_base.specs.declared.numbers.At.{At}
-use Rattle.disk_model.specs.Disk.{Name, Cells}
-use Rattle.index_primary.specs.declared.parts.Parts.{Parts as PrimaryParts}
-use Rattle.index_primary.specs.Primary.{KeepsHeldBytes}
-use Rattle.index_primary.specs.Calls.{FillsUndrawn, DrawsOnly, HoldsNoNew}
-use Rattle.replica_node.specs.declared.parts.Parts.{Parts as ReplicaParts}
-use Rattle.replica_node.specs.Sources.{KeepsSource}
+use Rattle.disk_model.specs.Disk.{Name}
 use Rattle.history_entries.specs.declared.entry.Event.{Event}
 use Rattle.history_entries.specs.declared.entry.Event.TheVariants.{Copying, Switched, Crashed, Reopened, Promoted}
 use Rattle.history_entries.specs.Nodes.{newest_version, version_of}
@@ -17,8 +12,6 @@ use Rattle.history_book.specs.Log.{Log, printed}
 use Rattle.history_book.specs.declared.inner.Inner.{Inner}
 use Rattle.history_book.specs.declared.inner.Inner.TheVariants.{JobBegun, FileOut, JobEnd}
 use Rattle.history_book.specs.Jobs.{job_at}
-use Rattle.cluster_state.specs.declared.nodes.Node.{Node}
-use Rattle.cluster_state.specs.declared.nodes.Node.TheVariants.{Primary, Replica, Down}
 use Rattle.cluster_state.specs.FilesOut.{file_out}
 
 -- the entry leaves what the log shows of the job at a replica: it starts no copy to it and does not switch it, and nothing crashes or
@@ -50,34 +43,3 @@ pub record SameJob (log now : Log) (n : ℕ) : Type 0 where
   pub flight : (at : At) → copy_in_flight n (newest_version (printed now)) (printed now) ≡ Some at
       → (copy_in_flight n (newest_version (printed log)) (printed log) ≡ Some at) × (newest_version (printed now) ≡ newest_version (printed log))
   pub handed : (job : Job) (q : Name) → job_at n log ≡ Some job → file_out job.at n job.number q now ≡ file_out job.at n job.number q log
-
-module _ {D : Type 0} where
-  -- the primary holds no new file, wrote no name, and reads, numbers and searches as before
-  pub record KeepsPrimaryFiles (cells : D → Cells) (old new : PrimaryParts D) : Type 0 where
-    pub stays : KeepsHeldBytes cells old new
-    pub no_new : HoldsNoNew old new
-    pub drawn : DrawsOnly old new
-    pub point : new.point_infos.generation ≡ old.point_infos.generation
-    pub generation : new.infos.generation ≡ old.infos.generation
-
-  -- the primary's files are those from before and such as were not written yet
-  pub record FillsPrimaryFiles (cells : D → Cells) (old new : PrimaryParts D) : Type 0 where
-    pub stays : KeepsHeldBytes cells old new
-    pub fresh : FillsUndrawn old new
-    pub drawn : DrawsOnly old new
-    pub point : new.point_infos.generation ≡ new.infos.generation
-    pub states : new.states ≡ old.states
-
-  -- the replica's files read as at the source where they did, and its job and its point's version are those from before
-  pub record KeepsReplicaFiles (cells : D → Cells) (old new : ReplicaParts D) : Type 0 where
-    pub sourced : KeepsSource cells old new
-    pub job : new.job ≡ old.job
-    pub jobs : new.jobs ≡ old.jobs
-    pub version : new.searchers.point.version ≡ old.searchers.point.version
-
-  -- a call of a node left its files and its job as they were
-  abbrev pub KeepsNodeFiles : (D → Cells) → Node D → Node D → Type 0
-  KeepsNodeFiles cells (Primary p) (Primary q) = KeepsPrimaryFiles cells p q × (q.states ≡ p.states)
-  KeepsNodeFiles cells (Replica r) (Replica s) = KeepsReplicaFiles cells r s
-  KeepsNodeFiles cells (Down d) (Down e) = ⊤
-  KeepsNodeFiles cells old new = ⊥

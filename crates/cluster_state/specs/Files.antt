@@ -19,12 +19,12 @@ use Rattle.history_entries.specs.Points.{documents_at}
 use Rattle.history_tables.specs.declared.jobs.Job.{Job}
 use Rattle.history_book.specs.Log.{Log, printed}
 use Rattle.history_book.specs.Jobs.{job_at}
-use Rattle.cluster_state.specs.declared.nodes.Node.{Node}
-use Rattle.cluster_state.specs.declared.nodes.Node.TheVariants.{Primary, Replica, Down}
-use Rattle.cluster_state.specs.declared.nodes.Place.{Place}
-use Rattle.cluster_state.specs.Places.{place_of}
+use Rattle.cluster_places.specs.declared.nodes.Node.{Node}
+use Rattle.cluster_places.specs.declared.nodes.Node.TheVariants.{Primary, Replica, Down}
+use Rattle.cluster_places.specs.declared.nodes.Place.{Place}
+use Rattle.cluster_places.specs.Places.{place_of}
 use Rattle.cluster_state.specs.FilesOut.{file_out}
-use Rattle.cluster_state.specs.Outs.{states_like, jobs_like}
+use Rattle.cluster_places.specs.Outs.{states_like, jobs_like}
 
 -- The job of a replica is the one that the log shows to run there: of its number and version, which no copy to the node passed;
 -- the node was behind what its line noted, and is. The files that it wants have their metadata at the source, its point is of the

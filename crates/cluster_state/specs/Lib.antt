@@ -1,17 +1,11 @@
 pub mod Run
-pub mod Held
-pub mod Places
 pub mod Lookups
 pub mod State
 pub mod Moves
-pub mod Changes
 pub mod Writes
 pub mod Starting
 pub mod FilesOut
-pub mod Outs
 pub mod Files
 pub mod FileChanges
-pub mod JobChanges
-pub mod JobPlaces
 pub mod Copies
 pub mod Settles

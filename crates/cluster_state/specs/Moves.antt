@@ -11,9 +11,9 @@ use Rattle.history_entries.specs.Points.{operations_of_generation, published_in_
 use Rattle.history_entries.specs.Tickets.{open_ticket, IsTicketOf}
 use Rattle.script_serving.specs.Refusals.{put_publishes}
 use Rattle.cluster_state.specs.Lookups.{IsSearching}
-use Rattle.cluster_state.specs.declared.held.Key.{Key}
-use Rattle.cluster_state.specs.declared.held.Key.TheVariants.{Search}
-use Rattle.cluster_state.specs.Held.{same_key}
+use Rattle.cluster_places.specs.declared.held.Key.{Key}
+use Rattle.cluster_places.specs.declared.held.Key.TheVariants.{Search}
+use Rattle.cluster_places.specs.Held.{same_key}
 use Rattle.cluster_state.specs.State.{Stands, ticket_key}
 
 -- the entry moves a word of the node, but for its tickets and searches

@@ -7,7 +7,7 @@ use Rattle.history_entries.specs.declared.entry.Event.TheVariants.{Settling}
 use Rattle.history_entries.specs.Nodes.{Past, IsNode, IsReplica, version_of}
 use Rattle.history_entries.specs.Lines.{start_entry, before_start, highest_switched, NodeSurvives}
 use Rattle.history_tables.specs.Begins.{open_line}
-use Rattle.cluster_state.specs.declared.tasks.SettleTask.{SettleTask}
+use Rattle.cluster_places.specs.declared.tasks.SettleTask.{SettleTask}
 
 -- these are the replicas, ascending
 pub record AreReplicas (size : ℕ) (past : Past) (nodes : List NodeNo) : Type 0 where

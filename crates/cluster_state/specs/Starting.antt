@@ -7,10 +7,10 @@ use Rattle.replica_opening.specs.Opening.{opening_infos}
 use Rattle.replica_node.specs.declared.parts.Parts.{Parts as ReplicaParts}
 use Rattle.replica_node.specs.Replica.{IsWholeReplica, AreStanding}
 use Rattle.replica_node.specs.Sources.{IsSourced}
-use Rattle.cluster_state.specs.declared.nodes.Place.{Place}
+use Rattle.cluster_places.specs.declared.nodes.Place.{Place}
 use Rattle.cluster_state.specs.State.{PlaceShows}
 use Rattle.cluster_state.specs.Files.{NodeFiles}
-use Rattle.cluster_state.specs.Outs.{want_at}
+use Rattle.cluster_places.specs.Outs.{want_at}
 
 -- nothing stands in the directory, and a crash leaves nothing there
 pub record IsEmptyDir (cells : Cells) : Type 0 where

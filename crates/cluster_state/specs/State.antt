@@ -21,15 +21,15 @@ use Rattle.index_primary.specs.declared.parts.Publish.{Publish}
 use Rattle.index_primary.specs.Primary.{IsPrimary}
 use Rattle.replica_node.specs.declared.parts.Parts.{Parts as ReplicaParts}
 use Rattle.replica_node.specs.Replica.{IsWholeReplica, AreStanding}
-use Rattle.cluster_state.specs.declared.held.Held.{Held}
-use Rattle.cluster_state.specs.declared.held.Key.{Key}
-use Rattle.cluster_state.specs.declared.held.Key.TheVariants.{Ticket, Search}
-use Rattle.cluster_state.specs.declared.nodes.Node.{Node}
-use Rattle.cluster_state.specs.declared.nodes.Node.TheVariants.{Primary, Replica, Down}
-use Rattle.cluster_state.specs.declared.nodes.Place.{Place}
-use Rattle.cluster_state.specs.Held.{same_key, held_at}
+use Rattle.cluster_places.specs.declared.held.Held.{Held}
+use Rattle.cluster_places.specs.declared.held.Key.{Key}
+use Rattle.cluster_places.specs.declared.held.Key.TheVariants.{Ticket, Search}
+use Rattle.cluster_places.specs.declared.nodes.Node.{Node}
+use Rattle.cluster_places.specs.declared.nodes.Node.TheVariants.{Primary, Replica, Down}
+use Rattle.cluster_places.specs.declared.nodes.Place.{Place}
+use Rattle.cluster_places.specs.Held.{same_key, held_at}
 use Rattle.cluster_state.specs.Lookups.{flush_out, IsSearching}
-use Rattle.cluster_state.specs.Places.{place_of, tickets_of}
+use Rattle.cluster_places.specs.Places.{place_of, tickets_of}
 
 -- the segments are of the documents of the point of this version
 pub record Stands (past : Past) (v : ℕ) (segs : List Shown) : Type 0 where

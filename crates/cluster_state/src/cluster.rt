@@ -1,6 +1,6 @@
 //! The cluster.
 
-use crate::nodes::Place;
+use cluster_places::Place;
 use disk_model::FaultDir;
 use history_book::Book;
 use history_entries::Event;

@@ -9,8 +9,7 @@ ghost use Rattle.history_book.specs.Log.{printed};
 ghost use Rattle.cluster_state.specs.Copies.{is_copy_start, JobRuns, ended_log};
 
 use crate::cluster::ClusterState;
-use crate::tasks::{CopyTask, FileTask};
-use crate::transfers::{begin_in, finish_in, next_in, read_in, take_in};
+use cluster_places::{CopyTask, FileTask, begin_in, finish_in, next_in, read_in, take_in};
 use copy_job::Part;
 use disk_model::FaultDir;
 use history_book::{Book, Inner, Job, JobRow, Start};

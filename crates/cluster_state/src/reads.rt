@@ -1,9 +1,7 @@
 //! Tickets and searches of nodes.
 
 use crate::cluster::ClusterState;
-use crate::held::Key;
-use crate::nodes::{put, take};
-use crate::tickets::{give_ticket_back, hold_ticket, lease_in};
+use cluster_places::{Key, give_ticket_back, hold_ticket, lease_in, put, take};
 use disk_model::FaultDir;
 use history_book::Opening;
 use history_entries::Event;

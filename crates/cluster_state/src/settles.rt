@@ -6,7 +6,7 @@ ghost use Rattle.history_book.specs.Log.{printed};
 ghost use Rattle.cluster_state.specs.Settles.{AreReplicas};
 
 use crate::cluster::ClusterState;
-use crate::tasks::SettleTask;
+use cluster_places::SettleTask;
 use disk_model::FaultDir;
 use history_book::Book;
 use history_entries::Event;

@@ -6,10 +6,10 @@ ghost use Rattle.history_entries.specs.Nodes.{IsNode};
 ghost use Rattle.cluster_state.specs.Starting.{IsEmptyDir, IsOpening, OpensPlace};
 ghost use Rattle.cluster_state.specs.State.{PrimaryShows};
 ghost use Rattle.cluster_state.specs.Files.{PrimaryFiles};
-ghost use Rattle.cluster_state.specs.Places.{place_of};
+ghost use Rattle.cluster_places.specs.Places.{place_of};
 
 use crate::cluster::ClusterState;
-use crate::nodes::{Node, Place};
+use cluster_places::{Node, Place};
 use disk_model::{Dir, FaultDir};
 use history_book::Book;
 use index_primary::Primary;

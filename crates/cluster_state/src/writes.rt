@@ -3,7 +3,7 @@
 ghost use Rattle.std.specs.Prelude.{◌≡◌, ◌≢◌, ◌+◌, ◌<◌, ◌^◌, IfSome, OnOk};
 
 use crate::cluster::ClusterState;
-use crate::nodes::{Node, Place, primary_in, put, take};
+use cluster_places::{Node, Place, primary_in, put, take};
 use disk_model::FaultDir;
 use documents::Op;
 use history_book::Inner;

@@ -1,6 +1,6 @@
 use Rattle.std.proofs.Common.{◌≡◌, None, Some, List, ℕ, subst, sym, ap, ◌∙◌}
 use Rattle.disk_model.specs.Disk.{Name}
-use Rattle.cluster_state.specs.declared.tasks.FileTask.{FileTask}
+use Rattle.cluster_places.specs.declared.tasks.FileTask.{FileTask}
 use Rattle.cluster_state.specs.FilesOut.{file_out}
 use Rattle.cluster_state.specs.Copies.{HandsFile, GoesOn}
 use Rattle.cluster_core.specs.declared.turn.Turn.{Turn}

@@ -1,7 +1,7 @@
 use Rattle.std.proofs.Common.{◌∷◌, subst}
 use Rattle.history_entries.specs.declared.entry.Event.TheVariants.{Copying}
 use Rattle.history_book.specs.Log.{printed, shown}
-use Rattle.cluster_state.specs.declared.tasks.CopyTask.{CopyTask}
+use Rattle.cluster_places.specs.declared.tasks.CopyTask.{CopyTask}
 use Rattle.cluster_state.specs.Copies.{newest_of}
 use Rattle.cluster_core.specs.declared.turn.Turn.{Turn}
 use Rattle.cluster_core.specs.declared.turn.Turn.TheVariants.{Work}

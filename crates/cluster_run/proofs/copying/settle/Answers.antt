@@ -1,5 +1,5 @@
 use Rattle.std.proofs.Common.{subst}
-use Rattle.cluster_state.specs.declared.tasks.CopyTask.{CopyTask}
+use Rattle.cluster_places.specs.declared.tasks.CopyTask.{CopyTask}
 use Rattle.cluster_core.specs.declared.turn.Turn.{Turn}
 use Rattle.cluster_core.specs.declared.turn.Turn.TheVariants.{Work, Done}
 use Rattle.cluster_core.specs.Doing.{IsReplied, IsRepliedAtDone}

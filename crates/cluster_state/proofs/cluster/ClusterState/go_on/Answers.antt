@@ -1,10 +1,10 @@
-use Rattle.std.proofs.Common.{◌≡◌, ◌∙◌, ℕ, ap, refl, arith, sym, subst, Option, Some, None, ◌∷◌}
+use Rattle.std.proofs.Common.{◌∙◌, ap, refl, subst, Some, None, ◌∷◌}
 use Rattle.codec_frame.specs.Bytes.{AreBytes}
-use Rattle.history_book.specs.Log.{Log, printed, kept}
+use Rattle.history_book.specs.Log.{Log, kept}
 use Rattle.history_book.specs.declared.inner.Inner.TheVariants.{FileOut}
 use Rattle.cluster_state.specs.Run.{Run}
-use Rattle.cluster_state.specs.JobChanges.{HasNextFile}
-use Rattle.cluster_state.specs.Places.{place_of}
+use Rattle.cluster_places.specs.JobChanges.{HasNextFile}
+use Rattle.cluster_places.specs.Places.{place_of}
 use Rattle.cluster_state.proofs.HandPaths.{next_slot, next_job, can_read, hand_path, hand_meta, hand_footer}
 use Rattle.cluster_state.proofs.Ending.{can_finish, copy_here, finish_path}
 use Rattle.cluster_state.proofs.cluster.ClusterState.go_on.Goals as goal

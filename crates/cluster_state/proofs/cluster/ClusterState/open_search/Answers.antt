@@ -1,5 +1,5 @@
 use Rattle.std.proofs.Common.{◌∙◌, refl}
-use Rattle.cluster_state.specs.declared.held.Key.TheVariants.{Search}
+use Rattle.cluster_places.specs.declared.held.Key.TheVariants.{Search}
 use Rattle.cluster_state.proofs.Frames.{slot_at, there_at, slot_kept}
 use Rattle.cluster_state.proofs.TicketPaths.{may_open, search_path, running_at, search_held, search_reads}
 use Rattle.cluster_state.proofs.TicketFiles.{opened_files}

@@ -1,0 +1,8 @@
+mod HeldRows
+mod JobFiles
+pub mod Keys
+pub mod OutCounts
+mod Slots
+pub mod Stepping
+mod Taking
+mod TicketNodes

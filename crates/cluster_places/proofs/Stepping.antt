@@ -1,0 +1,183 @@
+-- What calls of a primary and of a replica make of jobs, put together.
+use Rattle.std.proofs.Common.{◌≡◌, ◌≤◌, ◌<◌, ◌+◌, ℕ, zero, suc, Bool, true, false, true≢false, List, [], ◌∷◌, ◌++◌, Some, None, Option, max, refl, ap, ◌∙◌, sym, subst, arith, if◌then◌else◌}
+use Rattle.std.specs.Prelude.{IfSome, IsSome, IsSomeAnd}
+use Rattle.nrt_base.specs.declared.numbers.Gen.{Gen}
+use Rattle.nrt_base.specs.declared.doc.Doc.{Doc}
+use Rattle.disk_model.specs.Disk.{Name, Content, Cells, reads_of}
+use Rattle.file_deleter.specs.Holdings.{count_of}
+use Rattle.seg_reader.specs.Stands.{StandsFor}
+use Rattle.copy_state.specs.declared.state.CopyState.{CopyState}
+use Rattle.copy_job.specs.declared.copying.Part.{Part}
+use Rattle.copy_job.specs.Jobs.{Job, reads_under, with_part}
+use Rattle.index_primary.specs.declared.parts.Parts.{Parts as PrimaryParts}
+use Rattle.index_primary.specs.declared.states.Out.{Out}
+use Rattle.index_primary.specs.Primary.{IsPrimary, KeepsHeldBytes, loose_of}
+use Rattle.index_primary.specs.Held.{IsUndrawn}
+use Rattle.index_primary.specs.Calls.{HoldsNoNew}
+use Rattle.index_primary.specs.States.{out_of, states_without, is_out, same_out, IsStateOf}
+use Rattle.replica_node.specs.declared.job.PointJob.{PointJob}
+use Rattle.replica_node.specs.declared.parts.Parts.{Parts as ReplicaParts}
+use Rattle.replica_node.specs.Replica.{IsWholeReplica, AreStanding}
+use Rattle.replica_node.specs.Jobs.{IsPointJob}
+use Rattle.replica_node.specs.Sources.{IsSourced, KeepsSource}
+use Rattle.cluster_places.specs.Outs.{want_of}
+use Rattle.cluster_places.specs.JobChanges.{given_back, AltersStates, AltersJob, BeginsAt, FinishesAt, TakesPart}
+
+pub out_push : (s t : Out) (ts : List Out) → is_out s ts ≡ true → is_out s (ts ++ t ∷ []) ≡ true
+out_push s t [] out = absurd (true≢false (sym out))
+out_push s t (u ∷ ts) out = tests (same_out s u) out (λ o. out_push s t ts o)
+  where
+    tests : (b : Bool) → (if b then true else is_out s ts) ≡ true → (is_out s ts ≡ true → is_out s (ts ++ t ∷ []) ≡ true) → (if b then true else is_out s (ts ++ t ∷ [])) ≡ true
+    tests true out more = refl
+    tests false out more = more out
+
+pub out_pushed : (o : Option Out) (t : Out) (ts us : List Out) → us ≡ ts ++ t ∷ [] → IfSome o (λ s. is_out s ts ≡ true) → IfSome o (λ s. is_out s us ≡ true)
+out_pushed None t ts us is out = tt
+out_pushed (Some s) t ts us is out = ap (is_out s) is ∙ out_push s t ts out
+
+module _ {D : Type 0} (cells : D → Cells) where
+  -- ---- the primary
+
+  pub alters_by : (p q : PrimaryParts D) → KeepsHeldBytes cells p q → HoldsNoNew p q → q ≡ record p { dir = q.dir; files = q.files; states = q.states } → (IsPrimary cells p → IsPrimary cells q) → AltersStates cells p q
+  alters_by p q stays no_new is whole = record {
+    others = is;
+    whole = whole;
+    files = record {
+      stays = stays;
+      no_new = no_new;
+      drawn = record { each = λ name undrawn. subst (λ (x : PrimaryParts D). IsUndrawn x.infos (loose_of x) name) is undrawn };
+      point = ap (λ (x : PrimaryParts D). x.point_infos.generation) is;
+      generation = ap (λ (x : PrimaryParts D). x.infos.generation) is;
+    };
+  }
+
+  pub alters_none : (p : PrimaryParts D) → AltersStates cells p p
+  alters_none p = alters_by p p (record { held = λ q a b. refl }) (record { each = λ q none. none }) refl (λ w. w)
+
+  pub alters_then : (p q s : PrimaryParts D) → AltersStates cells p q → AltersStates cells q s → AltersStates cells p s
+  alters_then p q s a b = alters_by p s
+      (record { held = λ name before after. held name before after (count_of q.files name) refl })
+      (record { each = λ name none. b.files.no_new.each name (a.files.no_new.each name none) })
+      (b.others ∙ ap (λ (x : PrimaryParts D). record x { dir = s.dir; files = s.files; states = s.states }) a.others)
+      (λ w. b.whole (a.whole w))
+    where
+      held : (name : Name) → 0 < count_of p.files name → 0 < count_of s.files name → (k : ℕ) → count_of q.files name ≡ k → (cells s.dir name).now ≡ (cells p.dir name).now
+      held name before after zero is = absurd (let none = b.files.no_new.each name is in omega (arith, none, after))
+      held name before after (suc k) is = let between : 0 < count_of q.files name = omega (arith, is) in b.files.stays.held name between after ∙ a.files.stays.held name before between
+
+  -- ---- the replica
+
+  pub job_none : (r : ReplicaParts D) → AltersJob cells r r
+  job_none r = record { others = refl; whole = λ w. w; standing = λ w. w; sourced = λ source was. was }
+
+  pub job_then : (r s t : ReplicaParts D) → AltersJob cells r s → AltersJob cells s t → AltersJob cells r t
+  job_then r s t a b = record {
+    others = b.others ∙ ap (λ (x : ReplicaParts D). record x { dir = t.dir; files = t.files; seen = t.seen; jobs = t.jobs; job = t.job }) a.others;
+    whole = λ w. b.whole (a.whole w);
+    standing = λ w. b.standing (a.standing w);
+    sourced = λ source was. b.sourced source (a.sourced source was);
+  }
+
+  -- the replica has seen another generation
+  pub job_seen : (r s : ReplicaParts D) → s ≡ record r { seen = s.seen } → (IsWholeReplica cells r → IsWholeReplica cells s) → AltersJob cells r s
+  job_seen r s is whole = record {
+    others = is ∙ ap (λ (x : ReplicaParts D). record r { dir = x.dir; files = x.files; seen = s.seen; jobs = x.jobs; job = x.job }) (sym is);
+    whole = whole;
+    standing = λ w. subst (λ (x : ReplicaParts D). AreStanding cells x) (sym is) (record { point = w.point; commits = w.commits });
+    sourced = λ source w. subst (λ (x : ReplicaParts D). IsSourced source cells x) (sym is) (record { held = w.held; job = w.job });
+  }
+
+  pub job_by : (r s : ReplicaParts D) → s ≡ record r { files = s.files; jobs = s.jobs; job = s.job } → (IsWholeReplica cells r → IsWholeReplica cells s) → (AreStanding cells r → AreStanding cells s) → KeepsSource cells r s → AltersJob cells r s
+  job_by r s is whole standing sourced = record {
+    others = is ∙ ap (λ (x : ReplicaParts D). record r { dir = x.dir; files = s.files; seen = x.seen; jobs = s.jobs; job = s.job }) (sym is);
+    whole = whole;
+    standing = standing;
+    sourced = sourced;
+  }
+
+  -- ---- a job that begins
+
+  some_job : (o : Option PointJob) (number : ℕ) (state : CopyState) (holdings : _) → IfSome o (IsPointJob number state holdings) → IsSome o → (j : PointJob) × (o ≡ Some j) × IsPointJob number state holdings j
+  some_job None number state holdings is some = absurd (true≢false (sym some))
+  some_job (Some j) number state holdings is some = (j, refl, is)
+
+  pub begins : (p q t : PrimaryParts D) (r s u v : ReplicaParts D) (state : CopyState) (number last : ℕ) (completed : List Name)
+      → IsStateOf (reads_of (cells p.dir)) p.point_infos p.searchers.point.names last completed state
+      → q.states ≡ p.states ++ out_of state ∷ [] → AltersStates cells p q → AltersStates cells q t → t.states ≡ given_back (want_of r.job) q.states
+      → AltersJob cells r s → s.seen ≡ r.seen → s.jobs ≡ r.jobs
+      → u.seen.0 ≡ max s.seen.0 state.primary_gen.0 → AltersJob cells s u → u.jobs ≡ s.jobs
+      → AltersJob cells u v → v.seen ≡ u.seen → number ≡ u.jobs + 1 → v.jobs ≡ u.jobs + 1 → IfSome v.job (IsPointJob (u.jobs + 1) state u.files) → IsSome v.job
+      → r.seen.0 ≤ p.point_infos.generation.0
+      → BeginsAt cells number p t r v
+  begins p q t r s u v state number last completed of_point pushed taken altered back dropped seen jobs top looked kept began seen_now next jobs_now job some low =
+      let j = some_job v.job (u.jobs + 1) state u.files job some in
+      let gen : state.primary_gen.0 ≡ p.point_infos.generation.0 = ap (λ (g : Gen). g.0) of_point.primary_gen in
+      let was : s.seen.0 ≡ r.seen.0 = ap (λ (g : Gen). g.0) seen in
+      let is : v.seen.0 ≡ p.point_infos.generation.0 = (let now : v.seen.0 ≡ u.seen.0 = ap (λ (g : Gen). g.0) seen_now in omega (arith, now, top, gen, was, low)) in
+      record {
+        primary = alters_then p q t taken altered;
+        replica = job_then r s v dropped (job_then s u v looked began);
+        state = state;
+        of_point = record { infos = of_point.infos_file; version = of_point.version; generation = of_point.primary_gen; names = of_point.names_are; metas = of_point.metas };
+        job = j.0;
+        there = j.1;
+        want = ap (λ (x : _). x.want) j.2.copy;
+        infos = j.2.state_is.spelled;
+        number_is = ap (λ (x : _). x.number) j.2.copy ∙ sym next;
+        next = next ∙ ap (λ (k : ℕ). k + 1) (kept ∙ jobs);
+        jobs = jobs_now ∙ ap (λ (k : ℕ). k + 1) (kept ∙ jobs);
+        seen = λ i. record { 0 = is i };
+        states = back ∙ ap (given_back (want_of r.job)) pushed;
+      }
+
+  -- ---- a part
+
+  pub takes_none : (part : Part) (r : ReplicaParts D) → TakesPart cells part r r
+  takes_none part r = record { others = refl; whole = λ w. w; standing = λ w. w; sourced = λ source is was. was; job = same r.job }
+    where
+      same : (o : Option PointJob) → IfSome o (λ j. IsSomeAnd o (λ k. (k.copy.number ≡ j.copy.number) × (k.copy.want ≡ j.copy.want) × (k.infos ≡ j.infos)))
+      same None = tt
+      same (Some j) = (refl, refl, refl)
+
+  pub takes_in : (part : Part) (r s : ReplicaParts D) → s ≡ record r { dir = s.dir; files = s.files; job = s.job } → IsWholeReplica cells s → (AreStanding cells r → AreStanding cells s)
+      → ((source : Name → Content) → source part.name ≡ Some part.bytes → IsSourced source cells r → IsSourced source cells s)
+      → IfSome r.job (λ j. s.job ≡ Some (record j { copy = with_part j.copy part.name })) → TakesPart cells part r s
+  takes_in part r s is whole standing sourced with = record {
+    others = is;
+    whole = λ w. whole;
+    standing = standing;
+    sourced = sourced;
+    job = same r.job with;
+  }
+    where
+      same : (o : Option PointJob) → IfSome o (λ j. s.job ≡ Some (record j { copy = with_part j.copy part.name }))
+          → IfSome o (λ j. IsSomeAnd s.job (λ k. (k.copy.number ≡ j.copy.number) × (k.copy.want ≡ j.copy.want) × (k.infos ≡ j.infos)))
+      same None now = tt
+      same (Some j) now = subst (λ (o : Option PointJob). IsSomeAnd o (λ k. (k.copy.number ≡ j.copy.number) × (k.copy.want ≡ j.copy.want) × (k.infos ≡ j.infos))) (sym now) (refl, refl, refl)
+
+  -- ---- a job that ends
+
+  pub finishes : (p q : PrimaryParts D) (r s : ReplicaParts D) (state : CopyState) (c : Job) → IfSome r.job (λ j. c ≡ j.copy) → state ≡ c.want
+      → AltersStates cells p q → q.states ≡ states_without (out_of state) p.states
+      → s ≡ record r { dir = s.dir; files = s.files; searchers = s.searchers; infos = s.infos; segs = s.segs; job = s.job; known = s.known } → IsWholeReplica cells s → (AreStanding cells r → AreStanding cells s) → KeepsSource cells r s
+      → IfSome r.job (λ j. s.infos ≡ j.infos) → s.job ≡ None → s.searchers.tickets ≡ r.searchers.tickets
+      → IfSome r.job (λ j. (docs : List Doc) → StandsFor (reads_under j.copy.parts (reads_of (cells r.dir))) j.infos docs → StandsFor (reads_of (cells s.dir)) s.infos docs)
+      → IfSome r.job (λ j. FinishesAt cells j p q r s)
+  finishes p q r s state c is want altered back others whole standing sourced infos none tickets stands = by r.job is infos stands
+    where
+      by : (o : Option PointJob) → IfSome o (λ j. c ≡ j.copy) → IfSome o (λ j. s.infos ≡ j.infos)
+          → IfSome o (λ j. (docs : List Doc) → StandsFor (reads_under j.copy.parts (reads_of (cells r.dir))) j.infos docs → StandsFor (reads_of (cells s.dir)) s.infos docs)
+          → IfSome o (λ j. FinishesAt cells j p q r s)
+      by None is infos stands = tt
+      by (Some j) is infos stands = record {
+        primary = altered;
+        states = back ∙ ap (λ (x : CopyState). states_without (out_of x) p.states) (want ∙ ap (λ (x : Job). x.want) is);
+        others = others;
+        whole = whole;
+        standing = standing;
+        sourced = sourced;
+        infos = infos;
+        job = none;
+        tickets = tickets;
+        stands = stands;
+      }

@@ -1,0 +1,60 @@
+-- What a ticket that is opened or closed leaves of the files of its node.
+use Rattle.std.proofs.Common.{◌≡◌, ℕ, List, refl, ap, sym, subst}
+use Rattle.disk_model.specs.Disk.{Cells}
+use Rattle.segment_infos.specs.declared.infos.Infos.{Infos}
+use Rattle.index_primary.specs.declared.parts.Parts.{Parts as PrimaryParts}
+use Rattle.index_primary.specs.Held.{IsUndrawn}
+use Rattle.index_primary.specs.Primary.{KeepsHeldBytes, loose_of}
+use Rattle.index_primary.specs.Calls.{HoldsNoNew}
+use Rattle.cluster_places.specs.declared.nodes.Node.{Node}
+use Rattle.cluster_places.specs.declared.nodes.Node.TheVariants.{Primary, Replica, Down}
+use Rattle.cluster_places.specs.KeptFiles.{KeepsNodeFiles}
+
+module _ {D : Type 0} (cells : D → Cells) where
+  -- a ticket of the primary was closed
+  pub primary_closed : (p q : PrimaryParts D) → q ≡ record p { dir = q.dir; files = q.files; searchers = q.searchers } → KeepsHeldBytes cells p q → HoldsNoNew p q → KeepsNodeFiles cells (Primary p) (Primary q)
+  primary_closed p q others stays no_new = (
+    record {
+      stays = stays;
+      no_new = no_new;
+      drawn = record { each = λ name is. subst (λ (x : Infos × List ℕ). IsUndrawn x.0 x.1 name) (λ i. (ap (λ (z : PrimaryParts D). z.infos) others i, ap (λ (z : PrimaryParts D). loose_of z) others i)) is };
+      point = ap (λ (z : PrimaryParts D). z.point_infos.generation) others;
+      generation = ap (λ (z : PrimaryParts D). z.infos.generation) others;
+    },
+    ap (λ (z : PrimaryParts D). z.states) others,
+  )
+
+  -- or opened
+  pub primary_opened : (p q : PrimaryParts D) → q ≡ record p { files = q.files; searchers = q.searchers } → KeepsHeldBytes cells p q → HoldsNoNew p q → KeepsNodeFiles cells (Primary p) (Primary q)
+  primary_opened p q others stays no_new = (
+    record {
+      stays = stays;
+      no_new = no_new;
+      drawn = record { each = λ name is. subst (λ (x : Infos × List ℕ). IsUndrawn x.0 x.1 name) (λ i. (ap (λ (z : PrimaryParts D). z.infos) others i, ap (λ (z : PrimaryParts D). loose_of z) others i)) is };
+      point = ap (λ (z : PrimaryParts D). z.point_infos.generation) others;
+      generation = ap (λ (z : PrimaryParts D). z.infos.generation) others;
+    },
+    ap (λ (z : PrimaryParts D). z.states) others,
+  )
+
+  -- in the terms of a call on a node that is the primary
+  pub opened_node : (x : Node D) (p q : PrimaryParts D) → x ≡ Primary p → q ≡ record p { files = q.files; searchers = q.searchers } → KeepsHeldBytes cells p q → HoldsNoNew p q → KeepsNodeFiles cells x (Primary q)
+  opened_node x p q is others stays no_new = subst (λ (z : Node D). KeepsNodeFiles cells z (Primary q)) (sym is) (primary_opened p q others stays no_new)
+
+  pub closed_node : (x : Node D) (p q : PrimaryParts D) → x ≡ Primary p → q ≡ record p { dir = q.dir; files = q.files; searchers = q.searchers } → KeepsHeldBytes cells p q → HoldsNoNew p q → KeepsNodeFiles cells x (Primary q)
+  closed_node x p q is others stays no_new = subst (λ (z : Node D). KeepsNodeFiles cells z (Primary q)) (sym is) (primary_closed p q others stays no_new)
+
+  -- a node that no call changed
+  pub node_alone : (x : Node D) → KeepsNodeFiles cells x x
+  node_alone (Primary p) = (
+    record {
+      stays = record { held = λ q old new. refl };
+      no_new = record { each = λ q is. is };
+      drawn = record { each = λ q is. is };
+      point = refl;
+      generation = refl;
+    },
+    refl,
+  )
+  node_alone (Replica r) = record { sourced = λ source is. is; job = refl; jobs = refl; version = refl }
+  node_alone (Down d) = tt

@@ -1,0 +1,114 @@
+-- What the beginning and the end of a job make of the primary and of the replica.
+use Rattle.std.specs.Prelude.{ℕ, ◌≡◌, ◌<◌, ◌+◌, ◌∷◌, ◌++◌, [], List, Option, Some, None, IsSome, IsSomeAnd, IfSome, ⊤}
+use Rattle.std.specs.List.{All}
+use Rattle.nrt_base.specs.declared.doc.Doc.{Doc}
+use Rattle.disk_model.specs.Disk.{Name, Content, Cells, reads_of}
+use Rattle.file_deleter.specs.Holdings.{times}
+use Rattle.seg_reader.specs.Stands.{StandsFor}
+use Rattle.segment_infos.specs.Infos.{IsInfosFile}
+use Rattle.copy_state.specs.declared.state.CopyState.{CopyState}
+use Rattle.copy_state.specs.declared.meta.FileMetaData.{FileMetaData}
+use Rattle.copy_state.specs.States.{meta_names, meta_in}
+use Rattle.copy_job.specs.declared.copying.Part.{Part}
+use Rattle.copy_job.specs.Jobs.{Job, reads_under}
+use Rattle.index_primary.specs.declared.parts.Parts.{Parts as PrimaryParts}
+use Rattle.index_primary.specs.declared.states.Out.{Out}
+use Rattle.index_primary.specs.Primary.{IsPrimary}
+use Rattle.index_primary.specs.States.{out_of, states_without, IsMetaIn}
+use Rattle.replica_node.specs.declared.job.PointJob.{PointJob}
+use Rattle.replica_node.specs.declared.parts.Parts.{Parts as ReplicaParts}
+use Rattle.replica_node.specs.Replica.{IsWholeReplica, AreStanding}
+use Rattle.replica_node.specs.Sources.{IsSourced, KeepsSource}
+use Rattle.cluster_places.specs.declared.nodes.Place.{Place}
+use Rattle.cluster_places.specs.declared.nodes.Node.TheVariants.{Primary, Replica, Down}
+use Rattle.cluster_places.specs.Outs.{want_of}
+use Rattle.cluster_places.specs.KeptFiles.{KeepsPrimaryFiles}
+
+-- the states without the one that is given back, where one is
+abbrev pub given_back : Option Out → List Out → List Out
+given_back None states = states
+given_back (Some s) states = states_without s states
+
+-- the next file of a job that is still to come, with the metadata that is wanted of it; none where it lacks none
+abbrev pub IsNextToFetch : Job → Option (Name × FileMetaData) → Type 0
+IsNextToFetch j None = j.missing ≡ []
+IsNextToFetch j (Some file) = (0 < times j.missing file.0) × (meta_in j.want.files file.0 ≡ Some file.1)
+
+-- the same of a job that copies a point
+abbrev pub IsNextFile : PointJob → Option (Name × FileMetaData) → Type 0
+IsNextFile j file = IsNextToFetch j.copy file
+
+module _ {D : Type 0} where
+  -- a replica is there, with a job
+  abbrev pub HasJob : Option (Place D) → Type 0
+  HasJob None = ⊥
+  HasJob (Some place) = elim place.node [ Primary p ↦ ⊥ | Replica r ↦ IsSome r.job | Down d ↦ ⊥ ]
+
+  -- this is the next file of the job that is there
+  abbrev pub HasNextFile : Option (Place D) → Option (Name × FileMetaData) → Type 0
+  HasNextFile None file = ⊥
+  HasNextFile (Some place) file = elim place.node [ Primary p ↦ ⊥ | Replica r ↦ IsSomeAnd r.job (λ j. IsNextFile j file) | Down d ↦ ⊥ ]
+
+  -- a replica is there
+  abbrev pub HasReplica : Option (Place D) → Type 0
+  HasReplica None = ⊥
+  HasReplica (Some place) = elim place.node [ Primary p ↦ ⊥ | Replica r ↦ ⊤ | Down d ↦ ⊥ ]
+
+  -- the copy state is that of the primary's point
+  pub record IsStateOfPoint (cells : D → Cells) (p : PrimaryParts D) (state : CopyState) : Type 0 where
+    pub infos : IsInfosFile p.point_infos state.infos
+    pub version : state.version ≡ p.point_infos.version
+    pub generation : state.primary_gen ≡ p.point_infos.generation
+    pub names : meta_names state.files ≡ p.searchers.point.names
+    pub metas : All (IsMetaIn (reads_of (cells p.dir))) state.files
+
+  -- the primary is as before, but for its directory, its counts and the copy states that are out
+  pub record AltersStates (cells : D → Cells) (old new : PrimaryParts D) : Type 0 where
+    pub others : new ≡ record old { dir = new.dir; files = new.files; states = new.states }
+    pub whole : IsPrimary cells old → IsPrimary cells new
+    pub files : KeepsPrimaryFiles cells old new
+
+  -- the replica is as before, but for its directory, its counts, what it has seen and its job
+  pub record AltersJob (cells : D → Cells) (old new : ReplicaParts D) : Type 0 where
+    pub others : new ≡ record old { dir = new.dir; files = new.files; seen = new.seen; jobs = new.jobs; job = new.job }
+    pub whole : IsWholeReplica cells old → IsWholeReplica cells new
+    pub standing : AreStanding cells old → AreStanding cells new
+    pub sourced : KeepsSource cells old new
+
+  -- a job of the primary's point began, on a copy state that is out; an older job has ended, and its state was given back
+  pub record BeginsAt (cells : D → Cells) (number : ℕ) (p q : PrimaryParts D) (r s : ReplicaParts D) : Type 0 where
+    pub primary : AltersStates cells p q
+    pub replica : AltersJob cells r s
+    pub state : CopyState
+    pub of_point : IsStateOfPoint cells p state
+    pub job : PointJob
+    pub there : s.job ≡ Some job
+    pub want : job.copy.want ≡ state
+    pub infos : IsInfosFile job.infos state.infos
+    pub number_is : job.copy.number ≡ number
+    pub next : number ≡ r.jobs + 1
+    pub jobs : s.jobs ≡ r.jobs + 1
+    pub seen : s.seen ≡ p.point_infos.generation
+    pub states : q.states ≡ given_back (want_of r.job) (p.states ++ out_of state ∷ [])
+
+  -- the replica searches the point of its job, which has ended, and the job's state was given back
+  pub record FinishesAt (cells : D → Cells) (j : PointJob) (p q : PrimaryParts D) (r s : ReplicaParts D) : Type 0 where
+    pub primary : AltersStates cells p q
+    pub states : q.states ≡ states_without (out_of j.copy.want) p.states
+    pub others : s ≡ record r { dir = s.dir; files = s.files; searchers = s.searchers; infos = s.infos; segs = s.segs; job = s.job; known = s.known }
+    pub whole : IsWholeReplica cells s
+    pub standing : AreStanding cells r → AreStanding cells s
+    pub sourced : KeepsSource cells r s
+    pub infos : s.infos ≡ j.infos
+    pub job : s.job ≡ None
+    pub tickets : s.searchers.tickets ≡ r.searchers.tickets
+    pub stands : (docs : List Doc) → StandsFor (reads_under j.copy.parts (reads_of (cells r.dir))) j.infos docs → StandsFor (reads_of (cells s.dir)) s.infos docs
+
+  -- the part is in, or the job did not lack it: the replica is as before, but for its directory, its counts and its job, which is of
+  -- the same number, state and point
+  pub record TakesPart (cells : D → Cells) (part : Part) (old new : ReplicaParts D) : Type 0 where
+    pub others : new ≡ record old { dir = new.dir; files = new.files; job = new.job }
+    pub whole : IsWholeReplica cells old → IsWholeReplica cells new
+    pub standing : AreStanding cells old → AreStanding cells new
+    pub sourced : (source : Name → Content) → source part.name ≡ Some part.bytes → IsSourced source cells old → IsSourced source cells new
+    pub job : IfSome old.job (λ j. IsSomeAnd new.job (λ k. (k.copy.number ≡ j.copy.number) × (k.copy.want ≡ j.copy.want) × (k.infos ≡ j.infos)))

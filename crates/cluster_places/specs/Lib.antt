@@ -1,0 +1,7 @@
+pub mod Held
+pub mod Places
+pub mod KeptFiles
+pub mod Changes
+pub mod Outs
+pub mod JobChanges
+pub mod JobPlaces

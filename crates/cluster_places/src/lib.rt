@@ -1,0 +1,17 @@
+//! The nodes of a cluster in their places: the tickets that are held of them, the jobs that copy the primary's point to a replica, and
+//! what calls of the cluster hand out.
+#![tactic(auto)]
+
+mod held;
+mod jobs;
+mod nodes;
+mod states;
+mod tasks;
+mod tickets;
+mod transfers;
+
+pub use held::{Held, Key};
+pub use nodes::{Node, Place, primary_in, put, take};
+pub use tasks::{CopyTask, FileTask, SettleTask};
+pub use tickets::{give_ticket_back, hold_ticket, lease_in};
+pub use transfers::{begin_in, finish_in, next_in, read_in, take_in};
