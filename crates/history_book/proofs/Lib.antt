@@ -4,6 +4,7 @@ pub mod OpenLaws
 pub mod CopyLaws
 pub mod FreshLaws
 pub mod FoundLaws
+pub mod CommitLaws
 pub mod JobLaws
 mod BookLemmas
 mod Weaving
