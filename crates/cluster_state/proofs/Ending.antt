@@ -11,7 +11,7 @@ use Rattle.disk_model.specs.Disk.{Name, Content, Cells, reads_of}
 use Rattle.segment_infos.specs.declared.infos.Infos.{Infos}
 use Rattle.segment_infos.specs.Files.{AreFilesOf}
 use Rattle.seg_reader.specs.Shown.{Shown}
-use Rattle.seg_reader.specs.Stands.{StandsFor, AreSegmentsOf}
+use Rattle.seg_reader.specs.StandForVersion.{StandsFor, AreSegmentsOf}
 use Rattle.seg_reader.proofs.StandingLaws.{one_segs}
 use Rattle.copy_state.specs.States.{meta_names}
 use Rattle.copy_job.specs.Jobs.{Job as Copy, reads_under}
@@ -48,7 +48,7 @@ use Rattle.cluster_places.specs.declared.nodes.Node.TheVariants.{Primary, Replic
 use Rattle.cluster_places.specs.declared.nodes.Place.{Place}
 use Rattle.cluster_state.specs.Run.{Run}
 use Rattle.cluster_places.specs.Places.{place_of, HasPrimary}
-use Rattle.cluster_state.specs.State.{Stands, HoldsTickets, NodeShows, PlaceShows, Shows}
+use Rattle.cluster_state.specs.State.{StandForVersion, HoldsTickets, NodeShows, PlaceShows, Shows}
 use Rattle.cluster_state.specs.Moves.{Lasts}
 use Rattle.cluster_places.specs.Outs.{one_like, want_of, want_at, jobs_like, states_like}
 use Rattle.cluster_state.specs.Files.{CopyShows, JobShows, IsJobFor, reached_version, ReplicaFiles, PrimaryFiles, NodeFiles, FilesShow}
@@ -191,7 +191,7 @@ module _ {D : Type 0} (cells : D → Cells) where
       standing = f.standing has.node_shows.standing;
       point = record {
         version = point_version ∙ sym version_now;
-        stands = subst (λ (v : ℕ). Stands now v s.searchers.point.readers) (sym version_now) (more.stands job.version.0 s.searchers.point.readers (record { known = shows.known; documents = segments }));
+        stands = subst (λ (v : ℕ). StandForVersion now v s.searchers.point.readers) (sym version_now) (more.stands job.version.0 s.searchers.point.readers (record { known = shows.known; documents = segments }));
       };
       seen = subst (λ (k : ReplicaParts D). k.seen.0 ≤ generation_of (printed log)) (sym f.others) has.node_shows.seen;
     };

@@ -7,7 +7,7 @@ use Rattle.nrt_base.specs.declared.numbers.NodeNo.{NodeNo}
 use Rattle.documents.specs.declared.operation.Op.{Op}
 use Rattle.disk_model.specs.Disk.{Cells}
 use Rattle.seg_reader.specs.Shown.{Shown}
-use Rattle.seg_reader.specs.Stands.{AreSegmentsOf}
+use Rattle.seg_reader.specs.StandForVersion.{AreSegmentsOf}
 use Rattle.segment_infos.specs.declared.infos.Infos.{Infos}
 use Rattle.searcher_switch.specs.declared.open.Open.{Open}
 use Rattle.searcher_switch.specs.declared.open.Point.{Point}
@@ -34,7 +34,7 @@ use Rattle.cluster_places.specs.declared.nodes.Place.{Place}
 use Rattle.cluster_state.specs.Lookups.{Handed, handed_by, or_older, flush_out}
 use Rattle.cluster_places.specs.Places.{place_of, IsSlot, tickets_of}
 use Rattle.cluster_state.specs.Run.{Run}
-use Rattle.cluster_state.specs.State.{Stands, IsPointAt, HoldsTickets, FlightShows, WritesAt, PrimaryShows, ReplicaShows, NodeShows, PlaceShows, Shows}
+use Rattle.cluster_state.specs.State.{StandForVersion, IsPointAt, HoldsTickets, FlightShows, WritesAt, PrimaryShows, ReplicaShows, NodeShows, PlaceShows, Shows}
 use Rattle.cluster_state.specs.Moves.{moves, moves_tickets, FlightStays, Lasts, Fewer, WritesOn, Same}
 use Rattle.cluster_state.proofs.Growing.{same, fewer, not_flying}
 
@@ -50,7 +50,7 @@ some_at {A = A} P o x is h = subst (λ (o' : Option A). IsSomeAnd o' P) is h
 -- ---- tickets
 
 point_more : (past now : Past) (v w : ℕ) (p : Point Shown) → Lasts past now → w ≡ v → IsPointAt past v p → IsPointAt now w p
-point_more past now v w p g same was = record { version = was.version ∙ sym same; stands = subst (λ (k : ℕ). Stands now k p.readers) (sym same) (g.stands v p.readers was.stands) }
+point_more past now v w p g same was = record { version = was.version ∙ sym same; stands = subst (λ (k : ℕ). StandForVersion now k p.readers) (sym same) (g.stands v p.readers was.stands) }
 
 pub holds_same : (past now : Past) (n : ℕ) (tickets : List (Open Shown)) (held : List Held) → Lasts past now → Fewer past now n → HoldsTickets past n tickets held → HoldsTickets now n tickets held
 holds_same past now n tickets held g f was = record {

@@ -28,7 +28,8 @@ use Rattle.history_tables.specs.JobRows.{new_job_row, is_going, row_by, row_if_s
 use Rattle.history_book.specs.Jobs.{job_step, last_job, job_at, job_of, StartsJob, IsOlder, MayBeginJob, IsInside, AreInside, IsCancelled, LaneJobShows}
 use Rattle.history_book.specs.Log.{Log, printed}
 use Rattle.history_book.specs.Turns.{StartsOnce, InTurn, AreInTurn}
-use Rattle.history_book.proofs.LineLaws.{same_at_is, and_false}
+use Rattle.history_book.proofs.LineLaws.{and_false}
+use Rattle.history_tables.proofs.RowLemmas.{same_at_is}
 use Rattle.history_book.proofs.FreshLaws.{open_unanswered}
 use Rattle.history_book.proofs.ReignLaws.{since_start, reigns_on, start_kept, start_short, node_alive, source_alive, node_crashes_rise, source_crashes_rise, primary_crashes_rise}
 

@@ -21,7 +21,7 @@ use Rattle.history_tables.specs.Numbering.{primary_crashed}
 use Rattle.history_book.specs.Laws.{Reigns, Written, Flying, Flushed}
 use Rattle.history_laws.proofs.PastLemmas.{legal_before}
 use Rattle.history_facts.proofs.WrittenLemmas.{written as base_written, started as start_written}
-use Rattle.history_book.proofs.LineLaws.{same_at_is}
+use Rattle.history_tables.proofs.RowLemmas.{same_at_is}
 
 -- the start entry of a line kept its rule
 pub start_kept : (size : ℕ) (at : At) (past : Past) (e : Event) → IsLegalPast size past → start_entry at past ≡ Some e → KeepsRule size (before_start at past) at e
