@@ -11,7 +11,7 @@ use Rattle.disk_model.specs.Disk.{Name, Content, Cells, reads_of}
 use Rattle.segment_infos.specs.declared.infos.Infos.{Infos}
 use Rattle.segment_infos.specs.Files.{AreFilesOf}
 use Rattle.seg_reader.specs.Shown.{Shown}
-use Rattle.seg_reader.specs.StandForVersion.{StandsFor, AreSegmentsOf}
+use Rattle.seg_reader.specs.Stands.{StandsFor, AreSegmentsOf}
 use Rattle.seg_reader.proofs.StandingLaws.{one_segs}
 use Rattle.copy_state.specs.States.{meta_names}
 use Rattle.copy_job.specs.Jobs.{Job as Copy, reads_under}

@@ -5,7 +5,7 @@ use Rattle.std.proofs.lemmas.Bool.Decides.{nat_tests}
 use Rattle.nrt_base.specs.declared.numbers.At.{At}
 use Rattle.nrt_base.specs.declared.numbers.NodeNo.{NodeNo}
 use Rattle.seg_reader.specs.Shown.{Shown}
-use Rattle.seg_reader.specs.StandForVersion.{AreSegmentsOf}
+use Rattle.seg_reader.specs.Stands.{AreSegmentsOf}
 use Rattle.nrt_base.specs.declared.doc.Doc.{Doc}
 use Rattle.history_entries.specs.declared.entry.Entry.{Entry}
 use Rattle.history_entries.specs.declared.entry.Event.{Event}

@@ -12,7 +12,7 @@ use Rattle.documents.specs.declared.operation.Op.{Op}
 use Rattle.documents.specs.Documents.{is_put, after_ops, documents_after}
 use Rattle.disk_model.specs.Disk.{Cells}
 use Rattle.seg_reader.specs.Shown.{Shown}
-use Rattle.seg_reader.specs.StandForVersion.{AreSegmentsOf}
+use Rattle.seg_reader.specs.Stands.{AreSegmentsOf}
 use Rattle.segment_infos.specs.declared.infos.Infos.{Infos}
 use Rattle.segment_infos.specs.declared.infos.SegRecord.{SegRecord}
 use Rattle.searcher_switch.specs.declared.open.Point.{Point}

@@ -4,7 +4,7 @@ use Rattle.std.specs.List.{All}
 use Rattle.nrt_base.specs.declared.numbers.At.{At}
 use Rattle.disk_model.specs.Disk.{Cells}
 use Rattle.seg_reader.specs.Shown.{Shown}
-use Rattle.seg_reader.specs.StandForVersion.{AreSegmentsOf}
+use Rattle.seg_reader.specs.Stands.{AreSegmentsOf}
 use Rattle.segment_infos.specs.declared.infos.Infos.{Infos}
 use Rattle.script_serving.specs.Refusals.{put_publishes}
 use Rattle.searcher_switch.specs.declared.searchers.Lease.{Lease}
