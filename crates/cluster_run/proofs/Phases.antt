@@ -1,10 +1,10 @@
 -- A phase, lane after lane, and phase after phase.
-use Rattle.std.proofs.Common.{◌≡◌, ◌≢◌, ◌&&◌, ◌==◌, ℕ, ◌+◌, ◌<◌, ◌≤◌, not, Bool, true, false, List, [], ◌∷◌, ◌++◌, refl, ap, ◌∙◌, sym, subst, arith, get_or, take, drop, length, suc, add-one, drop-cons, append_assoc, append-nil, if◌then◌else◌}
+use Rattle.std.proofs.Common.{◌≡◌, ◌≢◌, ◌==◌, ℕ, ◌+◌, ◌<◌, ◌≤◌, not, Bool, true, false, List, [], ◌∷◌, ◌++◌, refl, ap, ◌∙◌, sym, subst, arith, get_or, take, drop, length, suc, add-one, drop-cons, append_assoc, append-nil, if◌then◌else◌}
 use Rattle.std.specs.List.{list_all, flat_map}
 use Rattle.std.proofs.lemmas.List.{take-append-drop, take_more, take_all}
 use Rattle.std.proofs.lemmas.List.Folds.{list_all-append}
-use Rattle.std.proofs.lemmas.Bool.{and_parts, and_from, true≢false}
-use Rattle.std.proofs.lemmas.Bool.Decides.{nat_tests, eqb_tells}
+use Rattle.std.proofs.lemmas.Bool.{and_parts, true≢false}
+use Rattle.std.proofs.lemmas.Bool.Decides.{nat_tests}
 use Rattle.history_tables.proofs.RowLemmas.{by_test}
 use Rattle.nrt_base.specs.declared.numbers.LaneNo.{LaneNo}
 use Rattle.nrt_base.specs.Bytes.{is_between}
@@ -14,15 +14,14 @@ use Rattle.script_serving.specs.Form.{is_under, is_phase, are_apart, are_ascendi
 use Rattle.script_serving.specs.Lines.{lines_of_phase, lines_under, all_answered}
 use Rattle.history_book.specs.declared.inner.Mark.TheVariants.{Shown, TaskFault, Kept}
 use Rattle.history_book.specs.Log.{Log, printed, FaultsFollow}
-use Rattle.lane_walks.specs.Owes.{FaultsFit}
-use Rattle.lane_walks.specs.Walks.{ServesSince, GrowsByLane, GrowsByOthers, AreUnbegun, ArePart, LinesRan}
-use Rattle.lane_walks.specs.Phases.{lines_in, ArePhasesInForm, LaneReady, PhaseDone, AreOfLanes}
+use Rattle.lane_walks.specs.Walks.{ServesSince, GrowsByOthers, AreUnbegun, ArePart, LinesRan}
+use Rattle.lane_walks.specs.Phases.{lines_in, ArePhasesInForm, AreOfLanes}
 use Rattle.lane_walks.proofs.WalkLemmas.{lane_self, on_map, all_answered_stays, since_append, log_then, faults_without_log, goes_apart}
 use Rattle.lane_walks.proofs.PartLemmas.{fits_nowhere}
-use Rattle.lane_walks.proofs.FormLemmas.{answered-append, phase_answered, lane_without, ascending_back, ascending_front, under_owned}
-use Rattle.lane_walks.proofs.PhaseLemmas.{fresh_front, fresh_back, ready_first, phase_form, part_of, part_fresh, ready_after}
+use Rattle.lane_walks.proofs.FormLemmas.{phase_answered, lane_without, ascending_back, ascending_front, under_owned}
+use Rattle.lane_walks.proofs.PhaseLemmas.{fresh_front, phase_form, part_of, part_fresh, ready_after}
+use Rattle.lane_walks.proofs.ScriptLemmas.{between_low, between_high}
 use Rattle.cluster_state.specs.Run.{Run}
-use Rattle.cluster_run.specs.Going.{GoesByLane, IsQuiet}
 use Rattle.cluster_run.specs.Running.{are_run, ArePartsInForm, IsAtRest, RunsLines, RunsPhase, RunsPhases}
 use Rattle.cluster_run.proofs.Parts.{item_passes, apart_from, of_lanes, still_fresh, idle_as}
 
@@ -122,12 +121,6 @@ lanes_begin phase r idle faults fresh =
       fresh = fresh;
       others = λ all. all;
     }
-
-between_low : (low high n : ℕ) → is_between low high n ≡ true → low ≤ n
-between_low low high n h = grind (arith, nat_tests)
-
-between_high : (low high n : ℕ) → is_between low high n ≡ true → n ≤ high
-between_high low high n h = grind (arith, nat_tests)
 
 -- the lane with its lines stands at this place of the phase
 pub record IsLaneAt (phase : Phase) (i : ℕ) (l : LaneNo × List Line) : Type 0 where

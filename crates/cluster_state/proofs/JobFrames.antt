@@ -278,3 +278,16 @@ same_then log mid now n a b = record {
   flight = λ at is. let y = b.flight at is in let x = a.flight at y.0 in (x.0, y.1 ∙ x.1);
   handed = λ job q is. b.handed job q (a.job ∙ is) ∙ a.handed job q is;
 }
+
+-- nothing happened to the job of a node
+pub job_stays : (log : Log) (n : ℕ) → SameJob log log n
+job_stays log n = record {
+  job = refl;
+  newest = omega arith;
+  documents = λ v low. refl;
+  latest = omega arith;
+  version = refl;
+  start = λ job is begun. (begun, refl);
+  flight = λ at is. (is, refl);
+  handed = λ job q is. refl;
+}

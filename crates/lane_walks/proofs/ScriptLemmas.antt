@@ -31,10 +31,10 @@ form_of script f = record { under = f.phases; ordered = f.ordered }
 
 -- ---- lanes are 1 to 8
 
-between_low : (low high n : ℕ) → is_between low high n ≡ true → low ≤ n
+pub between_low : (low high n : ℕ) → is_between low high n ≡ true → low ≤ n
 between_low low high n h = grind (arith, nat_tests)
 
-between_high : (low high n : ℕ) → is_between low high n ≡ true → n ≤ high
+pub between_high : (low high n : ℕ) → is_between low high n ≡ true → n ≤ high
 between_high low high n h = grind (arith, nat_tests)
 
 name_beyond : (lane : ℕ) → is_between 1 8 lane ≡ false → 8 < lane_name lane
