@@ -38,8 +38,8 @@ use Rattle.cluster_core.specs.declared.standing.Standing.TheVariants.{Runs, Pass
 use Rattle.cluster_core.specs.declared.turn.Turn.{Turn}
 use Rattle.cluster_core.specs.declared.turn.Turn.TheVariants.{Work, Done, Busy}
 use Rattle.lane_walks.specs.Owes.{SuitsOrFault}
-use Rattle.cluster_core.specs.Doing.{Does, IsReplied, IsBegun, IsRepliedAtDone, IsBegunAtWork}
-use Rattle.cluster_core.specs.Calls.{IsRefused, IsRefusedFor}
+use Rattle.cluster_core.specs.Doing.{Does, IsReplied, IsBegunBy, IsRepliedAtDone, IsBegunAtWork}
+use Rattle.cluster_core.specs.Calls.{LineRefused, IsRefusedFor}
 use Rattle.cluster_core.specs.CopyCalls.{CopiesFor, CopyAnswered, CopyStarts, CopyStartsWhen, is_node_lost, overtaken, standing_of, log_after, IsOpenJob, stopped_log, JobGoesOn, JobSteps, PartArrives, SettleStarts, settle_end_event, SettleGoesOn}
 use Rattle.cluster_core.proofs.Does.{does_was, runs_in, one_does, none_does, first_suits, refused_does, replied_by, one_replied, lost_reply, refused_for_does, refused_for_replied, begun_by}
 use Rattle.cluster_core.proofs.CopyRows.{copy_newest, started_newest}

@@ -18,7 +18,7 @@ use Rattle.history_tables.specs.declared.jobs.Job.{Job}
 use Rattle.history_tables.specs.declared.jobs.JobRow.{JobRow}
 use Rattle.history_book.specs.Jobs.{job_of, StartsJob, IsCancelled, IsOlder}
 use Rattle.history_book.specs.Steps.{last_by, highest_by}
-use Rattle.history_book.proofs.LineLaws.{same_at_is}
+use Rattle.history_tables.proofs.RowLemmas.{same_at_is}
 use Rattle.history_entries.specs.Rules.{StartedCopy, is_copy, is_lost, MayRefuse, MayRefuseLine}
 use Rattle.history_tables.specs.declared.lines.Start.{Start}
 use Rattle.history_tables.specs.declared.lines.Begun.{Begun}

@@ -42,8 +42,8 @@ use Rattle.cluster_state.specs.Run.{Run, IsNow}
 use Rattle.cluster_core.specs.declared.turn.Turn.{Turn}
 use Rattle.cluster_core.specs.declared.turn.Turn.TheVariants.{Work, Done, Busy}
 use Rattle.lane_walks.specs.Owes.{SuitsOrFault}
-use Rattle.cluster_core.specs.Doing.{Does, IsReplied, IsBegun, IsRepliedAtDone, IsBegunAtWork, writing_command, AsksFor}
-use Rattle.cluster_core.specs.Calls.{by_refusal, IsRefused, IsRefusedFor, cut_refusal, publish_refusal, PublishRefused, PublishStarts, publish_end_event, open_event, SearchStarts, AsksTicket, AskStarts, asked_event, close_by, ScansAt, answer_event, AnswerEnds}
+use Rattle.cluster_core.specs.Doing.{Does, IsReplied, IsBegunBy, IsRepliedAtDone, IsBegunAtWork, writing_command, AsksFor}
+use Rattle.cluster_core.specs.Calls.{by_refusal, LineRefused, IsRefusedFor, cut_refusal, publish_refusal, PublishRefused, PublishStarts, publish_end_event, open_event, SearchStarts, AsksTicket, AskStarts, asked_event, close_by, ScansAt, answer_event, AnswerEnds}
 
 -- ---- entries
 
@@ -78,7 +78,7 @@ one_replied at old new e reply now =
 
 -- a start is there
 pub begun_by : (at : At) (old new : Run) (begun : Event) → is_reply begun ≡ false → last_of_line at (record { at = at; event = begun } ∷ printed old.log) ≡ Some begun → IsFresh at (printed old.log)
-    → printed new.log ≡ record { at = at; event = begun } ∷ printed old.log → IsBegun at begun new
+    → printed new.log ≡ record { at = at; event = begun } ∷ printed old.log → IsBegunBy at begun new
 begun_by at old new begun reply last fresh log = record {
   last = ap (last_of_line at) log ∙ last;
   unanswered = ap (is_answered at) log ∙ (ap (λ (b : Bool). (b && same_at at at) || is_answered at (printed old.log)) reply ∙ fresh.replied);
@@ -95,7 +95,7 @@ row_does command at old new (Some cause) e lift fresh is now begins =
     one_does command at old new (Refused cause) now (first_suits command at (printed old.log) (Refused cause) fresh (subst (λ (r : Option Cause). First command at (printed old.log) r (Refused cause)) (sym is) refl))
 
 -- a refusal that holds
-pub refused_does : (command : LineCommand) (at : At) (old new : Run) (cause : Cause) → IsFresh at (printed old.log) → refusal command at.lane.0 (printed old.log) ≡ Some cause → IsRefused at cause old new → Does command at old new
+pub refused_does : (command : LineCommand) (at : At) (old new : Run) (cause : Cause) → IsFresh at (printed old.log) → refusal command at.lane.0 (printed old.log) ≡ Some cause → LineRefused at cause old new → Does command at old new
 refused_does command at old new cause fresh is now =
     one_does command at old new (Refused cause) now (first_suits command at (printed old.log) (Refused cause) fresh (subst (λ (r : Option Cause). First command at (printed old.log) r (Refused cause)) (sym is) refl))
 
@@ -174,7 +174,7 @@ version_is v w is = subst (λ (x : ℕ). ◌≡◌ {A = Version} (record { 0 = x
 pub search_begun : (at : At) (n : NodeNo) (old new : Run) (turn : Turn (Lease Shown)) → IsFresh at (printed old.log) → SearchStarts at n old new turn
     → IsBegunAtWork at (λ lease. Opened n (record { 0 = 0 }) lease.version) new turn
 search_begun at n old new (Work lease) fresh starts =
-    subst (λ (v : Version). IsBegun at (Opened n (record { 0 = 0 }) v) new) (version_is lease.version (version_of n.0 (printed old.log)) starts.1.version)
+    subst (λ (v : Version). IsBegunBy at (Opened n (record { 0 = 0 }) v) new) (version_is lease.version (version_of n.0 (printed old.log)) starts.1.version)
     (begun_by at old new (Opened n (record { 0 = 0 }) (record { 0 = version_of n.0 (printed old.log) })) refl (rw (same_at_self at) refl) fresh (ap printed starts.0.log))
 search_begun at n old new Done fresh starts = tt
 search_begun at n old new Busy fresh starts = tt
@@ -200,10 +200,10 @@ ask_replied at t old new (Work lease) starts = tt
 ask_replied at t old new Done starts = one_replied at old new (Refused NoTicket) refl starts.0
 ask_replied at t old new Busy starts = absurd starts
 
-asks_begun : (at : At) (t : TicketNo) (old new : Run) (o : Option Ticket) (lease : Lease Shown) → IsFresh at (printed old.log) → AsksTicket at t o old new lease → IsBegun at (asked_event t o lease.version) new
+asks_begun : (at : At) (t : TicketNo) (old new : Run) (o : Option Ticket) (lease : Lease Shown) → IsFresh at (printed old.log) → AsksTicket at t o old new lease → IsBegunBy at (asked_event t o lease.version) new
 asks_begun at t old new None lease fresh asks = absurd asks
 asks_begun at t old new (Some ticket) lease fresh asks =
-    subst (λ (v : Version). IsBegun at (Asking (record { 0 = ticket.node }) t v) new) (version_is lease.version ticket.version asks.1.version)
+    subst (λ (v : Version). IsBegunBy at (Asking (record { 0 = ticket.node }) t v) new) (version_is lease.version ticket.version asks.1.version)
     (begun_by at old new (Asking (record { 0 = ticket.node }) t (record { 0 = ticket.version })) refl (rw (same_at_self at) refl) fresh (ap printed asks.0.log))
 
 pub ask_begun : (at : At) (t : TicketNo) (old new : Run) (turn : Turn (Lease Shown)) → IsFresh at (printed old.log) → AskStarts at t old new turn
@@ -267,7 +267,7 @@ empty_no_put (op ∷ ops) none = absurd (grind (arith, none))
 
 -- a publish that is refused while no cause of the history holds
 open_refused : (at : At) (old new : Run) (cause : Cause) → IsFresh at (printed old.log) → refusal Publish at.lane.0 (printed old.log) ≡ None → First Publish at (printed old.log) None (Refused cause)
-    → IsRefused at cause old new → Does Publish at old new
+    → LineRefused at cause old new → Does Publish at old new
 open_refused at old new cause fresh is may now =
     one_does Publish at old new (Refused cause) now (first_suits Publish at (printed old.log) (Refused cause) fresh (subst (λ (r : Option Cause). First Publish at (printed old.log) r (Refused cause)) (sym is) may))
 

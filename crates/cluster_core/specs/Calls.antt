@@ -34,19 +34,19 @@ by_refusal None e = e
 by_refusal (Some cause) e = Refused cause
 
 -- the line was refused for this cause
-abbrev pub IsRefused : At → Cause → Run → Run → Type 0
-IsRefused at cause old new = IsNow old new (shown at (Refused cause) ∷ old.log)
+abbrev pub LineRefused : At → Cause → Run → Run → Type 0
+LineRefused at cause old new = IsNow old new (shown at (Refused cause) ∷ old.log)
 
 -- the line was refused for this cause, and so is done
 abbrev pub IsRefusedTurn : {W : Type 0} → At → Cause → Run → Run → Turn W → Type 0
 IsRefusedTurn at cause old new (Work w) = ⊥
-IsRefusedTurn at cause old new Done = IsRefused at cause old new
+IsRefusedTurn at cause old new Done = LineRefused at cause old new
 IsRefusedTurn at cause old new Busy = ⊥
 
 -- the line was refused, for the cause that holds
 abbrev pub IsRefusedFor : At → Option Cause → Run → Run → Type 0
 IsRefusedFor at None old new = ⊥
-IsRefusedFor at (Some cause) old new = IsRefused at cause old new
+IsRefusedFor at (Some cause) old new = LineRefused at cause old new
 
 -- why a publish is refused for its cut: it is empty, or it has a put and every name is drawn
 abbrev pub cut_refusal : Past → Option Cause
@@ -58,8 +58,8 @@ publish_refusal past = option_or (without_primary past) (cut_refusal past)
 
 -- a publish was refused: for the cause that holds, or where none holds and the cut has a put, for too many segments, as many as there may be
 abbrev pub PublishRefused : At → Option Cause → Run → Run → Type 0
-PublishRefused at (Some cause) old new = IsRefused at cause old new
-PublishRefused at None old new = IsRefused at TooManySegments old new × (cut_has_put (printed old.log) ≡ true) × (may_be_full (printed old.log) ≡ true)
+PublishRefused at (Some cause) old new = LineRefused at cause old new
+PublishRefused at None old new = LineRefused at TooManySegments old new × (cut_has_put (printed old.log) ≡ true) × (may_be_full (printed old.log) ≡ true)
 
 -- a publish starts: it is handed out, refused, or waits while another line's is in flight
 abbrev pub PublishStarts : At → Run → Run → Turn FlushTask → Type 0
@@ -99,7 +99,7 @@ asked_event t (Some ticket) v = Asking (record { 0 = ticket.node }) t v
 -- it starts, or the lane has no such ticket
 abbrev pub AskStarts : At → TicketNo → Run → Run → Turn (Lease Shown) → Type 0
 AskStarts at t old new (Work lease) = AsksTicket at t (open_ticket at.lane.0 t.0 (printed old.log)) old new lease
-AskStarts at t old new Done = IsRefused at NoTicket old new × (open_ticket at.lane.0 t.0 (printed old.log) ≡ None)
+AskStarts at t old new Done = LineRefused at NoTicket old new × (open_ticket at.lane.0 t.0 (printed old.log) ≡ None)
 AskStarts at t old new Busy = ⊥
 
 -- what a line does that closes a ticket

@@ -30,7 +30,7 @@ use Rattle.cluster_core.specs.declared.standing.Standing.{Standing}
 use Rattle.cluster_core.specs.declared.standing.Standing.TheVariants.{Runs, Passed, Ends}
 use Rattle.cluster_core.specs.declared.turn.Turn.{Turn}
 use Rattle.cluster_core.specs.declared.turn.Turn.TheVariants.{Work, Done, Busy}
-use Rattle.cluster_core.specs.Calls.{IsRefused, IsRefusedFor}
+use Rattle.cluster_core.specs.Calls.{LineRefused, IsRefusedFor}
 
 -- a line that has started so asks for copies
 abbrev pub CopiesFor : LineCommand → Option Event → Type 0
@@ -42,7 +42,7 @@ CopiesFor command begun = ⊥
 
 -- a copy was refused for the cause that holds, or had nothing to do
 abbrev pub CopyAnswered : At → NodeNo → Option Cause → Run → Run → Type 0
-CopyAnswered at n (Some cause) old new = IsRefused at cause old new
+CopyAnswered at n (Some cause) old new = LineRefused at cause old new
 CopyAnswered at n None old new =
     IsNow old new (shown at (Copied n (newest_of (printed old.log))) ∷ shown at (Copying n (newest_of (printed old.log))) ∷ old.log)
 
@@ -146,13 +146,13 @@ JobSteps (Some log) job old new turn = StopsTurn log old new turn
 JobSteps None job old new turn = JobGoesOn job old new turn
 
 -- a job that runs has the part now, and all that is seen is as before
-abbrev pub HasPart : Run → Run → Turn (Unit {0}) → Type 0
-HasPart old new turn = (turn ≡ Work tt) × IsNow old new old.log
+abbrev pub JobHasPart : Run → Run → Turn (Unit {0}) → Type 0
+JobHasPart old new turn = (turn ≡ Work tt) × IsNow old new old.log
 
 -- a part arrives: its job was stopped, or has the part
 abbrev pub PartArrives : Option Log → Run → Run → Turn (Unit {0}) → Type 0
 PartArrives (Some log) old new turn = StopsTurn log old new turn
-PartArrives None old new turn = HasPart old new turn
+PartArrives None old new turn = JobHasPart old new turn
 
 -- none of these nodes is below this one
 abbrev pub AreFrom : NodeNo → List NodeNo → Type 0

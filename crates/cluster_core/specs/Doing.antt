@@ -26,7 +26,7 @@ abbrev pub IsReplied : At → Run → Type 0
 IsReplied at r = is_answered at (printed r.log) ≡ true
 
 -- the line has begun with this event, and has no reply
-pub record IsBegun (at : At) (begun : Event) (r : Run) : Type 0 where
+pub record IsBegunBy (at : At) (begun : Event) (r : Run) : Type 0 where
   pub last : last_of_line at (printed r.log) ≡ Some begun
   pub unanswered : is_answered at (printed r.log) ≡ false
 
@@ -38,7 +38,7 @@ IsRepliedAtDone at r Busy = ⊤
 
 -- where work is handed out the line has begun so
 abbrev pub IsBegunAtWork : {W : Type 0} → At → (W → Event) → Run → Turn W → Type 0
-IsBegunAtWork at begun r (Work w) = IsBegun at (begun w) r
+IsBegunAtWork at begun r (Work w) = IsBegunBy at (begun w) r
 IsBegunAtWork at begun r Done = ⊤
 IsBegunAtWork at begun r Busy = ⊤
 

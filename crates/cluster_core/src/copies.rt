@@ -16,8 +16,8 @@ ghost use Rattle.script_serving.specs.Refusals.{refusal};
 ghost use Rattle.cluster_state.specs.Run.{IsEnded};
 ghost use Rattle.cluster_state.specs.Copies.{JobRuns};
 ghost use Rattle.cluster_state.specs.FilesOut.{file_out};
-ghost use Rattle.cluster_core.specs.Calls.{IsRefused};
-ghost use Rattle.cluster_core.specs.CopyCalls.{IsBeingCopied, CopyStarts, CopyStartsWhen, IsSourceFor, IsOpenJob, standing_of, MayEnd, stopped_log, Stops, RunsOn, JobGoesOn, JobSteps, HasPart, PartArrives};
+ghost use Rattle.cluster_core.specs.Calls.{LineRefused};
+ghost use Rattle.cluster_core.specs.CopyCalls.{IsBeingCopied, CopyStarts, CopyStartsWhen, IsSourceFor, IsOpenJob, standing_of, MayEnd, stopped_log, Stops, RunsOn, JobGoesOn, JobSteps, JobHasPart, PartArrives};
 
 use crate::refusals::refuse_turn;
 use crate::standing::Standing;
@@ -177,7 +177,7 @@ fn refuse_job<D: FaultDir + Drop>(
     requires copies { IsOpenJob state.old.log row }
     requires rule { KeepsRule state.old.nodes (printed state.old.log) row.job.at
         (Event.Refused cause) }
-    ensures ok { OnOk result (IsRefused row.job.at cause state.old state.new) }
+    ensures ok { OnOk result (LineRefused row.job.at cause state.old state.new) }
     ensures err { OnErr result (IsEnded state.old state.new) }
 {
     state.book().job_shows(row);
@@ -248,7 +248,7 @@ pub fn copy_arrived<D: FaultDir + Drop>(
         → start_entry row.job.at (printed state.old.log) ≡ Some begun
         → PartArrives (stopped_log begun row state.old.log) state.old state.new turn) }
     ensures goes { IfOk result (λ turn. JobRuns state.old.log row
-        → HasPart state.old state.new turn) }
+        → JobHasPart state.old state.new turn) }
     ensures err { OnErr result (IsEnded state.old state.new) }
 {
     if is_stopped(state, row)? {

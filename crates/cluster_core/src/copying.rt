@@ -30,7 +30,7 @@ impl<D: FaultDir + Drop> Cluster<D> {
     ghost use Rattle.cluster_state.specs.Settles.{IsSettling};
     ghost use Rattle.cluster_core.specs.declared.turn.Turn.TheVariants.{Done};
     ghost use Rattle.cluster_core.specs.Doing.{Does, IsReplied, IsRepliedAtDone, IsBegunAtWork};
-    ghost use Rattle.cluster_core.specs.CopyCalls.{CopiesFor, CopyStarts, CopyStartsWhen, stopped_log, StopsTurn, JobGoesOn, HasPart, AreFrom, SettlesOn, SettleStarts, SettleGoesOn};
+    ghost use Rattle.cluster_core.specs.CopyCalls.{CopiesFor, CopyStarts, CopyStartsWhen, stopped_log, StopsTurn, JobGoesOn, JobHasPart, AreFrom, SettlesOn, SettleStarts, SettleGoesOn};
 
     /// Starts a copy of the newest point to a node. Busy comes exactly where the line is not refused and a job for the newest version
     /// runs at the node, which is behind that version.
@@ -112,7 +112,7 @@ impl<D: FaultDir + Drop> Cluster<D> {
 
         // a job that runs, and one that was stopped
         ensures ok { IfOk result (λ turn. (row : JobRow) → JobRuns self.old.log row
-            → row.job.at ≡ at → HasPart self.old self.new turn) }
+            → row.job.at ≡ at → JobHasPart self.old self.new turn) }
         ensures stops { IfOk result (λ turn. (row : JobRow) (begun : Event) (log : Log)
             → job_of at.lane.0 self.old.log ≡ Some row
             → start_entry at (printed self.old.log) ≡ Some begun

@@ -9,7 +9,7 @@ ghost use Rattle.history_book.specs.Log.{printed, shown};
 ghost use Rattle.script_serving.specs.Refusals.{without_primary};
 ghost use Rattle.cluster_state.specs.Run.{IsNow, IsEnded};
 ghost use Rattle.cluster_state.specs.Writes.{IsFlushed};
-ghost use Rattle.cluster_core.specs.Calls.{by_refusal, cut_refusal as cut_refusal_lem, IsRefused, PublishStarts, publish_end_event};
+ghost use Rattle.cluster_core.specs.Calls.{by_refusal, cut_refusal as cut_refusal_lem, LineRefused, PublishStarts, publish_end_event};
 
 use crate::refusals::{refuse, refuse_turn};
 use crate::turn::Turn;
@@ -114,7 +114,7 @@ fn lose_publish<D: FaultDir + Drop>(state: &mut ClusterState<D>, at: At) -> Resu
     requires line { open_line at (printed state.old.log) ≢ None }
     requires lost { (primary_crashes (printed state.old.log)
         == primary_crashes (before_start at (printed state.old.log))) ≡ false }
-    ensures ok { OnOk result (IsRefused at Cause.Lost state.old state.new) }
+    ensures ok { OnOk result (LineRefused at Cause.Lost state.old state.new) }
     ensures err { OnErr result (IsEnded state.old state.new) }
 {
     state.book().is_legal();

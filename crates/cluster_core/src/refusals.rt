@@ -5,7 +5,7 @@ ghost use Rattle.history_entries.specs.Lines.{entries_of_line};
 ghost use Rattle.history_entries.specs.Commits.{is_disk_fault};
 ghost use Rattle.history_book.specs.Log.{printed};
 ghost use Rattle.cluster_state.specs.Run.{IsEnded};
-ghost use Rattle.cluster_core.specs.Calls.{IsRefused, IsRefusedTurn};
+ghost use Rattle.cluster_core.specs.Calls.{LineRefused, IsRefusedTurn};
 
 use crate::turn::Turn;
 use cluster_state::ClusterState;
@@ -22,7 +22,7 @@ pub fn refuse<D: FaultDir + Drop>(
     requires running { state.old.ended ≡ false }
     requires fresh { entries_of_line at (printed state.old.log) ≡ [] }
     requires cause { is_disk_fault cause ≡ false }
-    ensures ok { OnOk result (IsRefused at cause state.old state.new) }
+    ensures ok { OnOk result (LineRefused at cause state.old state.new) }
     ensures err { OnErr result (IsEnded state.old state.new) }
 {
     state.is_apart(at);

@@ -6,23 +6,10 @@ use Rattle.disk_model.proofs.CellLemmas.{same_true}
 use Rattle.file_deleter.specs.Holdings.{times}
 use Rattle.file_deleter.proofs.NameLemmas.{same_self, times-cons, among_times}
 use Rattle.copy_state.specs.declared.meta.FileMetaData.{FileMetaData}
-use Rattle.copy_state.specs.States.{meta_in}
+use Rattle.copy_state.specs.States.{meta_names, meta_in}
 use Rattle.copy_job.specs.Jobs.{Job, IsJob}
 use Rattle.replica_node.specs.declared.job.PointJob.{PointJob}
-
--- a name among those of files has metadata
-pub named_meta : (files : List (Name × FileMetaData)) (q : Name) → 0 < times (meta_names files) q → (meta : FileMetaData) × (meta_in files q ≡ Some meta)
-named_meta [] q some = absurd (let none : times [] q ≡ 0 = refl in omega (arith, some, none))
-named_meta (f ∷ fs) q some = by (named_meta fs q) (same q f.0) refl
-  where
-    by : (0 < times (meta_names fs) q → (meta : FileMetaData) × (meta_in fs q ≡ Some meta)) → (b : Bool) → same q f.0 ≡ b → (meta : FileMetaData) × ((if b then Some f.1 else meta_in fs q) ≡ Some meta)
-    by rest true here = (f.1, refl)
-    by rest false here = rest (other (same f.0 q) refl)
-      where
-        other : (c : Bool) → same f.0 q ≡ c → 0 < times (meta_names fs) q
-        other true e = absurd (true≢false (sym (same_self q) ∙ (ap (λ (n : Name). same q n) (sym (same_true f.0 q e)) ∙ here)))
-        other false e = let parts : times (f.0 ∷ meta_names fs) q ≡ (if same f.0 q then 1 else 0) + times (meta_names fs) q = times-cons f.0 (meta_names fs) q in
-            let none : (if same f.0 q then 1 else 0) ≡ 0 = ap (λ (b : Bool). let k : ℕ = if b then 1 else 0 in k) e in omega (arith, some, parts, none)
+use Rattle.replica_node.proofs.Metas.{some_meta}
 
 pub first_counted : (names : List Name) (q : Name) → Some q ≡ slice_get names 0 → 0 < times names q
 first_counted [] q is = absurd (cc)
@@ -34,7 +21,7 @@ first_counted (x ∷ xs) q is =
 
 -- a file that a job lacks is one that it wants
 pub wanted_meta : (j : Job) (q : Name) → IsJob j → 0 < times j.missing q → (meta : FileMetaData) × (meta_in j.want.files q ≡ Some meta)
-wanted_meta j q is some = named_meta j.want.files q (let all = is.each q in omega (arith, some, all))
+wanted_meta j q is some = some_meta j.want.files q (let all = is.each q in omega (arith, some, all))
 
 -- ---- a walk over files
 

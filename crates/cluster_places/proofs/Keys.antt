@@ -2,8 +2,7 @@
 use Rattle.std.proofs.Common.{◌≡◌, ◌==◌, true, true≢false, ap, sym, arith}
 use Rattle.std.proofs.lemmas.Bool.{eqb-true, and_parts}
 use Rattle.std.proofs.lemmas.Bool.Decides.{nat_tests}
-use Rattle.history_tables.proofs.RowLemmas.{same_at_self}
-use Rattle.history_book.proofs.LineLaws.{same_at_is}
+use Rattle.history_tables.proofs.RowLemmas.{same_at_self, same_at_is}
 use Rattle.cluster_places.specs.declared.held.Key.{Key}
 use Rattle.cluster_places.specs.declared.held.Key.TheVariants.{Ticket, Search}
 use Rattle.cluster_places.specs.Held.{same_key}

@@ -5,4 +5,4 @@ pub mod OutCounts
 mod Slots
 pub mod Stepping
 mod Taking
-mod TicketNodes
+pub mod TicketNodes

@@ -2,24 +2,21 @@
 use Rattle.std.proofs.Common.{◌≡◌, ◌≤◌, ◌+◌, ◌&&◌, ◌==◌, ℕ, zero, suc, Bool, true, false, true≢false, List, [], ◌∷◌, ◌++◌, Some, None, Option, refl, ap, ◌∙◌, sym, arith, if◌then◌else◌}
 use Rattle.std.specs.Prelude.{IfSome}
 use Rattle.std.specs.Cmp.Lexicographic.{pointwise}
-use Rattle.std.proofs.lemmas.Bool.{eqb-true, eq-eqb}
+use Rattle.std.proofs.lemmas.Bool.{eqb-true}
 use Rattle.std.proofs.lemmas.Bool.Decides.{nat_tests}
 use Rattle.disk_model.specs.Disk.{Name, same}
 use Rattle.disk_model.proofs.CellLemmas.{same_true}
 use Rattle.file_deleter.specs.Holdings.{times}
-use Rattle.file_deleter.proofs.NameLemmas.{same_self, times-append}
+use Rattle.file_deleter.proofs.NameLemmas.{times-append}
 use Rattle.index_primary.specs.declared.states.Out.{Out}
 use Rattle.index_primary.specs.States.{same_out, is_out, states_without, state_names}
+use Rattle.index_primary.proofs.StateLemmas.{same_out_self}
 use Rattle.cluster_places.specs.declared.nodes.Place.{Place}
 use Rattle.cluster_places.specs.Places.{place_of}
 use Rattle.cluster_places.specs.Outs.{one_like, states_like, want_at, jobs_like}
 use Rattle.cluster_places.specs.JobChanges.{given_back}
 
 -- ---- one state
-
-names_self : (names : List Name) → pointwise same names names ≡ true
-names_self [] = refl
-names_self (q ∷ names) = ap (λ (b : Bool). b && pointwise same names names) (same_self q) ∙ names_self names
 
 names_same : (a b : List Name) → pointwise same a b ≡ true → a ≡ b
 names_same [] [] is = refl
@@ -30,9 +27,6 @@ names_same (p ∷ a) (q ∷ b) is = tests (same p q) refl is (λ rest. names_sam
     tests : (t : Bool) → same p q ≡ t → (t && pointwise same a b) ≡ true → (pointwise same a b ≡ true → a ≡ b) → p ∷ a ≡ q ∷ b
     tests true here rest more = λ i. same_true p q here i ∷ more rest i
     tests false here none more = absurd (true≢false (sym none))
-
-pub same_out_self : (s : Out) → same_out s s ≡ true
-same_out_self s = ap (λ (b : Bool). b && pointwise same s.names s.names) (eq-eqb s.version.0 s.version.0 refl) ∙ names_self s.names
 
 pub same_out_is : (s t : Out) → same_out s t ≡ true → s ≡ t
 same_out_is s t is = tests (s.version.0 == t.version.0) refl is

@@ -5,6 +5,9 @@ use Rattle.nrt_base.specs.declared.numbers.Gen.{Gen}
 use Rattle.nrt_base.specs.declared.doc.Doc.{Doc}
 use Rattle.disk_model.specs.Disk.{Name, Content, Cells, reads_of}
 use Rattle.file_deleter.specs.Holdings.{count_of}
+use Rattle.file_names.specs.Names.{temp_name_of}
+use Rattle.node_files.specs.Appearing.{NoneAppears, AppearsOnly}
+use Rattle.node_files.proofs.Appearing.{only_none}
 use Rattle.seg_reader.specs.Stands.{StandsFor}
 use Rattle.copy_state.specs.declared.state.CopyState.{CopyState}
 use Rattle.copy_job.specs.declared.copying.Part.{Part}
@@ -19,7 +22,7 @@ use Rattle.replica_node.specs.declared.job.PointJob.{PointJob}
 use Rattle.replica_node.specs.declared.parts.Parts.{Parts as ReplicaParts}
 use Rattle.replica_node.specs.Replica.{IsWholeReplica, AreStanding}
 use Rattle.replica_node.specs.Jobs.{IsPointJob}
-use Rattle.replica_node.specs.Sources.{IsSourced, KeepsSource}
+use Rattle.replica_node.specs.Sources.{IsSourced, KeepsSource, IsWantedName}
 use Rattle.cluster_places.specs.Outs.{want_of}
 use Rattle.cluster_places.specs.JobChanges.{given_back, AltersStates, AltersJob, BeginsAt, FinishesAt, TakesPart}
 
@@ -35,29 +38,36 @@ pub out_pushed : (o : Option Out) (t : Out) (ts us : List Out) → us ≡ ts ++ 
 out_pushed None t ts us is out = tt
 out_pushed (Some s) t ts us is out = ap (is_out s) is ∙ out_push s t ts out
 
+-- a directory that is as it was
+pub none_by : {before after : Cells} → after ≡ before → NoneAppears before after
+none_by is = record { each = λ name none. ap (λ (c : Cells). (c name).now) is ∙ none }
+
 module _ {D : Type 0} (cells : D → Cells) where
   -- ---- the primary
 
-  pub alters_by : (p q : PrimaryParts D) → KeepsHeldBytes cells p q → HoldsNoNew p q → q ≡ record p { dir = q.dir; files = q.files; states = q.states } → (IsPrimary cells p → IsPrimary cells q) → AltersStates cells p q
-  alters_by p q stays no_new is whole = record {
+  pub alters_by : (p q : PrimaryParts D) → KeepsHeldBytes cells p q → HoldsNoNew p q → NoneAppears (cells p.dir) (cells q.dir) → q ≡ record p { dir = q.dir; files = q.files; states = q.states } → (IsPrimary cells p → IsPrimary cells q) → AltersStates cells p q
+  alters_by p q stays no_new appears is whole = record {
     others = is;
     whole = whole;
     files = record {
       stays = stays;
       no_new = no_new;
       drawn = record { each = λ name undrawn. subst (λ (x : PrimaryParts D). IsUndrawn x.infos (loose_of x) name) is undrawn };
+      appears = appears;
+      commits = ap (λ (x : PrimaryParts D). x.commits) is;
       point = ap (λ (x : PrimaryParts D). x.point_infos.generation) is;
       generation = ap (λ (x : PrimaryParts D). x.infos.generation) is;
     };
   }
 
   pub alters_none : (p : PrimaryParts D) → AltersStates cells p p
-  alters_none p = alters_by p p (record { held = λ q a b. refl }) (record { each = λ q none. none }) refl (λ w. w)
+  alters_none p = alters_by p p (record { held = λ q a b. refl }) (record { each = λ q none. none }) (record { each = λ q none. none }) refl (λ w. w)
 
   pub alters_then : (p q s : PrimaryParts D) → AltersStates cells p q → AltersStates cells q s → AltersStates cells p s
   alters_then p q s a b = alters_by p s
       (record { held = λ name before after. held name before after (count_of q.files name) refl })
       (record { each = λ name none. b.files.no_new.each name (a.files.no_new.each name none) })
+      (record { each = λ name none. b.files.appears.each name (a.files.appears.each name none) })
       (b.others ∙ ap (λ (x : PrimaryParts D). record x { dir = s.dir; files = s.files; states = s.states }) a.others)
       (λ w. b.whole (a.whole w))
     where
@@ -68,7 +78,7 @@ module _ {D : Type 0} (cells : D → Cells) where
   -- ---- the replica
 
   pub job_none : (r : ReplicaParts D) → AltersJob cells r r
-  job_none r = record { others = refl; whole = λ w. w; standing = λ w. w; sourced = λ source was. was }
+  job_none r = record { others = refl; whole = λ w. w; standing = λ w. w; sourced = λ source was. was; appears = record { each = λ name none. none } }
 
   pub job_then : (r s t : ReplicaParts D) → AltersJob cells r s → AltersJob cells s t → AltersJob cells r t
   job_then r s t a b = record {
@@ -76,6 +86,7 @@ module _ {D : Type 0} (cells : D → Cells) where
     whole = λ w. b.whole (a.whole w);
     standing = λ w. b.standing (a.standing w);
     sourced = λ source was. b.sourced source (a.sourced source was);
+    appears = record { each = λ name none. b.appears.each name (a.appears.each name none) };
   }
 
   -- the replica has seen another generation
@@ -85,6 +96,7 @@ module _ {D : Type 0} (cells : D → Cells) where
     whole = whole;
     standing = λ w. subst (λ (x : ReplicaParts D). AreStanding cells x) (sym is) (record { point = w.point; commits = w.commits });
     sourced = λ source w. subst (λ (x : ReplicaParts D). IsSourced source cells x) (sym is) (record { held = w.held; job = w.job });
+    appears = record { each = λ name none. ap (λ (x : ReplicaParts D). (cells x.dir name).now) is ∙ none };
   }
 
   pub job_by : (r s : ReplicaParts D) → s ≡ record r { files = s.files; jobs = s.jobs; job = s.job } → (IsWholeReplica cells r → IsWholeReplica cells s) → (AreStanding cells r → AreStanding cells s) → KeepsSource cells r s → AltersJob cells r s
@@ -93,6 +105,7 @@ module _ {D : Type 0} (cells : D → Cells) where
     whole = whole;
     standing = standing;
     sourced = sourced;
+    appears = record { each = λ name none. ap (λ (x : ReplicaParts D). (cells x.dir name).now) is ∙ none };
   }
 
   -- ---- a job that begins
@@ -133,23 +146,33 @@ module _ {D : Type 0} (cells : D → Cells) where
   -- ---- a part
 
   pub takes_none : (part : Part) (r : ReplicaParts D) → TakesPart cells part r r
-  takes_none part r = record { others = refl; whole = λ w. w; standing = λ w. w; sourced = λ source is was. was; job = same r.job }
+  takes_none part r = record { others = refl; whole = λ w. w; standing = λ w. w; sourced = λ source is was. was; job = same r.job; appears = nothing r.job }
     where
+      nothing : (o : Option PointJob) → IfSome o (λ j. AppearsOnly (λ q. q ≡ temp_name_of part.name j.copy.number) (cells r.dir) (cells r.dir))
+      nothing None = tt
+      nothing (Some j) = only_none (λ q. q ≡ temp_name_of part.name j.copy.number) (cells r.dir) (cells r.dir) (record { each = λ q none. none })
+
       same : (o : Option PointJob) → IfSome o (λ j. IsSomeAnd o (λ k. (k.copy.number ≡ j.copy.number) × (k.copy.want ≡ j.copy.want) × (k.infos ≡ j.infos)))
       same None = tt
       same (Some j) = (refl, refl, refl)
 
   pub takes_in : (part : Part) (r s : ReplicaParts D) → s ≡ record r { dir = s.dir; files = s.files; job = s.job } → IsWholeReplica cells s → (AreStanding cells r → AreStanding cells s)
       → ((source : Name → Content) → source part.name ≡ Some part.bytes → IsSourced source cells r → IsSourced source cells s)
-      → IfSome r.job (λ j. s.job ≡ Some (record j { copy = with_part j.copy part.name })) → TakesPart cells part r s
-  takes_in part r s is whole standing sourced with = record {
+      → IfSome r.job (λ j. s.job ≡ Some (record j { copy = with_part j.copy part.name })) → (c : Job) (number : ℕ) → IfSome r.job (λ j. c ≡ j.copy) → number ≡ c.number
+      → AppearsOnly (λ q. q ≡ temp_name_of part.name number) (cells r.dir) (cells s.dir) → TakesPart cells part r s
+  takes_in part r s is whole standing sourced with c number copies runs appears = record {
     others = is;
     whole = λ w. whole;
     standing = standing;
     sourced = sourced;
     job = same r.job with;
+    appears = wrote r.job copies;
   }
     where
+      wrote : (o : Option PointJob) → IfSome o (λ j. c ≡ j.copy) → IfSome o (λ j. AppearsOnly (λ q. q ≡ temp_name_of part.name j.copy.number) (cells r.dir) (cells s.dir))
+      wrote None is = tt
+      wrote (Some j) is = subst (λ (k : ℕ). AppearsOnly (λ q. q ≡ temp_name_of part.name k) (cells r.dir) (cells s.dir)) (runs ∙ ap (λ (x : Job). x.number) is) appears
+
       same : (o : Option PointJob) → IfSome o (λ j. s.job ≡ Some (record j { copy = with_part j.copy part.name }))
           → IfSome o (λ j. IsSomeAnd s.job (λ k. (k.copy.number ≡ j.copy.number) × (k.copy.want ≡ j.copy.want) × (k.infos ≡ j.infos)))
       same None now = tt
@@ -160,22 +183,23 @@ module _ {D : Type 0} (cells : D → Cells) where
   pub finishes : (p q : PrimaryParts D) (r s : ReplicaParts D) (state : CopyState) (c : Job) → IfSome r.job (λ j. c ≡ j.copy) → state ≡ c.want
       → AltersStates cells p q → q.states ≡ states_without (out_of state) p.states
       → s ≡ record r { dir = s.dir; files = s.files; searchers = s.searchers; infos = s.infos; segs = s.segs; job = s.job; known = s.known } → IsWholeReplica cells s → (AreStanding cells r → AreStanding cells s) → KeepsSource cells r s
-      → IfSome r.job (λ j. s.infos ≡ j.infos) → s.job ≡ None → s.searchers.tickets ≡ r.searchers.tickets
+      → AppearsOnly (IsWantedName r.job) (cells r.dir) (cells s.dir) → IfSome r.job (λ j. s.infos ≡ j.infos) → s.job ≡ None → s.searchers.tickets ≡ r.searchers.tickets
       → IfSome r.job (λ j. (docs : List Doc) → StandsFor (reads_under j.copy.parts (reads_of (cells r.dir))) j.infos docs → StandsFor (reads_of (cells s.dir)) s.infos docs)
       → IfSome r.job (λ j. FinishesAt cells j p q r s)
-  finishes p q r s state c is want altered back others whole standing sourced infos none tickets stands = by r.job is infos stands
+  finishes p q r s state c is want altered back others whole standing sourced appears infos none tickets stands = by r.job is appears infos stands
     where
-      by : (o : Option PointJob) → IfSome o (λ j. c ≡ j.copy) → IfSome o (λ j. s.infos ≡ j.infos)
+      by : (o : Option PointJob) → IfSome o (λ j. c ≡ j.copy) → AppearsOnly (IsWantedName o) (cells r.dir) (cells s.dir) → IfSome o (λ j. s.infos ≡ j.infos)
           → IfSome o (λ j. (docs : List Doc) → StandsFor (reads_under j.copy.parts (reads_of (cells r.dir))) j.infos docs → StandsFor (reads_of (cells s.dir)) s.infos docs)
           → IfSome o (λ j. FinishesAt cells j p q r s)
-      by None is infos stands = tt
-      by (Some j) is infos stands = record {
+      by None is appears infos stands = tt
+      by (Some j) is appears infos stands = record {
         primary = altered;
         states = back ∙ ap (λ (x : CopyState). states_without (out_of x) p.states) (want ∙ ap (λ (x : Job). x.want) is);
         others = others;
         whole = whole;
         standing = standing;
         sourced = sourced;
+        appears = appears;
         infos = infos;
         job = none;
         tickets = tickets;

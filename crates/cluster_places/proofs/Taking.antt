@@ -6,7 +6,7 @@ use Rattle.std.specs.declared.alloc.AllocError.{AllocError}
 use Rattle.copy_job.specs.declared.copying.Part.{Part}
 use Rattle.index_primary.specs.Primary.{IsPrimary}
 use Rattle.index_primary.specs.Calls.{HoldsNoNew}
-use Rattle.cluster_places.proofs.Stepping.{alters_by}
+use Rattle.cluster_places.proofs.Stepping.{alters_by, none_by}
 use Rattle.disk_model.specs.Disk.{Name, Cells}
 use Rattle.index_primary.specs.declared.parts.Parts.{Parts as PrimaryParts}
 use Rattle.replica_node.specs.declared.parts.Parts.{Parts as ReplicaParts}
@@ -127,7 +127,7 @@ module _ {D : Type 0} where
     at = record { slot = slot; parts = q; held = held; there = there };
     primary = q';
     moves = moved_one old mid new p (record { node = Primary q'; held = held }) cm tm cn tn;
-    alters = alters_by cells q q' (record { held = λ r a b. ap (λ (c : Cells). (c r).now) same }) no_new
+    alters = alters_by cells q q' (record { held = λ r a b. ap (λ (c : Cells). (c r).now) same }) no_new (none_by same)
         (is ∙ ap (λ (x : PrimaryParts D). record q { dir = q'.dir; files = x.files; states = x.states }) (sym is)) (λ w. whole);
     states = ap (λ (x : PrimaryParts D). x.states) is;
     there = reads;

@@ -11,7 +11,7 @@ use Rattle.cluster_places.specs.declared.held.Key.{Key}
 use Rattle.cluster_places.specs.declared.nodes.Node.{Node}
 use Rattle.cluster_places.specs.declared.nodes.Node.TheVariants.{Primary, Replica, Down}
 use Rattle.cluster_places.specs.declared.nodes.Place.{Place}
-use Rattle.cluster_places.specs.Held.{same_key, held_at}
+use Rattle.cluster_places.specs.Held.{same_key, held_number}
 use Rattle.cluster_places.specs.Places.{searchers_of, tickets_of}
 
 module _ {D : Type 0} where
@@ -31,7 +31,7 @@ module _ {D : Type 0} where
   pub record HoldsMore (key : Key) (old new : Place D) : Type 0 where
     pub number : ℕ
     pub opens : OpensTicket number old.node new.node
-    pub rows : (k : Key) → held_at new.held.items k ≡ (if same_key key k then Some number else held_at old.held.items k)
+    pub rows : (k : Key) → held_number new.held.items k ≡ (if same_key key k then Some number else held_number old.held.items k)
 
   -- the ticket with this number is closed, where there is a number
   abbrev pub ClosesTicket : Option ℕ → Node D → Node D → Type 0
@@ -40,15 +40,15 @@ module _ {D : Type 0} where
 
   -- the ticket that the node held for this is closed
   pub record HoldsLess (key : Key) (old new : Place D) : Type 0 where
-    pub closed : ClosesTicket (held_at old.held.items key) old.node new.node
-    pub rows : (k : Key) → held_at new.held.items k ≡ (if same_key key k then None else held_at old.held.items k)
+    pub closed : ClosesTicket (held_number old.held.items key) old.node new.node
+    pub rows : (k : Key) → held_number new.held.items k ≡ (if same_key key k then None else held_number old.held.items k)
 
   -- a ticket that is open at the node is held for this
   abbrev pub HoldsTicket : Option (Place D) → Key → Type 0
   HoldsTicket None key = ⊥
-  HoldsTicket (Some place) key = IsSomeAnd (held_at place.held.items key) (λ number. is_some (ticket_at number (tickets_of place.node)) ≡ true)
+  HoldsTicket (Some place) key = IsSomeAnd (held_number place.held.items key) (λ number. is_some (ticket_at number (tickets_of place.node)) ≡ true)
 
   -- what is read is the point on which the ticket was opened that is held for this
   abbrev pub IsLeaseUnder : Option (Place D) → Key → Lease Shown → Type 0
   IsLeaseUnder None key lease = ⊥
-  IsLeaseUnder (Some place) key lease = IsSomeAnd (held_at place.held.items key) (λ number. IfSome (ticket_at number (tickets_of place.node)) (IsLeaseOf lease))
+  IsLeaseUnder (Some place) key lease = IsSomeAnd (held_number place.held.items key) (λ number. IfSome (ticket_at number (tickets_of place.node)) (IsLeaseOf lease))

@@ -12,6 +12,6 @@ same_key (Search at) (Search b) = same_at at b
 same_key k l = false
 
 -- the number of the ticket that is held for this
-abbrev pub held_at : List Held → Key → Option ℕ
-held_at [] key = None
-held_at (row ∷ rows) key = if same_key row.key key then Some row.number else held_at rows key
+abbrev pub held_number : List Held → Key → Option ℕ
+held_number [] key = None
+held_number (row ∷ rows) key = if same_key row.key key then Some row.number else held_number rows key

@@ -4,6 +4,8 @@ use Rattle.std.specs.List.{All}
 use Rattle.nrt_base.specs.declared.doc.Doc.{Doc}
 use Rattle.disk_model.specs.Disk.{Name, Content, Cells, reads_of}
 use Rattle.file_deleter.specs.Holdings.{times}
+use Rattle.file_names.specs.Names.{temp_name_of}
+use Rattle.node_files.specs.Appearing.{NoneAppears, AppearsOnly}
 use Rattle.seg_reader.specs.Stands.{StandsFor}
 use Rattle.segment_infos.specs.Infos.{IsInfosFile}
 use Rattle.copy_state.specs.declared.state.CopyState.{CopyState}
@@ -18,7 +20,7 @@ use Rattle.index_primary.specs.States.{out_of, states_without, IsMetaIn}
 use Rattle.replica_node.specs.declared.job.PointJob.{PointJob}
 use Rattle.replica_node.specs.declared.parts.Parts.{Parts as ReplicaParts}
 use Rattle.replica_node.specs.Replica.{IsWholeReplica, AreStanding}
-use Rattle.replica_node.specs.Sources.{IsSourced, KeepsSource}
+use Rattle.replica_node.specs.Sources.{IsSourced, KeepsSource, IsWantedName}
 use Rattle.cluster_places.specs.declared.nodes.Place.{Place}
 use Rattle.cluster_places.specs.declared.nodes.Node.TheVariants.{Primary, Replica, Down}
 use Rattle.cluster_places.specs.Outs.{want_of}
@@ -68,12 +70,13 @@ module _ {D : Type 0} where
     pub whole : IsPrimary cells old → IsPrimary cells new
     pub files : KeepsPrimaryFiles cells old new
 
-  -- the replica is as before, but for its directory, its counts, what it has seen and its job
+  -- the replica is as before, but for its directory, where it wrote no name, its counts, what it has seen and its job
   pub record AltersJob (cells : D → Cells) (old new : ReplicaParts D) : Type 0 where
     pub others : new ≡ record old { dir = new.dir; files = new.files; seen = new.seen; jobs = new.jobs; job = new.job }
     pub whole : IsWholeReplica cells old → IsWholeReplica cells new
     pub standing : AreStanding cells old → AreStanding cells new
     pub sourced : KeepsSource cells old new
+    pub appears : NoneAppears (cells old.dir) (cells new.dir)
 
   -- a job of the primary's point began, on a copy state that is out; an older job has ended, and its state was given back
   pub record BeginsAt (cells : D → Cells) (number : ℕ) (p q : PrimaryParts D) (r s : ReplicaParts D) : Type 0 where
@@ -91,7 +94,8 @@ module _ {D : Type 0} where
     pub seen : s.seen ≡ p.point_infos.generation
     pub states : q.states ≡ given_back (want_of r.job) (p.states ++ out_of state ∷ [])
 
-  -- the replica searches the point of its job, which has ended, and the job's state was given back
+  -- the replica searches the point of its job, which has ended, and the job's state was given back; what it wrote are names that the
+  -- job wanted
   pub record FinishesAt (cells : D → Cells) (j : PointJob) (p q : PrimaryParts D) (r s : ReplicaParts D) : Type 0 where
     pub primary : AltersStates cells p q
     pub states : q.states ≡ states_without (out_of j.copy.want) p.states
@@ -99,16 +103,18 @@ module _ {D : Type 0} where
     pub whole : IsWholeReplica cells s
     pub standing : AreStanding cells r → AreStanding cells s
     pub sourced : KeepsSource cells r s
+    pub appears : AppearsOnly (IsWantedName (Some j)) (cells r.dir) (cells s.dir)
     pub infos : s.infos ≡ j.infos
     pub job : s.job ≡ None
     pub tickets : s.searchers.tickets ≡ r.searchers.tickets
     pub stands : (docs : List Doc) → StandsFor (reads_under j.copy.parts (reads_of (cells r.dir))) j.infos docs → StandsFor (reads_of (cells s.dir)) s.infos docs
 
-  -- the part is in, or the job did not lack it: the replica is as before, but for its directory, its counts and its job, which is of
-  -- the same number, state and point
+  -- the part is in, or the job did not lack it: the replica is as before, but for its directory, where it wrote the part's temporary
+  -- name at most, its counts and its job, which is of the same number, state and point
   pub record TakesPart (cells : D → Cells) (part : Part) (old new : ReplicaParts D) : Type 0 where
     pub others : new ≡ record old { dir = new.dir; files = new.files; job = new.job }
     pub whole : IsWholeReplica cells old → IsWholeReplica cells new
     pub standing : AreStanding cells old → AreStanding cells new
     pub sourced : (source : Name → Content) → source part.name ≡ Some part.bytes → IsSourced source cells old → IsSourced source cells new
     pub job : IfSome old.job (λ j. IsSomeAnd new.job (λ k. (k.copy.number ≡ j.copy.number) × (k.copy.want ≡ j.copy.want) × (k.infos ≡ j.infos)))
+    pub appears : IfSome old.job (λ j. AppearsOnly (λ q. q ≡ temp_name_of part.name j.copy.number) (cells old.dir) (cells new.dir))

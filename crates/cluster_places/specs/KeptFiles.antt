@@ -2,7 +2,9 @@
 use Rattle.std.specs.Prelude.{◌≡◌, ⊤}
 use Rattle.disk_model.specs.Disk.{Cells}
 use Rattle.index_primary.specs.declared.parts.Parts.{Parts as PrimaryParts}
-use Rattle.index_primary.specs.Primary.{KeepsHeldBytes}
+use Rattle.node_files.specs.Appearing.{NoneAppears, AppearsOnly}
+use Rattle.index_primary.specs.Held.{IsOwnFile}
+use Rattle.index_primary.specs.Primary.{KeepsHeldBytes, loose_of}
 use Rattle.index_primary.specs.Calls.{FillsUndrawn, DrawsOnly, HoldsNoNew}
 use Rattle.replica_node.specs.declared.parts.Parts.{Parts as ReplicaParts}
 use Rattle.replica_node.specs.Sources.{KeepsSource}
@@ -15,20 +17,27 @@ module _ {D : Type 0} where
     pub stays : KeepsHeldBytes cells old new
     pub no_new : HoldsNoNew old new
     pub drawn : DrawsOnly old new
+    pub appears : NoneAppears (cells old.dir) (cells new.dir)
+    pub commits : new.commits ≡ old.commits
     pub point : new.point_infos.generation ≡ old.point_infos.generation
     pub generation : new.infos.generation ≡ old.infos.generation
 
-  -- the primary's files are those from before and such as were not written yet
+  -- the primary's files are those from before and such as were not written yet; what it wrote has names of its own segments
   pub record FillsPrimaryFiles (cells : D → Cells) (old new : PrimaryParts D) : Type 0 where
     pub stays : KeepsHeldBytes cells old new
     pub fresh : FillsUndrawn old new
     pub drawn : DrawsOnly old new
+    pub appears : AppearsOnly (IsOwnFile old.infos (loose_of old)) (cells old.dir) (cells new.dir)
+    pub commits : new.commits ≡ old.commits
     pub point : new.point_infos.generation ≡ new.infos.generation
     pub states : new.states ≡ old.states
 
-  -- the replica's files read as at the source where they did, and its job and its point's version are those from before
+  -- the replica wrote no name, its files read as at the source where they did, and its job and its point's version are those from before
   pub record KeepsReplicaFiles (cells : D → Cells) (old new : ReplicaParts D) : Type 0 where
     pub sourced : KeepsSource cells old new
+    pub appears : NoneAppears (cells old.dir) (cells new.dir)
+    pub commits : new.commits ≡ old.commits
+    pub infos : new.infos ≡ old.infos
     pub job : new.job ≡ old.job
     pub jobs : new.jobs ≡ old.jobs
     pub version : new.searchers.point.version ≡ old.searchers.point.version

@@ -2,7 +2,7 @@
 
 ghost use Rattle.std.specs.Prelude.{◌≡◌, None, Some, OnOk, not, if◌then◌else◌};
 ghost use Rattle.std.specs.List.{filter};
-ghost use Rattle.cluster_places.specs.Held.{same_key, held_at};
+ghost use Rattle.cluster_places.specs.Held.{same_key, held_number};
 
 use history_facts::same_at;
 use nrt_base::{At, LaneNo, NoMemory, TicketNo};
@@ -35,7 +35,7 @@ fn same_key(a: Key, b: Key) -> bool
 
 /// The number of the ticket that is held for this.
 pub fn number_held(held: &[Held], key: Key) -> Option<u64>
-    ensures { result ≡ held_at held.now key }
+    ensures { result ≡ held_number held.now key }
 {
     for row in held {
         if same_key(row.key, key) {
@@ -47,8 +47,8 @@ pub fn number_held(held: &[Held], key: Key) -> Option<u64>
 
 /// Holds a ticket for this.
 pub fn hold(held: &mut Vec<Held>, key: Key, number: u64) -> Result<(), NoMemory>
-    ensures { OnOk result ((k : _) → held_at held.new.items k
-        ≡ (if same_key key k then Some number else held_at held.old.items k)) }
+    ensures { OnOk result ((k : _) → held_number held.new.items k
+        ≡ (if same_key key k then Some number else held_number held.old.items k)) }
 {
     held.insert(0, Held { key, number })?;
     Ok(())
@@ -56,8 +56,8 @@ pub fn hold(held: &mut Vec<Held>, key: Key, number: u64) -> Result<(), NoMemory>
 
 /// Holds no ticket for this any more.
 pub fn let_go(held: &mut Vec<Held>, key: Key)
-    ensures { (k : _) → held_at held.new.items k
-        ≡ (if same_key key k then None else held_at held.old.items k) }
+    ensures { (k : _) → held_number held.new.items k
+        ≡ (if same_key key k then None else held_number held.old.items k) }
 {
     without(held, key);
 }

@@ -3,7 +3,7 @@
 ghost use Rattle.std.specs.Prelude.{◌≡◌, None, Some, true, is_some, IsSome, IfSome, IfOk, OnOk};
 ghost use Rattle.searcher_switch.specs.Tickets.{ticket_at, tickets_without};
 ghost use Rattle.searcher_switch.specs.Searching.{IsLeaseOf};
-ghost use Rattle.cluster_places.specs.Held.{held_at};
+ghost use Rattle.cluster_places.specs.Held.{held_number};
 ghost use Rattle.cluster_places.specs.Places.{place_of, IsSlot, searchers_of, tickets_of};
 ghost use Rattle.cluster_places.specs.KeptFiles.{KeepsNodeFiles};
 ghost use Rattle.cluster_places.specs.Changes.{KeepsNode, OpensTicket, HoldsMore, HoldsLess, HoldsTicket, IsLeaseUnder};
@@ -85,7 +85,7 @@ fn lease_of<D: Dir + Drop>(
 
 /// Gives back the ticket that is held for this, if one is.
 pub fn give_ticket_back<D: Dir + Drop>(place: &mut Place<D>, key: Key)
-    requires { IfSome (held_at place.old.held.items key)
+    requires { IfSome (held_number place.old.held.items key)
         (λ number. is_some (ticket_at number (tickets_of place.old.node)) ≡ true) }
     ensures keeps { KeepsNode D.cells place.old.node place.new.node }
     ensures files { KeepsNodeFiles D.cells place.old.node place.new.node }

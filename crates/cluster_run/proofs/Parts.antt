@@ -14,7 +14,7 @@ use Rattle.script_serving.specs.Form.{is_command}
 use Rattle.history_book.specs.declared.inner.Mark.{Mark}
 use Rattle.history_book.specs.Log.{Log, printed, name_of, lane_name, FaultsFollow}
 use Rattle.lane_walks.specs.Owes.{FaultsFit}
-use Rattle.lane_walks.specs.Walks.{NoneOf, IsApart, AreFresh, ArePart, Going, LinesRan}
+use Rattle.lane_walks.specs.Walks.{NoneOf, GrowsByOthers, AreUnbegun, ArePart, Going, LinesRan}
 use Rattle.lane_walks.specs.Phases.{AreOfLanes}
 use Rattle.lane_walks.proofs.WalkLemmas.{lane_is, log_then, faults_without_log}
 use Rattle.lane_walks.proofs.StayLemmas.{line_stays}
@@ -74,7 +74,7 @@ none_of lane other (m ∷ more) own inside low high apart =
 
 -- for any other lane nothing happened that is its own
 pub apart_from : (lane other : ℕ) (old new : Log) → GoesByLane lane old new → is_between 1 8 lane ≡ true → 1 ≤ other → other ≤ 8 → (lane == other) ≡ false
-    → IsApart false other old new
+    → GrowsByOthers false other old new
 apart_from lane other old new h inside low high apart =
     record { more = h.more; log = h.log; apart = none_of lane other h.more h.own inside low high apart; faults = h.faults }
 
@@ -90,13 +90,13 @@ pub of_lanes : (lane : ℕ) (old new : Log) → GoesByLane lane old new → is_b
 of_lanes lane old new h inside all = subst AreOfLanes (sym h.log) (lanes-append lane h.more old h.own inside all)
 
 -- lines of a lane have no entry as long as others go on
-pub still_fresh : (lane : ℕ) (lines : List Line) (old new : Log) → list_all (λ line. line.at.lane.0 == lane) lines ≡ true → IsApart false lane old new
-    → AreFresh lines (printed old) → AreFresh lines (printed new)
+pub still_fresh : (lane : ℕ) (lines : List Line) (old new : Log) → list_all (λ line. line.at.lane.0 == lane) lines ≡ true → GrowsByOthers false lane old new
+    → AreUnbegun lines (printed old) → AreUnbegun lines (printed new)
 still_fresh lane [] old new own apart fresh = tt
 still_fresh lane (line ∷ lines) old new own apart fresh =
     let parts = and_parts (line.at.lane.0 == lane) (list_all (λ (l : Line). l.at.lane.0 == lane) lines) own in
     let mine : line.at.lane.0 ≡ lane = lane_is line.at.lane.0 lane parts.0 in (
-      (line_stays line.at false old new (subst (λ (k : ℕ). IsApart false k old new) (sym mine) apart)).fresh fresh.0,
+      (line_stays line.at false old new (subst (λ (k : ℕ). GrowsByOthers false k old new) (sym mine) apart)).fresh fresh.0,
       still_fresh lane lines old new parts.1 apart fresh.1,
     )
 
@@ -108,7 +108,7 @@ pub record LinesGo (size lane : ℕ) (lines : List Line) (i : ℕ) (initial now 
   pub going : Going false lane lines i initial.log now.log
   pub alone : GoesByLane lane initial.log now.log
 
-pub lines_begin : (lane : ℕ) (lines : List Line) (r : Run) → IsAtRest r.nodes r → FaultsFollow r.log → AreFresh lines (printed r.log) → LinesGo r.nodes lane lines 0 r r
+pub lines_begin : (lane : ℕ) (lines : List Line) (r : Run) → IsAtRest r.nodes r → FaultsFollow r.log → AreUnbegun lines (printed r.log) → LinesGo r.nodes lane lines 0 r r
 lines_begin lane lines r idle faults fresh =
     record {
       idle = idle;

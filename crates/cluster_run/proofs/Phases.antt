@@ -1,10 +1,10 @@
 -- A phase, lane after lane, and phase after phase.
-use Rattle.std.proofs.Common.{◌≡◌, ◌≢◌, ◌&&◌, ◌==◌, ℕ, ◌+◌, ◌<◌, ◌≤◌, not, Bool, true, false, List, [], ◌∷◌, ◌++◌, refl, ap, ◌∙◌, sym, subst, arith, get_or, take, drop, length, suc, add-one, drop-cons, append_assoc, append-nil, if◌then◌else◌}
+use Rattle.std.proofs.Common.{◌≡◌, ◌≢◌, ◌==◌, ℕ, ◌+◌, ◌<◌, ◌≤◌, not, Bool, true, false, List, [], ◌∷◌, ◌++◌, refl, ap, ◌∙◌, sym, subst, arith, get_or, take, drop, length, suc, add-one, drop-cons, append_assoc, append-nil, if◌then◌else◌}
 use Rattle.std.specs.List.{list_all, flat_map}
 use Rattle.std.proofs.lemmas.List.{take-append-drop, take_more, take_all}
 use Rattle.std.proofs.lemmas.List.Folds.{list_all-append}
-use Rattle.std.proofs.lemmas.Bool.{and_parts, and_from, true≢false}
-use Rattle.std.proofs.lemmas.Bool.Decides.{nat_tests, eqb_tells}
+use Rattle.std.proofs.lemmas.Bool.{and_parts, true≢false}
+use Rattle.std.proofs.lemmas.Bool.Decides.{nat_tests}
 use Rattle.history_tables.proofs.RowLemmas.{by_test}
 use Rattle.nrt_base.specs.declared.numbers.LaneNo.{LaneNo}
 use Rattle.nrt_base.specs.Bytes.{is_between}
@@ -14,15 +14,14 @@ use Rattle.script_serving.specs.Form.{is_under, is_phase, are_apart, are_ascendi
 use Rattle.script_serving.specs.Lines.{lines_of_phase, lines_under, all_answered}
 use Rattle.history_book.specs.declared.inner.Mark.TheVariants.{Shown, TaskFault, Kept}
 use Rattle.history_book.specs.Log.{Log, printed, FaultsFollow}
-use Rattle.lane_walks.specs.Owes.{FaultsFit}
-use Rattle.lane_walks.specs.Walks.{ServesSince, GoesOn, IsApart, AreFresh, ArePart, LinesRan}
-use Rattle.lane_walks.specs.Phases.{lines_in, ArePhasesInForm, LaneReady, PhaseDone, AreOfLanes}
+use Rattle.lane_walks.specs.Walks.{ServesSince, GrowsByOthers, AreUnbegun, ArePart, LinesRan}
+use Rattle.lane_walks.specs.Phases.{lines_in, ArePhasesInForm, AreOfLanes}
 use Rattle.lane_walks.proofs.WalkLemmas.{lane_self, on_map, all_answered_stays, since_append, log_then, faults_without_log, goes_apart}
 use Rattle.lane_walks.proofs.PartLemmas.{fits_nowhere}
-use Rattle.lane_walks.proofs.FormLemmas.{answered-append, phase_answered, lane_without, ascending_back, ascending_front, under_owned}
-use Rattle.lane_walks.proofs.PhaseLemmas.{fresh_front, fresh_back, ready_first, phase_form, part_of, part_fresh, ready_after}
+use Rattle.lane_walks.proofs.FormLemmas.{phase_answered, lane_without, ascending_back, ascending_front, under_owned}
+use Rattle.lane_walks.proofs.PhaseLemmas.{fresh_front, phase_form, part_of, part_fresh, ready_after}
+use Rattle.lane_walks.proofs.ScriptLemmas.{between_low, between_high}
 use Rattle.cluster_state.specs.Run.{Run}
-use Rattle.cluster_run.specs.Going.{GoesByLane, IsQuiet}
 use Rattle.cluster_run.specs.Running.{are_run, ArePartsInForm, IsAtRest, RunsLines, RunsPhase, RunsPhases}
 use Rattle.cluster_run.proofs.Parts.{item_passes, apart_from, of_lanes, still_fresh, idle_as}
 
@@ -97,7 +96,7 @@ part_after_none lane lines a b c h k =
     }
 
 -- a lane's part, and then others
-part_apart : (lane : ℕ) (lines : List Line) (a b c : Log) → LinesRan false lane lines a b → IsApart false lane b c → LinesRan false lane lines a c
+part_apart : (lane : ℕ) (lines : List Line) (a b c : Log) → LinesRan false lane lines a b → GrowsByOthers false lane b c → LinesRan false lane lines a c
 part_apart lane lines a b c h k =
     record {
       goes = goes_apart false lane lines a b c h.goes k;
@@ -110,10 +109,10 @@ part_apart lane lines a b c h k =
 pub record LanesGo (size : ℕ) (phase : Phase) (i : ℕ) (initial now : Run) : Type 0 where
   pub idle : IsAtRest size now
   pub each : (lane : ℕ) → 1 ≤ lane → lane ≤ 8 → LinesRan false lane (lines_under lane (take i phase.lanes)) initial.log now.log
-  pub fresh : (lane : ℕ) → 1 ≤ lane → lane ≤ 8 → AreFresh (lines_under lane (drop i phase.lanes)) (printed now.log)
+  pub fresh : (lane : ℕ) → 1 ≤ lane → lane ≤ 8 → AreUnbegun (lines_under lane (drop i phase.lanes)) (printed now.log)
   pub others : AreOfLanes initial.log → AreOfLanes now.log
 
-pub lanes_begin : (phase : Phase) (r : Run) → IsAtRest r.nodes r → FaultsFollow r.log → ((lane : ℕ) → 1 ≤ lane → lane ≤ 8 → AreFresh (lines_under lane phase.lanes) (printed r.log))
+pub lanes_begin : (phase : Phase) (r : Run) → IsAtRest r.nodes r → FaultsFollow r.log → ((lane : ℕ) → 1 ≤ lane → lane ≤ 8 → AreUnbegun (lines_under lane phase.lanes) (printed r.log))
     → LanesGo r.nodes phase 0 r r
 lanes_begin phase r idle faults fresh =
     record {
@@ -122,12 +121,6 @@ lanes_begin phase r idle faults fresh =
       fresh = fresh;
       others = λ all. all;
     }
-
-between_low : (low high n : ℕ) → is_between low high n ≡ true → low ≤ n
-between_low low high n h = grind (arith, nat_tests)
-
-between_high : (low high n : ℕ) → is_between low high n ≡ true → n ≤ high
-between_high low high n h = grind (arith, nat_tests)
 
 -- the lane with its lines stands at this place of the phase
 pub record IsLaneAt (phase : Phase) (i : ℕ) (l : LaneNo × List Line) : Type 0 where
@@ -191,11 +184,11 @@ module _ (phase : Phase) (form : is_phase phase ≡ true) (i : ℕ) (l : LaneNo 
       run_among size (x ∷ xs) ys h = run_among size xs ys (first_run size x.1 (flat_map (λ (lane : LaneNo × List Line). lane.1) (xs ++ l ∷ ys)) h).1
 
   -- its lines have no entry where the lanes before it are done
-  pub lane_fresh : (size : ℕ) (initial now : Run) → LanesGo size phase i initial now → AreFresh l.1 (printed now.log)
+  pub lane_fresh : (size : ℕ) (initial now : Run) → LanesGo size phase i initial now → AreUnbegun l.1 (printed now.log)
   lane_fresh size initial now s =
       let all = s.fresh l.0.0 (between_low 1 8 l.0.0 lane_inside) (between_high 1 8 l.0.0 lane_inside) in
       fresh_front l.1 (lines_under l.0.0 (drop (i + 1) phase.lanes)) (printed now.log)
-      (subst (λ (ls : List Line). AreFresh ls (printed now.log)) (ap (lines_under l.0.0) dropped ∙ under_own (drop (i + 1) phase.lanes)) all)
+      (subst (λ (ls : List Line). AreUnbegun ls (printed now.log)) (ap (lines_under l.0.0) dropped ∙ under_own (drop (i + 1) phase.lanes)) all)
 
   -- what stands under a lane among one lane more
   taken_same : lines_under l.0.0 (take (i + 1) phase.lanes) ≡ l.1
@@ -234,16 +227,16 @@ module _ (phase : Phase) (form : is_phase phase ≡ true) (i : ℕ) (l : LaneNo 
         (sym (list_all-append (λ (line : Line). line.at.lane.0 == lane) (lines_under lane (take (i + 1) phase.lanes)) (lines_under lane (drop (i + 1) phase.lanes)))
         ∙ subst (λ (ls : List Line). list_all (λ (line : Line). line.at.lane.0 == lane) ls ≡ true) all (under_owned lane phase form))).1
 
-    left_fresh : (lane : ℕ) → 1 ≤ lane → lane ≤ 8 → AreFresh (lines_under lane (drop (i + 1) phase.lanes)) (printed new.log)
+    left_fresh : (lane : ℕ) → 1 ≤ lane → lane ≤ 8 → AreUnbegun (lines_under lane (drop (i + 1) phase.lanes)) (printed new.log)
     left_fresh lane low high =
-        by_test (l.0.0 == lane) (λ b. AreFresh (lines_under lane (drop (i + 1) phase.lanes)) (printed new.log))
+        by_test (l.0.0 == lane) (λ b. AreUnbegun (lines_under lane (drop (i + 1) phase.lanes)) (printed new.log))
         (λ same.
         let is : l.0.0 ≡ lane = grind (arith, nat_tests) in
-        subst (λ (k : ℕ). AreFresh (lines_under k (drop (i + 1) phase.lanes)) (printed new.log)) is
-        (subst (λ (ls : List Line). AreFresh ls (printed new.log)) (sym (none_behind l (take i phase.lanes) (drop (i + 1) phase.lanes) apart_here)) tt))
+        subst (λ (k : ℕ). AreUnbegun (lines_under k (drop (i + 1) phase.lanes)) (printed new.log)) is
+        (subst (λ (ls : List Line). AreUnbegun ls (printed new.log)) (sym (none_behind l (take i phase.lanes) (drop (i + 1) phase.lanes) apart_here)) tt))
         (λ apart.
-        let before : AreFresh (lines_under lane (drop (i + 1) phase.lanes)) (printed old.log) =
-        subst (λ (ls : List Line). AreFresh ls (printed old.log))
+        let before : AreUnbegun (lines_under lane (drop (i + 1) phase.lanes)) (printed old.log) =
+        subst (λ (ls : List Line). AreUnbegun ls (printed old.log))
         (ap (lines_under lane) dropped ∙ ap (λ (b : Bool). if b then l.1 ++ lines_under lane (drop (i + 1) phase.lanes) else lines_under lane (drop (i + 1) phase.lanes)) apart)
         (s.fresh lane low high) in
         still_fresh lane (lines_under lane (drop (i + 1) phase.lanes)) old.log new.log (own_left lane)
@@ -286,7 +279,7 @@ module _ (size : ℕ) (phases : List Phase) (form : ArePhasesInForm phases) (k :
   pub parts_here : ArePartsInForm phase
   parts_here lane = part_of false lane phases form k phase item within
 
-  pub fresh_here : (r : Run) → RunsPhases size phases k r → (lane : ℕ) → 1 ≤ lane → lane ≤ 8 → AreFresh (lines_under lane phase.lanes) (printed r.log)
+  pub fresh_here : (r : Run) → RunsPhases size phases k r → (lane : ℕ) → 1 ≤ lane → lane ≤ 8 → AreUnbegun (lines_under lane phase.lanes) (printed r.log)
   fresh_here r s lane low high = part_fresh false lane phases form k phase item within r.log (s.ready lane low high)
 
   pub run_here : are_run size (lines_in phases) ≡ true → are_run size (lines_of_phase phase) ≡ true

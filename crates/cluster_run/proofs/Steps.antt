@@ -1,8 +1,7 @@
 -- The steps of one line, joined, and what they leave.
 use Rattle.std.proofs.Common.{◌≡◌, ◌≢◌, ◌==◌, ℕ, Bool, true, false, List, [], ◌∷◌, ◌++◌, Some, None, Option, length, refl, ap, ◌∙◌, sym, subst, inl, inr, if◌then◌else◌, append_assoc, true≢false}
 use Rattle.std.specs.Prelude.{◌⊎◌, ⊤, Result, Ok, Err, OnOk}
-use Rattle.history_tables.proofs.RowLemmas.{by_test}
-use Rattle.history_book.proofs.LineLaws.{same_at_is}
+use Rattle.history_tables.proofs.RowLemmas.{by_test, same_at_is}
 use Rattle.history_book.proofs.FreshLaws.{open_unanswered}
 use Rattle.nrt_base.specs.declared.numbers.At.{At}
 use Rattle.documents.specs.declared.query.Query.{Query}
@@ -20,7 +19,7 @@ use Rattle.history_book.specs.Log.{Log, printed, shown, lane_name, FollowsMergin
 use Rattle.history_book.specs.Turns.{AreInTurn}
 use Rattle.script_serving.specs.declared.script.LineCommand.{LineCommand}
 use Rattle.script_serving.specs.Replays.{due}
-use Rattle.lane_walks.specs.Owes.{SuitsOrReplays, Adds, FaultsFit}
+use Rattle.lane_walks.specs.Owes.{SuitsOrReplays, AddsEntries, FaultsFit}
 use Rattle.lane_walks.proofs.WalkLemmas.{log_then, call_goes, adds_faults, faults_without_log}
 use Rattle.cluster_state.specs.Run.{Run, IsNow}
 use Rattle.cluster_core.specs.Doing.{Does, IsReplied}
@@ -31,7 +30,7 @@ use Rattle.cluster_run.proofs.Jobs.{jobs_now, answer_jobs}
 
 -- ---- two steps are one
 
-adds_append : (command : LineCommand) (at : At) (m n old : Log) → Adds false command at m (n ++ old) → Adds false command at n old → Adds false command at (m ++ n) old
+adds_append : (command : LineCommand) (at : At) (m n old : Log) → AddsEntries false command at m (n ++ old) → AddsEntries false command at n old → AddsEntries false command at (m ++ n) old
 adds_append command at [] n old h k = k
 adds_append command at (Shown e ∷ m) n old h k =
     (h.0, subst (λ (l : Log). SuitsOrReplays (due false (printed l)) command at (printed l) e.event) (sym (append_assoc m n old)) h.1, adds_append command at m n old h.2 k)
@@ -47,7 +46,7 @@ does_then command at a b c h k =
       goes = record {
         more = k.goes.more ++ h.goes.more;
         log = log_then a.log b.log c.log h.goes.more k.goes.more h.goes.log k.goes.log;
-        adds = adds_append command at k.goes.more h.goes.more a.log (subst (λ (l : Log). Adds false command at k.goes.more l) h.goes.log k.goes.adds) h.goes.adds;
+        adds = adds_append command at k.goes.more h.goes.more a.log (subst (λ (l : Log). AddsEntries false command at k.goes.more l) h.goes.log k.goes.adds) h.goes.adds;
       };
     }
 
@@ -78,7 +77,7 @@ module _ {T E : Type 0} (command : LineCommand) (at : At) where
 
 -- ---- the line's lane alone went on
 
-adds_own : (command : LineCommand) (at : At) (more old : Log) → Adds false command at more old → AreOfLane at.lane.0 more
+adds_own : (command : LineCommand) (at : At) (more old : Log) → AddsEntries false command at more old → AreOfLane at.lane.0 more
 adds_own command at [] old h = tt
 adds_own command at (Shown e ∷ more) old h = (inl (ap (λ (a : At). lane_name a.lane.0) h.0), adds_own command at more old h.2)
 adds_own command at (TaskFault e ∷ more) old h = (inr refl, adds_own command at more old h.2)
@@ -100,7 +99,7 @@ still_by true a (Met k kind) past n m o h = refl
 still_by false a (Met k kind) past n m o h = refl
 still_by b a e past n m o h = absurd h
 
-others_open : (command : LineCommand) (at a : At) (more old : Log) → same_at at a ≡ false → Adds false command at more old → open_line a (printed (more ++ old)) ≡ open_line a (printed old)
+others_open : (command : LineCommand) (at a : At) (more old : Log) → same_at at a ≡ false → AddsEntries false command at more old → open_line a (printed (more ++ old)) ≡ open_line a (printed old)
 others_open command at a [] old apart h = refl
 others_open command at a (Shown e ∷ more) old apart h =
     let past : Past = printed (more ++ old) in

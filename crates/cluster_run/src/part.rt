@@ -3,7 +3,7 @@
 ghost use Rattle.std.specs.Prelude.{◌≡◌, true, IsTrue, OnOk};
 ghost use Rattle.nrt_base.specs.Bytes.{is_between};
 ghost use Rattle.history_book.specs.Log.{printed};
-ghost use Rattle.lane_walks.specs.Walks.{AreFresh, ArePart};
+ghost use Rattle.lane_walks.specs.Walks.{AreUnbegun, ArePart};
 ghost use Rattle.cluster_run.specs.Running.{are_run, IsAtRest, RunsLines};
 
 use crate::line::run_line;
@@ -24,7 +24,7 @@ pub fn run_lines<D: FaultDir + Drop>(
     requires lane { IsTrue (is_between 1 8 lane.0) }
     requires part { ArePart lane.0 lines.now }
     requires run { IsTrue (are_run cluster.old.nodes lines.now) }
-    requires fresh { AreFresh lines.now (printed cluster.old.log) }
+    requires fresh { AreUnbegun lines.now (printed cluster.old.log) }
     ensures { OnOk result (RunsLines cluster.old.nodes lane.0 lines.now cluster.old cluster.new) }
 {
     cluster.ended();

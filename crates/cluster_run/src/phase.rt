@@ -4,7 +4,7 @@ ghost use Rattle.std.specs.Prelude.{ℕ, ◌≡◌, ◌≤◌, IsTrue, OnOk, len
 ghost use Rattle.history_book.specs.Log.{printed};
 ghost use Rattle.script_serving.specs.Form.{is_phase};
 ghost use Rattle.script_serving.specs.Lines.{lines_of_phase, lines_under};
-ghost use Rattle.lane_walks.specs.Walks.{AreFresh};
+ghost use Rattle.lane_walks.specs.Walks.{AreUnbegun};
 ghost use Rattle.lane_walks.specs.Phases.{ArePhasesInForm, lines_in};
 ghost use Rattle.cluster_run.specs.Running.{are_run, IsAtRest, RunsPhase, RunsPhases, ArePartsInForm};
 
@@ -26,7 +26,7 @@ fn run_phase<D: FaultDir + Drop>(
     requires parts { ArePartsInForm phase.now }
     requires run { IsTrue (are_run cluster.old.nodes (lines_of_phase phase.now)) }
     requires fresh { (lane : ℕ) → 1 ≤ lane → lane ≤ 8
-        → AreFresh (lines_under lane phase.now.lanes) (printed cluster.old.log) }
+        → AreUnbegun (lines_under lane phase.now.lanes) (printed cluster.old.log) }
     ensures { OnOk result (RunsPhase cluster.old.nodes phase.now cluster.old cluster.new) }
 {
     cluster.ended();

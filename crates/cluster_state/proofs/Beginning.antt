@@ -30,7 +30,7 @@ use Rattle.replica_opening.specs.Known.{IsLasting, HasMeta}
 use Rattle.replica_node.specs.declared.job.PointJob.{PointJob}
 use Rattle.replica_node.specs.declared.parts.Parts.{Parts as ReplicaParts}
 use Rattle.history_entries.specs.declared.entry.Event.{Event}
-use Rattle.history_entries.specs.declared.entry.Event.TheVariants.{Published, Copying, Crashed, Promoted}
+use Rattle.history_entries.specs.declared.entry.Event.TheVariants.{Published, Copying, Promoted}
 use Rattle.history_entries.specs.Nodes.{Past, IsNode, is_at, primary_of, newest_version, version_of}
 use Rattle.history_entries.specs.Lines.{same_at, start_entry, before_start, copy_in_flight, highest_copy}
 use Rattle.history_entries.specs.Points.{documents_at}
@@ -45,7 +45,7 @@ use Rattle.history_book.specs.Log.{Log, printed, shown, kept}
 use Rattle.history_book.specs.declared.inner.Inner.TheVariants.{JobBegun}
 use Rattle.history_book.specs.Jobs.{last_job, job_at, IsOlder}
 use Rattle.history_book.specs.Turns.{InTurn, AreInTurn}
-use Rattle.history_book.proofs.ReignLaws.{crashed_low}
+use Rattle.history_book.proofs.ReignLaws.{crashed_low, primary_crashed_low}
 use Rattle.cluster_places.specs.declared.nodes.Node.{Node}
 use Rattle.cluster_places.specs.declared.nodes.Node.TheVariants.{Primary, Replica, Down}
 use Rattle.cluster_places.specs.declared.nodes.Place.{Place}
@@ -81,18 +81,6 @@ highest_low size (e ∷ past) n legal = let was = highest_low size past n legal.
     step (Published g w) keeps was = omega (arith, was)
     step (Promoted m g f w) keeps was = omega (arith, was)
     step e' keeps was = was
-
-primary_crashed_low : (past : Past) → primary_crashed past ≤ length past
-primary_crashed_low [] = omega arith
-primary_crashed_low (e ∷ past) = let was = primary_crashed_low past in step e.event was
-  where
-    step : (e' : Event) → primary_crashed past ≤ length past → primary_crashed (record { at = e.at; event = e' } ∷ past) ≤ suc (length past)
-    step (Crashed m) was = crashed (is_at (primary_of past) m.0)
-      where
-        crashed : (b : Bool) → (if b then length past + 1 else primary_crashed past) ≤ suc (length past)
-        crashed true = omega arith
-        crashed false = omega (arith, was)
-    step e' was = omega (arith, was)
 
 -- what a job's beginning rests on: the entries behind which it begins
 pub record BeginsOver (log mid : Log) (at : At) (n v : ℕ) : Type 0 where

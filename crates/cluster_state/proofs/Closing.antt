@@ -11,9 +11,9 @@ use Rattle.history_tables.proofs.RowLemmas.{by_test}
 use Rattle.cluster_places.specs.declared.held.Held.{Held}
 use Rattle.cluster_places.specs.declared.held.Key.{Key}
 use Rattle.cluster_places.specs.declared.held.Key.TheVariants.{Search}
-use Rattle.cluster_places.specs.Held.{same_key, held_at}
+use Rattle.cluster_places.specs.Held.{same_key, held_number}
 use Rattle.cluster_state.specs.Lookups.{IsSearching}
-use Rattle.cluster_state.specs.State.{Stands, HoldsAt, ticket_key, HoldsTickets}
+use Rattle.cluster_state.specs.State.{StandForVersion, HoldsAt, ticket_key, HoldsTickets}
 use Rattle.disk_model.specs.Disk.{Cells}
 use Rattle.history_entries.specs.declared.entry.Event.{Event}
 use Rattle.history_entries.specs.declared.entry.Event.TheVariants.{Publishing}
@@ -47,32 +47,32 @@ left_by P (Some number) m tickets after closed other is =
     subst (λ (ts : List (Open Shown)). IsSomeAnd (ticket_at m ts) P) (sym closed) (ticket_left P m number tickets (λ same. other (ap Some (sym same))) is)
 
 module _ (past now : Past) (n : ℕ) (key : Key) (tickets after : List (Open Shown)) (held rows : List Held)
-    (closed : AreClosed (held_at held key) tickets after) (less : (k : Key) → held_at rows k ≡ (if same_key key k then None else held_at held k)) where
-  row_left : (k : Key) → same_key key k ≡ false → held_at rows k ≡ held_at held k
-  row_left k apart = less k ∙ ap (λ (b : Bool). if b then None else held_at held k) apart
+    (closed : AreClosed (held_number held key) tickets after) (less : (k : Key) → held_number rows k ≡ (if same_key key k then None else held_number held k)) where
+  row_left : (k : Key) → same_key key k ≡ false → held_number rows k ≡ held_number held k
+  row_left k apart = less k ∙ ap (λ (b : Bool). if b then None else held_number held k) apart
 
   -- what is still held was held, and not for this
-  row_was : (k : Key) (m : ℕ) → held_at rows k ≡ Some m → (same_key key k ≡ false) × (held_at held k ≡ Some m)
+  row_was : (k : Key) (m : ℕ) → held_number rows k ≡ Some m → (same_key key k ≡ false) × (held_number held k ≡ Some m)
   row_was k m is =
-      by_test (same_key key k) (λ b. same_key key k ≡ b → (same_key key k ≡ false) × (held_at held k ≡ Some m))
-      (λ same q. let none : None ≡ Some m = sym (ap (λ (b : Bool). if b then None else held_at held k) same) ∙ (sym (less k) ∙ is) in absurd (cc))
+      by_test (same_key key k) (λ b. same_key key k ≡ b → (same_key key k ≡ false) × (held_number held k ≡ Some m))
+      (λ same q. let none : None ≡ Some m = sym (ap (λ (b : Bool). if b then None else held_number held k) same) ∙ (sym (less k) ∙ is) in absurd (cc))
       (λ apart q. (apart, sym (row_left k apart) ∙ is)) refl
 
-  other_number : HoldsTickets past n tickets held → (k : Key) (m : ℕ) → same_key key k ≡ false → held_at held k ≡ Some m → held_at held key ≢ Some m
+  other_number : HoldsTickets past n tickets held → (k : Key) (m : ℕ) → same_key key k ≡ false → held_number held k ≡ Some m → held_number held key ≢ Some m
   other_number was k m apart is mine = true≢false (sym (was.apart key k m mine is) ∙ apart)
 
   held_left : HoldsTickets past n tickets held → (k : Key) (w : ℕ) → same_key key k ≡ false → HoldsAt tickets held k w → HoldsAt after rows k w
   held_left was k w apart is =
       subst (λ (o : Option ℕ). IsSomeAnd o (λ m. IsSomeAnd (ticket_at m after) (λ t. t.point.version.0 ≡ w))) (sym (row_left k apart))
-      (some_with (held_at held k) is (λ m here open_is. left_by (λ t. t.point.version.0 ≡ w) (held_at held key) m tickets after closed (other_number was k m apart here) open_is))
+      (some_with (held_number held k) is (λ m here open_is. left_by (λ t. t.point.version.0 ≡ w) (held_number held key) m tickets after closed (other_number was k m apart here) open_is))
 
-  pub holds_less : ((w : ℕ) (segs : List Shown) → Stands past w segs → Stands now w segs)
+  pub holds_less : ((w : ℕ) (segs : List Shown) → StandForVersion past w segs → StandForVersion now w segs)
       → ((lane t w : ℕ) → IsTicketOf n w (open_ticket lane t now) → (same_key key (ticket_key lane t) ≡ false) × IsTicketOf n w (open_ticket lane t past))
       → ((a : At) (w : ℕ) → IsSearching now a n w → (same_key key (Search a) ≡ false) × IsSearching past a n w)
       → HoldsTickets past n tickets held → HoldsTickets now n after rows
   holds_less stands opened searched was = record {
     each = λ k m is. let old = row_was k m is in
-        left_by (λ o. Stands now o.point.version.0 o.point.readers) (held_at held key) m tickets after closed (other_number was k m old.0 old.1) (some_then (ticket_at m tickets) (was.each k m old.1) (λ o s. stands o.point.version.0 o.point.readers s));
+        left_by (λ o. StandForVersion now o.point.version.0 o.point.readers) (held_number held key) m tickets after closed (other_number was k m old.0 old.1) (some_then (ticket_at m tickets) (was.each k m old.1) (λ o s. stands o.point.version.0 o.point.readers s));
     apart = λ a b m is is'. was.apart a b m (row_was a m is).1 (row_was b m is').1;
     opened = λ lane t w is. let old = opened lane t w is in held_left was (ticket_key lane t) w old.0 (was.opened lane t w old.1);
     searched = λ a w is. let old = searched a w is in held_left was (Search a) w old.0 (was.searched a w old.1);
@@ -92,7 +92,7 @@ module _ {D : Type 0} (cells : D → Cells) where
     node_shows = node_kept cells (shown at e ∷ log) n old.node new.node kept
         (node_same cells log (shown at e ∷ log) n old.node (same size n (printed log) at e legal turns keeps (λ _. not_flying size (printed log) at legal turns line) still) (λ a h there. there) was.node_shows);
     tickets = holds_less (printed log) (printed (shown at e ∷ log)) n key (tickets_of old.node) (tickets_of new.node) old.held.items new.held.items
-        (closes (held_at old.held.items key) old.node new.node less.closed) less.rows
+        (closes (held_number old.held.items key) old.node new.node less.closed) less.rows
         (λ w segs stands. stands_more size (printed log) (record { at = at; event = e }) w segs (keeps, legal) stands)
         ends.tickets ends.searches was.tickets;
   }

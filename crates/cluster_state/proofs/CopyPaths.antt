@@ -1,5 +1,5 @@
 -- Jobs that begin for copies and settles, in the terms of a call.
-use Rattle.std.proofs.Common.{◌≡◌, ◌≢◌, ◌≤◌, ◌<◌, ◌^◌, ◌&&◌, ℕ, Bool, true, false, List, [], ◌∷◌, Some, None, Option, refl, ap, ◌∙◌, sym, subst, arith, if◌then◌else◌, length}
+use Rattle.std.proofs.Common.{◌≡◌, ◌≢◌, ◌≤◌, ◌<◌, ◌^◌, ℕ, Bool, true, false, List, ◌∷◌, Some, None, Option, refl, ap, ◌∙◌, sym, subst, arith, if◌then◌else◌, length}
 use Rattle.std.specs.Prelude.{IsSomeAnd, Contains}
 use Rattle.std.specs.List.{flat_map}
 use Rattle.std.proofs.lemmas.Bool.{eq-eqb}
@@ -14,11 +14,10 @@ use Rattle.index_primary.specs.declared.states.Out.{Out}
 use Rattle.replica_opening.specs.Known.{IsLasting}
 use Rattle.replica_node.specs.declared.job.PointJob.{PointJob}
 use Rattle.replica_node.specs.declared.parts.Parts.{Parts as ReplicaParts}
-use Rattle.history_entries.specs.declared.entry.Entry.{Entry}
 use Rattle.history_entries.specs.declared.entry.Event.{Event}
-use Rattle.history_entries.specs.declared.entry.Event.TheVariants.{Published, Copying, Settling, Promoted}
+use Rattle.history_entries.specs.declared.entry.Event.TheVariants.{Copying, Settling}
 use Rattle.history_entries.specs.Nodes.{Past, IsNode, IsReplica, is_at, primary_of, primary_crashes, crashes, newest_version, version_of}
-use Rattle.history_entries.specs.Lines.{same_at, is_start, start_entry, before_start, copy_in_flight, is_free_for, highest_switched, NodeSurvives, SourceSurvives}
+use Rattle.history_entries.specs.Lines.{same_at, start_entry, before_start, copy_in_flight, is_free_for, highest_switched, NodeSurvives, SourceSurvives}
 use Rattle.history_entries.specs.Legal.{KeepsRule, IsLegalPast}
 use Rattle.history_tables.specs.declared.jobs.Job.{Job}
 use Rattle.history_tables.specs.declared.jobs.JobRow.{JobRow}
@@ -34,6 +33,7 @@ use Rattle.history_book.specs.Jobs.{last_job, job_at, job_of, IsOlder, StartsJob
 use Rattle.history_book.specs.Turns.{InTurn, AreInTurn}
 use Rattle.history_book.specs.Laws.{IsFresh}
 use Rattle.history_book.proofs.ReignLaws.{start_kept}
+use Rattle.history_book.proofs.JobLaws.{newest_before}
 use Rattle.cluster_places.specs.declared.nodes.Node.TheVariants.{Primary, Replica}
 use Rattle.cluster_places.specs.declared.nodes.Place.{Place}
 use Rattle.cluster_state.specs.Run.{Run}
@@ -45,7 +45,7 @@ use Rattle.cluster_places.specs.JobChanges.{HasReplica}
 use Rattle.cluster_places.specs.JobPlaces.{CanBegin, BeginsIn}
 use Rattle.cluster_state.specs.Copies.{newest_of, BeginsJob}
 use Rattle.cluster_state.specs.Settles.{WaitsFor}
-use Rattle.cluster_state.proofs.Frames.{some_at, was, now_is, slot_of, place_shows, shows_still}
+use Rattle.cluster_state.proofs.Frames.{some_at, was, now_is, slot_of, place_shows, shows_still, start_back}
 use Rattle.cluster_state.proofs.Growing.{same, fewer, not_flying}
 use Rattle.cluster_state.proofs.Turning.{fresh_line}
 use Rattle.cluster_state.proofs.FileFrames.{both_of, Both, files_was, files_is, before}
@@ -58,19 +58,6 @@ abbrev pub FilesLast : Type 0
 FilesLast = (infos : Infos) (names : List Name) → AreFilesOf infos names → (q : Name) → Contains (flat_map files_of_segment infos.segs) q → IsLasting q
 
 -- ---- the past
-
-pub newest_before : (at : At) (past : Past) → newest_version (before_start at past) ≤ newest_version past
-newest_before at [] = omega arith
-newest_before at (e ∷ past) = let rest = newest_before at past in tests (is_start e.event && same_at e.at at) (rise e.event) rest
-  where
-    rise : (e' : Event) → newest_version past ≤ newest_version (record { at = e.at; event = e' } ∷ past)
-    rise (Published g w) = omega arith
-    rise (Promoted m g f w) = omega arith
-    rise e' = omega arith
-
-    tests : (b : Bool) → newest_version past ≤ newest_version (e ∷ past) → newest_version (before_start at past) ≤ newest_version past → newest_version (if b then past else before_start at past) ≤ newest_version (e ∷ past)
-    tests true up rest = up
-    tests false up rest = omega (arith, up, rest)
 
 -- a line that has just started so
 module _ (past : Past) (at : At) (n : NodeNo) (v : Version) where
@@ -243,13 +230,6 @@ module _ {D : Type 0} (cells : D → Cells) where
     where
       some_none : Some p ≡ None → ⊥
       some_none e = absurd (cc)
-
-  start_back : (at : At) (e : Entry) (past : Past) → start_entry at (e ∷ past) ≡ None → start_entry at past ≡ None
-  start_back at e past none = go (is_start e.event && same_at e.at at) none
-    where
-      go : (b : Bool) → (if b then Some e.event else start_entry at past) ≡ None → start_entry at past ≡ None
-      go true got = absurd (cc)
-      go false got = got
 
   -- a copy started, and its job began
   pub copy_path : (r : Run) (ended : Bool) (b0 b1 b2 b3 : Pages) (old new : List (Option (Place D))) (at : At) (p n : NodeNo) (v : Version) (number : ℕ)

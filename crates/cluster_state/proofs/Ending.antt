@@ -48,7 +48,7 @@ use Rattle.cluster_places.specs.declared.nodes.Node.TheVariants.{Primary, Replic
 use Rattle.cluster_places.specs.declared.nodes.Place.{Place}
 use Rattle.cluster_state.specs.Run.{Run}
 use Rattle.cluster_places.specs.Places.{place_of, HasPrimary}
-use Rattle.cluster_state.specs.State.{Stands, HoldsTickets, NodeShows, PlaceShows, Shows}
+use Rattle.cluster_state.specs.State.{StandForVersion, HoldsTickets, NodeShows, PlaceShows, Shows}
 use Rattle.cluster_state.specs.Moves.{Lasts}
 use Rattle.cluster_places.specs.Outs.{one_like, want_of, want_at, jobs_like, states_like}
 use Rattle.cluster_state.specs.Files.{CopyShows, JobShows, IsJobFor, reached_version, ReplicaFiles, PrimaryFiles, NodeFiles, FilesShow}
@@ -191,7 +191,7 @@ module _ {D : Type 0} (cells : D → Cells) where
       standing = f.standing has.node_shows.standing;
       point = record {
         version = point_version ∙ sym version_now;
-        stands = subst (λ (v : ℕ). Stands now v s.searchers.point.readers) (sym version_now) (more.stands job.version.0 s.searchers.point.readers (record { known = shows.known; documents = segments }));
+        stands = subst (λ (v : ℕ). StandForVersion now v s.searchers.point.readers) (sym version_now) (more.stands job.version.0 s.searchers.point.readers (record { known = shows.known; documents = segments }));
       };
       seen = subst (λ (k : ReplicaParts D). k.seen.0 ≤ generation_of (printed log)) (sym f.others) has.node_shows.seen;
     };
@@ -385,12 +385,12 @@ module _ {D : Type 0} (cells : D → Cells) where
   -- ---- in the terms of a call
 
   -- what a call knows of a job that runs
-  pub record RunsHere (r : Run) (row : JobRow) : Type 0 where
+  pub record LaneJobRuns (r : Run) (row : JobRow) : Type 0 where
     pub lane : LaneJobShows r.nodes (printed r.log) row
     pub is : job_at row.job.node.0 r.log ≡ Some row.job
 
-  pub runs_here : (r : Run) (ended : Bool) (size : ℕ) (log : Log) (row : JobRow) → record { ended = ended; nodes = size; log = log } ≡ r → JobRuns r.log row → LaneJobShows size (printed log) row → RunsHere r row
-  runs_here r ended size log row view runs lane =
+  pub lane_job_runs : (r : Run) (ended : Bool) (size : ℕ) (log : Log) (row : JobRow) → record { ended = ended; nodes = size; log = log } ≡ r → JobRuns r.log row → LaneJobShows size (printed log) row → LaneJobRuns r row
+  lane_job_runs r ended size log row view runs lane =
       let same_log : log ≡ r.log = ap (λ (x : Run). x.log) view in
       let same_size : size ≡ r.nodes = ap (λ (x : Run). x.nodes) view in
       let lane_now : LaneJobShows r.nodes (printed r.log) row = subst (λ (x : Log × ℕ). LaneJobShows x.1 (printed x.0) row) (λ i. (same_log i, same_size i)) lane in
@@ -400,7 +400,7 @@ module _ {D : Type 0} (cells : D → Cells) where
       → (ended ≡ false → Shows cells log size places × FilesShow cells log size places) → SourcedStand → IsNode r.nodes p.0 → primary_of (printed r.log) ≡ Some p → JobRuns r.log row → LaneJobShows size (printed log) row → IsReplica (printed log) row.job.node.0
       → HasNextFile (place_of places row.job.node.0) None → CanFinish cells p.0 row.job.node.0 places
   can_finish r ended size log places p row view running pair stand node primary runs lane replica next =
-      let h = runs_here r ended size log row view runs lane in
+      let h = lane_job_runs r ended size log row view runs lane in
       can_finish_of r.log r.nodes places p row.job (was cells r ended size log places view running (λ e. (pair e).0)) (files_was cells r ended size log places view running (λ e. (pair e).1)) stand node primary h.lane.node
       (subst (λ (l : Log). IsReplica (printed l) row.job.node.0) (ap (λ (x : Run). x.log) view) replica) h.is next
 
@@ -410,7 +410,7 @@ module _ {D : Type 0} (cells : D → Cells) where
       → (version_of row.job.node.0 (printed b1.log) < newest_version (before_start row.job.at (printed b1.log))) × (highest_copy row.job.node.0 (printed b1.log) ≤ row.job.version.0)
   copy_here r ended b0 b1 places row view running pair same_log runs lane replica =
       let log : b1.log ≡ r.log = same_log ∙ ap (λ (x : Run). x.log) view in
-      let h = runs_here r ended b0.nodes b0.log row view runs lane in
+      let h = lane_job_runs r ended b0.nodes b0.log row view runs lane in
       let s = was cells r ended b0.nodes b0.log places view running (λ e. (pair e).0) in
       let f = files_was cells r ended b0.nodes b0.log places view running (λ e. (pair e).1) in
       let here = replica_here cells r.log r.nodes row.job.node.0 places s f h.lane.node (subst (λ (l : Log). IsReplica (printed l) row.job.node.0) (ap (λ (x : Run). x.log) view) replica) in
@@ -427,7 +427,7 @@ module _ {D : Type 0} (cells : D → Cells) where
       let log1 : b1.log ≡ r.log = e1 ∙ log0 in
       let log2 : b2.log ≡ ended_log row.job (start_entry row.job.at (printed r.log)) r.log = e2 ∙ ap (λ (l : Log). ended_log row.job (start_entry row.job.at (printed l)) l) log1 in
       let size2 : b2.nodes ≡ r.nodes = n2 ∙ (n1 ∙ ap (λ (x : Run). x.nodes) view) in
-      let h = runs_here r ended b0.nodes b0.log row view runs lane in
+      let h = lane_job_runs r ended b0.nodes b0.log row view runs lane in
       let legal_now : IsLegalPast r.nodes (printed (ended_log row.job (start_entry row.job.at (printed r.log)) r.log)) = subst (λ (x : Log × ℕ). IsLegalPast x.1 (printed x.0)) (λ i. (log2 i, size2 i)) legal in
       let turns_now : AreInTurn (printed (ended_log row.job (start_entry row.job.at (printed r.log)) r.log)) = subst (λ (l : Log). AreInTurn (printed l)) log2 turns in
       let other : is_at (primary_of (printed r.log)) row.job.node.0 ≡ false = (subst (λ (l : Log). IsReplica (printed l) row.job.node.0) log0 replica).other in

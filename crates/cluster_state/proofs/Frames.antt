@@ -34,7 +34,7 @@ use Rattle.cluster_places.specs.declared.nodes.Place.{Place}
 use Rattle.cluster_state.specs.Lookups.{Handed, handed_by, or_older, flush_out}
 use Rattle.cluster_places.specs.Places.{place_of, IsSlot, tickets_of}
 use Rattle.cluster_state.specs.Run.{Run}
-use Rattle.cluster_state.specs.State.{Stands, IsPointAt, HoldsTickets, FlightShows, WritesAt, PrimaryShows, ReplicaShows, NodeShows, PlaceShows, Shows}
+use Rattle.cluster_state.specs.State.{StandForVersion, IsPointAt, HoldsTickets, FlightShows, WritesAt, PrimaryShows, ReplicaShows, NodeShows, PlaceShows, Shows}
 use Rattle.cluster_state.specs.Moves.{moves, moves_tickets, FlightStays, Lasts, Fewer, WritesOn, Same}
 use Rattle.cluster_state.proofs.Growing.{same, fewer, not_flying}
 
@@ -47,10 +47,18 @@ some_then (Some x) h step = step x h
 pub some_at : {A : Type 0} (P : A → Type 0) (o : Option A) (x : A) → o ≡ Some x → IsSomeAnd o P → P x
 some_at {A = A} P o x is h = subst (λ (o' : Option A). IsSomeAnd o' P) is h
 
+-- before a line started, nothing is handed out for it: so it is after an entry
+pub start_back : (at : At) (e : Entry) (past : Past) → start_entry at (e ∷ past) ≡ None → start_entry at past ≡ None
+start_back at e past none = go (is_start e.event && same_at e.at at) none
+  where
+    go : (b : Bool) → (if b then Some e.event else start_entry at past) ≡ None → start_entry at past ≡ None
+    go true got = absurd (cc)
+    go false got = got
+
 -- ---- tickets
 
 point_more : (past now : Past) (v w : ℕ) (p : Point Shown) → Lasts past now → w ≡ v → IsPointAt past v p → IsPointAt now w p
-point_more past now v w p g same was = record { version = was.version ∙ sym same; stands = subst (λ (k : ℕ). Stands now k p.readers) (sym same) (g.stands v p.readers was.stands) }
+point_more past now v w p g same was = record { version = was.version ∙ sym same; stands = subst (λ (k : ℕ). StandForVersion now k p.readers) (sym same) (g.stands v p.readers was.stands) }
 
 pub holds_same : (past now : Past) (n : ℕ) (tickets : List (Open Shown)) (held : List Held) → Lasts past now → Fewer past now n → HoldsTickets past n tickets held → HoldsTickets now n tickets held
 holds_same past now n tickets held g f was = record {
@@ -198,14 +206,6 @@ module _ {D : Type 0} (cells : D → Cells) where
 
   pub now_is : (log now : Log) (size size' : ℕ) (places : List (Option (Place D))) → now ≡ log → size' ≡ size → Shows cells log size places → Shows cells now size' places
   now_is log now size size' places e f s = subst (λ (x : Log × ℕ). Shows cells x.0 x.1 places) (λ i. (sym e i, sym f i)) s
-
-  -- before a line started, nothing is handed out for it: so it is after an entry
-  start_back : (at : At) (e : Entry) (past : Past) → start_entry at (e ∷ past) ≡ None → start_entry at past ≡ None
-  start_back at e past none = go (is_start e.event && same_at e.at at) none
-    where
-      go : (b : Bool) → (if b then Some e.event else start_entry at past) ≡ None → start_entry at past ≡ None
-      go true got = absurd (cc)
-      go false got = got
 
   -- the entry that a call appended moved no place
   pub noted : (r : Run) (ended : Bool) (b0 b1 b2 : Pages) (places : List (Option (Place D))) (at : At) (e : Event)

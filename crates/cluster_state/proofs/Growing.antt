@@ -19,17 +19,17 @@ use Rattle.history_laws.proofs.PointLemmas.{operations_stay, documents_stay_lem}
 use Rattle.history_laws.specs.Steps.{is_running_by, version_by}
 use Rattle.history_tables.specs.declared.lines.Begun.{Begun}
 use Rattle.history_tables.specs.Begins.{begin, begun_by, open_line, start_by}
-use Rattle.history_tables.proofs.RowLemmas.{by_test}
+use Rattle.history_tables.proofs.RowLemmas.{by_test, same_at_is}
 use Rattle.history_book.specs.Turns.{AreInTurn}
-use Rattle.history_book.proofs.LineLaws.{same_at_is, and_false, flying}
+use Rattle.history_book.proofs.LineLaws.{and_false, flying}
 use Rattle.cluster_state.specs.Lookups.{IsSearchAt, IsSearching}
-use Rattle.cluster_state.specs.State.{Stands}
+use Rattle.cluster_state.specs.State.{StandForVersion}
 use Rattle.cluster_state.specs.Moves.{moves, moves_tickets, keeps_flight, FlightStays, Lasts, Fewer, WritesOn, Same}
 
 -- ---- points
 
 -- the documents of a point stay
-pub stands_more : (size : ℕ) (past : Past) (e : Entry) (v : ℕ) (segs : List Shown) → IsLegalPast size (e ∷ past) → Stands past v segs → Stands (e ∷ past) v segs
+pub stands_more : (size : ℕ) (past : Past) (e : Entry) (v : ℕ) (segs : List Shown) → IsLegalPast size (e ∷ past) → StandForVersion past v segs → StandForVersion (e ∷ past) v segs
 stands_more size past e v segs legal was =
     let stays = operations_stay size (e ∷ []) past v legal was.known in
     record {

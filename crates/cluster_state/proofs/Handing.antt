@@ -1,6 +1,6 @@
 -- A file that is handed out to a job.
-use Rattle.std.proofs.Common.{◌≡◌, ◌<◌, ◌+◌, ◌&&◌, ◌==◌, ℕ, suc, Bool, true, false, true≢false, List, [], ◌∷◌, ◌++◌, Some, None, Option, Vec, Global, refl, ap, ◌∙◌, sym, subst, arith, if◌then◌else◌}
-use Rattle.std.specs.Prelude.{IsSomeAnd, IfSome, is_some, not, Contains}
+use Rattle.std.proofs.Common.{◌≡◌, ◌<◌, ◌+◌, ◌&&◌, ◌==◌, ℕ, Bool, true, false, true≢false, List, ◌∷◌, ◌++◌, Some, None, Option, Vec, Global, refl, ap, ◌∙◌, sym, subst, arith, if◌then◌else◌}
+use Rattle.std.specs.Prelude.{IsSomeAnd, IfSome, is_some, not}
 use Rattle.std.specs.List.{All}
 use Rattle.std.proofs.lemmas.List.Elements.{All-contains}
 use Rattle.std.proofs.lemmas.Bool.{eqb-true, lt-ltb}
@@ -18,7 +18,7 @@ use Rattle.index_primary.specs.Held.{IsHeld}
 use Rattle.index_primary.specs.States.{IsFramedIn}
 use Rattle.index_primary.proofs.Framing.{held_framed}
 use Rattle.history_entries.specs.Points.{documents_at}
-use Rattle.copy_state.specs.States.{meta_names, meta_in}
+use Rattle.copy_state.specs.States.{meta_names}
 use Rattle.commit_steps.proofs.Safe.{contains_of}
 use Rattle.searcher_switch.specs.Searching.{searcher_names}
 use Rattle.index_primary.specs.declared.parts.Parts.{Parts as PrimaryParts}
@@ -52,27 +52,12 @@ use Rattle.cluster_places.specs.JobPlaces.{ReadsIn}
 use Rattle.cluster_state.proofs.Frames.{some_at}
 use Rattle.cluster_state.proofs.JobFrames.{same_inner}
 use Rattle.cluster_places.proofs.OutCounts.{jobs_same, names_out}
-use Rattle.cluster_state.proofs.Wider.{primary_kept}
+use Rattle.cluster_state.proofs.Wider.{primary_kept, meta_at_source}
 use Rattle.cluster_state.proofs.FileFrames.{one_each, both_of, Both, wants_same, replica_same}
 use Rattle.cluster_state.proofs.JobMoves.{shows_kept, shows_put, primary_place}
 use Rattle.cluster_state.proofs.CopyPaths.{FilesLast}
 
 -- ---- metadata
-
--- what is listed of a file stands among the files
-pub meta_listed : (files : List (Name × FileMetaData)) (q : Name) (meta : FileMetaData) → meta_in files q ≡ Some meta → Contains files (q, meta)
-meta_listed [] q meta is = absurd (cc)
-meta_listed (f ∷ fs) q meta is = tests (same q f.0) refl is (λ more. meta_listed fs q meta more)
-  where
-    tests : (b : Bool) → same q f.0 ≡ b → (if b then Some f.1 else meta_in fs q) ≡ Some meta → (meta_in fs q ≡ Some meta → Contains fs (q, meta)) → Contains (f ∷ fs) (q, meta)
-    tests true here found more =
-        let name : f.0 ≡ q = sym (same_true q f.0 here) in
-        let info : f.1 ≡ meta = cc in
-        (0, omega arith, λ i. (name i, info i))
-    tests false here found more = let c = more found in (suc c.0, omega (arith, c.1), c.2)
-
-pub meta_at_source : (source : Name → Content) (files : List (Name × FileMetaData)) (q : Name) (meta : FileMetaData) → All (λ f. HasMeta source f.0 f.1) files → meta_in files q ≡ Some meta → HasMeta source q meta
-meta_at_source source files q meta all is = All-contains (λ (f : Name × FileMetaData). HasMeta source f.0 f.1) files (q, meta) all (meta_listed files q meta is)
 
 -- ---- the next file
 

@@ -1,31 +1,24 @@
 -- How the line of a job started, and that a primary runs while it goes on.
-use Rattle.std.proofs.Common.{◌≡◌, ◌≢◌, ℕ, Bool, Some, None, Option, refl, ap, ◌∙◌, sym, subst}
+use Rattle.std.proofs.Common.{◌≡◌, ◌≢◌, ℕ, Bool, Some, None, refl, ap, ◌∙◌, sym, subst}
 use Rattle.nrt_base.specs.declared.numbers.At.{At}
-use Rattle.history_entries.specs.declared.entry.Event.{Event}
-use Rattle.history_entries.specs.declared.entry.Event.TheVariants.{Copying, Settling}
 use Rattle.history_entries.specs.Nodes.{Past, primary_of}
-use Rattle.history_entries.specs.Lines.{start_entry, before_start, SourceSurvives}
+use Rattle.history_entries.specs.Lines.{start_entry, SourceSurvives}
 use Rattle.history_entries.specs.Legal.{IsLegalPast}
 use Rattle.history_tables.specs.declared.jobs.JobRow.{JobRow}
 use Rattle.history_tables.specs.declared.lines.Begun.{Begun}
 use Rattle.history_tables.specs.declared.lines.Start.{Start}
 use Rattle.history_tables.specs.Begins.{event_of, open_line}
 use Rattle.history_book.specs.Log.{Log, Pages, printed}
-use Rattle.history_book.specs.Jobs.{StartsJob, LaneJobShows}
+use Rattle.history_book.specs.Jobs.{LaneJobShows}
 use Rattle.history_book.proofs.LineLaws.{open_started}
-use Rattle.history_book.proofs.ReignLaws.{reigns_on, start_kept}
+use Rattle.history_book.proofs.ReignLaws.{reigns_on}
+use Rattle.history_book.proofs.JobLaws.{source_runs}
 use Rattle.cluster_state.specs.Run.{Run}
-
--- where the line of a job started a primary ran
-source_ran : (size : ℕ) (past : Past) (at : At) (n v : ℕ) → IsLegalPast size past → (o : Option Event) → start_entry at past ≡ o → StartsJob (before_start at past) n v o → primary_of (before_start at past) ≢ None
-source_ran size past at n v legal (Some (Copying m w)) is started = (start_kept size at past (Copying m w) legal is).source
-source_ran size past at n v legal (Some (Settling w)) is started = (start_kept size at past (Settling w) legal is).source
-source_ran size past at n v legal o is started = absurd started
 
 -- so one runs while it has not crashed since
 pub source_runs : (size : ℕ) (past : Past) (row : JobRow) → IsLegalPast size past → LaneJobShows size past row → SourceSurvives past row.job.at → primary_of past ≢ None
 source_runs size past row legal s source none =
-    let ran = source_ran size past row.job.at row.job.node.0 row.job.version.0 legal (start_entry row.job.at past) refl s.started in
+    let ran = source_runs size past row.job.at row.job.node.0 row.job.version.0 legal (start_entry row.job.at past) refl s.started in
     ran (sym (reigns_on size row.job.at past legal ran source.source).primary ∙ none)
 
 -- how an open line started

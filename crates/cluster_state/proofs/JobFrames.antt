@@ -1,10 +1,9 @@
 -- What one more entry leaves of the job that the log shows at a replica.
-use Rattle.std.proofs.Common.{◌≡◌, ◌≢◌, ◌≤◌, ◌+◌, ◌&&◌, ◌==◌, ℕ, Bool, true, false, true≢false, [], ◌∷◌, Some, None, Option, max, refl, ap, ◌∙◌, sym, subst, arith, if◌then◌else◌, length}
+use Rattle.std.proofs.Common.{◌≡◌, ◌≢◌, ◌≤◌, ◌+◌, ◌&&◌, ◌==◌, ℕ, Bool, true, false, true≢false, [], ◌∷◌, Some, None, Option, max, refl, ap, ◌∙◌, sym, subst, arith, if◌then◌else◌, length, ◌||◌}
 use Rattle.std.specs.Prelude.{not}
-use Rattle.std.proofs.Common.{◌||◌}
 use Rattle.std.proofs.lemmas.Bool.{eqb-true}
 use Rattle.std.proofs.lemmas.Bool.Decides.{nat_tests}
-use Rattle.history_tables.proofs.RowLemmas.{same_at_self}
+use Rattle.history_tables.proofs.RowLemmas.{same_at_self, same_at_is}
 use Rattle.nrt_base.specs.declared.numbers.At.{At}
 use Rattle.nrt_base.specs.declared.numbers.NodeNo.{NodeNo}
 use Rattle.nrt_base.specs.declared.numbers.Version.{Version}
@@ -26,7 +25,7 @@ use Rattle.history_book.specs.declared.inner.Mark.TheVariants.{Shown, TaskFault,
 use Rattle.history_book.specs.Log.{Log, printed, shown, kept}
 use Rattle.history_book.specs.Jobs.{job_step, last_job}
 use Rattle.history_book.specs.Turns.{StartsOnce, InTurn, AreInTurn}
-use Rattle.history_book.proofs.LineLaws.{same_at_is, without_some}
+use Rattle.history_book.proofs.LineLaws.{without_some}
 use Rattle.cluster_state.specs.FilesOut.{is_by, is_job, file_out}
 use Rattle.cluster_state.specs.FileChanges.{keeps_jobs, leaves_job, SameJob}
 
@@ -278,4 +277,17 @@ same_then log mid now n a b = record {
   start = λ job is begun. let x = a.start job is begun in let y = b.start job (a.job ∙ is) x.0 in (y.0, y.1 ∙ x.1);
   flight = λ at is. let y = b.flight at is in let x = a.flight at y.0 in (x.0, y.1 ∙ x.1);
   handed = λ job q is. b.handed job q (a.job ∙ is) ∙ a.handed job q is;
+}
+
+-- nothing happened to the job of a node
+pub job_stays : (log : Log) (n : ℕ) → SameJob log log n
+job_stays log n = record {
+  job = refl;
+  newest = omega arith;
+  documents = λ v low. refl;
+  latest = omega arith;
+  version = refl;
+  start = λ job is begun. (begun, refl);
+  flight = λ at is. (is, refl);
+  handed = λ job q is. refl;
 }

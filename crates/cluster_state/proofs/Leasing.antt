@@ -21,9 +21,9 @@ use Rattle.cluster_places.specs.declared.held.Key.{Key}
 use Rattle.cluster_places.specs.declared.nodes.Node.{Node}
 use Rattle.cluster_places.specs.declared.nodes.Node.TheVariants.{Primary, Replica, Down}
 use Rattle.cluster_places.specs.declared.nodes.Place.{Place}
-use Rattle.cluster_places.specs.Held.{same_key, held_at}
+use Rattle.cluster_places.specs.Held.{same_key, held_number}
 use Rattle.cluster_places.specs.Places.{place_of, searchers_of, tickets_of}
-use Rattle.cluster_state.specs.State.{Stands, IsPointAt, ReadsAt, ticket_key, HoldsTickets, NodeShows, PlaceShows}
+use Rattle.cluster_state.specs.State.{StandForVersion, IsPointAt, ReadsAt, ticket_key, HoldsTickets, NodeShows, PlaceShows}
 use Rattle.cluster_places.specs.Changes.{HoldsMore, HoldsTicket, IsLeaseUnder}
 use Rattle.cluster_places.proofs.Keys.{same_key_self}
 use Rattle.cluster_state.proofs.Holding.{ticket_last}
@@ -39,7 +39,7 @@ held_open tickets None v is = is
 held_open tickets (Some number) v is = some_is (λ t. t.point.version.0 ≡ v) (ticket_at number tickets) is
 
 -- the point of an open ticket, read
-read_open : (past : Past) (v : ℕ) (lease : Lease Shown) (o : Option (Open Shown)) → IsSomeAnd o (λ t. t.point.version.0 ≡ v) → IsSomeAnd o (λ t. Stands past t.point.version.0 t.point.readers)
+read_open : (past : Past) (v : ℕ) (lease : Lease Shown) (o : Option (Open Shown)) → IsSomeAnd o (λ t. t.point.version.0 ≡ v) → IsSomeAnd o (λ t. StandForVersion past t.point.version.0 t.point.readers)
     → IfSome o (IsLeaseOf lease) → ReadsAt past v lease
 read_open past v lease None at stands is = absurd at
 read_open past v lease (Some t) at stands is = record {
@@ -47,10 +47,10 @@ read_open past v lease (Some t) at stands is = record {
   stands = moved (sym at) is.readers stands;
 }
   where
-    moved : {v w : ℕ} {a b : List Shown} → v ≡ w → a ≡ b → Stands past w b → Stands past v a
-    moved e f was = subst (λ (x : ℕ × List Shown). Stands past x.0 x.1) (λ i. (sym e i, sym f i)) was
+    moved : {v w : ℕ} {a b : List Shown} → v ≡ w → a ≡ b → StandForVersion past w b → StandForVersion past v a
+    moved e f was = subst (λ (x : ℕ × List Shown). StandForVersion past x.0 x.1) (λ i. (sym e i, sym f i)) was
 
-read_held : (past : Past) (n v : ℕ) (key : Key) (tickets : List (Open Shown)) (held : List Held) (lease : Lease Shown) (o : Option ℕ) → held_at held key ≡ o → HoldsTickets past n tickets held
+read_held : (past : Past) (n v : ℕ) (key : Key) (tickets : List (Open Shown)) (held : List Held) (lease : Lease Shown) (o : Option ℕ) → held_number held key ≡ o → HoldsTickets past n tickets held
     → IsSomeAnd o (λ number. IsSomeAnd (ticket_at number tickets) (λ t. t.point.version.0 ≡ v)) → IsSomeAnd o (λ number. IfSome (ticket_at number tickets) (IsLeaseOf lease)) → ReadsAt past v lease
 read_held past n v key tickets held lease None is holds at under = absurd at
 read_held past n v key tickets held lease (Some number) is holds at under = read_open past v lease (ticket_at number tickets) at (holds.each key number is) under
@@ -59,22 +59,22 @@ module _ {D : Type 0} (cells : D → Cells) where
   -- a lane's ticket at a node is held there
   pub ticket_held : (log : Log) (n lane t v : ℕ) (x : Option (Place D)) → IsSomeAnd x (PlaceShows cells log n) → IsTicketOf n v (open_ticket lane t (printed log)) → HoldsTicket x (ticket_key lane t)
   ticket_held log n lane t v None shows is = absurd shows
-  ticket_held log n lane t v (Some x) shows is = held_open (tickets_of x.node) (held_at x.held.items (ticket_key lane t)) v (shows.tickets.opened lane t v is)
+  ticket_held log n lane t v (Some x) shows is = held_open (tickets_of x.node) (held_number x.held.items (ticket_key lane t)) v (shows.tickets.opened lane t v is)
 
   -- what is read under it is its point
   pub ticket_reads : (log : Log) (n lane t v : ℕ) (lease : Lease Shown) (x : Option (Place D)) → IsSomeAnd x (PlaceShows cells log n) → IsTicketOf n v (open_ticket lane t (printed log))
       → IsLeaseUnder x (ticket_key lane t) lease → ReadsAt (printed log) v lease
   ticket_reads log n lane t v lease None shows is under = absurd shows
   ticket_reads log n lane t v lease (Some x) shows is under =
-      read_held (printed log) n v (ticket_key lane t) (tickets_of x.node) x.held.items lease (held_at x.held.items (ticket_key lane t)) refl shows.tickets (shows.tickets.opened lane t v is) under
+      read_held (printed log) n v (ticket_key lane t) (tickets_of x.node) x.held.items lease (held_number x.held.items (ticket_key lane t)) refl shows.tickets (shows.tickets.opened lane t v is) under
 
   -- what a node holds may be given back
-  pub gives_back : (log : Log) (n : ℕ) (key : Key) (x : Place D) → PlaceShows cells log n x → IfSome (held_at x.held.items key) (λ number. is_some (ticket_at number (tickets_of x.node)) ≡ true)
-  gives_back log n key x shows = go (held_at x.held.items key) refl
+  pub gives_back : (log : Log) (n : ℕ) (key : Key) (x : Place D) → PlaceShows cells log n x → IfSome (held_number x.held.items key) (λ number. is_some (ticket_at number (tickets_of x.node)) ≡ true)
+  gives_back log n key x shows = go (held_number x.held.items key) refl
     where
-      go : (o : Option ℕ) → held_at x.held.items key ≡ o → IfSome o (λ number. is_some (ticket_at number (tickets_of x.node)) ≡ true)
+      go : (o : Option ℕ) → held_number x.held.items key ≡ o → IfSome o (λ number. is_some (ticket_at number (tickets_of x.node)) ≡ true)
       go None is = tt
-      go (Some number) is = some_is (λ t. Stands (printed log) t.point.version.0 t.point.readers) (ticket_at number (tickets_of x.node)) (shows.tickets.each key number is)
+      go (Some number) is = some_is (λ t. StandForVersion (printed log) t.point.version.0 t.point.readers) (ticket_at number (tickets_of x.node)) (shows.tickets.each key number is)
 
   -- ---- what was opened just now
 
@@ -89,7 +89,7 @@ module _ {D : Type 0} (cells : D → Cells) where
   read_new past v lease point None at new is = absurd new
   read_new past v lease point (Some t) at new is = record {
     version = ap (λ (w : Version). w.0) is.version ∙ (ap (λ (q : Point Shown). q.version.0) new ∙ at.version);
-    stands = subst (λ (segs : List Shown). Stands past v segs) (sym (is.readers ∙ ap (λ (q : Point Shown). q.readers) new)) at.stands;
+    stands = subst (λ (segs : List Shown). StandForVersion past v segs) (sym (is.readers ∙ ap (λ (q : Point Shown). q.readers) new)) at.stands;
   }
 
   under_new : (past : Past) (v number : ℕ) (lease : Lease Shown) (s : Searchers Shown) (after : List (Open Shown)) (o : Option ℕ) → o ≡ Some number → IsPointAt past v s.point
@@ -97,8 +97,8 @@ module _ {D : Type 0} (cells : D → Cells) where
   under_new past v number lease s after o here at fresh more is =
       read_new past v lease s.point (ticket_at number after) at (new_open number s after fresh more) (subst (λ (x : Option ℕ). IsSomeAnd x (λ k. IfSome (ticket_at k after) (IsLeaseOf lease))) here is)
 
-  held_now : (key : Key) (number : ℕ) (x y : Place D) → ((k : Key) → held_at y.held.items k ≡ (if same_key key k then Some number else held_at x.held.items k)) → held_at y.held.items key ≡ Some number
-  held_now key number x y rows = rows key ∙ ap (λ (b : Bool). if b then Some number else held_at x.held.items key) (same_key_self key)
+  held_now : (key : Key) (number : ℕ) (x y : Place D) → ((k : Key) → held_number y.held.items k ≡ (if same_key key k then Some number else held_number x.held.items k)) → held_number y.held.items key ≡ Some number
+  held_now key number x y rows = rows key ∙ ap (λ (b : Bool). if b then Some number else held_number x.held.items key) (same_key_self key)
 
   reads_node : (log : Log) (n : ℕ) (key : Key) (number : ℕ) (node : Node D) (lease : Lease Shown) (after : List (Open Shown)) (o : Option ℕ) → o ≡ Some number → NodeShows cells log n node
       → IsSome (searchers_of node) → is_some (ticket_at number (tickets_of node)) ≡ false → IfSome (searchers_of node) (λ s. after ≡ s.tickets ++ record { number = number; point = s.point } ∷ [])
@@ -111,7 +111,7 @@ module _ {D : Type 0} (cells : D → Cells) where
   pub opened_reads : (log : Log) (n : ℕ) (key : Key) (x y : Place D) (lease : Lease Shown) → PlaceShows cells log n x → IsSome (searchers_of x.node) → HoldsMore key x y → IsLeaseUnder (Some y) key lease
       → ReadsAt (printed log) (version_of n (printed log)) lease
   opened_reads log n key x y lease shows runs more under =
-      reads_node log n key more.number x.node lease (tickets_of y.node) (held_at y.held.items key) (held_now key more.number x y more.rows) shows.node_shows runs more.opens.fresh more.opens.tickets under
+      reads_node log n key more.number x.node lease (tickets_of y.node) (held_number y.held.items key) (held_now key more.number x y more.rows) shows.node_shows runs more.opens.fresh more.opens.tickets under
 
   holds_node : (number : ℕ) (node : Node D) (after : List (Open Shown)) (o : Option ℕ) → o ≡ Some number → IsSome (searchers_of node) → is_some (ticket_at number (tickets_of node)) ≡ false
       → IfSome (searchers_of node) (λ s. after ≡ s.tickets ++ record { number = number; point = s.point } ∷ []) → IsSomeAnd o (λ k. is_some (ticket_at k after) ≡ true)
@@ -121,7 +121,7 @@ module _ {D : Type 0} (cells : D → Cells) where
 
   -- it is held
   pub opened_held : (key : Key) (x y : Place D) → IsSome (searchers_of x.node) → HoldsMore key x y → HoldsTicket (Some y) key
-  opened_held key x y runs more = holds_node more.number x.node (tickets_of y.node) (held_at y.held.items key) (held_now key more.number x y more.rows) runs more.opens.fresh more.opens.tickets
+  opened_held key x y runs more = holds_node more.number x.node (tickets_of y.node) (held_number y.held.items key) (held_now key more.number x y more.rows) runs more.opens.fresh more.opens.tickets
 
   -- what was put in its place is there
   pub there_now : (new mid : List (Option (Place D))) (n : ℕ) (x : Place D) → ((m : ℕ) → place_of new m ≡ (if n == m then Some x else place_of mid m)) → place_of new n ≡ Some x

@@ -23,10 +23,10 @@ use Rattle.cluster_places.specs.declared.held.Key.TheVariants.{Search}
 use Rattle.cluster_places.specs.declared.nodes.Node.{Node}
 use Rattle.cluster_places.specs.declared.nodes.Node.TheVariants.{Primary, Replica, Down}
 use Rattle.cluster_places.specs.declared.nodes.Place.{Place}
-use Rattle.cluster_places.specs.Held.{same_key, held_at}
+use Rattle.cluster_places.specs.Held.{same_key, held_number}
 use Rattle.cluster_state.specs.Lookups.{IsSearching}
 use Rattle.cluster_places.specs.Places.{searchers_of, tickets_of}
-use Rattle.cluster_state.specs.State.{Stands, IsPointAt, ticket_key, HoldsTickets, NodeShows, PlaceShows}
+use Rattle.cluster_state.specs.State.{StandForVersion, IsPointAt, ticket_key, HoldsTickets, NodeShows, PlaceShows}
 use Rattle.cluster_places.specs.Changes.{KeepsNode, HoldsMore}
 use Rattle.cluster_state.proofs.Growing.{stands_more, same, not_flying}
 use Rattle.cluster_state.proofs.Frames.{node_same}
@@ -43,7 +43,7 @@ module _ {D : Type 0} (cells : D → Cells) where
   opened_on : (size : ℕ) (log : Log) (at : At) (n : NodeNo) (t : TicketNo) (v : Version) (key : Key) (s : Searchers Shown) (after : List (Open Shown)) (held rows : List Held) (number : ℕ)
       → IsLegalPast size (printed log) → KeepsRule size (printed log) at (Opened n t v) → v.0 ≡ version_of n.0 (printed log)
       → is_some (ticket_at number s.tickets) ≡ false → after ≡ s.tickets ++ record { number = number; point = s.point } ∷ []
-      → ((k : Key) → held_at rows k ≡ (if same_key key k then Some number else held_at held k))
+      → ((k : Key) → held_number rows k ≡ (if same_key key k then Some number else held_number held k))
       → TicketsAfter (printed log) (printed (shown at (Opened n t v) ∷ log)) n.0 key v.0 → SearchesAfter (printed log) (printed (shown at (Opened n t v) ∷ log)) n.0 key v.0
       → IsPointAt (printed log) (version_of n.0 (printed log)) s.point → HoldsTickets (printed log) n.0 s.tickets held → HoldsTickets (printed (shown at (Opened n t v) ∷ log)) n.0 after rows
   opened_on size log at n t v key s after held rows number legal keeps version fresh more holds opened searched point was =
@@ -52,14 +52,14 @@ module _ {D : Type 0} (cells : D → Cells) where
       (record {
         version = point.version ∙ sym version;
         stands = stands_more size (printed log) (record { at = at; event = Opened n t v }) v.0 s.point.readers (keeps, legal)
-            (subst (λ (k : ℕ). Stands (printed log) k s.point.readers) (sym version) point.stands);
+            (subst (λ (k : ℕ). StandForVersion (printed log) k s.point.readers) (sym version) point.stands);
       })
       opened searched was
 
   opened_tickets : (size : ℕ) (log : Log) (at : At) (n : NodeNo) (t : TicketNo) (v : Version) (key : Key) (x : Node D) (after : List (Open Shown)) (held rows : List Held) (number : ℕ)
       → IsLegalPast size (printed log) → KeepsRule size (printed log) at (Opened n t v) → v.0 ≡ version_of n.0 (printed log)
       → is_some (ticket_at number (tickets_of x)) ≡ false → IfSome (searchers_of x) (λ s. after ≡ s.tickets ++ record { number = number; point = s.point } ∷ [])
-      → ((k : Key) → held_at rows k ≡ (if same_key key k then Some number else held_at held k))
+      → ((k : Key) → held_number rows k ≡ (if same_key key k then Some number else held_number held k))
       → TicketsAfter (printed log) (printed (shown at (Opened n t v) ∷ log)) n.0 key v.0 → SearchesAfter (printed log) (printed (shown at (Opened n t v) ∷ log)) n.0 key v.0
       → NodeShows cells log n.0 x → HoldsTickets (printed log) n.0 (tickets_of x) held → HoldsTickets (printed (shown at (Opened n t v) ∷ log)) n.0 after rows
   opened_tickets size log at n t v key (Primary p) after held rows number legal keeps version fresh more holds opened searched shows was =

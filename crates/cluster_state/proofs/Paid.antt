@@ -10,9 +10,9 @@ use Rattle.history_entries.specs.Nodes.{Past, is_at, primary_of}
 use Rattle.history_entries.specs.Lines.{same_at, is_start, is_reply, start_entry, before_start, without_at, publish_in_flight}
 use Rattle.history_entries.specs.Points.{operations_of_generation, published_in_generation, cut_of, merges_started, adds_none, idle_publishes}
 use Rattle.history_entries.specs.Legal.{KeepsRule, IsLegalPast}
-use Rattle.history_tables.proofs.RowLemmas.{same_at_self}
+use Rattle.history_tables.proofs.RowLemmas.{same_at_self, same_at_is}
 use Rattle.history_book.specs.Turns.{StartsOnce, InTurn, AreInTurn}
-use Rattle.history_book.proofs.LineLaws.{same_at_is, without_some, flying}
+use Rattle.history_book.proofs.LineLaws.{without_some, flying}
 
 idle_step : (size : ℕ) (past : Past) (at : At) (e : Event) → KeepsRule size past at e → idle_publishes past ≤ merges_started past
     → idle_publishes (record { at = at; event = e } ∷ past) ≤ merges_started (record { at = at; event = e } ∷ past)

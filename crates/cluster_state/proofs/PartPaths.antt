@@ -1,9 +1,8 @@
 -- A part that a job takes, in the terms of a call.
-use Rattle.std.proofs.Common.{◌≡◌, ◌≤◌, ◌<◌, ℕ, suc, Bool, true, false, List, [], ◌∷◌, Some, None, Option, Vec, Global, refl, ap, ◌∙◌, sym, subst, arith, if◌then◌else◌}
+use Rattle.std.proofs.Common.{◌≡◌, ◌≤◌, ◌<◌, ℕ, Bool, false, List, Some, None, Option, Vec, Global, refl, ap, ◌∙◌, sym, subst, arith}
 use Rattle.std.specs.Prelude.{IsSome, IsSomeAnd, IfSome}
 use Rattle.std.specs.List.{All}
 use Rattle.disk_model.specs.Disk.{Name, Content, Cells, same}
-use Rattle.disk_model.proofs.CellLemmas.{same_true}
 use Rattle.copy_state.specs.declared.meta.FileMetaData.{FileMetaData}
 use Rattle.copy_state.specs.declared.state.CopyState.{CopyState}
 use Rattle.copy_state.specs.States.{meta_in}
@@ -31,7 +30,6 @@ use Rattle.cluster_places.specs.Places.{place_of}
 use Rattle.cluster_state.specs.State.{IsPointAt, HoldsTickets, PlaceShows, Shows}
 use Rattle.cluster_places.specs.Outs.{want_of, jobs_like}
 use Rattle.cluster_state.specs.Files.{CopyShows, JobShows, reached_version, ReplicaFiles, NodeFiles, FilesShow}
-use Rattle.cluster_state.specs.FileChanges.{SameJob}
 use Rattle.cluster_state.specs.FilesOut.{file_out}
 use Rattle.cluster_state.specs.Copies.{JobRuns}
 use Rattle.cluster_places.specs.JobChanges.{HasReplica, TakesPart}
@@ -41,30 +39,8 @@ use Rattle.cluster_places.proofs.OutCounts.{jobs_same}
 use Rattle.cluster_state.proofs.FileFrames.{Both, both_of, node_files, one_each, wants_same, files_was}
 use Rattle.cluster_state.proofs.FileJobs.{JobHere, ReplicaHere, job_here, replica_here, runs_at}
 use Rattle.cluster_state.proofs.JobMoves.{shows_put}
-
--- nothing happened to the job of a node
-pub job_stays : (log : Log) (n : ℕ) → SameJob log log n
-job_stays log n = record {
-  job = refl;
-  newest = omega arith;
-  documents = λ v low. refl;
-  latest = omega arith;
-  version = refl;
-  start = λ job is begun. (begun, refl);
-  flight = λ at is. (is, refl);
-  handed = λ job q is. refl;
-}
-
--- what metadata names reads so
-meta_has : (source : Name → Content) (files : List (Name × FileMetaData)) (q : Name) (meta : FileMetaData) → All (λ f. HasMeta source f.0 f.1) files → meta_in files q ≡ Some meta → HasMeta source q meta
-meta_has source [] q meta all is = absurd (cc)
-meta_has source (f ∷ fs) q meta all is = tests (meta_has source fs q meta (λ i d lt. all (suc i) d (omega (arith, lt)))) (same q f.0) refl is
-  where
-    tests : (meta_in fs q ≡ Some meta → HasMeta source q meta) → (b : Bool) → same q f.0 ≡ b → (if b then Some f.1 else meta_in fs q) ≡ Some meta → HasMeta source q meta
-    tests rest true here is =
-        let e : f.1 ≡ meta = cc in
-        subst (λ (x : Name × FileMetaData). HasMeta source x.0 x.1) (λ i. (sym (same_true q f.0 here) i, e i)) (all 0 f (omega arith))
-    tests rest false here is = rest is
+use Rattle.cluster_state.proofs.Wider.{meta_at_source}
+use Rattle.cluster_state.proofs.JobFrames.{job_stays}
 
 some_job : (o : Option PointJob) (j : PointJob) → o ≡ Some j → IsSome o
 some_job None j is = absurd (cc)
@@ -91,7 +67,7 @@ module _ {D : Type 0} (cells : D → Cells) where
 
       wanted : (meta : FileMetaData) → meta_in here.point.copy.want.files part.name ≡ Some meta → meta ≡ part.meta
       wanted meta named =
-          let h = meta_has source here.point.copy.want.files part.name meta here.shows.metas named in
+          let h = meta_at_source source here.point.copy.want.files part.name meta here.shows.metas named in
           one_meta part.bytes meta part.meta (subst (λ (b : List ℕ). IsMetaOf b meta) (same_bytes h.bytes h.there) h.meta_is) meta_is
 
   can_take_of : (log : Log) (size : ℕ) (places : List (Option (Place D))) (job : Job) (part : Part) (shows : Shows cells log size places) (files : FilesShow cells log size places) → IsNode size job.node.0 → IsReplica (printed log) job.node.0

@@ -1,5 +1,5 @@
 -- What each path of the primary leaves of files and jobs, from what its calls say.
-use Rattle.std.proofs.Common.{◌≡◌, ◌+◌, ℕ, Bool, true, false, List, [], ◌∷◌, ◌++◌, Some, Option, Vec, Global, refl, ap, ◌∙◌, sym, subst, arith}
+use Rattle.std.proofs.Common.{◌≡◌, ◌+◌, ℕ, Bool, true, false, List, [], ◌∷◌, ◌++◌, Some, Option, Vec, Global, refl, ap, ◌∙◌, sym, subst}
 use Rattle.nrt_base.specs.declared.numbers.At.{At}
 use Rattle.nrt_base.specs.declared.numbers.Gen.{Gen}
 use Rattle.nrt_base.specs.declared.numbers.NodeNo.{NodeNo}
@@ -14,7 +14,7 @@ use Rattle.history_entries.specs.declared.entry.Event.TheVariants.{Accepted, Pub
 use Rattle.history_entries.specs.Nodes.{IsNode, primary_of}
 use Rattle.history_entries.specs.Lines.{publish_in_flight}
 use Rattle.history_entries.specs.Legal.{KeepsRule, IsLegalPast}
-use Rattle.history_book.specs.Log.{Log, Pages, printed, shown, kept}
+use Rattle.history_book.specs.Log.{Pages, printed, shown, kept}
 use Rattle.history_book.specs.declared.inner.Inner.TheVariants.{FlushOut}
 use Rattle.history_book.specs.Laws.{IsFresh}
 use Rattle.history_book.specs.Turns.{AreInTurn}
@@ -30,41 +30,18 @@ use Rattle.cluster_state.specs.Run.{Run}
 use Rattle.cluster_state.specs.State.{Shows}
 use Rattle.cluster_state.specs.Files.{FilesShow}
 use Rattle.cluster_places.specs.KeptFiles.{FillsPrimaryFiles, KeepsNodeFiles}
-use Rattle.cluster_state.specs.FileChanges.{SameJob}
+use Rattle.cluster_places.proofs.TicketNodes.{node_alone}
 use Rattle.cluster_state.proofs.Frames.{PutsBack, was}
 use Rattle.cluster_state.proofs.FileFrames.{files_one, files_was, files_is, files_moved, files_started, files_published, put_one}
 use Rattle.cluster_state.proofs.Turning.{log_is, nodes_is, past_has, fresh_turn, later_turn}
+use Rattle.cluster_state.proofs.JobFrames.{job_stays}
 
 drawn_generation : (b : Bool) (infos : Infos) → (infos_drawn b infos).generation ≡ infos.generation
 drawn_generation true infos = refl
 drawn_generation false infos = refl
 
-same_job : (log : Log) (m : ℕ) → SameJob log log m
-same_job log m = record {
-  job = refl;
-  newest = omega arith;
-  documents = λ v low. refl;
-  latest = omega arith;
-  version = refl;
-  start = λ job is begun. (begun, refl);
-  flight = λ at is. (is, refl);
-  handed = λ job q is. refl;
-}
-
 module _ {D : Type 0} (cells : D → Cells) where
   -- ---- the primary's files
-
-  primary_alone : (p : PrimaryParts D) → KeepsNodeFiles cells (Primary p) (Primary p)
-  primary_alone p = (
-    record {
-      stays = record { held = λ q old new. refl };
-      no_new = record { each = λ q is. is };
-      drawn = record { each = λ q is. is };
-      point = refl;
-      generation = refl;
-    },
-    refl,
-  )
 
   accepted_alone : (p : PrimaryParts D) (waiting : List Op) (accepted : ℕ) → KeepsNodeFiles cells (Primary p) (Primary (record p { waiting = waiting; accepted = accepted }))
   accepted_alone p waiting accepted = (
@@ -112,8 +89,8 @@ module _ {D : Type 0} (cells : D → Cells) where
     pub back_files : q ≡ p → FilesShow cells b1.log b1.nodes new
     back_files same =
         files_is cells r.log b1.log r.nodes b1.nodes new (e1 ∙ log_is r ended b0 view) (n1 ∙ nodes_is r ended b0 view)
-        (files_one cells r.nodes r.log r.log old new n.0 (record { node = Primary q; held = held }) x (λ m other. same_job r.log m) (put_one cells n.0 (record { node = Primary q; held = held }) old mid new put) node there
-        (keeps_at (subst (λ (z : PrimaryParts D). KeepsNodeFiles cells (Primary p) (Primary z)) (sym same) (primary_alone p)))
+        (files_one cells r.nodes r.log r.log old new n.0 (record { node = Primary q; held = held }) x (λ m other. job_stays r.log m) (put_one cells n.0 (record { node = Primary q; held = held }) old mid new put) node there
+        (keeps_at (subst (λ (z : PrimaryParts D). KeepsNodeFiles cells (Primary p) (Primary z)) (sym same) (node_alone cells (Primary p))))
         (was cells r ended b0.nodes b0.log old view running shows) (files_was cells r ended b0.nodes b0.log old view running files))
 
     module _ (b2 : Pages) (at : At) (legal : IsLegalPast b1.nodes (printed b1.log)) (turns : AreInTurn (printed b1.log)) where

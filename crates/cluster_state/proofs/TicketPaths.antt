@@ -24,7 +24,7 @@ use Rattle.history_book.specs.Turns.{AreInTurn}
 use Rattle.cluster_places.specs.declared.held.Key.{Key}
 use Rattle.cluster_places.specs.declared.held.Key.TheVariants.{Ticket as TicketKey, Search}
 use Rattle.cluster_places.specs.declared.nodes.Place.{Place}
-use Rattle.cluster_places.specs.Held.{held_at}
+use Rattle.cluster_places.specs.Held.{held_number}
 use Rattle.cluster_places.specs.Places.{place_of, searchers_of, tickets_of}
 use Rattle.cluster_state.specs.Run.{Run}
 use Rattle.cluster_state.specs.State.{ReadsAt, Shows}
@@ -123,7 +123,7 @@ module _ {D : Type 0} (cells : D → Cells) where
 
   -- what a node holds may be given back
   pub gives_back_at : (r : Run) (ended : Bool) (size n : ℕ) (log : Log) (places : List (Option (Place D))) (key : Key) (x : Place D) → record { ended = ended; nodes = size; log = log } ≡ r → r.ended ≡ false
-      → (ended ≡ false → Shows cells log size places) → IsNode r.nodes n → place_of places n ≡ Some x → IfSome (held_at x.held.items key) (λ number. is_some (ticket_at number (tickets_of x.node)) ≡ true)
+      → (ended ≡ false → Shows cells log size places) → IsNode r.nodes n → place_of places n ≡ Some x → IfSome (held_number x.held.items key) (λ number. is_some (ticket_at number (tickets_of x.node)) ≡ true)
   gives_back_at r ended size n log places key x view running shows node there = gives_back cells r.log n key x (place_at cells r ended size n log places x view running shows node there)
 
   -- ---- a search that starts

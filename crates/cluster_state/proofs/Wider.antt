@@ -1,9 +1,10 @@
 -- What files mean, where names get a meaning that had none.
 use Rattle.std.proofs.Common.{◌≡◌, ◌≤◌, ◌<◌, ℕ, zero, suc, Bool, true, false, true≢false, List, [], ◌∷◌, Some, None, Option, is_some, refl, ap, ◌∙◌, sym, subst, arith, if◌then◌else◌}
 use Rattle.std.specs.Prelude.{IfSome, nat_lt}
-use Rattle.std.proofs.lemmas.Bool.Decides.{nat_tests}
 use Rattle.std.specs.List.{All, AllZip}
 use Rattle.std.specs.Option.{option_or}
+use Rattle.std.proofs.lemmas.List.Elements.{All-contains}
+use Rattle.std.proofs.lemmas.Bool.{lt-ltb}
 use Rattle.nrt_base.specs.declared.doc.Doc.{Doc}
 use Rattle.disk_model.specs.Disk.{Name, Content, Cells, reads_of}
 use Rattle.file_deleter.specs.Holdings.{Holdings, count_of}
@@ -21,6 +22,7 @@ use Rattle.replica_node.specs.declared.job.PointJob.{PointJob}
 use Rattle.replica_node.specs.declared.parts.Parts.{Parts as ReplicaParts}
 use Rattle.replica_node.specs.Replica.{IsWholeReplica, HasMetas}
 use Rattle.replica_node.specs.Sources.{CopiesFrom, HeldReadAs, IsSourced}
+use Rattle.replica_node.proofs.Metas.{listed_meta}
 use Rattle.history_entries.specs.Points.{documents_at}
 use Rattle.history_tables.specs.declared.jobs.Job.{Job}
 use Rattle.history_book.specs.Log.{Log, printed}
@@ -76,6 +78,9 @@ stands_wider source wider infos docs more was = record {
 pub metas_wider : (source wider : Name → Content) (files : List (Name × FileMetaData)) → Extends source wider → All (λ f. HasMeta source f.0 f.1) files → All (λ f. HasMeta wider f.0 f.1) files
 metas_wider source wider files more was = λ i d lt. let h = was i d lt in record { bytes = h.bytes; there = more _ h.bytes h.there; meta_is = h.meta_is }
 
+pub meta_at_source : (source : Name → Content) (files : List (Name × FileMetaData)) (q : Name) (meta : FileMetaData) → All (λ f. HasMeta source f.0 f.1) files → meta_in files q ≡ Some meta → HasMeta source q meta
+meta_at_source source files q meta all is = All-contains (λ (f : Name × FileMetaData). HasMeta source f.0 f.1) files (q, meta) all (listed_meta files q meta is)
+
 -- ---- a replica
 
 module _ {D : Type 0} (cells : D → Cells) (source wider : Name → Content) (more : Extends source wider) where
@@ -92,7 +97,7 @@ module _ {D : Type 0} (cells : D → Cells) (source wider : Name → Content) (m
   job_wider reads (Some j) has was = record {
     each = λ q wanted here.
         let is = was.each q wanted here in
-        let meta = named_meta j.copy.want.files q wanted in
+        let meta = some_meta j.copy.want.files q wanted in
         let h = has.each q meta.0 meta.1 here in
         is ∙ sym (some_wider source wider q more (ap is_some (sym is ∙ h.there)));
   }
@@ -132,9 +137,6 @@ widened source cells holdings q = option_or (source q) (if nat_lt 0 (count_of ho
 pub widened_more : (source : Name → Content) (cells : Cells) (holdings : Holdings) → Extends source (widened source cells holdings)
 widened_more source cells holdings q bytes is = ap (λ (o : Content). option_or o (if nat_lt 0 (count_of holdings q) then (cells q).now else None)) is
 
-test_some : (k : ℕ) → 0 < k → nat_lt 0 k ≡ true
-test_some k some = grind (arith, nat_tests)
-
 test_none : (k : ℕ) → k ≡ 0 → nat_lt 0 k ≡ false
 test_none k none = ap (nat_lt 0) none
 
@@ -172,7 +174,7 @@ module _ {D : Type 0} (cells : D → Cells) (source : Name → Content) where
       held name lasting counted zero is =
           let none : source name ≡ None = was.unwritten name (fills.fresh.each name is counted) in
           sym (ap (λ (o : Content). option_or o (if nat_lt 0 (count_of q.files name) then (cells q.dir name).now else None)) none
-          ∙ ap (λ (b : Bool). if b then (cells q.dir name).now else None) (test_some (count_of q.files name) counted))
+          ∙ ap (λ (b : Bool). if b then (cells q.dir name).now else None) (lt-ltb 0 (count_of q.files name) counted))
       held name lasting counted (suc k) is =
           let before : 0 < count_of p.files name = omega (arith, is) in
           let now : (cells q.dir name).now ≡ source name = fills.stays.held name before counted ∙ was.held.each name lasting before in

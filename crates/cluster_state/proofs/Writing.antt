@@ -38,7 +38,7 @@ use Rattle.script_serving.specs.Refusals.{put_publishes}
 use Rattle.index_primary.specs.Work.{AreOfCut}
 use Rattle.index_primary.specs.Cut.{infos_drawn, noted, has_put, cut_by, after_cut}
 use Rattle.cluster_state.specs.Lookups.{Handed, or_older, flush_out}
-use Rattle.cluster_state.specs.State.{Stands, IsPointAt, IsFlying, FlightShows, WritesAt, PrimaryShows}
+use Rattle.cluster_state.specs.State.{StandForVersion, IsPointAt, IsFlying, FlightShows, WritesAt, PrimaryShows}
 use Rattle.cluster_state.specs.Writes.{IsFlushed}
 use Rattle.cluster_state.proofs.Growing.{stands_more, flight_stays, not_flying}
 use Rattle.cluster_state.proofs.Frames.{flight_same}
@@ -150,7 +150,7 @@ module _ {D : Type 0} (cells : D → Cells) where
         whole = whole;
         point = record {
           version = published.point.version ∙ (ap (λ (k : ℕ). k + 1) was.writer.version ∙ (sym next ∙ sym searched));
-          stands = subst (λ (k : ℕ). Stands (printed (shown at (Published g v) ∷ log)) k q.searchers.point.readers) (sym searched)
+          stands = subst (λ (k : ℕ). StandForVersion (printed (shown at (Published g v) ∷ log)) k q.searchers.point.readers) (sym searched)
               (record { known = omega arith; documents = subst (λ (docs : List Doc). AreSegmentsOf docs q.searchers.point.readers) docs (of_cut (documents_at (printed log) (newest_version (printed log))) was.writer.documents).1 });
         };
         writer = record {

@@ -14,7 +14,7 @@ use Rattle.cluster_state.specs.Lookups.{IsSearching}
 use Rattle.cluster_places.specs.declared.held.Key.{Key}
 use Rattle.cluster_places.specs.declared.held.Key.TheVariants.{Search}
 use Rattle.cluster_places.specs.Held.{same_key}
-use Rattle.cluster_state.specs.State.{Stands, ticket_key}
+use Rattle.cluster_state.specs.State.{StandForVersion, ticket_key}
 
 -- the entry moves a word of the node, but for its tickets and searches
 abbrev pub moves : Event → Option NodeNo → ℕ → Bool
@@ -48,7 +48,7 @@ pub record FlightStays (past now : Past) : Type 0 where
 
 -- what stays for every node: points are what they were, and generations only rise
 pub record Lasts (past now : Past) : Type 0 where
-  pub stands : (v : ℕ) (segs : List Shown) → Stands past v segs → Stands now v segs
+  pub stands : (v : ℕ) (segs : List Shown) → StandForVersion past v segs → StandForVersion now v segs
   pub generation : generation_of past ≤ generation_of now
 
 -- the tickets and searches of a node become no more

@@ -27,34 +27,34 @@ use Rattle.cluster_places.specs.declared.held.Key.TheVariants.{Ticket, Search}
 use Rattle.cluster_places.specs.declared.nodes.Node.{Node}
 use Rattle.cluster_places.specs.declared.nodes.Node.TheVariants.{Primary, Replica, Down}
 use Rattle.cluster_places.specs.declared.nodes.Place.{Place}
-use Rattle.cluster_places.specs.Held.{same_key, held_at}
+use Rattle.cluster_places.specs.Held.{same_key, held_number}
 use Rattle.cluster_state.specs.Lookups.{flush_out, IsSearching}
 use Rattle.cluster_places.specs.Places.{place_of, tickets_of}
 
 -- the segments are of the documents of the point of this version
-pub record Stands (past : Past) (v : ℕ) (segs : List Shown) : Type 0 where
+pub record StandForVersion (past : Past) (v : ℕ) (segs : List Shown) : Type 0 where
   pub known : v ≤ newest_version past
   pub documents : AreSegmentsOf (documents_at past v) segs
 
 -- the point that is searched has this version, and its documents
 pub record IsPointAt (past : Past) (v : ℕ) (point : Point Shown) : Type 0 where
   pub version : point.version.0 ≡ v
-  pub stands : Stands past v point.readers
+  pub stands : StandForVersion past v point.readers
 
 -- what is read is the point of this version
 pub record ReadsAt (past : Past) (v : ℕ) (lease : Lease Shown) : Type 0 where
   pub version : lease.version.0 ≡ v
-  pub stands : Stands past v lease.readers
+  pub stands : StandForVersion past v lease.readers
 
 -- a ticket is open at the node, on a point of the history
 abbrev pub IsOpenOn : Past → List (Open Shown) → ℕ → Type 0
 IsOpenOn past tickets number =
-    IsSomeAnd (ticket_at number tickets) (λ o. Stands past o.point.version.0 o.point.readers)
+    IsSomeAnd (ticket_at number tickets) (λ o. StandForVersion past o.point.version.0 o.point.readers)
 
 -- a ticket is held for this, on the point of this version
 abbrev pub HoldsAt : List (Open Shown) → List Held → Key → ℕ → Type 0
 HoldsAt tickets held key v =
-    IsSomeAnd (held_at held key) (λ number. IsSomeAnd (ticket_at number tickets) (λ o. o.point.version.0 ≡ v))
+    IsSomeAnd (held_number held key) (λ number. IsSomeAnd (ticket_at number tickets) (λ o. o.point.version.0 ≡ v))
 
 -- a lane's ticket
 abbrev pub ticket_key : ℕ → ℕ → Key
@@ -63,8 +63,8 @@ ticket_key lane t = Ticket (record { 0 = lane }) (record { 0 = t })
 -- Each ticket that is held is open at the node, and no two are one; those that lanes have at the node are held, and so is one
 -- for each search of it.
 pub record HoldsTickets (past : Past) (n : ℕ) (tickets : List (Open Shown)) (held : List Held) : Type 0 where
-  pub each : (key : Key) (number : ℕ) → held_at held key ≡ Some number → IsOpenOn past tickets number
-  pub apart : (a b : Key) (number : ℕ) → held_at held a ≡ Some number → held_at held b ≡ Some number → same_key a b ≡ true
+  pub each : (key : Key) (number : ℕ) → held_number held key ≡ Some number → IsOpenOn past tickets number
+  pub apart : (a b : Key) (number : ℕ) → held_number held a ≡ Some number → held_number held b ≡ Some number → same_key a b ≡ true
   pub opened : (lane t v : ℕ) → IsTicketOf n v (open_ticket lane t past) → HoldsAt tickets held (ticket_key lane t) v
   pub searched : (at : At) (v : ℕ) → IsSearching past at n v → HoldsAt tickets held (Search at) v
 

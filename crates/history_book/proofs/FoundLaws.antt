@@ -19,12 +19,12 @@ use Rattle.history_entries.specs.Rules.{MayRefuseLine}
 use Rattle.history_entries.specs.Legal.{KeepsRule, IsLegalPast}
 use Rattle.history_laws.specs.Steps.{is_running_by, crashes_by, commit_by}
 use Rattle.history_laws.proofs.NodeLemmas.{crashes_rise}
-use Rattle.history_tables.proofs.RowLemmas.{by_test, same_at_self}
+use Rattle.history_tables.proofs.RowLemmas.{by_test, same_at_self, same_at_is}
 use Rattle.history_tables.specs.Begins.{begin, begun_by, open_line}
 use Rattle.history_tables.specs.declared.lines.Start.TheVariants.{Searching as SearchStart}
 use Rattle.history_book.specs.Turns.{StartsOnce, InTurn, AreInTurn}
 use Rattle.history_book.specs.Laws.{may_find, CommitFound}
-use Rattle.history_book.proofs.LineLaws.{same_at_is, without_some, fresh_apart}
+use Rattle.history_book.proofs.LineLaws.{without_some, fresh_apart}
 use Rattle.history_book.proofs.OpenLaws.{before_apart, commit_kept}
 use Rattle.history_book.proofs.ReignLaws.{node_crashes_rise}
 

@@ -14,7 +14,7 @@ use Rattle.history_tables.specs.Begins.{begin, begun_by, open_line}
 use Rattle.history_book.specs.Turns.{StartsOnce, AreInTurn}
 use Rattle.history_book.specs.Laws.{IsFresh}
 use Rattle.history_book.specs.Steps.{last_by}
-use Rattle.history_book.proofs.LineLaws.{same_at_is}
+use Rattle.history_tables.proofs.RowLemmas.{same_at_is}
 
 or_of : (b now was : Bool) → now ≡ false → was ≡ false → ((b && now) || was) ≡ false
 or_of true now was none old = rw none old

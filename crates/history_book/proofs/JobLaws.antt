@@ -31,7 +31,8 @@ use Rattle.history_tables.specs.JobRows.{new_job_row, is_going, row_by, row_if_s
 use Rattle.history_book.specs.Jobs.{job_step, last_job, job_at, job_of, StartsJob, IsOlder, MayBeginJob, IsInside, AreInside, IsCancelled, LaneJobShows, JobRests}
 use Rattle.history_book.specs.Log.{Log, printed}
 use Rattle.history_book.specs.Turns.{StartsOnce, InTurn, AreInTurn}
-use Rattle.history_book.proofs.LineLaws.{same_at_is, and_false}
+use Rattle.history_book.proofs.LineLaws.{and_false}
+use Rattle.history_tables.proofs.RowLemmas.{same_at_is}
 use Rattle.history_book.proofs.FreshLaws.{open_unanswered}
 use Rattle.history_book.proofs.ReignLaws.{since_start, reigns_on, start_kept, start_short, node_alive, source_alive, node_crashes_rise, source_crashes_rise, primary_crashes_rise}
 
@@ -130,7 +131,7 @@ newest_since : (newer older : Past) → newest_version older ≤ newest_version 
 newest_since [] older = omega arith
 newest_since (e ∷ newer) older = let rise = newest_rises (newer ++ older) e in let rest = newest_since newer older in omega (arith, rest, rise)
 
-newest_before : (at : At) (past : Past) → newest_version (before_start at past) ≤ newest_version past
+pub newest_before : (at : At) (past : Past) → newest_version (before_start at past) ≤ newest_version past
 newest_before at past = let s = since_start at past in subst (λ (p : Past). newest_version (before_start at past) ≤ newest_version p) (sym s.split) (newest_since s.newer (before_start at past))
 
 -- a line without a reply had none at a line's start
@@ -272,7 +273,7 @@ made_more size past e v keeps runs was = step e.event keeps
     step e' k = was
 
 -- a primary ran at the start of a line that copies
-source_runs : (size : ℕ) (past : Past) (at : At) (n v : ℕ) → IsLegalPast size past → (o : Option Event) → start_entry at past ≡ o → StartsJob (before_start at past) n v o → primary_of (before_start at past) ≢ None
+pub source_runs : (size : ℕ) (past : Past) (at : At) (n v : ℕ) → IsLegalPast size past → (o : Option Event) → start_entry at past ≡ o → StartsJob (before_start at past) n v o → primary_of (before_start at past) ≢ None
 source_runs size past at n v legal (Some (Copying m w)) is started = (start_kept size at past (Copying m w) legal is).source
 source_runs size past at n v legal (Some (Settling w)) is started = (start_kept size at past (Settling w) legal is).source
 source_runs size past at n v legal o is started = absurd started

@@ -1,7 +1,7 @@
 pub mod LineLaws
 pub mod ReignLaws
 pub mod OpenLaws
-pub mod CopyLaws
+mod CopyLaws
 pub mod FreshLaws
 pub mod FoundLaws
 pub mod CommitLaws

@@ -19,13 +19,7 @@ use Rattle.history_laws.specs.Steps.{newest_by}
 use Rattle.history_book.specs.Steps.{primary_crashes_by, publish_by, published_by}
 use Rattle.history_book.specs.Turns.{StartsOnce, InTurn, AreInTurn}
 use Rattle.history_book.specs.Laws.{Started, Flying}
-use Rattle.history_tables.proofs.RowLemmas.{by_test, same_at_self}
-
-pub same_at_is : (a b : At) → same_at a b ≡ true → a ≡ b
-same_at_is a b e =
-    let lanes : a.lane.0 ≡ b.lane.0 = grind (arith, nat_tests) in
-    let lines : a.line.0 ≡ b.line.0 = grind (arith, nat_tests) in
-    λ i. record { lane = record { 0 = lanes i }; line = record { 0 = lines i } }
+use Rattle.history_tables.proofs.RowLemmas.{by_test, same_at_self, same_at_is}
 
 begun_started : (past : Past) (entry : Option Event) (start : Past) (b : Begun) (e : Event) (old : Option Begun)
     → begun_by e (length past) (length (operations_of_generation past)) old ≡ Some b

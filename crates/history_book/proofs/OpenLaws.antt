@@ -17,8 +17,7 @@ use Rattle.history_entries.specs.Legal.{KeepsRule, IsLegalPast}
 use Rattle.history_tables.specs.Begins.{begun_by, open_line}
 use Rattle.history_tables.specs.declared.lines.Begun.{Begun}
 use Rattle.history_book.specs.Laws.{LastStarted}
-use Rattle.history_tables.proofs.RowLemmas.{by_test}
-use Rattle.history_book.proofs.LineLaws.{same_at_is}
+use Rattle.history_tables.proofs.RowLemmas.{by_test, same_at_is}
 use Rattle.history_laws.proofs.NodeLemmas.{crashes_rise}
 use Rattle.history_book.proofs.ReignLaws.{node_crashes_rise, source_crashes_rise, primary_crashes_rise}
 

@@ -21,7 +21,7 @@ use Rattle.history_tables.specs.Numbering.{primary_crashed}
 use Rattle.history_book.specs.Laws.{Reigns, Written, Flying, Flushed}
 use Rattle.history_laws.proofs.PastLemmas.{legal_before}
 use Rattle.history_facts.proofs.WrittenLemmas.{written as base_written, started as start_written}
-use Rattle.history_book.proofs.LineLaws.{same_at_is}
+use Rattle.history_tables.proofs.RowLemmas.{same_at_is}
 
 -- the start entry of a line kept its rule
 pub start_kept : (size : ℕ) (at : At) (past : Past) (e : Event) → IsLegalPast size past → start_entry at past ≡ Some e → KeepsRule size (before_start at past) at e
@@ -200,9 +200,9 @@ node_alive n at (e ∷ past) = node_alive_step n at past e.at e.event (node_aliv
 pub source_crashes_rise : (at : At) (past : Past) → primary_crashes (before_start at past) ≤ primary_crashes past
 source_crashes_rise at past = let s = since_start at past in subst (λ (p : Past). primary_crashes (before_start at past) ≤ primary_crashes p) (sym s.split) (crashes_since s.newer (before_start at past))
 
-source_low : (past : Past) → primary_crashed past ≤ length past
-source_low [] = omega arith
-source_low (e ∷ past) = step e.event (source_low past)
+pub primary_crashed_low : (past : Past) → primary_crashed past ≤ length past
+primary_crashed_low [] = omega arith
+primary_crashed_low (e ∷ past) = step e.event (primary_crashed_low past)
   where
     step : (e' : Event) → primary_crashed past ≤ length past → primary_crashed_by e' (primary_of past) (length past) (primary_crashed past) ≤ length (e ∷ past)
     step (Crashed m) low = elim (is_at (primary_of past) m.0) as (λ b. (if b then length past + 1 else primary_crashed past) ≤ length (e ∷ past)) [ true ↦ omega arith | false ↦ omega arith ]
@@ -221,7 +221,7 @@ source_alive_step at past x e was = starts (is_start e && same_at x at) was
   where
     starts : (b : Bool) → nat_le (primary_crashed past) (length (before_start at past)) ≡ (primary_crashes past == primary_crashes (before_start at past))
         → nat_le (primary_crashed past) (length (if b then past else before_start at past)) ≡ (primary_crashes past == primary_crashes (if b then past else before_start at past))
-    starts true was = let low = source_low past in grind (arith, nat_tests)
+    starts true was = let low = primary_crashed_low past in grind (arith, nat_tests)
     starts false was = was
 
 -- the source of a line has not crashed since its start where the last crash of a primary was not after it

@@ -22,6 +22,12 @@ by_test false P f g = g refl
 pub same_at_self : (at : At) → same_at at at ≡ true
 same_at_self at = grind (arith, nat_tests)
 
+pub same_at_is : (a b : At) → same_at a b ≡ true → a ≡ b
+same_at_is a b e =
+    let lanes : a.lane.0 ≡ b.lane.0 = grind (arith, nat_tests) in
+    let lines : a.line.0 ≡ b.line.0 = grind (arith, nat_tests) in
+    λ i. record { lane = record { 0 = lanes i }; line = record { 0 = lines i } }
+
 row_without : (rows : List LineRow) (at b : At) → begun_under (filter (λ r. not (same_at r.at at)) rows) b ≡ (if same_at at b then None else begun_under rows b)
 row_without [] at b = grind (arith, nat_tests)
 row_without (r ∷ rows) at b = grind (arith, nat_tests, row_without rows at b)

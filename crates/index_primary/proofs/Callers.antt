@@ -1,13 +1,11 @@
 -- What callers of a primary need from call to call: a directory without a file, the task and the work of a publish, copy states that are out.
-use Rattle.std.proofs.Common.{rules, ◌≡◌, ◌↔◌, ◌<◌, ◌≤◌, ◌^◌, ◌+◌, ◌==◌, ◌&&◌, ◌||◌, nat_lt, if◌then◌else◌, ℕ, zero, suc, Bool, true, false, List, [], ◌∷◌, ◌++◌, Option, Some, None, is_some, length, get_or, refl, sym, ap, subst, ◌∙◌, arith, true≢false, All}
+use Rattle.std.proofs.Common.{rules, ◌≡◌, ◌↔◌, ◌<◌, ◌≤◌, ◌^◌, ◌+◌, ◌||◌, nat_lt, if◌then◌else◌, ℕ, Bool, true, false, List, [], ◌∷◌, ◌++◌, Option, Some, None, is_some, length, refl, sym, ap, subst, ◌∙◌, arith, true≢false, All}
 use Rattle.std.specs.Prelude.{IfSome, IsSome, IsTrue}
-use Rattle.std.specs.List.{AllZip, AllPairs, Contains, flat_map, list_any}
+use Rattle.std.specs.List.{AllZip, Contains, flat_map, list_any}
 use Rattle.std.specs.List.Sorted.{IsStrictlySortedBy}
-use Rattle.std.specs.Cmp.Lexicographic.{pointwise}
 use Rattle.std.proofs.lemmas.List.{append-nil}
-use Rattle.std.proofs.lemmas.Bool.Decides.{nat_tests}
 use Rattle.nrt_base.specs.declared.numbers.SegNo.{SegNo}
-use Rattle.disk_model.specs.Disk.{Name, Content, Cells, is_among, same}
+use Rattle.disk_model.specs.Disk.{Name, Content, Cells, is_among}
 use Rattle.documents.specs.declared.operation.Op.{Op}
 use Rattle.documents.specs.Documents.{is_put}
 use Rattle.segment_infos.specs.declared.infos.Infos.{Infos}
@@ -17,8 +15,7 @@ use Rattle.segment_infos.specs.Files.{files_of_segment, AreFilesOf}
 use Rattle.seg_reader.specs.Shown.{Shown}
 use Rattle.seg_reader.specs.Sound.{IsSound}
 use Rattle.seg_reader.specs.Stands.{IsSegmentIn, AreSegmentsOf}
-use Rattle.file_deleter.specs.Holdings.{Holdings, count_in, count_of, is_known, is_due, times}
-use Rattle.file_deleter.proofs.NameLemmas.{times-append, times_one, same_self}
+use Rattle.file_deleter.specs.Holdings.{Holdings, count_in, count_of, is_known, times}
 use Rattle.commit_steps.specs.declared.states.Commit.{Commit}
 use Rattle.commit_steps.specs.declared.stage.Stage.{Stage}
 use Rattle.commit_steps.specs.declared.stage.CommitBook.{CommitBook}
@@ -37,7 +34,7 @@ use Rattle.index_primary.specs.Primary.{IsPrimary}
 use Rattle.index_primary.specs.Calls.{IsTaskOf, after_start}
 use Rattle.index_primary.specs.Work.{IsWorkOf}
 use Rattle.index_primary.proofs.Working.{work_is}
-use Rattle.index_primary.proofs.StateLemmas.{names-push}
+use Rattle.index_primary.proofs.StateLemmas.{names-push, same_out_self}
 
 -- ---- a publish
 seg_given : (b : Bool) (infos : Infos) → IsSome (number_drawn b infos) ↔ IsTrue b
@@ -57,16 +54,10 @@ pub work_of_task : {D : Type 0} (p : Parts D) (task : FlushTask) (work : FlushWo
 work_of_task p task work t flushed = work_is (after_start p (Some task)) task work [] (ap (λ (ops : List Op). noted task.seg ops) (sym t.ops)) (sym t.ops ∙ sym (append-nil task.ops)) t.segs flushed
 
 -- ---- copy states
-same_names : (ns : List Name) → pointwise same ns ns ≡ true
-same_names [] = refl
-same_names (n ∷ ns) = ap (λ b. b && pointwise same ns ns) (same_self n) ∙ same_names ns
 
 -- a state that was given out last is out, and so are its files
 pub out_last : (ss : List Out) (s : Out) → is_out s (ss ++ s ∷ []) ≡ true
-out_last [] s =
-    let v : (s.version.0 == s.version.0) ≡ true = grind (arith, nat_tests) in
-    let n : same_out s s ≡ true = ap (λ b. b && pointwise same s.names s.names) v ∙ same_names s.names in
-    ap (λ b. if b then true else false) n
+out_last [] s = ap (λ b. if b then true else false) (same_out_self s)
 out_last (t ∷ ss) s = by (same_out s t) (out_last ss s)
   where
     by : (b : Bool) → is_out s (ss ++ s ∷ []) ≡ true → (if b then true else is_out s (ss ++ s ∷ [])) ≡ true

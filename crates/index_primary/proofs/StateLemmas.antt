@@ -1,18 +1,28 @@
-use Rattle.std.proofs.Common.{◌≡◌, ℕ, suc, ◌+◌, ◌<◌, ◌≤◌, Bool, true, false, if◌then◌else◌, List, [], ◌∷◌, ◌++◌, length, Some, refl, sym, ap, subst, ◌∙◌, arith, true≢false, slice_get, take, get_or, All}
+use Rattle.std.proofs.Common.{◌≡◌, ℕ, suc, ◌+◌, ◌<◌, ◌≤◌, Bool, true, false, if◌then◌else◌, List, [], ◌∷◌, ◌++◌, length, Some, refl, sym, ap, subst, ◌∙◌, arith, true≢false, slice_get, take, get_or, All, ◌&&◌}
 use Rattle.std.specs.List.{remove}
 use Rattle.std.proofs.lemmas.List.{take_more, map-append}
 use Rattle.std.proofs.lemmas.List.Elements.{All-push}
-use Rattle.disk_model.specs.Disk.{reads_of}
+use Rattle.std.specs.Cmp.Lexicographic.{pointwise}
+use Rattle.std.proofs.lemmas.Bool.{eq-eqb}
+use Rattle.disk_model.specs.Disk.{reads_of, same}
 use Rattle.copy_state.specs.declared.meta.FileMetaData.{FileMetaData}
 use Rattle.disk_model.specs.Disk.{Name, Cells}
 use Rattle.file_deleter.specs.Holdings.{Holdings, count_of, times, AreCounted}
 use Rattle.file_deleter.specs.Moves.{HoldsFiles, LetsGo, MovesCounts}
 use Rattle.node_files.specs.Node.{AddsOnly}
 use Rattle.file_deleter.proofs.Keeping.{moves_held, moves_released}
-use Rattle.file_deleter.proofs.NameLemmas.{times-append}
+use Rattle.file_deleter.proofs.NameLemmas.{times-append, same_self}
 use Rattle.index_primary.specs.declared.states.Out.{Out}
 use Rattle.index_primary.specs.States.{same_out, state_place, states_without, is_out, state_names, TakesOut, IsMetaIn}
 use Rattle.copy_state.specs.States.{meta_names}
+
+same_names : (names : List Name) → pointwise same names names ≡ true
+same_names [] = refl
+same_names (q ∷ names) = ap (λ (b : Bool). b && pointwise same names names) (same_self q) ∙ same_names names
+
+-- a state is like itself
+pub same_out_self : (s : Out) → same_out s s ≡ true
+same_out_self s = ap (λ (b : Bool). b && pointwise same s.names s.names) (eq-eqb s.version.0 s.version.0 refl) ∙ same_names s.names
 
 pub record StatesAt (s : Out) (ts : List Out) : Type 0 where
   pub within : state_place s ts < length ts

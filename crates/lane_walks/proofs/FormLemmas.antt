@@ -17,6 +17,7 @@ use Rattle.script_serving.specs.declared.script.Phase.{Phase}
 use Rattle.script_serving.specs.Lines.{command_at, has_line, all_answered, lines_of_phase, lines_under}
 use Rattle.script_serving.specs.Form.{is_under, is_phase, are_apart, are_ascending}
 use Rattle.lane_walks.specs.Phases.{lines_in, lane_lines}
+use Rattle.lane_walks.proofs.WalkLemmas.{lane_self}
 
 -- ---- replies
 
@@ -34,9 +35,6 @@ answered_back xs ys past h = (answered_parts xs ys past h).1
 
 -- where each lane has its replies, the phase has
 
-number_self : (n : ℕ) → (n == n) ≡ true
-number_self n = grind (arith, nat_tests)
-
 under_rest : (lane : ℕ) (l : LaneNo × List Line) (lanes : List (LaneNo × List Line)) (past : Past) → all_answered (lines_under lane (l ∷ lanes)) past ≡ true
     → all_answered (lines_under lane lanes) past ≡ true
 under_rest lane l lanes past h = by_lane (l.0.0 == lane) h
@@ -48,7 +46,7 @@ under_rest lane l lanes past h = by_lane (l.0.0 == lane) h
 under_first : (l : LaneNo × List Line) (lanes : List (LaneNo × List Line)) (past : Past) → all_answered (lines_under l.0.0 (l ∷ lanes)) past ≡ true → all_answered l.1 past ≡ true
 under_first l lanes past h =
     answered_front l.1 (lines_under l.0.0 lanes) past
-    (subst (λ (b : Bool). all_answered (if b then l.1 ++ lines_under l.0.0 lanes else lines_under l.0.0 lanes) past ≡ true) (number_self l.0.0) h)
+    (subst (λ (b : Bool). all_answered (if b then l.1 ++ lines_under l.0.0 lanes else lines_under l.0.0 lanes) past ≡ true) (lane_self l.0.0) h)
 
 phase_answered_lanes : (lanes : List (LaneNo × List Line)) (past : Past) → ((lane : ℕ) → all_answered (lines_under lane lanes) past ≡ true)
     → all_answered (flat_map (λ l. l.1) lanes) past ≡ true

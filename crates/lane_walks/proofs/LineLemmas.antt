@@ -14,7 +14,7 @@ use Rattle.script_serving.specs.Lines.{command_at, has_line, all_answered, earli
 use Rattle.script_serving.specs.Form.{are_ascending}
 use Rattle.history_book.specs.Log.{Log, printed}
 use Rattle.lane_walks.specs.Owes.{FaultsFit}
-use Rattle.lane_walks.specs.Walks.{ServesSince, AreFresh, ArePart, LineGoes, LineRan, StillFresh, Going, LinesRan}
+use Rattle.lane_walks.specs.Walks.{ServesSince, AreUnbegun, ArePart, LineGoes, LineRan, StillFresh, Going, LinesRan}
 use Rattle.lane_walks.proofs.WalkLemmas.{lane_is, all_answered_stays, since_append, log_then, goes_then}
 use Rattle.lane_walks.proofs.PartLemmas.{command_past, earlier_past}
 use Rattle.lane_walks.proofs.FormLemmas.{line_behind, ascending_back, answered-append}
@@ -33,7 +33,7 @@ pub fresh_after : (logged : Bool) (command : LineCommand) (at : At) (old mid new
 fresh_after logged command at old mid new h k = record { goes = goes_then logged command at old mid new h k.goes; fresh = k.fresh }
 
 -- no line was done yet
-pub going_first : (logged : Bool) (lane : ℕ) (lines : List Line) (log : Log) → FaultsFit logged log → AreFresh lines (printed log) → Going logged lane lines 0 log log
+pub going_first : (logged : Bool) (lane : ℕ) (lines : List Line) (log : Log) → FaultsFit logged log → AreUnbegun lines (printed log) → Going logged lane lines 0 log log
 going_first logged lane lines log faults fresh =
     record { goes = record { more = []; log = refl; serves = tt; faults = faults }; answered = refl; fresh = fresh }
 
@@ -59,8 +59,8 @@ module _ (logged : Bool) (lane : ℕ) (lines : List Line) (i : ℕ) (line : Line
   pub line_lane : ArePart lane lines → line.at.lane.0 ≡ lane
   line_lane part = lane_is line.at.lane.0 lane (owned part).0
 
-  pub line_fresh : (past : Past) → AreFresh (drop i lines) past → entries_of_line line.at past ≡ []
-  line_fresh past fresh = (subst (λ (ls : List Line). AreFresh ls past) dropped fresh).0
+  pub line_fresh : (past : Past) → AreUnbegun (drop i lines) past → entries_of_line line.at past ≡ []
+  line_fresh past fresh = (subst (λ (ls : List Line). AreUnbegun ls past) dropped fresh).0
 
   ascending_here : ArePart lane lines → are_ascending (take i lines ++ line ∷ drop (i + 1) lines) ≡ true
   ascending_here part = subst (λ (ls : List Line). are_ascending ls ≡ true) whole part.ascending
@@ -107,10 +107,10 @@ module _ (logged : Bool) (lane : ℕ) (lines : List Line) (i : ℕ) (line : Line
         };
         answered = subst (λ (ls : List Line). all_answered ls (printed new) ≡ true) (sym taken)
             (answered-append (take i lines) (line ∷ []) (printed new) stays (and_from _ _ r.replied refl));
-        fresh = subst (λ (l : Log). AreFresh (drop (i + 1) lines) (printed l)) (sym r.goes.log)
+        fresh = subst (λ (l : Log). AreUnbegun (drop (i + 1) lines) (printed l)) (sym r.goes.log)
             (fresh_beyond logged lane (line ∷ []) (drop (i + 1) lines) (drop (i + 1) lines) more old (λ at h. h) (owned part).1
             (ascending_back (take i lines) (line ∷ drop (i + 1) lines) (ascending_here part)) (single_serves old new mine r.goes) faults
-            (subst (λ (ls : List Line). AreFresh ls (printed old)) dropped s.fresh).1);
+            (subst (λ (ls : List Line). AreUnbegun ls (printed old)) dropped s.fresh).1);
       }
 
 -- all lines were done

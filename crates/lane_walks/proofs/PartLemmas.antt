@@ -2,8 +2,7 @@
 use Rattle.std.proofs.Common.{◌≡◌, ◌&&◌, ◌||◌, ◌==◌, ℕ, Bool, true, false, List, [], ◌∷◌, ◌++◌, Some, None, Option, refl, ap, ◌∙◌, subst, if◌then◌else◌}
 use Rattle.std.proofs.lemmas.Bool.{and_parts, and_from, true≢false, false≢true}
 use Rattle.std.specs.Prelude.{⊤}
-use Rattle.history_tables.proofs.RowLemmas.{by_test}
-use Rattle.history_book.proofs.LineLaws.{same_at_is}
+use Rattle.history_tables.proofs.RowLemmas.{by_test, same_at_is}
 use Rattle.nrt_base.specs.declared.numbers.At.{At}
 use Rattle.nrt_base.specs.declared.numbers.SegNo.{SegNo}
 use Rattle.documents.specs.declared.operation.Op.{Op}

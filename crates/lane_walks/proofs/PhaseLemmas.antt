@@ -22,7 +22,7 @@ use Rattle.script_serving.specs.Serves.{is_merge_fault}
 use Rattle.history_book.specs.declared.inner.Mark.TheVariants.{Shown, TaskFault, Kept}
 use Rattle.history_book.specs.Log.{Log, printed, FollowsMerging}
 use Rattle.lane_walks.specs.Owes.{FaultsFit}
-use Rattle.lane_walks.specs.Walks.{OnLane, NoneOf, ServesSince, IsApart, AreFresh, ArePart}
+use Rattle.lane_walks.specs.Walks.{OnLane, NoneOf, ServesSince, GrowsByOthers, AreUnbegun, ArePart}
 use Rattle.lane_walks.specs.Phases.{lines_in, lane_lines, ArePhasesInForm, ServesLane, ServesLanePhases, LaneServes, LaneReady, PhaseDone}
 use Rattle.lane_walks.proofs.WalkLemmas.{lane_is, other_lane, on_other, on_map, none_serves, all_answered_stays}
 use Rattle.lane_walks.proofs.StayLemmas.{merging_there}
@@ -31,22 +31,22 @@ use Rattle.lane_walks.proofs.FormLemmas.{answered-append, answered_front, answer
 
 -- ---- lines without entries
 
-pub fresh_front : (xs ys : List Line) (past : Past) → AreFresh (xs ++ ys) past → AreFresh xs past
+pub fresh_front : (xs ys : List Line) (past : Past) → AreUnbegun (xs ++ ys) past → AreUnbegun xs past
 fresh_front [] ys past h = tt
 fresh_front (x ∷ xs) ys past h = (h.0, fresh_front xs ys past h.1)
 
-pub fresh_back : (xs ys : List Line) (past : Past) → AreFresh (xs ++ ys) past → AreFresh ys past
+pub fresh_back : (xs ys : List Line) (past : Past) → AreUnbegun (xs ++ ys) past → AreUnbegun ys past
 fresh_back [] ys past h = h
 fresh_back (x ∷ xs) ys past h = fresh_back xs ys past h.1
 
-fresh_at_first : (ls : List Line) → AreFresh ls []
+fresh_at_first : (ls : List Line) → AreUnbegun ls []
 fresh_at_first [] = tt
 fresh_at_first (l ∷ ls) = (refl, fresh_at_first ls)
 
 -- lines of the lane that are none of a part's stay without an entry while the part is done
 pub fresh_beyond : (logged : Bool) (lane : ℕ) (part all ls : List Line) (more old : Log) → ((at : At) → has_line ls at ≡ true → has_line all at ≡ true)
     → list_all (λ line. line.at.lane.0 == lane) ls ≡ true → are_ascending (part ++ all) ≡ true → ServesSince logged lane part more old
-    → FaultsFit logged (more ++ old) → AreFresh ls (printed old) → AreFresh ls (printed (more ++ old))
+    → FaultsFit logged (more ++ old) → AreUnbegun ls (printed old) → AreUnbegun ls (printed (more ++ old))
 fresh_beyond logged lane part all [] more old sub own asc s f fresh = tt
 fresh_beyond logged lane part all (l ∷ ls) more old sub own asc s f fresh =
     let parts = and_parts (l.at.lane.0 == lane) (list_all (λ line. line.at.lane.0 == lane) ls) own in
@@ -159,7 +159,7 @@ module _ (logged : Bool) (lane : ℕ) (phases before after : List Phase) (phase 
         answered = subst (λ (ls : List Line). all_answered ls (printed new) ≡ true) (sym (flat_map-append lines_of_phase before (phase ∷ [])))
             (answered-append (lines_in before) (lines_of_phase phase ++ []) (printed new) stays
             (answered-append (lines_of_phase phase) [] (printed new) done.answered refl));
-        fresh = subst (λ (l : Log). AreFresh (lane_lines lane after) (printed l)) (sym is)
+        fresh = subst (λ (l : Log). AreUnbegun (lane_lines lane after) (printed l)) (sym is)
             (fresh_beyond logged lane (lines_under lane phase.lanes) (lane_lines lane after) (lane_lines lane after) more old (λ at h. h)
             (lane_owned lane after after_owned) (ascending_back (lane_lines lane before) _ ordered)
             done.goes.serves faults (fresh_back (lines_under lane phase.lanes) (lane_lines lane after) (printed old) ready.fresh));
@@ -210,7 +210,7 @@ module _ (logged : Bool) (lane : ℕ) (phases : List Phase) (form : ArePhasesInF
   ready_here log r = subst (λ (ps : List Phase). LaneReady logged lane phases (take k phases) ps log) dropped r
 
   -- and have no entry yet where the lane is ready for it
-  pub part_fresh : (log : Log) → LaneReady logged lane phases (take k phases) (drop k phases) log → AreFresh (lines_under lane phase.lanes) (printed log)
+  pub part_fresh : (log : Log) → LaneReady logged lane phases (take k phases) (drop k phases) log → AreUnbegun (lines_under lane phase.lanes) (printed log)
   part_fresh log r = fresh_front (lines_under lane phase.lanes) (lane_lines lane (drop (k + 1) phases)) (printed log) (ready_here log r).fresh
 
   pub ready_after : (old new : Log) → LaneReady logged lane phases (take k phases) (drop k phases) old → PhaseDone logged lane phase old new
@@ -242,7 +242,7 @@ phases_apart logged lane phases (TaskFault e ∷ more) old under h f s p =
     )
 phases_apart logged lane phases (Kept i ∷ more) old under h f s p = phases_apart logged lane phases more old under h.1 (record { follow = f.follow; wait = f.wait }) s p
 
-pub serves_apart : (logged : Bool) (lane : ℕ) (phases : List Phase) (old new : Log) → list_all is_phase phases ≡ true → IsApart logged lane old new
+pub serves_apart : (logged : Bool) (lane : ℕ) (phases : List Phase) (old new : Log) → list_all is_phase phases ≡ true → GrowsByOthers logged lane old new
     → LaneServes logged lane phases old → LaneServes logged lane phases new
 serves_apart logged lane phases old new under h s =
     let faults : FaultsFit logged (h.more ++ old) = subst (FaultsFit logged) h.log h.faults in

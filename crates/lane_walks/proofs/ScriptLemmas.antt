@@ -19,7 +19,7 @@ use Rattle.script_serving.specs.Replays.{due}
 use Rattle.script_serving.specs.Serves.{ServesLanes, ServesPhases, Serves}
 use Rattle.history_book.specs.declared.inner.Mark.TheVariants.{Shown, TaskFault, Kept}
 use Rattle.history_book.specs.Log.{Log, printed, lane_name, has_merging, begins_merge, FaultsFollow}
-use Rattle.lane_walks.specs.Walks.{NoneOf, IsApart, LinesRan}
+use Rattle.lane_walks.specs.Walks.{NoneOf, GrowsByOthers, LinesRan}
 use Rattle.lane_walks.specs.Phases.{lines_in, lane_lines, ArePhasesInForm, ServesLane, ServesLanePhases, LaneServes, PhaseDone, HasRanPart, AreOfLanes, LanesEnd, IsHistoryOf}
 use Rattle.lane_walks.proofs.WalkLemmas.{lane_self, lane_is, other_lane, on_other, off_this, answered_in, goes_apart}
 use Rattle.lane_walks.proofs.StayLemmas.{merging_there}
@@ -31,10 +31,10 @@ form_of script f = record { under = f.phases; ordered = f.ordered }
 
 -- ---- lanes are 1 to 8
 
-between_low : (low high n : ℕ) → is_between low high n ≡ true → low ≤ n
+pub between_low : (low high n : ℕ) → is_between low high n ≡ true → low ≤ n
 between_low low high n h = grind (arith, nat_tests)
 
-between_high : (low high n : ℕ) → is_between low high n ≡ true → n ≤ high
+pub between_high : (low high n : ℕ) → is_between low high n ≡ true → n ≤ high
 between_high low high n h = grind (arith, nat_tests)
 
 name_beyond : (lane : ℕ) → is_between 1 8 lane ≡ false → 8 < lane_name lane
@@ -54,7 +54,7 @@ lane_any phase log form all lane =
 
 -- a lane that did its part, and has heard of all others, has done the phase
 pub phase_done : (logged : Bool) (lane : ℕ) (phase : Phase) (old mid new : Log) → is_phase phase ≡ true → LinesRan logged lane (lines_under lane phase.lanes) old mid
-    → IsApart logged lane mid new → ((other : ℕ) → 1 ≤ other → other ≤ 8 → HasRanPart other phase new) → PhaseDone logged lane phase old new
+    → GrowsByOthers logged lane mid new → ((other : ℕ) → 1 ≤ other → other ≤ 8 → HasRanPart other phase new) → PhaseDone logged lane phase old new
 phase_done logged lane phase old mid new form ran apart all =
     record {
       goes = goes_apart logged lane (lines_under lane phase.lanes) old mid new ran.goes apart;

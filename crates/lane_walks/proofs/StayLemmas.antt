@@ -1,8 +1,7 @@
 -- What others append leaves a line where it is.
 use Rattle.std.proofs.Common.{◌≡◌, ◌≢◌, ◌&&◌, ◌||◌, ◌==◌, Bool, true, false, [], ◌∷◌, ◌++◌, Some, refl, ap, ◌∙◌, sym, subst, if◌then◌else◌}
 use Rattle.std.proofs.lemmas.Bool.{true≢false}
-use Rattle.history_tables.proofs.RowLemmas.{by_test}
-use Rattle.history_book.proofs.LineLaws.{same_at_is}
+use Rattle.history_tables.proofs.RowLemmas.{by_test, same_at_is}
 use Rattle.nrt_base.specs.declared.numbers.At.{At}
 use Rattle.history_entries.specs.declared.entry.Event.{Event}
 use Rattle.history_entries.specs.declared.entry.Event.TheVariants.{Fault as Met}
@@ -11,7 +10,7 @@ use Rattle.history_entries.specs.Lines.{same_at, is_start, is_reply, is_answered
 use Rattle.history_book.specs.declared.inner.Mark.TheVariants.{Shown, TaskFault, Kept}
 use Rattle.history_book.specs.Log.{Log, printed, lane_name, has_merging, begins_merge, FollowsMerging, FaultsFollow}
 use Rattle.history_book.specs.Steps.{last_by}
-use Rattle.lane_walks.specs.Walks.{NoneOf, IsApart, LineStays}
+use Rattle.lane_walks.specs.Walks.{NoneOf, GrowsByOthers, LineStays}
 use Rattle.lane_walks.proofs.WalkLemmas.{other_lane}
 
 other_line : (a b : At) → lane_name a.lane.0 ≢ lane_name b.lane.0 → same_at a b ≡ false
@@ -124,7 +123,7 @@ module _ (at : At) where
   fresh_apart (Kept i ∷ more) old h f fresh = fresh_apart more old h.1 f fresh
 
   -- others leave a line where it is
-  pub line_stays : (logged : Bool) (old new : Log) → IsApart logged at.lane.0 old new → LineStays at old new
+  pub line_stays : (logged : Bool) (old new : Log) → GrowsByOthers logged at.lane.0 old new → LineStays at old new
   line_stays logged old new h =
       let follow : FaultsFollow (h.more ++ old) = subst FaultsFollow h.log h.faults.follow in
       record {

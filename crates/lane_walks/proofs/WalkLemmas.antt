@@ -17,8 +17,8 @@ use Rattle.script_serving.specs.Replays.{due}
 use Rattle.script_serving.specs.Serves.{Fits, FitsTurn, SuitsFault}
 use Rattle.history_book.specs.declared.inner.Mark.TheVariants.{Shown, TaskFault, Kept}
 use Rattle.history_book.specs.Log.{Log, printed, lane_name, FaultsFollow}
-use Rattle.lane_walks.specs.Owes.{SuitsOrFault, SuitsOrReplays, Adds, GoesByLine, AddsByTask, GoesByTask, FaultsWait, FaultsFit}
-use Rattle.lane_walks.specs.Walks.{OnLane, NoneOf, ServesSince, Includes, GoesOn, IsApart, LineGoes}
+use Rattle.lane_walks.specs.Owes.{SuitsOrFault, SuitsOrReplays, AddsEntries, GoesByLine, AddsByTask, GoesByTask, FaultsWait, FaultsFit}
+use Rattle.lane_walks.specs.Walks.{OnLane, NoneOf, ServesSince, Includes, GrowsByLane, GrowsByOthers, LineGoes}
 
 -- ---- of one lane, or of another
 
@@ -106,7 +106,7 @@ fits_of [] lines command at past e s h = turn_of lines command at past e s h
 fits_of (op ∷ ops) lines command at past e s h = s
 
 adds_serves : (logged : Bool) (lines : List Line) (command : LineCommand) (at : At) (more old : Log) → command_at lines at ≡ Some command
-    → earlier_answered lines at (printed old) ≡ true → Adds logged command at more old → ServesSince logged at.lane.0 lines more old
+    → earlier_answered lines at (printed old) ≡ true → AddsEntries logged command at more old → ServesSince logged at.lane.0 lines more old
 adds_serves logged lines command at [] old found early h = tt
 adds_serves logged lines command at (Shown e ∷ more) old found early h =
     let past : Past = printed (more ++ old) in
@@ -118,19 +118,19 @@ adds_serves logged lines command at (Shown e ∷ more) old found early h =
 adds_serves logged lines command at (TaskFault e ∷ more) old found early h = adds_serves logged lines command at more old found early h.2
 adds_serves logged lines command at (Kept i ∷ more) old found early h = adds_serves logged lines command at more old found early h.1
 
-adds_follow : (logged : Bool) (command : LineCommand) (at : At) (more old : Log) → FaultsFollow old → Adds logged command at more old → FaultsFollow (more ++ old)
+adds_follow : (logged : Bool) (command : LineCommand) (at : At) (more old : Log) → FaultsFollow old → AddsEntries logged command at more old → FaultsFollow (more ++ old)
 adds_follow logged command at [] old f h = f
 adds_follow logged command at (Shown e ∷ more) old f h = adds_follow logged command at more old f h.2
 adds_follow logged command at (TaskFault e ∷ more) old f h = (h.0, adds_follow logged command at more old f h.2)
 adds_follow logged command at (Kept i ∷ more) old f h = adds_follow logged command at more old f h.1
 
-adds_wait : (logged : Bool) (command : LineCommand) (at : At) (more old : Log) → FaultsWait logged old → Adds logged command at more old → FaultsWait logged (more ++ old)
+adds_wait : (logged : Bool) (command : LineCommand) (at : At) (more old : Log) → FaultsWait logged old → AddsEntries logged command at more old → FaultsWait logged (more ++ old)
 adds_wait logged command at [] old f h = f
 adds_wait logged command at (Shown e ∷ more) old f h = adds_wait logged command at more old f h.2
 adds_wait logged command at (TaskFault e ∷ more) old f h = (h.1, adds_wait logged command at more old f h.2)
 adds_wait logged command at (Kept i ∷ more) old f h = adds_wait logged command at more old f h.1
 
-pub adds_faults : (logged : Bool) (command : LineCommand) (at : At) (more old : Log) → FaultsFit logged old → Adds logged command at more old → FaultsFit logged (more ++ old)
+pub adds_faults : (logged : Bool) (command : LineCommand) (at : At) (more old : Log) → FaultsFit logged old → AddsEntries logged command at more old → FaultsFit logged (more ++ old)
 adds_faults logged command at more old f h =
     record { follow = adds_follow logged command at more old f.follow h; wait = adds_wait logged command at more old f.wait h }
 
@@ -184,7 +184,7 @@ answered_in lines a b h k = subst (λ (l : Log). all_answered lines (printed l) 
 
 -- ---- steps of a line
 
-pub apart_goes : (logged : Bool) (command : LineCommand) (at : At) (old new : Log) → IsApart logged at.lane.0 old new → LineGoes logged command at old new
+pub apart_goes : (logged : Bool) (command : LineCommand) (at : At) (old new : Log) → GrowsByOthers logged at.lane.0 old new → LineGoes logged command at old new
 apart_goes logged command at old new h =
     record { more = h.more; log = h.log; faults = h.faults; serves = λ lines found early. none_serves logged at.lane.0 lines h.more old h.apart }
 
@@ -212,7 +212,7 @@ goes_then logged command at old mid new h k =
           (subst (λ (l : Log). ServesSince logged at.lane.0 lines k.more l) h.log (k.serves lines found early_mid)) (h.serves lines found early);
     }
 
-pub goes_apart : (logged : Bool) (lane : ℕ) (lines : List Line) (a b c : Log) → GoesOn logged lane lines a b → IsApart logged lane b c → GoesOn logged lane lines a c
+pub goes_apart : (logged : Bool) (lane : ℕ) (lines : List Line) (a b c : Log) → GrowsByLane logged lane lines a b → GrowsByOthers logged lane b c → GrowsByLane logged lane lines a c
 goes_apart logged lane lines a b c h k =
     record {
       more = k.more ++ h.more;

@@ -24,19 +24,19 @@ SuitsOrReplays (op ∷ ops) command at past e = FitsReplay op past at (Some comm
 
 -- the entries that a call of a line adds, each at its place: printed ones of the line, faults of merges' tasks while
 -- nothing is due to be accepted again, and inner ones that name the line's lane or no seat
-abbrev pub Adds : Bool → LineCommand → At → Log → Log → Type 0
-Adds logged command at [] old = ⊤
-Adds logged command at (Shown e ∷ more) old =
-    (e.at ≡ at) × SuitsOrReplays (due logged (printed (more ++ old))) command at (printed (more ++ old)) e.event × Adds logged command at more old
-Adds logged command at (TaskFault e ∷ more) old =
-    FollowsMerging e.at e.event (printed (more ++ old)) × (due logged (printed (more ++ old)) ≡ []) × Adds logged command at more old
-Adds logged command at (Kept i ∷ more) old = ((name_inside i ≡ lane_name at.lane.0) ⊎ (name_inside i ≡ 0)) × Adds logged command at more old
+abbrev pub AddsEntries : Bool → LineCommand → At → Log → Log → Type 0
+AddsEntries logged command at [] old = ⊤
+AddsEntries logged command at (Shown e ∷ more) old =
+    (e.at ≡ at) × SuitsOrReplays (due logged (printed (more ++ old))) command at (printed (more ++ old)) e.event × AddsEntries logged command at more old
+AddsEntries logged command at (TaskFault e ∷ more) old =
+    FollowsMerging e.at e.event (printed (more ++ old)) × (due logged (printed (more ++ old)) ≡ []) × AddsEntries logged command at more old
+AddsEntries logged command at (Kept i ∷ more) old = ((name_inside i ≡ lane_name at.lane.0) ⊎ (name_inside i ≡ 0)) × AddsEntries logged command at more old
 
 -- a call of a line went on with the entries by such as the line may add
 pub record GoesByLine (logged : Bool) (command : LineCommand) (at : At) (old new : Log) : Type 0 where
   pub more : Log
   pub log : new ≡ more ++ old
-  pub adds : Adds logged command at more old
+  pub adds : AddsEntries logged command at more old
 
 -- the entries that the work of a task adds, which no lane owes: faults of merges' tasks while nothing is due to be
 -- accepted again, and inner ones that name this seat or none

@@ -1,5 +1,5 @@
 -- How far a lane has come in a script of phases, and when all lanes together have served it.
-use Rattle.std.specs.Prelude.{ℕ, ◌≡◌, ◌≤◌, ◌||◌, ◌==◌, List, [], ◌∷◌, Bool, true, ⊤, IsTrue, reverse}
+use Rattle.std.specs.Prelude.{ℕ, ◌≡◌, ◌≤◌, ◌||◌, ◌==◌, List, [], ◌∷◌, Bool, true, ⊤, IsTrue, take, drop, reverse}
 use Rattle.std.specs.List.{AllByRecursion, flat_map, list_all}
 use Rattle.history_entries.specs.declared.entry.History.{History}
 use Rattle.history_entries.specs.Nodes.{Past}
@@ -12,7 +12,7 @@ use Rattle.script_serving.specs.Replays.{due}
 use Rattle.script_serving.specs.Serves.{Fits, is_merge_fault}
 use Rattle.history_book.specs.Log.{Log, printed, name_of}
 use Rattle.lane_walks.specs.Owes.{FaultsFit, IsSettledLog}
-use Rattle.lane_walks.specs.Walks.{OnLane, Includes, GoesOn, IsApart, AreFresh}
+use Rattle.lane_walks.specs.Walks.{OnLane, Includes, GrowsByLane, GrowsByOthers, AreUnbegun}
 
 -- the lines of phases
 abbrev pub lines_in : List Phase → List Line
@@ -49,12 +49,16 @@ pub record LaneServes (logged : Bool) (lane : ℕ) (phases : List Phase) (log : 
 pub record LaneReady (logged : Bool) (lane : ℕ) (phases before rest : List Phase) (log : Log) : Type 0 where
   pub serves : LaneServes logged lane phases log
   pub answered : all_answered (lines_in before) (printed log) ≡ true
-  pub fresh : AreFresh (lane_lines lane rest) (printed log)
+  pub fresh : AreUnbegun (lane_lines lane rest) (printed log)
   pub faults : FaultsFit logged log
+
+-- the lane is ready for what is behind the first k phases
+abbrev pub LaneReadyAt : Bool → ℕ → List Phase → ℕ → Log → Type 0
+LaneReadyAt logged lane phases k log = LaneReady logged lane phases (take k phases) (drop k phases) log
 
 -- the lane did its part of a phase, and has seen that all lanes did theirs
 pub record PhaseDone (logged : Bool) (lane : ℕ) (phase : Phase) (old new : Log) : Type 0 where
-  pub goes : GoesOn logged lane (lines_under lane phase.lanes) old new
+  pub goes : GrowsByLane logged lane (lines_under lane phase.lanes) old new
   pub answered : all_answered (lines_of_phase phase) (printed new) ≡ true
 
 -- a lane did its part of a phase somewhere in these entries
@@ -67,7 +71,7 @@ pub record HasRanPart (lane : ℕ) (phase : Phase) (log : Log) : Type 0 where
 pub record LaneEnds (logged : Bool) (lane : ℕ) (phases : List Phase) (log : Log) : Type 0 where
   pub seen : Log
   pub ready : LaneReady logged lane phases phases [] seen
-  pub since : IsApart logged lane seen log
+  pub since : GrowsByOthers logged lane seen log
 
 -- every entry names the seat of one of the eight lanes or none
 abbrev pub AreOfLanes : Log → Type 0

@@ -38,14 +38,14 @@ pub record Includes (old new : Log) : Type 0 where
   pub log : new ≡ more ++ old
 
 -- the history goes on, and what is new of the lane are entries that these lines ask for
-pub record GoesOn (logged : Bool) (lane : ℕ) (lines : List Line) (old new : Log) : Type 0 where
+pub record GrowsByLane (logged : Bool) (lane : ℕ) (lines : List Line) (old new : Log) : Type 0 where
   pub more : Log
   pub log : new ≡ more ++ old
   pub serves : ServesSince logged lane lines more old
   pub faults : FaultsFit logged new
 
 -- the history goes on by others
-pub record IsApart (logged : Bool) (lane : ℕ) (old new : Log) : Type 0 where
+pub record GrowsByOthers (logged : Bool) (lane : ℕ) (old new : Log) : Type 0 where
   pub more : Log
   pub log : new ≡ more ++ old
   pub apart : NoneOf lane more
@@ -79,8 +79,8 @@ pub record LineRan (logged : Bool) (command : LineCommand) (at : At) (old new : 
   pub replied : is_answered at (printed new) ≡ true
 
 -- these lines have no entry yet
-abbrev pub AreFresh : List Line → Past → Type 0
-AreFresh lines past = AllByRecursion (λ l. entries_of_line l.at past ≡ []) lines
+abbrev pub AreUnbegun : List Line → Past → Type 0
+AreUnbegun lines past = AllByRecursion (λ l. entries_of_line l.at past ≡ []) lines
 
 -- lines of one lane, whose numbers ascend
 pub record ArePart (lane : ℕ) (lines : List Line) : Type 0 where
@@ -89,11 +89,11 @@ pub record ArePart (lane : ℕ) (lines : List Line) : Type 0 where
 
 -- the first i lines of a lane's part were done, and the others have no entry
 pub record Going (logged : Bool) (lane : ℕ) (lines : List Line) (i : ℕ) (initial now : Log) : Type 0 where
-  pub goes : GoesOn logged lane lines initial now
+  pub goes : GrowsByLane logged lane lines initial now
   pub answered : all_answered (take i lines) (printed now) ≡ true
-  pub fresh : AreFresh (drop i lines) (printed now)
+  pub fresh : AreUnbegun (drop i lines) (printed now)
 
 -- all lines of a lane's part were done
 pub record LinesRan (logged : Bool) (lane : ℕ) (lines : List Line) (old new : Log) : Type 0 where
-  pub goes : GoesOn logged lane lines old new
+  pub goes : GrowsByLane logged lane lines old new
   pub answered : all_answered lines (printed new) ≡ true

@@ -1,15 +1,15 @@
 //! Laws of lanes: from what one call adds to the script that all lanes served. Each is a call that does nothing, and what it
 //! ensures is the law. Entries stand newest first.
 
-ghost use Rattle.std.specs.Prelude.{◌≡◌, ℕ, ◌≤◌, ◌+◌, [], true, false, take, drop, length, slice_get, Some};
+ghost use Rattle.std.specs.Prelude.{◌≡◌, ℕ, ◌≤◌, ◌+◌, [], true, false, length, slice_get, Some};
 ghost use Rattle.history_book.specs.Log.{FaultsFollow, printed};
 ghost use Rattle.history_entries.specs.Lines.{entries_of_line};
 ghost use Rattle.script_serving.specs.Form.{is_phase, IsInForm};
 ghost use Rattle.script_serving.specs.Lines.{lines_under};
 ghost use Rattle.script_serving.specs.Serves.{Serves};
 ghost use Rattle.lane_walks.specs.Owes.{GoesByLine, GoesByTask, FaultsFit};
-ghost use Rattle.lane_walks.specs.Walks.{GoesOn, IsApart, LineStays, LineGoes, LineRan, StillFresh, AreFresh, ArePart, Going, LinesRan};
-ghost use Rattle.lane_walks.specs.Phases.{ArePhasesInForm, LaneServes, LaneReady, PhaseDone, HasRanPart, LanesEnd, IsHistoryOf};
+ghost use Rattle.lane_walks.specs.Walks.{GrowsByLane, GrowsByOthers, LineStays, LineGoes, LineRan, StillFresh, AreUnbegun, ArePart, Going, LinesRan};
+ghost use Rattle.lane_walks.specs.Phases.{ArePhasesInForm, LaneServes, LaneReady, LaneReadyAt, PhaseDone, HasRanPart, LanesEnd, IsHistoryOf};
 
 use history_book::Mark;
 use history_entries::History;
@@ -33,7 +33,7 @@ pub fn call_takes_its_line_on(
 
 /// What others do takes a line on too, and leaves it where it is.
 pub fn others_leave_a_line(logged: bool, command: &LineCommand, at: At, old: &[Mark], new: &[Mark])
-    requires { IsApart logged at.lane.0 old.now new.now }
+    requires { GrowsByOthers logged at.lane.0 old.now new.now }
     ensures goes { LineGoes logged command.now at old.now new.now }
     ensures stays { LineStays at old.now new.now }
 {}
@@ -98,7 +98,7 @@ pub fn faults_fit_without_a_log(log: &[Mark])
 /// Where no line of a part has an entry, none is done.
 pub fn part_begins(logged: bool, lane: usize, lines: &[Line], log: &[Mark])
     requires faults { FaultsFit logged log.now }
-    requires fresh { AreFresh lines.now (printed log.now) }
+    requires fresh { AreUnbegun lines.now (printed log.now) }
     ensures { Going logged lane lines.now 0 log.now log.now }
 {}
 
@@ -169,9 +169,9 @@ pub fn part_may_begin(
 )
     requires form { ArePhasesInForm phases.now }
     requires phase { slice_get phases.now k ≡ Some phase.now }
-    requires ready { LaneReady logged lane phases.now (take k phases.now) (drop k phases.now) log.now }
+    requires ready { LaneReadyAt logged lane phases.now k log.now }
     ensures part { ArePart lane (lines_under lane phase.now.lanes) }
-    ensures fresh { AreFresh (lines_under lane phase.now.lanes) (printed log.now) }
+    ensures fresh { AreUnbegun (lines_under lane phase.now.lanes) (printed log.now) }
 {}
 
 /// A lane that has done its part of a phase, and then heard of the parts of all others, has done the phase.
@@ -185,7 +185,7 @@ pub fn lanes_end_a_phase(
 )
     requires form { is_phase phase.now ≡ true }
     requires ran { LinesRan logged lane (lines_under lane phase.now.lanes) old.now mid.now }
-    requires apart { IsApart logged lane mid.now new.now }
+    requires apart { GrowsByOthers logged lane mid.now new.now }
     requires all { (other : ℕ) → 1 ≤ other → other ≤ 8 → HasRanPart other phase.now new.now }
     ensures { PhaseDone logged lane phase.now old.now new.now }
 {}
@@ -202,15 +202,15 @@ pub fn phase_follows_phase(
 )
     requires form { ArePhasesInForm phases.now }
     requires phase { slice_get phases.now k ≡ Some phase.now }
-    requires ready { LaneReady logged lane phases.now (take k phases.now) (drop k phases.now) old.now }
+    requires ready { LaneReadyAt logged lane phases.now k old.now }
     requires done { PhaseDone logged lane phase.now old.now new.now }
-    ensures { LaneReady logged lane phases.now (take (k + 1) phases.now) (drop (k + 1) phases.now) new.now }
+    ensures { LaneReadyAt logged lane phases.now (k + 1) new.now }
 {}
 
 /// What others do leaves what a lane has served.
 pub fn others_leave_a_lane(logged: bool, lane: usize, phases: &[Phase], old: &[Mark], new: &[Mark])
     requires form { ArePhasesInForm phases.now }
-    requires apart { IsApart logged lane old.now new.now }
+    requires apart { GrowsByOthers logged lane old.now new.now }
     requires serves { LaneServes logged lane phases.now old.now }
     ensures { LaneServes logged lane phases.now new.now }
 {}

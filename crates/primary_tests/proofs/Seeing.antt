@@ -1,12 +1,10 @@
 -- What tests know of a primary, over its calls.
-use Rattle.std.proofs.Common.{◌≡◌, ◌<◌, ◌==◌, ◌&&◌, ℕ, Bool, true, false, if◌then◌else◌, List, [], ◌∷◌, ◌++◌, map, length, Option, Some, None, is_some, refl, sym, ap, subst, ◌∙◌, arith, All, true≢false, slice_get}
+use Rattle.std.proofs.Common.{◌≡◌, ◌<◌, ◌==◌, ℕ, Bool, true, false, if◌then◌else◌, List, [], ◌∷◌, ◌++◌, map, length, Option, Some, None, is_some, refl, sym, ap, subst, ◌∙◌, arith, All, true≢false, slice_get}
 use Rattle.std.specs.List.{remove}
-use Rattle.std.specs.Cmp.Lexicographic.{pointwise}
 use Rattle.std.proofs.lemmas.Bool.Decides.{nat_tests}
 use Rattle.disk_model.specs.Disk.{Name, Content, Cells, may_leave, same}
 use Rattle.disk_memory.specs.Held.{Held, untouched, cell}
 use Rattle.disk_memory.specs.Table.{Table, cells_of}
-use Rattle.file_deleter.proofs.NameLemmas.{same_self}
 use Rattle.segment_infos.specs.declared.infos.Infos.{Infos}
 use Rattle.segment_infos.specs.declared.infos.SegRecord.{SegRecord}
 use Rattle.segment_infos.specs.Infos.{CanSpell}
@@ -25,6 +23,7 @@ use Rattle.index_primary.specs.declared.states.Out.{Out}
 use Rattle.index_primary.specs.States.{out_of, same_out, is_out, states_without}
 use Rattle.index_primary.specs.Calls.{IsTaskOf, after_start}
 use Rattle.index_primary.specs.Primary.{IsPrimary}
+use Rattle.index_primary.proofs.StateLemmas.{same_out_self}
 use Rattle.primary_tests.specs.declared.seen.Seen.{Seen}
 use Rattle.primary_tests.specs.Seeing.{IsEmpty, IsSeen, open_numbers, ticket_numbers}
 
@@ -87,12 +86,6 @@ first_closed (o ∷ os) (g ∷ gs) ticket same first = by (o.number == ticket.nu
     by false e = absurd (true≢false (sym e))
 
 -- ---- copy states
-same_names : (names : List Name) → pointwise same names names ≡ true
-same_names [] = refl
-same_names (n ∷ names) = ap (λ b. b && pointwise same names names) (same_self n) ∙ same_names names
-
-same_self_out : (s : Out) → same_out s s ≡ true
-same_self_out s = ap (λ b. b && pointwise same s.names s.names) (test_of s.version.0 s.version.0 refl) ∙ same_names s.names
 
 -- the first state that was taken is out, and given back it leaves the others
 pub first_back : (states : List Out) (given : List CopyState) (s : CopyState) → states ≡ map out_of given → Some s ≡ slice_get given 0
@@ -101,7 +94,7 @@ first_back states [] s is first = absurd (true≢false (ap (λ (o : Option CopyS
 first_back states (g ∷ gs) s is first =
     let e : g ≡ s = cc in
     subst (λ (x : CopyState). (is_out (out_of x) states ≡ true) × (states_without (out_of x) states ≡ map out_of gs)) e
-    (subst (λ (l : List Out). (is_out (out_of g) l ≡ true) × (states_without (out_of g) l ≡ map out_of gs)) (sym is) (by (same_out (out_of g) (out_of g)) (same_self_out (out_of g))))
+    (subst (λ (l : List Out). (is_out (out_of g) l ≡ true) × (states_without (out_of g) l ≡ map out_of gs)) (sym is) (by (same_out (out_of g) (out_of g)) (same_out_self (out_of g))))
   where
     by : (b : Bool) → b ≡ true → ((if b then true else is_out (out_of g) (map out_of gs)) ≡ true) × ((if b then map out_of gs else out_of g ∷ states_without (out_of g) (map out_of gs)) ≡ map out_of gs)
     by true e = (refl, refl)

@@ -14,7 +14,7 @@ mod Finished
 mod Finishing
 mod Keeping
 mod Lists
-mod Metas
+pub mod Metas
 mod Noted
 mod Planned
 mod Searched

@@ -2,7 +2,7 @@ use Rattle.std.proofs.Common.{ap}
 use Rattle.index_primary.specs.States.{out_of}
 use Rattle.replica_node.specs.declared.parts.Parts.{Parts as ReplicaParts}
 use Rattle.cluster_places.specs.Outs.{want_of}
-use Rattle.cluster_places.proofs.Stepping.{out_pushed, begins, alters_by, job_seen, job_by}
+use Rattle.cluster_places.proofs.Stepping.{out_pushed, begins, alters_by, none_by, job_seen, job_by}
 use Rattle.cluster_places.proofs.jobs.begin_job.Goals as goal
 
 pub drop_job-requires : goal.drop_job-requires
@@ -11,7 +11,7 @@ drop_job-requires g c = out_pushed (want_of c.args.replica.now.job) (out_of c.in
 pub returns : goal.returns
 returns g c = begins g.D.Dir.cells c.args.primary.now c.take_state.new.self c.drop_job.new.primary c.args.replica.now c.drop_job.new.replica c.new_point.new.self c.start_job.new.self c.in-Ok.state _ _ _
     c.in-Ok.ensures.state c.in-Ok.ensures.out
-    (alters_by g.D.Dir.cells c.args.primary.now c.take_state.new.self c.take_state.ensures.stays c.take_state.ensures.no_new c.take_state.ensures.others (λ w. c.take_state.ensures.whole))
+    (alters_by g.D.Dir.cells c.args.primary.now c.take_state.new.self c.take_state.ensures.stays c.take_state.ensures.no_new (none_by c.take_state.ensures.cells) c.take_state.ensures.others (λ w. c.take_state.ensures.whole))
     c.in_ok-drop_job.ensures.primary c.in_ok-drop_job.ensures.states
     c.in_ok-drop_job.ensures.replica c.in_ok-drop_job.ensures.seen c.in_ok-drop_job.ensures.jobs
     c.new_point.ensures.seen (job_seen g.D.Dir.cells c.drop_job.new.replica c.new_point.new.self c.new_point.ensures.others (λ w. c.new_point.ensures.whole)) (ap (λ (r : ReplicaParts _). r.jobs) c.new_point.ensures.others)

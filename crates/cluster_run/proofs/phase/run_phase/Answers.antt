@@ -3,7 +3,7 @@ use Rattle.nrt_base.specs.declared.numbers.LaneNo.{LaneNo}
 use Rattle.history_book.specs.Log.{printed}
 use Rattle.script_serving.specs.declared.script.Line.{Line}
 use Rattle.script_serving.specs.Lines.{lines_of_phase}
-use Rattle.lane_walks.specs.Walks.{ArePart, AreFresh}
+use Rattle.lane_walks.specs.Walks.{ArePart, AreUnbegun}
 use Rattle.cluster_run.specs.Running.{are_run, RunsLines}
 use Rattle.cluster_run.proofs.Phases.{lanes_begin, lane_at, lanes_go_on, lanes_end, lane_part, lane_run, lane_fresh}
 use Rattle.cluster_run.proofs.phase.run_phase.Goals as goal
@@ -30,7 +30,7 @@ pub run_lines-requires-clause-fresh : goal.run_lines-requires-clause-fresh
 run_lines-requires-clause-fresh g c =
     let l = c.loop-lane-item.result in
     let here = lane_at c.args.phase.now c.as_slice-lane-items.result.now c.loop-lane.lane-index l c.as_slice-lane-items.ensures c.loop-lane-item.is c.loop-lane-test.true in
-    subst (λ (ls : List Line). AreFresh ls (printed c.loop-lane.cluster.log)) (sym c.as_slice.ensures)
+    subst (λ (ls : List Line). AreUnbegun ls (printed c.loop-lane.cluster.log)) (sym c.as_slice.ensures)
     (lane_fresh c.args.phase.now c.requires.form c.loop-lane.lane-index l here c.args.cluster.now.nodes c.args.cluster.now c.loop-lane.cluster c.loop-lane.invariant)
 
 pub loop-lane-preserved : goal.loop-lane-preserved

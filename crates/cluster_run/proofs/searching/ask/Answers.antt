@@ -7,7 +7,7 @@ use Rattle.history_book.specs.Log.{printed}
 use Rattle.script_serving.specs.declared.script.LineCommand.TheVariants.{Ask}
 use Rattle.cluster_core.specs.declared.turn.Turn.{Turn}
 use Rattle.cluster_core.specs.declared.turn.Turn.TheVariants.{Work}
-use Rattle.cluster_core.specs.Doing.{IsBegun, IsBegunAtWork}
+use Rattle.cluster_core.specs.Doing.{IsBegunBy, IsBegunAtWork}
 use Rattle.cluster_core.specs.Calls.{AskStarts, asked_event}
 use Rattle.cluster_run.proofs.Jobs.{ask_jobs}
 use Rattle.cluster_run.proofs.Searches.{ask_asks, asks_sound}
@@ -27,7 +27,7 @@ returns-in_ok-answer-in-Work g c =
     let opening = open_ticket c.args.at.lane.0 c.args.t.0 (printed c.args.cluster.now.log) in
     let starts : AskStarts c.args.at c.args.t c.args.cluster.now mid (Work c.in-Work.lease) =
     subst (λ (turn : Turn (Lease Shown)). AskStarts c.args.at c.args.t c.args.cluster.now mid turn) c.in-Work.is c.in_ok-ask_start.ensures.ok in
-    let begun : IsBegun c.args.at (asked_event c.args.t opening c.in-Work.lease.version) mid =
+    let begun : IsBegunBy c.args.at (asked_event c.args.t opening c.in-Work.lease.version) mid =
     subst (λ (turn : Turn (Lease Shown)). IsBegunAtWork c.args.at (λ lease. asked_event c.args.t opening lease.version) mid turn) c.in-Work.is c.in_ok-ask_start.ensures.begun in
     on_rest (Ask c.args.t query) c.args.at c.answer_end.result c.args.cluster.now mid c.answer_end.new.self (c.in_ok-ask_start.ensures.does query)
     (on_answer (Ask c.args.t query) c.args.at c.answer_end.result (last_of_line c.args.at (printed mid.log)) query c.in_ok-answer-in-Work.answer mid c.answer_end.new.self

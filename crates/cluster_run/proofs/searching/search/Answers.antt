@@ -8,7 +8,7 @@ use Rattle.history_book.specs.Log.{printed}
 use Rattle.script_serving.specs.declared.script.LineCommand.TheVariants.{Search}
 use Rattle.cluster_core.specs.declared.turn.Turn.{Turn}
 use Rattle.cluster_core.specs.declared.turn.Turn.TheVariants.{Work}
-use Rattle.cluster_core.specs.Doing.{IsBegun, IsBegunAtWork}
+use Rattle.cluster_core.specs.Doing.{IsBegunBy, IsBegunAtWork}
 use Rattle.cluster_run.proofs.Jobs.{search_jobs}
 use Rattle.cluster_run.proofs.Searches.{search_asks}
 use Rattle.cluster_run.proofs.Steps.{on_answer, on_rest}
@@ -18,7 +18,7 @@ pub returns-in_ok-answer-in-Work : goal.returns-in_ok-answer-in-Work
 returns-in_ok-answer-in-Work g c =
     let query = c.args.query.now in
     let mid = c.search_start.new.self in
-    let begun : IsBegun c.args.at (Opened c.args.n (record { 0 = 0 }) c.in-Work.lease.version) mid =
+    let begun : IsBegunBy c.args.at (Opened c.args.n (record { 0 = 0 }) c.in-Work.lease.version) mid =
     subst (λ (turn : Turn (Lease Shown)). IsBegunAtWork c.args.at (λ lease. Opened c.args.n (record { 0 = 0 }) lease.version) mid turn) c.in-Work.is c.in_ok-search_start.ensures.begun in
     on_rest (Search c.args.n query) c.args.at c.answer_end.result c.args.cluster.now mid c.answer_end.new.self (c.in_ok-search_start.ensures.does query)
     (on_answer (Search c.args.n query) c.args.at c.answer_end.result (last_of_line c.args.at (printed mid.log)) query c.in_ok-answer-in-Work.answer mid c.answer_end.new.self
