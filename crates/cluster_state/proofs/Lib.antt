@@ -21,6 +21,7 @@ mod PublishFiles
 mod FirstNodes
 mod JobFrames
 mod Wider
+mod Disks
 mod FileFrames
 mod FileJobs
 mod JobMoves

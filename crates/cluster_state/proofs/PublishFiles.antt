@@ -32,7 +32,7 @@ use Rattle.cluster_state.specs.Files.{FilesShow}
 use Rattle.cluster_places.specs.KeptFiles.{FillsPrimaryFiles, KeepsNodeFiles}
 use Rattle.cluster_places.proofs.TicketNodes.{node_alone}
 use Rattle.cluster_state.proofs.Frames.{PutsBack, was}
-use Rattle.cluster_state.proofs.FileFrames.{files_one, files_was, files_is, files_moved, files_started, files_published, put_one}
+use Rattle.cluster_state.proofs.FileFrames.{flights_of, files_one, files_was, files_is, files_moved, files_started, files_published, put_one}
 use Rattle.cluster_state.proofs.Turning.{log_is, nodes_is, past_has, fresh_turn, later_turn}
 use Rattle.cluster_state.proofs.JobFrames.{job_stays}
 
@@ -98,7 +98,8 @@ module _ {D : Type 0} (cells : D → Cells) where
           → q ≡ record p { waiting = p.waiting ++ copy ∷ []; accepted = p.accepted + 1 } → FilesShow cells b2.log b2.nodes new
       accept_files seq op copy e2 n2 fresh rule next =
           files_moved cells r ended b0 b1 b2 old mid new at (Accepted seq op) n.0 (record { node = Primary q; held = held }) x view running shows files e1 n1 e2 n2 legal turns rule
-          (fresh_turn (printed r.log) at (Accepted seq op) (past_has (IsFresh at) r ended b0 view fresh) tt) (λ m. refl) put node there
+          (fresh_turn (printed r.log) at (Accepted seq op) (past_has (IsFresh at) r ended b0 view fresh) tt) (λ m. refl) (λ m. refl)
+          (flights_of cells r ended b0 b1 at view e1 n1 legal turns (past_has (IsFresh at) r ended b0 view fresh).begun) put node there
           (keeps_at (subst (λ (z : PrimaryParts D). KeepsNodeFiles cells (Primary p) (Primary z)) (sym next) (accepted_alone p (p.waiting ++ copy ∷ []) (p.accepted + 1))))
 
       pub start_files : (b3 : Pages) (seg : Option SegNo) (segs : List Shown) → b2.log ≡ shown at Publishing ∷ b1.log → b2.nodes ≡ b1.nodes → b3.log ≡ kept (FlushOut at seg segs) ∷ b2.log → b3.nodes ≡ b2.nodes

@@ -4,7 +4,7 @@ use Rattle.nrt_base.specs.declared.numbers.At.{At}
 use Rattle.disk_model.specs.Disk.{Name}
 use Rattle.history_entries.specs.declared.entry.Event.{Event}
 use Rattle.history_entries.specs.declared.entry.Event.TheVariants.{Copying, Switched, Crashed, Reopened, Promoted}
-use Rattle.history_entries.specs.Nodes.{newest_version, version_of}
+use Rattle.history_entries.specs.Nodes.{newest_version, generation_of, version_of}
 use Rattle.history_entries.specs.Lines.{start_entry, before_start, copy_in_flight, highest_copy}
 use Rattle.history_entries.specs.Points.{documents_at}
 use Rattle.history_tables.specs.declared.jobs.Job.{Job}
@@ -35,6 +35,7 @@ leaves_job i n = true
 pub record SameJob (log now : Log) (n : ℕ) : Type 0 where
   pub job : job_at n now ≡ job_at n log
   pub newest : newest_version (printed log) ≤ newest_version (printed now)
+  pub generation : generation_of (printed log) ≤ generation_of (printed now)
   pub documents : (v : ℕ) → v ≤ newest_version (printed log) → documents_at (printed now) v ≡ documents_at (printed log) v
   pub latest : highest_copy n (printed now) ≤ highest_copy n (printed log)
   pub version : version_of n (printed now) ≡ version_of n (printed log)
