@@ -6,7 +6,7 @@ use Rattle.std.proofs.lemmas.List.Sums.{sum_by-cons}
 use Rattle.nrt_base.specs.declared.doc.Doc.{Doc}
 use Rattle.live_bits.specs.LiveRows.{live_rows}
 use Rattle.postings_plain.specs.declared.row.TermRow.{TermRow}
-use Rattle.postings_plain.specs.Gathering.{Terms, Gathers}
+use Rattle.postings_plain.specs.Gathering.{FoundTerms, Gathers}
 use Rattle.postings_plain.specs.Joining.{numbers_from, live_terms, JoinsEntries}
 use Rattle.seg_reader.specs.Shown.{Shown}
 use Rattle.seg_reader.specs.Sound.{IsSound, term_row}
@@ -28,6 +28,11 @@ numbers_step n at live lt =
     by_row : (b : Bool) (ls : List Bool) → numbers_from n (b ∷ ls) ≡ cond b (Some n) None ∷ numbers_from (cond b (n + 1) n) ls
     by_row true ls = refl
     by_row false ls = refl
+
+pub length-numbers_from : (n : ℕ) (live : List Bool) → length (numbers_from n live) ≡ length live
+length-numbers_from n [] = refl
+length-numbers_from n (true ∷ live) = omega (arith, length-numbers_from (n + 1) live)
+length-numbers_from n (false ∷ live) = omega (arith, length-numbers_from n live)
 
 -- one row more has its number
 pub numbered : (at n next : ℕ) (live : List Bool) (b : Bool) (number : Option ℕ) (old new whole : List (Option ℕ)) → at < length live → b ≡ get_or live at false → number ≡ cond b (Some n) None → next ≡ cond b (n + 1) n
@@ -66,16 +71,16 @@ length-live_docs (d ∷ docs) (false ∷ live) long = omega (arith, counted fals
 -- ---- all inputs
 
 -- the postings of the live rows of the first inputs are joined, and this is the number of the next row
-pub record HasJoinedTo (inputs : List Shown) (lives : List (List Bool)) (at : ℕ) (joined : Terms) (next : ℕ) : Type 0 where
+pub record HasJoinedTo (inputs : List Shown) (lives : List (List Bool)) (at : ℕ) (joined : FoundTerms) (next : ℕ) : Type 0 where
   pub front : List Doc
   pub docs : front ++ all_live_docs (docs_by_input (drop at inputs)) (drop at lives) ≡ all_live_docs (docs_by_input inputs) lives
   pub gathers : Gathers joined (map term_row front)
   pub next_is : next ≡ length front
 
-pub joined_no_input : (inputs : List Shown) (lives : List (List Bool)) (joined : Terms) → Gathers joined [] → HasJoinedTo inputs lives 0 joined 0
+pub joined_no_input : (inputs : List Shown) (lives : List (List Bool)) (joined : FoundTerms) → Gathers joined [] → HasJoinedTo inputs lives 0 joined 0
 joined_no_input inputs lives joined g = record { front = []; docs = refl; gathers = g; next_is = refl }
 
-pub joined_input : (inputs : List Shown) (lives : List (List Bool)) (at : ℕ) (s : Shown) (l : List Bool) (old new : Terms) (n next : ℕ) (numbers : List (Option ℕ)) → at < length inputs → at < length lives → s ≡ get_or inputs at s → l ≡ get_or lives at l
+pub joined_input : (inputs : List Shown) (lives : List (List Bool)) (at : ℕ) (s : Shown) (l : List Bool) (old new : FoundTerms) (n next : ℕ) (numbers : List (Option ℕ)) → at < length inputs → at < length lives → s ≡ get_or inputs at s → l ≡ get_or lives at l
     → length l ≡ length s.docs → IsSound s → numbers ≡ numbers_from n l → next ≡ n + live_rows l → JoinsEntries old new s.entries numbers → HasJoinedTo inputs lives at old n → HasJoinedTo inputs lives (at + 1) new next
 joined_input inputs lives at s l old new n next numbers li ll es el long sound is on joins has = record {
   front = has.front ++ live_docs s.docs l;
@@ -91,6 +96,6 @@ joined_input inputs lives at s l old new n next numbers li ll es el long sound i
 }
 
 -- all inputs were joined
-pub joined_each : (inputs : List Shown) (lives : List (List Bool)) (at : ℕ) (joined : Terms) (next : ℕ) → drop at inputs ≡ [] → HasJoinedTo inputs lives at joined next → Gathers joined (map term_row (all_live_docs (docs_by_input inputs) lives))
+pub joined_each : (inputs : List Shown) (lives : List (List Bool)) (at : ℕ) (joined : FoundTerms) (next : ℕ) → drop at inputs ≡ [] → HasJoinedTo inputs lives at joined next → Gathers joined (map term_row (all_live_docs (docs_by_input inputs) lives))
 joined_each inputs lives at joined next none has =
     subst (λ (ds : List Doc). Gathers joined (map term_row ds)) (sym (append-nil has.front) ∙ sym (ap (λ (ss : List Shown). has.front ++ all_live_docs (docs_by_input ss) (drop at lives)) none) ∙ has.docs) has.gathers

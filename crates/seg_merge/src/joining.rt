@@ -1,6 +1,6 @@
 //! The postings of a merged segment, joined from those of its inputs.
 
-ghost use Rattle.std.specs.Prelude.{◌≡◌, ◌+◌, map, Some, None, if◌then◌else◌, IfOk, OnOk};
+ghost use Rattle.std.specs.Prelude.{◌≡◌, ◌+◌, ◌<◌, ◌^◌, length, map, Some, None, if◌then◌else◌, IfOk, OnOk};
 ghost use Rattle.std.specs.List.{All, AllZip};
 ghost use Rattle.postings_plain.specs.Gathering.{Gathers};
 ghost use Rattle.postings_plain.specs.Joining.{numbers_from};
@@ -34,6 +34,7 @@ fn number_of(is_live: bool, next: &mut u32) -> Result<Option<u32>, NoMemory>
 fn numbers_of(alloc: Global, live: &LiveBits, next: &mut u32) -> Result<Vec<Option<u32>>, NoMemory>
     ensures numbers { IfOk result (λ numbers. numbers.items ≡ numbers_from next.old live.now) }
     ensures next { OnOk result (next.new ≡ next.old + live_rows live.now) }
+    ensures few { OnOk result (length live.now < 2 ^ 32) }
 {
     let (rows, _) = live.counts();
     let mut numbers = Vec::with_capacity(alloc, rows as usize)?;

@@ -10,8 +10,8 @@ use Rattle.seg_build.proofs.Records.{read_as}
 use Rattle.seg_build.proofs.WordCounts.{few_in_each}
 use Rattle.seg_build.proofs.joining.joined_parts.Goals as goal
 
-pub encode-joined-requires : goal.encode-joined-requires
-encode-joined-requires c =
+pub encode-requires-2 : goal.encode-requires-2
+encode-requires-2 c =
     let docs = c.args.docs.now in
     let long = length-map docs term_row in
     let few : AreFew (map term_row docs) = record { rows_few = omega (arith, long, c.requires.count, c.requires.live.rows); words_few = few_in_each docs c.in_ok-file.ensures.file.spelled.fit } in

@@ -18,8 +18,10 @@ gather-requires c = lent (AllZip HasAsManyRows) c.args.task.now.inputs c.as_slic
 pub join-requires-clause-rows : goal.join-requires-clause-rows
 join-requires-clause-rows c = lent (AllZip HasAsManyRows) c.args.task.now.inputs c.as_slice-inputs.result.now c.args.task.now.live c.as_slice-live.result.now c.as_slice-inputs.ensures c.as_slice-live.ensures c.requires.rows
 
-gathered_docs : (c : goal.Reached-build_joined) → c.as_slice.result.now ≡ all_live_docs (docs_by_input c.as_slice-inputs.result.now) c.as_slice-live.result.now
-gathered_docs c = c.as_slice.ensures.value ∙ c.in_ok-gathered.ensures.docs
+pub build_joined-requires-clause-some : goal.build_joined-requires-clause-some
+build_joined-requires-clause-some c =
+    subst (λ (ds : List Doc). 0 < length ds) (sym (c.as_slice.ensures.value ∙ c.in_ok-gathered.ensures.docs))
+    (lent (λ ss ls. 0 < length (all_live_docs (docs_by_input ss) ls)) c.args.task.now.inputs c.as_slice-inputs.result.now c.args.task.now.live c.as_slice-live.result.now c.as_slice-inputs.ensures c.as_slice-live.ensures c.requires.some)
 
 pub build_joined-requires-clause-joined : goal.build_joined-requires-clause-joined
 build_joined-requires-clause-joined c = subst (λ (ds : List Doc). Gathers c.in_ok-joined.joined (map term_row ds)) (sym (c.as_slice.ensures.value ∙ c.in_ok-gathered.ensures.docs)) c.in_ok-joined.ensures
