@@ -1,6 +1,6 @@
 -- The commit in flight: its node has not crashed since its line's start, and the line has no reply. It may be acknowledged for the
 -- version of the start.
-use Rattle.std.proofs.Common.{◌≡◌, ◌≢◌, ◌&&◌, ◌||◌, ◌==◌, ℕ, Bool, true, false, true≢false, [], ◌∷◌, Some, None, Option, length, refl, ap, ◌∙◌, sym, subst, if◌then◌else◌}
+use Rattle.std.proofs.Common.{◌≡◌, ◌≢◌, ◌+◌, ◌&&◌, ◌||◌, ◌==◌, ℕ, Bool, true, false, true≢false, [], ◌∷◌, Some, None, Option, length, refl, ap, ◌∙◌, sym, subst, if◌then◌else◌}
 use Rattle.std.specs.Prelude.{not}
 use Rattle.std.proofs.lemmas.Bool.{eqb-true, eq-eqb, or_left, or_right}
 use Rattle.nrt_base.specs.declared.numbers.At.{At}
@@ -96,17 +96,17 @@ commit_flies size (e ∷ past) n at legal turns is = flies_step past e.at e.even
 -- the node searched the version of a commit's start then
 pub start_searched : (size : ℕ) (past : Past) (at : At) (n : NodeNo) (v : Version) → IsLegalPast size past → start_entry at past ≡ Some (Committing n v) → was_searched_since at n.0 v.0 past ≡ true
 start_searched size [] at n v legal is = absurd (cc)
-start_searched size (e ∷ past) at n v legal is = tests (is_start e.event && same_at e.at at) is
+start_searched size (e ∷ past) at n v legal is = tests (is_start e.event && same_at e.at at) is (λ older. start_searched size past at n v legal.1 older)
   where
     searched : (e' : Event) → KeepsRule size past e.at e' → e' ≡ Committing n v → (version_of n.0 (record { at = e.at; event = e' } ∷ past) == v.0) ≡ true
     searched e' keeps same =
         let rule : MayStartCommit size past e.at n v = subst (λ (x : Event). KeepsRule size past e.at x) same keeps in
         ap (λ (x : Event). version_of n.0 (record { at = e.at; event = x } ∷ past) == v.0) same ∙ eq-eqb _ _ (sym rule.searched)
 
-    tests : (b : Bool) → (if b then Some e.event else start_entry at past) ≡ Some (Committing n v)
+    tests : (b : Bool) → (if b then Some e.event else start_entry at past) ≡ Some (Committing n v) → (start_entry at past ≡ Some (Committing n v) → was_searched_since at n.0 v.0 past ≡ true)
         → ((version_of n.0 (e ∷ past) == v.0) || (if b then false else was_searched_since at n.0 v.0 past)) ≡ true
-    tests true got = let same : e.event ≡ Committing n v = cc in or_left _ false (searched e.event legal.0 same)
-    tests false got = or_right (version_of n.0 (e ∷ past) == v.0) _ (start_searched size past at n v legal.1 got)
+    tests true got was = let same : e.event ≡ Committing n v = cc in or_left _ false (searched e.event legal.0 same)
+    tests false got was = or_right (version_of n.0 (e ∷ past) == v.0) _ (was got)
 
 -- the commit in flight may be acknowledged for the version of its start
 pub commit_ends : (size : ℕ) (past : Past) (n : NodeNo) (v : Version) (at : At) → IsLegalPast size past → AreInTurn past → commit_in_flight n.0 past ≡ Some at

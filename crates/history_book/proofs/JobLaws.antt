@@ -673,17 +673,17 @@ idle_if past n (Some row) rests = none_going (not row.ended) (nat_le (crashed_at
 -- no job runs at a node that is down
 pub down_idle : (size n : ℕ) (log : Log) → IsLegalPast size (printed log) → AreInside size log → is_running n (printed log) ≡ false → job_at n log ≡ None
 down_idle size n log legal inside down = idle_if (printed log) n (last_job false n log)
-    (λ row is. crashed (nat_le (crashed_at n (printed log)) row.before) refl (job_rests size n log legal inside row is))
+    (λ row is. crashed row.before (nat_le (primary_crashed (printed log)) row.before) (nat_le (crashed_at n (printed log)) row.before) refl (job_rests size n log legal inside row is))
   where
-    crashed : {before : ℕ} {c : Bool} (b : Bool) → nat_le (crashed_at n (printed log)) before ≡ b → JobRests (printed log) n before → (b && c) ≡ false
-    crashed true alive rests = absurd (true≢false (sym (rests.node alive) ∙ down))
-    crashed false late rests = refl
+    crashed : (before : ℕ) (c b : Bool) → nat_le (crashed_at n (printed log)) before ≡ b → JobRests (printed log) n before → (b && c) ≡ false
+    crashed before c true alive rests = absurd (true≢false (sym (rests.node alive) ∙ down))
+    crashed before c false late rests = refl
 
 -- nor anywhere where no primary runs
 pub vacant_idle : (size n : ℕ) (log : Log) → IsLegalPast size (printed log) → AreInside size log → primary_of (printed log) ≡ None → job_at n log ≡ None
 vacant_idle size n log legal inside none = idle_if (printed log) n (last_job false n log)
-    (λ row is. crashed (nat_le (crashed_at n (printed log)) row.before) (nat_le (primary_crashed (printed log)) row.before) refl (job_rests size n log legal inside row is))
+    (λ row is. crashed row.before (nat_le (crashed_at n (printed log)) row.before) (nat_le (primary_crashed (printed log)) row.before) refl (job_rests size n log legal inside row is))
   where
-    crashed : {before : ℕ} (b c : Bool) → nat_le (primary_crashed (printed log)) before ≡ c → JobRests (printed log) n before → (b && c) ≡ false
-    crashed b true alive rests = absurd (rests.source alive none)
-    crashed b false late rests = and_false b
+    crashed : (before : ℕ) (b c : Bool) → nat_le (primary_crashed (printed log)) before ≡ c → JobRests (printed log) n before → (b && c) ≡ false
+    crashed before b true alive rests = absurd (rests.source alive none)
+    crashed before b false late rests = and_false b
