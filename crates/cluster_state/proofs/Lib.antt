@@ -15,11 +15,14 @@ mod Primaries
 pub mod Turning
 pub mod TicketPaths
 mod PublishPaths
+mod PointNames
 mod TicketFiles
 mod CopiedNow
 mod PublishFiles
 mod FirstNodes
 mod JobFrames
+mod Drawn
+mod Naming
 mod Wider
 pub mod FileFrames
 mod FileJobs
