@@ -1,5 +1,5 @@
 pub mod Does
 mod Rows
 mod CopyRows
-pub mod CopyDoes
+mod CopyDoes
 mod SettleStays

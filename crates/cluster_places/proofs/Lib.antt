@@ -4,5 +4,5 @@ pub mod Keys
 pub mod OutCounts
 mod Slots
 pub mod Stepping
-mod Taking
+pub mod Taking
 pub mod TicketNodes

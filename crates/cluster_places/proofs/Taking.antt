@@ -1,5 +1,5 @@
 -- Nodes that are taken out of their places and put back.
-use Rattle.std.proofs.Common.{◌≡◌, ◌≢◌, ◌≤◌, ◌==◌, ℕ, Bool, true, false, List, Some, None, Option, Vec, Global, refl, ap, ◌∙◌, sym, subst, if◌then◌else◌, length}
+use Rattle.std.proofs.Common.{◌≡◌, ◌≢◌, ◌==◌, ℕ, Bool, true, false, List, Some, None, Option, Vec, Global, refl, ap, ◌∙◌, sym, subst, if◌then◌else◌, length}
 use Rattle.std.specs.Prelude.{IfSome, IfOk, OnOk}
 use Rattle.std.proofs.Common.{Result, Ok, Err}
 use Rattle.std.specs.declared.alloc.AllocError.{AllocError}
@@ -31,9 +31,6 @@ module _ {D : Type 0} where
 
   pub replica_found : (o : Option (Place D)) (place : Place D) → o ≡ Some place → HasReplica o → HasReplica (Some place)
   replica_found o place is has = subst HasReplica is has
-
-  pub slot_still : (old mid : List (Option (Place D))) (n : ℕ) → length mid ≡ length old → IsSlot old n → IsSlot mid n
-  slot_still old mid n same slot = (slot.0, subst (λ (k : ℕ). n ≤ k) (sym same) slot.1)
 
   -- what stands in another place than the one that was taken
   pub other_still : (old mid : List (Option (Place D))) (p n : ℕ) → (p == n) ≡ false → ((m : ℕ) → place_of mid m ≡ (if p == m then None else place_of old m)) → place_of mid n ≡ place_of old n

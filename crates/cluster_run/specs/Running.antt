@@ -1,5 +1,5 @@
 -- What was done of a line, of a lane's part of a phase, and of the phases, in a cluster that goes on.
-use Rattle.std.specs.Prelude.{ℕ, ◌≡◌, ◌≤◌, List, Bool, false, ◌&&◌, take, drop, reverse}
+use Rattle.std.specs.Prelude.{ℕ, ◌≡◌, ◌≤◌, List, Bool, false, ◌&&◌, reverse}
 use Rattle.std.specs.List.{list_all}
 use Rattle.nrt_base.specs.declared.numbers.At.{At}
 use Rattle.history_entries.specs.declared.entry.History.{History}
@@ -10,7 +10,7 @@ use Rattle.script_serving.specs.Form.{is_command}
 use Rattle.script_serving.specs.Lines.{lines_under}
 use Rattle.history_book.specs.Log.{printed}
 use Rattle.lane_walks.specs.Walks.{ArePart, LineRan, LinesRan}
-use Rattle.lane_walks.specs.Phases.{LaneReady, PhaseDone, AreOfLanes}
+use Rattle.lane_walks.specs.Phases.{LaneReadyAt, PhaseDone, AreOfLanes}
 use Rattle.cluster_state.specs.Run.{Run}
 use Rattle.cluster_core.specs.Doing.{Does, IsReplied}
 use Rattle.cluster_run.specs.Built.{is_run}
@@ -61,5 +61,5 @@ pub record RunsPhase (size : ℕ) (phase : Phase) (old new : Run) : Type 0 where
 -- the first k phases were done, and the lines of the others have no entry
 pub record RunsPhases (size : ℕ) (phases : List Phase) (k : ℕ) (r : Run) : Type 0 where
   pub idle : IsAtRest size r
-  pub ready : (lane : ℕ) → 1 ≤ lane → lane ≤ 8 → LaneReady false lane phases (take k phases) (drop k phases) r.log
+  pub ready : (lane : ℕ) → 1 ≤ lane → lane ≤ 8 → LaneReadyAt false lane phases k r.log
   pub others : AreOfLanes r.log

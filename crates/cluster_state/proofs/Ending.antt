@@ -1,6 +1,6 @@
 -- A job that ends: its node switches to its point, and where its line is a copy, that has its reply.
 use Rattle.std.proofs.Common.{◌≡◌, ◌≢◌, ◌≤◌, ◌<◌, ◌&&◌, ◌==◌, ℕ, Bool, true, false, true≢false, List, [], ◌∷◌, Some, None, Option, Vec, Global, refl, ap, ◌∙◌, sym, subst, arith, if◌then◌else◌, nat_le}
-use Rattle.std.specs.Prelude.{IsSome, IsSomeAnd, IfSome, not}
+use Rattle.std.specs.Prelude.{IsSomeAnd, IfSome, not}
 use Rattle.std.proofs.lemmas.Bool.Decides.{nat_tests}
 use Rattle.std.proofs.lemmas.Bool.{eqb-true, eq-eqb}
 use Rattle.nrt_base.specs.declared.numbers.At.{At}
@@ -66,6 +66,7 @@ use Rattle.cluster_state.proofs.Naming.{FilesLast, means_more, altered_steps, fi
 use Rattle.cluster_state.proofs.FileFrames.{names_both, Both, both_of, both_each, replica_same, files_was}
 use Rattle.cluster_state.proofs.FileJobs.{PrimaryHere, ReplicaHere, JobHere, primary_here, replica_here, job_here, job_out, runs_at}
 use Rattle.cluster_state.proofs.JobMoves.{shows_kept, primary_place}
+use Rattle.cluster_state.proofs.PartPaths.{there_both, some_job}
 
 -- what is known of points that were copied whole
 abbrev pub SourcedStand : Type 0
@@ -94,10 +95,6 @@ not_publish past start at n v (Some (Settling w)) is started other = absurd (let
 not_publish past start at n v o is started other = absurd started
 
 module _ {D : Type 0} (cells : D → Cells) where
-  there_both : (log : Log) (size n : ℕ) (places : List (Option (Place D))) (shows : Shows cells log size places) (files : FilesShow cells log size places) (r : ReplicaParts D) (held : Vec Held Global) → IsNode size n
-      → place_of places n ≡ Some (record { node = Replica r; held = held }) → PlaceShows cells log n (record { node = Replica r; held = held }) × ReplicaFiles files.source cells log n r
-  there_both log size n places shows files r held node there =
-      some_at (Both cells files.source log (λ s. jobs_like places s size) n) (place_of places n) (record { node = Replica r; held = held }) there (both_of cells log size places shows files n node)
 
   there_primary : (log : Log) (size p : ℕ) (places : List (Option (Place D))) (shows : Shows cells log size places) (files : FilesShow cells log size places) (q : PrimaryParts D) (held : Vec Held Global) → IsNode size p
       → place_of places p ≡ Some (record { node = Primary q; held = held }) → PlaceShows cells log p (record { node = Primary q; held = held }) × PrimaryFiles files.source cells (λ s. jobs_like places s size) q
@@ -132,7 +129,7 @@ module _ {D : Type 0} (cells : D → Cells) where
       replica = subst HasReplica (sym here_n.at.there) tt;
     };
     may = λ q r hq hr there_q there_r.
-        let both = there_both log size n places shows files r hr node there_r in
+        let both = there_both cells log size n places shows files r hr node there_r in
         let h = job_here cells files.source log n job r is both.1 in
         let missing = none_missing places n r hr h.point there_r h.runs next in
         record {
@@ -146,10 +143,6 @@ module _ {D : Type 0} (cells : D → Cells) where
     where
       n : ℕ
       n = job.node.0
-
-      some_job : (o : Option PointJob) (j : PointJob) → o ≡ Some j → IsSome o
-      some_job None j is = absurd (cc)
-      some_job (Some k) j is = refl
 
       here_p : PrimaryHere cells files.source log (λ s. jobs_like places s size) p.0 places
       here_p = primary_here cells log size p.0 places shows files node_p (ap (λ (o : Option NodeNo). is_at o p.0) primary ∙ eq-eqb p.0 p.0 refl)
@@ -267,7 +260,7 @@ module _ {D : Type 0} (cells : D → Cells) where
       at_p = there_primary log size p.0 old shows files b.both.primary.parts b.both.primary.held node_p b.both.primary.there
 
       at_n : PlaceShows cells log n (record { node = Replica r; held = b.both.replica.held }) × ReplicaFiles files.source cells log n r
-      at_n = there_both log size n old shows files r b.both.replica.held node b.both.replica.there
+      at_n = there_both cells log size n old shows files r b.both.replica.held node b.both.replica.there
 
       here : JobHere cells files.source log n job r
       here = job_here cells files.source log n job r is at_n.1
@@ -336,7 +329,7 @@ module _ {D : Type 0} (cells : D → Cells) where
       one = shown job.at (Switched job.node job.version) ∷ log
 
       at_n : PlaceShows cells log job.node.0 (record { node = Replica b.both.replica.parts; held = b.both.replica.held }) × ReplicaFiles files.source cells log job.node.0 b.both.replica.parts
-      at_n = there_both log size job.node.0 old shows files b.both.replica.parts b.both.replica.held node b.both.replica.there
+      at_n = there_both cells log size job.node.0 old shows files b.both.replica.parts b.both.replica.held node b.both.replica.there
 
       at_p : PlaceShows cells log p.0 (record { node = Primary b.both.primary.parts; held = b.both.primary.held }) × PrimaryFiles files.source cells (λ s. jobs_like old s size) b.both.primary.parts
       at_p = there_primary log size p.0 old shows files b.both.primary.parts b.both.primary.held node_p b.both.primary.there

@@ -45,8 +45,9 @@ use Rattle.cluster_state.proofs.Frames.{some_then, some_at, was, PutsBack}
 use Rattle.cluster_state.specs.Names.{keeps_commits, NamesShow}
 use Rattle.cluster_state.proofs.Drawn.{Grows, grows_shown, file_more}
 use Rattle.cluster_state.proofs.Naming.{FilesLast, NodeSteps, node_steps, node_grows, HoldsFrom, kept_steps, means_more, means_wider, own_drawn}
-use Rattle.cluster_state.proofs.JobFrames.{same_shown, same_inner, same_then}
+use Rattle.cluster_state.proofs.JobFrames.{same_shown, same_inner, same_then, job_stays}
 use Rattle.cluster_places.proofs.OutCounts.{jobs_same}
+use Rattle.cluster_places.proofs.Taking.{moved_one}
 use Rattle.cluster_state.proofs.Wider.{widened, widened_more, shows_wider, sourced_wider, primary_kept, primary_filled}
 
 -- ---- places
@@ -89,12 +90,7 @@ module _ {D : Type 0} where
 
   -- a place that was taken out and put back
   pub put_one : (cells : D → Cells) (n : ℕ) (x : Place D) (old mid new : List (Option (Place D))) → PutsBack cells old mid new n x → MovesOne n x old new
-  put_one cells n x old mid new put = record { count = put.again ∙ put.count; there = λ m. tests m (n == m) refl }
-    where
-      tests : (m : ℕ) (b : Bool) → (n == m) ≡ b → place_of new m ≡ (if n == m then Some x else place_of old m)
-      tests m true here = (put.there m ∙ ap (λ (b : Bool). if b then Some x else place_of mid m) here) ∙ sym (ap (λ (b : Bool). if b then Some x else place_of old m) here)
-      tests m false apart = ((put.there m ∙ ap (λ (b : Bool). if b then Some x else place_of mid m) apart) ∙ (put.taken m ∙ ap (λ (b : Bool). if b then None else place_of old m) apart))
-          ∙ sym (ap (λ (b : Bool). if b then Some x else place_of old m) apart)
+  put_one cells n x old mid new put = moved_one old mid new n x put.count put.taken put.again put.there
 
   -- a node that keeps its job is counted as before
   pub wants_same : (n : ℕ) (x y : Place D) (old new : List (Option (Place D))) → MovesOne n x old new → place_of old n ≡ Some y → want_at (Some x) ≡ want_at (Some y) → (m : ℕ) → want_at (place_of new m) ≡ want_at (place_of old m)
@@ -303,21 +299,9 @@ module _ {D : Type 0} (cells : D → Cells) where
         drawn = means_wider files.source (cells q.dir) q.files (printed now) (means_more files.source (printed log) (printed now) grows files.drawn) (node_steps cells (printed log) (printed now) n (Primary p) (Primary q) grows steps named).kinds;
         names = names_one cells size (printed log) (printed now) old new n x y grows moves node there steps files.names;
         each = one_each {P = Both files.source log (λ s. jobs_like old s size)} {Q = λ m z. NodeFiles wider cells now (λ s. jobs_like new s size) m z.node} size n x old new moves (both_of log size old shows files)
-            (λ m z node apart both. node_files wider now now (λ s. jobs_like old s size) (λ s. jobs_like new s size) m z.node (λ r is. still now m) (λ s. (let is = jobs s in omega (arith, is)))
+            (λ m z node apart both. node_files wider now now (λ s. jobs_like old s size) (λ s. jobs_like new s size) m z.node (λ r is. job_stays now m) (λ s. (let is = jobs s in omega (arith, is)))
             (node_wider files.source wider log now (λ s. jobs_like old s size) m z.node (widened_more files.source (cells q.dir) q.files) (others m apart) same both.0.node_shows both.1))
             (record { held = full.held; unwritten = full.unwritten; generation = full.generation; outs = λ s. (let is = jobs s in omega (arith, is, full.outs s)) });
-      }
-    where
-      still : (l : Log) (m : ℕ) → SameJob l l m
-      still l m = record {
-        job = refl;
-        newest = omega arith;
-        documents = λ v low. refl;
-        latest = omega arith;
-        version = refl;
-        start = λ job is begun. (begun, refl);
-        flight = λ at is. (is, refl);
-        handed = λ job q is. refl;
       }
 
   -- ---- in the terms of a call

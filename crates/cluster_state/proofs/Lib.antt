@@ -1,5 +1,5 @@
 mod Growing
-pub mod Frames
+mod Frames
 mod Holding
 mod Opened
 mod Opening
@@ -13,7 +13,7 @@ mod Writing
 mod Written
 mod Primaries
 pub mod Turning
-pub mod TicketPaths
+mod TicketPaths
 mod PublishPaths
 mod PointNames
 mod TicketFiles
@@ -24,7 +24,7 @@ mod JobFrames
 mod Drawn
 mod Naming
 mod Wider
-pub mod FileFrames
+mod FileFrames
 mod FileJobs
 mod JobMoves
 mod Beginning

@@ -45,13 +45,13 @@ use Rattle.cluster_state.proofs.JobMoves.{shows_put}
 use Rattle.cluster_state.proofs.Wider.{meta_at_source}
 use Rattle.cluster_state.proofs.JobFrames.{job_stays}
 
-some_job : (o : Option PointJob) (j : PointJob) → o ≡ Some j → IsSome o
+pub some_job : (o : Option PointJob) (j : PointJob) → o ≡ Some j → IsSome o
 some_job None j is = absurd (cc)
 some_job (Some k) j is = refl
 
 module _ {D : Type 0} (cells : D → Cells) where
   -- a replica with its files
-  there_both : (log : Log) (size n : ℕ) (places : List (Option (Place D))) (shows : Shows cells log size places) (files : FilesShow cells log size places) (r : ReplicaParts D) (held : Vec Held Global) → IsNode size n
+  pub there_both : (log : Log) (size n : ℕ) (places : List (Option (Place D))) (shows : Shows cells log size places) (files : FilesShow cells log size places) (r : ReplicaParts D) (held : Vec Held Global) → IsNode size n
       → place_of places n ≡ Some (record { node = Replica r; held = held }) → PlaceShows cells log n (record { node = Replica r; held = held }) × ReplicaFiles files.source cells log n r
   there_both log size n places shows files r held node there =
       some_at (Both cells files.source log (λ s. jobs_like places s size) n) (place_of places n) (record { node = Replica r; held = held }) there (both_of cells log size places shows files n node)

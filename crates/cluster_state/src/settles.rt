@@ -81,8 +81,10 @@ impl<D: FaultDir + Drop> ClusterState<D> {
         ensures settling { IsSettling self.now.nodes (printed self.now.log) at task.new }
         ensures version { task.new.version ≡ task.old.version }
         ensures first { IfSome result (λ n. All (λ m. n.0 ≤ m.0) task.new.left.items) }
-        ensures waits { IfSome result (WaitsFor self.now.nodes (printed self.now.log) at task.new.version.0) }
-        ensures done { result ≡ None → MaySettle self.now.nodes (printed self.now.log) at task.new.version }
+        ensures waits { IfSome result
+            (WaitsFor self.now.nodes (printed self.now.log) at task.new.version.0) }
+        ensures done { result ≡ None
+            → MaySettle self.now.nodes (printed self.now.log) at task.new.version }
     {
         self.book.is_legal();
         while let Some(n) = task.left.first() {

@@ -1,9 +1,9 @@
 pub mod LineLaws
 pub mod ReignLaws
 pub mod OpenLaws
-pub mod CopyLaws
+mod CopyLaws
 pub mod FreshLaws
-pub mod FoundLaws
+mod FoundLaws
 pub mod JobLaws
 mod BookLemmas
 mod Weaving

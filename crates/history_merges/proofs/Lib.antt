@@ -1,2 +1,2 @@
-pub mod MergeRowLemmas
-pub mod MergeFrames
+mod MergeRowLemmas
+mod MergeFrames

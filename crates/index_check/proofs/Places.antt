@@ -14,7 +14,7 @@ get-take (d ∷ docs) (suc i) (suc n) lt = get-take docs i n (omega (arith, lt))
 not_before : (found docs : List Doc) (a b : ℕ) → DifferFirst found docs a → DifferFirst found docs b → a < b → ⊥
 not_before found docs a b x y lt = x.differ (sym (get-take found a b lt) ∙ ap (λ (ds : List Doc). slice_get ds a) y.same ∙ get-take docs a b lt)
 
-order : (m n : ℕ) → (m < n) ⊎ ((m ≡ n) ⊎ (n < m))
+pub order : (m n : ℕ) → (m < n) ⊎ ((m ≡ n) ⊎ (n < m))
 order m n = grind arith
 
 -- documents differ first at one place

@@ -1,5 +1,5 @@
 -- Live rows, and the first of them that has the key of one before it.
-use Rattle.std.proofs.Common.{◌≡◌, ◌⊎◌, ℕ, zero, suc, ◌+◌, ◌<◌, ◌≤◌, Bool, true, false, cond, List, [], ◌∷◌, ◌++◌, length, get_or, take, drop, refl, sym, ap, subst, ◌∙◌, arith, inl, inr, true≢false}
+use Rattle.std.proofs.Common.{◌≡◌, ℕ, zero, suc, ◌+◌, ◌<◌, ◌≤◌, Bool, true, false, cond, List, [], ◌∷◌, ◌++◌, length, get_or, take, drop, refl, sym, ap, subst, ◌∙◌, arith, inl, inr, true≢false}
 use Rattle.std.specs.Prelude.{◌≢◌, ◌||◌, not}
 use Rattle.std.specs.Str.{bytes_eq}
 use Rattle.std.specs.List.{AllPairs, Contains, list_any, IsDistinct}
@@ -15,6 +15,7 @@ use Rattle.documents.specs.Documents.{key_cmp}
 use Rattle.nrt_base.proofs.Plain.{cons_parts}
 use Rattle.index_check.specs.declared.rows.LiveRow.{LiveRow}
 use Rattle.index_check.specs.Rows.{keys_of, HaveOwnKeys, IsFirstTwin}
+use Rattle.index_check.proofs.Places.{order}
 
 -- ---- lists
 get_or-front : {X : Type 0} (xs ys : List X) (i : ℕ) (d : X) → i < length xs → get_or (xs ++ ys) i d ≡ get_or xs i d
@@ -48,9 +49,6 @@ same_place [] [] a b y w e len = (cons_parts a b y w e).0
 same_place [] (c ∷ z) a b y w e len = absurd (omega (arith, len))
 same_place (k ∷ x) [] a b y w e len = absurd (omega (arith, len))
 same_place (k ∷ x) (c ∷ z) a b y w e len = same_place x z a b y w (cons_parts k c (x ++ a ∷ y) (z ++ b ∷ w) e).1 (omega (arith, len))
-
-order : (m n : ℕ) → (m < n) ⊎ ((m ≡ n) ⊎ (n < m))
-order m n = grind arith
 
 -- ---- the first twin is one
 pub twin_not_own : (rows : List LiveRow) (twin : LiveRow) → IsFirstTwin rows twin → HaveOwnKeys rows → ⊥

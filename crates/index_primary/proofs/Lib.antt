@@ -1,15 +1,15 @@
-pub mod Holding
-pub mod Keeping
-pub mod Writing
-pub mod Publishing
-pub mod Starting
+mod Holding
+mod Keeping
+mod Writing
+mod Publishing
+mod Starting
 pub mod StateLemmas
-pub mod Opening
-pub mod NextNames
-pub mod NextRecords
+mod Opening
+mod NextNames
+mod NextRecords
 pub mod Framing
-pub mod Turns
-pub mod Joining
-pub mod Working
+mod Turns
+mod Joining
+mod Working
 pub mod Callers
-pub mod NewFiles
+mod NewFiles

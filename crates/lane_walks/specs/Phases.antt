@@ -1,5 +1,5 @@
 -- How far a lane has come in a script of phases, and when all lanes together have served it.
-use Rattle.std.specs.Prelude.{ℕ, ◌≡◌, ◌≤◌, ◌||◌, ◌==◌, List, [], ◌∷◌, Bool, true, ⊤, IsTrue, reverse}
+use Rattle.std.specs.Prelude.{ℕ, ◌≡◌, ◌≤◌, ◌||◌, ◌==◌, List, [], ◌∷◌, Bool, true, ⊤, IsTrue, take, drop, reverse}
 use Rattle.std.specs.List.{AllByRecursion, flat_map, list_all}
 use Rattle.history_entries.specs.declared.entry.History.{History}
 use Rattle.history_entries.specs.Nodes.{Past}
@@ -51,6 +51,10 @@ pub record LaneReady (logged : Bool) (lane : ℕ) (phases before rest : List Pha
   pub answered : all_answered (lines_in before) (printed log) ≡ true
   pub fresh : AreUnbegun (lane_lines lane rest) (printed log)
   pub faults : FaultsFit logged log
+
+-- the lane is ready for what is behind the first k phases
+abbrev pub LaneReadyAt : Bool → ℕ → List Phase → ℕ → Log → Type 0
+LaneReadyAt logged lane phases k log = LaneReady logged lane phases (take k phases) (drop k phases) log
 
 -- the lane did its part of a phase, and has seen that all lanes did theirs
 pub record PhaseDone (logged : Bool) (lane : ℕ) (phase : Phase) (old new : Log) : Type 0 where

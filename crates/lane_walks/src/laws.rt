@@ -1,7 +1,7 @@
 //! Laws of lanes: from what one call adds to the script that all lanes served. Each is a call that does nothing, and what it
 //! ensures is the law. Entries stand newest first.
 
-ghost use Rattle.std.specs.Prelude.{◌≡◌, ℕ, ◌≤◌, ◌+◌, [], true, false, take, drop, length, slice_get, Some};
+ghost use Rattle.std.specs.Prelude.{◌≡◌, ℕ, ◌≤◌, ◌+◌, [], true, false, length, slice_get, Some};
 ghost use Rattle.history_book.specs.Log.{FaultsFollow, printed};
 ghost use Rattle.history_entries.specs.Lines.{entries_of_line};
 ghost use Rattle.script_serving.specs.Form.{is_phase, IsInForm};
@@ -9,7 +9,7 @@ ghost use Rattle.script_serving.specs.Lines.{lines_under};
 ghost use Rattle.script_serving.specs.Serves.{Serves};
 ghost use Rattle.lane_walks.specs.Owes.{GoesByLine, GoesByTask, FaultsFit};
 ghost use Rattle.lane_walks.specs.Walks.{GrowsByLane, GrowsByOthers, LineStays, LineGoes, LineRan, StillFresh, AreUnbegun, ArePart, Going, LinesRan};
-ghost use Rattle.lane_walks.specs.Phases.{ArePhasesInForm, LaneServes, LaneReady, PhaseDone, HasRanPart, LanesEnd, IsHistoryOf};
+ghost use Rattle.lane_walks.specs.Phases.{ArePhasesInForm, LaneServes, LaneReady, LaneReadyAt, PhaseDone, HasRanPart, LanesEnd, IsHistoryOf};
 
 use history_book::Mark;
 use history_entries::History;
@@ -169,7 +169,7 @@ pub fn part_may_begin(
 )
     requires form { ArePhasesInForm phases.now }
     requires phase { slice_get phases.now k ≡ Some phase.now }
-    requires ready { LaneReady logged lane phases.now (take k phases.now) (drop k phases.now) log.now }
+    requires ready { LaneReadyAt logged lane phases.now k log.now }
     ensures part { ArePart lane (lines_under lane phase.now.lanes) }
     ensures fresh { AreUnbegun (lines_under lane phase.now.lanes) (printed log.now) }
 {}
@@ -202,9 +202,9 @@ pub fn phase_follows_phase(
 )
     requires form { ArePhasesInForm phases.now }
     requires phase { slice_get phases.now k ≡ Some phase.now }
-    requires ready { LaneReady logged lane phases.now (take k phases.now) (drop k phases.now) old.now }
+    requires ready { LaneReadyAt logged lane phases.now k old.now }
     requires done { PhaseDone logged lane phase.now old.now new.now }
-    ensures { LaneReady logged lane phases.now (take (k + 1) phases.now) (drop (k + 1) phases.now) new.now }
+    ensures { LaneReadyAt logged lane phases.now (k + 1) new.now }
 {}
 
 /// What others do leaves what a lane has served.

@@ -1,7 +1,7 @@
 -- What tests know of a primary, over its calls.
 use Rattle.std.proofs.Common.{◌≡◌, ◌<◌, ◌==◌, ℕ, Bool, true, false, if◌then◌else◌, List, [], ◌∷◌, ◌++◌, map, length, Option, Some, None, is_some, refl, sym, ap, subst, ◌∙◌, arith, All, true≢false, slice_get}
 use Rattle.std.specs.List.{remove}
-use Rattle.std.proofs.lemmas.Bool.Decides.{nat_tests}
+use Rattle.std.proofs.lemmas.Bool.{eq-eqb}
 use Rattle.disk_model.specs.Disk.{Name, Content, Cells, may_leave, same}
 use Rattle.disk_memory.specs.Held.{Held, untouched, cell}
 use Rattle.disk_memory.specs.Table.{Table, cells_of}
@@ -70,16 +70,13 @@ number_of : Option Ticket → ℕ
 number_of None = 0
 number_of (Some t) = t.number
 
-test_of : (m n : ℕ) → m ≡ n → (m == n) ≡ true
-test_of m n e = grind (arith, nat_tests, e)
-
 -- the first ticket that was given out is open, and closed it leaves the others
 pub first_closed : (ts : List (Open Shown)) (given : List Ticket) (ticket : Ticket) → open_numbers ts ≡ ticket_numbers given → Some ticket ≡ slice_get given 0
     → (is_some (ticket_at ticket.number ts) ≡ true) × (open_numbers (tickets_without ticket.number ts) ≡ ticket_numbers (remove given 0))
 unfolding rest_of head_of number_of
 first_closed ts [] ticket same first = absurd (true≢false (ap (λ (o : Option Ticket). is_some o) first))
 first_closed [] (g ∷ gs) ticket same first = absurd (omega (arith, ap (λ (l : List ℕ). length l) same))
-first_closed (o ∷ os) (g ∷ gs) ticket same first = by (o.number == ticket.number) (test_of o.number ticket.number (ap head_of same ∙ sym (ap number_of first)))
+first_closed (o ∷ os) (g ∷ gs) ticket same first = by (o.number == ticket.number) (eq-eqb o.number ticket.number (ap head_of same ∙ sym (ap number_of first)))
   where
     by : (b : Bool) → b ≡ true → (is_some (if b then Some o else ticket_at ticket.number os) ≡ true) × (open_numbers (if b then os else o ∷ tickets_without ticket.number os) ≡ ticket_numbers gs)
     by true e = (refl, ap rest_of same)

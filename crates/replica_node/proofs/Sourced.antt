@@ -1,5 +1,5 @@
 -- A job whose files read as at a source.
-use Rattle.std.proofs.Common.{◌≡◌, ℕ, suc, ◌<◌, List, [], ◌∷◌, ◌++◌, Some, refl, sym, ap, subst, ◌∙◌, arith}
+use Rattle.std.proofs.Common.{◌≡◌, ℕ, suc, ◌<◌, List, [], ◌∷◌, ◌++◌, refl, sym, ap, subst, ◌∙◌, arith}
 use Rattle.std.specs.Prelude.{Contains}
 use Rattle.std.specs.List.{All}
 use Rattle.std.proofs.lemmas.List.Elements.{All-contains}
@@ -18,12 +18,10 @@ use Rattle.copy_job.specs.declared.fault.JobFault.{JobFault}
 use Rattle.copy_job.specs.declared.fault.JobFault.TheVariants.{Memory, LinkFailed, Damaged, DirFailed, NameClash}
 use Rattle.copy_job.specs.Jobs.{Job, reads_under}
 use Rattle.replica_opening.specs.Known.{IsLasting, HasMeta}
+use Rattle.replica_opening.proofs.Clearings.{same_bytes}
 use Rattle.replica_node.specs.Jobs.{IsStartingFault}
 use Rattle.replica_node.specs.Sources.{CopiesFrom}
 use Rattle.replica_node.proofs.Advances.{file_counted}
-
-same_bytes : (x : Content) (a b : List ℕ) → x ≡ Some a → x ≡ Some b → a ≡ b
-same_bytes x a b e f = cc
 
 -- what reads under a name has one metadata
 has_one : (reads other : Name → Content) (q : Name) (m n : FileMetaData) → reads q ≡ other q → HasMeta reads q m → HasMeta other q n → m ≡ n

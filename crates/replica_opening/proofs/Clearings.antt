@@ -36,7 +36,7 @@ use Rattle.replica_opening.specs.Opened.{IsSettledAt, IsSettledOn, IsNodeOpened,
 some_none : (x : Content) (bytes : List ℕ) → x ≡ Some bytes → x ≡ None → ⊥
 some_none x bytes a b = cc
 
-same_bytes : (x : Content) (a b : List ℕ) → x ≡ Some a → x ≡ Some b → a ≡ b
+pub same_bytes : (x : Content) (a b : List ℕ) → x ≡ Some a → x ≡ Some b → a ≡ b
 same_bytes x a b e f = cc
 
 not_above : (image : Image) (m n : ℕ) (x y : Infos) → ShowsCommit image m x → ShowsCommit image n y → m < n → ⊥

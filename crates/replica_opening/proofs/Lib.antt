@@ -1,4 +1,4 @@
-mod Clearings
+pub mod Clearings
 pub mod Metas
 pub mod Openings
 mod Placed

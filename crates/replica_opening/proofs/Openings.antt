@@ -15,7 +15,7 @@ use Rattle.segment_infos.proofs.SetLaws.{files_plain}
 use Rattle.file_deleter.specs.Holdings.{Holdings, count_of, times, is_due, is_known, IsThere, AreThere, IsWhole, count_in}
 use Rattle.file_deleter.specs.Moves.{HoldsFiles}
 use Rattle.file_deleter.proofs.NameLemmas.{all_there, none_missing, among_times, not_among_times, among_is, times-append, same_self}
-use Rattle.commit_steps.specs.Found.{ShowsNothing, ShowsCommit}
+use Rattle.commit_steps.specs.Found.{ShowsNothing}
 use Rattle.commit_steps.specs.Recovery.{IsWholeCommit}
 use Rattle.commit_steps.specs.Book.{book_names, IsBookSound}
 use Rattle.commit_steps.proofs.Safe.{among_of, contains_of}
@@ -202,7 +202,7 @@ taken cells found listed slice t s same listed_is f is point tickets =
     }
 
 -- ---- what an opening without a commit finds
-ascending_none : IsStrictlySortedBy (slice_cmp nat_cmp) []
+pub ascending_none : IsStrictlySortedBy (slice_cmp nat_cmp) []
 unfolding IsStrictlySortedBy
 ascending_none = tt
 

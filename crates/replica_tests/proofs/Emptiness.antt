@@ -25,6 +25,7 @@ use Rattle.replica_node.specs.declared.job.PointJob.{PointJob}
 use Rattle.replica_node.specs.declared.parts.Parts.{Parts}
 use Rattle.replica_node.specs.Jobs.{job_on, IsPointJob}
 use Rattle.replica_node.specs.Replica.{IsWanted}
+use Rattle.replica_opening.proofs.Openings.{ascending_none}
 use Rattle.replica_tests.specs.States.{IsEmptyState}
 
 pub empty_spelled : (infos : Infos) → 0 < infos.generation.0 → 0 < infos.version.0 → infos.segs ≡ [] → CanSpell infos
@@ -45,21 +46,17 @@ no_files infos e = record {
   named = λ q. (λ c. absurd (omega (arith, c.1)), λ c. let n : Contains (flat_map files_of_segment []) q = subst (λ (rs : List SegRecord). Contains (flat_map files_of_segment rs) q) e c in absurd (omega (arith, n.1)));
 }
 
-nothing_ascends : IsStrictlySortedBy (slice_cmp nat_cmp) []
-unfolding IsStrictlySortedBy
-nothing_ascends = tt
-
 pub empty_made : (infos : Infos) (state : CopyState) → infos.segs ≡ [] → IsInfosFile infos state.infos → state.files ≡ [] → state.completed ≡ [] → infos.generation ≡ state.primary_gen → infos.version ≡ state.version → IsEmptyState state.primary_gen state.version state
 empty_made infos state none spelled files completed generation version = record {
   copy = record {
     infos = infos;
     spelled = spelled;
     files = record {
-      ascending = subst (λ (fs : List (Name × FileMetaData)). IsStrictlySortedBy (slice_cmp nat_cmp) (meta_names fs)) (sym files) nothing_ascends;
+      ascending = subst (λ (fs : List (Name × FileMetaData)). IsStrictlySortedBy (slice_cmp nat_cmp) (meta_names fs)) (sym files) ascending_none;
       short = subst (λ (fs : List (Name × FileMetaData)). All (λ q. length q ≤ 46) (meta_names fs)) (sym files) (All-nil (λ q. length q ≤ 46));
     };
     completed = record {
-      ascending = subst (IsStrictlySortedBy (slice_cmp nat_cmp)) (sym completed) nothing_ascends;
+      ascending = subst (IsStrictlySortedBy (slice_cmp nat_cmp)) (sym completed) ascending_none;
       short = subst (All (λ q. length q ≤ 46)) (sym completed) (All-nil (λ q. length q ≤ 46));
     };
   };
