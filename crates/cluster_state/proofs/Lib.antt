@@ -16,6 +16,7 @@ pub mod Turning
 mod TicketPaths
 mod PublishPaths
 mod PointNames
+mod Listing
 mod TicketFiles
 mod CopiedNow
 mod PublishFiles

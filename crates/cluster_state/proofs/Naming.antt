@@ -1,6 +1,6 @@
 -- What calls leave of the names that stand at a node, and of what names mean.
 use Rattle.std.proofs.Common.{◌≡◌, ◌⊎◌, ◌<◌, ◌≤◌, ◌+◌, ◌*◌, ◌^◌, inl, inr, nat_lt, ℕ, zero, suc, get_or, Bool, true, false, List, [], ◌∷◌, ◌++◌, Some, None, Option, is_some, length, refl, ap, ◌∙◌, sym, subst, arith, if◌then◌else◌}
-use Rattle.std.specs.Prelude.{IfSome}
+use Rattle.std.specs.Prelude.{IfSome, ⊤}
 use Rattle.std.proofs.lemmas.Bool.{lt-ltb}
 use Rattle.std.specs.List.{All, Contains, flat_map}
 use Rattle.std.specs.Option.{option_or}
@@ -59,11 +59,11 @@ named_in names q some = contains_of names q (among_is names q ∙ lt-ltb 0 (time
 -- ---- one node
 
 -- what a call makes of the names at a node: what appears may stand there, and what is held now was held, or is named or drawn
-pub record StepsNames (now : Past) (before after : Cells) (was is : Option Commit) (old new : List (Open Shown)) (gone loose : List ℕ) : Type 0 where
+pub record StepsNames (now : Past) (before after : Cells) (was is : Option Commit) (old new : List (Open Shown)) (gone left : List ℕ) : Type 0 where
   pub appears : AppearsOnly (MayHaveName now) before after
   pub last : is ≡ was
   pub tickets : (o : Open Shown) → Contains new o → Contains old o ⊎ NamesDocuments o.point
-  pub loose : (seg : ℕ) → Contains loose seg → Contains gone seg ⊎ (is_drawn seg now ≡ true)
+  pub loose : (seg : ℕ) → Contains left seg → Contains gone seg ⊎ (is_drawn seg now ≡ true)
 
 pub names_step : (past now : Past) (n : ℕ) (before after : Cells) (was is : Option Commit) (old new : List (Open Shown)) (gone loose : List ℕ) → Grows past now → StepsNames now before after was is old new gone loose
     → AreNamesShown past n before was old gone → AreNamesShown now n after is new loose

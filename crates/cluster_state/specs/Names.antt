@@ -32,10 +32,10 @@ NamesDocuments point = 0 < length point.readers → list_any is_documents_name p
 
 -- Each name that stands in the directory of a running node is one that a file may have, the point of each open ticket names its
 -- documents, each number that was drawn for segments to come is one that the past shows, and where a commit was acknowledged there is one.
-pub record AreNamesShown (past : Past) (n : ℕ) (cells : Cells) (last : Option Commit) (tickets : List (Open Shown)) (loose : List ℕ) : Type 0 where
+pub record AreNamesShown (past : Past) (n : ℕ) (cells : Cells) (last : Option Commit) (opens : List (Open Shown)) (numbers : List ℕ) : Type 0 where
   pub kinds : (q : Name) → IsThere cells q → MayHaveName past q
-  pub tickets : (o : Open Shown) → Contains tickets o → NamesDocuments o.point
-  pub loose : (seg : ℕ) → Contains loose seg → is_drawn seg past ≡ true
+  pub tickets : (o : Open Shown) → Contains opens o → NamesDocuments o.point
+  pub loose : (seg : ℕ) → Contains numbers seg → is_drawn seg past ≡ true
   pub committed : has_committed n past ≡ true → is_some last ≡ true
 
 module _ {D : Type 0} where
