@@ -1,6 +1,6 @@
 -- The names of a node's directory, told in a line, keep the rule of their kind.
 use Rattle.std.proofs.Common.{◌≡◌, ◌≢◌, ◌<◌, ◌+◌, ◌&&◌, ◌||◌, ◌==◌, nat_lt, ℕ, zero, suc, Bool, true, false, true≢false, List, [], ◌∷◌, ◌++◌, Some, None, Option, is_some, length, get_or, refl, ap, ◌∙◌, sym, subst, arith, if◌then◌else◌}
-use Rattle.std.specs.Prelude.{IsSomeAnd, IfSome, ⊤}
+use Rattle.std.specs.Prelude.{IsSomeAnd, IfSome}
 use Rattle.std.specs.List.{All, Contains, list_any}
 use Rattle.std.specs.List.Sorted.{IsStrictlySortedBy}
 use Rattle.std.specs.Cmp.Lexicographic.{slice_cmp}
@@ -217,7 +217,7 @@ module _ {D : Type 0} (cells : D → Cells) where
   running_place log n None running shows = absurd shows
   running_place log n (Some x) running shows = by x.node shows.node_shows
     where
-      by : (y : Node D) → NodeShows cells log n y → elim y [ Primary p ↦ ⊤ | Replica r ↦ ⊤ | Down d ↦ ⊥ ]
+      by : (y : Node D) → NodeShows cells log n y → HasRunning (Some (record { node = y; held = x.held }))
       by (Primary p) shows = tt
       by (Replica r) shows = tt
       by (Down d) shows = absurd (true≢false (sym running ∙ shows.down))
