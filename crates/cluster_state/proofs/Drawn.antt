@@ -1,24 +1,20 @@
 -- Names that files may have stay such: what a generation has drawn becomes no less.
-use Rattle.std.proofs.Common.{◌≡◌, ◌≤◌, ◌<◌, ◌+◌, ◌^◌, ◌==◌, ◌||◌, inl, inr, nat_lt, ℕ, Bool, true, false, true≢false, List, [], ◌∷◌, refl, ap, ◌∙◌, sym, subst, arith, if◌then◌else◌}
-use Rattle.std.specs.Prelude.{not}
+use Rattle.std.proofs.Common.{◌≡◌, ◌≤◌, ◌<◌, ◌+◌, ◌^◌, ◌==◌, inl, inr, nat_lt, ℕ, Bool, true, false, true≢false, List, [], ◌∷◌, refl, ap, ◌∙◌, sym, subst, arith, if◌then◌else◌}
 use Rattle.std.proofs.lemmas.Bool.{eqb-true, eq-eqb}
 use Rattle.std.proofs.lemmas.Bool.Decides.{nat_tests}
 use Rattle.nrt_base.specs.SegNumbers.{segment_number, segment_place, segment_generation, segments_of_generation}
 use Rattle.nrt_base.specs.declared.numbers.At.{At}
 use Rattle.history_entries.specs.declared.entry.Event.{Event}
-use Rattle.history_entries.specs.declared.entry.Event.TheVariants.{Publishing, Merging, Promoted, Committed, Reopened}
+use Rattle.history_entries.specs.declared.entry.Event.TheVariants.{Publishing, Merging, Promoted}
 use Rattle.history_entries.specs.Nodes.{Past, generation_of}
 use Rattle.history_entries.specs.Points.{names_drawn, names_drawn_in, is_drawn, cut_has_put, IsDrawnFile}
-use Rattle.history_entries.specs.Commits.{has_committed}
 use Rattle.history_entries.specs.Rules.{MayHaveName}
 use Rattle.history_entries.specs.Legal.{KeepsRule, IsLegalPast}
 use Rattle.disk_model.specs.Disk.{Name}
 use Rattle.file_names.specs.Names.{temp_name_of}
 use Rattle.replica_opening.specs.Known.{IsLasting}
 use Rattle.history_tables.proofs.RowLemmas.{by_test}
-use Rattle.cluster_state.specs.Names.{keeps_commits}
 use Rattle.cluster_state.proofs.Growing.{generation_more}
-use Rattle.cluster_state.proofs.JobFrames.{not_false}
 
 -- a generation that is not there yet has drawn nothing
 none_drawn : (size : ℕ) (g : ℕ) (past : Past) → IsLegalPast size past → generation_of past < g → names_drawn_in g past ≡ 0
@@ -79,31 +75,18 @@ just_drawn past at put low =
 
 -- ---- what grows
 
-committed_same : (past : Past) (at : At) (e : Event) (n : ℕ) → keeps_commits e n ≡ true → has_committed n (record { at = at; event = e } ∷ past) ≡ true → has_committed n past ≡ true
-committed_same past at (Committed m w) n keeps is = subst (λ (b : Bool). (if b then true else has_committed n past) ≡ true) (not_false (m.0 == n) keeps) is
-committed_same past at (Reopened m w) n keeps is = go (m.0 == n) (not_false (m.0 == n) keeps) is
-  where
-    go : (b : Bool) → b ≡ false → (if b then has_committed n past || nat_lt 1 w.0 else has_committed n past) ≡ true → has_committed n past ≡ true
-    go true none got = absurd (true≢false none)
-    go false none got = got
-committed_same past at e n keeps is = is
-
--- from one past to a later one: numbers that were drawn stay so, and no commit was acknowledged
+-- from one past to a later one numbers that were drawn stay so
 pub record Grows (past now : Past) : Type 0 where
   pub drawn : (seg : ℕ) → is_drawn seg past ≡ true → is_drawn seg now ≡ true
-  pub commits : (n : ℕ) → has_committed n now ≡ true → has_committed n past ≡ true
 
 pub grows_none : (past : Past) → Grows past past
-grows_none past = record { drawn = λ seg is. is; commits = λ n is. is }
+grows_none past = record { drawn = λ seg is. is }
 
 pub grows_then : (past mid now : Past) → Grows past mid → Grows mid now → Grows past now
-grows_then past mid now a b = record { drawn = λ seg is. b.drawn seg (a.drawn seg is); commits = λ n is. a.commits n (b.commits n is) }
+grows_then past mid now a b = record { drawn = λ seg is. b.drawn seg (a.drawn seg is) }
 
-pub grows_shown : (size : ℕ) (past : Past) (at : At) (e : Event) → IsLegalPast size past → KeepsRule size past at e → ((m : ℕ) → keeps_commits e m ≡ true) → Grows past (record { at = at; event = e } ∷ past)
-grows_shown size past at e legal rule keeps = record {
-  drawn = λ seg is. is_drawn_more size seg past at e legal rule is;
-  commits = λ n is. committed_same past at e n (keeps n) is;
-}
+pub grows_shown : (size : ℕ) (past : Past) (at : At) (e : Event) → IsLegalPast size past → KeepsRule size past at e → Grows past (record { at = at; event = e } ∷ past)
+grows_shown size past at e legal rule = record { drawn = λ seg is. is_drawn_more size seg past at e legal rule is }
 
 -- a name of a drawn file stays one
 pub file_more : (past now : Past) (q : Name) → Grows past now → IsDrawnFile past q → IsDrawnFile now q

@@ -49,6 +49,7 @@ use Rattle.cluster_places.specs.Outs.{want_of, jobs_like, states_like}
 use Rattle.cluster_state.specs.Files.{CopyShows, JobShows, IsJobFor, ReplicaFiles, PrimaryFiles, NodeFiles, FilesShow}
 use Rattle.cluster_places.specs.JobChanges.{HasJob, HasNextFile, IsNextFile}
 use Rattle.cluster_places.specs.JobPlaces.{ReadsIn}
+use Rattle.cluster_state.proofs.Disks.{commits_alone, disk_moved, disk_same, disks_kept}
 use Rattle.cluster_state.proofs.Frames.{some_at}
 use Rattle.cluster_state.proofs.JobFrames.{same_inner}
 use Rattle.cluster_places.proofs.OutCounts.{jobs_same, names_out}
@@ -131,7 +132,7 @@ module _ {D : Type 0} (cells : D → Cells) where
   handed_replica source log n job r line name bytes is reads was = record {
     sourced = was.sourced;
     job = subst (λ (o : Option Job). JobShows source now n.0 o r.job) (sym same_job_at) (shows (job_at n.0 log) r.job is was.job);
-    few = was.few;
+    point = record { known = was.point.known; generation = was.point.generation; stands = was.point.stands };
     flight = λ a flies. subst (λ (o : Option Job). IsSomeAnd o (IsJobFor a (newest_version (printed log)))) (sym same_job_at) (was.flight a flies);
   }
     where
@@ -153,6 +154,7 @@ module _ {D : Type 0} (cells : D → Cells) where
         latest = s.latest;
         begun = s.begun;
         behind = s.behind;
+        generation = s.generation;
         metas = s.metas;
         stands = s.stands;
         handed = λ q b out. given q b (is_job job.at n.0 job.number (Some job.at) n.0 job.number && same name q) refl out;
@@ -187,6 +189,8 @@ module _ {D : Type 0} (cells : D → Cells) where
           (λ m z node apart both. other_node m z.node (ap (λ (o : Option NodeNo). is_at o m) primary ∙ apart) both.0.node_shows both.1)
           (primary_kept cells files.source jobs count b.at.parts b.primary b.alters.files (λ s. (let low = at_p.1.outs s in let same_count = counted s in
           let here : states_like s b.primary.states ≡ states_like s b.at.parts.states = ap (states_like s) b.states in omega (arith, low, same_count, here))) at_p.1);
+      disks = disks_kept cells files.source files.source log now size old new (λ name bytes is. is)
+          (disk_moved p.0 x (record { node = Primary b.at.parts; held = b.at.held }) old new b.moves b.at.there (disk_same b.at.parts.commits b.primary.commits b.alters.files.commits)) (λ m. commits_alone (printed log) m) files.disks;
     },
   )
     where

@@ -25,6 +25,7 @@ mod JobFrames
 mod Drawn
 mod Naming
 mod Wider
+mod Disks
 mod FileFrames
 mod FileJobs
 mod JobMoves

@@ -13,7 +13,7 @@ use Rattle.nrt_base.specs.declared.numbers.At.{At}
 use Rattle.nrt_base.specs.declared.numbers.NodeNo.{NodeNo}
 use Rattle.nrt_base.specs.declared.doc.Doc.{Doc}
 use Rattle.file_names.specs.Names.{is_ascending, is_less, is_commit_name, is_documents_name}
-use Rattle.disk_model.specs.Disk.{Name, Cells, is_among, same}
+use Rattle.disk_model.specs.Disk.{Name, Content, Cells, is_among, same}
 use Rattle.disk_model.proofs.CellLemmas.{same_true}
 use Rattle.file_deleter.specs.Holdings.{Holdings, IsThere, IsWhole, count_of, times}
 use Rattle.file_deleter.proofs.Keeping.{known_counted}
@@ -38,6 +38,7 @@ use Rattle.history_entries.specs.declared.entry.Event.TheVariants.{Files}
 use Rattle.history_entries.specs.Nodes.{Past, IsNode, is_running, version_of}
 use Rattle.history_entries.specs.Points.{documents_at}
 use Rattle.history_entries.specs.Tickets.{open_ticket, IsTicketOf}
+use Rattle.history_entries.specs.Commits.{has_committed}
 use Rattle.history_entries.specs.Faults.{has_met_fault}
 use Rattle.history_entries.specs.Rules.{MayHaveName, MayListFiles, has_documents}
 use Rattle.history_entries.specs.Legal.{KeepsRule}
@@ -48,11 +49,12 @@ use Rattle.cluster_places.specs.declared.nodes.Node.{Node}
 use Rattle.cluster_places.specs.declared.nodes.Node.TheVariants.{Primary, Replica, Down}
 use Rattle.cluster_places.specs.declared.nodes.Place.{Place}
 use Rattle.cluster_places.specs.Held.{held_number}
-use Rattle.cluster_places.specs.Places.{place_of, tickets_of, HasRunning}
+use Rattle.cluster_places.specs.Places.{place_of, tickets_of, disk_of, disk_at, HasRunning}
 use Rattle.cluster_places.specs.Listed.{dir_of, AreNamesOf, AreNamesAt}
 use Rattle.cluster_state.specs.Run.{Run}
 use Rattle.cluster_state.specs.State.{StandForVersion, IsPointAt, HoldsTickets, ticket_key, NodeShows, PlaceShows, Shows}
 use Rattle.cluster_state.specs.Names.{NamesDocuments, AreNamesShown, NamesShow}
+use Rattle.cluster_state.specs.Disks.{DiskShows}
 use Rattle.cluster_state.specs.Files.{FilesShow}
 use Rattle.cluster_state.proofs.Frames.{was}
 use Rattle.cluster_state.proofs.FileFrames.{files_was}
@@ -139,15 +141,15 @@ module _ (past : Past) (cells : Cells) (names : List Name) (told : AreNamesOf ce
       let f = found is_documents_name point.names (named (some_segments (documents_at past v) point.readers stands.documents docs)) in
       listed is_documents_name names f.0 (told.told f.0 ∙ stand f.0 (among_times point.names f.0 (among_of point.names f.0 f.2))) f.1
 
-  may_list : (size : ℕ) (at : At) (n : NodeNo) (s : Searchers Shown) (held : List Held) (last : Option Commit) (loose : List ℕ) → IsNode size n.0 → is_running n.0 past ≡ true → AreNamesShown past n.0 cells last s.tickets loose → NamesDocuments s.point
+  may_list : (size : ℕ) (at : At) (n : NodeNo) (s : Searchers Shown) (held : List Held) (loose : List ℕ) → IsNode size n.0 → is_running n.0 past ≡ true → AreNamesShown past cells s.tickets loose → NamesDocuments s.point
       → IsPointAt past (version_of n.0 past) s.point → HoldsTickets past n.0 s.tickets held → ((q : Name) → 0 < times (searcher_names s) q → IsThere cells q)
-      → (is_some last ≡ true → (q : Name) × (is_commit_name q ≡ true) × IsThere cells q) → has_met_fault at past ≡ false → MayListFiles size past at n names
-  may_list size at n s held last loose node running shown point here holds stand made spared = record {
+      → (has_committed n.0 past ≡ true → (q : Name) × (is_commit_name q ≡ true) × IsThere cells q) → has_met_fault at past ≡ false → MayListFiles size past at n names
+  may_list size at n s held loose node running shown point here holds stand made spared = record {
     node = node;
     running = running;
     ordered = ascends names told.ascending;
     kinds = among_all (MayHaveName past) names (λ q is. shown.kinds q (sym (told.told q) ∙ is));
-    committed = λ is. let q = made (shown.committed is) in listed is_commit_name names q.0 (told.told q.0 ∙ q.2) q.1;
+    committed = λ is. let q = made is in listed is_commit_name names q.0 (told.told q.0 ∙ q.2) q.1;
     searched = λ docs. point_told s.point (version_of n.0 past) (λ q some. stand q (let both : times (searcher_names s) q ≡ times s.point.names q + times (ticket_names s.tickets) q = times-append s.point.names (ticket_names s.tickets) q in omega (arith, both, some)))
         point here.stands docs;
     held = λ lane t v is docs. ticket lane t v (held_number held (ticket_key lane t)) refl (holds.opened lane t v is) docs;
@@ -194,24 +196,24 @@ commit_there cells holdings others book node some = by book.last refl node.sound
     by (Some c) is stays some = (own_name c, own_is c stays.commit, node.whole.names (own_name c) ∙ known_counted holdings (own_name c) (held c is stays))
 
 module _ {D : Type 0} (cells : D → Cells) where
-  node_lists : (size : ℕ) (log : Log) (at : At) (n : NodeNo) (x : Node D) (held : List Held) (names : List Name) → IsNode size n.0 → is_running n.0 (printed log) ≡ true → NodeShows cells log n.0 x → HoldsTickets (printed log) n.0 (tickets_of x) held
-      → NamesShow cells (printed log) n.0 x → AreNamesOf (cells (dir_of x)) names → has_met_fault at (printed log) ≡ false → MayListFiles size (printed log) at n names
-  node_lists size log at n (Primary p) held names node running shows holds shown told spared =
-      may_list (printed log) (cells p.dir) names told size at n p.searchers held p.commits.last (loose_of p) node running shown (primary_named cells p shows.whole) shows.point holds
+  node_lists : (source : Name → Content) (size : ℕ) (log : Log) (at : At) (n : NodeNo) (x : Node D) (held : List Held) (names : List Name) → IsNode size n.0 → is_running n.0 (printed log) ≡ true → NodeShows cells log n.0 x → HoldsTickets (printed log) n.0 (tickets_of x) held
+      → NamesShow cells (printed log) x → DiskShows source cells (printed log) n.0 (disk_of x) → AreNamesOf (cells (dir_of x)) names → has_met_fault at (printed log) ≡ false → MayListFiles size (printed log) at n names
+  node_lists source size log at n (Primary p) held names node running shows holds shown disk told spared =
+      may_list (printed log) (cells p.dir) names told size at n p.searchers held (loose_of p) node running shown (primary_named cells p shows.whole) shows.point holds
       (λ q some. counted_there (cells p.dir) p.files (primary_names p) p.commits q shows.whole.node
       (let all : times (primary_names p) q ≡ times (searcher_names p.searchers) q + times (p.names ++ rest_names p) q = times-append (searcher_names p.searchers) (p.names ++ rest_names p) q in omega (arith, all, some)))
-      (λ is. commit_there (cells p.dir) p.files (primary_names p) p.commits shows.whole.node is) spared
-  node_lists size log at n (Replica r) held names node running shows holds shown told spared =
-      may_list (printed log) (cells r.dir) names told size at n r.searchers held r.commits.last [] node running shown (replica_named cells r shows.whole) shows.point holds
+      (λ is. commit_there (cells p.dir) p.files (primary_names p) p.commits shows.whole.node (disk.book.has is)) spared
+  node_lists source size log at n (Replica r) held names node running shows holds shown disk told spared =
+      may_list (printed log) (cells r.dir) names told size at n r.searchers held [] node running shown (replica_named cells r shows.whole) shows.point holds
       (λ q some. counted_there (cells r.dir) r.files (replica_names r) r.commits q shows.whole.node
       (let all : times (replica_names r) q ≡ times (searcher_names r.searchers) q + times (names_of_job r.job) q = times-append (searcher_names r.searchers) (names_of_job r.job) q in omega (arith, all, some)))
-      (λ is. commit_there (cells r.dir) r.files (replica_names r) r.commits shows.whole.node is) spared
-  node_lists size log at n (Down d) held names node running shows holds shown told spared = absurd (true≢false (sym running ∙ shows.down))
+      (λ is. commit_there (cells r.dir) r.files (replica_names r) r.commits shows.whole.node (disk.book.has is)) spared
+  node_lists source size log at n (Down d) held names node running shows holds shown disk told spared = absurd (true≢false (sym running ∙ shows.down))
 
-  place_lists : (size : ℕ) (log : Log) (at : At) (n : NodeNo) (o : Option (Place D)) (names : List Name) → IsNode size n.0 → is_running n.0 (printed log) ≡ true → IsSomeAnd o (PlaceShows cells log n.0)
-      → IsSomeAnd o (λ z. NamesShow cells (printed log) n.0 z.node) → AreNamesAt cells o names → has_met_fault at (printed log) ≡ false → MayListFiles size (printed log) at n names
-  place_lists size log at n None names node running shows shown told spared = absurd shows
-  place_lists size log at n (Some x) names node running shows shown told spared = node_lists size log at n x.node x.held.items names node running shows.node_shows shows.tickets shown told spared
+  place_lists : (source : Name → Content) (size : ℕ) (log : Log) (at : At) (n : NodeNo) (o : Option (Place D)) (names : List Name) → IsNode size n.0 → is_running n.0 (printed log) ≡ true → IsSomeAnd o (PlaceShows cells log n.0)
+      → IsSomeAnd o (λ z. NamesShow cells (printed log) z.node) → IsSomeAnd (disk_at o) (DiskShows source cells (printed log) n.0) → AreNamesAt cells o names → has_met_fault at (printed log) ≡ false → MayListFiles size (printed log) at n names
+  place_lists source size log at n None names node running shows shown disk told spared = absurd shows
+  place_lists source size log at n (Some x) names node running shows shown disk told spared = node_lists source size log at n x.node x.held.items names node running shows.node_shows shows.tickets shown disk told spared
 
   running_place : (log : Log) (n : ℕ) (o : Option (Place D)) → is_running n (printed log) ≡ true → IsSomeAnd o (PlaceShows cells log n) → HasRunning o
   running_place log n None running shows = absurd shows
@@ -232,5 +234,6 @@ module _ {D : Type 0} (cells : D → Cells) where
       → (ended ≡ false → Shows cells b.log b.nodes places × FilesShow cells b.log b.nodes places) → IsFresh at (printed b.log) → IsNode r.nodes n.0 → is_running n.0 (printed r.log) ≡ true → AreNamesAt cells (place_of places n.0) names
       → KeepsRule r.nodes (printed r.log) at (Files n names)
   may_tell r ended b places at n names view running pair fresh node up told =
-      place_lists r.nodes r.log at n (place_of places n.0) names node up ((was cells r ended b.nodes b.log places view running (λ e. (pair e).0)).each n.0 node)
-      ((files_was cells r ended b.nodes b.log places view running (λ e. (pair e).1)).names n.0 node) told (past_has (IsFresh at) r ended b view fresh).spared
+      let files = files_was cells r ended b.nodes b.log places view running (λ e. (pair e).1) in
+      place_lists files.source r.nodes r.log at n (place_of places n.0) names node up ((was cells r ended b.nodes b.log places view running (λ e. (pair e).0)).each n.0 node) (files.names n.0 node) (files.disks n.0 node) told
+      (past_has (IsFresh at) r ended b view fresh).spared

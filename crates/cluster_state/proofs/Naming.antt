@@ -16,8 +16,6 @@ use Rattle.file_deleter.proofs.NameLemmas.{times-append, among_times, among_is}
 use Rattle.segment_infos.specs.declared.infos.SegRecord.{SegRecord}
 use Rattle.segment_infos.specs.declared.infos.Infos.{Infos}
 use Rattle.segment_infos.specs.Files.{files_of_segment, AreFilesOf}
-use Rattle.commit_steps.specs.declared.states.Commit.{Commit}
-use Rattle.commit_steps.specs.declared.stage.CommitBook.{CommitBook}
 use Rattle.commit_steps.proofs.Safe.{among_of, contains_of}
 use Rattle.node_files.specs.Appearing.{NoneAppears, AppearsOnly}
 use Rattle.node_files.proofs.Appearing.{stood_or, only_none}
@@ -59,53 +57,50 @@ named_in names q some = contains_of names q (among_is names q ∙ lt-ltb 0 (time
 -- ---- one node
 
 -- what a call makes of the names at a node: what appears may stand there, and what is held now was held, or is named or drawn
-pub record StepsNames (now : Past) (before after : Cells) (was is : Option Commit) (old new : List (Open Shown)) (gone left : List ℕ) : Type 0 where
+pub record StepsNames (now : Past) (before after : Cells) (old new : List (Open Shown)) (gone left : List ℕ) : Type 0 where
   pub appears : AppearsOnly (MayHaveName now) before after
-  pub last : is ≡ was
   pub tickets : (o : Open Shown) → Contains new o → Contains old o ⊎ NamesDocuments o.point
   pub loose : (seg : ℕ) → Contains left seg → Contains gone seg ⊎ (is_drawn seg now ≡ true)
 
-pub names_step : (past now : Past) (n : ℕ) (before after : Cells) (was is : Option Commit) (old new : List (Open Shown)) (gone loose : List ℕ) → Grows past now → StepsNames now before after was is old new gone loose
-    → AreNamesShown past n before was old gone → AreNamesShown now n after is new loose
-names_step past now n before after was is old new gone loose g s shown = record {
+pub names_step : (past now : Past) (before after : Cells) (old new : List (Open Shown)) (gone loose : List ℕ) → Grows past now → StepsNames now before after old new gone loose
+    → AreNamesShown past before old gone → AreNamesShown now after new loose
+names_step past now before after old new gone loose g s shown = record {
   kinds = λ q there. elim (stood_or (MayHaveName now) before after s.appears q there) [ inl stood ↦ may_have_more past now q g (shown.kinds q stood) | inr may ↦ may ];
   tickets = λ o held. elim (s.tickets o held) [ inl before ↦ shown.tickets o before | inr named ↦ named ];
   loose = λ seg held. elim (s.loose seg held) [ inl before ↦ g.drawn seg (shown.loose seg before) | inr drawn ↦ drawn ];
-  committed = λ c. ap is_some s.last ∙ shown.committed (g.commits n c);
 }
 
-pub names_grow : (past now : Past) (n : ℕ) (cells : Cells) (last : Option Commit) (tickets : List (Open Shown)) (loose : List ℕ) → Grows past now → AreNamesShown past n cells last tickets loose → AreNamesShown now n cells last tickets loose
-names_grow past now n cells last tickets loose g shown = record {
+pub names_grow : (past now : Past) (cells : Cells) (tickets : List (Open Shown)) (loose : List ℕ) → Grows past now → AreNamesShown past cells tickets loose → AreNamesShown now cells tickets loose
+names_grow past now cells tickets loose g shown = record {
   kinds = λ q there. may_have_more past now q g (shown.kinds q there);
   tickets = shown.tickets;
   loose = λ seg held. g.drawn seg (shown.loose seg held);
-  committed = λ c. shown.committed (g.commits n c);
 }
 
 module _ {D : Type 0} (cells : D → Cells) where
   -- the same of a node
   abbrev pub NodeSteps : Past → Node D → Node D → Type 0
-  NodeSteps now (Primary p) (Primary q) = StepsNames now (cells p.dir) (cells q.dir) p.commits.last q.commits.last p.searchers.tickets q.searchers.tickets (loose_of p) (loose_of q)
-  NodeSteps now (Replica r) (Replica s) = StepsNames now (cells r.dir) (cells s.dir) r.commits.last s.commits.last r.searchers.tickets s.searchers.tickets [] []
+  NodeSteps now (Primary p) (Primary q) = StepsNames now (cells p.dir) (cells q.dir) p.searchers.tickets q.searchers.tickets (loose_of p) (loose_of q)
+  NodeSteps now (Replica r) (Replica s) = StepsNames now (cells r.dir) (cells s.dir) r.searchers.tickets s.searchers.tickets [] []
   NodeSteps now (Down d) (Down e) = ⊤
   NodeSteps now x y = ⊥
 
-  pub node_steps : (past now : Past) (n : ℕ) (x y : Node D) → Grows past now → NodeSteps now x y → NamesShow cells past n x → NamesShow cells now n y
-  node_steps past now n (Primary p) (Primary q) g s shown = names_step past now n (cells p.dir) (cells q.dir) p.commits.last q.commits.last p.searchers.tickets q.searchers.tickets (loose_of p) (loose_of q) g s shown
-  node_steps past now n (Replica r) (Replica t) g s shown = names_step past now n (cells r.dir) (cells t.dir) r.commits.last t.commits.last r.searchers.tickets t.searchers.tickets [] [] g s shown
-  node_steps past now n (Down d) (Down e) g s shown = tt
-  node_steps past now n (Primary p) (Replica t) g s shown = absurd s
-  node_steps past now n (Primary p) (Down e) g s shown = absurd s
-  node_steps past now n (Replica r) (Primary q) g s shown = absurd s
-  node_steps past now n (Replica r) (Down e) g s shown = absurd s
-  node_steps past now n (Down d) (Primary q) g s shown = absurd s
-  node_steps past now n (Down d) (Replica t) g s shown = absurd s
+  pub node_steps : (past now : Past) (x y : Node D) → Grows past now → NodeSteps now x y → NamesShow cells past x → NamesShow cells now y
+  node_steps past now (Primary p) (Primary q) g s shown = names_step past now (cells p.dir) (cells q.dir) p.searchers.tickets q.searchers.tickets (loose_of p) (loose_of q) g s shown
+  node_steps past now (Replica r) (Replica t) g s shown = names_step past now (cells r.dir) (cells t.dir) r.searchers.tickets t.searchers.tickets [] [] g s shown
+  node_steps past now (Down d) (Down e) g s shown = tt
+  node_steps past now (Primary p) (Replica t) g s shown = absurd s
+  node_steps past now (Primary p) (Down e) g s shown = absurd s
+  node_steps past now (Replica r) (Primary q) g s shown = absurd s
+  node_steps past now (Replica r) (Down e) g s shown = absurd s
+  node_steps past now (Down d) (Primary q) g s shown = absurd s
+  node_steps past now (Down d) (Replica t) g s shown = absurd s
 
   -- a node that no call changed
-  pub node_grows : (past now : Past) (n : ℕ) (x : Node D) → Grows past now → NamesShow cells past n x → NamesShow cells now n x
-  node_grows past now n (Primary p) g shown = names_grow past now n (cells p.dir) p.commits.last p.searchers.tickets (loose_of p) g shown
-  node_grows past now n (Replica r) g shown = names_grow past now n (cells r.dir) r.commits.last r.searchers.tickets [] g shown
-  node_grows past now n (Down d) g shown = tt
+  pub node_grows : (past now : Past) (x : Node D) → Grows past now → NamesShow cells past x → NamesShow cells now x
+  node_grows past now (Primary p) g shown = names_grow past now (cells p.dir) p.searchers.tickets (loose_of p) g shown
+  node_grows past now (Replica r) g shown = names_grow past now (cells r.dir) r.searchers.tickets [] g shown
+  node_grows past now (Down d) g shown = tt
 
   -- what a node holds now it held, or it is named or drawn
   pub record HoldsFrom (now : Past) (old new : Node D) : Type 0 where
@@ -121,13 +116,11 @@ module _ {D : Type 0} (cells : D → Cells) where
   pub kept_steps : (now : Past) (x y : Node D) → KeepsNodeFiles cells x y → HoldsFrom now x y → NodeSteps now x y
   kept_steps now (Primary p) (Primary q) keeps holds = record {
     appears = only_none (MayHaveName now) (cells p.dir) (cells q.dir) keeps.0.appears;
-    last = ap (λ (b : CommitBook). b.last) keeps.0.commits;
     tickets = holds.tickets;
     loose = holds.loose;
   }
   kept_steps now (Replica r) (Replica t) keeps holds = record {
     appears = only_none (MayHaveName now) (cells r.dir) (cells t.dir) keeps.appears;
-    last = ap (λ (b : CommitBook). b.last) keeps.commits;
     tickets = holds.tickets;
     loose = holds.loose;
   }
@@ -145,7 +138,6 @@ module _ {D : Type 0} (cells : D → Cells) where
   pub altered_steps : (now : Past) (p q : PrimaryParts D) → AltersStates cells p q → NodeSteps now (Primary p) (Primary q)
   altered_steps now p q a = record {
     appears = only_none (MayHaveName now) (cells p.dir) (cells q.dir) a.files.appears;
-    last = ap (λ (z : PrimaryParts D). z.commits.last) a.others;
     tickets = λ o held. inl (subst (λ (ts : List (Open Shown)). Contains ts o) (ap (λ (z : PrimaryParts D). z.searchers.tickets) a.others) held);
     loose = λ seg held. inl (subst (λ (ns : List ℕ). Contains ns seg) (ap (λ (z : PrimaryParts D). loose_of z) a.others) held);
   }
@@ -154,7 +146,6 @@ module _ {D : Type 0} (cells : D → Cells) where
   pub altered_job : (now : Past) (r s : ReplicaParts D) → AltersJob cells r s → NodeSteps now (Replica r) (Replica s)
   altered_job now r s a = record {
     appears = only_none (MayHaveName now) (cells r.dir) (cells s.dir) a.appears;
-    last = ap (λ (z : ReplicaParts D). z.commits.last) a.others;
     tickets = λ o held. inl (subst (λ (ts : List (Open Shown)). Contains ts o) (ap (λ (z : ReplicaParts D). z.searchers.tickets) a.others) held);
     loose = λ seg held. inl held;
   }
@@ -173,7 +164,6 @@ module _ {D : Type 0} (cells : D → Cells) where
       → FinishesAt cells j p q r s → NodeSteps now (Replica r) (Replica s)
   finished_steps source now j p q r s version lasting drawn metas above f = record {
     appears = record { each = λ name none there. inr (inr (inl (wanted_drawn source now version j lasting drawn metas above name (f.appears.each name none there)))) };
-    last = ap (λ (z : ReplicaParts D). z.commits.last) f.others;
     tickets = λ o held. inl (subst (λ (ts : List (Open Shown)). Contains ts o) f.tickets held);
     loose = λ seg held. inl held;
   }
@@ -183,7 +173,6 @@ module _ {D : Type 0} (cells : D → Cells) where
       → r.job ≡ Some j → TakesPart cells part r s → NodeSteps now (Replica r) (Replica s)
   took_steps source now j part r s version lasting drawn metas above runs takes = record {
     appears = record { each = λ name none there. arrived name (appears.each name none there) };
-    last = ap (λ (z : ReplicaParts D). z.commits.last) takes.others;
     tickets = λ o held. inl (subst (λ (ts : List (Open Shown)). Contains ts o) (ap (λ (z : ReplicaParts D). z.searchers.tickets) takes.others) held);
     loose = λ seg held. inl held;
   }
@@ -229,7 +218,7 @@ in_segments (x ∷ xs) r q (i, lt, e) named = at i lt e (λ k lt' e'. in_segment
 small_number : (seg generation counter : ℕ) → generation < 2 ^ 31 → counter ≤ segments_of_generation → seg < generation * segments_of_generation + counter → seg < 2 ^ 64
 small_number seg generation counter low few below = omega (arith, low, few, below)
 
-module _ {D : Type 0} (cells : D → Cells) (past : Past) (n : ℕ) (p : PrimaryParts D) (lasting : FilesLast) (whole : IsPrimary cells p) (shown : AreNamesShown past n (cells p.dir) p.commits.last p.searchers.tickets (loose_of p)) where
+module _ {D : Type 0} (cells : D → Cells) (past : Past) (p : PrimaryParts D) (lasting : FilesLast) (whole : IsPrimary cells p) (shown : AreNamesShown past (cells p.dir) p.searchers.tickets (loose_of p)) where
   -- a name of the writer's infos stands
   written_there : (q : Name) → Contains p.names q → IsThere (cells p.dir) q
   written_there q named =

@@ -29,11 +29,13 @@ use Rattle.cluster_state.specs.Run.{Run}
 use Rattle.cluster_places.specs.Places.{place_of}
 use Rattle.cluster_state.specs.State.{IsPointAt, HoldsTickets, PlaceShows, Shows}
 use Rattle.cluster_places.specs.Outs.{want_of, jobs_like}
-use Rattle.cluster_state.specs.Files.{CopyShows, JobShows, reached_version, ReplicaFiles, NodeFiles, FilesShow}
+use Rattle.cluster_state.specs.Files.{CopyShows, JobShows, ReplicaFiles, NodeFiles, FilesShow}
 use Rattle.cluster_state.specs.FilesOut.{file_out}
 use Rattle.cluster_state.specs.Copies.{JobRuns}
 use Rattle.cluster_places.specs.JobChanges.{HasReplica, TakesPart}
 use Rattle.cluster_places.specs.JobPlaces.{CanTake, TakesIn}
+use Rattle.cluster_state.specs.Disks.{IsPastPoint}
+use Rattle.cluster_state.proofs.Disks.{commits_alone, disk_moved, disk_same, disks_kept}
 use Rattle.cluster_state.proofs.Frames.{some_at, slot_of, was}
 use Rattle.cluster_places.proofs.OutCounts.{jobs_same}
 use Rattle.replica_node.specs.Replica.{IsJobAbove}
@@ -114,6 +116,7 @@ module _ {D : Type 0} (cells : D → Cells) where
     latest = shows.latest;
     begun = shows.begun;
     behind = shows.behind;
+    generation = subst (λ (i : Infos). i.generation.0 ≤ generation_of (printed log)) (sym goes.infos) shows.generation;
     metas = subst (λ (w : CopyState). All (λ f. HasMeta source f.0 f.1) w.files) (sym goes.want) shows.metas;
     stands = subst (λ (i : Infos). StandsFor source i (documents_at (printed log) job.version.0)) (sym goes.infos) shows.stands;
     handed = shows.handed;
@@ -143,6 +146,8 @@ module _ {D : Type 0} (cells : D → Cells) where
       each = one_each {P = Both cells files.source log jobs} {Q = λ m z. NodeFiles files.source cells log count m z.node} size n x old new b.moves (both_of cells log size old shows files)
           (λ m z other apart has. node_files cells files.source log log jobs count m z.node (λ t rep. job_stays log m) fewer has.1)
           mine;
+      disks = disks_kept cells files.source files.source log log size old new (λ name bytes is. is) (disk_moved n x y old new b.moves b.at.there (disk_same r.commits s.commits (ap (λ (t : ReplicaParts D). t.commits) b.takes.others)))
+          (λ m. commits_alone (printed log) m) files.disks;
     },
   )
     where
@@ -185,21 +190,12 @@ module _ {D : Type 0} (cells : D → Cells) where
       fewer : (o : Out) → count o ≤ jobs o
       fewer o = let same : jobs_like new o size ≡ jobs_like old o size = jobs_same old new o size (λ m low. wants_same n x y old new b.moves b.at.there want m) in omega (arith, same)
 
-      few : s.jobs < reached_version s.job s
-      few =
-          let now : reached_version s.job s ≡ next.point.infos.version.0 = ap (λ (o : Option PointJob). reached_version o s) next.there in
-          let same_infos : next.point.infos.version.0 ≡ here.point.infos.version.0 = ap (λ (i : Infos). i.version.0) next.goes.infos in
-          let before : reached_version r.job r ≡ here.point.infos.version.0 = ap (λ (o : Option PointJob). reached_version o r) here.runs in
-          let count_is : s.jobs ≡ r.jobs = ap (λ (t : ReplicaParts D). t.jobs) b.takes.others in
-          let low = both.1.few in
-          omega (arith, now, same_infos, before, count_is, low)
-
       mine : ReplicaFiles files.source cells log n s
       mine = record {
         sourced = b.takes.sourced files.source (here.shows.handed part.name part.bytes out) both.1.sourced;
         job = subst (λ (o : Option Job). JobShows files.source log n o s.job) (sym is)
             (subst (λ (o : Option PointJob). JobShows files.source log n (Some job) o) (sym next.there) (copy_took files.source log n job here.point next.point next.goes here.shows));
-        few = few;
+        point = subst (λ (i : Infos). IsPastPoint files.source (printed log) i) (sym (ap (λ (t : ReplicaParts D). t.infos) b.takes.others)) both.1.point;
         flight = both.1.flight;
       }
 

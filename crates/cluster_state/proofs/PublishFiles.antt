@@ -40,10 +40,11 @@ use Rattle.cluster_state.specs.State.{Shows, PrimaryShows, PlaceShows}
 use Rattle.cluster_state.specs.Files.{FilesShow}
 use Rattle.cluster_places.specs.KeptFiles.{FillsPrimaryFiles, KeepsNodeFiles}
 use Rattle.cluster_places.proofs.TicketNodes.{node_alone}
+use Rattle.cluster_state.proofs.Disks.{commits_alone}
 use Rattle.cluster_state.proofs.Drawn.{grows_none, just_drawn}
 use Rattle.cluster_state.proofs.Naming.{FilesLast, HoldsFrom, holds_same}
 use Rattle.cluster_state.proofs.Frames.{PutsBack, was, place_at}
-use Rattle.cluster_state.proofs.FileFrames.{files_one, files_was, files_is, files_moved, files_started, files_published, put_one}
+use Rattle.cluster_state.proofs.FileFrames.{flights_of, files_one, files_was, files_is, files_moved, files_started, files_published, put_one}
 use Rattle.cluster_state.proofs.Turning.{log_is, nodes_is, past_has, fresh_turn, later_turn}
 use Rattle.cluster_state.proofs.JobFrames.{job_stays}
 
@@ -160,7 +161,9 @@ module _ {D : Type 0} (cells : D → Cells) where
     pub back_files : q ≡ p → FilesShow cells b1.log b1.nodes new
     back_files same =
         files_is cells r.log b1.log r.nodes b1.nodes new (e1 ∙ log_is r ended b0 view) (n1 ∙ nodes_is r ended b0 view)
-        (files_one cells r.nodes r.log r.log old new n.0 (record { node = Primary q; held = held }) x (λ m other. job_stays r.log m) (put_one cells n.0 (record { node = Primary q; held = held }) old mid new put) node there
+        (files_one cells r.nodes r.log r.log old new n.0 (record { node = Primary q; held = held }) x (grows_none (printed r.log))
+        (holds_at (printed r.log) (holds_same cells (printed r.log) (Primary p) (Primary q) (ap (λ (z : PrimaryParts D). z.searchers.tickets) same) (ap (λ (z : PrimaryParts D). loose_of z) same)))
+        (λ m other. job_stays r.log m) (λ m. commits_alone (printed r.log) m) (put_one cells n.0 (record { node = Primary q; held = held }) old mid new put) node there
         (keeps_at (subst (λ (z : PrimaryParts D). KeepsNodeFiles cells (Primary p) (Primary z)) (sym same) (node_alone cells (Primary p))))
         (was cells r ended b0.nodes b0.log old view running shows) (files_was cells r ended b0.nodes b0.log old view running files))
 
@@ -169,7 +172,8 @@ module _ {D : Type 0} (cells : D → Cells) where
           → q ≡ record p { waiting = p.waiting ++ copy ∷ []; accepted = p.accepted + 1 } → FilesShow cells b2.log b2.nodes new
       accept_files seq op copy e2 n2 fresh rule next =
           files_moved cells r ended b0 b1 b2 old mid new at (Accepted seq op) n.0 (record { node = Primary q; held = held }) x view running shows files e1 n1 e2 n2 legal turns rule
-          (fresh_turn (printed r.log) at (Accepted seq op) (past_has (IsFresh at) r ended b0 view fresh) tt) (λ m. refl) (λ m. refl) put node there
+          (fresh_turn (printed r.log) at (Accepted seq op) (past_has (IsFresh at) r ended b0 view fresh) tt) (λ m. refl) (λ m. refl)
+          (flights_of cells r ended b0 b1 at view e1 n1 legal turns (past_has (IsFresh at) r ended b0 view fresh).begun) put node there
           (keeps_at (subst (λ (z : PrimaryParts D). KeepsNodeFiles cells (Primary p) (Primary z)) (sym next) (accepted_alone p (p.waiting ++ copy ∷ []) (p.accepted + 1))))
           (holds_at (printed (shown at (Accepted seq op) ∷ r.log)) (holds_same cells (printed (shown at (Accepted seq op) ∷ r.log)) (Primary p) (Primary q) (ap (λ (z : PrimaryParts D). z.searchers.tickets) next) (ap (λ (z : PrimaryParts D). loose_of z) next)))
 

@@ -118,6 +118,7 @@ copy_wider source wider log n job j more was = record {
   latest = was.latest;
   begun = was.begun;
   behind = was.behind;
+  generation = was.generation;
   metas = metas_wider source wider j.copy.want.files more was.metas;
   stands = stands_wider source wider j.infos (documents_at (printed log) job.version.0) more was.stands;
   handed = λ q bytes out. more q bytes (was.handed q bytes out);

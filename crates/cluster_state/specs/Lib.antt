@@ -5,6 +5,7 @@ pub mod Moves
 pub mod Writes
 pub mod Starting
 pub mod FilesOut
+pub mod Disks
 pub mod Names
 pub mod Files
 pub mod FileChanges

@@ -52,7 +52,7 @@ down_step size n past at e keeps was down = reply (is_reply e)
     reply true = ap (without_at at) (was down)
     reply false = was down
 
-down_none : (size : ℕ) (n : ℕ) (past : Past) → IsLegalPast size past → is_running n past ≡ false → commit_in_flight n past ≡ None
+pub down_none : (size : ℕ) (n : ℕ) (past : Past) → IsLegalPast size past → is_running n past ≡ false → commit_in_flight n past ≡ None
 down_none size n [] legal down = refl
 down_none size n (e ∷ past) legal down = down_step size n past e.at e.event legal.0 (down_none size n past legal.1) down
 
@@ -111,7 +111,7 @@ open_flies size n v at (e ∷ past) legal is line same =
     no_start false got = got
 
 -- the start of a line that has started, after an entry of another line
-start_apart : (past : Past) (x : At) (e : Event) (at : At) → same_at x at ≡ false → start_entry at (record { at = x; event = e } ∷ past) ≡ start_entry at past
+pub start_apart : (past : Past) (x : At) (e : Event) (at : At) → same_at x at ≡ false → start_entry at (record { at = x; event = e } ∷ past) ≡ start_entry at past
 start_apart past x e at apart = ap (λ (s : Bool). if is_start e && s then Some e else start_entry at past) apart ∙ no_start (is_start e)
   where
     no_start : (b : Bool) → (if b && false then Some e else start_entry at past) ≡ start_entry at past

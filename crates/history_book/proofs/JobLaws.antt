@@ -4,12 +4,13 @@ use Rattle.std.specs.Prelude.{not, nat_lt, is_some}
 use Rattle.std.proofs.lemmas.Bool.{eqb-true, eq-eqb, or_cases, or_right}
 use Rattle.std.proofs.lemmas.Bool.Decides.{nat_tests}
 use Rattle.nrt_base.specs.declared.numbers.At.{At}
+use Rattle.nrt_base.specs.declared.numbers.LineNo.{LineNo}
 use Rattle.nrt_base.specs.declared.numbers.NodeNo.{NodeNo}
 use Rattle.nrt_base.specs.declared.numbers.Version.{Version}
 use Rattle.history_entries.specs.declared.entry.Entry.{Entry}
 use Rattle.history_entries.specs.declared.entry.Event.{Event}
-use Rattle.history_entries.specs.declared.entry.Event.TheVariants.{Published, Copying, Settling, Promoted}
-use Rattle.history_entries.specs.Nodes.{Past, version_of, IsNode, IsReplica, is_at, primary_of, primary_crashes, is_running, crashes, newest_version, is_point, is_made_in_generation}
+use Rattle.history_entries.specs.declared.entry.Event.TheVariants.{Published, Copying, Settling, Crashed, Reopened, Promoted}
+use Rattle.history_entries.specs.Nodes.{Past, primary_by, version_of, IsNode, IsReplica, is_at, primary_of, primary_crashes, is_running, crashes, newest_version, is_point, is_made_in_generation}
 use Rattle.history_entries.specs.Lines.{highest_copy, highest_switched, same_at, is_start, is_reply, is_answered, start_entry, before_start, NodeSurvives, SourceSurvives}
 use Rattle.history_entries.specs.Rules.{StartedCopy, MaySwitch, is_node_of, is_copied_beside, is_settled_beside, MayCancel}
 use Rattle.history_entries.specs.Legal.{KeepsRule, IsLegalPast}
@@ -17,6 +18,8 @@ use Rattle.history_laws.proofs.PastLemmas.{point_stays, newest_made}
 use Rattle.history_laws.proofs.NodeLemmas.{known, crashes_rise, runs_through}
 use Rattle.history_tables.specs.NodeRows.{crashed_at}
 use Rattle.history_tables.specs.Numbering.{primary_crashed}
+use Rattle.history_laws.specs.Steps.{is_running_by}
+use Rattle.history_book.specs.Steps.{crashed_by, primary_crashed_by}
 use Rattle.history_book.specs.declared.inner.Inner.{Inner}
 use Rattle.history_book.specs.declared.inner.Inner.TheVariants.{JobBegun, JobEnd}
 use Rattle.history_book.specs.declared.inner.Mark.TheVariants.{Shown, TaskFault, Kept}
@@ -25,7 +28,7 @@ use Rattle.history_tables.specs.declared.jobs.JobRow.{JobRow}
 use Rattle.history_tables.specs.declared.jobs.JobStep.{JobStep}
 use Rattle.history_tables.specs.declared.jobs.JobStep.TheVariants.{Begins, Ends, Passes}
 use Rattle.history_tables.specs.JobRows.{new_job_row, is_going, row_by, row_if_some, last_job_by, while_going}
-use Rattle.history_book.specs.Jobs.{job_step, last_job, job_at, job_of, StartsJob, IsOlder, MayBeginJob, IsInside, AreInside, IsCancelled, LaneJobShows}
+use Rattle.history_book.specs.Jobs.{job_step, last_job, job_at, job_of, StartsJob, IsOlder, MayBeginJob, IsInside, AreInside, IsCancelled, LaneJobShows, JobRests}
 use Rattle.history_book.specs.Log.{Log, printed}
 use Rattle.history_book.specs.Turns.{StartsOnce, InTurn, AreInTurn}
 use Rattle.history_book.proofs.LineLaws.{and_false}
@@ -44,7 +47,7 @@ ended_if false r going = refl
 -- a job that goes on is as it was
 going_same : (s : JobStep) (r : JobRow) → is_going (row_by s r) ≡ true → row_by s r ≡ r
 going_same (Begins job) r going = ap (λ (b : Bool). if b then record r { later = Some job.version } else r) (going_if ((r.job.node.0 == job.node.0) && is_going r) r job.version going)
-going_same (Ends n number) r going = ap (λ (b : Bool). if b then record r { ended = true } else r) (ended_if ((r.job.node.0 == n.0) && (r.job.number == number)) r going)
+going_same (Ends line n number) r going = ap (λ (b : Bool). if b then record r { ended = true } else r) (ended_if (((r.job.at.line.0 == line.0) && (r.job.node.0 == n.0)) && (r.job.number == number)) r going)
 going_same Passes r going = refl
 
 -- no later job has begun at the node of one that goes on
@@ -61,7 +64,7 @@ going_more : (s : JobStep) (before : ℕ) (log : Log) (r : JobRow) → is_going 
     → last_job_by false r.job.node.0 s before (last_job false r.job.node.0 log) ≡ Some (row_by s r)
 going_more (Begins job) before log r going was =
     ap (λ (b : Bool). if b then Some (new_job_row job before) else row_if_some (Begins job) (last_job false r.job.node.0 log)) (going_apart job r going) ∙ ap (row_if_some (Begins job)) was
-going_more (Ends n number) before log r going was = ap (row_if_some (Ends n number)) was
+going_more (Ends line n number) before log r going was = ap (row_if_some (Ends line n number)) was
 going_more Passes before log r going was = ap (row_if_some Passes) was
 
 going_old : (s : JobStep) (before : ℕ) (log : Log) (o : Option JobRow) (row : JobRow) → row_if_some s o ≡ Some row → is_going row ≡ true
@@ -88,11 +91,11 @@ going_step lane (Begins job) before log row is going was = begins (job.at.lane.0
         subst (λ (x : JobRow). last_job_by false x.job.node.0 (Begins job) before (last_job false x.job.node.0 log) ≡ Some x) made
         (ap (λ (b : Bool). if b then Some (new_job_row job before) else row_if_some (Begins job) (last_job false job.node.0 log)) (eq-eqb job.node.0 job.node.0 refl))
     begins false old = going_old (Begins job) before log (last_job true lane log) row old going was
-going_step lane (Ends n number) before log row is going was = going_old (Ends n number) before log (last_job true lane log) row is going was
+going_step lane (Ends line n number) before log row is going was = going_old (Ends line n number) before log (last_job true lane log) row is going was
 going_step lane Passes before log row is going was = going_old Passes before log (last_job true lane log) row is going was
 
 -- a job of a lane that goes on is the last one at its node
-going_at : (lane : ℕ) (log : Log) (row : JobRow) → job_of lane log ≡ Some row → is_going row ≡ true → last_job false row.job.node.0 log ≡ Some row
+pub going_at : (lane : ℕ) (log : Log) (row : JobRow) → job_of lane log ≡ Some row → is_going row ≡ true → last_job false row.job.node.0 log ≡ Some row
 going_at lane [] row is going = absurd (cc)
 going_at lane (Shown e ∷ log) row is going = going_at lane log row is going
 going_at lane (TaskFault e ∷ log) row is going = going_at lane log row is going
@@ -343,8 +346,8 @@ shows_begun size past job r s cancels = tests ((r.job.node.0 == job.node.0) && i
         same w v is = cc
     tests false is = s
 
-shows_ended : (size : ℕ) (past : Past) (n : NodeNo) (number : ℕ) (r : JobRow) → LaneJobShows size past r → LaneJobShows size past (row_by (Ends n number) r)
-shows_ended size past n number r s = tests ((r.job.node.0 == n.0) && (r.job.number == number))
+shows_ended : (size : ℕ) (past : Past) (line : LineNo) (n : NodeNo) (number : ℕ) (r : JobRow) → LaneJobShows size past r → LaneJobShows size past (row_by (Ends line n number) r)
+shows_ended size past line n number r s = tests (((r.job.at.line.0 == line.0) && (r.job.node.0 == n.0)) && (r.job.number == number))
   where
     tests : (b : Bool) → LaneJobShows size past (if b then record r { ended = true } else r)
     tests true = record { node = s.node; started = s.started; newest = s.newest; before = s.before; made = s.made; later = s.later }
@@ -356,7 +359,7 @@ lane_by lane s before old row is was = steps s is
   where
     kept : (s' : JobStep) (r : JobRow) → (row_by s' r).job ≡ r.job
     kept (Begins job) r = elim ((r.job.node.0 == job.node.0) && is_going r) as (λ b. (if b then record r { later = Some job.version } else r).job ≡ r.job) [ true ↦ refl | false ↦ refl ]
-    kept (Ends n number) r = elim ((r.job.node.0 == n.0) && (r.job.number == number)) as (λ b. (if b then record r { ended = true } else r).job ≡ r.job) [ true ↦ refl | false ↦ refl ]
+    kept (Ends line n number) r = elim (((r.job.at.line.0 == line.0) && (r.job.node.0 == n.0)) && (r.job.number == number)) as (λ b. (if b then record r { ended = true } else r).job ≡ r.job) [ true ↦ refl | false ↦ refl ]
     kept Passes r = refl
 
     goes : (s' : JobStep) (o : Option JobRow) → old ≡ o → row_if_some s' o ≡ Some row → row.job.at.lane.0 ≡ lane
@@ -371,7 +374,7 @@ lane_by lane s before old row is was = steps s is
         begins : (b : Bool) → (job.at.lane.0 == lane) ≡ b → (if b then Some (new_job_row job before) else row_if_some (Begins job) old) ≡ Some row → row.job.at.lane.0 ≡ lane
         begins true here new = let made : new_job_row job before ≡ row = cc in ap (λ (x : JobRow). x.job.at.lane.0) (sym made) ∙ eqb-true job.at.lane.0 lane here
         begins false other new = goes (Begins job) old refl new
-    steps (Ends n number) got = goes (Ends n number) old refl got
+    steps (Ends line n number) got = goes (Ends line n number) old refl got
     steps Passes got = goes Passes old refl got
 
 -- the last job of a lane is of a line of it
@@ -488,11 +491,11 @@ kept_step size lane log (JobBegun line n number (Some v) (Some at)) legal turns 
     begins false other old = goes other (last_job true lane log) refl old
 kept_step size lane log (JobEnd line n number) legal turns inside was row is = goes (last_job true lane log) refl is
   where
-    goes : (o : Option JobRow) → last_job true lane log ≡ o → row_if_some (Ends n number) o ≡ Some row → LaneJobShows size (printed log) row
+    goes : (o : Option JobRow) → last_job true lane log ≡ o → row_if_some (Ends line n number) o ≡ Some row → LaneJobShows size (printed log) row
     goes None there none = absurd (cc)
     goes (Some r) there got =
-        let made : row_by (Ends n number) r ≡ row = cc in
-        subst (λ (x : JobRow). LaneJobShows size (printed log) x) made (shows_ended size (printed log) n number r (was r there))
+        let made : row_by (Ends line n number) r ≡ row = cc in
+        subst (λ (x : JobRow). LaneJobShows size (printed log) x) made (shows_ended size (printed log) line n number r (was r there))
 kept_step size lane log i legal turns inside was row is = was row (passes_old (last_job true lane log) row is)
 
 -- what the log shows of the last job of a lane
@@ -572,3 +575,115 @@ job_switches size past row legal s alive source below latest ordered =
         let noted : w.0 ≡ newest_version start = (start_kept size row.job.at past (Settling w) legal is).newest in
         let high = s.newest in (omega arith, omega arith, begins)
     started o is begins = absurd begins
+
+-- ---- what a job that runs rests on
+
+too_late : (size before : ℕ) → nat_le (size + 1) before ≡ true → before ≤ size → ⊥
+too_late size before late low = grind (arith, nat_tests)
+
+node_step : (past : Past) (e : Event) (n before : ℕ) → before ≤ length past → (nat_le (crashed_at n past) before ≡ true → is_running n past ≡ true)
+    → nat_le (crashed_by n e (length past) (crashed_at n past)) before ≡ true → is_running_by n e (is_running n past) ≡ true
+node_step past (Crashed m) n before low was alive = crash (m.0 == n) alive
+  where
+    crash : (b : Bool) → nat_le (if b then length past + 1 else crashed_at n past) before ≡ true → (if b then false else is_running n past) ≡ true
+    crash true late = absurd (too_late (length past) before late low)
+    crash false old = was old
+node_step past (Reopened m v) n before low was alive = reopens (m.0 == n)
+  where
+    reopens : (b : Bool) → (if b then true else is_running n past) ≡ true
+    reopens true = refl
+    reopens false = was alive
+node_step past e n before low was alive = was alive
+
+source_step : (past : Past) (e : Event) (before : ℕ) → before ≤ length past → (nat_le (primary_crashed past) before ≡ true → primary_of past ≢ None)
+    → nat_le (primary_crashed_by e (primary_of past) (length past) (primary_crashed past)) before ≡ true → primary_by e (primary_of past) ≢ None
+source_step past (Crashed m) before low was alive = crash (is_at (primary_of past) m.0) alive
+  where
+    crash : (b : Bool) → nat_le (if b then length past + 1 else primary_crashed past) before ≡ true → (if b then None else primary_of past) ≢ None
+    crash true late = absurd (too_late (length past) before late low)
+    crash false old = was old
+source_step past (Promoted m g f v) before low was alive = λ none. absurd (cc)
+source_step past e before low was alive = was alive
+
+rests_more : (past : Past) (e : Entry) (n before : ℕ) → JobRests past n before → JobRests (e ∷ past) n before
+rests_more past e n before was = record {
+  low = let low = was.low in omega (arith, low);
+  node = node_step past e.event n before was.low was.node;
+  source = source_step past e.event before was.low was.source;
+}
+
+rests_new : (size : ℕ) (log : Log) (job : Job) → IsLegalPast size (printed log) → MayBeginJob size log job.at job.node.0 job.version.0 → JobRests (printed log) job.node.0 (length (printed log))
+rests_new size log job legal may =
+    let runs = source_runs size (printed log) job.at job.node.0 job.version.0 legal (start_entry job.at (printed log)) refl may.started in
+    record {
+      low = omega arith;
+      node = λ alive. (job_replica size (printed log) (new_job_row job (length (printed log))) legal (shows_new size log job legal may) may.survives may.source).running;
+      source = λ alive none. runs (sym (reigns_on size job.at (printed log) legal runs may.source.source).primary ∙ none);
+    }
+
+rests_kept : (size n : ℕ) (log : Log) (i : Inner) → IsLegalPast size (printed log) → IsInside size log i → ((r : JobRow) → last_job false n log ≡ Some r → JobRests (printed log) n r.before)
+    → (row : JobRow) → last_job_by false n (job_step i) (length (printed log)) (last_job false n log) ≡ Some row → JobRests (printed log) n row.before
+rests_kept size n log i legal inside was row is = steps i inside is
+  where
+    same_before : (s : JobStep) (r : JobRow) → (row_by s r).before ≡ r.before
+    same_before (Begins job) r = elim ((r.job.node.0 == job.node.0) && is_going r) as (λ b. (if b then record r { later = Some job.version } else r).before ≡ r.before) [ true ↦ refl | false ↦ refl ]
+    same_before (Ends line m number) r = elim (((r.job.at.line.0 == line.0) && (r.job.node.0 == m.0)) && (r.job.number == number)) as (λ b. (if b then record r { ended = true } else r).before ≡ r.before) [ true ↦ refl | false ↦ refl ]
+    same_before Passes r = refl
+
+    goes : (s : JobStep) (o : Option JobRow) → last_job false n log ≡ o → row_if_some s o ≡ Some row → JobRests (printed log) n row.before
+    goes s None there none = absurd (cc)
+    goes s (Some r) there got =
+        let made : row_by s r ≡ row = cc in
+        subst (λ (k : ℕ). JobRests (printed log) n k) (sym (same_before s r) ∙ ap (λ (x : JobRow). x.before) made) (was r there)
+
+    begins : (line : LineNo) (m : NodeNo) (number : ℕ) (v : Version) (at : At) (b : Bool) → (m.0 == n) ≡ b → MayBeginJob size log at m.0 v.0
+        → (if b then Some (new_job_row (record { at = at; node = m; number = number; version = v }) (length (printed log))) else row_if_some (Begins (record { at = at; node = m; number = number; version = v })) (last_job false n log)) ≡ Some row
+        → JobRests (printed log) n row.before
+    begins line m number v at true here may new =
+        let job : Job = record { at = at; node = m; number = number; version = v } in
+        let made : new_job_row job (length (printed log)) ≡ row = cc in
+        subst (λ (k : ℕ). JobRests (printed log) k row.before) (eqb-true m.0 n here)
+        (subst (λ (x : JobRow). JobRests (printed log) m.0 x.before) made (rests_new size log job legal may))
+    begins line m number v at false other may old = goes (Begins (record { at = at; node = m; number = number; version = v })) (last_job false n log) refl old
+
+    steps : (j : Inner) → IsInside size log j → last_job_by false n (job_step j) (length (printed log)) (last_job false n log) ≡ Some row → JobRests (printed log) n row.before
+    steps (JobBegun line m number (Some v) (Some at)) inside' got = begins line m number v at (m.0 == n) refl inside'.1 got
+    steps (JobEnd line m number) inside' got = goes (Ends line m number) (last_job false n log) refl got
+    steps j inside' got = was row (passes_old (last_job false n log) row got)
+
+job_rests : (size n : ℕ) (log : Log) → IsLegalPast size (printed log) → AreInside size log → (row : JobRow) → last_job false n log ≡ Some row → JobRests (printed log) n row.before
+job_rests size n [] legal inside row is = absurd (cc)
+job_rests size n (Shown e ∷ log) legal inside row is = rests_more (printed log) e n row.before (job_rests size n log legal.1 inside row is)
+job_rests size n (TaskFault e ∷ log) legal inside row is = rests_more (printed log) e n row.before (job_rests size n log legal.1 inside row is)
+job_rests size n (Kept i ∷ log) legal inside row is = rests_kept size n log i legal inside.0 (λ r was. job_rests size n log legal inside.1 r was) row is
+
+none_going : (a b c : Bool) (job : Job) → (b && c) ≡ false → (if a && b && c then Some job else None) ≡ None
+none_going true true true job low = absurd (true≢false low)
+none_going true true false job low = refl
+none_going true false c job low = refl
+none_going false true true job low = refl
+none_going false true false job low = refl
+none_going false false c job low = refl
+
+idle_if : (past : Past) (n : ℕ) (o : Option JobRow) → ((row : JobRow) → o ≡ Some row → (nat_le (crashed_at n past) row.before && nat_le (primary_crashed past) row.before) ≡ false)
+    → while_going n past o ≡ None
+idle_if past n None rests = refl
+idle_if past n (Some row) rests = none_going (not row.ended) (nat_le (crashed_at n past) row.before) (nat_le (primary_crashed past) row.before) row.job (rests row refl)
+
+-- no job runs at a node that is down
+pub down_idle : (size n : ℕ) (log : Log) → IsLegalPast size (printed log) → AreInside size log → is_running n (printed log) ≡ false → job_at n log ≡ None
+down_idle size n log legal inside down = idle_if (printed log) n (last_job false n log)
+    (λ row is. crashed row.before (nat_le (primary_crashed (printed log)) row.before) (nat_le (crashed_at n (printed log)) row.before) refl (job_rests size n log legal inside row is))
+  where
+    crashed : (before : ℕ) (c b : Bool) → nat_le (crashed_at n (printed log)) before ≡ b → JobRests (printed log) n before → (b && c) ≡ false
+    crashed before c true alive rests = absurd (true≢false (sym (rests.node alive) ∙ down))
+    crashed before c false late rests = refl
+
+-- nor anywhere where no primary runs
+pub vacant_idle : (size n : ℕ) (log : Log) → IsLegalPast size (printed log) → AreInside size log → primary_of (printed log) ≡ None → job_at n log ≡ None
+vacant_idle size n log legal inside none = idle_if (printed log) n (last_job false n log)
+    (λ row is. crashed row.before (nat_le (crashed_at n (printed log)) row.before) (nat_le (primary_crashed (printed log)) row.before) refl (job_rests size n log legal inside row is))
+  where
+    crashed : (before : ℕ) (b c : Bool) → nat_le (primary_crashed (printed log)) before ≡ c → JobRests (printed log) n before → (b && c) ≡ false
+    crashed before b true alive rests = absurd (rests.source alive none)
+    crashed before b false late rests = and_false b

@@ -3,7 +3,8 @@ pub mod ReignLaws
 pub mod OpenLaws
 mod CopyLaws
 pub mod FreshLaws
-mod FoundLaws
+pub mod FoundLaws
+pub mod CommitLaws
 pub mod JobLaws
 mod BookLemmas
 mod Weaving

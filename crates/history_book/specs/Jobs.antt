@@ -1,10 +1,10 @@
 -- The jobs that copy points to nodes, as the entries of inner work show them, and in which turn these come.
-use Rattle.std.specs.Prelude.{ℕ, ◌≡◌, ◌≢◌, ◌≤◌, ◌<◌, List, [], ◌∷◌, Bool, true, false, Option, Some, None, ⊤, length}
+use Rattle.std.specs.Prelude.{ℕ, ◌≡◌, ◌≢◌, ◌≤◌, ◌<◌, List, [], ◌∷◌, Bool, true, false, Option, Some, None, ⊤, length, nat_le}
 use Rattle.nrt_base.specs.declared.numbers.At.{At}
 use Rattle.nrt_base.specs.declared.numbers.Version.{Version}
 use Rattle.history_entries.specs.declared.entry.Event.{Event}
 use Rattle.history_entries.specs.declared.entry.Event.TheVariants.{Copying, Settling}
-use Rattle.history_entries.specs.Nodes.{Past, IsNode, IsReplica, newest_version, is_made_in_generation}
+use Rattle.history_entries.specs.Nodes.{Past, IsNode, IsReplica, is_running, primary_of, newest_version, is_made_in_generation}
 use Rattle.history_entries.specs.Lines.{start_entry, before_start, NodeSurvives, SourceSurvives}
 use Rattle.history_entries.specs.Rules.{MayCancel}
 use Rattle.history_tables.specs.declared.jobs.Job.{Job}
@@ -13,6 +13,8 @@ use Rattle.history_tables.specs.declared.jobs.JobStep.{JobStep}
 use Rattle.history_tables.specs.declared.jobs.JobStep.TheVariants.{Begins, Ends, Passes}
 use Rattle.history_tables.specs.declared.jobs.KeyedJob.{KeyedJob}
 use Rattle.history_tables.specs.Begins.{open_line}
+use Rattle.history_tables.specs.NodeRows.{crashed_at}
+use Rattle.history_tables.specs.Numbering.{primary_crashed}
 use Rattle.history_tables.specs.JobRows.{last_job_by, while_going, row_under}
 use Rattle.history_book.specs.declared.inner.Inner.{Inner}
 use Rattle.history_book.specs.declared.inner.Inner.TheVariants.{JobBegun, JobEnd}
@@ -22,7 +24,7 @@ use Rattle.history_book.specs.Log.{Log, printed}
 -- what an entry of inner work does to the jobs that copy points
 abbrev pub job_step : Inner → JobStep
 job_step (JobBegun line n number (Some v) (Some at)) = Begins (record { at = at; node = n; number = number; version = v })
-job_step (JobEnd line n number) = Ends n number
+job_step (JobEnd line n number) = Ends line n number
 job_step i = Passes
 
 -- what is remembered of the last job that began for a line of a lane, or at a node
@@ -88,6 +90,12 @@ pub record LaneJobShows (size : ℕ) (past : Past) (row : JobRow) : Type 0 where
   pub made : SourceSurvives past row.job.at → 1 < row.job.version.0 → is_made_in_generation row.job.version.0 past ≡ true
   pub later : (v : Version) → row.later ≡ Some v → NodeSurvives past row.job.at row.job.node.0 → SourceSurvives past row.job.at
       → IsCancelled size past row.job.at v (start_entry row.job.at past)
+
+-- A job that began behind so many printed entries: its node runs, and a primary does, as long as neither has crashed since.
+pub record JobRests (past : Past) (n before : ℕ) : Type 0 where
+  pub low : before ≤ length past
+  pub node : nat_le (crashed_at n past) before ≡ true → is_running n past ≡ true
+  pub source : nat_le (primary_crashed past) before ≡ true → primary_of past ≢ None
 
 -- entries of inner work came in their turn, and what is remembered of jobs is what they show
 pub record HoldsJobs (size : ℕ) (log : Log) (nodes lanes : List KeyedJob) : Type 0 where

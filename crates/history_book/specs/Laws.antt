@@ -7,7 +7,7 @@ use Rattle.nrt_base.specs.declared.numbers.Version.{Version}
 use Rattle.documents.specs.declared.operation.Op.{Op}
 use Rattle.history_entries.specs.declared.entry.Event.{Event}
 use Rattle.history_entries.specs.declared.entry.Event.TheVariants.{Publishing, Committing}
-use Rattle.history_entries.specs.Nodes.{Past, version_of, primary_of, primary_crashes, generation_of, newest_version, is_made_in_generation}
+use Rattle.history_entries.specs.Nodes.{Past, version_of, primary_of, crashes, primary_crashes, generation_of, newest_version, is_made_in_generation}
 use Rattle.history_entries.specs.Lines.{start_entry, before_start, last_of_line, is_answered}
 use Rattle.history_entries.specs.Faults.{has_met_fault}
 use Rattle.history_entries.specs.Commits.{is_stuck, reopenable_versions}
@@ -81,3 +81,8 @@ pub record CommitFound (past : Past) (n : NodeNo) (at : At) : Type 0 where
   pub entry : start_entry at past ≡ Some (Committing n version)
   pub found : may_find n.0 version.0 past ≡ true
   pub late : is_stuck n.0 past ≡ true → may_find n.0 (version_of n.0 past) past ≡ true
+
+-- while the line's commit is in flight at the node, neither the node has crashed nor the line has its reply since its start
+pub record CommitFlies (past : Past) (n : ℕ) (at : At) : Type 0 where
+  pub alive : crashes n past ≡ crashes n (before_start at past)
+  pub is_open : open_line at past ≢ None

@@ -88,7 +88,7 @@ impl Book {
     ghost use Rattle.history_entries.specs.Lines.{SourceSurvives, NodeSurvives, is_start, is_answered, entries_of_line, last_of_line, start_entry, before_start, publish_in_flight, commit_in_flight, copy_in_flight, highest_copy, highest_switched, has_switched};
     ghost use Rattle.history_entries.specs.Points.{operations_of_generation, accepted_at_start, published_in_generation, names_drawn, merges_started, idle_publishes, cut_of, cut_has_put};
     ghost use Rattle.history_entries.specs.Commits.{has_committed, is_stuck, starts_commit};
-    ghost use Rattle.history_entries.specs.Rules.{MaySwitch};
+    ghost use Rattle.history_entries.specs.Rules.{MaySwitch, MayCommit};
     ghost use Rattle.history_entries.specs.Tasks.{merge_count, drained_count};
     ghost use Rattle.history_entries.specs.Legal.{KeepsRule, IsLegalPast};
     ghost use Rattle.history_entries.specs.Tickets.{open_ticket, last_opened};
@@ -100,7 +100,7 @@ impl Book {
     ghost use Rattle.history_tables.specs.Openings.{IsLife, opens_ticket, ticket_of};
     ghost use Rattle.history_book.specs.Log.{printed, shown, kept, mark_for, FaultsFollow, FollowsMerging};
     ghost use Rattle.history_book.specs.Turns.{InTurn, AreInTurn};
-    ghost use Rattle.history_book.specs.Laws.{Reigns, Written, LastStarted, Flying, Flushed, IsFresh, CommitFound};
+    ghost use Rattle.history_book.specs.Laws.{Reigns, Written, LastStarted, Flying, Flushed, IsFresh, CommitFound, CommitFlies};
     ghost use Rattle.history_tables.specs.JobRows.{is_begin, while_going};
     ghost use Rattle.history_book.specs.Jobs.{job_step, last_job, job_at, job_of, IsInside, LaneJobShows};
 
@@ -734,10 +734,32 @@ impl Book {
         let _numbers = &self.numbers;
     }
 
-    /// What a reopening may find of the commit in flight. A law.
+    /// What a reopening may find of the commit in flight, whose node has not crashed and whose line has no reply. A law.
     pub fn commit_found(&self, at: At, n: NodeNo)
         requires { commit_in_flight n.0 (printed self.now.log) ≡ Some at }
-        ensures { CommitFound (printed self.now.log) n at }
+        ensures found { CommitFound (printed self.now.log) n at }
+        ensures flies { CommitFlies (printed self.now.log) n.0 at }
+    {
+        let _numbers = &self.numbers;
+    }
+
+    /// The commit in flight may be acknowledged, for the version of its start. A law.
+    pub fn commit_may_end(&self, at: At, n: NodeNo, v: Version)
+        requires flight { commit_in_flight n.0 (printed self.now.log) ≡ Some at }
+        requires started { start_entry at (printed self.now.log) ≡ Some (Event.Committing n v) }
+        ensures { MayCommit self.now.nodes (printed self.now.log) at n v }
+    {
+        let _numbers = &self.numbers;
+    }
+
+    /// No commit of a node that is down is in flight, and a job runs only at a node that runs, while a primary does. A law.
+    pub fn is_idle(&self)
+        ensures commits { (n : ℕ) → is_running n (printed self.now.log) ≡ false
+            → commit_in_flight n (printed self.now.log) ≡ None }
+        ensures down { (n : ℕ) → is_running n (printed self.now.log) ≡ false
+            → job_at n self.now.log ≡ None }
+        ensures vacant { (n : ℕ) → primary_of (printed self.now.log) ≡ None
+            → job_at n self.now.log ≡ None }
     {
         let _numbers = &self.numbers;
     }

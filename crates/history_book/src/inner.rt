@@ -129,7 +129,7 @@ pub fn job_step(inner: &Inner) -> JobStep
                 }),
             },
         },
-        Inner::JobEnd { node, job, .. } => JobStep::Ends(*node, *job),
+        Inner::JobEnd { line, node, job } => JobStep::Ends(*line, *node, *job),
         Inner::FlushOut { .. }
         | Inner::FlushEnd { .. }
         | Inner::MergeOut { .. }

@@ -16,17 +16,18 @@ new_job_row job before = record { job = job; before = before; ended = false; lat
 -- the step begins a job
 abbrev pub is_begin : JobStep → Bool
 is_begin (Begins job) = true
-is_begin (Ends n number) = false
+is_begin (Ends line n number) = false
 is_begin Passes = false
 
 -- the job has neither ended nor been overtaken
 abbrev pub is_going : JobRow → Bool
 is_going row = not row.ended && not (is_some row.later)
 
--- what is remembered of a job after one more step: a later job at its node overtakes it while it goes on
+-- what is remembered of a job after one more step: a later job at its node overtakes it while it goes on, and the end of the job
+-- of its line with its number there ends it
 abbrev pub row_by : JobStep → JobRow → JobRow
 row_by (Begins job) row = if (row.job.node.0 == job.node.0) && is_going row then record row { later = Some job.version } else row
-row_by (Ends n number) row = if (row.job.node.0 == n.0) && (row.job.number == number) then record row { ended = true } else row
+row_by (Ends line n number) row = if ((row.job.at.line.0 == line.0) && (row.job.node.0 == n.0)) && (row.job.number == number) then record row { ended = true } else row
 row_by Passes row = row
 
 abbrev pub row_if_some : JobStep → Option JobRow → Option JobRow
@@ -41,7 +42,7 @@ key_of false job = job.node.0
 -- what is remembered of the last job of a key after one more step
 abbrev pub last_job_by : Bool → ℕ → JobStep → ℕ → Option JobRow → Option JobRow
 last_job_by lanes k (Begins job) before old = if key_of lanes job == k then Some (new_job_row job before) else row_if_some (Begins job) old
-last_job_by lanes k (Ends n number) before old = row_if_some (Ends n number) old
+last_job_by lanes k (Ends line n number) before old = row_if_some (Ends line n number) old
 last_job_by lanes k Passes before old = row_if_some Passes old
 
 -- the job of a row that has not ended, where neither the node nor a primary has crashed since it began

@@ -4,7 +4,7 @@ ghost use Rattle.std.specs.Prelude.{◌≡◌, ◌≤◌, ◌==◌, not, map, ve
 ghost use Rattle.std.specs.List.{filter};
 ghost use Rattle.history_tables.specs.JobRows.{new_job_row, is_going, row_by, keyed_by, key_of};
 
-use nrt_base::{At, NodeNo, Version};
+use nrt_base::{At, LineNo, NodeNo, Version};
 use std::alloc::{AllocError, Global};
 use std::marker::Model;
 
@@ -32,7 +32,8 @@ pub struct JobRow {
 #[derive(Clone, Copy, Debug)]
 pub enum JobStep {
     Begins(Job),
-    Ends(NodeNo, u64),
+    /// The job of this line with this number at the node ends.
+    Ends(LineNo, NodeNo, u64),
     Passes,
 }
 
@@ -96,8 +97,11 @@ impl JobRow {
                     self
                 }
             }
-            JobStep::Ends(node, number) => {
-                if self.job.node.0 == node.0 && self.job.number == number {
+            JobStep::Ends(line, node, number) => {
+                if self.job.at.line.0 == line.0
+                    && self.job.node.0 == node.0
+                    && self.job.number == number
+                {
                     JobRow {
                         ended: true,
                         ..self

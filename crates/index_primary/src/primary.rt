@@ -257,6 +257,13 @@ impl<D: Dir> Primary<D> {
         self.parts.names(alloc)
     }
 
+    /// The number that the next commit gets.
+    pub fn next_commit(&self) -> u64
+        ensures { result ≡ self.now.commits.next }
+    {
+        self.parts.commits.next
+    }
+
     /// Begins a commit of the point that is searched. The directory is not called.
     pub fn commit_begin(&mut self, alloc: Global) -> Result<(), NoMemory>
         requires none { self.old.commits.stage ≡ None }

@@ -126,3 +126,7 @@ among es field term hits i lt e h =
 pub found_fit : (format : Format) (es : List Entry) (field : ℕ) (term : List ℕ) (hits : List Hit) (i : ℕ) → heading_of (at_place es i) ≡ field ∷ term → hits ≡ hits_of (at_place es i) → IsFileEntry format (at_place es i) → HitsFit field hits
 found_fit format es field term hits i e h fit =
     subst (HitsFit field) (sym h) (subst (λ (f : ℕ). HitsFit f (hits_of (at_place es i))) (cons_first (field_of (at_place es i)) field (term_of (at_place es i)) term e) fit.hits_fit)
+
+-- an entry by its parts
+pub same_entry : (e : Entry) (field : ℕ) (term : List ℕ) (hits : List Hit) → field ≡ field_of e → term ≡ term_of e → hits ≡ hits_of e → ◌≡◌ {A = Entry} (field, (term, hits)) e
+same_entry e field term hits f t h = λ i. (f i, (t i, h i))

@@ -103,11 +103,11 @@ hits_known : (hs hits : List Hit) → some_hits hs ≡ Some hits → (hs ≡ hit
 hits_known [] hits e = absurd cc
 hits_known (h ∷ hs) hits e = (cc, omega arith)
 
-found_hits : (found : Found) (rows : List TermRow) (field : ℕ) (term : List ℕ) (hits : List Hit) → Gathers found rows → field < 2 → get (slice_cmp nat_cmp) found (field ∷ term) ≡ Some hits
+found_hits : (found : Found) (rows : List TermRow) (field : ℕ) (term : List ℕ) (hits : List Hit) → Gathers found.entries rows → field < 2 → get (slice_cmp nat_cmp) found (field ∷ term) ≡ Some hits
     → (rows_with field term rows ≡ hits) × (0 < length (rows_with field term rows))
 found_hits found rows field term hits g lt e = hits_known (rows_with field term rows) hits (sym (g.at field term lt) ∙ e)
 
-pub entry_fits : (found : Found) (rows : List TermRow) (heading : List ℕ) (field : ℕ) (term : List ℕ) (hits : List Hit) → Gathers found rows → AreFew rows → get (slice_cmp nat_cmp) found heading ≡ Some hits
+pub entry_fits : (found : Found) (rows : List TermRow) (heading : List ℕ) (field : ℕ) (term : List ℕ) (hits : List Hit) → Gathers found.entries rows → AreFew rows → get (slice_cmp nat_cmp) found heading ≡ Some hits
     → heading ≡ field ∷ term → field < 2 → HitsFit field hits
 entry_fits found rows heading field term hits g few e both lt =
     let k = found_hits found rows field term hits g lt (ap (get (slice_cmp nat_cmp) found) (sym both) ∙ e) in
@@ -115,7 +115,7 @@ entry_fits found rows heading field term hits g few e both lt =
 
 -- the same at a turn of a walk over all that is found
 pub turn_fits : (xs : List (Bor (List ℕ) × Bor (List Hit))) (s t u : List (List ℕ × List Hit)) (r : Option (Bor (List ℕ) × Bor (List Hit))) (heading : Bor (List ℕ)) (hits : Bor (List Hit)) → Yields (TakesFirst deref_pair) s xs t → r ≡ Some (heading, hits) → TakesFirst deref_pair t r u
-    → (found : Found) → s ≡ found.entries → IsOrdered (slice_cmp nat_cmp) found → (rows : List TermRow) → Gathers found rows → AreFew rows
+    → (found : Found) → s ≡ found.entries → IsOrdered (slice_cmp nat_cmp) found → (rows : List TermRow) → Gathers found.entries rows → AreFew rows
     → (field : ℕ) (term : List ℕ) → heading.now ≡ field ∷ term → field < 2 → HitsFit field hits.now
 turn_fits xs s t u r heading hits y is step found start ordered rows g few field term both lt =
     let turn = btree_map_turn deref_pair xs s t u r (heading, hits) y is step nat_list_cmp_total found start ordered in
@@ -175,7 +175,7 @@ entry_at_key found i d lt = get_or-map (λ (x : List ℕ × List Hit). entry_wit
 pub length-entries : (found : Found) → length (entries_with found.entries) ≡ length found.entries
 length-entries found = length-map found.entries (λ (x : List ℕ × List Hit). entry_with x.0 x.1)
 
-entry_is_had : (format : Format) (found : Found) (rows : List TermRow) → IsOrdered (slice_cmp nat_cmp) found → Gathers found rows → All (MakesEntry format) found.entries → (field : ℕ) (term : List ℕ) (hits : List Hit)
+entry_is_had : (format : Format) (found : Found) (rows : List TermRow) → IsOrdered (slice_cmp nat_cmp) found → Gathers found.entries rows → All (MakesEntry format) found.entries → (field : ℕ) (term : List ℕ) (hits : List Hit)
     → HasEntry (entries_with found.entries) field term hits → HaveEntry rows field term hits
 entry_is_had format found rows ordered g make field term hits has =
     let i = has.0 in
@@ -194,7 +194,7 @@ some_known : (hs : List Hit) → 0 < length hs → some_hits hs ≡ Some hs
 some_known [] pos = absurd (omega arith)
 some_known (h ∷ hs) pos = refl
 
-entry_is_there : (found : Found) (rows : List TermRow) → Gathers found rows → (field : ℕ) (term : List ℕ) (hits : List Hit) → HaveEntry rows field term hits → HasEntry (entries_with found.entries) field term hits
+entry_is_there : (found : Found) (rows : List TermRow) → Gathers found.entries rows → (field : ℕ) (term : List ℕ) (hits : List Hit) → HaveEntry rows field term hits → HasEntry (entries_with found.entries) field term hits
 entry_is_there found rows g field term hits have =
     let pos = some_picked (has_term field term) (λ (x : ℕ × TermRow). (x.0, term_positions field term x.1)) 0 rows have.some in
     let lookup : get (slice_cmp nat_cmp) found (field ∷ term) ≡ Some (rows_with field term rows) = g.at field term have.kind ∙ some_known (rows_with field term rows) pos in
@@ -207,7 +207,7 @@ entry_is_there found rows g field term hits have =
     entry_at_key found i (field, (term, hits)) lt ∙ ap (λ (x : List ℕ × List Hit). entry_with x.0 x.1) here ∙ ap (λ (h : List ℕ). entry_with h (rows_with field term rows)) (sym key) ∙ ap (λ (hs : List Hit). (field, (term, hs))) (sym have.hits_are) in
     (i, omega (arith, lt, length-entries found), is)
 
-pub entries_are : (format : Format) (found : Found) (rows : List TermRow) → IsOrdered (slice_cmp nat_cmp) found → Gathers found rows → All (MakesEntry format) found.entries → AreEntriesOf rows (entries_with found.entries)
+pub entries_are : (format : Format) (found : Found) (rows : List TermRow) → IsOrdered (slice_cmp nat_cmp) found → Gathers found.entries rows → All (MakesEntry format) found.entries → AreEntriesOf rows (entries_with found.entries)
 entries_are format found rows ordered g make = λ field term hits. (entry_is_had format found rows ordered g make field term hits, entry_is_there found rows g field term hits)
 
 first_key : (rows : List TermRow) → 0 < length rows → (key : List ℕ) × IsTrue (list_any (has_term 0 key) rows)
@@ -223,7 +223,7 @@ ascending format found ordered make i j d lt small =
     let less = Less-from_sorted (slice_cmp nat_cmp) (keys_of found.entries) i j [] ordered lt (omega (arith, b, length-map found.entries (λ (e : List ℕ × List Hit). e.0))) in
     ap (λ (h : List ℕ). heading_order h (heading_of (get_or (entries_with found.entries) j d))) (key i a) ∙ ap (λ (h : List ℕ). heading_order (get_or (keys_of found.entries) i []) h) (key j b) ∙ less
 
-pub spelled : (format : Format) (found : Found) (rows : List TermRow) (body : List ℕ) → IsOrdered (slice_cmp nat_cmp) found → Gathers found rows → All (MakesEntry format) found.entries → 0 < length rows
+pub spelled : (format : Format) (found : Found) (rows : List TermRow) (body : List ℕ) → IsOrdered (slice_cmp nat_cmp) found → Gathers found.entries rows → All (MakesEntry format) found.entries → 0 < length rows
     → IsItemTable body (map (entry format) (entries_with found.entries)) → SpellsPostings format body (entries_with found.entries)
 spelled format found rows body ordered g make pos table =
     let first = first_key rows pos in

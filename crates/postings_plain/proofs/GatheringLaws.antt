@@ -25,7 +25,7 @@ or-true false = refl
 abbrev pub picked : {X Y : Type 0} → (X → Bool) → (ℕ × X → Y) → ℕ → List X → List Y
 picked {X} test make n xs = map make (filter (λ (x : ℕ × X). test x.1) (enumerate_from n xs))
 
-pick : {X Y : Type 0} (b : Bool) (make : ℕ × X → Y) (z : ℕ × X) (front whole : List (ℕ × X)) (last : List Y) → map make whole ≡ map make front ++ last → map make (cond b (z ∷ whole) whole) ≡ map make (cond b (z ∷ front) front) ++ last
+pub pick : {X Y : Type 0} (b : Bool) (make : ℕ × X → Y) (z : ℕ × X) (front whole : List (ℕ × X)) (last : List Y) → map make whole ≡ map make front ++ last → map make (cond b (z ∷ whole) whole) ≡ map make (cond b (z ∷ front) front) ++ last
 pick true make z front whole last e = ap (λ ys. make z ∷ ys) e
 pick false make z front whole last e = e
 
@@ -68,17 +68,17 @@ positions_more word words w n len = picked_more (λ (w : List ℕ). bytes_eq w w
 pub positions_none : (word : List ℕ) (words : List (List ℕ)) → list_any (λ w. bytes_eq w word) words ≡ false → positions_of word words ≡ []
 positions_none word words e = picked_none (λ (w : List ℕ). bytes_eq w word) (λ (x : ℕ × List ℕ). x.0) 0 words e
 
-abbrev same_key : List ℕ → List ℕ → Bool
+abbrev pub same_key : List ℕ → List ℕ → Bool
 same_key a b = is_at (slice_cmp nat_cmp a) b
 
-apart : (a b : List ℕ) → bytes_eq a b ≡ false → same_key a b ≡ false
+pub apart : (a b : List ℕ) → bytes_eq a b ≡ false → same_key a b ≡ false
 apart a b e = is_eq-slice_cmp a b ∙ e
 
 some_filled : (hs : List Hit) (h : Hit) → Some (hs ++ h ∷ []) ≡ some_hits (hs ++ h ∷ [])
 some_filled [] h = refl
 some_filled (x ∷ hs) h = refl
 
-hits_back : (hs : List Hit) → unwrap_or (some_hits hs) [] ≡ hs
+pub hits_back : (hs : List Hit) → unwrap_or (some_hits hs) [] ≡ hs
 hits_back [] = refl
 hits_back (h ∷ hs) = refl
 
@@ -90,7 +90,7 @@ Found = BTreeMap (List ℕ) (List Hit)
 abbrev KeyAdded : Found → Found → ℕ → List ℕ → Type 0
 KeyAdded old new n key = Updates (slice_cmp nat_cmp) old new (0 ∷ key) (Some (unwrap_or (get (slice_cmp nat_cmp) old (0 ∷ key)) [] ++ (n, []) ∷ []))
 
-key_case : (old new : Found) (rows : List TermRow) (n : ℕ) (key term : List ℕ) (b : Bool) → bytes_eq key term ≡ b → Gathers old rows → KeyAdded old new n key
+key_case : (old new : Found) (rows : List TermRow) (n : ℕ) (key term : List ℕ) (b : Bool) → bytes_eq key term ≡ b → Gathers old.entries rows → KeyAdded old new n key
     → get (slice_cmp nat_cmp) new (0 ∷ term) ≡ some_hits (rows_with 0 term rows ++ cond b ((n, []) ∷ []) [])
 key_case old new rows n key term true e g u =
     let same : key ≡ term = (bytes_decides key term).0 e in
@@ -100,7 +100,7 @@ key_case old new rows n key term true e g u =
 key_case old new rows n key term false e g u =
     u.2 (0 ∷ term) (apart (0 ∷ key) (0 ∷ term) e) ∙ g.at 0 term (omega arith) ∙ ap some_hits (sym (append-nil (rows_with 0 term rows)))
 
-key_at : (old new : Found) (rows : List TermRow) (n : ℕ) (key : List ℕ) → length rows ≡ n → Gathers old rows → KeyAdded old new n key → (field : ℕ) (term : List ℕ) → field < 2
+key_at : (old new : Found) (rows : List TermRow) (n : ℕ) (key : List ℕ) → length rows ≡ n → Gathers old.entries rows → KeyAdded old new n key → (field : ℕ) (term : List ℕ) → field < 2
     → get (slice_cmp nat_cmp) new (field ∷ term) ≡ some_hits (rows_with field term (rows ++ record { key = key; words = [] } ∷ []))
 key_at old new rows n key len g u zero term lt =
     key_case old new rows n key term (bytes_eq key term) refl g u ∙ ap some_hits (sym (rows_with_more 0 term rows (record { key = key; words = [] }) n len))
@@ -109,7 +109,7 @@ key_at old new rows n key len g u (suc zero) term lt =
     ∙ ap some_hits (sym (rows_with_more 1 term rows (record { key = key; words = [] }) n len ∙ append-nil (rows_with 1 term rows)))
 key_at old new rows n key len g u (suc (suc field)) term lt = absurd (omega arith)
 
-pub key_added : (old new : Found) (rows : List TermRow) (n : ℕ) (key : List ℕ) → length rows ≡ n → Gathers old rows → KeyAdded old new n key → Gathers new (rows ++ record { key = key; words = [] } ∷ [])
+pub key_added : (old new : Found) (rows : List TermRow) (n : ℕ) (key : List ℕ) → length rows ≡ n → Gathers old.entries rows → KeyAdded old new n key → Gathers new.entries (rows ++ record { key = key; words = [] } ∷ [])
 key_added old new rows n key len g u = record { at = key_at old new rows n key len g u }
 
 -- ---- a word is added
@@ -146,7 +146,7 @@ abbrev WordAdded : Found → Found → List ℕ → List Hit → Type 0
 WordAdded old new w hits = Updates (slice_cmp nat_cmp) old new (1 ∷ w) (Some hits)
 
 word_case : (old new : Found) (rows : List TermRow) (n at : ℕ) (key : List ℕ) (words : List (List ℕ)) (w term : List ℕ) (hits : List Hit) (b : Bool) → bytes_eq w term ≡ b → length rows ≡ n → length words ≡ at
-    → Gathers old (rows ++ with_words key words ∷ []) → GainsPlace (unwrap_or (get (slice_cmp nat_cmp) old (1 ∷ w)) []) n at hits → WordAdded old new w hits
+    → Gathers old.entries (rows ++ with_words key words ∷ []) → GainsPlace (unwrap_or (get (slice_cmp nat_cmp) old (1 ∷ w)) []) n at hits → WordAdded old new w hits
     → get (slice_cmp nat_cmp) new (1 ∷ term) ≡ some_hits (rows_with 1 term (rows ++ with_words key (words ++ w ∷ []) ∷ []))
 word_case old new rows n at key words w term hits true e len long g gains u =
     let same : w ≡ term = (bytes_decides w term).0 e in
@@ -164,7 +164,7 @@ word_case old new rows n at key words w term hits false e len long g gains u =
     ∙ ap some_hits (rows_with_more 1 term rows (with_words key words) n len ∙ ap (λ x. rows_with 1 term rows ++ x) (sym (same_end n term w words e)) ∙ sym (rows_with_more 1 term rows (with_words key (words ++ w ∷ [])) n len))
 
 word_at : (old new : Found) (rows : List TermRow) (n at : ℕ) (key : List ℕ) (words : List (List ℕ)) (w : List ℕ) (hits : List Hit) → length rows ≡ n → length words ≡ at
-    → Gathers old (rows ++ with_words key words ∷ []) → GainsPlace (unwrap_or (get (slice_cmp nat_cmp) old (1 ∷ w)) []) n at hits → WordAdded old new w hits → (field : ℕ) (term : List ℕ) → field < 2
+    → Gathers old.entries (rows ++ with_words key words ∷ []) → GainsPlace (unwrap_or (get (slice_cmp nat_cmp) old (1 ∷ w)) []) n at hits → WordAdded old new w hits → (field : ℕ) (term : List ℕ) → field < 2
     → get (slice_cmp nat_cmp) new (field ∷ term) ≡ some_hits (rows_with field term (rows ++ with_words key (words ++ w ∷ []) ∷ []))
 word_at old new rows n at key words w hits len long g gains u zero term lt =
     u.2 (0 ∷ term) (apart (1 ∷ w) (0 ∷ term) refl) ∙ g.at 0 term lt
@@ -173,6 +173,6 @@ word_at old new rows n at key words w hits len long g gains u (suc zero) term lt
 word_at old new rows n at key words w hits len long g gains u (suc (suc field)) term lt = absurd (omega arith)
 
 pub word_added : (old new : Found) (rows : List TermRow) (n at : ℕ) (key : List ℕ) (words : List (List ℕ)) (w : List ℕ) (hits : List Hit) → length rows ≡ n → length words ≡ at
-    → Gathers old (rows ++ with_words key words ∷ []) → GainsPlace (unwrap_or (get (slice_cmp nat_cmp) old (1 ∷ w)) []) n at hits → WordAdded old new w hits
-    → Gathers new (rows ++ with_words key (words ++ w ∷ []) ∷ [])
+    → Gathers old.entries (rows ++ with_words key words ∷ []) → GainsPlace (unwrap_or (get (slice_cmp nat_cmp) old (1 ∷ w)) []) n at hits → WordAdded old new w hits
+    → Gathers new.entries (rows ++ with_words key (words ++ w ∷ []) ∷ [])
 word_added old new rows n at key words w hits len long g gains u = record { at = word_at old new rows n at key words w hits len long g gains u }

@@ -15,3 +15,5 @@ pub mod GatheringLaws
 mod ChainWriting
 mod BlockWriting
 mod FoundEntries
+mod JoiningLaws
+mod KeptHits

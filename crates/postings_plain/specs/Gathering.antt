@@ -3,7 +3,8 @@ use Rattle.std.specs.Prelude.{◌≡◌, ℕ, ◌<◌, ◌≤◌, ◌^◌, ◌++
 use Rattle.std.specs.List.{All}
 use Rattle.std.specs.Ordering.{nat_cmp}
 use Rattle.std.specs.Cmp.Lexicographic.{slice_cmp}
-use Rattle.std.specs.BTreeMap.{BTreeMap, get, Updates}
+use Rattle.std.specs.BTreeMap.{BTreeMap, get, Updates, is_at}
+use Rattle.std.specs.Map.{lookup}
 use Rattle.postings_plain.specs.declared.format.Format.{Format}
 use Rattle.postings_plain.specs.declared.row.TermRow.{TermRow}
 use Rattle.std.specs.Option.{unwrap_or}
@@ -28,9 +29,13 @@ some_hits (h ∷ hs) = Some (h ∷ hs)
 abbrev pub EndsInRow : List Hit → ℕ → Type 0
 EndsInRow hits row = (before : List Hit) × (places : List ℕ) × (hits ≡ before ++ (row, places) ∷ [])
 
+-- terms that were found, in the order of the file, each with the rows that have it
+abbrev pub FoundTerms : Type 0
+FoundTerms = List (List ℕ × List Hit)
+
 -- each term that a row has is found, with the rows that have it, and no other term
-pub record Gathers (found : BTreeMap (List ℕ) (List Hit)) (rows : List TermRow) : Type 0 where
-  pub at : (field : ℕ) (term : List ℕ) → field < 2 → get (slice_cmp nat_cmp) found (field ∷ term) ≡ some_hits (rows_with field term rows)
+pub record Gathers (found : FoundTerms) (rows : List TermRow) : Type 0 where
+  pub at : (field : ℕ) (term : List ℕ) → field < 2 → lookup (is_at (slice_cmp nat_cmp (field ∷ term))) found ≡ some_hits (rows_with field term rows)
 
 -- rows, and words of each row, are fewer than 2^32
 pub record AreFew (rows : List TermRow) : Type 0 where
@@ -55,7 +60,7 @@ AddsPlace old new term row place = (hits : List Hit) × GainsPlace (found_hits o
 
 -- after so many rows this one was gathered as well
 abbrev pub GathersRow : (number : ℕ) → TermRow → (old new : Terms) → Type 0
-GathersRow number row old new = (rows : List TermRow) → length rows ≡ number → Gathers old rows → Gathers new (rows ++ row ∷ [])
+GathersRow number row old new = (rows : List TermRow) → length rows ≡ number → Gathers old.entries rows → Gathers new.entries (rows ++ row ∷ [])
 
 -- hits were added, whose rows are k or above, and this is the least row that may come after them
 pub record AddsRows (field k : ℕ) (hs : List Hit) (old new : List ℕ) (end : ℕ) : Type 0 where
@@ -94,4 +99,4 @@ pub record SpellsRows (format : Format) (body : List ℕ) (rows : List TermRow) 
 
 -- the body of the rows that were gathered, at least one, was added in this format
 abbrev pub AddsPostings : Format → (found : Terms) (old new : List ℕ) → Type 0
-AddsPostings format found old new = (rows : List TermRow) → Gathers found rows → AreFew rows → 0 < length rows → AddsSpelling (SpellsRows format) rows old new
+AddsPostings format found old new = (rows : List TermRow) → Gathers found.entries rows → AreFew rows → 0 < length rows → AddsSpelling (SpellsRows format) rows old new

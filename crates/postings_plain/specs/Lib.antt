@@ -5,3 +5,4 @@ pub mod Reading
 pub mod Blocks
 pub mod Inverting
 pub mod Gathering
+pub mod Joining

@@ -45,9 +45,24 @@ pub fn encode_in(
     ensures small { IfOk result (HasSmallBody (format_wanted format id.now) id.now) }
 {
     let found = inverted(alloc, rows)?;
+    encode_found(alloc, format, id, &found)
+}
+
+/// The file of the postings of rows that were gathered, in this format.
+pub fn encode_found(
+    alloc: Global,
+    format: Format,
+    id: &[u8; 16],
+    found: &Found<'_>,
+) -> Result<Bytes, NoMemory>
+    requires { (rows : List TermRow) × Gathers found.now.entries rows × AreFew rows × (0 < length rows) }
+    ensures file { IfOk result (λ bytes. (rows : List TermRow) → Gathers found.now.entries rows
+        → AreFew rows → 0 < length rows → IsPostingsFileOf format id.now rows bytes) }
+    ensures small { IfOk result (HasSmallBody (format_wanted format id.now) id.now) }
+{
     let mut out = Vec::new(alloc);
     write_index_header(&mut out, NAME, u32::from(format.number()), id, b"")?;
-    push_body(alloc, &mut out, format, &found)?;
+    push_body(alloc, &mut out, format, found)?;
     write_footer(&mut out)?;
     Ok(Bytes::from_vec(out)?)
 }
@@ -59,7 +74,7 @@ fn push_body(
     format: Format,
     found: &Found<'_>,
 ) -> Result<(), NoMemory>
-    requires { (rows : List TermRow) × Gathers found.now rows × AreFew rows × (0 < length rows) }
+    requires { (rows : List TermRow) × Gathers found.now.entries rows × AreFew rows × (0 < length rows) }
     ensures { OnOk result (AddsPostings format found.now out.old.items out.new.items) }
 {
     let count = found.len();

@@ -1,15 +1,17 @@
 //! Files of postings, read.
 
-ghost use Rattle.std.specs.Prelude.{◌≡◌, MatchOption, IfSome};
+ghost use Rattle.std.specs.Prelude.{◌≡◌, ◌<◌, length, MatchOption, IfSome};
+ghost use Rattle.std.specs.List.{AllPairs};
 ghost use Rattle.codec_frame.specs.Checking.{IsChecked};
-ghost use Rattle.postings_plain.specs.Postings.{HitsFit};
-ghost use Rattle.postings_plain.specs.Body.{SpellsPostings, HasEntry, HasNoEntry, IsRowCount, postings_wanted, IsPostingsRead};
+ghost use Rattle.postings_plain.specs.Postings.{HitsFit, IsFileEntry};
+ghost use Rattle.postings_plain.specs.Body.{SpellsPostings, IsBefore, HasEntry, HasNoEntry, IsRowCount, postings_wanted, IsPostingsRead};
+ghost use Rattle.postings_plain.specs.Reading.{at_place};
 
 use crate::body::row_count;
-use crate::find::find;
+use crate::find::{find, heading_in};
 use crate::format::Format;
 use crate::postings::Postings;
-use body_forms::item_at;
+use body_forms::{item_at, item_count};
 use bytes::Bytes;
 use codec_frame::{FileFault, FrameFault, Framed, Want, check};
 use nrt_base::{NoMemory, Share};
@@ -79,6 +81,27 @@ impl PostFile {
         ensures { result ≡ self.now.format }
     {
         self.format
+    }
+
+    /// How many entries there are, each before the next one, by field and by the bytes of the term.
+    pub(crate) fn terms(&self) -> u32
+        ensures count { result ≡ length self.now.entries }
+        ensures ascend { AllPairs IsBefore self.now.entries }
+    {
+        let body = self.body();
+        item_count(body)
+    }
+
+    /// The entry at a place: its field, its term and its hits.
+    pub(crate) fn entry(&self, place: u32) -> (u8, &[u8], Postings<'_>)
+        requires { place < length self.now.entries }
+        ensures value { (result.0, (result.1.now, result.2)) ≡ at_place self.now.entries place }
+        ensures fit { IsFileEntry self.now.format (at_place self.now.entries place) }
+    {
+        let body = self.body();
+        let item = item_at(body, place);
+        let (field, term) = heading_in(item);
+        (field, term, Postings::of_entry(self.format, item))
     }
 
     /// The hits of a term: of a key where the field is 0, of a word where it is 1. None comes exactly where no row has it.

@@ -3,6 +3,7 @@
 ghost use Rattle.std.specs.Prelude.{◌≡◌, ◌↔◌, ◌++◌, ◌∷◌, [], IsTrue, OnOk};
 ghost use Rattle.postings_plain.specs.Gathering.{EndsInRow, GainsPlace};
 
+use crate::positions::Positions;
 use nrt_base::NoMemory;
 use std::alloc::Global;
 use std::marker::Model;
@@ -86,6 +87,32 @@ impl TermHits {
         ensures { OnOk result (self.new ≡ self.old ++ (row, []) ∷ []) }
     {
         self.hits.push(RowHit::new(alloc, row))?;
+        Ok(())
+    }
+
+    /// Adds a row, and the positions of the term in it.
+    pub fn push_hit(
+        &mut self,
+        alloc: Global,
+        row: u32,
+        positions: Positions<'_>,
+    ) -> Result<(), NoMemory>
+        ensures { OnOk result (self.new ≡ self.old ++ (row, positions.entry) ∷ []) }
+    {
+        let mut hit = RowHit::new(alloc, row);
+        for position in positions {
+            hit.push(position)?;
+        }
+        self.hits.push(hit)?;
+        Ok(())
+    }
+
+    /// Puts the rows of others at the end.
+    pub fn append(&mut self, others: TermHits) -> Result<(), NoMemory>
+        ensures { OnOk result (self.new ≡ self.old ++ others) }
+    {
+        let mut others = others;
+        self.hits.append(&mut others.hits)?;
         Ok(())
     }
 

@@ -68,7 +68,7 @@ fn add_row<'a>(
 
 /// The rows of each term of these rows. 2^32 rows, or words of a row, or bytes of a word, or more are out of memory.
 pub fn inverted<'a>(alloc: Global, rows: &'a [TermRow]) -> Result<Found<'a>, NoMemory>
-    ensures gathers { IfOk result (λ found. Gathers found rows.now) }
+    ensures gathers { IfOk result (λ found. Gathers found.entries rows.now) }
     ensures few { OnOk result (AreFew rows.now) }
 {
     if rows.len() > MOST {

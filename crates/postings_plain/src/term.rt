@@ -54,6 +54,16 @@ impl<'a> Term<'a> {
         Ok(Term { field: 1, bytes })
     }
 
+    /// The term of an entry.
+    pub fn of_entry(field: u8, bytes: &'a [u8]) -> Term<'a>
+        requires field { field < 2 }
+        requires some { 0 < length bytes.now }
+        requires few { length bytes.now < 2 ^ 32 }
+        ensures { result ≡ field ∷ bytes.now }
+    {
+        Term { field, bytes }
+    }
+
     /// The field and the bytes.
     pub fn parts(&self) -> (u8, &'a [u8])
         ensures both { self.now ≡ result.0 ∷ result.1.now }

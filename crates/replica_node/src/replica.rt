@@ -183,6 +183,13 @@ impl<D: Dir> Replica<D> {
         self.parts.seen
     }
 
+    /// The number of the last job.
+    pub fn jobs(&self) -> u64
+        ensures { result ≡ self.now.jobs }
+    {
+        self.parts.jobs
+    }
+
     /// The number that the next commit gets.
     pub fn next_commit(&self) -> u64
         ensures { result ≡ self.now.commits.next }

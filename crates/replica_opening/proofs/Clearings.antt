@@ -56,7 +56,7 @@ one_shown image m n x y a b = elim (order m n) [
   ]
 ]
 
-one_found : (image : Image) (a b : Option ℕ) (x y : Infos) → FindsPoint image a x → FindsPoint image b y → (a ≡ b) × (x ≡ y)
+pub one_found : (image : Image) (a b : Option ℕ) (x y : Infos) → FindsPoint image a x → FindsPoint image b y → (a ≡ b) × (x ≡ y)
 one_found image None None x y h k = (refl, h.1 ∙ sym k.1)
 one_found image None (Some n) x y h k = absurd (some_none (image (commit_name_of n)) k.bytes k.newest.there (h.0 (commit_name_of n) (commit_name_is_one n k.newest.some k.newest.below)))
 one_found image (Some m) None x y h k = absurd (some_none (image (commit_name_of m)) h.bytes h.newest.there (k.0 (commit_name_of m) (commit_name_is_one m h.newest.some h.newest.below)))

@@ -3,3 +3,4 @@ mod EntryRows
 pub mod NameOrder
 mod Records
 mod ReadBack
+mod WordCounts

@@ -47,8 +47,8 @@ fn post_file(
     encode_in(alloc, format, id, terms.as_slice())
 }
 
-// The info file of a segment whose postings have this format.
-fn info_file(
+/// The info file of a segment whose postings have this format.
+pub fn info_file(
     alloc: Global,
     id: &[u8; 16],
     format: Format,
@@ -65,8 +65,8 @@ fn info_file(
     encode_info(alloc, id, &info)
 }
 
-// The live file, where the segment's record has a live generation.
-fn live_file(
+/// The live file, where the segment's record has a live generation.
+pub fn live_file(
     alloc: Global,
     id: &[u8; 16],
     segment: &SegRecord,

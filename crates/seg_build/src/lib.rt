@@ -4,11 +4,13 @@
 mod building;
 mod contents;
 mod files;
+mod joining;
 mod reading;
 mod rows;
 
 pub use building::build;
 pub use files::{SegFiles, first_record};
+pub use joining::build_joined;
 pub use reading::read_back;
 pub use rows::Prepared;
 

@@ -6,7 +6,6 @@ use Rattle.nrt_base.specs.declared.doc.Doc.{Doc}
 use Rattle.nrt_base.specs.declared.numbers.SegNo.{SegNo}
 use Rattle.seg_reader.specs.Shown.{Shown}
 use Rattle.seg_build.specs.declared.files.SegFiles.{SegFiles}
-use Rattle.seg_build.specs.Rows.{live_of}
 use Rattle.seg_build.specs.Built.{record_of, IsBuilt}
 use Rattle.seg_merge.specs.declared.task.RowFrom.{RowFrom}
 use Rattle.seg_merge.specs.Merging.{live_docs, all_live_docs, row_from, origins_in, origins, docs_by_input, HasAsManyRows}
@@ -99,15 +98,11 @@ all_many input (s ∷ inputs) [] all = absurd all
 all_many input (s ∷ inputs) (l ∷ lives) all =
     omega (arith, length-append (origins_in input 0 l) (origins (input + 1) lives), length-append (live_docs s.docs l) (all_live_docs (docs_by_input inputs) lives), one_many input 0 s.docs l all.0, all_many (input + 1) inputs lives all.1)
 
-none_dead : (n : ℕ) → live_of (replicate n false) ≡ replicate n true
-none_dead zero = refl
-none_dead (suc n) = ap (λ (xs : List Bool). true ∷ xs) (none_dead n)
-
-pub all_live : (inputs : List Shown) (lives : List (List Bool)) (docs : List Doc) (from : List RowFrom) (dead live : List Bool) (n : ℕ) → AllZip HasAsManyRows inputs lives → docs ≡ all_live_docs (docs_by_input inputs) lives → from ≡ origins 0 lives
-    → length docs ≡ n → dead ≡ replicate n false → live ≡ live_of dead → live ≡ replicate (length from) true
-all_live inputs lives docs from dead live n all rows is_from count marks is =
-    let many : n ≡ length from = omega (arith, count, ap length rows, ap length is_from, all_many 0 inputs lives all) in
-    is ∙ ap live_of marks ∙ none_dead n ∙ ap (λ (m : ℕ). replicate m true) many
+pub all_live : (inputs : List Shown) (lives : List (List Bool)) (docs : List Doc) (from : List RowFrom) (live : List Bool) → AllZip HasAsManyRows inputs lives → docs ≡ all_live_docs (docs_by_input inputs) lives → from ≡ origins 0 lives
+    → live ≡ replicate (length docs) true → live ≡ replicate (length from) true
+all_live inputs lives docs from live all rows is_from is =
+    let many : length docs ≡ length from = omega (arith, ap length rows, ap length is_from, all_many 0 inputs lives all) in
+    is ∙ ap (λ (m : ℕ). replicate m true) many
 
 pub built_for : (seg : SegNo) (docs rows : List Doc) (live : List Bool) (built : SegFiles) → built.seg ≡ seg → built.live ≡ live → docs ≡ rows → IsBuilt (record_of seg live) built.files docs live → IsBuilt (record_of built.seg built.live) built.files rows built.live
 built_for seg docs rows live built is_seg is_live same is =

@@ -1,9 +1,8 @@
 -- A merged segment: its rows, where they come from, and which of them are live later.
 use Rattle.std.specs.Prelude.{◌≡◌, ℕ, ◌+◌, List, [], ◌∷◌, ◌++◌, length, map, slice_index_or, replicate, Bool, true, false, if◌then◌else◌}
-use Rattle.std.specs.List.{All, filter, zip}
+use Rattle.std.specs.List.{filter, zip}
 use Rattle.nrt_base.specs.declared.doc.Doc.{Doc}
 use Rattle.seg_reader.specs.Shown.{Shown}
-use Rattle.seg_build.specs.Rows.{IsPrepared, docs_of}
 use Rattle.seg_build.specs.Built.{IsNewSegment}
 use Rattle.seg_merge.specs.declared.task.MergeTask.{MergeTask}
 use Rattle.seg_merge.specs.declared.task.RowFrom.{RowFrom}
@@ -61,11 +60,10 @@ HasAsManyRows shown live = length live ≡ length shown.docs
 abbrev pub AreAsLong : List Bool → List Bool → Type 0
 AreAsLong live noted = length live ≡ length noted
 
--- the rows of the inputs that are live so were gathered, with their words and where they come from
+-- the rows of the inputs that are live so were gathered, with where they come from
 pub record IsGathered (inputs : List Shown) (lives : List (List Bool)) (gathered : Gathered) : Type 0 where
-  pub docs : docs_of gathered.rows.items ≡ all_live_docs (docs_by_input inputs) lives
+  pub docs : gathered.docs.items ≡ all_live_docs (docs_by_input inputs) lives
   pub from : gathered.from.items ≡ origins 0 lives
-  pub words : All IsPrepared gathered.rows.items
 
 -- the segment has the rows that were live when the merge started, input by input in order, all of them live
 pub record IsMergedOf (task : MergeTask) (merged : Merged) : Type 0 where

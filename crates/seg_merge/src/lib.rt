@@ -2,6 +2,7 @@
 #![tactic(auto)]
 
 mod carrying;
+mod joining;
 mod merging;
 mod task;
 

@@ -1,26 +1,26 @@
 //! The merge of several segments: their live rows as one new segment.
 
-ghost use Rattle.std.specs.Prelude.{◌≡◌, ◌++◌, ◌∷◌, [], ◌<◌, length, slice_index_or, replicate, false, IfOk, OnOk};
+ghost use Rattle.std.specs.Prelude.{◌≡◌, ◌++◌, ◌∷◌, [], ◌<◌, length, slice_index_or, IfOk, OnOk};
 ghost use Rattle.std.specs.List.{All, AllZip};
 ghost use Rattle.nrt_base.specs.declared.doc.Doc.{Doc};
 ghost use Rattle.seg_reader.specs.Sound.{IsSound};
-ghost use Rattle.seg_build.specs.Rows.{IsPrepared, docs_of};
 ghost use Rattle.seg_merge.specs.Merging.{docs_by_input, all_live_docs, live_docs, row_from, origins_in, HasAsManyRows, IsGathered, IsMergedOf};
 
+use crate::joining::join;
 use crate::task::{MergeTask, Merged, RowFrom};
 use live_bits::LiveBits;
 use nrt_base::{Doc, Key, List, NoMemory, Text};
-use seg_build::{Prepared, build};
+use seg_build::build_joined;
 use seg_reader::Segment;
 use std::alloc::{AllocError, Global};
 
 /// The most inputs of a merge.
 const MOST: usize = 0xffff_ffff;
 
-/// Rows that are gathered, and where each comes from.
+/// Documents that are gathered, and where each row comes from.
 #[derive(Drop)]
 pub struct Gathered {
-    pub rows: Vec<Prepared>,
+    pub docs: Vec<Doc>,
     pub from: Vec<RowFrom>,
 }
 
@@ -43,15 +43,13 @@ fn push_row(
     row: u32,
 ) -> Result<(), NoMemory>
     requires { row < length segment.now.docs }
-    ensures docs { OnOk result ((d : Doc) → docs_of gathered.new.rows.items
-        ≡ docs_of gathered.old.rows.items ++ slice_index_or segment.now.docs row d ∷ []) }
+    ensures docs { OnOk result ((d : Doc) → gathered.new.docs.items
+        ≡ gathered.old.docs.items ++ slice_index_or segment.now.docs row d ∷ []) }
     ensures from { OnOk result (gathered.new.from.items
         ≡ gathered.old.from.items ++ row_from input row ∷ []) }
-    ensures words { OnOk result (All IsPrepared gathered.old.rows.items
-        → All IsPrepared gathered.new.rows.items) }
 {
     let doc = doc_at(alloc, segment, row)?;
-    gathered.rows.push(Prepared::of(alloc, doc)?)?;
+    gathered.docs.push(doc)?;
     gathered.from.push(RowFrom { input, row })?;
     Ok(())
 }
@@ -65,12 +63,10 @@ fn push_rows(
     live: &LiveBits,
 ) -> Result<(), NoMemory>
     requires { HasAsManyRows segment.now live.now }
-    ensures docs { OnOk result (docs_of gathered.new.rows.items
-        ≡ docs_of gathered.old.rows.items ++ live_docs segment.now.docs live.now) }
+    ensures docs { OnOk result (gathered.new.docs.items
+        ≡ gathered.old.docs.items ++ live_docs segment.now.docs live.now) }
     ensures from { OnOk result (gathered.new.from.items
         ≡ gathered.old.from.items ++ origins_in input 0 live.now) }
-    ensures words { OnOk result (All IsPrepared gathered.old.rows.items
-        → All IsPrepared gathered.new.rows.items) }
 {
     for row in 0..segment.rows() {
         if live.is_live(row) {
@@ -89,20 +85,13 @@ fn gather(alloc: Global, inputs: &[Segment], live: &[LiveBits]) -> Result<Gather
         return Err(AllocError);
     }
     let mut gathered = Gathered {
-        rows: Vec::new(alloc),
+        docs: Vec::new(alloc),
         from: Vec::new(alloc),
     };
     for at in 0..inputs.len() {
         push_rows(alloc, &mut gathered, at as u32, &inputs[at], &live[at])?;
     }
     Ok(gathered)
-}
-
-// The marks of so many rows of which none is dead.
-fn none_dead(alloc: Global, rows: usize) -> Result<Vec<bool>, NoMemory>
-    ensures { IfOk result (λ dead. dead.items ≡ replicate rows false) }
-{
-    vec![in alloc; false; rows]
 }
 
 /// The merged segment: the rows that were live when the merge started, input by input in their order, and where each comes
@@ -113,10 +102,11 @@ pub fn merge(alloc: Global, task: &MergeTask) -> Result<Merged, NoMemory>
     requires sound { All IsSound task.now.inputs }
     ensures { IfOk result (IsMergedOf task.now) }
 {
-    let gathered = gather(alloc, task.inputs.as_slice(), task.live.as_slice())?;
-    let rows = gathered.rows.as_slice();
-    let dead = none_dead(alloc, rows.len())?;
-    let files = build(alloc, task.seg, rows, dead.as_slice())?;
+    let inputs = task.inputs.as_slice();
+    let live = task.live.as_slice();
+    let gathered = gather(alloc, inputs, live)?;
+    let joined = join(alloc, inputs, live)?;
+    let files = build_joined(alloc, task.seg, gathered.docs.as_slice(), &joined)?;
     Ok(Merged {
         files,
         from: List::from_vec(gathered.from),

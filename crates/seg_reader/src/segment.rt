@@ -4,7 +4,7 @@ ghost use Rattle.std.specs.Prelude.{◌≡◌, ◌↔◌, ◌<◌, ◌⊎◌, �
 ghost use Rattle.std.specs.List.{All};
 ghost use Rattle.nrt_base.specs.Bytes.{is_key, is_text};
 ghost use Rattle.docs_plain.specs.Documents.{IsRow};
-ghost use Rattle.postings_plain.specs.Postings.{row_of, HitsFit};
+ghost use Rattle.postings_plain.specs.Postings.{row_of, hits_of, HitsFit};
 ghost use Rattle.postings_plain.specs.Body.{HasEntry, HasNoEntry};
 ghost use Rattle.seg_reader.specs.Shown.{Shown, shown_with, key_field, word_field};
 ghost use Rattle.seg_reader.specs.Files.{IsSegmentOf};
@@ -126,6 +126,15 @@ impl Segment {
             post: self.post.share(alloc)?,
             live,
         })
+    }
+
+    /// The postings of all rows, dead rows among them.
+    pub fn postings(&self) -> &PostFile
+        ensures entries { result.now.entries ≡ self.now.entries }
+        ensures below { All (λ e. All (λ h. row_of h < length self.now.docs) (hits_of e))
+            self.now.entries }
+    {
+        &self.post
     }
 
     /// The rows whose text has a word, with its positions, dead rows among them. None comes exactly where no row has it.

@@ -17,5 +17,5 @@ loop-place-preserved c = λ rows len g.
     let w = c.index-words-place.result in
     let more : take (place + 1) words ≡ take place words ++ w ∷ [] = take_more words place w c.loop-place-test.true ∙ ap (λ (x : List ℕ). take place words ++ x ∷ []) (sym c.index-words-place.is) in
     let long : length (take place words) ≡ place = omega (arith, length-take place words) in
-    subst (λ (ws : List (List ℕ)). Gathers c.add_word.new.found (rows ++ record { key = c.args.row.now.key; words = ws } ∷ [])) (sym more)
+    subst (λ (ws : List (List ℕ)). Gathers c.add_word.new.found.entries (rows ++ record { key = c.args.row.now.key; words = ws } ∷ [])) (sym more)
     (word_added c.loop-place.found c.add_word.new.found rows c.args.number place c.args.row.now.key (take place words) w u.0 len long (c.loop-place.invariant rows len g) u.1 u.2)

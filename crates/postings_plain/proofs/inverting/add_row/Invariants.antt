@@ -5,4 +5,4 @@ use Rattle.postings_plain.proofs.inverting.add_row.Given as goal
 
 abbrev pub invariant-loop-place : goal.invariant-loop-place
 invariant-loop-place l =
-    (rows : List TermRow) → length rows ≡ l.number → Gathers l.fn.found rows → Gathers l.found (rows ++ record { key = l.row.key; words = take l.place l.words } ∷ [])
+    (rows : List TermRow) → length rows ≡ l.number → Gathers l.fn.found.entries rows → Gathers l.found.entries (rows ++ record { key = l.row.key; words = take l.place l.words } ∷ [])

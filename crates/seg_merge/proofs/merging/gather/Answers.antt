@@ -1,7 +1,6 @@
 use Rattle.std.proofs.Common.{sym, ◌∙◌, ap, arith, ◌++◌, List, Bool, drop}
 use Rattle.std.proofs.Math.ListN.{drop_of_length-le}
 use Rattle.std.proofs.lemmas.List.{append-nil}
-use Rattle.seg_build.specs.Rows.{docs_of}
 use Rattle.seg_merge.specs.declared.task.RowFrom.{RowFrom}
 use Rattle.nrt_base.specs.declared.doc.Doc.{Doc}
 use Rattle.seg_reader.specs.Shown.{Shown}
@@ -26,12 +25,11 @@ loop-at-preserved c =
     let more = c.in_ok-push_rows.ensures in
     record {
       docs =
-          moved_over {X = Doc} (docs_of c.loop-at.gathered.rows.items) (docs_of c.push_rows.new.gathered.rows.items) (live_docs s.docs l) (all_live_docs (docs_by_input (drop at inputs)) (drop at lives)) _ _
+          moved_over {X = Doc} c.loop-at.gathered.docs.items c.push_rows.new.gathered.docs.items (live_docs s.docs l) (all_live_docs (docs_by_input (drop at inputs)) (drop at lives)) _ _
           (inputs_step inputs lives at s l c.loop-at-test.true (omega (arith, many_lives inputs lives c.requires)) c.index-inputs-at.is c.index-live-at.is) inv.docs more.docs;
       from =
           moved_over {X = RowFrom} c.loop-at.gathered.from.items c.push_rows.new.gathered.from.items (origins_in at 0 l) (origins at (drop at lives)) _ _
           (origins_step lives at l (omega (arith, many_lives inputs lives c.requires)) c.index-live-at.is) inv.from more.from;
-      words = more.words inv.words;
     }
 
 pub returns : goal.returns
@@ -42,10 +40,9 @@ returns c =
     let inv = c.loop-at.invariant in
     let no_inputs = drop_of_length-le inputs c.loop-at-test.false in
     let no_lives = drop_of_length-le lives (omega (arith, many_lives inputs lives c.requires, c.loop-at-test.false)) in
-    let docs = docs_of c.loop-at.gathered.rows.items in
+    let docs = c.loop-at.gathered.docs.items in
     let from = c.loop-at.gathered.from.items in
     record {
       docs = sym (append-nil docs) ∙ sym (ap (λ (ss : List Shown). docs ++ all_live_docs (docs_by_input ss) (drop at lives)) no_inputs) ∙ inv.docs;
       from = sym (append-nil from) ∙ sym (ap (λ (ls : List (List Bool)). from ++ origins at ls) no_lives) ∙ inv.from;
-      words = inv.words;
     }
