@@ -32,7 +32,9 @@ use Rattle.cluster_state.specs.Files.{JobShows, IsJobFor, ReplicaFiles, NodeFile
 use Rattle.cluster_state.proofs.Growing.{not_flying}
 use Rattle.cluster_state.proofs.Frames.{some_then, was, noted}
 use Rattle.cluster_state.proofs.JobFrames.{same_shown}
-use Rattle.cluster_state.proofs.FileFrames.{Both, both_of, replica_same, files_was, files_is}
+use Rattle.cluster_state.proofs.Drawn.{Grows, grows_then, grows_shown}
+use Rattle.cluster_state.proofs.Naming.{means_more}
+use Rattle.cluster_state.proofs.FileFrames.{names_still, Both, both_of, replica_same, files_was, files_is}
 use Rattle.cluster_state.proofs.Turning.{fresh_turn, fresh_line, later_turn, past_has, nodes_is}
 
 -- ---- what the history says
@@ -148,9 +150,15 @@ module _ {D : Type 0} (cells : D → Cells) where
       → version_of n.0 (printed log) ≡ newest_version (printed log) → Shows cells log size places → FilesShow cells log size places → FilesShow cells (copied_log at n v log) size places
   files_copied log size places at n v legal turns rule turn later reached shows files = record {
     source = files.source;
+    drawn = means_more files.source (printed log) (printed (copied_log at n v log)) grows files.drawn;
+    names = names_still cells size (printed log) (printed (copied_log at n v log)) places grows files.names;
     each = λ m node. some_then (place_of places m) (both_of cells log size places shows files m node) (λ z both. step m z.node both.0.node_shows both.1);
   }
     where
+      grows : Grows (printed log) (printed (copied_log at n v log))
+      grows = grows_then (printed log) (printed (shown at (Copying n v) ∷ log)) (printed (copied_log at n v log)) (grows_shown size (printed log) at (Copying n v) legal rule (λ m. refl))
+          (grows_shown size (printed (shown at (Copying n v) ∷ log)) at (Copied n v) (rule, legal) later (λ m. refl))
+
       step : (m : ℕ) (x : Node D) → NodeShows cells log m x → NodeFiles files.source cells log (λ s. jobs_like places s size) m x → NodeFiles files.source cells (copied_log at n v log) (λ s. jobs_like places s size) m x
       step m (Primary p) is mine = mine
       step m (Down d) is mine = mine

@@ -100,7 +100,7 @@ copy_flying (e ∷ past) n v a turns is = step e.event turns.0 is (λ was. copy_
 
 -- ---- a printed entry
 
-not_false : (b : Bool) → not b ≡ true → b ≡ false
+pub not_false : (b : Bool) → not b ≡ true → b ≡ false
 not_false true is = absurd (true≢false (sym is))
 not_false false is = refl
 

@@ -46,6 +46,7 @@ impl<D: FaultDir + Drop> ClusterState<D> {
     ghost use Rattle.cluster_state.specs.Run.{IsNow, IsEnded};
     ghost use Rattle.cluster_state.specs.Moves.{moves, moves_tickets};
     ghost use Rattle.cluster_state.specs.FileChanges.{keeps_jobs};
+    ghost use Rattle.cluster_state.specs.Names.{keeps_commits};
 
     /// What happened, for readers.
     pub fn book(&self) -> &Book
@@ -97,7 +98,7 @@ impl<D: FaultDir + Drop> ClusterState<D> {
         self.book.is_legal();
     }
 
-    /// Appends an entry that moves no node, starts no copy and opens no ticket, of a line whose publish is not in flight. `Err` is want of
+    /// Appends an entry that moves no node, starts no copy or commit and opens no ticket, of a line whose publish is not in flight. `Err` is want of
     /// memory: the cluster has ended, and the history is as before.
     pub fn note(&mut self, at: At, event: Event) -> Result<(), NoMemory>
         requires running { self.old.ended ≡ false }
@@ -107,6 +108,7 @@ impl<D: FaultDir + Drop> ClusterState<D> {
         requires still { (p : Option NodeNo) (m : ℕ) → moves event p m ≡ false }
         requires apart { (m : ℕ) → moves_tickets event m ≡ false }
         requires jobs { (m : ℕ) → keeps_jobs event m ≡ true }
+        requires commits { (m : ℕ) → keeps_commits event m ≡ true }
         requires tickets { opens_ticket event ≡ false }
         ensures ok { OnOk result (IsNow self.old self.new (shown at event ∷ self.old.log)) }
         ensures err { OnErr result (IsEnded self.old self.new) }
