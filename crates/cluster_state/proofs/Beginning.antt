@@ -63,7 +63,9 @@ use Rattle.cluster_places.proofs.OutCounts.{states_push, states_given, jobs_move
 use Rattle.cluster_state.specs.Disks.{IsPastPoint, CommitsStay}
 use Rattle.cluster_state.proofs.Disks.{fresh_flights, commits_shown, commits_alone, point_stays, disks_moved, disk_same, disks_kept}
 use Rattle.cluster_state.proofs.Wider.{primary_kept}
-use Rattle.cluster_state.proofs.FileFrames.{replica_same, both_each, both_of, Both}
+use Rattle.cluster_state.proofs.Drawn.{Grows, grows_none, grows_shown}
+use Rattle.cluster_state.proofs.Naming.{FilesLast, means_more, altered_steps, altered_job}
+use Rattle.cluster_state.proofs.FileFrames.{names_both, replica_same, both_each, both_of, Both}
 use Rattle.cluster_state.proofs.FileJobs.{job_out}
 use Rattle.cluster_places.proofs.Stepping.{out_pushed}
 
@@ -86,6 +88,7 @@ highest_low size (e ∷ past) n legal = let was = highest_low size past n legal.
 
 -- what a job's beginning rests on: the entries behind which it begins
 pub record BeginsOver (log mid : Log) (at : At) (n v : ℕ) : Type 0 where
+  pub grows : Grows (printed log) (printed mid)
   pub same : (m : ℕ) → (n == m) ≡ false → is_at (primary_of (printed log)) m ≡ false → SameJob log mid m
   pub newest : newest_version (printed mid) ≡ newest_version (printed log)
   pub version : v ≡ newest_version (printed log)
@@ -100,6 +103,7 @@ pub record BeginsOver (log mid : Log) (at : At) (n v : ℕ) : Type 0 where
 pub over_copying : (size : ℕ) (log : Log) (at : At) (n : NodeNo) (v : Version) → IsLegalPast size (printed log) → AreInTurn (printed log) → KeepsRule size (printed log) at (Copying n v) → InTurn (printed log) at (Copying n v)
     → version_of n.0 (printed log) < v.0 → BeginsOver log (shown at (Copying n v) ∷ log) at n.0 v.0
 over_copying size log at n v legal turns rule turn behind = record {
+  grows = grows_shown size (printed log) at (Copying n v) legal rule;
   same = λ m apart other. same_shown size log at m legal turns other (Copying n v) rule turn (ap not apart);
   newest = refl;
   version = rule.newest;
@@ -132,6 +136,7 @@ over_copying size log at n v legal turns rule turn behind = record {
 pub over_settle : (size : ℕ) (log : Log) (at : At) (n v : ℕ) → IsLegalPast size (printed log) → start_entry at (printed log) ≢ None → v ≡ newest_version (printed log)
     → version_of n (printed log) < newest_version (before_start at (printed log)) → ((a : At) → copy_in_flight n (newest_version (printed log)) (printed log) ≡ Some a → ⊥) → BeginsOver log log at n v
 over_settle size log at n v legal begun is behind none = record {
+  grows = grows_none (printed log);
   same = λ m apart other. record {
     job = refl;
     newest = omega arith;
@@ -259,6 +264,9 @@ module _ {D : Type 0} (cells : D → Cells) where
   files_begun size log mid old new at p n v number lasting over b older behind primary node_p node_n shows files =
       record {
         source = files.source;
+        drawn = means_more files.source (printed log) (printed mid) over.grows files.drawn;
+        names = names_both cells size (printed log) (printed mid) old new p.0 n.0 x y (record { node = Primary q; held = b.both.primary.held }) (record { node = Replica r; held = b.both.replica.held }) over.grows b.moves node_p node_n
+            b.both.primary.there b.both.replica.there (altered_steps cells (printed mid) q b.primary b.begins.primary) (altered_job cells (printed mid) r b.replica b.begins.replica) files.names;
         each = both_each {P = Both cells files.source log jobs} {Q = λ m z. NodeFiles files.source cells now count m z.node} size p.0 n.0 x y old new b.moves (both_of cells log size old shows files)
             (λ m z node away apart both. other_files files.source log now jobs count m z.node both.0.node_shows (ap (λ (o : Option NodeNo). is_at o m) primary ∙ away)
             (same_then log mid now m (over.same m apart (ap (λ (o : Option NodeNo). is_at o m) primary ∙ away)) (same_inner mid (JobBegun at.line n number (Some v) (Some at)) m (ap not apart))) both.1)

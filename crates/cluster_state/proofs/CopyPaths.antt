@@ -45,6 +45,7 @@ use Rattle.cluster_places.specs.JobChanges.{HasReplica}
 use Rattle.cluster_places.specs.JobPlaces.{CanBegin, BeginsIn}
 use Rattle.cluster_state.specs.Copies.{newest_of, BeginsJob}
 use Rattle.cluster_state.specs.Settles.{WaitsFor}
+use Rattle.cluster_state.proofs.Naming.{FilesLast}
 use Rattle.cluster_state.proofs.Frames.{some_at, was, now_is, slot_of, place_shows, shows_still, start_back}
 use Rattle.cluster_state.proofs.Growing.{same, fewer, not_flying}
 use Rattle.cluster_state.proofs.Turning.{fresh_line}
@@ -52,10 +53,6 @@ use Rattle.cluster_state.proofs.FileFrames.{both_of, Both, files_was, files_is, 
 use Rattle.cluster_state.proofs.FileJobs.{PrimaryHere, ReplicaHere, primary_here, replica_here, job_out, no_flight}
 use Rattle.cluster_state.proofs.JobMoves.{shows_kept, shows_both, primary_place, replica_place}
 use Rattle.cluster_state.proofs.Beginning.{over_copying, over_settle, files_begun}
-
--- what is known of files' names
-abbrev pub FilesLast : Type 0
-FilesLast = (infos : Infos) (names : List Name) → AreFilesOf infos names → (q : Name) → Contains (flat_map files_of_segment infos.segs) q → IsLasting q
 
 -- ---- the past
 

@@ -34,7 +34,7 @@ use Rattle.cluster_places.specs.KeptFiles.{KeepsNodeFiles}
 use Rattle.cluster_places.specs.JobPlaces.{MovesOne, MovesBoth}
 use Rattle.cluster_state.specs.Run.{Run}
 use Rattle.cluster_state.specs.Disks.{IsPastPoint, MayFindPoint, LastShows, CommitsPoint, StageShows, BookShows, DirShows, DiskShows, DisksShow, CommitsStay}
-use Rattle.cluster_state.specs.Names.{is_commit_line, keeps_commits}
+use Rattle.cluster_state.specs.FileChanges.{is_commit_line, keeps_commits}
 use Rattle.cluster_state.proofs.Growing.{lasts}
 use Rattle.cluster_state.proofs.Frames.{some_then}
 use Rattle.cluster_state.proofs.JobFrames.{not_false}

@@ -54,9 +54,10 @@ use Rattle.cluster_state.proofs.Frames.{some_at}
 use Rattle.cluster_state.proofs.JobFrames.{same_inner}
 use Rattle.cluster_places.proofs.OutCounts.{jobs_same, names_out}
 use Rattle.cluster_state.proofs.Wider.{primary_kept, meta_at_source}
-use Rattle.cluster_state.proofs.FileFrames.{one_each, both_of, Both, wants_same, replica_same}
+use Rattle.cluster_state.proofs.FileFrames.{names_one, one_each, both_of, Both, wants_same, replica_same}
 use Rattle.cluster_state.proofs.JobMoves.{shows_kept, shows_put, primary_place}
-use Rattle.cluster_state.proofs.CopyPaths.{FilesLast}
+use Rattle.cluster_state.proofs.Naming.{FilesLast, altered_steps}
+use Rattle.cluster_state.proofs.Drawn.{grows_none}
 
 -- ---- metadata
 
@@ -182,6 +183,8 @@ module _ {D : Type 0} (cells : D → Cells) where
     shows_kept cells size log i new (λ a. refl) (shows_put cells size log old new p.0 x b.moves (primary_place cells log p.0 b.at.parts b.primary b.at.held b.alters at_p.0) shows),
     record {
       source = files.source;
+      drawn = files.drawn;
+      names = names_one cells size (printed log) (printed log) old new p.0 x (record { node = Primary b.at.parts; held = b.at.held }) (grows_none (printed log)) b.moves node b.at.there (altered_steps cells (printed log) b.at.parts b.primary b.alters) files.names;
       each = one_each {P = Both cells files.source log jobs} {Q = λ m z. NodeFiles files.source cells now count m z.node} size p.0 x old new b.moves (both_of cells log size old shows files)
           (λ m z node apart both. other_node m z.node (ap (λ (o : Option NodeNo). is_at o m) primary ∙ apart) both.0.node_shows both.1)
           (primary_kept cells files.source jobs count b.at.parts b.primary b.alters.files (λ s. (let low = at_p.1.outs s in let same_count = counted s in

@@ -9,13 +9,13 @@ use Rattle.index_primary.specs.declared.parts.Parts.{Parts as PrimaryParts}
 use Rattle.index_primary.specs.declared.states.Out.{Out}
 use Rattle.index_primary.specs.Primary.{loose_of}
 use Rattle.index_primary.specs.Held.{IsUndrawn}
-use Rattle.replica_opening.specs.Known.{HasMeta}
+use Rattle.replica_opening.specs.Known.{HasMeta, IsLasting}
 use Rattle.replica_node.specs.declared.job.PointJob.{PointJob}
 use Rattle.replica_node.specs.declared.parts.Parts.{Parts as ReplicaParts}
 use Rattle.replica_node.specs.Sources.{HeldReadAs, IsSourced}
-use Rattle.history_entries.specs.Nodes.{IsNode, newest_version, generation_of, version_of}
+use Rattle.history_entries.specs.Nodes.{Past, IsNode, newest_version, generation_of, version_of}
 use Rattle.history_entries.specs.Lines.{start_entry, before_start, copy_in_flight, highest_copy}
-use Rattle.history_entries.specs.Points.{documents_at}
+use Rattle.history_entries.specs.Points.{documents_at, IsDrawnFile}
 use Rattle.history_tables.specs.declared.jobs.Job.{Job}
 use Rattle.history_book.specs.Log.{Log, printed}
 use Rattle.history_book.specs.Jobs.{job_at}
@@ -24,6 +24,7 @@ use Rattle.cluster_places.specs.declared.nodes.Node.TheVariants.{Primary, Replic
 use Rattle.cluster_places.specs.declared.nodes.Place.{Place}
 use Rattle.cluster_places.specs.Places.{place_of}
 use Rattle.cluster_state.specs.FilesOut.{file_out}
+use Rattle.cluster_state.specs.Names.{NamesShow}
 use Rattle.cluster_state.specs.Disks.{IsPastPoint, DisksShow}
 use Rattle.cluster_places.specs.Outs.{states_like, jobs_like}
 
@@ -52,6 +53,10 @@ JobShows source log n _ _ = ⊥
 abbrev pub IsJobFor : At → ℕ → Job → Type 0
 IsJobFor at v job = (job.at ≡ at) × (job.version.0 ≡ v)
 
+-- each name of a segment's file that means something is that of a segment which was drawn
+abbrev pub MeansDrawn : (Name → Content) → Past → Type 0
+MeansDrawn source past = (q : Name) (bytes : List ℕ) → IsLasting q → source q ≡ Some bytes → IsDrawnFile past q
+
 module _ {D : Type 0} where
   -- The replica's files read as at the source, its job is what the log shows, and what it searches is a point of the history; a copy of
   -- the newest version to it that is in flight is its job.
@@ -75,9 +80,12 @@ module _ {D : Type 0} where
   NodeFiles source cells log jobs n (Replica r) = ReplicaFiles source cells log n r
   NodeFiles source cells log jobs n (Down d) = ⊤
 
-  -- what each name of a file means, and that all nodes have it so, with their commits, and what crashes left of them
+  -- What each name of a file means, and that all nodes have it so, with their commits, and what crashes left of them; what means
+  -- something is drawn, and so is each name that stands at a running node.
   pub record FilesShow (cells : D → Cells) (log : Log) (size : ℕ) (places : List (Option (Place D))) : Type 0 where
     pub source : Name → Content
+    pub drawn : MeansDrawn source (printed log)
     pub each : (n : ℕ) → IsNode size n
         → IsSomeAnd (place_of places n) (λ place. NodeFiles source cells log (λ s. jobs_like places s size) n place.node)
+    pub names : (n : ℕ) → IsNode size n → IsSomeAnd (place_of places n) (λ place. NamesShow cells (printed log) place.node)
     pub disks : DisksShow source cells log size places

@@ -11,3 +11,4 @@ pub mod Files
 pub mod FileChanges
 pub mod Copies
 pub mod Settles
+pub mod Lists

@@ -45,8 +45,7 @@ impl<D: FaultDir + Drop> ClusterState<D> {
     ghost use Rattle.history_book.specs.Turns.{InTurn};
     ghost use Rattle.cluster_state.specs.Run.{IsNow, IsEnded};
     ghost use Rattle.cluster_state.specs.Moves.{moves, moves_tickets};
-    ghost use Rattle.cluster_state.specs.FileChanges.{keeps_jobs};
-    ghost use Rattle.cluster_state.specs.Names.{is_commit_line, keeps_commits};
+    ghost use Rattle.cluster_state.specs.FileChanges.{keeps_jobs, is_commit_line, keeps_commits};
 
     /// What happened, for readers.
     pub fn book(&self) -> &Book

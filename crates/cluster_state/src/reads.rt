@@ -23,8 +23,7 @@ impl<D: FaultDir + Drop> ClusterState<D> {
     ghost use Rattle.cluster_state.specs.Run.{IsNow, IsEnded};
     ghost use Rattle.cluster_state.specs.State.{ReadsAt};
     ghost use Rattle.cluster_state.specs.Moves.{moves, moves_tickets, EndsKey};
-    ghost use Rattle.cluster_state.specs.FileChanges.{keeps_jobs};
-    ghost use Rattle.cluster_state.specs.Names.{keeps_commits};
+    ghost use Rattle.cluster_state.specs.FileChanges.{keeps_jobs, keeps_commits};
 
     /// Opens ticket `t` of the lane of `at`, on the point that the running node `n` searches, and appends `Opened` with that
     /// point's version. `t` is above 0, and the lane has no open ticket of that number. The point's files stay until the ticket

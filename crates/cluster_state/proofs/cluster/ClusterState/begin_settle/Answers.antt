@@ -1,7 +1,7 @@
 use Rattle.std.proofs.Common.{◌≡◌, refl, ap}
 use Rattle.history_entries.specs.Nodes.{newest_version}
 use Rattle.history_book.specs.Laws.{IsFresh}
-use Rattle.cluster_state.specs.Names.{is_commit_line}
+use Rattle.cluster_state.specs.FileChanges.{is_commit_line}
 use Rattle.cluster_state.proofs.Turning.{past_has}
 use Rattle.cluster_state.proofs.Settling.{settle_begun}
 use Rattle.cluster_state.proofs.cluster.ClusterState.begin_settle.Goals as goal
