@@ -1,6 +1,7 @@
 mod HeldRows
 mod JobFiles
 pub mod Keys
+mod Lives
 pub mod OutCounts
 mod Slots
 pub mod Stepping

@@ -5,6 +5,7 @@
 mod held;
 mod jobs;
 mod lists;
+mod lives;
 mod nodes;
 mod states;
 mod tasks;
@@ -13,6 +14,7 @@ mod transfers;
 
 pub use held::{Held, Key};
 pub use lists::names_in;
+pub use lives::crash_in;
 pub use nodes::{Node, Place, primary_in, put, take};
 pub use tasks::{CopyTask, FileTask, SettleTask};
 pub use tickets::{give_ticket_back, hold_ticket, lease_in};

@@ -38,4 +38,5 @@ mod PartPaths
 mod Settling
 mod JobEnds
 mod FirstPlaces
+mod Crashing
 mod JobLaw
