@@ -39,4 +39,5 @@ mod Settling
 mod JobEnds
 mod FirstPlaces
 mod Crashing
+mod Reopening
 mod JobLaw

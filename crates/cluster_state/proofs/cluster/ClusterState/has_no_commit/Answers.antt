@@ -9,6 +9,7 @@ use Rattle.cluster_state.proofs.FirstPlaces.{first_state}
 use Rattle.cluster_state.proofs.PublishFiles.{accept_files}
 use Rattle.cluster_state.proofs.TicketFiles.{opened_files}
 use Rattle.cluster_state.proofs.Crashing.{crash_path}
+use Rattle.cluster_state.proofs.Reopening.{reopen_path}
 use Rattle.cluster_state.proofs.cluster.ClusterState.has_no_commit.Goals as goal
 
 pub returns : goal.returns
