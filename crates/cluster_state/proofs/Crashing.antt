@@ -84,7 +84,7 @@ use Rattle.cluster_state.proofs.FirstNodes.{opening_stands}
 -- ---- the past
 
 -- a ticket was opened after no more crashes than there are
-IsLow : Past → Option Ticket → Type 0
+abbrev IsLow : Past → Option Ticket → Type 0
 IsLow past None = Unit {0}
 IsLow past (Some ticket) = ticket.life ≤ crashes ticket.node past
 
@@ -322,10 +322,10 @@ module _ {D : Type 0} (cells : D → Cells) where
 
   module _ (size : ℕ) (log : Log) (old new : List (Option (Place D))) (at : At) (n : NodeNo) (legal : IsLegalPast size (printed log)) (turns : AreInTurn (printed log)) (rule : KeepsRule size (printed log) at (Crashed n))
       (none : start_entry at (printed log) ≡ None) (b : CrashesIn cells n.0 old new) where
-    now : Log
+    abbrev now : Log
     now = shown at (Crashed n) ∷ log
 
-    left : Place D
+    abbrev left : Place D
     left = record { node = Down b.dir; held = b.held }
 
     -- ---- what each node is
@@ -361,10 +361,10 @@ module _ {D : Type 0} (cells : D → Cells) where
     -- ---- their files
 
     module _ (lasting : FilesLast) (vacant : (m : ℕ) → primary_of (printed now) ≡ None → job_at m now ≡ None) (node : IsNode size n.0) (shows : Shows cells log size old) (files : FilesShow cells log size old) where
-      jobs : Out → ℕ
+      abbrev jobs : Out → ℕ
       jobs s = jobs_like old s size
 
-      count : Out → ℕ
+      abbrev count : Out → ℕ
       count s = jobs_like new s size
 
       there_now : place_of new n.0 ≡ Some left

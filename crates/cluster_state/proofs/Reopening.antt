@@ -278,7 +278,7 @@ module _ {D : Type 0} (cells : D → Cells) (source : Name → Content) (size : 
 module _ {D : Type 0} (cells : D → Cells) (size : ℕ) (log : Log) (old new : List (Option (Place D))) (at : At) (n : NodeNo) (v : Version) (lasting : FilesLast)
     (legal : IsLegalPast size (printed log)) (turns : AreInTurn (printed log)) (fresh : IsFresh at (printed log)) (node : IsNode size n.0) (down : is_running n.0 (printed log) ≡ false)
     (shows : Shows cells log size old) (files : FilesShow cells log size old) where
-  jobs : Out → ℕ
+  abbrev jobs : Out → ℕ
   jobs s = jobs_like old s size
 
   -- what the directory of the node is
@@ -299,8 +299,8 @@ module _ {D : Type 0} (cells : D → Cells) (size : ℕ) (log : Log) (old new : 
   is_settled place there = (dir_at place there).settled
 
   module _ (b : ReopensIn cells n.0 v old new) where
-    now : Log
-    now = shown at (Reopened n v) ∷ log
+    abbrev after : Log
+    after = shown at (Reopened n v) ∷ log
 
     d : DirShows files.source cells (printed log) n.0 (dir_of b.place.node)
     d = dir_at b.place b.there
@@ -308,7 +308,7 @@ module _ {D : Type 0} (cells : D → Cells) (size : ℕ) (log : Log) (old new : 
     pub reopen_rule : KeepsRule size (printed log) at (Reopened n v)
     reopen_rule = may_reopen cells files.source size log at n v (dir_of b.place.node) b.replica lasting legal b.opens b.version d node down fresh
 
-    there : Place D
+    abbrev there : Place D
     there = record { node = Replica b.replica; held = b.place.held }
 
     both : Both cells files.source log jobs n.0 b.place
@@ -331,35 +331,35 @@ module _ {D : Type 0} (cells : D → Cells) (size : ℕ) (log : Log) (old new : 
     not_publishing : start_entry at (printed log) ≢ Some Publishing
     not_publishing is = absurd (let both' : None ≡ Some Publishing = sym fresh.begun ∙ is in cc)
 
-    reopened_place : PlaceShows cells now n.0 there
+    reopened_place : PlaceShows cells after n.0 there
     reopened_place = record {
       node_shows = node_now cells files.source size log at n v (dir_of b.place.node) b.replica lasting legal b.opens b.version d reopen_rule w.other;
-      tickets = subst (λ (l : List (Open Shown)). HoldsTickets (printed now) n.0 l b.place.held.items) (w.tickets ∙ sym b.opens.fresh.tickets)
-          (holds_same (printed log) (printed now) n.0 (tickets_of b.place.node) b.place.held.items (lasts size (printed log) at (Reopened n v) legal reopen_rule) (fewer (printed log) at (Reopened n v) n.0 refl) both.0.tickets);
+      tickets = subst (λ (l : List (Open Shown)). HoldsTickets (printed after) n.0 l b.place.held.items) (w.tickets ∙ sym b.opens.fresh.tickets)
+          (holds_same (printed log) (printed after) n.0 (tickets_of b.place.node) b.place.held.items (lasts size (printed log) at (Reopened n v) legal reopen_rule) (fewer (printed log) at (Reopened n v) n.0 refl) both.0.tickets);
     }
 
-    pub reopened_shows : Shows cells now size new
+    pub reopened_shows : Shows cells after size new
     reopened_shows = record {
       some = shows.some;
       count = b.moves.count ∙ shows.count;
-      each = one_each {P = PlaceShows cells log} {Q = PlaceShows cells now} size n.0 there old new b.moves shows.each
-          (λ m z slot apart has. place_same cells log now m z (same size m (printed log) at (Reopened n v) legal turns reopen_rule (λ here. not_flying size (printed log) at legal turns not_publishing) apart)
+      each = one_each {P = PlaceShows cells log} {Q = PlaceShows cells after} size n.0 there old new b.moves shows.each
+          (λ m z slot apart has. place_same cells log after m z (same size m (printed log) at (Reopened n v) legal turns reopen_rule (λ here. not_flying size (printed log) at legal turns not_publishing) apart)
           (fewer (printed log) at (Reopened n v) m refl) (λ a h is. is) has)
           reopened_place;
       handed = λ a is. shows.handed a is;
     }
 
     module _ (idle : job_at n.0 log ≡ None) (uncommitting : commit_in_flight n.0 (printed log) ≡ None) where
-      count : Out → ℕ
+      abbrev count : Out → ℕ
       count s = jobs_like new s size
 
       same_count : (s : Out) → count s ≡ jobs s
       same_count s = jobs_same old new s size (λ m low. wants_same n.0 there b.place old new b.moves b.there (ap want_of b.opens.fresh.job ∙ sym w.want) m)
 
-      stay : (m : ℕ) → (n.0 == m) ≡ false → CommitsStay (printed log) (printed now) m
+      stay : (m : ℕ) → (n.0 == m) ≡ false → CommitsStay (printed log) (printed after) m
       stay m apart = commits_shown (printed log) at m size (Reopened n v) legal turns reopen_rule (record { once = tt; flight = tt }) (ap not apart) (fresh_flights size (printed log) at legal turns fresh.begun m)
 
-      grows : Grows (printed log) (printed now)
+      grows : Grows (printed log) (printed after)
       grows = grows_shown size (printed log) at (Reopened n v) legal reopen_rule
 
       disk_some : (P : Disk D → Type 0) (o : Option (Place D)) → IsSomeAnd (disk_at o) P → IsSomeAnd o (λ z. P (disk_of z.node))
@@ -370,25 +370,25 @@ module _ {D : Type 0} (cells : D → Cells) (size : ℕ) (log : Log) (old new : 
       some_disk P None is = is
       some_disk P (Some z) is = is
 
-      disks_now : DisksShow files.source cells now size new
-      disks_now m slot = some_disk (DiskShows files.source cells (printed now) m) (place_of new m)
-          (one_each {P = λ k z. DiskShows files.source cells (printed log) k (disk_of z.node)} {Q = λ k z. DiskShows files.source cells (printed now) k (disk_of z.node)} size n.0 there old new b.moves
+      disks_now : DisksShow files.source cells after size new
+      disks_now m slot = some_disk (DiskShows files.source cells (printed after) m) (place_of new m)
+          (one_each {P = λ k z. DiskShows files.source cells (printed log) k (disk_of z.node)} {Q = λ k z. DiskShows files.source cells (printed after) k (disk_of z.node)} size n.0 there old new b.moves
           (λ k here. disk_some (DiskShows files.source cells (printed log) k) (place_of old k) (files.disks k here))
-          (λ k z here apart disk. disk_stays files.source files.source (λ q bytes is. is) (printed log) (printed now) k (stay k apart) cells (disk_of z.node) disk)
+          (λ k z here apart disk. disk_stays files.source files.source (λ q bytes is. is) (printed log) (printed after) k (stay k apart) cells (disk_of z.node) disk)
           (record {
             book = book_now cells files.source size log at n v (dir_of b.place.node) b.replica lasting legal b.opens b.version d reopen_rule down uncommitting;
             dir = tt;
           }) m slot)
 
-      pub reopened_files : FilesShow cells now size new
+      pub reopened_files : FilesShow cells after size new
       reopened_files = record {
         source = files.source;
-        drawn = means_more files.source (printed log) (printed now) grows files.drawn;
-        names = one_each {P = λ k z. NamesShow cells (printed log) z.node} {Q = λ k z. NamesShow cells (printed now) z.node} size n.0 there old new b.moves files.names
-            (λ k z here apart has. node_grows cells (printed log) (printed now) z.node grows has)
+        drawn = means_more files.source (printed log) (printed after) grows files.drawn;
+        names = one_each {P = λ k z. NamesShow cells (printed log) z.node} {Q = λ k z. NamesShow cells (printed after) z.node} size n.0 there old new b.moves files.names
+            (λ k z here apart has. node_grows cells (printed log) (printed after) z.node grows has)
             (names_now cells files.source size log at n v (dir_of b.place.node) b.replica lasting legal b.opens b.version d reopen_rule files.drawn);
-        each = one_each {P = Both cells files.source log jobs} {Q = λ m z. NodeFiles files.source cells now count m z.node} size n.0 there old new b.moves (both_of cells log size old shows files)
-            (λ m z here apart has. node_files cells files.source log now jobs count m z.node
+        each = one_each {P = Both cells files.source log jobs} {Q = λ m z. NodeFiles files.source cells after count m z.node} size n.0 there old new b.moves (both_of cells log size old shows files)
+            (λ m z here apart has. node_files cells files.source log after jobs count m z.node
             (λ r is. same_shown size log at m legal turns (replica_apart cells log m z.node r has.0.node_shows is) (Reopened n v) reopen_rule (record { once = tt; flight = tt }) (ap not apart))
             (λ s. (let is = same_count s in omega (arith, is))) has.1)
             (files_now cells files.source size log at n v (dir_of b.place.node) b.replica lasting legal b.opens b.version d reopen_rule down idle);
@@ -416,7 +416,7 @@ module _ {D : Type 0} (cells : D → Cells) (r : Run) (ended : Bool) (b0 : Pages
   f = files_was cells r ended b0.nodes b0.log old view running (λ e. (pair e).1)
 
   pub settled_there : (place : Place D) → place_of old n.0 ≡ Some place → IsSettledOn (cells (dir_of place.node))
-  settled_there = is_settled cells r.nodes r.log old at n lasting legal_now turns_now fresh_now node down s f
+  settled_there = is_settled cells r.nodes r.log old old at n (record { 0 = 0 }) lasting legal_now turns_now fresh_now node down s f
 
   module _ (v : Version) (new : List (Option (Place D))) (b : ReopensIn cells n.0 v old new) where
     pub rule_there : KeepsRule r.nodes (printed r.log) at (Reopened n v)
