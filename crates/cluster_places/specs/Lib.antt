@@ -7,3 +7,4 @@ pub mod JobChanges
 pub mod JobPlaces
 pub mod Listed
 pub mod Lives
+pub mod Commits

@@ -2,6 +2,7 @@
 //! what calls of the cluster hand out.
 #![tactic(auto)]
 
+mod commits;
 mod held;
 mod jobs;
 mod lists;
@@ -12,6 +13,7 @@ mod tasks;
 mod tickets;
 mod transfers;
 
+pub use commits::{begin_commit_in, step_commit_in};
 pub use held::{Held, Key};
 pub use lists::names_in;
 pub use lives::{crash_in, reopen_in};

@@ -40,4 +40,5 @@ mod JobEnds
 mod FirstPlaces
 mod Crashing
 mod Reopening
+mod Committing
 mod JobLaw

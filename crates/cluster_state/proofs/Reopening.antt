@@ -57,7 +57,7 @@ use Rattle.cluster_places.specs.Places.{Disk, place_of, disk_of, disk_at, dir_of
 use Rattle.cluster_places.specs.Outs.{want_of, want_at, jobs_like, states_like}
 use Rattle.cluster_places.specs.Lives.{OpensOn, ReopensIn}
 use Rattle.cluster_places.proofs.OutCounts.{jobs_same}
-use Rattle.cluster_state.specs.Run.{Run}
+use Rattle.cluster_state.specs.Run.{Run, IsNow}
 use Rattle.cluster_state.specs.State.{NodeShows, PlaceShows, Shows, HoldsTickets, StandForVersion}
 use Rattle.cluster_state.specs.Files.{JobShows, IsJobFor, ReplicaFiles, PrimaryFiles, NodeFiles, FilesShow, MeansDrawn}
 use Rattle.cluster_state.specs.FileChanges.{SameJob}
@@ -422,14 +422,23 @@ module _ {D : Type 0} (cells : D → Cells) (r : Run) (ended : Bool) (b0 : Pages
     pub rule_there : KeepsRule r.nodes (printed r.log) at (Reopened n v)
     rule_there = reopen_rule cells r.nodes r.log old new at n v lasting legal_now turns_now fresh_now node down s f b
 
-    pub reopen_path : (b1 b2 : Pages) → b1.log ≡ b0.log → b1.nodes ≡ b0.nodes → b2.log ≡ shown at (Reopened n v) ∷ b1.log → b2.nodes ≡ b1.nodes → job_at n.0 b0.log ≡ None → commit_in_flight n.0 (printed b0.log) ≡ None
+    pub reopen_path : (b1 b2 : Pages) → b1.log ≡ b0.log → b1.nodes ≡ b0.nodes → b2.log ≡ shown at (Reopened n v) ∷ b1.log → b2.nodes ≡ b1.nodes
+        → ((m : ℕ) → is_running m (printed b0.log) ≡ false → job_at m b0.log ≡ None) → ((m : ℕ) → is_running m (printed b0.log) ≡ false → commit_in_flight m (printed b0.log) ≡ None)
         → Shows cells b2.log b2.nodes new × FilesShow cells b2.log b2.nodes new
     reopen_path b1 b2 e1 n1 e2 n2 idle uncommitting =
         let same_log : b0.log ≡ r.log = ap (λ (x : Run). x.log) view in
         let log : b2.log ≡ shown at (Reopened n v) ∷ r.log = e2 ∙ ap (λ (l : Log). shown at (Reopened n v) ∷ l) (e1 ∙ same_log) in
         let size : b2.nodes ≡ r.nodes = n2 ∙ (n1 ∙ ap (λ (x : Run). x.nodes) view) in
-        let idle_now : job_at n.0 r.log ≡ None = subst (λ (l : Log). job_at n.0 l ≡ None) same_log idle in
-        let none_now : commit_in_flight n.0 (printed r.log) ≡ None = subst (λ (l : Log). commit_in_flight n.0 (printed l) ≡ None) same_log uncommitting in (
+        let down_was : is_running n.0 (printed b0.log) ≡ false = ap (λ (l : Log). is_running n.0 (printed l)) same_log ∙ down in
+        let idle_now : job_at n.0 r.log ≡ None = subst (λ (l : Log). job_at n.0 l ≡ None) same_log (idle n.0 down_was) in
+        let none_now : commit_in_flight n.0 (printed r.log) ≡ None = subst (λ (l : Log). commit_in_flight n.0 (printed l) ≡ None) same_log (uncommitting n.0 down_was) in (
           now_is cells (shown at (Reopened n v) ∷ r.log) b2.log r.nodes b2.nodes new log size (reopened_shows cells r.nodes r.log old new at n v lasting legal_now turns_now fresh_now node down s f b),
           files_is cells (shown at (Reopened n v) ∷ r.log) b2.log r.nodes b2.nodes new log size (reopened_files cells r.nodes r.log old new at n v lasting legal_now turns_now fresh_now node down s f b idle_now none_now),
         )
+
+    pub reopened_now : (b1 b2 : Pages) → b1.log ≡ b0.log → b1.nodes ≡ b0.nodes → b2.log ≡ shown at (Reopened n v) ∷ b1.log → b2.nodes ≡ b1.nodes → IsNow r (record { ended = false; nodes = b2.nodes; log = b2.log }) (shown at (Reopened n v) ∷ r.log)
+    reopened_now b1 b2 e1 n1 e2 n2 = record {
+      running = refl;
+      nodes = n2 ∙ (n1 ∙ ap (λ (x : Run). x.nodes) view);
+      log = e2 ∙ ap (λ (l : Log). shown at (Reopened n v) ∷ l) (e1 ∙ ap (λ (x : Run). x.log) view);
+    }
