@@ -74,7 +74,7 @@ copy_does at n old new (Work task) running fresh starts exact = record {
   goes = record {
     more = kept (JobBegun at.line n task.job (Some (newest_of (printed old.log))) (Some at)) ∷ shown at (Copying n (newest_of (printed old.log))) ∷ [];
     log = starts.now.log;
-    adds = (inl refl, (refl, copy_adds at n old fresh exact.unrefused, tt));
+    adds = (inl refl, (refl, copy_adds at n old fresh exact.0.unrefused, tt));
   };
 }
 copy_does at n old new Done running fresh starts exact = copy_answered at n old new (refusal (Copy n) at.lane.0 (printed old.log)) refl fresh starts

@@ -14,6 +14,7 @@ use Rattle.documents.specs.declared.operation.Op.TheVariants.{Put as PutOp, Dele
 use Rattle.documents.specs.declared.query.Query.{Query}
 use Rattle.documents.specs.declared.answer.Answer.{Answer}
 use Rattle.documents.specs.Documents.{is_put}
+use Rattle.disk_model.specs.Disk.{Name}
 use Rattle.seg_reader.specs.Shown.{Shown}
 use Rattle.searcher_switch.specs.declared.searchers.Lease.{Lease}
 use Rattle.segment_steps.specs.declared.flushing.FlushTask.{FlushTask}
@@ -21,7 +22,7 @@ use Rattle.history_entries.specs.declared.cause.Cause.{Cause}
 use Rattle.history_entries.specs.declared.cause.Cause.TheVariants.{Down, NoTicket, Nothing, NamesSpent, TooManySegments, Lost}
 use Rattle.history_entries.specs.declared.entry.Entry.{Entry}
 use Rattle.history_entries.specs.declared.entry.Event.{Event}
-use Rattle.history_entries.specs.declared.entry.Event.TheVariants.{Accepted, Publishing, Published, Opened, Asking, Answered, Closed, Refused}
+use Rattle.history_entries.specs.declared.entry.Event.TheVariants.{Accepted, Publishing, Published, Opened, Asking, Answered, Closed, Files, Refused}
 use Rattle.history_entries.specs.Nodes.{Past, is_running, generation_of, newest_version, version_of}
 use Rattle.history_entries.specs.Lines.{same_at, is_start, is_reply, is_answered, last_of_line, before_start}
 use Rattle.history_entries.specs.Points.{cut_of, cut_has_put}
@@ -35,7 +36,7 @@ use Rattle.history_book.specs.declared.inner.Inner.TheVariants.{FlushOut}
 use Rattle.history_book.proofs.OpenLaws.{last_started}
 use Rattle.history_book.proofs.FreshLaws.{open_unanswered}
 use Rattle.script_serving.specs.declared.script.LineCommand.{LineCommand}
-use Rattle.script_serving.specs.declared.script.LineCommand.TheVariants.{Publish, Search, Open, Ask, Close}
+use Rattle.script_serving.specs.declared.script.LineCommand.TheVariants.{Publish, Search, Open, Ask, Close, Files as ListOf}
 use Rattle.script_serving.specs.Refusals.{when, without_primary, without_node, names_are_spent, may_be_full, refusal}
 use Rattle.script_serving.specs.Serves.{First, Follows, Suits}
 use Rattle.cluster_state.specs.Run.{Run, IsNow}
@@ -43,7 +44,7 @@ use Rattle.cluster_core.specs.declared.turn.Turn.{Turn}
 use Rattle.cluster_core.specs.declared.turn.Turn.TheVariants.{Work, Done, Busy}
 use Rattle.lane_walks.specs.Owes.{SuitsOrFault}
 use Rattle.cluster_core.specs.Doing.{Does, IsReplied, IsBegunBy, IsRepliedAtDone, IsBegunAtWork, writing_command, AsksFor}
-use Rattle.cluster_core.specs.Calls.{by_refusal, LineRefused, IsRefusedFor, cut_refusal, publish_refusal, PublishRefused, PublishStarts, publish_end_event, open_event, SearchStarts, AsksTicket, AskStarts, asked_event, close_by, ScansAt, answer_event, AnswerEnds}
+use Rattle.cluster_core.specs.Calls.{by_refusal, LineRefused, IsRefusedFor, cut_refusal, publish_refusal, PublishRefused, PublishStarts, publish_end_event, open_event, ListsFiles, SearchStarts, AsksTicket, AskStarts, asked_event, close_by, ScansAt, answer_event, AnswerEnds}
 
 -- ---- entries
 
@@ -143,6 +144,30 @@ pub close_replied : (at : At) (t : TicketNo) (old new : Run) (o : Option Ticket)
 close_replied at t old new None now = one_replied at old new (Refused NoTicket) refl now
 close_replied at t old new (Some ticket) now = one_replied at old new (Closed (record { 0 = ticket.node }) t) refl now
 
+-- ---- files
+
+up_unrefused : (n : ℕ) (past : Past) → is_running n past ≡ true → without_node n past ≡ None
+up_unrefused n past up = ap (λ (b : Bool). when (not b) Down) up
+
+pub files_does : (at : At) (n : NodeNo) (old new : Run) → IsFresh at (printed old.log) → ListsFiles at n old new → Does (ListOf n) at old new
+files_does at n old new fresh lists = row_does (ListOf n) at old new (without_node n.0 (printed old.log)) (Files n lists.names) (λ suits. suits) fresh refl lists.now refl
+
+pub files_replied : (at : At) (n : NodeNo) (old new : Run) → ListsFiles at n old new → IsReplied at new
+files_replied at n old new lists = row_replied at old new (without_node n.0 (printed old.log)) (Files n lists.names) refl lists.now
+
+-- a node that runs, or that is down
+pub listed : (at : At) (n : NodeNo) (old new : Run) (names : List Name) → is_running n.0 (printed old.log) ≡ true → IsNow old new (shown at (Files n names) ∷ old.log) → ListsFiles at n old new
+listed at n old new names up now = record {
+  names = names;
+  now = subst (λ (o : Option Cause). IsNow old new (shown at (by_refusal o (Files n names)) ∷ old.log)) (sym (up_unrefused n.0 (printed old.log) up)) now;
+}
+
+pub unlisted : (at : At) (n : NodeNo) (old new : Run) → is_running n.0 (printed old.log) ≡ false → LineRefused at Down old new → ListsFiles at n old new
+unlisted at n old new down now = record {
+  names = [];
+  now = subst (λ (o : Option Cause). IsNow old new (shown at (by_refusal o (Files n [])) ∷ old.log)) (sym (ap (λ (b : Bool). when (not b) Down) down)) now;
+}
+
 -- ---- search and ask
 
 pub refused_for_does : (command : LineCommand) (at : At) (old new : Run) (o : Option Cause) → IsFresh at (printed old.log) → refusal command at.lane.0 (printed old.log) ≡ o → IsRefusedFor at o old new → Does command at old new
@@ -152,9 +177,6 @@ refused_for_does command at old new (Some cause) fresh is refused = refused_does
 pub refused_for_replied : (at : At) (old new : Run) (o : Option Cause) → IsRefusedFor at o old new → IsReplied at new
 refused_for_replied at old new None refused = absurd refused
 refused_for_replied at old new (Some cause) refused = one_replied at old new (Refused cause) refl refused
-
-up_unrefused : (n : ℕ) (past : Past) → is_running n past ≡ true → without_node n past ≡ None
-up_unrefused n past up = ap (λ (b : Bool). when (not b) Down) up
 
 pub search_does : (at : At) (n : NodeNo) (query : Query) (old new : Run) (turn : Turn (Lease Shown)) → IsFresh at (printed old.log) → SearchStarts at n old new turn → Does (Search n query) at old new
 search_does at n query old new (Work lease) fresh starts =

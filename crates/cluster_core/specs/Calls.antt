@@ -1,5 +1,6 @@
 -- What the calls of lines do: the entries that they add, and what they hand out.
-use Rattle.std.specs.Prelude.{ℕ, ◌≡◌, ◌≢◌, ◌+◌, ◌∷◌, ◌==◌, ◌&&◌, true, length, if◌then◌else◌, Option, Some, None}
+use Rattle.std.specs.Prelude.{ℕ, ◌≡◌, ◌≢◌, ◌+◌, ◌∷◌, ◌==◌, ◌&&◌, true, List, length, if◌then◌else◌, Option, Some, None}
+use Rattle.disk_model.specs.Disk.{Name}
 use Rattle.std.specs.Option.{option_or}
 use Rattle.nrt_base.specs.declared.numbers.At.{At}
 use Rattle.nrt_base.specs.declared.numbers.NodeNo.{NodeNo}
@@ -14,7 +15,7 @@ use Rattle.documents.specs.Ranking.{scan_of}
 use Rattle.history_entries.specs.declared.cause.Cause.{Cause}
 use Rattle.history_entries.specs.declared.cause.Cause.TheVariants.{NoTicket, Nothing, NameUsed, NamesSpent, TooManySegments, Lost}
 use Rattle.history_entries.specs.declared.entry.Event.{Event}
-use Rattle.history_entries.specs.declared.entry.Event.TheVariants.{Publishing, Published, Opened, Asking, Answered, Closed, Refused}
+use Rattle.history_entries.specs.declared.entry.Event.TheVariants.{Publishing, Published, Opened, Asking, Answered, Closed, Files, Refused}
 use Rattle.history_entries.specs.Nodes.{Past, primary_of, is_running, generation_of, newest_version, version_of}
 use Rattle.history_entries.specs.Lines.{before_start, publish_in_flight}
 use Rattle.history_entries.specs.Points.{documents_at, cut_of, cut_has_put}
@@ -77,6 +78,11 @@ publish_end_event at past =
 abbrev pub open_event : ℕ → NodeNo → TicketNo → Past → Event
 open_event lane n t past =
     by_refusal (option_or (when (has_ticket lane t.0 past) NameUsed) (without_node n.0 past)) (Opened n t (record { 0 = version_of n.0 past }))
+
+-- a line lists the files of a node: they have these names, or the node is down
+pub record ListsFiles (at : At) (n : NodeNo) (old new : Run) : Type 0 where
+  pub names : List Name
+  pub now : IsNow old new (shown at (by_refusal (without_node n.0 (printed old.log)) (Files n names)) ∷ old.log)
 
 -- a search starts at the version that the node searches, or its node is down
 abbrev pub SearchStarts : At → NodeNo → Run → Run → Turn (Lease Shown) → Type 0

@@ -1,6 +1,7 @@
-//! The calls of lines that search, and of those that open and close tickets.
+//! The calls of lines that search, of those that open and close tickets, and of those that list files.
 
 use crate::cluster::Cluster;
+use crate::lists::files;
 use crate::searches::{answer_end, ask_start, search_start};
 use crate::tickets::{ticket_close, ticket_open};
 use crate::turn::Turn;
@@ -20,10 +21,10 @@ impl<D: FaultDir + Drop> Cluster<D> {
     ghost use Rattle.history_entries.specs.Tickets.{open_ticket};
     ghost use Rattle.history_book.specs.Log.{printed, shown};
     ghost use Rattle.script_serving.specs.declared.script.LineCommand.{LineCommand};
-    ghost use Rattle.script_serving.specs.declared.script.LineCommand.TheVariants.{Open, Close, Search, Ask};
+    ghost use Rattle.script_serving.specs.declared.script.LineCommand.TheVariants.{Open, Close, Search, Ask, Files};
     ghost use Rattle.cluster_state.specs.Run.{IsNow, IsEnded};
     ghost use Rattle.cluster_core.specs.Doing.{Does, IsReplied, IsRepliedAtDone, IsBegunAtWork, AsksFor};
-    ghost use Rattle.cluster_core.specs.Calls.{open_event, SearchStarts, AskStarts, asked_event, close_by, ScansAt, AnswerEnds};
+    ghost use Rattle.cluster_core.specs.Calls.{open_event, ListsFiles, SearchStarts, AskStarts, asked_event, close_by, ScansAt, AnswerEnds};
 
     /// Opens a ticket of the lane.
     pub fn ticket_open(
@@ -129,5 +130,20 @@ impl<D: FaultDir + Drop> Cluster<D> {
         ensures replied { OnOk result (IsReplied at self.new) }
     {
         ticket_close(&mut self.state, at, t)
+    }
+
+    /// Lists the files of a node.
+    pub fn files(&mut self, alloc: Global, at: At, n: NodeNo) -> Result<(), NoMemory>
+        requires running { self.old.ended ≡ false }
+        requires fresh { entries_of_line at (printed self.old.log) ≡ [] }
+        requires node { IsNode self.old.nodes n.0 }
+        ensures ok { OnOk result (ListsFiles at n self.old self.new) }
+        ensures err { OnErr result (IsEnded self.old self.new) }
+
+        // what the line is owed
+        ensures does { OnOk result (Does (Files n) at self.old self.new) }
+        ensures replied { OnOk result (IsReplied at self.new) }
+    {
+        files(&mut self.state, alloc, at, n)
     }
 }

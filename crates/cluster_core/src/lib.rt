@@ -7,6 +7,7 @@ mod calls;
 mod cluster;
 mod copies;
 mod copying;
+mod lists;
 mod publishes;
 mod refusals;
 mod searches;

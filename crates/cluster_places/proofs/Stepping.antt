@@ -1,10 +1,10 @@
 -- What calls of a primary and of a replica make of jobs, put together.
-use Rattle.std.proofs.Common.{◌≡◌, ◌≤◌, ◌<◌, ◌+◌, ℕ, zero, suc, Bool, true, false, true≢false, List, [], ◌∷◌, ◌++◌, Some, None, Option, max, refl, ap, ◌∙◌, sym, subst, arith, if◌then◌else◌}
+use Rattle.std.proofs.Common.{◌≡◌, ◌≤◌, ◌<◌, ◌+◌, ◌^◌, ℕ, zero, suc, Bool, true, false, true≢false, List, [], ◌∷◌, ◌++◌, Some, None, Option, max, refl, ap, ◌∙◌, sym, subst, arith, if◌then◌else◌}
 use Rattle.std.specs.Prelude.{IfSome, IsSome, IsSomeAnd}
 use Rattle.nrt_base.specs.declared.numbers.Gen.{Gen}
 use Rattle.nrt_base.specs.declared.doc.Doc.{Doc}
 use Rattle.disk_model.specs.Disk.{Name, Content, Cells, reads_of}
-use Rattle.file_deleter.specs.Holdings.{count_of}
+use Rattle.file_deleter.specs.Holdings.{count_of, times}
 use Rattle.file_names.specs.Names.{temp_name_of}
 use Rattle.node_files.specs.Appearing.{NoneAppears, AppearsOnly}
 use Rattle.node_files.proofs.Appearing.{only_none}
@@ -24,7 +24,7 @@ use Rattle.replica_node.specs.Replica.{IsWholeReplica, AreStanding}
 use Rattle.replica_node.specs.Jobs.{IsPointJob}
 use Rattle.replica_node.specs.Sources.{IsSourced, KeepsSource, IsWantedName}
 use Rattle.cluster_places.specs.Outs.{want_of}
-use Rattle.cluster_places.specs.JobChanges.{given_back, AltersStates, AltersJob, BeginsAt, FinishesAt, TakesPart}
+use Rattle.cluster_places.specs.JobChanges.{given_back, AltersStates, AltersJob, BeginsAt, FinishesAt, TakesPart, IsTemporaryIn}
 
 pub out_push : (s t : Out) (ts : List Out) → is_out s ts ≡ true → is_out s (ts ++ t ∷ []) ≡ true
 out_push s t [] out = absurd (true≢false (sym out))
@@ -148,9 +148,9 @@ module _ {D : Type 0} (cells : D → Cells) where
   pub takes_none : (part : Part) (r : ReplicaParts D) → TakesPart cells part r r
   takes_none part r = record { others = refl; whole = λ w. w; standing = λ w. w; sourced = λ source is was. was; job = same r.job; appears = nothing r.job }
     where
-      nothing : (o : Option PointJob) → IfSome o (λ j. AppearsOnly (λ q. q ≡ temp_name_of part.name j.copy.number) (cells r.dir) (cells r.dir))
+      nothing : (o : Option PointJob) → IfSome o (λ j. AppearsOnly (IsTemporaryIn j part.name) (cells r.dir) (cells r.dir))
       nothing None = tt
-      nothing (Some j) = only_none (λ q. q ≡ temp_name_of part.name j.copy.number) (cells r.dir) (cells r.dir) (record { each = λ q none. none })
+      nothing (Some j) = only_none (IsTemporaryIn j part.name) (cells r.dir) (cells r.dir) (record { each = λ q none. none })
 
       same : (o : Option PointJob) → IfSome o (λ j. IsSomeAnd o (λ k. (k.copy.number ≡ j.copy.number) × (k.copy.want ≡ j.copy.want) × (k.infos ≡ j.infos)))
       same None = tt
@@ -158,20 +158,22 @@ module _ {D : Type 0} (cells : D → Cells) where
 
   pub takes_in : (part : Part) (r s : ReplicaParts D) → s ≡ record r { dir = s.dir; files = s.files; job = s.job } → IsWholeReplica cells s → (AreStanding cells r → AreStanding cells s)
       → ((source : Name → Content) → source part.name ≡ Some part.bytes → IsSourced source cells r → IsSourced source cells s)
-      → IfSome r.job (λ j. s.job ≡ Some (record j { copy = with_part j.copy part.name })) → (c : Job) (number : ℕ) → IfSome r.job (λ j. c ≡ j.copy) → number ≡ c.number
-      → AppearsOnly (λ q. q ≡ temp_name_of part.name number) (cells r.dir) (cells s.dir) → TakesPart cells part r s
-  takes_in part r s is whole standing sourced with c number copies runs appears = record {
+      → IfSome r.job (λ j. s.job ≡ Some (record j { copy = with_part j.copy part.name })) → (c : Job) (number : ℕ) → IfSome r.job (λ j. c ≡ j.copy) → number ≡ c.number → number < 2 ^ 64
+      → IfSome r.job (λ j. 0 < times j.copy.missing part.name) → AppearsOnly (λ q. q ≡ temp_name_of part.name number) (cells r.dir) (cells s.dir) → TakesPart cells part r s
+  takes_in part r s is whole standing sourced with c number copies runs small lacks appears = record {
     others = is;
     whole = λ w. whole;
     standing = standing;
     sourced = sourced;
     job = same r.job with;
-    appears = wrote r.job copies;
+    appears = wrote r.job copies lacks;
   }
     where
-      wrote : (o : Option PointJob) → IfSome o (λ j. c ≡ j.copy) → IfSome o (λ j. AppearsOnly (λ q. q ≡ temp_name_of part.name j.copy.number) (cells r.dir) (cells s.dir))
-      wrote None is = tt
-      wrote (Some j) is = subst (λ (k : ℕ). AppearsOnly (λ q. q ≡ temp_name_of part.name k) (cells r.dir) (cells s.dir)) (runs ∙ ap (λ (x : Job). x.number) is) appears
+      wrote : (o : Option PointJob) → IfSome o (λ j. c ≡ j.copy) → IfSome o (λ j. 0 < times j.copy.missing part.name) → IfSome o (λ j. AppearsOnly (IsTemporaryIn j part.name) (cells r.dir) (cells s.dir))
+      wrote None is lacked = tt
+      wrote (Some j) is lacked =
+          let same : number ≡ j.copy.number = runs ∙ ap (λ (x : Job). x.number) is in
+          record { each = λ q none there. (lacked, (omega (arith, same, small)), appears.each q none there ∙ ap (temp_name_of part.name) same) }
 
       same : (o : Option PointJob) → IfSome o (λ j. s.job ≡ Some (record j { copy = with_part j.copy part.name }))
           → IfSome o (λ j. IsSomeAnd s.job (λ k. (k.copy.number ≡ j.copy.number) × (k.copy.want ≡ j.copy.want) × (k.infos ≡ j.infos)))

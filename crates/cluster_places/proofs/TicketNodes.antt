@@ -80,4 +80,4 @@ module _ {D : Type 0} (cells : D → Cells) where
     refl,
   )
   node_alone (Replica r) = record { sourced = λ source is. is; appears = record { each = λ q none. none }; commits = refl; infos = refl; job = refl; jobs = refl; version = refl }
-  node_alone (Down d) = tt
+  node_alone (Down d) = refl

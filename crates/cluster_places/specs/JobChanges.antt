@@ -1,5 +1,5 @@
 -- What the beginning and the end of a job make of the primary and of the replica.
-use Rattle.std.specs.Prelude.{ℕ, ◌≡◌, ◌<◌, ◌+◌, ◌∷◌, ◌++◌, [], List, Option, Some, None, IsSome, IsSomeAnd, IfSome, ⊤}
+use Rattle.std.specs.Prelude.{ℕ, ◌≡◌, ◌<◌, ◌+◌, ◌^◌, ◌∷◌, ◌++◌, [], List, Option, Some, None, IsSome, IsSomeAnd, IfSome, ⊤}
 use Rattle.std.specs.List.{All}
 use Rattle.nrt_base.specs.declared.doc.Doc.{Doc}
 use Rattle.disk_model.specs.Disk.{Name, Content, Cells, reads_of}
@@ -39,6 +39,10 @@ IsNextToFetch j (Some file) = (0 < times j.missing file.0) × (meta_in j.want.fi
 -- the same of a job that copies a point
 abbrev pub IsNextFile : PointJob → Option (Name × FileMetaData) → Type 0
 IsNextFile j file = IsNextToFetch j.copy file
+
+-- the name is the temporary one of a file that the job lacks
+abbrev pub IsTemporaryIn : PointJob → Name → Name → Type 0
+IsTemporaryIn j file q = (0 < times j.copy.missing file) × (j.copy.number < 2 ^ 64) × (q ≡ temp_name_of file j.copy.number)
 
 module _ {D : Type 0} where
   -- a replica is there, with a job
@@ -117,4 +121,4 @@ module _ {D : Type 0} where
     pub standing : AreStanding cells old → AreStanding cells new
     pub sourced : (source : Name → Content) → source part.name ≡ Some part.bytes → IsSourced source cells old → IsSourced source cells new
     pub job : IfSome old.job (λ j. IsSomeAnd new.job (λ k. (k.copy.number ≡ j.copy.number) × (k.copy.want ≡ j.copy.want) × (k.infos ≡ j.infos)))
-    pub appears : IfSome old.job (λ j. AppearsOnly (λ q. q ≡ temp_name_of part.name j.copy.number) (cells old.dir) (cells new.dir))
+    pub appears : IfSome old.job (λ j. AppearsOnly (IsTemporaryIn j part.name) (cells old.dir) (cells new.dir))

@@ -49,12 +49,11 @@ module _ {D : Type 0} where
     pub count : length new ≡ length old
     pub there : (m : ℕ) → place_of new m ≡ (if n == m then Some x else place_of old m)
 
-  -- a job can begin, by these values of the two: the replica is behind the primary's point and has seen no later generation, its
-  -- jobs can be counted on, and the state of an older job is out
+  -- a job can begin, by these values of the two: the replica is behind the primary's point and has seen no later generation, and the
+  -- state of an older job is out
   pub record MayBegin (q : PrimaryParts D) (r : ReplicaParts D) : Type 0 where
     pub behind : r.searchers.point.version.0 < q.point_infos.version.0
     pub seen : r.seen.0 ≤ q.point_infos.generation.0
-    pub few : r.jobs + 1 < 2 ^ 63
     pub out : IfSome (want_of r.job) (λ s. is_out s q.states ≡ true)
 
   -- the primary and a replica stand in these two places

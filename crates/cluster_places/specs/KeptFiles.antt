@@ -1,5 +1,5 @@
 -- What calls leave of the files of a node.
-use Rattle.std.specs.Prelude.{◌≡◌, ⊤}
+use Rattle.std.specs.Prelude.{◌≡◌}
 use Rattle.disk_model.specs.Disk.{Cells}
 use Rattle.index_primary.specs.declared.parts.Parts.{Parts as PrimaryParts}
 use Rattle.node_files.specs.Appearing.{NoneAppears, AppearsOnly}
@@ -46,5 +46,5 @@ module _ {D : Type 0} where
   abbrev pub KeepsNodeFiles : (D → Cells) → Node D → Node D → Type 0
   KeepsNodeFiles cells (Primary p) (Primary q) = KeepsPrimaryFiles cells p q × (q.states ≡ p.states)
   KeepsNodeFiles cells (Replica r) (Replica s) = KeepsReplicaFiles cells r s
-  KeepsNodeFiles cells (Down d) (Down e) = ⊤
+  KeepsNodeFiles cells (Down d) (Down e) = e ≡ d
   KeepsNodeFiles cells old new = ⊥

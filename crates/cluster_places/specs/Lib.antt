@@ -5,3 +5,4 @@ pub mod Changes
 pub mod Outs
 pub mod JobChanges
 pub mod JobPlaces
+pub mod Listed

@@ -2,11 +2,17 @@
 use Rattle.std.specs.Prelude.{ℕ, zero, suc, ◌≤◌, List, [], Option, Some, None, length, ⊤}
 use Rattle.std.specs.List.{slice_get}
 use Rattle.seg_reader.specs.Shown.{Shown}
+use Rattle.commit_steps.specs.declared.stage.CommitBook.{CommitBook}
 use Rattle.searcher_switch.specs.declared.open.Open.{Open}
 use Rattle.searcher_switch.specs.declared.searchers.Searchers.{Searchers}
 use Rattle.cluster_places.specs.declared.nodes.Node.{Node}
 use Rattle.cluster_places.specs.declared.nodes.Node.TheVariants.{Primary, Replica, Down}
 use Rattle.cluster_places.specs.declared.nodes.Place.{Place}
+
+-- what a crash and a reopening ask of a node: its commits where it runs, else its directory
+pub record Disk (D : Type 0) : Type 0 where
+  pub book : Option CommitBook
+  pub dir : Option D
 
 module _ {D : Type 0} where
   abbrev pub unwrapped : Option (Option (Place D)) → Option (Place D)
@@ -37,6 +43,16 @@ module _ {D : Type 0} where
   searchers_of (Primary p) = Some p.searchers
   searchers_of (Replica r) = Some r.searchers
   searchers_of (Down d) = None
+
+  abbrev pub disk_of : Node D → Disk D
+  disk_of (Primary p) = record { book = Some p.commits; dir = None }
+  disk_of (Replica r) = record { book = Some r.commits; dir = None }
+  disk_of (Down d) = record { book = None; dir = Some d }
+
+  -- that of the node in a place
+  abbrev pub disk_at : Option (Place D) → Option (Disk D)
+  disk_at None = None
+  disk_at (Some place) = Some (disk_of place.node)
 
   -- its open tickets
   abbrev pub tickets_of : Node D → List (Open Shown)

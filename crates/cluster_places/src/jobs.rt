@@ -44,7 +44,8 @@ fn drop_job<D: Dir + Drop>(
     Ok(())
 }
 
-/// Begins a job of the primary's point at a replica that is behind it, and answers its number. An older job ends.
+/// Begins a job of the primary's point at a replica that is behind it, and answers its number. An older job ends. `Err` is want of memory,
+/// or of a number below 2^63.
 pub fn begin_job<D: Dir + Drop>(
     alloc: Global,
     primary: &mut Primary<D>,
@@ -52,11 +53,14 @@ pub fn begin_job<D: Dir + Drop>(
 ) -> Result<u64, NoMemory>
     requires behind { replica.old.searchers.point.version.0 < primary.old.point_infos.version.0 }
     requires seen { replica.old.seen.0 ≤ primary.old.point_infos.generation.0 }
-    requires few { replica.old.jobs + 1 < 2 ^ 63 }
     requires out { IfSome (want_of replica.old.job) (λ s. is_out s primary.old.states ≡ true) }
     ensures { IfOk result (λ number.
         BeginsAt D.cells number primary.old primary.new replica.old replica.new) }
 {
+    let begun = replica.jobs();
+    if begun >= (1 << 63) - 1 {
+        return Err(AllocError);
+    }
     let Ok(state) = primary.take_state(alloc) else {
         return Err(AllocError);
     };

@@ -4,6 +4,7 @@
 
 mod held;
 mod jobs;
+mod lists;
 mod nodes;
 mod states;
 mod tasks;
@@ -11,6 +12,7 @@ mod tickets;
 mod transfers;
 
 pub use held::{Held, Key};
+pub use lists::names_in;
 pub use nodes::{Node, Place, primary_in, put, take};
 pub use tasks::{CopyTask, FileTask, SettleTask};
 pub use tickets::{give_ticket_back, hold_ticket, lease_in};

@@ -5,6 +5,7 @@ use Rattle.std.proofs.lemmas.Bool.{eq-eqb}
 use Rattle.history_tables.proofs.RowLemmas.{same_at_self}
 use Rattle.file_deleter.proofs.NameLemmas.{same_self}
 use Rattle.nrt_base.specs.declared.numbers.At.{At}
+use Rattle.nrt_base.specs.declared.numbers.LineNo.{LineNo}
 use Rattle.nrt_base.specs.declared.numbers.NodeNo.{NodeNo}
 use Rattle.nrt_base.specs.declared.numbers.Version.{Version}
 use Rattle.disk_model.specs.Disk.{Name, Content, same}
@@ -59,11 +60,11 @@ later_ended : (b : Bool) (row : JobRow) (v : Version) → row.ended ≡ true →
 later_ended true row v h = h
 later_ended false row v h = h
 
-begun : (b : Bool) (task : CopyTask) (job : Job) (before : ℕ) (o : Option JobRow) → HasEnded o → job.node.0 ≡ task.node.0 → job.number ≡ task.job
+begun : (b : Bool) (task : CopyTask) (job : Job) (before : ℕ) (o : Option JobRow) → HasEnded o → job.node.0 ≡ task.node.0 → job.number ≡ task.job → job.at.line.0 ≡ task.line.0
     → IfSome (if b then Some (new_job_row job before) else row_if_some (Begins job) o) (HasEndedOrIs task)
-begun true task job before o h node number = inr (node, number)
-begun false task job before None h node number = tt
-begun false task job before (Some row) h node number = inl (later_ended ((row.job.node.0 == job.node.0) && is_going row) row job.version h)
+begun true task job before o h node number line = inr (node, number, line)
+begun false task job before None h node number line = tt
+begun false task job before (Some row) h node number line = inl (later_ended ((row.job.node.0 == job.node.0) && is_going row) row job.version h)
 
 pub copy_begins : (at : At) (n : NodeNo) (old new : Run) (log : Log) (task : CopyTask) → BeginsJob at n old new log task → HaveJobsEnded log → Copies at task new.log
 copy_begins at n old new log task b jobs =
@@ -72,7 +73,7 @@ copy_begins at n old new log task b jobs =
       copying = b.copying;
       runs = b.runs;
       others = subst (HaveOthersEnded task) (sym b.now.log)
-          (λ k. begun (n.0 == k) task job (length (printed log)) (last_job false k log) (jobs k) (sym (ap (λ (m : NodeNo). m.0) b.node)) refl);
+          (λ k. begun (n.0 == k) task job (length (printed log)) (last_job false k log) (jobs k) (sym (ap (λ (m : NodeNo). m.0) b.node)) refl (sym (ap (λ (l : LineNo). l.0) b.copying.line)));
     }
 
 -- ---- a file is handed out
@@ -131,17 +132,18 @@ ended_own : (b : Bool) (row : JobRow) → b ≡ true → (if b then record row {
 ended_own true row h = refl
 ended_own false row h = absurd (cc)
 
-ends_by : (task : CopyTask) (job : Job) (o : Option JobRow) → IfSome o (HasEndedOrIs task) → job.node ≡ task.node → job.number ≡ task.job → HasEnded (row_if_some (Ends job.node job.number) o)
-ends_by task job None h node number = tt
-ends_by task job (Some row) (inl h) node number = ended_row ((row.job.node.0 == job.node.0) && (row.job.number == job.number)) row h
-ends_by task job (Some row) (inr h) node number =
+ends_by : (task : CopyTask) (job : Job) (o : Option JobRow) → IfSome o (HasEndedOrIs task) → job.node ≡ task.node → job.number ≡ task.job → job.at.line ≡ task.line → HasEnded (row_if_some (Ends job.at.line job.node job.number) o)
+ends_by task job None h node number line = tt
+ends_by task job (Some row) (inl h) node number line = ended_row (((row.job.at.line.0 == job.at.line.0) && (row.job.node.0 == job.node.0)) && (row.job.number == job.number)) row h
+ends_by task job (Some row) (inr h) node number line =
     let a : (row.job.node.0 == job.node.0) ≡ true = eq-eqb row.job.node.0 job.node.0 (h.0 ∙ sym (ap (λ (m : NodeNo). m.0) node)) in
     let b : (row.job.number == job.number) ≡ true = eq-eqb row.job.number job.number (h.1 ∙ sym number) in
-    ended_own ((row.job.node.0 == job.node.0) && (row.job.number == job.number)) row (rw (a, b) refl)
+    let c : (row.job.at.line.0 == job.at.line.0) ≡ true = eq-eqb row.job.at.line.0 job.at.line.0 (h.2 ∙ sym (ap (λ (l : LineNo). l.0) line)) in
+    ended_own (((row.job.at.line.0 == job.at.line.0) && (row.job.node.0 == job.node.0)) && (row.job.number == job.number)) row (rw (a, b, c) refl)
 
-jobs_end : (task : CopyTask) (job : Job) (begun : Option Event) (log : Log) → HaveOthersEnded task log → job.node ≡ task.node → job.number ≡ task.job → HaveJobsEnded (ended_log job begun log)
-jobs_end task job (Some (Copying n v)) log others node number k = ends_by task job (last_job false k log) (others k) node number
-jobs_end task job begun log others node number k = ends_by task job (last_job false k log) (others k) node number
+jobs_end : (task : CopyTask) (job : Job) (begun : Option Event) (log : Log) → HaveOthersEnded task log → job.node ≡ task.node → job.number ≡ task.job → job.at.line ≡ task.line → HaveJobsEnded (ended_log job begun log)
+jobs_end task job (Some (Copying n v)) log others node number line k = ends_by task job (last_job false k log) (others k) node number line
+jobs_end task job begun log others node number line k = ends_by task job (last_job false k log) (others k) node number line
 
 ended_reply : (at : At) (job : Job) (begun : Option Event) (log : Log) → job.at ≡ at → IsCopyStart begun → is_answered at (printed (ended_log job begun log)) ≡ true
 ended_reply at job (Some (Copying n v)) log mine start = rw (mine, same_at_self at) refl
@@ -233,7 +235,8 @@ module _ (at : At) (task : CopyTask) (initial old new : Run) (goes : CopyGoes at
         settling = settles f (λ left s.
             subst (λ (l : Log). open_line at (printed l) ≢ None) (sym now.log)
             (still_open at row.job left.version (start_entry row.job.at (printed old.log)) old.log (ap (λ (a : At). start_entry a (printed old.log)) mine ∙ s.started) mine goes.copies.copying.is_open));
-        jobs = subst HaveJobsEnded (sym now.log) (jobs_end task row.job (start_entry row.job.at (printed old.log)) old.log goes.copies.others goes.copies.copying.node goes.copies.copying.number);
+        jobs = subst HaveJobsEnded (sym now.log) (jobs_end task row.job (start_entry row.job.at (printed old.log)) old.log goes.copies.others goes.copies.copying.node goes.copies.copying.number
+            (ap (λ (a : At). a.line) goes.copies.copying.at_is ∙ sym goes.copies.copying.line));
       }
 
 -- ---- copies

@@ -4,10 +4,11 @@ use Rattle.std.specs.Prelude.{◌⊎◌, ⊤, Result, Ok, Err, OnOk}
 use Rattle.history_tables.proofs.RowLemmas.{by_test, same_at_is}
 use Rattle.history_book.proofs.FreshLaws.{open_unanswered}
 use Rattle.nrt_base.specs.declared.numbers.At.{At}
+use Rattle.nrt_base.specs.declared.numbers.NodeNo.{NodeNo}
 use Rattle.documents.specs.declared.query.Query.{Query}
 use Rattle.documents.specs.declared.answer.Answer.{Answer}
 use Rattle.history_entries.specs.declared.entry.Event.{Event}
-use Rattle.history_entries.specs.declared.entry.Event.TheVariants.{Fault as Met}
+use Rattle.history_entries.specs.declared.entry.Event.TheVariants.{Files, Fault as Met}
 use Rattle.history_entries.specs.Nodes.{Past}
 use Rattle.history_entries.specs.Lines.{same_at, is_answered}
 use Rattle.history_entries.specs.Points.{operations_of_generation}
@@ -23,7 +24,8 @@ use Rattle.lane_walks.specs.Owes.{SuitsOrReplays, AddsEntries, FaultsFit}
 use Rattle.lane_walks.proofs.WalkLemmas.{log_then, call_goes, adds_faults, faults_without_log}
 use Rattle.cluster_state.specs.Run.{Run, IsNow}
 use Rattle.cluster_core.specs.Doing.{Does, IsReplied}
-use Rattle.cluster_core.specs.Calls.{AnswerEnds}
+use Rattle.script_serving.specs.Refusals.{without_node}
+use Rattle.cluster_core.specs.Calls.{by_refusal, ListsFiles, AnswerEnds}
 use Rattle.cluster_run.specs.Going.{AreOfLane, GoesByLane, HaveJobsEnded, IsQuiet}
 use Rattle.cluster_run.specs.Running.{EndsLine, IsAtRest, RunsLine}
 use Rattle.cluster_run.proofs.Jobs.{jobs_now, answer_jobs}
@@ -62,6 +64,12 @@ module _ {T E : Type 0} (command : LineCommand) (at : At) where
       → HaveJobsEnded old.log → OnOk r (EndsLine command at old new)
   on_reply (Ok x) e old new does replied now jobs = record { does = does; replied = replied; jobs = jobs_now old new at e now jobs }
   on_reply (Err x) e old new does replied now jobs = tt
+
+  -- a call that lists files
+  pub on_lists : (r : Result T E) (n : NodeNo) (old new : Run) → OnOk r (Does command at old new) → OnOk r (IsReplied at new) → OnOk r (ListsFiles at n old new) → HaveJobsEnded old.log → OnOk r (EndsLine command at old new)
+  on_lists (Ok x) n old new does replied lists jobs =
+      record { does = does; replied = replied; jobs = jobs_now old new at (by_refusal (without_node n.0 (printed old.log)) (Files n lists.names)) lists.now jobs }
+  on_lists (Err x) n old new does replied lists jobs = tt
 
   -- a call that answers a search
   pub on_answer : (r : Result T E) (last : Option Event) (query : Query) (answer : Answer) (old new : Run) → OnOk r (Does command at old new) → OnOk r (IsReplied at new)

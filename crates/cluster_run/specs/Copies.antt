@@ -19,7 +19,7 @@ use Rattle.cluster_run.specs.Going.{HaveJobsEnded}
 
 -- the job has ended, or is the one of the task
 abbrev pub HasEndedOrIs : CopyTask → JobRow → Type 0
-HasEndedOrIs task row = (row.ended ≡ true) ⊎ ((row.job.node.0 ≡ task.node.0) × (row.job.number ≡ task.job))
+HasEndedOrIs task row = (row.ended ≡ true) ⊎ ((row.job.node.0 ≡ task.node.0) × (row.job.number ≡ task.job) × (row.job.at.line.0 ≡ task.line.0))
 
 -- every job but that of the task has ended
 abbrev pub HaveOthersEnded : CopyTask → Log → Type 0

@@ -11,7 +11,7 @@ ghost use Rattle.cluster_run.specs.Running.{EndsLine, IsAtRest, RunsLine};
 
 use crate::copying::{copy, settle};
 use crate::publishing::{accept, publish};
-use crate::searching::{ask, close, open, search};
+use crate::searching::{ask, close, list_files, open, search};
 use cluster_core::Cluster;
 use disk_model::FaultDir;
 use documents::Op;
@@ -44,13 +44,13 @@ fn do_line<D: FaultDir + Drop>(
         LineCommand::Open(n, t) => open(cluster, alloc, at, *n, *t),
         LineCommand::Ask(t, query) => ask(cluster, alloc, at, *t, query),
         LineCommand::Close(t) => close(cluster, at, *t),
+        LineCommand::Files(n) => list_files(cluster, alloc, at, *n),
         LineCommand::Commit(_) => unreachable!(),
         LineCommand::Crash(..) => unreachable!(),
         LineCommand::Reopen(_) => unreachable!(),
         LineCommand::Promote(..) => unreachable!(),
         LineCommand::Merge(_) => unreachable!(),
         LineCommand::Drain(_) => unreachable!(),
-        LineCommand::Files(_) => unreachable!(),
         LineCommand::Fault(..) => unreachable!(),
     }
 }

@@ -1,4 +1,4 @@
-//! Tickets, and searches, which are evaluated outside the cluster.
+//! Tickets, lists of files, and searches, which are evaluated outside the cluster.
 
 ghost use Rattle.std.specs.Prelude.{List, ◌≡◌, ◌≢◌, ◌<◌, ◌^◌, [], false, true, OnOk, IfOk, IsTrue};
 ghost use Rattle.std.specs.List.{All};
@@ -8,7 +8,7 @@ ghost use Rattle.documents.specs.Ranking.{scan_of};
 ghost use Rattle.history_entries.specs.Nodes.{IsNode};
 ghost use Rattle.history_entries.specs.Lines.{entries_of_line};
 ghost use Rattle.history_book.specs.Log.{printed};
-ghost use Rattle.script_serving.specs.declared.script.LineCommand.TheVariants.{Search, Open, Ask, Close};
+ghost use Rattle.script_serving.specs.declared.script.LineCommand.TheVariants.{Search, Open, Ask, Close, Files};
 ghost use Rattle.seg_reader.specs.Shown.{AreLiveDocuments};
 ghost use Rattle.seg_reader.specs.Sound.{IsSound};
 ghost use Rattle.query_eval.specs.Matching.{rows_of};
@@ -54,6 +54,22 @@ pub fn close<D: FaultDir + Drop>(
     ensures { OnOk result (EndsLine (Close t) at cluster.old cluster.new) }
 {
     cluster.ticket_close(at, t)
+}
+
+/// Lists the files of a node.
+pub fn list_files<D: FaultDir + Drop>(
+    cluster: &mut Cluster<D>,
+    alloc: Global,
+    at: At,
+    n: NodeNo,
+) -> Result<(), NoMemory>
+    requires running { cluster.old.ended ≡ false }
+    requires jobs { HaveJobsEnded cluster.old.log }
+    requires fresh { entries_of_line at (printed cluster.old.log) ≡ [] }
+    requires node { IsNode cluster.old.nodes n.0 }
+    ensures { OnOk result (EndsLine (Files n) at cluster.old cluster.new) }
+{
+    cluster.files(alloc, at, n)
 }
 
 // Whether segments have fewer than 2^32 rows together.

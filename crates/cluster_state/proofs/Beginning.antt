@@ -53,15 +53,19 @@ use Rattle.cluster_places.specs.Places.{place_of}
 use Rattle.cluster_state.specs.State.{PrimaryShows, NodeShows, Shows}
 use Rattle.cluster_state.specs.FilesOut.{is_job, file_out}
 use Rattle.cluster_places.specs.Outs.{want_of, want_at, one_like, jobs_like, states_like}
-use Rattle.cluster_state.specs.Files.{CopyShows, JobShows, IsJobFor, reached_version, ReplicaFiles, PrimaryFiles, NodeFiles, FilesShow}
+use Rattle.cluster_state.specs.Files.{CopyShows, JobShows, IsJobFor, ReplicaFiles, PrimaryFiles, NodeFiles, FilesShow}
 use Rattle.cluster_state.specs.FileChanges.{SameJob}
 use Rattle.cluster_places.specs.JobChanges.{given_back, IsStateOfPoint, BeginsAt}
 use Rattle.cluster_places.specs.JobPlaces.{BeginsIn}
 use Rattle.cluster_state.proofs.Frames.{some_at}
 use Rattle.cluster_state.proofs.JobFrames.{same_shown, same_inner, same_then}
 use Rattle.cluster_places.proofs.OutCounts.{states_push, states_given, jobs_moved}
+use Rattle.cluster_state.specs.Disks.{IsPastPoint, CommitsStay}
+use Rattle.cluster_state.proofs.Disks.{fresh_flights, commits_shown, commits_alone, point_stays, disks_moved, disk_same, disks_kept}
 use Rattle.cluster_state.proofs.Wider.{primary_kept}
-use Rattle.cluster_state.proofs.FileFrames.{replica_same, both_each, both_of, Both}
+use Rattle.cluster_state.proofs.Drawn.{Grows, grows_none, grows_shown}
+use Rattle.cluster_state.proofs.Naming.{FilesLast, means_more, altered_steps, altered_job}
+use Rattle.cluster_state.proofs.FileFrames.{names_both, replica_same, both_each, both_of, Both}
 use Rattle.cluster_state.proofs.FileJobs.{job_out}
 use Rattle.cluster_places.proofs.Stepping.{out_pushed}
 
@@ -84,6 +88,7 @@ highest_low size (e ∷ past) n legal = let was = highest_low size past n legal.
 
 -- what a job's beginning rests on: the entries behind which it begins
 pub record BeginsOver (log mid : Log) (at : At) (n v : ℕ) : Type 0 where
+  pub grows : Grows (printed log) (printed mid)
   pub same : (m : ℕ) → (n == m) ≡ false → is_at (primary_of (printed log)) m ≡ false → SameJob log mid m
   pub newest : newest_version (printed mid) ≡ newest_version (printed log)
   pub version : v ≡ newest_version (printed log)
@@ -92,11 +97,13 @@ pub record BeginsOver (log mid : Log) (at : At) (n v : ℕ) : Type 0 where
   pub begun : start_entry at (printed mid) ≢ None
   pub behind : version_of n (printed mid) < newest_version (before_start at (printed mid))
   pub flight : (a : At) → copy_in_flight n (newest_version (printed mid)) (printed mid) ≡ Some a → a ≡ at
+  pub stay : (m : ℕ) → CommitsStay (printed log) (printed mid) m
 
 -- a copy starts
 pub over_copying : (size : ℕ) (log : Log) (at : At) (n : NodeNo) (v : Version) → IsLegalPast size (printed log) → AreInTurn (printed log) → KeepsRule size (printed log) at (Copying n v) → InTurn (printed log) at (Copying n v)
     → version_of n.0 (printed log) < v.0 → BeginsOver log (shown at (Copying n v) ∷ log) at n.0 v.0
 over_copying size log at n v legal turns rule turn behind = record {
+  grows = grows_shown size (printed log) at (Copying n v) legal rule;
   same = λ m apart other. same_shown size log at m legal turns other (Copying n v) rule turn (ap not apart);
   newest = refl;
   version = rule.newest;
@@ -106,6 +113,7 @@ over_copying size log at n v legal turns rule turn behind = record {
   behind = subst (λ (p : Past). version_of n.0 (printed log) < newest_version p) (sym (ap (λ (b : Bool). if b then printed log else before_start at (printed log)) mine))
       (let is : v.0 ≡ newest_version (printed log) = rule.newest in omega (arith, is, behind));
   flight = λ a is. first a (sym (ap (λ (b : Bool). if b then Some at else copy_in_flight n.0 (newest_version (printed log)) (printed log)) both) ∙ is);
+  stay = λ m. commits_shown (printed log) at m size (Copying n v) legal turns rule turn refl (fresh_flights size (printed log) at legal turns turn.once.begun m);
 }
   where
     mine : same_at at at ≡ true
@@ -128,9 +136,11 @@ over_copying size log at n v legal turns rule turn behind = record {
 pub over_settle : (size : ℕ) (log : Log) (at : At) (n v : ℕ) → IsLegalPast size (printed log) → start_entry at (printed log) ≢ None → v ≡ newest_version (printed log)
     → version_of n (printed log) < newest_version (before_start at (printed log)) → ((a : At) → copy_in_flight n (newest_version (printed log)) (printed log) ≡ Some a → ⊥) → BeginsOver log log at n v
 over_settle size log at n v legal begun is behind none = record {
+  grows = grows_none (printed log);
   same = λ m apart other. record {
     job = refl;
     newest = omega arith;
+    generation = omega arith;
     documents = λ v low. refl;
     latest = omega arith;
     version = refl;
@@ -145,6 +155,7 @@ over_settle size log at n v legal begun is behind none = record {
   begun = begun;
   behind = behind;
   flight = λ a flies. absurd (none a flies);
+  stay = λ m. commits_alone (printed log) m;
 }
 
 -- ---- the job that runs now
@@ -253,11 +264,18 @@ module _ {D : Type 0} (cells : D → Cells) where
   files_begun size log mid old new at p n v number lasting over b older behind primary node_p node_n shows files =
       record {
         source = files.source;
+        drawn = means_more files.source (printed log) (printed mid) over.grows files.drawn;
+        names = names_both cells size (printed log) (printed mid) old new p.0 n.0 x y (record { node = Primary q; held = b.both.primary.held }) (record { node = Replica r; held = b.both.replica.held }) over.grows b.moves node_p node_n
+            b.both.primary.there b.both.replica.there (altered_steps cells (printed mid) q b.primary b.begins.primary) (altered_job cells (printed mid) r b.replica b.begins.replica) files.names;
         each = both_each {P = Both cells files.source log jobs} {Q = λ m z. NodeFiles files.source cells now count m z.node} size p.0 n.0 x y old new b.moves (both_of cells log size old shows files)
             (λ m z node away apart both. other_files files.source log now jobs count m z.node both.0.node_shows (ap (λ (o : Option NodeNo). is_at o m) primary ∙ away)
             (same_then log mid now m (over.same m apart (ap (λ (o : Option NodeNo). is_at o m) primary ∙ away)) (same_inner mid (JobBegun at.line n number (Some v) (Some at)) m (ap not apart))) both.1)
             (primary_side files.source jobs count number q b.primary r b.replica b.begins (job_out cells log size n.0 old q r b.both.replica.held files.source node_n b.both.replica.there at_p.1) counted at_p.1)
             replica_side;
+        disks = disks_kept cells files.source files.source log now size old new (λ name bytes is. is)
+            (disks_moved p.0 n.0 x y (record { node = Primary q; held = b.both.primary.held }) (record { node = Replica r; held = b.both.replica.held }) old new b.moves b.both.primary.there b.both.replica.there
+            (disk_same q.commits b.primary.commits b.begins.primary.files.commits) (disk_same r.commits b.replica.commits (ap (λ (z : ReplicaParts D). z.commits) b.begins.replica.others)))
+            over.stay files.disks;
       }
     where
       now : Log
@@ -340,29 +358,25 @@ module _ {D : Type 0} (cells : D → Cells) where
         latest = over.highest;
         begun = over.begun;
         behind = over.behind;
+        generation =
+            let one : b.begins.job.infos.generation.0 ≡ q.point_infos.generation.0 = ap (λ (i : Infos). i.generation.0) infos in
+            let two : q.point_infos.generation.0 ≡ q.infos.generation.0 = ap (λ (g : Gen). g.0) at_p.1.generation in
+            let three = at_p.0.node_shows.writer.generation in
+            let four = (over.stay n.0).generation in
+            omega (arith, one, two, three, four);
         metas = subst (λ (s : CopyState). All (λ f. HasMeta files.source f.0 f.1) s.files) (sym b.begins.want) (state_metas files.source jobs q b.begins.state lasting at_p.0.node_shows.whole at_p.1 b.begins.of_point);
         stands = stands;
         handed = λ name bytes out. absurd (nothing_out mid at n v number name bytes out);
       }
-
-      reached_low : (o : Option Job) (pj : Option PointJob) → JobShows files.source log n.0 o pj → IsOlder v.0 o → reached_version pj r < v.0
-      reached_low None None s older = let is : r.searchers.point.version.0 ≡ version_of n.0 (printed log) = at_n.0.node_shows.point.version in omega (arith, is, behind)
-      reached_low None (Some j) s older = absurd s
-      reached_low (Some job) None s older = absurd s
-      reached_low (Some job) (Some j) s older = let is : j.infos.version.0 ≡ job.version.0 = s.version in omega (arith, is, older)
-
-      few : b.replica.jobs < reached_version b.replica.job b.replica
-      few =
-          let low = reached_low (job_at n.0 log) r.job at_n.1.job older in
-          let is : reached_version b.replica.job b.replica ≡ b.begins.job.infos.version.0 = ap (λ (o : Option PointJob). reached_version o b.replica) b.begins.there in
-          let was = at_n.1.few in
-          omega (arith, low, is, was, version, b.begins.jobs)
 
       replica_side : ReplicaFiles files.source cells now n.0 b.replica
       replica_side = record {
         sourced = b.begins.replica.sourced files.source at_n.1.sourced;
         job = subst (λ (o : Option Job). JobShows files.source now n.0 o b.replica.job) (sym (begun_at mid at n v number))
             (subst (λ (o : Option PointJob). JobShows files.source now n.0 (Some (begun_job mid at n v number)) o) (sym b.begins.there) shows_job);
-        few = few;
+        point =
+            let s = over.stay n.0 in
+            subst (λ (i : Infos). IsPastPoint files.source (printed mid) i) (sym (ap (λ (z : ReplicaParts D). z.infos) b.begins.replica.others))
+            (point_stays files.source files.source (λ name bytes is. is) (printed log) (printed mid) r.infos s.newest s.generation s.documents at_n.1.point);
         flight = λ a is. subst (λ (o : Option Job). IsSomeAnd o (IsJobFor a (newest_version (printed mid)))) (sym (begun_at mid at n v number)) (sym (over.flight a is), over.version ∙ sym over.newest);
       }

@@ -12,6 +12,7 @@ use Rattle.replica_node.specs.Replica.{IsJobAbove}
 use Rattle.history_entries.specs.declared.entry.Event.TheVariants.{Publishing, Copying, Copied}
 use Rattle.history_entries.specs.Nodes.{Past, IsNode, IsReplica, crashes, primary_of, primary_crashes, newest_version, version_of}
 use Rattle.history_entries.specs.Lines.{same_at, start_entry, before_start, without_at, copy_in_flight, is_free_for}
+use Rattle.cluster_state.specs.FileChanges.{is_commit_line}
 use Rattle.history_entries.specs.Legal.{KeepsRule, IsLegalPast}
 use Rattle.history_tables.specs.declared.jobs.Job.{Job}
 use Rattle.history_tables.specs.declared.jobs.JobRow.{JobRow}
@@ -30,9 +31,12 @@ use Rattle.cluster_state.specs.Run.{Run}
 use Rattle.cluster_state.specs.State.{NodeShows, Shows}
 use Rattle.cluster_state.specs.Files.{JobShows, IsJobFor, ReplicaFiles, NodeFiles, FilesShow}
 use Rattle.cluster_state.proofs.Growing.{not_flying}
+use Rattle.cluster_state.proofs.Disks.{no_commit, fresh_flights, commits_shown, commits_then, disks_still}
 use Rattle.cluster_state.proofs.Frames.{some_then, was, noted}
 use Rattle.cluster_state.proofs.JobFrames.{same_shown}
-use Rattle.cluster_state.proofs.FileFrames.{Both, both_of, replica_same, files_was, files_is}
+use Rattle.cluster_state.proofs.Drawn.{Grows, grows_then, grows_shown}
+use Rattle.cluster_state.proofs.Naming.{means_more}
+use Rattle.cluster_state.proofs.FileFrames.{names_still, Both, both_of, replica_same, files_was, files_is}
 use Rattle.cluster_state.proofs.Turning.{fresh_turn, fresh_line, later_turn, past_has, nodes_is}
 
 -- ---- what the history says
@@ -104,7 +108,7 @@ module _ {D : Type 0} (cells : D → Cells) where
     sourced = files.sourced;
     job = subst (λ (o : Option Job). JobShows source (copied_log at n v log) n.0 o r.job) (sym (job_stays at n v n.0 log ∙ none))
         (quiet r.job (subst (λ (o : Option Job). JobShows source log n.0 o r.job) none files.job));
-    few = files.few;
+    point = record { known = files.point.known; generation = files.point.generation; stands = files.point.stands };
     flight = λ a is. absurd (nowhere a (sym (none_flies at n v log newest) ∙ is));
   }
     where
@@ -148,9 +152,23 @@ module _ {D : Type 0} (cells : D → Cells) where
       → version_of n.0 (printed log) ≡ newest_version (printed log) → Shows cells log size places → FilesShow cells log size places → FilesShow cells (copied_log at n v log) size places
   files_copied log size places at n v legal turns rule turn later reached shows files = record {
     source = files.source;
+    drawn = means_more files.source (printed log) (printed (copied_log at n v log)) grows files.drawn;
+    names = names_still cells size (printed log) (printed (copied_log at n v log)) places grows files.names;
     each = λ m node. some_then (place_of places m) (both_of cells log size places shows files m node) (λ z both. step m z.node both.0.node_shows both.1);
+    disks = disks_still cells files.source log (copied_log at n v log) size places
+        (λ m. commits_then (printed log) between (printed (copied_log at n v log)) m
+        (commits_shown (printed log) at m size (Copying n v) legal turns rule turn refl (fresh_flights size (printed log) at legal turns turn.once.begun m))
+        (commits_shown between at m size (Copied n v) (rule, legal) (turn, turns) later (later_turn between at (Copied n v) refl tt) refl
+        (no_commit size between at (rule, legal) (turn, turns) (ap (λ (b : Bool). is_commit_line (if b then Some (Copying n v) else start_entry at (printed log))) (same_at_self at)) m)))
+        files.disks;
   }
     where
+      grows : Grows (printed log) (printed (copied_log at n v log))
+      grows = grows_then (printed log) (printed (shown at (Copying n v) ∷ log)) (printed (copied_log at n v log)) (grows_shown size (printed log) at (Copying n v) legal rule)
+          (grows_shown size (printed (shown at (Copying n v) ∷ log)) at (Copied n v) (rule, legal) later)
+      between : Past
+      between = record { at = at; event = Copying n v } ∷ printed log
+
       step : (m : ℕ) (x : Node D) → NodeShows cells log m x → NodeFiles files.source cells log (λ s. jobs_like places s size) m x → NodeFiles files.source cells (copied_log at n v log) (λ s. jobs_like places s size) m x
       step m (Primary p) is mine = mine
       step m (Down d) is mine = mine

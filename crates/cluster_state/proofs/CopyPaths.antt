@@ -40,11 +40,12 @@ use Rattle.cluster_state.specs.Run.{Run}
 use Rattle.cluster_places.specs.Places.{place_of, HasPrimary}
 use Rattle.cluster_state.specs.State.{Shows}
 use Rattle.cluster_places.specs.Outs.{jobs_like}
-use Rattle.cluster_state.specs.Files.{JobShows, IsJobFor, reached_version, ReplicaFiles, FilesShow}
+use Rattle.cluster_state.specs.Files.{JobShows, IsJobFor, ReplicaFiles, FilesShow}
 use Rattle.cluster_places.specs.JobChanges.{HasReplica}
 use Rattle.cluster_places.specs.JobPlaces.{CanBegin, BeginsIn}
 use Rattle.cluster_state.specs.Copies.{newest_of, BeginsJob}
 use Rattle.cluster_state.specs.Settles.{WaitsFor}
+use Rattle.cluster_state.proofs.Naming.{FilesLast}
 use Rattle.cluster_state.proofs.Frames.{some_at, was, now_is, slot_of, place_shows, shows_still, start_back}
 use Rattle.cluster_state.proofs.Growing.{same, fewer, not_flying}
 use Rattle.cluster_state.proofs.Turning.{fresh_line}
@@ -52,10 +53,6 @@ use Rattle.cluster_state.proofs.FileFrames.{both_of, Both, files_was, files_is, 
 use Rattle.cluster_state.proofs.FileJobs.{PrimaryHere, ReplicaHere, primary_here, replica_here, job_out, no_flight}
 use Rattle.cluster_state.proofs.JobMoves.{shows_kept, shows_both, primary_place, replica_place}
 use Rattle.cluster_state.proofs.Beginning.{over_copying, over_settle, files_begun}
-
--- what is known of files' names
-abbrev pub FilesLast : Type 0
-FilesLast = (infos : Infos) (names : List Name) → AreFilesOf infos names → (q : Name) → Contains (flat_map files_of_segment infos.segs) q → IsLasting q
 
 -- ---- the past
 
@@ -151,12 +148,9 @@ module _ {D : Type 0} (cells : D → Cells) where
         let gen : q.point_infos.generation.0 ≡ q.infos.generation.0 = ap (λ (g : Gen). g.0) at_p.1.generation in
         let gen_now = at_p.0.node_shows.writer.generation in
         let seen = at_n.0.node_shows.seen in
-        let few = at_n.1.few in
-        let low = reached_low r (job_at n.0 log) r.job at_n.1.job version_r in
         record {
           behind = omega (arith, version_r, behind, two, three);
           seen = omega (arith, gen, gen_now, seen);
-          few = omega (arith, few, low, bound);
           out = job_out cells log size n.0 places q r hr files.source node_n there_r at_p.1;
         };
   }
@@ -169,12 +163,6 @@ module _ {D : Type 0} (cells : D → Cells) where
 
       here_n : ReplicaHere cells files.source log n.0 places
       here_n = replica_here cells log size n.0 places shows files node_n replica
-
-      reached_low : (r : ReplicaParts D) (o : Option Job) (pj : Option PointJob) → JobShows files.source log n.0 o pj → r.searchers.point.version.0 ≡ version_of n.0 (printed log) → reached_version pj r ≤ newest_version (printed log)
-      reached_low r None None s is = omega (arith, is, behind)
-      reached_low r None (Some j) s is = absurd s
-      reached_low r (Some job) None s is = absurd s
-      reached_low r (Some job) (Some j) s is = let same_version : j.infos.version.0 ≡ job.version.0 = s.version in let known = s.known in omega (arith, same_version, known)
 
   -- both nodes as they are now, at the log of before
   begun_places : (log : Log) (size : ℕ) (old new : List (Option (Place D))) (p n : NodeNo) (number : ℕ) (shows : Shows cells log size old) (files : FilesShow cells log size old) → IsNode size p.0 → IsNode size n.0 → BeginsIn cells p.0 n.0 number old new

@@ -28,6 +28,7 @@ use Rattle.history_entries.specs.declared.entry.Event.{Event}
 use Rattle.history_entries.specs.declared.entry.Event.TheVariants.{Publishing, Copying, Settling, Switched, Copied}
 use Rattle.history_entries.specs.Nodes.{Past, IsNode, IsReplica, is_at, primary_of, newest_version, version_of, generation_of}
 use Rattle.history_entries.specs.Lines.{same_at, start_entry, before_start, copy_in_flight, highest_copy}
+use Rattle.cluster_state.specs.FileChanges.{is_commit_line, SameJob}
 use Rattle.history_entries.specs.Points.{documents_at}
 use Rattle.history_entries.specs.Legal.{KeepsRule, IsLegalPast}
 use Rattle.history_tables.specs.declared.jobs.Job.{Job}
@@ -51,8 +52,7 @@ use Rattle.cluster_places.specs.Places.{place_of, HasPrimary}
 use Rattle.cluster_state.specs.State.{StandForVersion, HoldsTickets, NodeShows, PlaceShows, Shows}
 use Rattle.cluster_state.specs.Moves.{Lasts}
 use Rattle.cluster_places.specs.Outs.{one_like, want_of, want_at, jobs_like, states_like}
-use Rattle.cluster_state.specs.Files.{CopyShows, JobShows, IsJobFor, reached_version, ReplicaFiles, PrimaryFiles, NodeFiles, FilesShow}
-use Rattle.cluster_state.specs.FileChanges.{SameJob}
+use Rattle.cluster_state.specs.Files.{MeansDrawn, CopyShows, JobShows, IsJobFor, ReplicaFiles, PrimaryFiles, NodeFiles, FilesShow}
 use Rattle.cluster_state.specs.Copies.{JobRuns, ended_log}
 use Rattle.cluster_places.specs.JobChanges.{HasReplica, HasNextFile, IsNextFile, FinishesAt}
 use Rattle.cluster_places.specs.JobPlaces.{CanFinish, FinishesIn, MovesBoth}
@@ -60,8 +60,12 @@ use Rattle.cluster_state.proofs.Growing.{lasts, fewer, same, not_flying}
 use Rattle.cluster_state.proofs.Frames.{some_at, holds_same, place_same, shows_still, slot_of, was}
 use Rattle.cluster_state.proofs.JobFrames.{IsCopyStart, copy_flying, same_shown, same_inner, same_then}
 use Rattle.cluster_places.proofs.OutCounts.{jobs_moved, states_back}
+use Rattle.cluster_state.specs.Disks.{IsPastPoint, CommitsStay}
+use Rattle.cluster_state.proofs.Disks.{no_commit, commits_shown, commits_then, point_stays, disks_moved, disk_same, disks_kept}
 use Rattle.cluster_state.proofs.Wider.{primary_kept}
-use Rattle.cluster_state.proofs.FileFrames.{Both, both_of, both_each, replica_same, files_was}
+use Rattle.cluster_state.proofs.Drawn.{Grows, grows_then, grows_shown}
+use Rattle.cluster_state.proofs.Naming.{FilesLast, means_more, altered_steps, finished_steps}
+use Rattle.cluster_state.proofs.FileFrames.{names_both, Both, both_of, both_each, replica_same, files_was}
 use Rattle.cluster_state.proofs.FileJobs.{PrimaryHere, ReplicaHere, JobHere, primary_here, replica_here, job_here, job_out, runs_at}
 use Rattle.cluster_state.proofs.JobMoves.{shows_kept, primary_place}
 use Rattle.cluster_state.proofs.PartPaths.{there_both, some_job}
@@ -74,16 +78,17 @@ SourcedStand = (source reads : Name → Content) (j : Copy) (infos : Infos) (doc
 -- ---- the log
 
 -- the job that ran has ended
-ended_none : (job : Job) (past now : Past) (o : Option JobRow) → while_going job.node.0 past o ≡ Some job → while_going job.node.0 now (row_if_some (Ends job.node job.number) o) ≡ None
+ended_none : (job : Job) (past now : Past) (o : Option JobRow) → while_going job.node.0 past o ≡ Some job → while_going job.node.0 now (row_if_some (Ends job.at.line job.node job.number) o) ≡ None
 ended_none job past now None is = absurd (cc)
 ended_none job past now (Some row) is = tests (not row.ended && nat_le (crashed_at job.node.0 past) row.before && nat_le (primary_crashed past) row.before) is
   where
-    tests : (b : Bool) → (if b then Some row.job else None) ≡ Some job → while_going job.node.0 now (Some (row_by (Ends job.node job.number) row)) ≡ None
+    tests : (b : Bool) → (if b then Some row.job else None) ≡ Some job → while_going job.node.0 now (Some (row_by (Ends job.at.line job.node job.number) row)) ≡ None
     tests true is =
         let same_job : row.job ≡ job = cc in
         let node : (row.job.node.0 == job.node.0) ≡ true = eq-eqb row.job.node.0 job.node.0 (ap (λ (j : Job). j.node.0) same_job) in
         let number : (row.job.number == job.number) ≡ true = eq-eqb row.job.number job.number (ap (λ (j : Job). j.number) same_job) in
-        ap (λ (b : Bool × Bool). while_going job.node.0 now (Some (if b.0 && b.1 then record row { ended = true } else row))) (λ i. (node i, number i))
+        let line : (row.job.at.line.0 == job.at.line.0) ≡ true = eq-eqb row.job.at.line.0 job.at.line.0 (ap (λ (j : Job). j.at.line.0) same_job) in
+        ap (λ (b : Bool × (Bool × Bool)). while_going job.node.0 now (Some (if (b.0 && b.1) && b.2 then record row { ended = true } else row))) (λ i. (line i, (node i, number i)))
     tests false is = absurd (cc)
 
 -- a job of a line that did not start as a publish
@@ -91,6 +96,12 @@ not_publish : (past start : Past) (at : At) (n v : ℕ) (o : Option Event) → s
 not_publish past start at n v (Some (Copying m w)) is started other = absurd (let both : Some (Copying m w) ≡ Some Publishing = sym is ∙ other in cc)
 not_publish past start at n v (Some (Settling w)) is started other = absurd (let both : Some (Settling w) ≡ Some Publishing = sym is ∙ other in cc)
 not_publish past start at n v o is started other = absurd started
+
+-- nor as a commit
+not_commit : (past start : Past) (at : At) (n v : ℕ) (o : Option Event) → start_entry at past ≡ o → StartsJob start n v o → is_commit_line (start_entry at past) ≡ false
+not_commit past start at n v (Some (Copying k w)) is started = ap is_commit_line is
+not_commit past start at n v (Some (Settling w)) is started = ap is_commit_line is
+not_commit past start at n v o is started = absurd started
 
 module _ {D : Type 0} (cells : D → Cells) where
 
@@ -214,18 +225,29 @@ module _ {D : Type 0} (cells : D → Cells) where
       segments = subst (λ (ss : List Shown). AreSegmentsOf docs ss) (one_segs (reads_of (cells s.dir)) s.infos.segs stands.segs s.searchers.point.readers stands.stands.each f.whole.point.readers) stands.stands.stand
 
   -- the files of all nodes, once no job runs at the node and no copy of the newest version to it is in flight
-  files_ended : (size : ℕ) (log now : Log) (old new : List (Option (Place D))) (p : NodeNo) (job : Job) → (shows : Shows cells log size old) (files : FilesShow cells log size old) → FinishesIn cells p.0 job.node.0 old new → IsNode size p.0 → primary_of (printed log) ≡ Some p
+  files_ended : (size : ℕ) (log now : Log) (old new : List (Option (Place D))) (p : NodeNo) (job : Job) → FilesLast → Grows (printed log) (printed now) → (shows : Shows cells log size old) (files : FilesShow cells log size old) → FinishesIn cells p.0 job.node.0 old new → IsNode size p.0 → primary_of (printed log) ≡ Some p
       → IsNode size job.node.0 → job_at job.node.0 log ≡ Some job
-      → ((m : ℕ) → (job.node.0 == m) ≡ false → is_at (primary_of (printed log)) m ≡ false → SameJob log now m)
+      → ((m : ℕ) → (job.node.0 == m) ≡ false → is_at (primary_of (printed log)) m ≡ false → SameJob log now m) → ((m : ℕ) → CommitsStay (printed log) (printed now) m)
       → job_at job.node.0 now ≡ None → ((a : At) → copy_in_flight job.node.0 (newest_version (printed now)) (printed now) ≡ Some a → ⊥) → FilesShow cells now size new
-  files_ended size log now old new p job shows files b node_p primary node is others ended none = record {
+  files_ended size log now old new p job lasting grows shows files b node_p primary node is others stay ended none = record {
     source = files.source;
+    drawn = drawn;
+    names = names_both cells size (printed log) (printed now) old new p.0 n x y (record { node = Primary b.both.primary.parts; held = b.both.primary.held }) (record { node = Replica r; held = b.both.replica.held }) grows b.moves node_p node
+        b.both.primary.there b.both.replica.there (altered_steps cells (printed now) b.both.primary.parts b.primary f.primary)
+        (finished_steps cells files.source (printed now) here.point b.both.primary.parts b.primary r s r.searchers.point.version.0 lasting drawn here.shows.metas above f) files.names;
     each = both_each {P = Both cells files.source log jobs} {Q = λ m z. NodeFiles files.source cells now count m z.node} size p.0 n x y old new b.moves (both_of cells log size old shows files)
         (λ m z node' away other both. other_node m z.node other (ap (λ (o : Option NodeNo). is_at o m) primary ∙ away) both.0.node_shows both.1)
         (primary_kept cells files.source jobs count b.both.primary.parts b.primary f.primary.files low at_p.1)
         mine;
+    disks = disks_kept cells files.source files.source log now size old new (λ name bytes is. is)
+        (disks_moved p.0 n x y (record { node = Primary b.both.primary.parts; held = b.both.primary.held }) (record { node = Replica r; held = b.both.replica.held }) old new b.moves b.both.primary.there b.both.replica.there
+        (disk_same b.both.primary.parts.commits b.primary.commits f.primary.files.commits) (disk_same r.commits s.commits (ap (λ (z : ReplicaParts D). z.commits) f.others)))
+        stay files.disks;
   }
     where
+      drawn : MeansDrawn files.source (printed now)
+      drawn = means_more files.source (printed log) (printed now) grows files.drawn
+
       n : ℕ
       n = job.node.0
 
@@ -259,6 +281,9 @@ module _ {D : Type 0} (cells : D → Cells) where
       f : FinishesAt cells here.point b.both.primary.parts b.primary r s
       f = subst (λ (o : Option PointJob). IfSome o (λ j. FinishesAt cells j b.both.primary.parts b.primary r s)) here.runs b.finishes
 
+      above : IsJobAbove r.searchers.point.version.0 here.point
+      above = subst (λ (o : Option PointJob). IfSome o (IsJobAbove r.searchers.point.version.0)) here.runs at_n.0.node_shows.whole.newer
+
       apart_wants : (m : ℕ) → (n == m) ≡ false → want_at (place_of new m) ≡ want_at (place_of old m)
       apart_wants m other = ap want_at (b.moves.there m ∙ ap (λ (t : Bool). if t then Some y else if p.0 == m then Some x else place_of old m) other) ∙ tests (p.0 == m) refl
         where
@@ -284,20 +309,21 @@ module _ {D : Type 0} (cells : D → Cells) where
       other_node m (Replica t) other far has was_files = replica_same cells files.source log now m t (others m other far) was_files
       other_node m (Down d) other far has was_files = tt
 
-      few : s.jobs < reached_version s.job s
-      few =
-          let reached : reached_version s.job s ≡ s.searchers.point.version.0 = ap (λ (o : Option PointJob). reached_version o s) f.job in
-          let version : s.searchers.point.version.0 ≡ here.point.infos.version.0 = ap (λ (v : Version). v.0) f.whole.point.version ∙ ap (λ (i : Infos). i.version.0) f.infos in
-          let before : reached_version r.job r ≡ here.point.infos.version.0 = ap (λ (o : Option PointJob). reached_version o r) here.runs in
-          let same_jobs : s.jobs ≡ r.jobs = ap (λ (t : ReplicaParts D). t.jobs) f.others in
-          let was_few = at_n.1.few in
-          omega (arith, reached, version, before, same_jobs, was_few)
+      here_point : IsPastPoint files.source (printed log) here.point.infos
+      here_point = record {
+        known = let same_version = here.shows.version in let known = here.shows.known in omega (arith, same_version, known);
+        generation = here.shows.generation;
+        stands = subst (λ (v : ℕ). StandsFor files.source here.point.infos (documents_at (printed log) v)) (sym here.shows.version) here.shows.stands;
+      }
 
       mine : ReplicaFiles files.source cells now n s
       mine = record {
         sourced = f.sourced files.source at_n.1.sourced;
         job = subst (λ (o : Option Job). JobShows files.source now n o s.job) (sym ended) (subst (λ (o : Option PointJob). JobShows files.source now n None o) (sym f.job) tt);
-        few = few;
+        point =
+            let k = stay n in
+            subst (λ (i : Infos). IsPastPoint files.source (printed now) i) (sym f.infos)
+            (point_stays files.source files.source (λ name bytes is. is) (printed log) (printed now) here.point.infos k.newest k.generation k.documents here_point);
         flight = λ a flies. absurd (none a flies);
       }
 
@@ -305,10 +331,10 @@ module _ {D : Type 0} (cells : D → Cells) where
   flies_here : (log : Log) (job : Job) (r : ReplicaParts D) (source : Name → Content) (a : At) → job_at job.node.0 log ≡ Some job → ReplicaFiles source cells log job.node.0 r → copy_in_flight job.node.0 (newest_version (printed log)) (printed log) ≡ Some a → job.at ≡ a
   flies_here log job r source a is files flies = (subst (λ (o : Option Job). IsSomeAnd o (IsJobFor a (newest_version (printed log)))) is (files.flight a flies)).0
 
-  pub ending : (size : ℕ) (log : Log) (old new : List (Option (Place D))) (p : NodeNo) (job : Job) (o : Option Event) → SourcedStand → start_entry job.at (printed log) ≡ o → StartsJob (before_start job.at (printed log)) job.node.0 job.version.0 o
+  pub ending : (size : ℕ) (log : Log) (old new : List (Option (Place D))) (p : NodeNo) (job : Job) (o : Option Event) → SourcedStand → FilesLast → start_entry job.at (printed log) ≡ o → StartsJob (before_start job.at (printed log)) job.node.0 job.version.0 o
       → IsLegalPast size (printed (ended_log job o log)) → AreInTurn (printed (ended_log job o log)) → IsNode size p.0 → primary_of (printed log) ≡ Some p → (p.0 == job.node.0) ≡ false → IsNode size job.node.0 → job_at job.node.0 log ≡ Some job
       → HasNextFile (place_of old job.node.0) None → FinishesIn cells p.0 job.node.0 old new → Shows cells log size old → FilesShow cells log size old → Shows cells (ended_log job o log) size new × FilesShow cells (ended_log job o log) size new
-  ending size log old new p job o stand start started legal turns node_p primary apart node is next b shows files = by o start started legal turns
+  ending size log old new p job o stand lasting start started legal turns node_p primary apart node is next b shows files = by o start started legal turns
     where
       n : NodeNo
       n = job.node
@@ -345,15 +371,24 @@ module _ {D : Type 0} (cells : D → Cells) where
       others_one : IsLegalPast size (printed one) → AreInTurn (printed one) → (m : ℕ) → (job.node.0 == m) ≡ false → is_at (primary_of (printed log)) m ≡ false → SameJob log one m
       others_one legal turns m other far = same_shown size log job.at m legal.1 turns.1 far (Switched job.node job.version) legal.0 turns.0 (ap not other)
 
+      stay_one : (e : Option Event) → start_entry job.at (printed log) ≡ e → StartsJob (before_start job.at (printed log)) job.node.0 job.version.0 e → IsLegalPast size (printed one) → AreInTurn (printed one) → (m : ℕ) → CommitsStay (printed log) (printed one) m
+      stay_one e start started legal turns m = commits_shown (printed log) job.at m size (Switched job.node job.version) legal.1 turns.1 legal.0 turns.0 refl
+          (no_commit size (printed log) job.at legal.1 turns.1 (not_commit (printed log) (before_start job.at (printed log)) job.at job.node.0 job.version.0 e start started) m)
+
       by : (e : Option Event) → start_entry job.at (printed log) ≡ e → StartsJob (before_start job.at (printed log)) job.node.0 job.version.0 e → IsLegalPast size (printed (ended_log job e log)) → AreInTurn (printed (ended_log job e log))
           → Shows cells (ended_log job e log) size new × FilesShow cells (ended_log job e log) size new
       by (Some (Copying m w)) start started legal turns = (
         shows_kept cells size two (JobEnd job.at.line job.node job.number) new (λ a. refl)
             (copied size one new job.at m w legal.1 turns.1 legal.0 (not_publish (printed log) (before_start job.at (printed log)) job.at job.node.0 job.version.0 (Some (Copying m w)) start started)
             (first (Some (Copying m w)) start started legal.1 turns.1)),
-        files_ended size log (job_end two) old new p job shows files b node_p primary node is
+        files_ended size log (job_end two) old new p job lasting
+            (grows_then (printed log) (printed one) (printed two) (grows_shown size (printed log) job.at (Switched job.node job.version) legal.1.1 legal.1.0) (grows_shown size (printed one) job.at (Copied m w) legal.1 legal.0))
+            shows files b node_p primary node is
             (λ k other far. same_then log one (job_end two) k (others_one legal.1 turns.1 k other far) (same_then one two (job_end two) k (same_shown size one job.at k legal.1 turns.1 far (Copied m w) legal.0 turns.0 refl)
             (same_inner two (JobEnd job.at.line job.node job.number) k (ap not other))))
+            (λ k. commits_then (printed log) (printed one) (printed two) k (stay_one (Some (Copying m w)) start started legal.1 turns.1 k)
+            (commits_shown (printed one) job.at k size (Copied m w) legal.1 turns.1 legal.0 turns.0 refl
+            (no_commit size (printed one) job.at legal.1 turns.1 (not_commit (printed log) (before_start job.at (printed log)) job.at job.node.0 job.version.0 (Some (Copying m w)) start started) k)))
             (ended_none job (printed log) (printed two) (last_job false job.node.0 log) is)
             (λ a flies.
             let back = without_some job.at a (copy_in_flight job.node.0 (newest_version (printed log)) (printed log)) flies in
@@ -365,8 +400,9 @@ module _ {D : Type 0} (cells : D → Cells) where
           two = shown job.at (Copied m w) ∷ one
       by (Some (Settling w)) start started legal turns = (
         shows_kept cells size one (JobEnd job.at.line job.node job.number) new (λ a. refl) (first (Some (Settling w)) start started legal turns),
-        files_ended size log (job_end one) old new p job shows files b node_p primary node is
+        files_ended size log (job_end one) old new p job lasting (grows_shown size (printed log) job.at (Switched job.node job.version) legal.1 legal.0) shows files b node_p primary node is
             (λ k other far. same_then log one (job_end one) k (others_one legal turns k other far) (same_inner one (JobEnd job.at.line job.node job.number) k (ap not other)))
+            (stay_one (Some (Settling w)) start started legal turns)
             (ended_none job (printed log) (printed one) (last_job false job.node.0 log) is)
             (λ a flies.
             let line : job.at ≡ a = flies_here log job b.both.replica.parts files.source a is at_n.1 flies in
@@ -413,9 +449,9 @@ module _ {D : Type 0} (cells : D → Cells) where
   pub finish_path : (r : Run) (ended : Bool) (b0 b1 b2 : Pages) (old new : List (Option (Place D))) (p : NodeNo) (row : JobRow) → record { ended = ended; nodes = b0.nodes; log = b0.log } ≡ r → r.ended ≡ false
       → (ended ≡ false → Shows cells b0.log b0.nodes old × FilesShow cells b0.log b0.nodes old) → b1.log ≡ b0.log → b1.nodes ≡ b0.nodes
       → b2.log ≡ ended_log row.job (start_entry row.job.at (printed b1.log)) b1.log → b2.nodes ≡ b1.nodes → IsLegalPast b2.nodes (printed b2.log) → AreInTurn (printed b2.log)
-      → SourcedStand → IsNode r.nodes p.0 → primary_of (printed r.log) ≡ Some p → JobRuns r.log row → LaneJobShows b0.nodes (printed b0.log) row → IsReplica (printed b0.log) row.job.node.0
+      → SourcedStand → FilesLast → IsNode r.nodes p.0 → primary_of (printed r.log) ≡ Some p → JobRuns r.log row → LaneJobShows b0.nodes (printed b0.log) row → IsReplica (printed b0.log) row.job.node.0
       → HasNextFile (place_of old row.job.node.0) None → FinishesIn cells p.0 row.job.node.0 old new → Shows cells b2.log b2.nodes new × FilesShow cells b2.log b2.nodes new
-  finish_path r ended b0 b1 b2 old new p row view running pair e1 n1 e2 n2 legal turns stand node primary runs lane replica next b =
+  finish_path r ended b0 b1 b2 old new p row view running pair e1 n1 e2 n2 legal turns stand lasting node primary runs lane replica next b =
       let log0 : b0.log ≡ r.log = ap (λ (x : Run). x.log) view in
       let log1 : b1.log ≡ r.log = e1 ∙ log0 in
       let log2 : b2.log ≡ ended_log row.job (start_entry row.job.at (printed r.log)) r.log = e2 ∙ ap (λ (l : Log). ended_log row.job (start_entry row.job.at (printed l)) l) log1 in
@@ -424,6 +460,6 @@ module _ {D : Type 0} (cells : D → Cells) where
       let legal_now : IsLegalPast r.nodes (printed (ended_log row.job (start_entry row.job.at (printed r.log)) r.log)) = subst (λ (x : Log × ℕ). IsLegalPast x.1 (printed x.0)) (λ i. (log2 i, size2 i)) legal in
       let turns_now : AreInTurn (printed (ended_log row.job (start_entry row.job.at (printed r.log)) r.log)) = subst (λ (l : Log). AreInTurn (printed l)) log2 turns in
       let other : is_at (primary_of (printed r.log)) row.job.node.0 ≡ false = (subst (λ (l : Log). IsReplica (printed l) row.job.node.0) log0 replica).other in
-      let now = ending r.nodes r.log old new p row.job (start_entry row.job.at (printed r.log)) stand refl h.lane.started legal_now turns_now node primary (sym (ap (λ (o : Option NodeNo). is_at o row.job.node.0) primary) ∙ other) h.lane.node h.is next b
+      let now = ending r.nodes r.log old new p row.job (start_entry row.job.at (printed r.log)) stand lasting refl h.lane.started legal_now turns_now node primary (sym (ap (λ (o : Option NodeNo). is_at o row.job.node.0) primary) ∙ other) h.lane.node h.is next b
       (was cells r ended b0.nodes b0.log old view running (λ e. (pair e).0)) (files_was cells r ended b0.nodes b0.log old view running (λ e. (pair e).1)) in
       subst (λ (x : Log × ℕ). Shows cells x.0 x.1 new × FilesShow cells x.0 x.1 new) (λ i. (sym log2 i, sym size2 i)) now

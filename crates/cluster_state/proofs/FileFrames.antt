@@ -1,5 +1,5 @@
 -- What calls and entries leave of the files of all nodes: what moves no file and no job, and publishes.
-use Rattle.std.proofs.Common.{◌≡◌, ◌≤◌, ◌<◌, ◌==◌, ℕ, Bool, true, false, true≢false, List, ◌∷◌, Some, None, Option, Vec, Global, refl, ap, ◌∙◌, sym, subst, arith, if◌then◌else◌}
+use Rattle.std.proofs.Common.{inl, inr, ◌≡◌, ◌≤◌, ◌<◌, ◌==◌, ℕ, Bool, true, false, true≢false, List, ◌∷◌, Some, None, Option, Vec, Global, refl, ap, ◌∙◌, sym, subst, arith, if◌then◌else◌}
 use Rattle.std.specs.Prelude.{IsSomeAnd}
 use Rattle.std.proofs.lemmas.Bool.{eqb-true, eq-eqb}
 use Rattle.nrt_base.specs.declared.numbers.At.{At}
@@ -11,15 +11,17 @@ use Rattle.nrt_base.specs.declared.doc.Doc.{Doc}
 use Rattle.disk_model.specs.Disk.{Name, Content, Cells}
 use Rattle.seg_reader.specs.Shown.{Shown}
 use Rattle.seg_reader.specs.Stands.{StandsFor}
+use Rattle.segment_infos.specs.declared.infos.Infos.{Infos}
 use Rattle.index_primary.specs.declared.parts.Parts.{Parts as PrimaryParts}
 use Rattle.index_primary.specs.declared.states.Out.{Out}
+use Rattle.commit_steps.specs.declared.stage.CommitBook.{CommitBook}
 use Rattle.index_primary.specs.Primary.{IsPrimary}
 use Rattle.replica_node.specs.declared.job.PointJob.{PointJob}
 use Rattle.replica_node.specs.declared.parts.Parts.{Parts as ReplicaParts}
 use Rattle.history_entries.specs.declared.entry.Event.{Event}
 use Rattle.history_entries.specs.declared.entry.Event.TheVariants.{Publishing, Published}
-use Rattle.history_entries.specs.Nodes.{IsNode, is_at, primary_of, newest_version}
-use Rattle.history_entries.specs.Lines.{before_start}
+use Rattle.history_entries.specs.Nodes.{Past, IsNode, is_at, primary_of, newest_version}
+use Rattle.history_entries.specs.Lines.{start_entry, before_start, commit_in_flight}
 use Rattle.history_entries.specs.Legal.{KeepsRule, IsLegalPast}
 use Rattle.history_tables.proofs.RowLemmas.{by_test}
 use Rattle.history_tables.specs.declared.jobs.Job.{Job}
@@ -36,13 +38,18 @@ use Rattle.cluster_places.specs.Places.{place_of}
 use Rattle.cluster_state.specs.Run.{Run}
 use Rattle.cluster_state.specs.State.{NodeShows, PlaceShows, Shows}
 use Rattle.cluster_places.specs.Outs.{want_of, want_at, jobs_like, states_like}
-use Rattle.cluster_state.specs.Files.{CopyShows, JobShows, IsJobFor, reached_version, ReplicaFiles, NodeFiles, FilesShow}
+use Rattle.cluster_state.specs.Files.{CopyShows, JobShows, IsJobFor, ReplicaFiles, NodeFiles, FilesShow}
 use Rattle.cluster_places.specs.KeptFiles.{FillsPrimaryFiles, KeepsReplicaFiles, KeepsNodeFiles}
-use Rattle.cluster_state.specs.FileChanges.{keeps_jobs, SameJob}
+use Rattle.cluster_state.specs.FileChanges.{keeps_jobs, SameJob, keeps_commits, is_commit_line}
 use Rattle.cluster_places.specs.JobPlaces.{MovesOne, MovesBoth}
 use Rattle.cluster_state.proofs.Frames.{some_then, some_at, was, PutsBack}
+use Rattle.cluster_state.specs.Names.{NamesShow}
+use Rattle.cluster_state.proofs.Drawn.{Grows, grows_shown, file_more}
+use Rattle.cluster_state.proofs.Naming.{FilesLast, NodeSteps, node_steps, node_grows, HoldsFrom, kept_steps, means_more, means_wider, own_drawn}
 use Rattle.cluster_state.proofs.JobFrames.{same_shown, same_inner, same_then, job_stays}
 use Rattle.cluster_places.proofs.OutCounts.{jobs_same}
+use Rattle.cluster_state.specs.Disks.{IsPastPoint, CommitsStay}
+use Rattle.cluster_state.proofs.Disks.{no_commit, fresh_flights, point_stays, commits_shown, disk_moved, disk_same, disk_kept, disks_kept, disks_still}
 use Rattle.cluster_places.proofs.Taking.{moved_one}
 use Rattle.cluster_state.proofs.Wider.{widened, widened_more, shows_wider, sourced_wider, primary_kept, primary_filled}
 
@@ -98,6 +105,32 @@ module _ {D : Type 0} where
       (λ apart q. ap want_at (moves.there m ∙ ap (λ (b : Bool). if b then Some x else place_of old m) apart))
       refl
 
+-- ---- names
+
+module _ {D : Type 0} (cells : D → Cells) where
+  -- what is shown of the names at each node
+  abbrev pub AllNames : Past → ℕ → List (Option (Place D)) → Type 0
+  AllNames past size places = (n : ℕ) → IsNode size n → IsSomeAnd (place_of places n) (λ place. NamesShow cells past place.node)
+
+  -- no place moved
+  pub names_still : (size : ℕ) (past now : Past) (places : List (Option (Place D))) → Grows past now → AllNames past size places → AllNames now size places
+  names_still size past now places g was n node = some_then (place_of places n) (was n node) (λ z shown. node_grows cells past now z.node g shown)
+
+  -- one place moved
+  pub names_one : (size : ℕ) (past now : Past) (old new : List (Option (Place D))) (n : ℕ) (x y : Place D) → Grows past now → MovesOne n x old new → IsNode size n → place_of old n ≡ Some y → NodeSteps cells now y.node x.node
+      → AllNames past size old → AllNames now size new
+  names_one size past now old new n x y g moves node there steps was =
+      one_each {P = λ m z. NamesShow cells past z.node} {Q = λ m z. NamesShow cells now z.node} size n x old new moves was (λ m z node apart shown. node_grows cells past now z.node g shown)
+      (node_steps cells past now y.node x.node g steps (some_at (λ z. NamesShow cells past z.node) (place_of old n) y there (was n node)))
+
+  -- two places moved
+  pub names_both : (size : ℕ) (past now : Past) (old new : List (Option (Place D))) (p n : ℕ) (x y u v : Place D) → Grows past now → MovesBoth p n x y old new → IsNode size p → IsNode size n → place_of old p ≡ Some u → place_of old n ≡ Some v
+      → NodeSteps cells now u.node x.node → NodeSteps cells now v.node y.node → AllNames past size old → AllNames now size new
+  names_both size past now old new p n x y u v g moves node_p node_n there_p there_n first second was =
+      both_each {P = λ m z. NamesShow cells past z.node} {Q = λ m z. NamesShow cells now z.node} size p n x y old new moves was (λ m z node away apart shown. node_grows cells past now z.node g shown)
+      (node_steps cells past now u.node x.node g first (some_at (λ z. NamesShow cells past z.node) (place_of old p) u there_p (was p node_p)))
+      (node_steps cells past now v.node y.node g second (some_at (λ z. NamesShow cells past z.node) (place_of old n) v there_n (was n node_n)))
+
 -- ---- nodes
 
 module _ {D : Type 0} (cells : D → Cells) where
@@ -112,6 +145,7 @@ module _ {D : Type 0} (cells : D → Cells) where
         latest = omega (arith, was.latest, s.latest);
         begun = start.0;
         behind = omega (arith, was.behind, newest, s.version);
+        generation = omega (arith, was.generation, s.generation);
         metas = was.metas;
         stands = subst (λ (docs : List Doc). StandsFor source j.infos docs) (sym (s.documents job.version.0 was.known)) was.stands;
         handed = λ q bytes out. was.handed q bytes (sym (s.handed job q is) ∙ out);
@@ -127,7 +161,7 @@ module _ {D : Type 0} (cells : D → Cells) where
   replica_same source log now n r s was = record {
     sourced = was.sourced;
     job = subst (λ (o : Option Job). JobShows source now n o r.job) (sym s.job) (job_shows_same source log now n (job_at n log) r.job refl s was.job);
-    few = was.few;
+    point = point_stays source source (λ q bytes is. is) (printed log) (printed now) r.infos s.newest s.generation s.documents was.point;
     flight = λ at is.
         let f = s.flight at is in
         subst (λ (o : Option Job). IsSomeAnd o (IsJobFor at (newest_version (printed now)))) (sym s.job)
@@ -138,17 +172,9 @@ module _ {D : Type 0} (cells : D → Cells) where
   replica_kept source log n r s keeps was = record {
     sourced = keeps.sourced source was.sourced;
     job = subst (λ (o : Option PointJob). JobShows source log n (job_at n log) o) (sym keeps.job) was.job;
-    few = few;
+    point = subst (λ (i : Infos). IsPastPoint source (printed log) i) (sym keeps.infos) was.point;
     flight = was.flight;
   }
-    where
-      reached : (o : Option PointJob) → reached_version o s ≡ reached_version o r
-      reached None = ap (λ (v : Version). v.0) keeps.version
-      reached (Some j) = refl
-
-      few : s.jobs < reached_version s.job s
-      few = let same : reached_version s.job s ≡ reached_version r.job r = ap (λ (o : Option PointJob). reached_version o s) keeps.job ∙ reached r.job in
-          omega (arith, same, keeps.jobs, was.few)
 
   -- a node that the entry does not touch, while jobs are counted anew
   pub node_files : (source : Name → Content) (log now : Log) (jobs count : Out → ℕ) (n : ℕ) (x : Node D) → ((r : ReplicaParts D) → x ≡ Replica r → SameJob log now n) → ((s : Out) → count s ≤ jobs s)
@@ -208,27 +234,33 @@ module _ {D : Type 0} (cells : D → Cells) where
   both_of log size places shows files m node = some_both (place_of places m) (shows.each m node) (files.each m node) (λ z a b. (a, b))
 
   -- no place moved
-  pub files_still : (size : ℕ) (log now : Log) (places : List (Option (Place D))) → ((m : ℕ) → is_at (primary_of (printed log)) m ≡ false → SameJob log now m)
-      → Shows cells log size places → FilesShow cells log size places → FilesShow cells now size places
-  files_still size log now places same shows files = record {
+  pub files_still : (size : ℕ) (log now : Log) (places : List (Option (Place D))) → Grows (printed log) (printed now) → ((m : ℕ) → is_at (primary_of (printed log)) m ≡ false → SameJob log now m)
+      → ((m : ℕ) → CommitsStay (printed log) (printed now) m) → Shows cells log size places → FilesShow cells log size places → FilesShow cells now size places
+  files_still size log now places grows same stay shows files = record {
     source = files.source;
+    drawn = means_more files.source (printed log) (printed now) grows files.drawn;
+    names = names_still cells size (printed log) (printed now) places grows files.names;
     each = λ m node. some_then (place_of places m) (both_of log size places shows files m node)
         (λ z both. node_files files.source log now (λ s. jobs_like places s size) (λ s. jobs_like places s size) m z.node (λ r is. same m (replica_apart log m z.node r both.0.node_shows is)) (λ s. omega arith) both.1);
+    disks = disks_still cells files.source log now size places stay files.disks;
   }
 
   -- one place moved, of which a call left the files and the job
-  pub files_one : (size : ℕ) (log now : Log) (old new : List (Option (Place D))) (n : ℕ) (x y : Place D) → ((m : ℕ) → is_at (primary_of (printed log)) m ≡ false → SameJob log now m)
-      → MovesOne n x old new → IsNode size n → place_of old n ≡ Some y → KeepsNodeFiles cells y.node x.node
+  pub files_one : (size : ℕ) (log now : Log) (old new : List (Option (Place D))) (n : ℕ) (x y : Place D) → Grows (printed log) (printed now) → HoldsFrom cells (printed now) y.node x.node → ((m : ℕ) → is_at (primary_of (printed log)) m ≡ false → SameJob log now m)
+      → ((m : ℕ) → CommitsStay (printed log) (printed now) m) → MovesOne n x old new → IsNode size n → place_of old n ≡ Some y → KeepsNodeFiles cells y.node x.node
       → Shows cells log size old → FilesShow cells log size old → FilesShow cells now size new
-  files_one size log now old new n x y same moves node there keeps shows files =
+  files_one size log now old new n x y grows holds same stay moves node there keeps shows files =
       let jobs : (s : Out) → jobs_like new s size ≡ jobs_like old s size = λ s. jobs_same old new s size (λ m low. wants_same n x y old new moves there (want_kept y x keeps) m) in
       let fewer : (s : Out) → jobs_like new s size ≤ jobs_like old s size = λ s. (let is = jobs s in omega (arith, is)) in
       let mine = some_at (Both files.source log (λ s. jobs_like old s size) n) (place_of old n) y there (both_of log size old shows files n node) in
       record {
         source = files.source;
+        drawn = means_more files.source (printed log) (printed now) grows files.drawn;
+        names = names_one cells size (printed log) (printed now) old new n x y grows moves node there (kept_steps cells (printed now) y.node x.node keeps holds) files.names;
         each = one_each {P = Both files.source log (λ s. jobs_like old s size)} {Q = λ m z. NodeFiles files.source cells now (λ s. jobs_like new s size) m z.node} size n x old new moves (both_of log size old shows files)
             (λ m z node apart both. node_files files.source log now (λ s. jobs_like old s size) (λ s. jobs_like new s size) m z.node (λ r is. same m (replica_apart log m z.node r both.0.node_shows is)) fewer both.1)
             (node_kept files.source log now (λ s. jobs_like old s size) (λ s. jobs_like new s size) n y.node x.node keeps (λ r is. same n (replica_apart log n y.node r mine.0.node_shows is)) fewer mine.1);
+        disks = disks_kept cells files.source files.source log now size old new (λ q bytes is. is) (disk_moved n x y old new moves there (disk_kept cells y.node x.node keeps)) stay files.disks;
       }
 
   -- a node at a wider source
@@ -237,27 +269,42 @@ module _ {D : Type 0} (cells : D → Cells) where
   node_wider source wider log now jobs n (Primary p) more other same shows was = absurd (true≢false (sym shows.primary ∙ other))
   node_wider source wider log now jobs n (Replica r) more other same shows was =
       replica_same wider log now n r (same n other)
-      (record { sourced = sourced_wider cells source wider more r shows.whole was.sourced; job = shows_wider source wider log n (job_at n log) r.job more was.job; few = was.few; flight = was.flight })
+      (record {
+        sourced = sourced_wider cells source wider more r shows.whole was.sourced;
+        job = shows_wider source wider log n (job_at n log) r.job more was.job;
+        point = point_stays source wider more (printed log) (printed log) r.infos (omega arith) (omega arith) (λ v low. refl) was.point;
+        flight = was.flight;
+      })
   node_wider source wider log now jobs n (Down d) more other same shows was = tt
 
   -- the primary filled files which were not written yet
-  pub files_filled : (size : ℕ) (log now : Log) (old new : List (Option (Place D))) (n : ℕ) (p q : PrimaryParts D) (held : Vec Held Global) → ((m : ℕ) → is_at (primary_of (printed log)) m ≡ false → SameJob log now m)
-      → ((m : ℕ) → (n == m) ≡ false → is_at (primary_of (printed log)) m ≡ false)
+  pub files_filled : (size : ℕ) (log now : Log) (old new : List (Option (Place D))) (n : ℕ) (p q : PrimaryParts D) (held : Vec Held Global) → FilesLast → Grows (printed log) (printed now) → HoldsFrom cells (printed now) (Primary p) (Primary q) → ((m : ℕ) → is_at (primary_of (printed log)) m ≡ false → SameJob log now m)
+      → ((m : ℕ) → CommitsStay (printed log) (printed now) m) → ((m : ℕ) → (n == m) ≡ false → is_at (primary_of (printed log)) m ≡ false)
       → MovesOne n (record { node = Primary q; held = held }) old new → IsNode size n → place_of old n ≡ Some (record { node = Primary p; held = held }) → FillsPrimaryFiles cells p q → IsPrimary cells q
       → Shows cells log size old → FilesShow cells log size old → FilesShow cells now size new
-  files_filled size log now old new n p q held same others moves node there fills whole shows files =
+  files_filled size log now old new n p q held lasting grows holds same stay others moves node there fills whole shows files =
       let x : Place D = record { node = Primary q; held = held } in
       let y : Place D = record { node = Primary p; held = held } in
       let jobs : (s : Out) → jobs_like new s size ≡ jobs_like old s size = λ s. jobs_same old new s size (λ m low. wants_same n x y old new moves there refl m) in
       let mine = some_at (Both files.source log (λ s. jobs_like old s size) n) (place_of old n) y there (both_of log size old shows files n node) in
       let full = primary_filled cells files.source (λ s. jobs_like old s size) p q fills whole mine.1 in
       let wider = widened files.source (cells q.dir) q.files in
+      let named = some_at (λ z. NamesShow cells (printed log) z.node) (place_of old n) y there (files.names n node) in
+      let own = own_drawn cells (printed log) p lasting mine.0.node_shows.whole named in
+      let steps : NodeSteps cells (printed now) (Primary p) (Primary q) = record {
+        appears = record { each = λ name none there. inr (inr (inl (file_more (printed log) (printed now) name grows (own name (fills.appears.each name none there))))) };
+        tickets = holds.tickets;
+        loose = holds.loose;
+      } in
       record {
         source = wider;
+        drawn = means_wider files.source (cells q.dir) q.files (printed now) (means_more files.source (printed log) (printed now) grows files.drawn) (node_steps cells (printed log) (printed now) (Primary p) (Primary q) grows steps named).kinds;
+        names = names_one cells size (printed log) (printed now) old new n x y grows moves node there steps files.names;
         each = one_each {P = Both files.source log (λ s. jobs_like old s size)} {Q = λ m z. NodeFiles wider cells now (λ s. jobs_like new s size) m z.node} size n x old new moves (both_of log size old shows files)
             (λ m z node apart both. node_files wider now now (λ s. jobs_like old s size) (λ s. jobs_like new s size) m z.node (λ r is. job_stays now m) (λ s. (let is = jobs s in omega (arith, is)))
             (node_wider files.source wider log now (λ s. jobs_like old s size) m z.node (widened_more files.source (cells q.dir) q.files) (others m apart) same both.0.node_shows both.1))
             (record { held = full.held; unwritten = full.unwritten; generation = full.generation; outs = λ s. (let is = jobs s in omega (arith, is, full.outs s)) });
+        disks = disks_kept cells files.source wider log now size old new (widened_more files.source (cells q.dir) q.files) (disk_moved n x y old new moves there (disk_same p.commits q.commits fills.commits)) stay files.disks;
       }
 
   -- ---- in the terms of a call
@@ -287,15 +334,22 @@ module _ {D : Type 0} (cells : D → Cells) where
         turns = subst (λ (l : Log). AreInTurn (printed l)) log turns;
       }
 
+  -- a line that has not started has no commit in flight
+  pub flights_of : (r : Run) (ended : Bool) (b0 b1 : Pages) (at : At) → record { ended = ended; nodes = b0.nodes; log = b0.log } ≡ r → b1.log ≡ b0.log → b1.nodes ≡ b0.nodes → IsLegalPast b1.nodes (printed b1.log) → AreInTurn (printed b1.log)
+      → start_entry at (printed r.log) ≡ None → (m : ℕ) → commit_in_flight m (printed r.log) ≢ Some at
+  flights_of r ended b0 b1 at view e1 n1 legal turns none = let b = before r ended b0 b1 view e1 n1 legal turns in fresh_flights r.nodes (printed r.log) at b.legal b.turns none
+
   -- the entry that a call appended moved no place
   pub files_noted : (r : Run) (ended : Bool) (b0 b1 b2 : Pages) (places : List (Option (Place D))) (at : At) (e : Event)
       → record { ended = ended; nodes = b0.nodes; log = b0.log } ≡ r → r.ended ≡ false → (ended ≡ false → Shows cells b0.log b0.nodes places) → (ended ≡ false → FilesShow cells b0.log b0.nodes places)
       → b1.log ≡ b0.log → b1.nodes ≡ b0.nodes → b2.log ≡ shown at e ∷ b1.log → b2.nodes ≡ b1.nodes → IsLegalPast b1.nodes (printed b1.log) → AreInTurn (printed b1.log)
-      → KeepsRule r.nodes (printed r.log) at e → InTurn (printed r.log) at e → ((m : ℕ) → keeps_jobs e m ≡ true) → FilesShow cells b2.log b2.nodes places
-  files_noted r ended b0 b1 b2 places at e view running shows files e1 n1 e2 n2 legal turns rule turn keeps =
+      → KeepsRule r.nodes (printed r.log) at e → InTurn (printed r.log) at e → ((m : ℕ) → keeps_jobs e m ≡ true)
+      → ((m : ℕ) → keeps_commits e m ≡ true) → ((m : ℕ) → commit_in_flight m (printed r.log) ≢ Some at) → FilesShow cells b2.log b2.nodes places
+  files_noted r ended b0 b1 b2 places at e view running shows files e1 n1 e2 n2 legal turns rule turn keeps commits flights =
       let b = before r ended b0 b1 view e1 n1 legal turns in
       files_is (shown at e ∷ r.log) b2.log r.nodes b2.nodes places (e2 ∙ ap (λ (l : Log). shown at e ∷ l) b.log) (n2 ∙ b.size)
-      (files_still r.nodes r.log (shown at e ∷ r.log) places (λ m other. same_shown r.nodes r.log at m b.legal b.turns other e rule turn (keeps m))
+      (files_still r.nodes r.log (shown at e ∷ r.log) places (grows_shown r.nodes (printed r.log) at e b.legal rule) (λ m other. same_shown r.nodes r.log at m b.legal b.turns other e rule turn (keeps m))
+      (λ m. commits_shown (printed r.log) at m r.nodes e b.legal b.turns rule turn (commits m) (flights m))
       (was cells r ended b0.nodes b0.log places view running shows) (files_was r ended b0.nodes b0.log places view running files))
 
   -- it moved one, of which the node's call left the files and the job
@@ -303,11 +357,12 @@ module _ {D : Type 0} (cells : D → Cells) where
       → record { ended = ended; nodes = b0.nodes; log = b0.log } ≡ r → r.ended ≡ false → (ended ≡ false → Shows cells b0.log b0.nodes old) → (ended ≡ false → FilesShow cells b0.log b0.nodes old)
       → b1.log ≡ b0.log → b1.nodes ≡ b0.nodes → b2.log ≡ shown at e ∷ b1.log → b2.nodes ≡ b1.nodes → IsLegalPast b1.nodes (printed b1.log) → AreInTurn (printed b1.log)
       → KeepsRule r.nodes (printed r.log) at e → InTurn (printed r.log) at e → ((m : ℕ) → keeps_jobs e m ≡ true)
-      → PutsBack cells old mid new n x → IsNode r.nodes n → place_of old n ≡ Some y → KeepsNodeFiles cells y.node x.node → FilesShow cells b2.log b2.nodes new
-  files_moved r ended b0 b1 b2 old mid new at e n x y view running shows files e1 n1 e2 n2 legal turns rule turn keeps put node there kept =
+      → ((m : ℕ) → keeps_commits e m ≡ true) → ((m : ℕ) → commit_in_flight m (printed r.log) ≢ Some at) → PutsBack cells old mid new n x → IsNode r.nodes n → place_of old n ≡ Some y → KeepsNodeFiles cells y.node x.node → HoldsFrom cells (printed (shown at e ∷ r.log)) y.node x.node → FilesShow cells b2.log b2.nodes new
+  files_moved r ended b0 b1 b2 old mid new at e n x y view running shows files e1 n1 e2 n2 legal turns rule turn keeps commits flights put node there kept holds =
       let b = before r ended b0 b1 view e1 n1 legal turns in
       files_is (shown at e ∷ r.log) b2.log r.nodes b2.nodes new (e2 ∙ ap (λ (l : Log). shown at e ∷ l) b.log) (n2 ∙ b.size)
-      (files_one r.nodes r.log (shown at e ∷ r.log) old new n x y (λ m other. same_shown r.nodes r.log at m b.legal b.turns other e rule turn (keeps m)) (put_one cells n x old mid new put) node there kept
+      (files_one r.nodes r.log (shown at e ∷ r.log) old new n x y (grows_shown r.nodes (printed r.log) at e b.legal rule) holds (λ m other. same_shown r.nodes r.log at m b.legal b.turns other e rule turn (keeps m))
+      (λ m. commits_shown (printed r.log) at m r.nodes e b.legal b.turns rule turn (commits m) (flights m)) (put_one cells n x old mid new put) node there kept
       (was cells r ended b0.nodes b0.log old view running shows) (files_was r ended b0.nodes b0.log old view running files))
 
   -- the start of a publish, which is handed out
@@ -316,14 +371,15 @@ module _ {D : Type 0} (cells : D → Cells) where
       → b1.log ≡ b0.log → b1.nodes ≡ b0.nodes → b2.log ≡ shown at Publishing ∷ b1.log → b2.nodes ≡ b1.nodes → IsLegalPast b1.nodes (printed b1.log) → AreInTurn (printed b1.log)
       → b3.log ≡ kept (FlushOut at seg segs) ∷ b2.log → b3.nodes ≡ b2.nodes
       → KeepsRule r.nodes (printed r.log) at Publishing → InTurn (printed r.log) at Publishing
-      → PutsBack cells old mid new n x → IsNode r.nodes n → place_of old n ≡ Some y → KeepsNodeFiles cells y.node x.node → FilesShow cells b3.log b3.nodes new
-  files_started r ended b0 b1 b2 b3 old mid new at seg segs n x y view running shows files e1 n1 e2 n2 legal turns e3 n3 rule turn put node there kept_files =
+      → PutsBack cells old mid new n x → IsNode r.nodes n → place_of old n ≡ Some y → KeepsNodeFiles cells y.node x.node → HoldsFrom cells (printed (shown at Publishing ∷ r.log)) y.node x.node → FilesShow cells b3.log b3.nodes new
+  files_started r ended b0 b1 b2 b3 old mid new at seg segs n x y view running shows files e1 n1 e2 n2 legal turns e3 n3 rule turn put node there kept_files holds =
       let b = before r ended b0 b1 view e1 n1 legal turns in
       let i : Inner = FlushOut at seg segs in
       files_is (kept i ∷ shown at Publishing ∷ r.log) b3.log r.nodes b3.nodes new
       (e3 ∙ ap (λ (l : Log). kept i ∷ l) (e2 ∙ ap (λ (l : Log). shown at Publishing ∷ l) b.log)) (n3 ∙ (n2 ∙ b.size))
-      (files_one r.nodes r.log (kept i ∷ shown at Publishing ∷ r.log) old new n x y
+      (files_one r.nodes r.log (kept i ∷ shown at Publishing ∷ r.log) old new n x y (grows_shown r.nodes (printed r.log) at Publishing b.legal rule) holds
       (λ m other. same_then r.log (shown at Publishing ∷ r.log) (kept i ∷ shown at Publishing ∷ r.log) m (same_shown r.nodes r.log at m b.legal b.turns other Publishing rule turn refl) (same_inner (shown at Publishing ∷ r.log) i m refl))
+      (λ m. commits_shown (printed r.log) at m r.nodes Publishing b.legal b.turns rule turn refl (fresh_flights r.nodes (printed r.log) at b.legal b.turns turn.once.begun m))
       (put_one cells n x old mid new put) node there kept_files
       (was cells r ended b0.nodes b0.log old view running shows) (files_was r ended b0.nodes b0.log old view running files))
 
@@ -333,10 +389,11 @@ module _ {D : Type 0} (cells : D → Cells) where
       → b1.log ≡ b0.log → b1.nodes ≡ b0.nodes → b2.log ≡ shown at (Published g v) ∷ b1.log → b2.nodes ≡ b1.nodes → IsLegalPast b1.nodes (printed b1.log) → AreInTurn (printed b1.log)
       → KeepsRule r.nodes (printed r.log) at (Published g v) → InTurn (printed r.log) at (Published g v) → primary_of (printed r.log) ≡ Some n
       → PutsBack cells old mid new n.0 (record { node = Primary q; held = held }) → IsNode r.nodes n.0 → place_of old n.0 ≡ Some (record { node = Primary p; held = held })
-      → FillsPrimaryFiles cells p q → IsPrimary cells q → FilesShow cells b2.log b2.nodes new
-  files_published r ended b0 b1 b2 old mid new at g v n p q held view running shows files e1 n1 e2 n2 legal turns rule turn primary put node there fills whole =
+      → FillsPrimaryFiles cells p q → IsPrimary cells q → FilesLast → HoldsFrom cells (printed (shown at (Published g v) ∷ r.log)) (Primary p) (Primary q) → FilesShow cells b2.log b2.nodes new
+  files_published r ended b0 b1 b2 old mid new at g v n p q held view running shows files e1 n1 e2 n2 legal turns rule turn primary put node there fills whole lasting holds =
       let b = before r ended b0 b1 view e1 n1 legal turns in
       files_is (shown at (Published g v) ∷ r.log) b2.log r.nodes b2.nodes new (e2 ∙ ap (λ (l : Log). shown at (Published g v) ∷ l) b.log) (n2 ∙ b.size)
-      (files_filled r.nodes r.log (shown at (Published g v) ∷ r.log) old new n.0 p q held (λ m other. same_shown r.nodes r.log at m b.legal b.turns other (Published g v) rule turn refl)
+      (files_filled r.nodes r.log (shown at (Published g v) ∷ r.log) old new n.0 p q held lasting (grows_shown r.nodes (printed r.log) at (Published g v) b.legal rule) holds (λ m other. same_shown r.nodes r.log at m b.legal b.turns other (Published g v) rule turn refl)
+      (λ m. commits_shown (printed r.log) at m r.nodes (Published g v) b.legal b.turns rule turn refl (no_commit r.nodes (printed r.log) at b.legal b.turns (ap is_commit_line rule.started) m))
       (λ m apart. ap (λ (o : Option NodeNo). is_at o m) primary ∙ apart) (put_one cells n.0 (record { node = Primary q; held = held }) old mid new put) node there fills whole
       (was cells r ended b0.nodes b0.log old view running shows) (files_was r ended b0.nodes b0.log old view running files))

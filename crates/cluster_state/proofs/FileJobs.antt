@@ -24,6 +24,7 @@ use Rattle.history_book.specs.declared.inner.Mark.TheVariants.{Shown, TaskFault,
 use Rattle.history_book.specs.Log.{Log, printed}
 use Rattle.history_book.specs.Jobs.{job_step, last_job, job_at, job_of, IsOlder, LaneJobShows}
 use Rattle.history_book.proofs.LineLaws.{and_false}
+use Rattle.history_book.proofs.JobLaws.{going_at}
 use Rattle.history_book.proofs.ReignLaws.{node_alive, source_alive}
 use Rattle.cluster_places.specs.declared.held.Held.{Held}
 use Rattle.cluster_places.specs.declared.nodes.Node.{Node}
@@ -40,71 +41,6 @@ use Rattle.cluster_places.proofs.OutCounts.{is_there, job_counted}
 use Rattle.cluster_state.proofs.FileFrames.{both_of, Both}
 
 -- ---- the job of a lane that runs is the one that runs at its node
-
-going_if : (b : Bool) (r : JobRow) (v : _) → is_going (if b then record r { later = Some v } else r) ≡ true → b ≡ false
-going_if true r v going = absurd (true≢false (sym going ∙ and_false (not r.ended)))
-going_if false r v going = refl
-
-ended_if : (b : Bool) (r : JobRow) → is_going (if b then record r { ended = true } else r) ≡ true → b ≡ false
-ended_if true r going = absurd (true≢false (sym going))
-ended_if false r going = refl
-
--- a job that goes on is as it was
-going_same : (s : JobStep) (r : JobRow) → is_going (row_by s r) ≡ true → row_by s r ≡ r
-going_same (Begins job) r going = ap (λ (b : Bool). if b then record r { later = Some job.version } else r) (going_if ((r.job.node.0 == job.node.0) && is_going r) r job.version going)
-going_same (Ends n number) r going = ap (λ (b : Bool). if b then record r { ended = true } else r) (ended_if ((r.job.node.0 == n.0) && (r.job.number == number)) r going)
-going_same Passes r going = refl
-
--- no later job has begun at the node of one that goes on
-going_apart : (job : Job) (r : JobRow) → is_going (row_by (Begins job) r) ≡ true → (job.node.0 == r.job.node.0) ≡ false
-going_apart job r going =
-    let on : is_going r ≡ true = ap is_going (sym (going_same (Begins job) r going)) ∙ going in
-    apart (r.job.node.0 == job.node.0) refl (going_if ((r.job.node.0 == job.node.0) && is_going r) r job.version going) on
-  where
-    apart : (b : Bool) → (r.job.node.0 == job.node.0) ≡ b → (b && is_going r) ≡ false → is_going r ≡ true → (job.node.0 == r.job.node.0) ≡ false
-    apart true is none on = absurd (true≢false (sym on ∙ none))
-    apart false is none on = grind (arith, nat_tests)
-
-going_more : (s : JobStep) (before : ℕ) (log : Log) (r : JobRow) → is_going (row_by s r) ≡ true → last_job false r.job.node.0 log ≡ Some r
-    → last_job_by false r.job.node.0 s before (last_job false r.job.node.0 log) ≡ Some (row_by s r)
-going_more (Begins job) before log r going was =
-    ap (λ (b : Bool). if b then Some (new_job_row job before) else row_if_some (Begins job) (last_job false r.job.node.0 log)) (going_apart job r going) ∙ ap (row_if_some (Begins job)) was
-going_more (Ends n number) before log r going was = ap (row_if_some (Ends n number)) was
-going_more Passes before log r going was = ap (row_if_some Passes) was
-
-going_old : (s : JobStep) (before : ℕ) (log : Log) (o : Option JobRow) (row : JobRow) → row_if_some s o ≡ Some row → is_going row ≡ true
-    → ((r : JobRow) → o ≡ Some r → is_going r ≡ true → last_job false r.job.node.0 log ≡ Some r)
-    → last_job_by false row.job.node.0 s before (last_job false row.job.node.0 log) ≡ Some row
-going_old s before log None row is going was = absurd (cc)
-going_old s before log (Some r) row is going was =
-    let made : row_by s r ≡ row = cc in
-    let on : is_going (row_by s r) ≡ true = ap is_going made ∙ going in
-    let same : row_by s r ≡ r = going_same s r on in
-    let old : last_job false r.job.node.0 log ≡ Some r = was r refl (ap is_going (sym same) ∙ on) in
-    subst (λ (x : JobRow). last_job_by false x.job.node.0 s before (last_job false x.job.node.0 log) ≡ Some x) (sym same ∙ made)
-    (going_more s before log r on old ∙ ap Some same)
-
-going_step : (lane : ℕ) (s : JobStep) (before : ℕ) (log : Log) (row : JobRow) → last_job_by true lane s before (last_job true lane log) ≡ Some row → is_going row ≡ true
-    → ((r : JobRow) → last_job true lane log ≡ Some r → is_going r ≡ true → last_job false r.job.node.0 log ≡ Some r)
-    → last_job_by false row.job.node.0 s before (last_job false row.job.node.0 log) ≡ Some row
-going_step lane (Begins job) before log row is going was = begins (job.at.lane.0 == lane) is
-  where
-    begins : (b : Bool) → (if b then Some (new_job_row job before) else row_if_some (Begins job) (last_job true lane log)) ≡ Some row
-        → last_job_by false row.job.node.0 (Begins job) before (last_job false row.job.node.0 log) ≡ Some row
-    begins true new =
-        let made : new_job_row job before ≡ row = cc in
-        subst (λ (x : JobRow). last_job_by false x.job.node.0 (Begins job) before (last_job false x.job.node.0 log) ≡ Some x) made
-        (ap (λ (b : Bool). if b then Some (new_job_row job before) else row_if_some (Begins job) (last_job false job.node.0 log)) (eq-eqb job.node.0 job.node.0 refl))
-    begins false old = going_old (Begins job) before log (last_job true lane log) row old going was
-going_step lane (Ends n number) before log row is going was = going_old (Ends n number) before log (last_job true lane log) row is going was
-going_step lane Passes before log row is going was = going_old Passes before log (last_job true lane log) row is going was
-
--- a job of a lane that goes on is the last one at its node
-pub going_at : (lane : ℕ) (log : Log) (row : JobRow) → job_of lane log ≡ Some row → is_going row ≡ true → last_job false row.job.node.0 log ≡ Some row
-going_at lane [] row is going = absurd (cc)
-going_at lane (Shown e ∷ log) row is going = going_at lane log row is going
-going_at lane (TaskFault e ∷ log) row is going = going_at lane log row is going
-going_at lane (Kept i ∷ log) row is going = going_step lane (job_step i) _ log row is going (λ r was on. going_at lane log r was on)
 
 le_more : (a b c : ℕ) → nat_le a b ≡ true → b ≤ c → nat_le a c ≡ true
 le_more a b c low more = grind (arith, nat_tests)

@@ -1,5 +1,5 @@
 -- The nodes of a cluster that has just started.
-use Rattle.std.proofs.Common.{◌≡◌, ◌≢◌, ◌≤◌, ◌<◌, ◌+◌, ◌++◌, ◌^◌, ◌==◌, inl, inr, ℕ, suc, zero, Bool, true, false, List, [], ◌∷◌, Some, None, Option, Vec, Global, length, length-append, refl, ap, ◌∙◌, sym, subst, arith, rules, if◌then◌else◌}
+use Rattle.std.proofs.Common.{◌≡◌, ◌≢◌, ◌≤◌, ◌<◌, ◌+◌, ◌++◌, ◌^◌, ◌==◌, inl, inr, ℕ, suc, zero, Bool, true, false, true≢false, is_some, List, [], ◌∷◌, Some, None, Option, Vec, Global, length, length-append, refl, ap, ◌∙◌, sym, subst, arith, rules, if◌then◌else◌}
 use Rattle.std.specs.Prelude.{IsSomeAnd, Contains, Result, Ok, Err, IfOk}
 use Rattle.std.specs.List.{slice_get, flat_map}
 use Rattle.std.proofs.lemmas.Bool.Decides.{nat_tests, eqb_tells}
@@ -30,6 +30,7 @@ use Rattle.commit_steps.specs.Book.{book_names, last_names, flying_names}
 use Rattle.commit_steps.specs.Found.{ShowsCommit}
 use Rattle.commit_steps.specs.declared.states.Commit.{Commit}
 use Rattle.commit_steps.specs.declared.stage.CommitBook.{CommitBook}
+use Rattle.commit_steps.specs.declared.stage.Stage.{Stage}
 use Rattle.replica_opening.specs.Opening.{opening_infos, FindsPoint, number_of_last}
 use Rattle.replica_opening.specs.Opened.{IsSettledAt, IsSettledOn}
 use Rattle.replica_node.specs.declared.parts.Parts.{Parts as ReplicaParts}
@@ -38,20 +39,24 @@ use Rattle.replica_node.specs.Replica.{IsWholeReplica}
 use Rattle.replica_node.specs.Sources.{IsSourced, IsTakenApart}
 use Rattle.replica_node.specs.Starting.{IsJustOpened, SearchesJust}
 use Rattle.index_primary.specs.declared.parts.Parts.{Parts as PrimaryParts}
-use Rattle.index_primary.specs.Primary.{IsPrimary}
+use Rattle.index_primary.specs.Primary.{IsPrimary, loose_of, publish_loose}
+use Rattle.node_files.specs.Appearing.{NoneAppears}
 use Rattle.index_primary.specs.Held.{IsHeld, AreUndrawn, AreNumbered}
 use Rattle.index_primary.specs.Calls.{IsOpenedOn}
 use Rattle.index_primary.proofs.Callers.{empty_numbered}
 use Rattle.cluster_places.specs.declared.held.Held.{Held}
 use Rattle.cluster_places.specs.declared.nodes.Node.TheVariants.{Primary, Replica, Down}
 use Rattle.cluster_places.specs.declared.nodes.Place.{Place}
-use Rattle.cluster_places.specs.Places.{place_of, unwrapped}
-use Rattle.cluster_state.specs.Starting.{IsEmptyDir, IsOpening, OpensPlace}
-use Rattle.cluster_state.specs.Files.{JobShows, reached_version, PrimaryFiles, ReplicaFiles, NodeFiles, FilesShow}
+use Rattle.cluster_places.specs.Places.{place_of, unwrapped, disk_at}
+use Rattle.cluster_state.specs.Names.{AreNamesShown, NamesShow}
+use Rattle.cluster_state.proofs.Frames.{some_then}
+use Rattle.cluster_state.specs.Starting.{IsEmptyDir, IsUncommitted, IsOpening, OpensPlace}
+use Rattle.cluster_state.specs.Disks.{LastShows, StageShows, DiskShows}
+use Rattle.cluster_state.specs.Files.{JobShows, PrimaryFiles, ReplicaFiles, NodeFiles, FilesShow}
 use Rattle.cluster_places.specs.Outs.{want_of, one_like, want_at, jobs_like}
 use Rattle.index_primary.specs.declared.states.Out.{Out}
 use Rattle.index_primary.specs.Primary.{primary_names}
-use Rattle.index_primary.specs.States.{state_names, merge_names}
+use Rattle.index_primary.specs.States.{state_names, merge_names, merge_loose}
 use Rattle.file_deleter.specs.Holdings.{count_of}
 use Rattle.nrt_base.specs.declared.numbers.At.{At}
 use Rattle.replica_node.specs.declared.job.PointJob.{PointJob}
@@ -125,13 +130,21 @@ nothing_named {R} s names tickets = λ i. names i ++ ticket_names (tickets i)
 nothing_booked : (book : CommitBook) → book.last ≡ None → book.stage ≡ None → book_names book ≡ []
 nothing_booked book last stage = λ i. last_names (last i) ++ flying_names (stage i)
 
+-- nothing stands, and nothing is held
+none_shown : (cells : Cells) (tickets : List (Open Shown)) (loose : List ℕ) → ((q : Name) → (cells q).now ≡ None) → tickets ≡ [] → loose ≡ [] → AreNamesShown [] cells tickets loose
+none_shown cells tickets loose empty untaken undrawn = record {
+  kinds = λ q there. absurd (true≢false (sym there ∙ ap is_some (empty q)));
+  tickets = λ o held. let none : Contains [] o = subst (λ (ts : List (Open Shown)). Contains ts o) untaken held in absurd (omega (arith, none.1));
+  loose = λ seg held. let none : Contains [] seg = subst (λ (ns : List ℕ). Contains ns seg) undrawn held in absurd (omega (arith, none.1));
+}
+
 module _ {D : Type 0} (cells : D → Cells) where
   -- ---- a replica on an empty directory
 
   pub is_opening : (dir : Cells) (r : ReplicaParts D) → IsEmptyDir dir → IsWholeReplica cells r → FindsPoint (reads_of dir) (number_of_last r.commits.last) r.infos
       → ((docs : List Doc) → StandsFor (reads_of dir) r.infos docs → SearchesJust cells docs r)
-      → ((source : Name → Content) → ((q : Name) → Contains (flat_map files_of_segment r.infos.segs) q → (dir q).now ≡ source q) → IsSourced source cells r) → IsJustOpened r → IsOpening cells r
-  is_opening dir r empty whole finds searches sourced opened =
+      → ((source : Name → Content) → ((q : Name) → Contains (flat_map files_of_segment r.infos.segs) q → (dir q).now ≡ source q) → IsSourced source cells r) → IsJustOpened r → NoneAppears dir (cells r.dir) → IsOpening cells r
+  is_opening dir r empty whole finds searches sourced opened appears =
       let found = finds_opening dir r.commits.last r.infos empty finds in
       let just = searches [] (opening_stands (reads_of dir) r.infos found.1) in
       record {
@@ -140,6 +153,7 @@ module _ {D : Type 0} (cells : D → Cells) where
         infos = found.1;
         searched = just.searched;
         stands = just.stands;
+        empty = λ q. appears.each q (empty.now q);
         tickets = opened.tickets;
         commits = record { last = found.0; stage = opened.stage };
         seen = opened.seen;
@@ -248,25 +262,57 @@ module _ {D : Type 0} (cells : D → Cells) where
         uncounted : (name : Name) → count_of q.files name ≡ 0
         uncounted name = whole.node.counts name ∙ λ i. times (no_rest i) name + times (no_book i) name
 
+    pub commits_done : {E : Type 0} (result : Result (PrimaryParts D) E) → IfOk result (IsOpenedOn p.dir p.searchers p.commits p.infos p.segs) → IfOk result (λ q. IsUncommitted q.commits)
+    commits_done (Ok q) opened = record {
+      last = ap (λ (b : CommitBook). b.last) (opened.commits_are ∙ same.commits) ∙ is.commits.last;
+      stage = ap (λ (b : CommitBook). b.stage) (opened.commits_are ∙ same.commits) ∙ is.commits.stage;
+    }
+    commits_done (Err e) opened = tt
+
     pub files_done : {E : Type 0} (result : Result (PrimaryParts D) E) → IfOk result (IsPrimary cells) → IfOk result (IsOpenedOn p.dir p.searchers p.commits p.infos p.segs)
         → IfOk result (PrimaryFiles (λ name. None) cells (λ s. 0))
     files_done (Ok q) whole opened = first_files q whole opened
     files_done (Err e) whole opened = tt
+
+    -- no name stands there
+    first_names : NoneAppears (cells r.dir) (cells p.dir) → (q : PrimaryParts D) → IsOpenedOn p.dir p.searchers p.commits p.infos p.segs q → NamesShow cells [] (Primary q)
+    first_names appears q opened = none_shown (cells q.dir) q.searchers.tickets (loose_of q)
+        (λ name. ap (λ (d : D). (cells d name).now) opened.dir_is ∙ appears.each name (is.empty name)) (opened.tickets ∙ (ap (λ (s : Searchers Shown). s.tickets) same.searchers ∙ is.tickets))
+        (λ i. publish_loose (opened.publish i) ++ merge_loose (opened.merges i))
+
+    pub names_done : {E : Type 0} (result : Result (PrimaryParts D) E) → NoneAppears (cells r.dir) (cells p.dir) → IfOk result (IsOpenedOn p.dir p.searchers p.commits p.infos p.segs) → IfOk result (λ q. NamesShow cells [] (Primary q))
+    names_done (Ok q) appears opened = first_names appears q opened
+    names_done (Err e) appears opened = tt
+
+  opening_names : (r : ReplicaParts D) → IsOpening cells r → NamesShow cells [] (Replica r)
+  opening_names r is = none_shown (cells r.dir) r.searchers.tickets [] is.empty is.tickets refl
 
   -- a replica of the opening has files as at a source where nothing stands, and no job
   pub replica_files : (n : ℕ) (r : ReplicaParts D) → IsOpening cells r → ReplicaFiles (λ q. None) cells [] n r
   replica_files n r is = record {
     sourced = is.sourced;
     job = subst (λ (o : Option PointJob). JobShows (λ q. None) [] n None o) (sym is.job) tt;
-    few = few (opening_point r is).version is.jobs (ap (λ (o : Option PointJob). reached_version o r) is.job);
+    point = record {
+      known = (let one : r.infos.version.0 ≡ 1 = ap (λ (i : Infos). i.version.0) is.infos in omega (arith, one));
+      generation = (let one : r.infos.generation.0 ≡ 1 = ap (λ (i : Infos). i.generation.0) is.infos in omega (arith, one));
+      stands = opening_stands (λ q. None) r.infos is.infos;
+    };
     flight = λ at flies. absurd (none_at at flies);
   }
     where
-      few : {v j w : ℕ} → v ≡ 1 → j ≡ 0 → w ≡ v → j < w
-      few v j w = omega (arith, v, j, w)
-
       none_at : (at : At) → ◌≡◌ {A = Option At} None (Some at) → ⊥
       none_at at same = absurd (cc)
+
+  -- nothing was committed
+  no_commits : (n : ℕ) (book : CommitBook) → IsUncommitted book → DiskShows (λ q. None) cells [] n (record { book = Some book; dir = None })
+  no_commits n book none = record {
+    book = record {
+      last = subst (λ (o : Option Commit). LastShows (λ q. None) [] n o) (sym none.last) refl;
+      has = λ has. absurd (true≢false (sym has));
+      flight = subst (λ (o : Option Stage). StageShows (λ q. None) [] n None o) (sym none.stage) tt;
+    };
+    dir = tt;
+  }
 
   pub first_place : (p : PrimaryParts D) (held : Vec Held Global) → held.items ≡ [] → PrimaryShows cells [] 1 p → PlaceShows cells [] 1 (record { node = Primary p; held = held })
   first_place p held none shows = record {
@@ -275,14 +321,14 @@ module _ {D : Type 0} (cells : D → Cells) where
   }
 
   pub opens_primary : (n : ℕ) (p : PrimaryParts D) (held : Vec Held Global) (x : Node D) → n ≡ 1 → x ≡ Primary p → held.items ≡ [] → PrimaryShows cells [] 1 p → PrimaryFiles (λ q. None) cells (λ s. 0) p
-      → OpensPlace cells n (record { node = x; held = held })
-  opens_primary n p held x one is none shows files =
-      subst (λ (y : ℕ × Node D). OpensPlace cells y.0 (record { node = y.1; held = held })) (λ i. (sym one i, sym is i)) (record { shows = first_place p held none shows; files = files; idle = refl })
+      → NamesShow cells [] (Primary p) → IsUncommitted p.commits → OpensPlace cells n (record { node = x; held = held })
+  opens_primary n p held x one is none shows files named commits =
+      subst (λ (y : ℕ × Node D). OpensPlace cells y.0 (record { node = y.1; held = held })) (λ i. (sym one i, sym is i)) (record { shows = first_place p held none shows; files = files; named = named; disk = no_commits 1 p.commits commits; idle = refl })
 
   pub opens_replica : (n : ℕ) (r : ReplicaParts D) (held : Vec Held Global) (x : Node D) → n ≢ 1 → x ≡ Replica r → held.items ≡ [] → IsOpening cells r → OpensPlace cells n (record { node = x; held = held })
   opens_replica n r held x other is none opening =
       subst (λ (y : Node D). OpensPlace cells n (record { node = y; held = held })) (sym is)
-      (record { shows = first_replica n r held other none opening; files = replica_files n r opening; idle = ap want_of opening.job })
+      (record { shows = first_replica n r held other none opening; files = replica_files n r opening; named = opening_names r opening; disk = no_commits n r.commits opening.commits; idle = ap want_of opening.job })
 
   -- ---- all of them
 
@@ -317,9 +363,19 @@ module _ {D : Type 0} (cells : D → Cells) where
   pub first_sources : (log : Log) (size : ℕ) (places : List (Option (Place D))) → log ≡ [] → ((n : ℕ) → IsNode size n → IsSomeAnd (place_of places n) (OpensPlace cells n)) → FilesShow cells log size places
   first_sources log size places none each = subst (λ (l : Log). FilesShow cells l size places) (sym none) (record {
     source = λ q. None;
+    drawn = λ q bytes lasting is. absurd (nothing_means bytes is);
     each = λ n node. at (place_of places n) n (each n node);
+    names = λ n node. some_then (place_of places n) (each n node) (λ place opens. opens.named);
+    disks = λ n node. disk (place_of places n) n (each n node);
   })
     where
+      nothing_means : (bytes : List ℕ) → ◌≡◌ {A = Option (List ℕ)} None (Some bytes) → ⊥
+      nothing_means bytes same = absurd (cc)
+
+      disk : (o : Option (Place D)) (n : ℕ) → IsSomeAnd o (OpensPlace cells n) → IsSomeAnd (disk_at o) (DiskShows (λ q. None) cells [] n)
+      disk None n is = absurd is
+      disk (Some place) n is = is.disk
+
       node_files : (n : ℕ) (x : Node D) → NodeFiles (λ q. None) cells [] (λ s. 0) n x → NodeFiles (λ q. None) cells [] (λ s. jobs_like places s size) n x
       node_files n (Primary p) files = record {
         held = files.held;

@@ -37,7 +37,7 @@ stands_more size past e v segs legal was =
       documents = subst (λ (docs : List Doc). AreSegmentsOf docs segs) (sym (documents_stay_lem size (e ∷ []) past v legal was.known)) was.documents;
     }
 
-generation_more : (size : ℕ) (past : Past) (at : At) (e : Event) → KeepsRule size past at e → generation_of past ≤ generation_of (record { at = at; event = e } ∷ past)
+pub generation_more : (size : ℕ) (past : Past) (at : At) (e : Event) → KeepsRule size past at e → generation_of past ≤ generation_of (record { at = at; event = e } ∷ past)
 generation_more size past at (Promoted m g f w) keeps = omega (arith, keeps.next)
 generation_more size past at e keeps = omega arith
 

@@ -49,13 +49,15 @@ use Rattle.cluster_places.specs.Outs.{want_of, jobs_like, states_like}
 use Rattle.cluster_state.specs.Files.{CopyShows, JobShows, IsJobFor, ReplicaFiles, PrimaryFiles, NodeFiles, FilesShow}
 use Rattle.cluster_places.specs.JobChanges.{HasJob, HasNextFile, IsNextFile}
 use Rattle.cluster_places.specs.JobPlaces.{ReadsIn}
+use Rattle.cluster_state.proofs.Disks.{commits_alone, disk_moved, disk_same, disks_kept}
 use Rattle.cluster_state.proofs.Frames.{some_at}
 use Rattle.cluster_state.proofs.JobFrames.{same_inner}
 use Rattle.cluster_places.proofs.OutCounts.{jobs_same, names_out}
 use Rattle.cluster_state.proofs.Wider.{primary_kept, meta_at_source}
-use Rattle.cluster_state.proofs.FileFrames.{one_each, both_of, Both, wants_same, replica_same}
+use Rattle.cluster_state.proofs.FileFrames.{names_one, one_each, both_of, Both, wants_same, replica_same}
 use Rattle.cluster_state.proofs.JobMoves.{shows_kept, shows_put, primary_place}
-use Rattle.cluster_state.proofs.CopyPaths.{FilesLast}
+use Rattle.cluster_state.proofs.Naming.{FilesLast, altered_steps}
+use Rattle.cluster_state.proofs.Drawn.{grows_none}
 
 -- ---- metadata
 
@@ -130,7 +132,7 @@ module _ {D : Type 0} (cells : D → Cells) where
   handed_replica source log n job r line name bytes is reads was = record {
     sourced = was.sourced;
     job = subst (λ (o : Option Job). JobShows source now n.0 o r.job) (sym same_job_at) (shows (job_at n.0 log) r.job is was.job);
-    few = was.few;
+    point = record { known = was.point.known; generation = was.point.generation; stands = was.point.stands };
     flight = λ a flies. subst (λ (o : Option Job). IsSomeAnd o (IsJobFor a (newest_version (printed log)))) (sym same_job_at) (was.flight a flies);
   }
     where
@@ -152,6 +154,7 @@ module _ {D : Type 0} (cells : D → Cells) where
         latest = s.latest;
         begun = s.begun;
         behind = s.behind;
+        generation = s.generation;
         metas = s.metas;
         stands = s.stands;
         handed = λ q b out. given q b (is_job job.at n.0 job.number (Some job.at) n.0 job.number && same name q) refl out;
@@ -180,10 +183,14 @@ module _ {D : Type 0} (cells : D → Cells) where
     shows_kept cells size log i new (λ a. refl) (shows_put cells size log old new p.0 x b.moves (primary_place cells log p.0 b.at.parts b.primary b.at.held b.alters at_p.0) shows),
     record {
       source = files.source;
+      drawn = files.drawn;
+      names = names_one cells size (printed log) (printed log) old new p.0 x (record { node = Primary b.at.parts; held = b.at.held }) (grows_none (printed log)) b.moves node b.at.there (altered_steps cells (printed log) b.at.parts b.primary b.alters) files.names;
       each = one_each {P = Both cells files.source log jobs} {Q = λ m z. NodeFiles files.source cells now count m z.node} size p.0 x old new b.moves (both_of cells log size old shows files)
           (λ m z node apart both. other_node m z.node (ap (λ (o : Option NodeNo). is_at o m) primary ∙ apart) both.0.node_shows both.1)
           (primary_kept cells files.source jobs count b.at.parts b.primary b.alters.files (λ s. (let low = at_p.1.outs s in let same_count = counted s in
           let here : states_like s b.primary.states ≡ states_like s b.at.parts.states = ap (states_like s) b.states in omega (arith, low, same_count, here))) at_p.1);
+      disks = disks_kept cells files.source files.source log now size old new (λ name bytes is. is)
+          (disk_moved p.0 x (record { node = Primary b.at.parts; held = b.at.held }) old new b.moves b.at.there (disk_same b.at.parts.commits b.primary.commits b.alters.files.commits)) (λ m. commits_alone (printed log) m) files.disks;
     },
   )
     where

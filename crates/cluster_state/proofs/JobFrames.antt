@@ -5,6 +5,7 @@ use Rattle.std.proofs.lemmas.Bool.{eqb-true}
 use Rattle.std.proofs.lemmas.Bool.Decides.{nat_tests}
 use Rattle.history_tables.proofs.RowLemmas.{same_at_self, same_at_is}
 use Rattle.nrt_base.specs.declared.numbers.At.{At}
+use Rattle.nrt_base.specs.declared.numbers.LineNo.{LineNo}
 use Rattle.nrt_base.specs.declared.numbers.NodeNo.{NodeNo}
 use Rattle.nrt_base.specs.declared.numbers.Version.{Version}
 use Rattle.disk_model.specs.Disk.{Name, same}
@@ -27,6 +28,7 @@ use Rattle.history_book.specs.Jobs.{job_step, last_job}
 use Rattle.history_book.specs.Turns.{StartsOnce, InTurn, AreInTurn}
 use Rattle.history_book.proofs.LineLaws.{without_some}
 use Rattle.cluster_state.specs.FilesOut.{is_by, is_job, file_out}
+use Rattle.cluster_state.proofs.Growing.{lasts}
 use Rattle.cluster_state.specs.FileChanges.{keeps_jobs, leaves_job, SameJob}
 
 -- ---- copies in flight
@@ -100,7 +102,7 @@ copy_flying (e ∷ past) n v a turns is = step e.event turns.0 is (λ was. copy_
 
 -- ---- a printed entry
 
-not_false : (b : Bool) → not b ≡ true → b ≡ false
+pub not_false : (b : Bool) → not b ≡ true → b ≡ false
 not_false true is = absurd (true≢false (sym is))
 not_false false is = refl
 
@@ -168,6 +170,7 @@ module _ (size : ℕ) (log : Log) (at : At) (n : ℕ) (legal : IsLegalPast size 
   same_shown e rule turn keeps = record {
     job = job_same e (last_job false n log) keeps;
     newest = newest_rise e;
+    generation = (lasts size (printed log) at e legal rule).generation;
     documents = λ v low. documents_stay_lem size (record { at = at; event = e } ∷ []) (printed log) v (rule, legal) low;
     latest = latest_same e keeps;
     version = version_same e keeps;
@@ -187,7 +190,7 @@ job_node n (Kept i ∷ log) row is = step (job_step i) is (λ r was. job_node n 
   where
     kept_node : (s : JobStep) (r : JobRow) → (row_by s r).job ≡ r.job
     kept_node (Begins job) r = elim ((r.job.node.0 == job.node.0) && is_going r) as (λ b. (if b then record r { later = Some job.version } else r).job ≡ r.job) [ true ↦ refl | false ↦ refl ]
-    kept_node (Ends m number) r = elim ((r.job.node.0 == m.0) && (r.job.number == number)) as (λ b. (if b then record r { ended = true } else r).job ≡ r.job) [ true ↦ refl | false ↦ refl ]
+    kept_node (Ends line m number) r = elim (((r.job.at.line.0 == line.0) && (r.job.node.0 == m.0)) && (r.job.number == number)) as (λ b. (if b then record r { ended = true } else r).job ≡ r.job) [ true ↦ refl | false ↦ refl ]
     kept_node Passes r = refl
 
     goes : (s : JobStep) (o : Option JobRow) → last_job false n log ≡ o → row_if_some s o ≡ Some row → ((r : JobRow) → last_job false n log ≡ Some r → r.job.node.0 ≡ n) → row.job.node.0 ≡ n
@@ -202,7 +205,7 @@ job_node n (Kept i ∷ log) row is = step (job_step i) is (λ r was. job_node n 
         begins : (b : Bool) → (job.node.0 == n) ≡ b → (if b then Some (new_job_row job (length (printed log))) else row_if_some (Begins job) (last_job false n log)) ≡ Some row → row.job.node.0 ≡ n
         begins true here new = let made : new_job_row job (length (printed log)) ≡ row = cc in ap (λ (x : JobRow). x.job.node.0) (sym made) ∙ eqb-true job.node.0 n here
         begins false here new = goes (Begins job) (last_job false n log) refl new was
-    step (Ends m number) got was = goes (Ends m number) (last_job false n log) refl got was
+    step (Ends line m number) got was = goes (Ends line m number) (last_job false n log) refl got was
     step Passes got was = goes Passes (last_job false n log) refl got was
 
 apart_from : (k n m : ℕ) → k ≡ n → (m == n) ≡ false → (k == m) ≡ false
@@ -220,9 +223,11 @@ row_kept n log i leaves = step i leaves
     begun job None is apart = refl
     begun job (Some row) is apart = ap (λ (b : Bool). Some (if b && is_going row then record row { later = Some job.version } else row)) (apart_from row.job.node.0 n job.node.0 (job_node n log row is) apart)
 
-    ended : (m : NodeNo) (number : ℕ) (o : Option JobRow) → last_job false n log ≡ o → (m.0 == n) ≡ false → row_if_some (Ends m number) o ≡ o
-    ended m number None is apart = refl
-    ended m number (Some row) is apart = ap (λ (b : Bool). Some (if b && (row.job.number == number) then record row { ended = true } else row)) (apart_from row.job.node.0 n m.0 (job_node n log row is) apart)
+    ended : (line : LineNo) (m : NodeNo) (number : ℕ) (o : Option JobRow) → last_job false n log ≡ o → (m.0 == n) ≡ false → row_if_some (Ends line m number) o ≡ o
+    ended line m number None is apart = refl
+    ended line m number (Some row) is apart =
+        ap (λ (b : Bool). Some (if ((row.job.at.line.0 == line.0) && b) && (row.job.number == number) then record row { ended = true } else row)) (apart_from row.job.node.0 n m.0 (job_node n log row is) apart)
+        ∙ elim (row.job.at.line.0 == line.0) as (λ b. Some (if (b && false) && (row.job.number == number) then record row { ended = true } else row) ≡ Some row) [ true ↦ refl | false ↦ refl ]
 
     begins : (line : _) (m : NodeNo) (number : ℕ) (v : Option Version) (by : Option At) → (m.0 == n) ≡ false → last_job false n (kept (JobBegun line m number v by) ∷ log) ≡ last_job false n log
     begins line m number None by apart = passed (last_job false n log)
@@ -233,7 +238,7 @@ row_kept n log i leaves = step i leaves
 
     step : (i' : Inner) → leaves_job i' n ≡ true → last_job false n (kept i' ∷ log) ≡ last_job false n log
     step (JobBegun line m number v by) leaves = begins line m number v by (not_false (m.0 == n) leaves)
-    step (JobEnd line m number) leaves = ended m number (last_job false n log) refl (not_false (m.0 == n) leaves)
+    step (JobEnd line m number) leaves = ended line m number (last_job false n log) refl (not_false (m.0 == n) leaves)
     step i' leaves = passed (last_job false n log)
 
 -- what was handed out to a job at the node is what was
@@ -258,6 +263,7 @@ pub same_inner : (log : Log) (i : Inner) (n : ℕ) → leaves_job i n ≡ true �
 same_inner log i n leaves = record {
   job = ap (while_going n (printed log)) (row_kept n log i leaves);
   newest = omega arith;
+  generation = omega arith;
   documents = λ v low. refl;
   latest = omega arith;
   version = refl;
@@ -271,6 +277,7 @@ pub same_then : (log mid now : Log) (n : ℕ) → SameJob log mid n → SameJob 
 same_then log mid now n a b = record {
   job = b.job ∙ a.job;
   newest = omega (arith, a.newest, b.newest);
+  generation = omega (arith, a.generation, b.generation);
   documents = λ v low. b.documents v (omega (arith, low, a.newest)) ∙ a.documents v low;
   latest = omega (arith, a.latest, b.latest);
   version = b.version ∙ a.version;
@@ -284,6 +291,7 @@ pub job_stays : (log : Log) (n : ℕ) → SameJob log log n
 job_stays log n = record {
   job = refl;
   newest = omega arith;
+  generation = omega arith;
   documents = λ v low. refl;
   latest = omega arith;
   version = refl;

@@ -15,12 +15,17 @@ mod Primaries
 pub mod Turning
 mod TicketPaths
 mod PublishPaths
+mod PointNames
+mod Listing
 mod TicketFiles
 mod CopiedNow
 mod PublishFiles
 mod FirstNodes
 mod JobFrames
+mod Drawn
+mod Naming
 mod Wider
+mod Disks
 mod FileFrames
 mod FileJobs
 mod JobMoves

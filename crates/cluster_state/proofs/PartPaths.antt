@@ -29,14 +29,19 @@ use Rattle.cluster_state.specs.Run.{Run}
 use Rattle.cluster_places.specs.Places.{place_of}
 use Rattle.cluster_state.specs.State.{IsPointAt, HoldsTickets, PlaceShows, Shows}
 use Rattle.cluster_places.specs.Outs.{want_of, jobs_like}
-use Rattle.cluster_state.specs.Files.{CopyShows, JobShows, reached_version, ReplicaFiles, NodeFiles, FilesShow}
+use Rattle.cluster_state.specs.Files.{CopyShows, JobShows, ReplicaFiles, NodeFiles, FilesShow}
 use Rattle.cluster_state.specs.FilesOut.{file_out}
 use Rattle.cluster_state.specs.Copies.{JobRuns}
 use Rattle.cluster_places.specs.JobChanges.{HasReplica, TakesPart}
 use Rattle.cluster_places.specs.JobPlaces.{CanTake, TakesIn}
+use Rattle.cluster_state.specs.Disks.{IsPastPoint}
+use Rattle.cluster_state.proofs.Disks.{commits_alone, disk_moved, disk_same, disks_kept}
 use Rattle.cluster_state.proofs.Frames.{some_at, slot_of, was}
 use Rattle.cluster_places.proofs.OutCounts.{jobs_same}
-use Rattle.cluster_state.proofs.FileFrames.{Both, both_of, node_files, one_each, wants_same, files_was}
+use Rattle.replica_node.specs.Replica.{IsJobAbove}
+use Rattle.cluster_state.proofs.Drawn.{grows_none}
+use Rattle.cluster_state.proofs.Naming.{FilesLast, took_steps}
+use Rattle.cluster_state.proofs.FileFrames.{names_one, Both, both_of, node_files, one_each, wants_same, files_was}
 use Rattle.cluster_state.proofs.FileJobs.{JobHere, ReplicaHere, job_here, replica_here, runs_at}
 use Rattle.cluster_state.proofs.JobMoves.{shows_put}
 use Rattle.cluster_state.proofs.Wider.{meta_at_source}
@@ -111,6 +116,7 @@ module _ {D : Type 0} (cells : D → Cells) where
     latest = shows.latest;
     begun = shows.begun;
     behind = shows.behind;
+    generation = subst (λ (i : Infos). i.generation.0 ≤ generation_of (printed log)) (sym goes.infos) shows.generation;
     metas = subst (λ (w : CopyState). All (λ f. HasMeta source f.0 f.1) w.files) (sym goes.want) shows.metas;
     stands = subst (λ (i : Infos). StandsFor source i (documents_at (printed log) job.version.0)) (sym goes.infos) shows.stands;
     handed = shows.handed;
@@ -128,15 +134,20 @@ module _ {D : Type 0} (cells : D → Cells) where
       found None there none = absurd none
       found (Some k) there goes = record { point = k; there = there; goes = record { number = goes.0; want = goes.1; infos = goes.2 } }
 
-  pub files_took : (size : ℕ) (log : Log) (old new : List (Option (Place D))) (job : Job) (part : Part) → Shows cells log size old → FilesShow cells log size old → IsNode size job.node.0
+  pub files_took : (size : ℕ) (log : Log) (old new : List (Option (Place D))) (job : Job) (part : Part) → FilesLast → Shows cells log size old → FilesShow cells log size old → IsNode size job.node.0
       → job_at job.node.0 log ≡ Some job → file_out job.at job.node.0 job.number part.name log ≡ Some part.bytes → TakesIn cells job.node.0 part old new → Shows cells log size new × FilesShow cells log size new
-  files_took size log old new job part shows files node is out b = (
+  files_took size log old new job part lasting shows files node is out b = (
     shows_put cells size log old new n x b.moves (place_took log n part r s b.at.held b.takes both.0) shows,
     record {
       source = files.source;
+      drawn = files.drawn;
+      names = names_one cells size (printed log) (printed log) old new n x y (grows_none (printed log)) b.moves node b.at.there
+          (took_steps cells files.source (printed log) here.point part r s r.searchers.point.version.0 lasting files.drawn here.shows.metas above here.runs b.takes) files.names;
       each = one_each {P = Both cells files.source log jobs} {Q = λ m z. NodeFiles files.source cells log count m z.node} size n x old new b.moves (both_of cells log size old shows files)
           (λ m z other apart has. node_files cells files.source log log jobs count m z.node (λ t rep. job_stays log m) fewer has.1)
           mine;
+      disks = disks_kept cells files.source files.source log log size old new (λ name bytes is. is) (disk_moved n x y old new b.moves b.at.there (disk_same r.commits s.commits (ap (λ (t : ReplicaParts D). t.commits) b.takes.others)))
+          (λ m. commits_alone (printed log) m) files.disks;
     },
   )
     where
@@ -167,6 +178,9 @@ module _ {D : Type 0} (cells : D → Cells) where
       here : JobHere cells files.source log n job r
       here = job_here cells files.source log n job r is both.1
 
+      above : IsJobAbove r.searchers.point.version.0 here.point
+      above = subst (λ (o : Option PointJob). IfSome o (IsJobAbove r.searchers.point.version.0)) here.runs both.0.node_shows.whole.newer
+
       next : NextJob s here.point
       next = next_job part r s here.point b.takes here.runs
 
@@ -176,21 +190,12 @@ module _ {D : Type 0} (cells : D → Cells) where
       fewer : (o : Out) → count o ≤ jobs o
       fewer o = let same : jobs_like new o size ≡ jobs_like old o size = jobs_same old new o size (λ m low. wants_same n x y old new b.moves b.at.there want m) in omega (arith, same)
 
-      few : s.jobs < reached_version s.job s
-      few =
-          let now : reached_version s.job s ≡ next.point.infos.version.0 = ap (λ (o : Option PointJob). reached_version o s) next.there in
-          let same_infos : next.point.infos.version.0 ≡ here.point.infos.version.0 = ap (λ (i : Infos). i.version.0) next.goes.infos in
-          let before : reached_version r.job r ≡ here.point.infos.version.0 = ap (λ (o : Option PointJob). reached_version o r) here.runs in
-          let count_is : s.jobs ≡ r.jobs = ap (λ (t : ReplicaParts D). t.jobs) b.takes.others in
-          let low = both.1.few in
-          omega (arith, now, same_infos, before, count_is, low)
-
       mine : ReplicaFiles files.source cells log n s
       mine = record {
         sourced = b.takes.sourced files.source (here.shows.handed part.name part.bytes out) both.1.sourced;
         job = subst (λ (o : Option Job). JobShows files.source log n o s.job) (sym is)
             (subst (λ (o : Option PointJob). JobShows files.source log n (Some job) o) (sym next.there) (copy_took files.source log n job here.point next.point next.goes here.shows));
-        few = few;
+        point = subst (λ (i : Infos). IsPastPoint files.source (printed log) i) (sym (ap (λ (t : ReplicaParts D). t.infos) b.takes.others)) both.1.point;
         flight = both.1.flight;
       }
 
@@ -207,12 +212,12 @@ module _ {D : Type 0} (cells : D → Cells) where
       lane_now.node (subst (λ (l : Log). IsReplica (printed l) row.job.node.0) same_log replica) (runs_at r.nodes r.log row runs lane_now) out meta_is
 
   pub part_path : (r : Run) (ended : Bool) (size : ℕ) (log : Log) (old new : List (Option (Place D))) (row : JobRow) (part : Part) → record { ended = ended; nodes = size; log = log } ≡ r → r.ended ≡ false
-      → (ended ≡ false → Shows cells log size old × FilesShow cells log size old) → JobRuns r.log row → LaneJobShows size (printed log) row
+      → (ended ≡ false → Shows cells log size old × FilesShow cells log size old) → FilesLast → JobRuns r.log row → LaneJobShows size (printed log) row
       → file_out row.job.at row.job.node.0 row.job.number part.name r.log ≡ Some part.bytes → TakesIn cells row.job.node.0 part old new → Shows cells log size new × FilesShow cells log size new
-  part_path r ended size log old new row part view running pair runs lane out b =
+  part_path r ended size log old new row part view running pair lasting runs lane out b =
       let same_log : log ≡ r.log = ap (λ (x : Run). x.log) view in
       let same_size : size ≡ r.nodes = ap (λ (x : Run). x.nodes) view in
       let lane_now : LaneJobShows r.nodes (printed r.log) row = subst (λ (x : Log × ℕ). LaneJobShows x.1 (printed x.0) row) (λ i. (same_log i, same_size i)) lane in
-      let now = files_took r.nodes r.log old new row.job part (was cells r ended size log old view running (λ e. (pair e).0)) (files_was cells r ended size log old view running (λ e. (pair e).1))
+      let now = files_took r.nodes r.log old new row.job part lasting (was cells r ended size log old view running (λ e. (pair e).0)) (files_was cells r ended size log old view running (λ e. (pair e).1))
       lane_now.node (runs_at r.nodes r.log row runs lane_now) out b in
       subst (λ (x : Log × ℕ). Shows cells x.0 x.1 new × FilesShow cells x.0 x.1 new) (λ i. (sym same_log i, sym same_size i)) now

@@ -14,6 +14,7 @@ use Rattle.segment_infos.specs.declared.infos.SegRecord.{SegRecord}
 use Rattle.seg_reader.specs.Shown.{Shown}
 use Rattle.seg_reader.specs.Stands.{IsLiveFileIn, IsSegmentIn, StandsFor}
 use Rattle.copy_state.specs.declared.meta.FileMetaData.{FileMetaData}
+use Rattle.copy_state.specs.States.{meta_in}
 use Rattle.index_primary.specs.declared.parts.Parts.{Parts as PrimaryParts}
 use Rattle.index_primary.specs.declared.states.Out.{Out}
 use Rattle.index_primary.specs.Primary.{IsPrimary}
@@ -22,7 +23,7 @@ use Rattle.replica_node.specs.declared.job.PointJob.{PointJob}
 use Rattle.replica_node.specs.declared.parts.Parts.{Parts as ReplicaParts}
 use Rattle.replica_node.specs.Replica.{IsWholeReplica, HasMetas}
 use Rattle.replica_node.specs.Sources.{CopiesFrom, HeldReadAs, IsSourced}
-use Rattle.replica_node.proofs.Metas.{listed_meta}
+use Rattle.replica_node.proofs.Metas.{listed_meta, some_meta}
 use Rattle.history_entries.specs.Points.{documents_at}
 use Rattle.history_tables.specs.declared.jobs.Job.{Job}
 use Rattle.history_book.specs.Log.{Log, printed}
@@ -117,6 +118,7 @@ copy_wider source wider log n job j more was = record {
   latest = was.latest;
   begun = was.begun;
   behind = was.behind;
+  generation = was.generation;
   metas = metas_wider source wider j.copy.want.files more was.metas;
   stands = stands_wider source wider j.infos (documents_at (printed log) job.version.0) more was.stands;
   handed = λ q bytes out. more q bytes (was.handed q bytes out);

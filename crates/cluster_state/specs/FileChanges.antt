@@ -1,10 +1,10 @@
--- What calls leave of the files of a node, and entries of the jobs that the log shows.
-use Rattle.std.specs.Prelude.{ℕ, ◌≡◌, ◌≢◌, ◌≤◌, ◌==◌, Bool, true, false, not, Some, None}
+-- What entries leave of the jobs and of the commits that the log shows.
+use Rattle.std.specs.Prelude.{ℕ, ◌≡◌, ◌≢◌, ◌≤◌, ◌==◌, Bool, true, false, not, Option, Some, None}
 use Rattle.nrt_base.specs.declared.numbers.At.{At}
 use Rattle.disk_model.specs.Disk.{Name}
 use Rattle.history_entries.specs.declared.entry.Event.{Event}
-use Rattle.history_entries.specs.declared.entry.Event.TheVariants.{Copying, Switched, Crashed, Reopened, Promoted}
-use Rattle.history_entries.specs.Nodes.{newest_version, version_of}
+use Rattle.history_entries.specs.declared.entry.Event.TheVariants.{Copying, Switched, Committing, Committed, Crashed, Reopened, Promoted}
+use Rattle.history_entries.specs.Nodes.{newest_version, generation_of, version_of}
 use Rattle.history_entries.specs.Lines.{start_entry, before_start, copy_in_flight, highest_copy}
 use Rattle.history_entries.specs.Points.{documents_at}
 use Rattle.history_tables.specs.declared.jobs.Job.{Job}
@@ -24,6 +24,19 @@ keeps_jobs (Crashed m) n = false
 keeps_jobs (Promoted m g f v) n = false
 keeps_jobs e n = true
 
+-- the line started as a commit
+abbrev pub is_commit_line : Option Event → Bool
+is_commit_line (Some (Committing n v)) = true
+is_commit_line e = false
+
+-- the entry starts no commit of the node and ends none, and neither does the node crash nor reopen
+abbrev pub keeps_commits : Event → ℕ → Bool
+keeps_commits (Committing m v) n = not (m.0 == n)
+keeps_commits (Committed m v) n = not (m.0 == n)
+keeps_commits (Crashed m) n = not (m.0 == n)
+keeps_commits (Reopened m v) n = not (m.0 == n)
+keeps_commits e n = true
+
 -- the entry of inner work is about no job at the node
 abbrev pub leaves_job : Inner → ℕ → Bool
 leaves_job (JobBegun line m number v by) n = not (m.0 == n)
@@ -35,6 +48,7 @@ leaves_job i n = true
 pub record SameJob (log now : Log) (n : ℕ) : Type 0 where
   pub job : job_at n now ≡ job_at n log
   pub newest : newest_version (printed log) ≤ newest_version (printed now)
+  pub generation : generation_of (printed log) ≤ generation_of (printed now)
   pub documents : (v : ℕ) → v ≤ newest_version (printed log) → documents_at (printed now) v ≡ documents_at (printed log) v
   pub latest : highest_copy n (printed now) ≤ highest_copy n (printed log)
   pub version : version_of n (printed now) ≡ version_of n (printed log)

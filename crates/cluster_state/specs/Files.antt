@@ -9,13 +9,13 @@ use Rattle.index_primary.specs.declared.parts.Parts.{Parts as PrimaryParts}
 use Rattle.index_primary.specs.declared.states.Out.{Out}
 use Rattle.index_primary.specs.Primary.{loose_of}
 use Rattle.index_primary.specs.Held.{IsUndrawn}
-use Rattle.replica_opening.specs.Known.{HasMeta}
+use Rattle.replica_opening.specs.Known.{HasMeta, IsLasting}
 use Rattle.replica_node.specs.declared.job.PointJob.{PointJob}
 use Rattle.replica_node.specs.declared.parts.Parts.{Parts as ReplicaParts}
 use Rattle.replica_node.specs.Sources.{HeldReadAs, IsSourced}
-use Rattle.history_entries.specs.Nodes.{IsNode, newest_version, version_of}
+use Rattle.history_entries.specs.Nodes.{Past, IsNode, newest_version, generation_of, version_of}
 use Rattle.history_entries.specs.Lines.{start_entry, before_start, copy_in_flight, highest_copy}
-use Rattle.history_entries.specs.Points.{documents_at}
+use Rattle.history_entries.specs.Points.{documents_at, IsDrawnFile}
 use Rattle.history_tables.specs.declared.jobs.Job.{Job}
 use Rattle.history_book.specs.Log.{Log, printed}
 use Rattle.history_book.specs.Jobs.{job_at}
@@ -24,11 +24,13 @@ use Rattle.cluster_places.specs.declared.nodes.Node.TheVariants.{Primary, Replic
 use Rattle.cluster_places.specs.declared.nodes.Place.{Place}
 use Rattle.cluster_places.specs.Places.{place_of}
 use Rattle.cluster_state.specs.FilesOut.{file_out}
+use Rattle.cluster_state.specs.Names.{NamesShow}
+use Rattle.cluster_state.specs.Disks.{IsPastPoint, DisksShow}
 use Rattle.cluster_places.specs.Outs.{states_like, jobs_like}
 
 -- The job of a replica is the one that the log shows to run there: of its number and version, which no copy to the node passed;
--- the node was behind what its line noted, and is. The files that it wants have their metadata at the source, its point is of the
--- documents of the version, and each file that was handed out to it is as at the source.
+-- the node was behind what its line noted, and is. The files that it wants have their metadata at the source, its point is of no later
+-- generation and of the documents of the version, and each file that was handed out to it is as at the source.
 pub record CopyShows (source : Name → Content) (log : Log) (n : ℕ) (job : Job) (j : PointJob) : Type 0 where
   pub number : j.copy.number ≡ job.number
   pub version : j.infos.version.0 ≡ job.version.0
@@ -37,6 +39,7 @@ pub record CopyShows (source : Name → Content) (log : Log) (n : ℕ) (job : Jo
   pub begun : start_entry job.at (printed log) ≢ None
   pub behind : version_of n (printed log) < newest_version (before_start job.at (printed log))
   pub metas : All (λ f. HasMeta source f.0 f.1) j.copy.want.files
+  pub generation : j.infos.generation.0 ≤ generation_of (printed log)
   pub stands : StandsFor source j.infos (documents_at (printed log) job.version.0)
   pub handed : (q : Name) (bytes : List ℕ) → file_out job.at n job.number q log ≡ Some bytes → source q ≡ Some bytes
 
@@ -50,18 +53,17 @@ JobShows source log n _ _ = ⊥
 abbrev pub IsJobFor : At → ℕ → Job → Type 0
 IsJobFor at v job = (job.at ≡ at) × (job.version.0 ≡ v)
 
-module _ {D : Type 0} where
-  -- the version that a replica copies, or else the one that it searches
-  abbrev pub reached_version : Option PointJob → ReplicaParts D → ℕ
-  reached_version None r = r.searchers.point.version.0
-  reached_version (Some j) r = j.infos.version.0
+-- each name of a segment's file that means something is that of a segment which was drawn
+abbrev pub MeansDrawn : (Name → Content) → Past → Type 0
+MeansDrawn source past = (q : Name) (bytes : List ℕ) → IsLasting q → source q ≡ Some bytes → IsDrawnFile past q
 
-  -- The replica's files read as at the source, its job is what the log shows, and it began fewer jobs than the version that it
-  -- has reached; a copy of the newest version to it that is in flight is its job.
+module _ {D : Type 0} where
+  -- The replica's files read as at the source, its job is what the log shows, and what it searches is a point of the history; a copy of
+  -- the newest version to it that is in flight is its job.
   pub record ReplicaFiles (source : Name → Content) (cells : D → Cells) (log : Log) (n : ℕ) (r : ReplicaParts D) : Type 0 where
     pub sourced : IsSourced source cells r
     pub job : JobShows source log n (job_at n log) r.job
-    pub few : r.jobs < reached_version r.job r
+    pub point : IsPastPoint source (printed log) r.infos
     pub flight : (at : At) → copy_in_flight n (newest_version (printed log)) (printed log) ≡ Some at
         → IsSomeAnd (job_at n log) (IsJobFor at (newest_version (printed log)))
 
@@ -78,8 +80,12 @@ module _ {D : Type 0} where
   NodeFiles source cells log jobs n (Replica r) = ReplicaFiles source cells log n r
   NodeFiles source cells log jobs n (Down d) = ⊤
 
-  -- what each name of a file means, and that all nodes have it so
+  -- What each name of a file means, and that all nodes have it so, with their commits, and what crashes left of them; what means
+  -- something is drawn, and so is each name that stands at a running node.
   pub record FilesShow (cells : D → Cells) (log : Log) (size : ℕ) (places : List (Option (Place D))) : Type 0 where
     pub source : Name → Content
+    pub drawn : MeansDrawn source (printed log)
     pub each : (n : ℕ) → IsNode size n
         → IsSomeAnd (place_of places n) (λ place. NodeFiles source cells log (λ s. jobs_like places s size) n place.node)
+    pub names : (n : ℕ) → IsNode size n → IsSomeAnd (place_of places n) (λ place. NamesShow cells (printed log) place.node)
+    pub disks : DisksShow source cells log size places

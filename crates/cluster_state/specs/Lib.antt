@@ -5,7 +5,10 @@ pub mod Moves
 pub mod Writes
 pub mod Starting
 pub mod FilesOut
+pub mod Disks
+pub mod Names
 pub mod Files
 pub mod FileChanges
 pub mod Copies
 pub mod Settles
+pub mod Lists

@@ -9,7 +9,10 @@ use Rattle.replica_node.specs.Replica.{IsWholeReplica, AreStanding}
 use Rattle.replica_node.specs.Sources.{IsSourced}
 use Rattle.cluster_places.specs.declared.nodes.Place.{Place}
 use Rattle.cluster_state.specs.State.{PlaceShows}
+use Rattle.cluster_state.specs.Names.{NamesShow}
 use Rattle.cluster_state.specs.Files.{NodeFiles}
+use Rattle.cluster_state.specs.Disks.{DiskShows}
+use Rattle.cluster_places.specs.Places.{disk_of}
 use Rattle.cluster_places.specs.Outs.{want_at}
 
 -- nothing stands in the directory, and a crash leaves nothing there
@@ -29,6 +32,7 @@ pub record IsOpening {D : Type 0} (cells : D → Cells) (r : ReplicaParts D) : T
   pub infos : r.infos ≡ opening_infos
   pub searched : AreSegmentsOf [] r.searchers.point.readers
   pub stands : StandsFor (reads_of (cells r.dir)) r.infos []
+  pub empty : (q : Name) → (cells r.dir q).now ≡ None
   pub tickets : r.searchers.tickets ≡ []
   pub commits : IsUncommitted r.commits
   pub seen : r.seen ≡ r.infos.generation
@@ -36,8 +40,11 @@ pub record IsOpening {D : Type 0} (cells : D → Cells) (r : ReplicaParts D) : T
   pub job : r.job ≡ None
   pub jobs : r.jobs ≡ 0
 
--- a node that has just started: it is what the empty log shows, it has its files as at a source where nothing stands, and it has no job
+-- a node that has just started: it is what the empty log shows, it has its files as at a source where nothing stands, no name stands
+-- there, and it has no commit and no job
 pub record OpensPlace {D : Type 0} (cells : D → Cells) (n : ℕ) (place : Place D) : Type 0 where
   pub shows : PlaceShows cells [] n place
   pub files : NodeFiles (λ q. None) cells [] (λ s. 0) n place.node
+  pub named : NamesShow cells [] place.node
+  pub disk : DiskShows (λ q. None) cells [] n (disk_of place.node)
   pub idle : want_at (Some place) ≡ None

@@ -38,14 +38,14 @@ impl<D: FaultDir + Drop> ClusterState<D> {
     ghost use Rattle.std.specs.Prelude.{ℕ, ◌≡◌, ◌≢◌, ◌∷◌, false, true, Some, Option, OnOk, OnErr, IfSome};
     ghost use Rattle.nrt_base.specs.declared.numbers.NodeNo.{NodeNo};
     ghost use Rattle.history_entries.specs.Nodes.{IsNode, primary_of};
-    ghost use Rattle.history_entries.specs.Lines.{start_entry, publish_in_flight};
+    ghost use Rattle.history_entries.specs.Lines.{start_entry, publish_in_flight, commit_in_flight};
     ghost use Rattle.history_entries.specs.Legal.{KeepsRule};
     ghost use Rattle.history_tables.specs.Openings.{opens_ticket};
     ghost use Rattle.history_book.specs.Log.{printed, shown};
     ghost use Rattle.history_book.specs.Turns.{InTurn};
     ghost use Rattle.cluster_state.specs.Run.{IsNow, IsEnded};
     ghost use Rattle.cluster_state.specs.Moves.{moves, moves_tickets};
-    ghost use Rattle.cluster_state.specs.FileChanges.{keeps_jobs};
+    ghost use Rattle.cluster_state.specs.FileChanges.{keeps_jobs, is_commit_line, keeps_commits};
 
     /// What happened, for readers.
     pub fn book(&self) -> &Book
@@ -97,8 +97,16 @@ impl<D: FaultDir + Drop> ClusterState<D> {
         self.book.is_legal();
     }
 
-    /// Appends an entry that moves no node, starts no copy and opens no ticket, of a line whose publish is not in flight. `Err` is want of
-    /// memory: the cluster has ended, and the history is as before.
+    /// A line that did not start as a commit has none in flight. A law.
+    pub fn has_no_commit(&self, at: At)
+        requires line { is_commit_line (start_entry at (printed self.now.log)) ≡ false }
+        ensures { (m : ℕ) → commit_in_flight m (printed self.now.log) ≢ Some at }
+    {
+        self.book.is_legal();
+    }
+
+    /// Appends an entry that moves no node, starts no copy and no commit, and opens no ticket, of a line whose publish or commit is not in
+    /// flight. `Err` is want of memory: the cluster has ended, and the history is as before.
     pub fn note(&mut self, at: At, event: Event) -> Result<(), NoMemory>
         requires running { self.old.ended ≡ false }
         requires rule { KeepsRule self.old.nodes (printed self.old.log) at event }
@@ -107,6 +115,8 @@ impl<D: FaultDir + Drop> ClusterState<D> {
         requires still { (p : Option NodeNo) (m : ℕ) → moves event p m ≡ false }
         requires apart { (m : ℕ) → moves_tickets event m ≡ false }
         requires jobs { (m : ℕ) → keeps_jobs event m ≡ true }
+        requires commits { (m : ℕ) → keeps_commits event m ≡ true }
+        requires flights { (m : ℕ) → commit_in_flight m (printed self.old.log) ≢ Some at }
         requires tickets { opens_ticket event ≡ false }
         ensures ok { OnOk result (IsNow self.old self.new (shown at event ∷ self.old.log)) }
         ensures err { OnErr result (IsEnded self.old self.new) }

@@ -291,6 +291,7 @@ impl<D: FaultDir + Drop> ClusterState<D> {
         self.book.is_legal();
         self.book.job_shows(row);
         self.book.job_replica(row);
+        files_last();
         self.ended = true;
         take_in(&mut self.places, row.job.node, part)?;
         self.ended = false;

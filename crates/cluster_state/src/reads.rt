@@ -14,7 +14,7 @@ impl<D: FaultDir + Drop> ClusterState<D> {
     ghost use Rattle.std.specs.Prelude.{ℕ, ◌≡◌, ◌≢◌, ◌∷◌, [], false, true, Some, Option, OnOk, OnErr, IfOk};
     ghost use Rattle.nrt_base.specs.declared.numbers.NodeNo.{NodeNo};
     ghost use Rattle.history_entries.specs.Nodes.{IsNode, is_running, version_of};
-    ghost use Rattle.history_entries.specs.Lines.{is_start, start_entry, entries_of_line};
+    ghost use Rattle.history_entries.specs.Lines.{is_start, start_entry, entries_of_line, commit_in_flight};
     ghost use Rattle.history_entries.specs.Tickets.{has_ticket, open_ticket};
     ghost use Rattle.history_entries.specs.Legal.{KeepsRule};
     ghost use Rattle.history_tables.specs.Openings.{opens_ticket, ticket_of};
@@ -23,7 +23,7 @@ impl<D: FaultDir + Drop> ClusterState<D> {
     ghost use Rattle.cluster_state.specs.Run.{IsNow, IsEnded};
     ghost use Rattle.cluster_state.specs.State.{ReadsAt};
     ghost use Rattle.cluster_state.specs.Moves.{moves, moves_tickets, EndsKey};
-    ghost use Rattle.cluster_state.specs.FileChanges.{keeps_jobs};
+    ghost use Rattle.cluster_state.specs.FileChanges.{keeps_jobs, keeps_commits};
 
     /// Opens ticket `t` of the lane of `at`, on the point that the running node `n` searches, and appends `Opened` with that
     /// point's version. `t` is above 0, and the lane has no open ticket of that number. The point's files stay until the ticket
@@ -147,6 +147,8 @@ impl<D: FaultDir + Drop> ClusterState<D> {
         requires tickets { opens_ticket event ≡ false }
         requires starts { is_start event ≡ false }
         requires jobs { (m : ℕ) → keeps_jobs event m ≡ true }
+        requires commits { (m : ℕ) → keeps_commits event m ≡ true }
+        requires flights { (m : ℕ) → commit_in_flight m (printed self.old.log) ≢ Some at }
         requires node { IsNode self.old.nodes n.0 }
         requires ends { EndsKey (printed self.old.log) (printed (shown at event ∷ self.old.log)) n.0 key }
         ensures ok { OnOk result (IsNow self.old self.new (shown at event ∷ self.old.log)) }

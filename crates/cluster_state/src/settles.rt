@@ -61,6 +61,7 @@ impl<D: FaultDir + Drop> ClusterState<D> {
     {
         self.book.is_fresh(at);
         self.is_apart(at);
+        self.has_no_commit(at);
         let version = Version(self.book.newest());
         let left = match replicas(alloc, &self.book) {
             Ok(left) => left,

@@ -3,9 +3,10 @@
 ghost use Rattle.std.specs.Prelude.{ℕ, ◌≡◌, ◌≤◌, IfOk, IsSomeAnd, None, length, []};
 ghost use Rattle.std.specs.List.{All};
 ghost use Rattle.history_entries.specs.Nodes.{IsNode};
-ghost use Rattle.cluster_state.specs.Starting.{IsEmptyDir, IsOpening, OpensPlace};
+ghost use Rattle.cluster_state.specs.Starting.{IsEmptyDir, IsUncommitted, IsOpening, OpensPlace};
 ghost use Rattle.cluster_state.specs.State.{PrimaryShows};
 ghost use Rattle.cluster_state.specs.Files.{PrimaryFiles};
+ghost use Rattle.cluster_state.specs.Names.{NamesShow};
 ghost use Rattle.cluster_places.specs.Places.{place_of};
 
 use crate::cluster::ClusterState;
@@ -33,6 +34,8 @@ fn first_primary<D: Dir + Drop>(alloc: Global, replica: Replica<D>) -> Result<Pr
     requires { IsOpening D.cells replica }
     ensures shows { IfOk result (PrimaryShows D.cells [] 1) }
     ensures files { IfOk result (PrimaryFiles (λ q. None) D.cells (λ s. 0)) }
+    ensures names { IfOk result (λ p. NamesShow D.cells [] (Node.Primary p)) }
+    ensures commits { IfOk result (λ p. IsUncommitted p.commits) }
 {
     let NodeParts {
         dir,

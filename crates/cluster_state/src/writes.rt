@@ -10,6 +10,7 @@ use history_book::Inner;
 use history_entries::Event;
 use index_primary::{FlushTask, FlushWork, PublishFault};
 use nrt_base::{At, Gen, NoMemory, NodeNo, Share};
+use replica_node::laws::files_last;
 use std::alloc::{AllocError, Global};
 
 // The number of the next operation, where there is one.
@@ -148,6 +149,7 @@ impl<D: FaultDir + Drop> ClusterState<D> {
         self.book.flies(at);
         self.book.is_flushed(at);
         self.book.is_legal();
+        files_last();
         let newest = self.book.newest();
         let generation = Gen(self.book.generation());
         self.ended = true;

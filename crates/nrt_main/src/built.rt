@@ -22,6 +22,7 @@ fn is_built_command(name: &[u8]) -> bool
         || is_word(b"open", name)
         || is_word(b"ask", name)
         || is_word(b"close", name)
+        || is_word(b"files", name)
 }
 
 /// Whether the program runs this statement so far.

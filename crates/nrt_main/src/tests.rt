@@ -185,7 +185,6 @@ fn lines_not_built(rt: HostRuntime) -> Result<(), Fail> {
         (b"nodes 3\n8 settle\njoin\n2 crash 1 0", 4),
         (b"nodes 2\n1 merge 2", 2),
         (b"nodes 2\n# x\n2 drain 1", 3),
-        (b"nodes 2\n1 files 1", 2),
     ];
     for (script, line) in rows {
         let (status, text) = run(rt.alloc(), &[b"run"], script, &[], &[])?;

@@ -1,4 +1,4 @@
-use Rattle.std.proofs.Common.{ap}
+use Rattle.std.proofs.Common.{ap, arith}
 use Rattle.index_primary.specs.States.{out_of}
 use Rattle.replica_node.specs.declared.parts.Parts.{Parts as ReplicaParts}
 use Rattle.cluster_places.specs.Outs.{want_of}
@@ -7,6 +7,14 @@ use Rattle.cluster_places.proofs.jobs.begin_job.Goals as goal
 
 pub drop_job-requires : goal.drop_job-requires
 drop_job-requires g c = out_pushed (want_of c.args.replica.now.job) (out_of c.in-Ok.state) c.args.primary.now.states c.take_state.new.self.states c.in-Ok.ensures.out c.requires.out
+
+pub start_job-requires-clause-few : goal.start_job-requires-clause-few
+start_job-requires-clause-few g c =
+    let low = c.if-begun.false in
+    let now = c.jobs-begun.ensures in
+    let dropped = c.in_ok-drop_job.ensures.jobs in
+    let noted = ap (λ (r : ReplicaParts _). r.jobs) c.new_point.ensures.others in
+    omega (arith, low, now, dropped, noted)
 
 pub returns : goal.returns
 returns g c = begins g.D.Dir.cells c.args.primary.now c.take_state.new.self c.drop_job.new.primary c.args.replica.now c.drop_job.new.replica c.new_point.new.self c.start_job.new.self c.in-Ok.state _ _ _

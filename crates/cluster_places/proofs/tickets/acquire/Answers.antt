@@ -7,4 +7,4 @@ returns-in_ok-number-in-Primary-clause-files g c =
 
 pub returns-in_ok-number-in-Replica-clause-files : goal.returns-in_ok-number-in-Replica-clause-files
 returns-in_ok-number-in-Replica-clause-files g c =
-    opened_replica g.D.Dir.cells c.args.node.now c.in-Replica.replica c.acquire-2.new.self c.in-Replica.is c.acquire-2.ensures.others c.acquire-2.ensures.point c.acquire-2.ensures.sourced
+    opened_replica g.D.Dir.cells c.args.node.now c.in-Replica.replica c.acquire-in-Replica.new.self c.in-Replica.is c.acquire-in-Replica.ensures.others c.acquire-in-Replica.ensures.point c.acquire-in-Replica.ensures.sourced

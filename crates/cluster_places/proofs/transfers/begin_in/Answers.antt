@@ -8,9 +8,6 @@ begin_job-begun-requires-clause-behind g c = (may_of MayBegin c.args.places.now.
 pub begin_job-begun-requires-clause-seen : goal.begin_job-begun-requires-clause-seen
 begin_job-begun-requires-clause-seen g c = (may_of MayBegin c.args.places.now.items c.take_primary-primary.new.places.items c.args.p.0 c.args.n.0 _ _ _ _ c.requires.stand c.take_primary-primary.ensures.places c.take_primary-primary.ensures.place c.take_replica-replica.ensures.place c.requires.may).seen
 
-pub begin_job-begun-requires-clause-few : goal.begin_job-begun-requires-clause-few
-begin_job-begun-requires-clause-few g c = (may_of MayBegin c.args.places.now.items c.take_primary-primary.new.places.items c.args.p.0 c.args.n.0 _ _ _ _ c.requires.stand c.take_primary-primary.ensures.places c.take_primary-primary.ensures.place c.take_replica-replica.ensures.place c.requires.may).few
-
 pub begin_job-begun-requires-clause-out : goal.begin_job-begun-requires-clause-out
 begin_job-begun-requires-clause-out g c = (may_of MayBegin c.args.places.now.items c.take_primary-primary.new.places.items c.args.p.0 c.args.n.0 _ _ _ _ c.requires.stand c.take_primary-primary.ensures.places c.take_primary-primary.ensures.place c.take_replica-replica.ensures.place c.requires.may).out
 

@@ -1,8 +1,13 @@
-use Rattle.std.proofs.Common.{◌≡◌, refl}
+use Rattle.std.proofs.Common.{◌≡◌, refl, ap}
 use Rattle.history_entries.specs.Nodes.{newest_version}
+use Rattle.history_book.specs.Laws.{IsFresh}
+use Rattle.cluster_state.specs.FileChanges.{is_commit_line}
 use Rattle.cluster_state.proofs.Turning.{past_has}
 use Rattle.cluster_state.proofs.Settling.{settle_begun}
 use Rattle.cluster_state.proofs.cluster.ClusterState.begin_settle.Goals as goal
+
+pub has_no_commit-requires : goal.has_no_commit-requires
+has_no_commit-requires g c = record { line = ap is_commit_line (past_has (IsFresh c.args.at) c.args.self.now _ c.self.inside.book c.self.view_is c.is_fresh.ensures).begun }
 
 pub note-requires-clause-rule : goal.note-requires-clause-rule
 note-requires-clause-rule g c = record {

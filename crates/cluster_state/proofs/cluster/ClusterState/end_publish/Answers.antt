@@ -56,7 +56,7 @@ invariant_of-self-2 g c = λ running. (
       c.generation.ensures (next_is g.D.Dir.cells c.args.self.now _ c.self.inside.book _ c.args.p c.take.result c.self.view_is c.requires.running (λ e. (c.self.invariant e).0) c.requires.node c.take.ensures.place
       c.primary_in-primary.result.0 c.primary_in-primary.result.1 c.primary_in-primary.ensures c.in-Ok.v c.in-Ok.ensures.version))
       c.requires.flight c.requires.primary c.in-Ok.ensures.point c.publish_end-ended.ensures.stays c.publish_end-ended.ensures.fresh c.publish_end-ended.ensures.drawn
-      (ap (λ (z : PrimaryParts _). z.states) c.publish_end-ended.ensures.others) c.publish_end-ended.ensures.whole,
+      c.publish_end-ended.ensures.appears c.publish_end-ended.ensures.others c.publish_end-ended.ensures.whole c.files_last.ensures,
 )
 
 pub returns-clause-ok : goal.returns-clause-ok

@@ -53,5 +53,5 @@ finish_in-requires g c = can_finish g.D.Dir.cells c.args.self.now _ _ _ _ c.sour
 
 pub invariant_of-self-in-None : goal.invariant_of-self-in-None
 invariant_of-self-in-None g c = λ running. finish_path g.D.Dir.cells c.args.self.now _ c.self.inside.book c.reserve.new.self c.show_end.new.book _ _ c.source_of-p.result c.args.row c.self.view_is c.requires.running c.self.invariant c.in_ok-reserve.ensures.log c.in_ok-reserve.ensures.nodes
-    c.show_end.ensures.log c.show_end.ensures.nodes c.is_legal-in-None.ensures.legal c.is_legal-in-None.ensures.turns c.sourced_stands.ensures c.source_of-p.ensures.node c.source_of-p.ensures.is c.requires.runs c.job_shows.ensures c.job_replica.ensures
+    c.show_end.ensures.log c.show_end.ensures.nodes c.is_legal-in-None.ensures.legal c.is_legal-in-None.ensures.turns c.sourced_stands.ensures c.files_last.ensures c.source_of-p.ensures.node c.source_of-p.ensures.is c.requires.runs c.job_shows.ensures c.job_replica.ensures
     (subst (HasNextFile (place_of c.self.inside.places.items c.args.row.job.node.0)) c.in-None.is c.in_ok-next_in.ensures) c.in_ok-finish_in-in-None.ensures

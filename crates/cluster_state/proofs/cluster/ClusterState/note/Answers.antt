@@ -9,7 +9,7 @@ invariant_of-self-2 g c = λ running. (
       c.requires.rule c.requires.line c.requires.still c.requires.apart,
   files_noted g.D.Dir.cells c.args.self.now _ c.self.inside.book c.reserve.new.self c.show.new.self _ c.args.at c.args.event
       c.self.view_is c.requires.running (λ e. (c.self.invariant e).0) (λ e. (c.self.invariant e).1) c.in_ok-reserve.ensures.log c.in_ok-reserve.ensures.nodes c.show.ensures.log c.show.ensures.nodes
-      c.show.ensures.legal c.show.ensures.turns c.requires.rule c.requires.turn c.requires.jobs,
+      c.show.ensures.legal c.show.ensures.turns c.requires.rule c.requires.turn c.requires.jobs c.requires.commits c.requires.flights,
 )
 
 pub show-requires-clause-rule : goal.show-requires-clause-rule

@@ -47,7 +47,7 @@ invariant_of-self-2 g c = λ running. (
       c.args.at c.args.n (record { 0 = 0 }) (record { 0 = c.version.result }) c.take-place.result c.hold_ticket-holding.new.place
       c.self.view_is c.requires.running (λ e. (c.self.invariant e).0) (λ e. (c.self.invariant e).1) c.in_ok-reserve.ensures.log c.in_ok-reserve.ensures.nodes c.show.ensures.log c.show.ensures.nodes c.show.ensures.legal c.show.ensures.turns c.is_fresh.ensures
       (may_open c.args.self.now _ c.self.inside.book c.args.at c.args.n (record { 0 = 0 }) (record { 0 = c.version.result }) c.self.view_is c.is_fresh.ensures c.requires.node c.requires.up c.version.ensures refl)
-      (record { count = c.take-place.ensures.count; taken = c.take-place.ensures.places; again = c.put.ensures.count; there = c.put.ensures.places }) c.take-place.ensures.place c.in_ok-holding.ensures.files,
+      (record { count = c.take-place.ensures.count; taken = c.take-place.ensures.places; again = c.put.ensures.count; there = c.put.ensures.places }) c.take-place.ensures.place c.in_ok-holding.ensures.files c.in_ok-holding.ensures.keeps (Search c.args.at) c.in_ok-holding.ensures.holds,
 )
 
 pub returns-clause-lease : goal.returns-clause-lease

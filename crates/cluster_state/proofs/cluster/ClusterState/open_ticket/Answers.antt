@@ -1,3 +1,4 @@
+use Rattle.cluster_places.specs.declared.held.Key.TheVariants.{Ticket}
 use Rattle.cluster_state.proofs.Frames.{slot_at, there_at, slot_kept}
 use Rattle.cluster_state.proofs.TicketPaths.{may_open, ticket_path, running_at}
 use Rattle.cluster_state.proofs.TicketFiles.{opened_files}
@@ -34,5 +35,5 @@ invariant_of-self-2 g c = λ running. (
       c.args.at c.args.n c.args.t (record { 0 = c.version.result }) c.take-place.result c.hold_ticket-holding.new.place
       c.self.view_is c.requires.running (λ e. (c.self.invariant e).0) (λ e. (c.self.invariant e).1) c.in_ok-reserve.ensures.log c.in_ok-reserve.ensures.nodes c.show.ensures.log c.show.ensures.nodes c.show.ensures.legal c.show.ensures.turns c.is_fresh.ensures
       (may_open c.args.self.now _ c.self.inside.book c.args.at c.args.n c.args.t (record { 0 = c.version.result }) c.self.view_is c.is_fresh.ensures c.requires.node c.requires.up c.version.ensures c.requires.free)
-      (record { count = c.take-place.ensures.count; taken = c.take-place.ensures.places; again = c.put.ensures.count; there = c.put.ensures.places }) c.take-place.ensures.place c.in_ok-holding.ensures.files,
+      (record { count = c.take-place.ensures.count; taken = c.take-place.ensures.places; again = c.put.ensures.count; there = c.put.ensures.places }) c.take-place.ensures.place c.in_ok-holding.ensures.files c.in_ok-holding.ensures.keeps (Ticket c.args.at.lane c.args.t) c.in_ok-holding.ensures.holds,
 )

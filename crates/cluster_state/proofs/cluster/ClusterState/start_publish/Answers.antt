@@ -82,7 +82,7 @@ invariant_of-self-2 g c = λ running.
           (record { count = c.take.ensures.count; taken = c.take.ensures.places; again = c.put.ensures.count; there = c.put.ensures.places })
           c.take.ensures.place c.primary_in-primary.ensures
           c.show.new.self c.args.at c.show.ensures.legal c.show.ensures.turns c.keep.new.self c.in-Ok-Some.task.seg c.in-Ok.segs c.show.ensures.log c.show.ensures.nodes c.keep.ensures.log c.keep.ensures.nodes
-          c.is_fresh.ensures (may_start c.args.self.now c.args.at c.args.p c.requires.primary c.requires.free c.requires.some) task.1 c.publish_start-started.ensures.drawn,
+          c.is_fresh.ensures (may_start c.args.self.now c.args.at c.args.p c.requires.primary c.requires.free c.requires.some) task.1 c.publish_start-started.ensures.drawn task.0.seg c.requires.names,
     )
 
 pub returns-clause-ok : goal.returns-clause-ok

@@ -8,7 +8,7 @@ take_in-requires-clause-can g c = can_take g.D.Dir.cells c.args.self.now _ c.sel
     c.job_shows.ensures c.job_replica.ensures c.requires.out c.requires.meta
 
 pub invariant_of-self-2 : goal.invariant_of-self-2
-invariant_of-self-2 g c = λ running. part_path g.D.Dir.cells c.args.self.now _ c.self.inside.book.nodes c.self.inside.book.log _ _ c.args.row c.args.part c.self.view_is c.requires.running c.self.invariant c.requires.runs
+invariant_of-self-2 g c = λ running. part_path g.D.Dir.cells c.args.self.now _ c.self.inside.book.nodes c.self.inside.book.log _ _ c.args.row c.args.part c.self.view_is c.requires.running c.self.invariant c.files_last.ensures c.requires.runs
     c.job_shows.ensures c.requires.out c.in_ok-take_in.ensures
 
 pub returns-clause-ok : goal.returns-clause-ok
