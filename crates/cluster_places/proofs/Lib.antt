@@ -1,6 +1,7 @@
 mod HeldRows
 mod JobFiles
 pub mod Keys
+mod CrashedPlaces
 pub mod OutCounts
 mod Slots
 pub mod Stepping

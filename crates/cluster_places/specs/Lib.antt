@@ -6,3 +6,4 @@ pub mod Outs
 pub mod JobChanges
 pub mod JobPlaces
 pub mod Listed
+pub mod Lives

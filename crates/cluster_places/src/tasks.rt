@@ -1,4 +1,4 @@
-//! What copies and settles hand out.
+//! What copies, settles and commits hand out.
 
 use bytes::Bytes;
 use copy_state::FileMetaData;
@@ -20,6 +20,13 @@ pub struct FileTask {
     pub name: FileName,
     pub source: Bytes,
     pub meta: FileMetaData,
+}
+
+/// A commit of a node, at the version that it searched.
+#[derive(Clone, Copy, Debug, PartialEq, Eq)]
+pub struct CommitTask {
+    pub node: NodeNo,
+    pub version: Version,
 }
 
 /// The replicas that a settle has still to look at, ascending.

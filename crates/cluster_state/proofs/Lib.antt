@@ -38,4 +38,6 @@ mod PartPaths
 mod Settling
 mod JobEnds
 mod FirstPlaces
+mod Crashing
+mod Reopening
 mod JobLaw
