@@ -396,7 +396,7 @@ module _ {D : Type 0} (cells : D → Cells) where
 
   a_stage : (source : Name → Content) (past : Past) (n : ℕ) (at : At) (s : Option Stage) → StageShows source past n (Some at) s → IsSome s
   a_stage source past n at None is = absurd is
-  a_stage source past n at (Some s) is = tt
+  a_stage source past n at (Some s) is = refl
 
 -- ---- in the terms of a call
 
@@ -508,14 +508,14 @@ module _ {D : Type 0} (cells : D → Cells) (r : Run) (ended : Bool) (b0 : Pages
         commits : start_entry at (printed r.log) ≡ Some (Committing n v) → start_entry at (printed r.log) ≢ Some Publishing
         commits started is = absurd (let both : Some (Committing n v) ≡ Some Publishing = sym started ∙ is in cc)
 
+        at_node : (m : ℕ) (w : Version) → Some (Committing n v) ≡ Some (Committing (record { 0 = m }) w) → n.0 ≡ m
+        at_node m w both = let is : n ≡ record { 0 = m } = cc in ap (λ (k : NodeNo). k.0) is
+
         elsewhere : (m : ℕ) → (n.0 == m) ≡ false → start_entry at (printed r.log) ≡ Some (Committing n v) → commit_in_flight m (printed r.log) ≢ Some at
         elsewhere m apart started flies =
             let found = commit_found r.nodes (printed r.log) (record { 0 = m }) at legal_now turns_now flies in
             let both : Some (Committing n v) ≡ Some (Committing (record { 0 = m }) found.version) = sym started ∙ found.entry in
             absurd (true≢false (sym (eq-eqb n.0 m (at_node m found.version both)) ∙ apart))
-
-        at_node : (m : ℕ) (w : Version) → Some (Committing n v) ≡ Some (Committing (record { 0 = m }) w) → n.0 ≡ m
-        at_node m w both = let is : n ≡ record { 0 = m } = cc in ap (λ (k : NodeNo). k.0) is
 
     -- ---- what is now
 
