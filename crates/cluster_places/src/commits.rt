@@ -71,8 +71,9 @@ pub fn begin_commit_in<D: Dir + Drop>(
     ensures { OnOk result (CommitsIn HasBegun D.cells n.0 places.old.items places.new.items) }
 {
     let mut place = take(places, n);
-    begin_at(alloc, &mut place.node)?;
+    let begun = begin_at(alloc, &mut place.node);
     put(places, n, place);
+    begun?;
     Ok(())
 }
 
@@ -88,7 +89,8 @@ pub fn step_commit_in<D: Dir + Drop>(
     ensures { IfOk result (λ done. CommitsIn (StepsBook done) D.cells n.0 places.old.items places.new.items) }
 {
     let mut place = take(places, n);
-    let done = step_at(alloc, &mut place.node)?;
+    let stepped = step_at(alloc, &mut place.node);
     put(places, n, place);
+    let done = stepped?;
     Ok(done)
 }

@@ -34,7 +34,8 @@ pub fn crash_in<D: FaultDir + Drop>(
     requires there { place_of places.old.items n.0 ≢ None }
     ensures { OnOk result (CrashesIn D.cells n.0 places.old.items places.new.items) }
 {
-    let Place { node, held: _ } = take(places, n);
+    let Place { node, held } = take(places, n);
+    drop(held);
     let mut dir = dir_in(node);
     let crashed = dir.crash(pick);
     let node = Node::Down(dir);
@@ -69,9 +70,16 @@ pub fn reopen_in<D: Dir + Drop>(
 {
     let Place { node, held } = take(places, n);
     let dir = dir_in(node);
-    let replica = open_on(alloc, dir)?;
-    let version = replica.version();
-    let node = Node::Replica(replica);
-    put(places, n, Place { node, held });
-    Ok(version)
+    match open_on(alloc, dir) {
+        Ok(replica) => {
+            let version = replica.version();
+            let node = Node::Replica(replica);
+            put(places, n, Place { node, held });
+            Ok(version)
+        }
+        Err(fault) => {
+            drop(held);
+            Err(fault)
+        }
+    }
 }

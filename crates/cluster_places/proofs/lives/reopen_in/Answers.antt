@@ -8,12 +8,12 @@ use Rattle.cluster_places.proofs.lives.reopen_in.Goals as goal
 pub open_on-requires : goal.open_on-requires
 open_on-requires g c = subst (λ d. IsSettledOn (g.D.Dir.cells d)) (sym c.dir_in-dir.ensures) (c.requires.settled c.take-node.result c.take-node.ensures.place)
 
-pub returns : goal.returns
-returns g c = record {
+pub returns-in-Ok : goal.returns-in-Ok
+returns-in-Ok g c = record {
   place = c.take-node.result;
   there = c.take-node.ensures.place;
-  replica = c.in_ok-replica.replica;
-  opens = subst (λ d. OpensOn g.D.Dir.cells d c.in_ok-replica.replica) c.dir_in-dir.ensures c.in_ok-replica.ensures;
+  replica = c.in-Ok.replica;
+  opens = subst (λ d. OpensOn g.D.Dir.cells d c.in-Ok.replica) c.dir_in-dir.ensures c.in-Ok.ensures;
   version = sym c.version-version.ensures.version;
   moves = moved_one _ _ _ c.args.n.0 _ c.take-node.ensures.count c.take-node.ensures.places c.put.ensures.count c.put.ensures.places;
 }
