@@ -14,6 +14,6 @@ mod transfers;
 pub use held::{Held, Key};
 pub use lists::names_in;
 pub use nodes::{Node, Place, primary_in, put, take};
-pub use tasks::{CopyTask, FileTask, SettleTask};
+pub use tasks::{CommitTask, CopyTask, FileTask, SettleTask};
 pub use tickets::{give_ticket_back, hold_ticket, lease_in};
 pub use transfers::{begin_in, finish_in, next_in, read_in, take_in};

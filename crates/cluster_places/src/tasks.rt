@@ -1,4 +1,4 @@
-//! What copies and settles hand out.
+//! What copies, settles and commits hand out.
 
 use bytes::Bytes;
 use copy_state::FileMetaData;
@@ -28,4 +28,11 @@ pub struct SettleTask {
     /// The version that was the newest at its start.
     pub version: Version,
     pub left: Vec<NodeNo>,
+}
+
+/// A commit of a node, of the version that it searched at the start of the line.
+#[derive(Clone, Copy, Debug, PartialEq, Eq)]
+pub struct CommitTask {
+    pub node: NodeNo,
+    pub version: Version,
 }

@@ -12,3 +12,4 @@ pub mod FileChanges
 pub mod Copies
 pub mod Settles
 pub mod Lists
+pub mod Lives
