@@ -55,9 +55,9 @@ same_node : (m n : NodeNo) (v w : Version) → ◌≡◌ {A = Option Event} (Som
 same_node m n v w same = cc
 
 -- it is in flight at no node
-pub lost_commit : (size : ℕ) (past : Past) (at : At) (n : NodeNo) (v : Version) → IsLegalPast size past → AreInTurn past → start_entry at past ≡ Some (Committing n v)
+pub lost_apart : (size : ℕ) (past : Past) (at : At) (n : NodeNo) (v : Version) → IsLegalPast size past → AreInTurn past → start_entry at past ≡ Some (Committing n v)
     → (crashes n.0 past == crashes n.0 (before_start at past)) ≡ false → (m : ℕ) → commit_in_flight m past ≢ Some at
-lost_commit size past at n v legal turns is crashed m flight =
+lost_apart size past at n v legal turns is crashed m flight =
     let node : NodeNo = record { 0 = m } in
     let found = commit_found size past node at legal turns flight in
     let same : node ≡ n = same_node node n found.version v (sym found.entry ∙ is) in
@@ -71,16 +71,16 @@ module _ (at : At) (n : NodeNo) (v : Version) (old new : Run) where
   abbrev Survives : Bool
   Survives = crashes n.0 (printed old.log) == crashes n.0 (before_start at (printed old.log))
 
-  pub commit_lost : Survives ≡ false → LineRefused at Lost old new → CommitSteps at n v old new Done
-  commit_lost crashed now = subst (λ (b : Bool). IsNow old new (shown at (if not b then Refused Lost else Committed n v) ∷ old.log)) (sym crashed) now
+  pub lost_ends : Survives ≡ false → LineRefused at Lost old new → CommitSteps at n v old new Done
+  lost_ends crashed now = subst (λ (b : Bool). IsNow old new (shown at (if not b then Refused Lost else Committed n v) ∷ old.log)) (sym crashed) now
 
-  pub commit_ends : Survives ≡ true → (b : Bool) → b ≡ true → StepsCommit at n v old new b → CommitSteps at n v old new Done
-  commit_ends alive true is now = subst (λ (b : Bool). IsNow old new (shown at (if not b then Refused Lost else Committed n v) ∷ old.log)) (sym alive) now
-  commit_ends alive false is now = absurd (true≢false (sym is))
+  pub commit_done : Survives ≡ true → (b : Bool) → b ≡ true → StepsCommit at n v old new b → CommitSteps at n v old new Done
+  commit_done alive true is now = subst (λ (b : Bool). IsNow old new (shown at (if not b then Refused Lost else Committed n v) ∷ old.log)) (sym alive) now
+  commit_done alive false is now = absurd (true≢false (sym is))
 
-  pub commit_goes : Survives ≡ true → (b : Bool) → b ≡ false → StepsCommit at n v old new b → CommitSteps at n v old new (Work tt)
-  commit_goes alive false is now = (now, ap not alive)
-  commit_goes alive true is now = absurd (true≢false is)
+  pub commit_goes_on : Survives ≡ true → (b : Bool) → b ≡ false → StepsCommit at n v old new b → CommitSteps at n v old new (Work tt)
+  commit_goes_on alive false is now = (now, ap not alive)
+  commit_goes_on alive true is now = absurd (true≢false is)
 
 -- ---- a reopening
 
