@@ -15,7 +15,7 @@ use Rattle.history_entries.specs.Lines.{entries_of_line, start_entry, before_sta
 use Rattle.history_entries.specs.Rules.{StartedSearch}
 use Rattle.history_entries.specs.Legal.{IsLegalPast}
 use Rattle.history_book.specs.Jobs.{StartsJob}
-use Rattle.history_book.specs.Log.{printed, shown}
+use Rattle.history_book.specs.Log.{Log, printed, shown}
 use Rattle.history_book.specs.Turns.{AreInTurn}
 use Rattle.history_book.proofs.FreshLaws.{fresh}
 use Rattle.history_book.proofs.FoundLaws.{commit_found}
@@ -66,6 +66,24 @@ lost_apart size past at n v legal turns is crashed m flight =
     true≢false (sym (eq-eqb (crashes n.0 past) (crashes n.0 (before_start at past)) alive) ∙ crashed)
 
 -- ---- how a commit goes on
+
+-- the node of a commit in flight runs
+pub flying_runs : (n : ℕ) (at : At) (log k l : Log) → k ≡ log → l ≡ log → commit_in_flight n (printed k) ≡ Some at → ((m : ℕ) → is_running m (printed l) ≡ false → commit_in_flight m (printed l) ≡ None)
+    → is_running n (printed log) ≡ true
+flying_runs n at log k l like same flight idle = tells (is_running n (printed log)) refl
+  where
+    none : is_running n (printed log) ≡ false → commit_in_flight n (printed log) ≡ None
+    none = subst (λ (x : Log). is_running n (printed x) ≡ false → commit_in_flight n (printed x) ≡ None) same (idle n)
+
+    flies : commit_in_flight n (printed log) ≡ Some at
+    flies = subst (λ (x : Log). commit_in_flight n (printed x) ≡ Some at) like flight
+
+    tells : (b : Bool) → is_running n (printed log) ≡ b → is_running n (printed log) ≡ true
+    tells true is = is
+    tells false is = absurd (clash (sym flies ∙ none is))
+      where
+        clash : ◌≡◌ {A = Option At} (Some at) None → ⊥
+        clash same = absurd (cc)
 
 module _ (at : At) (n : NodeNo) (v : Version) (old new : Run) where
   abbrev Survives : Bool

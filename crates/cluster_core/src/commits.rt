@@ -62,6 +62,7 @@ pub fn commit_step<D: FaultDir + Drop>(
         return Ok(Turn::Done);
     }
     state.book().commit_flies(at, n, v);
+    state.book().is_idle();
     if state.step_commit(alloc, at, n, v)? {
         Ok(Turn::Done)
     } else {

@@ -6,3 +6,5 @@ pub mod Outs
 pub mod JobChanges
 pub mod JobPlaces
 pub mod Listed
+pub mod Lives
+pub mod Commits

@@ -44,6 +44,12 @@ module _ {D : Type 0} where
   searchers_of (Replica r) = Some r.searchers
   searchers_of (Down d) = None
 
+  -- its directory
+  abbrev pub dir_of : Node D → D
+  dir_of (Primary p) = p.dir
+  dir_of (Replica r) = r.dir
+  dir_of (Down d) = d
+
   abbrev pub disk_of : Node D → Disk D
   disk_of (Primary p) = record { book = Some p.commits; dir = None }
   disk_of (Replica r) = record { book = Some r.commits; dir = None }

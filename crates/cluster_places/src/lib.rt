@@ -2,17 +2,21 @@
 //! what calls of the cluster hand out.
 #![tactic(auto)]
 
+mod commits;
 mod held;
 mod jobs;
 mod lists;
+mod lives;
 mod nodes;
 mod states;
 mod tasks;
 mod tickets;
 mod transfers;
 
+pub use commits::{begin_commit_in, step_commit_in};
 pub use held::{Held, Key};
 pub use lists::names_in;
+pub use lives::{crash_in, reopen_in};
 pub use nodes::{Node, Place, primary_in, put, take};
 pub use tasks::{CommitTask, CopyTask, FileTask, SettleTask};
 pub use tickets::{give_ticket_back, hold_ticket, lease_in};

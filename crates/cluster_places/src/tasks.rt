@@ -22,6 +22,13 @@ pub struct FileTask {
     pub meta: FileMetaData,
 }
 
+/// A commit of a node, at the version that it searched.
+#[derive(Clone, Copy, Debug, PartialEq, Eq)]
+pub struct CommitTask {
+    pub node: NodeNo,
+    pub version: Version,
+}
+
 /// The replicas that a settle has still to look at, ascending.
 #[derive(Debug, Drop)]
 pub struct SettleTask {

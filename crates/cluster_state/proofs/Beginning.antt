@@ -5,6 +5,7 @@ use Rattle.std.specs.List.{All, flat_map}
 use Rattle.std.proofs.lemmas.Bool.{eqb-true, eq-eqb}
 use Rattle.std.proofs.lemmas.Bool.Decides.{nat_tests}
 use Rattle.nrt_base.specs.declared.numbers.At.{At}
+use Rattle.nrt_base.specs.declared.numbers.Gen.{Gen}
 use Rattle.nrt_base.specs.declared.numbers.NodeNo.{NodeNo}
 use Rattle.nrt_base.specs.declared.numbers.Version.{Version}
 use Rattle.nrt_base.specs.declared.doc.Doc.{Doc}

@@ -88,7 +88,7 @@ ended_none job past now (Some row) is = tests (not row.ended && nat_le (crashed_
         let node : (row.job.node.0 == job.node.0) ≡ true = eq-eqb row.job.node.0 job.node.0 (ap (λ (j : Job). j.node.0) same_job) in
         let number : (row.job.number == job.number) ≡ true = eq-eqb row.job.number job.number (ap (λ (j : Job). j.number) same_job) in
         let line : (row.job.at.line.0 == job.at.line.0) ≡ true = eq-eqb row.job.at.line.0 job.at.line.0 (ap (λ (j : Job). j.at.line.0) same_job) in
-        ap (λ (b : Bool × (Bool × Bool)). while_going job.node.0 now (Some (if (b.0 && b.1) && b.2 then record row { ended = true } else row))) (λ i. (line i, (node i, number i)))
+        ap (λ (b : Bool × Bool × Bool). while_going job.node.0 now (Some (if (b.0 && b.1) && b.2 then record row { ended = true } else row))) (λ i. (line i, node i, number i))
     tests false is = absurd (cc)
 
 -- a job of a line that did not start as a publish

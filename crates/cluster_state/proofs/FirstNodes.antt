@@ -113,7 +113,7 @@ no_segments : AreSegmentsOf [] []
 no_segments = record { sound = λ k d lt. absurd (omega (arith, lt)); apart = λ i j d lt in'. absurd (omega (arith, lt, in')); documents = search rules }
 
 -- it is of no documents, whatever a directory has
-opening_stands : (reads : Name → Content) (infos : Infos) → infos ≡ opening_infos → StandsFor reads infos []
+pub opening_stands : (reads : Name → Content) (infos : Infos) → infos ≡ opening_infos → StandsFor reads infos []
 opening_stands reads infos is = subst (λ (i : Infos). StandsFor reads i []) (sym is) (record { segs = []; stands = record { each = tt; stand = no_segments } })
 
 -- it has no file

@@ -38,4 +38,7 @@ mod PartPaths
 mod Settling
 mod JobEnds
 mod FirstPlaces
+mod Crashing
+mod Reopening
+mod Committing
 mod JobLaw

@@ -1,5 +1,5 @@
 -- What each path of the primary leaves of files and jobs, from what its calls say.
-use Rattle.std.proofs.Common.{◌≡◌, ◌≢◌, ◌⊎◌, ◌≤◌, ◌<◌, ◌+◌, inl, inr, ℕ, Bool, true, false, List, [], ◌∷◌, ◌++◌, Some, None, Option, Vec, Global, refl, ap, ◌∙◌, sym, subst, arith}
+use Rattle.std.proofs.Common.{◌≡◌, ◌≢◌, ◌⊎◌, ◌≤◌, ◌<◌, ◌+◌, inl, inr, ℕ, Bool, true, false, List, [], ◌∷◌, ◌++◌, Some, None, Option, Vec, Global, refl, ap, ◌∙◌, sym, subst, arith, zero, suc}
 use Rattle.std.proofs.lemmas.Bool.Decides.{nat_tests}
 use Rattle.std.specs.List.{Contains}
 use Rattle.std.proofs.lemmas.List.Elements.{Contains-append_cases, Contains-append_right}
@@ -51,6 +51,11 @@ use Rattle.cluster_state.proofs.JobFrames.{job_stays}
 drawn_generation : (b : Bool) (infos : Infos) → (infos_drawn b infos).generation ≡ infos.generation
 drawn_generation true infos = refl
 drawn_generation false infos = refl
+
+-- what a list of one number has
+only : (x k : ℕ) → Contains (x ∷ []) k → x ≡ k
+only x k (zero, lt, e) = e
+only x k (suc i, lt, e) = absurd (omega (arith, lt))
 
 module _ {D : Type 0} (cells : D → Cells) where
   -- ---- the primary's files

@@ -43,11 +43,11 @@ pub record CopyShows (source : Name → Content) (log : Log) (n : ℕ) (job : Jo
   pub stands : StandsFor source j.infos (documents_at (printed log) job.version.0)
   pub handed : (q : Name) (bytes : List ℕ) → file_out job.at n job.number q log ≡ Some bytes → source q ≡ Some bytes
 
--- a replica has a job exactly where the log shows one that runs there, and it is that one
+-- a replica has the job that the log shows to run there; where none runs it may have one that the crash of the primary left
 abbrev pub JobShows : (Name → Content) → Log → ℕ → Option Job → Option PointJob → Type 0
-JobShows source log n None None = ⊤
+JobShows source log n None j = ⊤
 JobShows source log n (Some job) (Some j) = CopyShows source log n job j
-JobShows source log n _ _ = ⊥
+JobShows source log n (Some job) None = ⊥
 
 -- the job is of this line and for this version
 abbrev pub IsJobFor : At → ℕ → Job → Type 0

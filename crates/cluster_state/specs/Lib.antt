@@ -1,4 +1,5 @@
 pub mod Run
+pub mod Lives
 pub mod Lookups
 pub mod State
 pub mod Moves
@@ -12,4 +13,3 @@ pub mod FileChanges
 pub mod Copies
 pub mod Settles
 pub mod Lists
-pub mod Lives

@@ -1,5 +1,5 @@
--- What commits and reopenings of nodes add to the log.
-use Rattle.std.specs.Prelude.{◌≡◌, ◌∷◌, Bool, true, false}
+-- What commits, crashes and reopenings of nodes leave behind.
+use Rattle.std.specs.Prelude.{ℕ, ◌≡◌, ◌∷◌, Bool, true, false}
 use Rattle.nrt_base.specs.declared.numbers.At.{At}
 use Rattle.nrt_base.specs.declared.numbers.NodeNo.{NodeNo}
 use Rattle.nrt_base.specs.declared.numbers.Version.{Version}
@@ -10,18 +10,18 @@ use Rattle.history_book.specs.Log.{printed, shown}
 use Rattle.cluster_places.specs.declared.tasks.CommitTask.{CommitTask}
 use Rattle.cluster_state.specs.Run.{Run, IsNow}
 
--- a commit of the node began, at the version that it searches
+-- a commit of the version that the node searches begins
 pub record BeginsCommit (at : At) (n : NodeNo) (old new : Run) (task : CommitTask) : Type 0 where
   pub node : task.node ≡ n
   pub version : task.version.0 ≡ version_of n.0 (printed old.log)
   pub now : IsNow old new (shown at (Committing n task.version) ∷ old.log)
 
--- a disk call of a commit was made: nothing of it is seen, or it was the last one, and the commit is acknowledged
+-- a call of the directory was made for a commit of this version, the last one or not
 abbrev pub StepsCommit : At → NodeNo → Version → Run → Run → Bool → Type 0
 StepsCommit at n v old new false = IsNow old new old.log
 StepsCommit at n v old new true = IsNow old new (shown at (Committed n v) ∷ old.log)
 
--- the node runs again, at a version that a reopening may find
+-- the node reopened at a version at which it may
 pub record Reopens (at : At) (n : NodeNo) (old new : Run) : Type 0 where
   pub version : Version
   pub now : IsNow old new (shown at (Reopened n version) ∷ old.log)

@@ -4,6 +4,7 @@
 mod cluster;
 mod copies;
 mod laws;
+mod lives;
 mod lists;
 mod reads;
 mod settles;
