@@ -36,10 +36,3 @@ pub struct SettleTask {
     pub version: Version,
     pub left: Vec<NodeNo>,
 }
-
-/// A commit of a node, of the version that it searched at the start of the line.
-#[derive(Clone, Copy, Debug, PartialEq, Eq)]
-pub struct CommitTask {
-    pub node: NodeNo,
-    pub version: Version,
-}
