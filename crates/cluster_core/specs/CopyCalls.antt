@@ -68,8 +68,8 @@ abbrev pub IsBeingCopied : Log → ℕ → Type 0
 IsBeingCopied log n = IsSomeAnd (job_at n log) (λ job. job.version.0 ≡ newest_version (printed log))
 
 -- none runs there
-abbrev pub IsUncopied : Log → ℕ → Type 0
-IsUncopied log n = IsBeingCopied log n → ⊥
+abbrev pub IsNotBeingCopied : Log → ℕ → Type 0
+IsNotBeingCopied log n = IsBeingCopied log n → ⊥
 
 -- the copy is not refused, and its node is behind the newest version
 pub record IsBehind (at : At) (n : NodeNo) (past : Past) : Type 0 where
@@ -79,7 +79,7 @@ pub record IsBehind (at : At) (n : NodeNo) (past : Past) : Type 0 where
 -- When a copy starts so: a job begins and it waits only at a node that is behind; it waits exactly where a job for the newest version
 -- runs there, and it is answered without a refusal only where the node is not behind.
 abbrev pub CopyStartsWhen : At → NodeNo → Log → Turn CopyTask → Type 0
-CopyStartsWhen at n log (Work task) = IsBehind at n (printed log) × IsUncopied log n.0
+CopyStartsWhen at n log (Work task) = IsBehind at n (printed log) × IsNotBeingCopied log n.0
 CopyStartsWhen at n log Done = refusal (Copy n) at.lane.0 (printed log) ≡ None → version_of n.0 (printed log) ≡ newest_version (printed log)
 CopyStartsWhen at n log Busy = IsBehind at n (printed log) × IsBeingCopied log n.0
 
@@ -185,7 +185,7 @@ pub record SettleWaits (at : At) (left : SettleTask) (old : Run) (n : NodeNo) : 
 -- while one does, or its line is answered
 abbrev pub SettleGoesOn : At → Run → Run → SettleTask → Turn CopyTask → Type 0
 SettleGoesOn at old new left (Work task) = BeginsJob at task.node old new old.log task × IsSettling new.nodes (printed new.log) at left × SettleWaits at left old task.node
-    × IsUncopied old.log task.node.0
+    × IsNotBeingCopied old.log task.node.0
 SettleGoesOn at old new left Done = (e : Event) × IsNow old new (shown at e ∷ old.log) × (e ≡ settle_end_event at left.version (printed old.log))
 SettleGoesOn at old new left Busy = (new ≡ old) × ((n : NodeNo) × IsUpToDate n.0 old.log × IsBeingCopied old.log n.0 × SettleWaits at left old n)
 

@@ -17,7 +17,7 @@ ghost use Rattle.cluster_state.specs.Run.{IsEnded};
 ghost use Rattle.cluster_state.specs.Copies.{JobRuns};
 ghost use Rattle.cluster_state.specs.FilesOut.{file_out};
 ghost use Rattle.cluster_core.specs.Calls.{LineRefused};
-ghost use Rattle.cluster_core.specs.CopyCalls.{IsBeingCopied, IsUncopied, CopyStarts, CopyStartsWhen, IsSourceFor, IsOpenJob, standing_of, MayEnd, stopped_log, Stops, RunsOn, JobGoesOn, JobSteps, JobHasPart, PartArrives};
+ghost use Rattle.cluster_core.specs.CopyCalls.{IsBeingCopied, IsNotBeingCopied, CopyStarts, CopyStartsWhen, IsSourceFor, IsOpenJob, standing_of, MayEnd, stopped_log, Stops, RunsOn, JobGoesOn, JobSteps, JobHasPart, PartArrives};
 
 use crate::refusals::refuse_turn;
 use crate::standing::Standing;
@@ -35,7 +35,7 @@ use std::alloc::Global;
 pub fn is_being_copied(book: &Book, n: NodeNo) -> bool
     requires { IsNode book.now.nodes n.0 }
     ensures is { IsTrue result ↔ IsBeingCopied book.now.log n.0 }
-    ensures none { result ≡ false → IsUncopied book.now.log n.0 }
+    ensures none { result ≡ false → IsNotBeingCopied book.now.log n.0 }
 {
     match book.job_at(n) {
         None => false,

@@ -44,48 +44,60 @@ module _ {D : Type 0} (cells : D → Cells) where
   -- the primary begins a commit
   pub primary_begins : (law : BeginLaw) (x : Node D) (p q : PrimaryParts D) → x ≡ Primary p → q ≡ record p { files = q.files; commits = q.commits } → KeepsHeldBytes cells p q → IsPrimary cells q
       → HasBegun p.point_infos p.commits q.commits → AltersCommits HasBegun cells x (Primary q)
-  primary_begins law x p q is others stays whole begun = subst (λ (z : Node D). AltersCommits HasBegun cells z (Primary q)) (sym is) (record {
-    others = others ∙ ap (λ (d : D). record p { dir = d; files = q.files; commits = q.commits }) (sym (ap (λ (z : PrimaryParts D). z.dir) others));
-    whole = whole;
-    stays = stays;
-    no_more = λ was. law (cells p.dir) p.files q.files (primary_names p) p.commits q.commits p.point_infos p.searchers.point.names was.node
-        (subst (λ (x : D × List Name). IsWholeNode (cells x.0) q.files x.1 q.commits) (λ i. (ap (λ (z : PrimaryParts D). z.dir) others i, ap (λ (z : PrimaryParts D). primary_names z) others i)) whole.node)
-        begun was.searched.files (λ name. point_named p name);
-    appears = only_none (IsNameInFlight p.commits.stage) (cells p.dir) (cells q.dir) (record { each = λ name none. ap (λ (z : PrimaryParts D). (cells z.dir name).now) others ∙ none });
-  }, begun)
+  primary_begins law x p q is others stays whole begun = subst (λ (z : Node D). AltersCommits HasBegun cells z (Primary q)) (sym is) (
+    record {
+      others = others ∙ ap (λ (d : D). record p { dir = d; files = q.files; commits = q.commits }) (sym (ap (λ (z : PrimaryParts D). z.dir) others));
+      whole = whole;
+      stays = stays;
+      no_more = λ was. law (cells p.dir) p.files q.files (primary_names p) p.commits q.commits p.point_infos p.searchers.point.names was.node
+          (subst (λ (x : D × List Name). IsWholeNode (cells x.0) q.files x.1 q.commits) (λ i. (ap (λ (z : PrimaryParts D). z.dir) others i, ap (λ (z : PrimaryParts D). primary_names z) others i)) whole.node)
+          begun was.searched.files (λ name. point_named p name);
+      appears = only_none (IsNameInFlight p.commits.stage) (cells p.dir) (cells q.dir) (record { each = λ name none. ap (λ (z : PrimaryParts D). (cells z.dir name).now) others ∙ none });
+    },
+    begun,
+  )
 
   -- or makes the next call for it
   pub primary_steps : (law : StepLaw) (x : Node D) (p q : PrimaryParts D) (done : Bool) → x ≡ Primary p → q ≡ record p { dir = q.dir; files = q.files; commits = q.commits } → KeepsHeldBytes cells p q
       → AppearsOnly (IsNameInFlight p.commits.stage) (cells p.dir) (cells q.dir) → IsPrimary cells q → q.commits ≡ book_after p.commits → done ≡ is_last_step p.commits.stage → AltersCommits (StepsBook done) cells x (Primary q)
-  primary_steps law x p q done is others stays appears whole after last = subst (λ (z : Node D). AltersCommits (StepsBook done) cells z (Primary q)) (sym is) (record {
-    others = others;
-    whole = whole;
-    stays = stays;
-    no_more = λ was. law (cells p.dir) (cells q.dir) p.files q.files (primary_names p) p.commits q.commits was.node
-        (subst (λ (names : List Name). IsWholeNode (cells q.dir) q.files names q.commits) (ap (λ (z : PrimaryParts D). primary_names z) others) whole.node) after;
-    appears = appears;
-  }, record { after = after; ends = last })
+  primary_steps law x p q done is others stays appears whole after last = subst (λ (z : Node D). AltersCommits (StepsBook done) cells z (Primary q)) (sym is) (
+    record {
+      others = others;
+      whole = whole;
+      stays = stays;
+      no_more = λ was. law (cells p.dir) (cells q.dir) p.files q.files (primary_names p) p.commits q.commits was.node
+          (subst (λ (names : List Name). IsWholeNode (cells q.dir) q.files names q.commits) (ap (λ (z : PrimaryParts D). primary_names z) others) whole.node) after;
+      appears = appears;
+    },
+    record { after = after; ends = last },
+  )
 
   -- the same of a replica
   pub replica_begins : (x : Node D) (r s : ReplicaParts D) → x ≡ Replica r → s ≡ record r { files = s.files; commits = s.commits } → IsWholeReplica cells s → (AreStanding cells r → AreStanding cells s) → KeepsSource cells r s
       → HasBegun r.infos r.commits s.commits → AltersCommits HasBegun cells x (Replica s)
-  replica_begins x r s is others whole standing sourced begun = subst (λ (z : Node D). AltersCommits HasBegun cells z (Replica s)) (sym is) (record {
-    others = others ∙ ap (λ (d : D). record r { dir = d; files = s.files; commits = s.commits }) (sym (ap (λ (z : ReplicaParts D). z.dir) others));
-    whole = whole;
-    standing = standing;
-    sourced = sourced;
-    appears = only_none (IsNameInFlight r.commits.stage) (cells r.dir) (cells s.dir) (record { each = λ name none. ap (λ (z : ReplicaParts D). (cells z.dir name).now) others ∙ none });
-  }, begun)
+  replica_begins x r s is others whole standing sourced begun = subst (λ (z : Node D). AltersCommits HasBegun cells z (Replica s)) (sym is) (
+    record {
+      others = others ∙ ap (λ (d : D). record r { dir = d; files = s.files; commits = s.commits }) (sym (ap (λ (z : ReplicaParts D). z.dir) others));
+      whole = whole;
+      standing = standing;
+      sourced = sourced;
+      appears = only_none (IsNameInFlight r.commits.stage) (cells r.dir) (cells s.dir) (record { each = λ name none. ap (λ (z : ReplicaParts D). (cells z.dir name).now) others ∙ none });
+    },
+    begun,
+  )
 
   pub replica_steps : (x : Node D) (r s : ReplicaParts D) (done : Bool) → x ≡ Replica r → s ≡ record r { dir = s.dir; files = s.files; commits = s.commits } → IsWholeReplica cells s → (AreStanding cells r → AreStanding cells s) → KeepsSource cells r s
       → AppearsOnly (IsNameInFlight r.commits.stage) (cells r.dir) (cells s.dir) → s.commits ≡ book_after r.commits → done ≡ is_last_step r.commits.stage → AltersCommits (StepsBook done) cells x (Replica s)
-  replica_steps x r s done is others whole standing sourced appears after last = subst (λ (z : Node D). AltersCommits (StepsBook done) cells z (Replica s)) (sym is) (record {
-    others = others;
-    whole = whole;
-    standing = standing;
-    sourced = sourced;
-    appears = appears;
-  }, record { after = after; ends = last })
+  replica_steps x r s done is others whole standing sourced appears after last = subst (λ (z : Node D). AltersCommits (StepsBook done) cells z (Replica s)) (sym is) (
+    record {
+      others = others;
+      whole = whole;
+      standing = standing;
+      sourced = sourced;
+      appears = appears;
+    },
+    record { after = after; ends = last },
+  )
 
   -- ---- in a place
 

@@ -451,18 +451,18 @@ module _ {D : Type 0} (cells : D → Cells) (r : Run) (ended : Bool) (b0 : Pages
         let turn : InTurn (printed r.log) at (Committing n v) = fresh_turn (printed r.log) at (Committing n v) fresh_now tt in
         let now : Log = shown at (Committing n v) ∷ r.log in
         let places = λ (m : ℕ) (z : Place D) (has : PlaceShows cells r.log m z). place_same cells r.log (shown at (Committing n v) ∷ r.log) m z
-            (same r.nodes m (printed r.log) at (Committing n v) legal_now turns_now rule (λ here. not_flying r.nodes (printed r.log) at legal_now turns_now (unstarted fresh_now)) refl)
-            (fewer (printed r.log) at (Committing n v) m refl) (λ a h is. is) has in
+        (same r.nodes m (printed r.log) at (Committing n v) legal_now turns_now rule (λ here. not_flying r.nodes (printed r.log) at legal_now turns_now (unstarted fresh_now)) refl)
+        (fewer (printed r.log) at (Committing n v) m refl) (λ a h is. is) has in
         let stay = λ (m : ℕ) (apart : (n.0 == m) ≡ false). commits_shown (printed r.log) at m r.nodes (Committing n v) legal_now turns_now rule turn (ap not apart) (fresh_flights r.nodes (printed r.log) at legal_now turns_now fresh_now.begun m) in
         let jobs = λ (m : ℕ) (other : is_at (primary_of (printed r.log)) m ≡ false). same_shown r.nodes r.log at m legal_now turns_now other (Committing n v) rule turn refl in
         let book = λ (infos : Infos) (c d : CommitBook) (point : IsPastPoint files.source (printed r.log) infos) (is : infos.version.0 ≡ version_of n.0 (printed r.log)) (begins : HasBegun infos c d) (has : BookShows files.source (printed r.log) n.0 c).
-            book_begins files.source r.nodes (printed r.log) at n v legal_now rule infos c d point (is ∙ sym version) begins has in
+        book_begins files.source r.nodes (printed r.log) at n v legal_now rule infos c d point (is ∙ sym version) begins has in
         let grows = grows_shown r.nodes (printed r.log) at (Committing n v) legal_now rule in
         let handed = λ (a : At) (none : start_entry a (printed (shown at (Committing n v) ∷ r.log)) ≡ None). shows.handed a (start_back a (record { at = at; event = Committing n v }) (printed r.log) none) in (
           now_is cells (shown at (Committing n v) ∷ r.log) b2.log r.nodes b2.nodes new (log_is b1 b2 (Committing n v) e1 e2) (size_is b1 b2 n1 n2)
-          (commit_shows cells HasBegun r.nodes r.log (shown at (Committing n v) ∷ r.log) old new n.0 b lasting node shows files grows jobs stay places handed book),
+              (commit_shows cells HasBegun r.nodes r.log (shown at (Committing n v) ∷ r.log) old new n.0 b lasting node shows files grows jobs stay places handed book),
           files_is cells (shown at (Committing n v) ∷ r.log) b2.log r.nodes b2.nodes new (log_is b1 b2 (Committing n v) e1 e2) (size_is b1 b2 n1 n2)
-          (commit_files cells HasBegun r.nodes r.log (shown at (Committing n v) ∷ r.log) old new n.0 b lasting node shows files grows jobs stay places handed book),
+              (commit_files cells HasBegun r.nodes r.log (shown at (Committing n v) ∷ r.log) old new n.0 b lasting node shows files grows jobs stay places handed book),
         )
       where
         unstarted : IsFresh at (printed r.log) → start_entry at (printed r.log) ≢ Some Publishing
@@ -474,14 +474,14 @@ module _ {D : Type 0} (cells : D → Cells) (r : Run) (ended : Bool) (b0 : Pages
         let log : b1.log ≡ r.log = e1 ∙ ap (λ (x : Run). x.log) view in
         let size : b1.nodes ≡ r.nodes = n1 ∙ ap (λ (x : Run). x.nodes) view in
         let book = λ (infos : Infos) (c d : CommitBook) (point : IsPastPoint files.source (printed r.log) infos) (is : infos.version.0 ≡ version_of n.0 (printed r.log)) (steps : StepsBook false infos c d) (has : BookShows files.source (printed r.log) n.0 c).
-            book_goes files.source r.nodes (printed r.log) at n v legal_now infos c d steps has in
+        book_goes files.source r.nodes (printed r.log) at n v legal_now infos c d steps has in
         let places = λ (m : ℕ) (z : Place D) (has : PlaceShows cells r.log m z). has in
         let stay = λ (m : ℕ) (apart : (n.0 == m) ≡ false). commits_alone (printed r.log) m in
         let jobs = λ (m : ℕ) (other : is_at (primary_of (printed r.log)) m ≡ false). job_stays r.log m in (
           now_is cells r.log b1.log r.nodes b1.nodes new log size
-          (commit_shows cells (StepsBook false) r.nodes r.log r.log old new n.0 b lasting node shows files (grows_none (printed r.log)) jobs stay places (λ a none. shows.handed a none) book),
+              (commit_shows cells (StepsBook false) r.nodes r.log r.log old new n.0 b lasting node shows files (grows_none (printed r.log)) jobs stay places (λ a none. shows.handed a none) book),
           files_is cells r.log b1.log r.nodes b1.nodes new log size
-          (commit_files cells (StepsBook false) r.nodes r.log r.log old new n.0 b lasting node shows files (grows_none (printed r.log)) jobs stay places (λ a none. shows.handed a none) book),
+              (commit_files cells (StepsBook false) r.nodes r.log r.log old new n.0 b lasting node shows files (grows_none (printed r.log)) jobs stay places (λ a none. shows.handed a none) book),
         )
 
     -- the last call
@@ -491,18 +491,18 @@ module _ {D : Type 0} (cells : D → Cells) (r : Run) (ended : Bool) (b0 : Pages
         let rule : KeepsRule r.nodes (printed r.log) at (Committed n v) = subst (λ (x : Run). MayCommit x.nodes (printed x.log) at n v) view may in
         let turn : InTurn (printed r.log) at (Committed n v) = record { once = tt; flight = flight } in
         let places = λ (m : ℕ) (z : Place D) (has : PlaceShows cells r.log m z). place_same cells r.log (shown at (Committed n v) ∷ r.log) m z
-            (same r.nodes m (printed r.log) at (Committed n v) legal_now turns_now rule (λ here. not_flying r.nodes (printed r.log) at legal_now turns_now (commits started)) refl)
-            (fewer (printed r.log) at (Committed n v) m refl) (λ a h is. is) has in
+        (same r.nodes m (printed r.log) at (Committed n v) legal_now turns_now rule (λ here. not_flying r.nodes (printed r.log) at legal_now turns_now (commits started)) refl)
+        (fewer (printed r.log) at (Committed n v) m refl) (λ a h is. is) has in
         let stay = λ (m : ℕ) (apart : (n.0 == m) ≡ false). commits_shown (printed r.log) at m r.nodes (Committed n v) legal_now turns_now rule turn (ap not apart) (elsewhere m apart started) in
         let jobs = λ (m : ℕ) (other : is_at (primary_of (printed r.log)) m ≡ false). same_shown r.nodes r.log at m legal_now turns_now other (Committed n v) rule turn refl in
         let book = λ (infos : Infos) (c d : CommitBook) (point : IsPastPoint files.source (printed r.log) infos) (is : infos.version.0 ≡ version_of n.0 (printed r.log)) (steps : StepsBook true infos c d) (has : BookShows files.source (printed r.log) n.0 c).
-            book_made files.source r.nodes (printed r.log) at n v legal_now rule flight started infos c d steps has in
+        book_made files.source r.nodes (printed r.log) at n v legal_now rule flight started infos c d steps has in
         let grows = grows_shown r.nodes (printed r.log) at (Committed n v) legal_now rule in
         let handed = λ (a : At) (none : start_entry a (printed (shown at (Committed n v) ∷ r.log)) ≡ None). shows.handed a (start_back a (record { at = at; event = Committed n v }) (printed r.log) none) in (
           now_is cells (shown at (Committed n v) ∷ r.log) b2.log r.nodes b2.nodes new (log_is b1 b2 (Committed n v) e1 e2) (size_is b1 b2 n1 n2)
-          (commit_shows cells (StepsBook true) r.nodes r.log (shown at (Committed n v) ∷ r.log) old new n.0 b lasting node shows files grows jobs stay places handed book),
+              (commit_shows cells (StepsBook true) r.nodes r.log (shown at (Committed n v) ∷ r.log) old new n.0 b lasting node shows files grows jobs stay places handed book),
           files_is cells (shown at (Committed n v) ∷ r.log) b2.log r.nodes b2.nodes new (log_is b1 b2 (Committed n v) e1 e2) (size_is b1 b2 n1 n2)
-          (commit_files cells (StepsBook true) r.nodes r.log (shown at (Committed n v) ∷ r.log) old new n.0 b lasting node shows files grows jobs stay places handed book),
+              (commit_files cells (StepsBook true) r.nodes r.log (shown at (Committed n v) ∷ r.log) old new n.0 b lasting node shows files grows jobs stay places handed book),
         )
       where
         commits : start_entry at (printed r.log) ≡ Some (Committing n v) → start_entry at (printed r.log) ≢ Some Publishing

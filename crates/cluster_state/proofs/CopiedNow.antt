@@ -166,6 +166,7 @@ module _ {D : Type 0} (cells : D → Cells) where
       grows : Grows (printed log) (printed (copied_log at n v log))
       grows = grows_then (printed log) (printed (shown at (Copying n v) ∷ log)) (printed (copied_log at n v log)) (grows_shown size (printed log) at (Copying n v) legal rule)
           (grows_shown size (printed (shown at (Copying n v) ∷ log)) at (Copied n v) (rule, legal) later)
+
       between : Past
       between = record { at = at; event = Copying n v } ∷ printed log
 

@@ -389,8 +389,11 @@ module _ {D : Type 0} (cells : D → Cells) where
         latest = omega arith;
         version = refl;
         start = λ job is begun. begun_still (printed log) at (Crashed n) job.at (record { once = tt; flight = tt }) begun;
-        flight = λ a is. ((without_some at a (copy_in_flight m (newest_version (printed log)) (printed log))
-            (sym (ap (λ (x : Bool × Bool). if x.0 || x.1 then None else without_at at (copy_in_flight m (newest_version (printed log)) (printed log))) (λ i. (apart i, far i))) ∙ is)).0, refl);
+        flight = λ a is. (
+          (without_some at a (copy_in_flight m (newest_version (printed log)) (printed log))
+              (sym (ap (λ (x : Bool × Bool). if x.0 || x.1 then None else without_at at (copy_in_flight m (newest_version (printed log)) (printed log))) (λ i. (apart i, far i))) ∙ is)).0,
+          refl,
+        );
         handed = λ job q is. refl;
       }
         where

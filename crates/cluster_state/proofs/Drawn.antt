@@ -67,7 +67,7 @@ just_drawn past at put low =
     let made : segment_generation seg ≡ generation_of past = omega (arith, low) in
     let here : (generation_of past == segment_generation seg) ≡ true = eq-eqb (generation_of past) (segment_generation seg) (sym made) in
     let count : names_drawn_in (segment_generation seg) now ≡ names_drawn past + 1 =
-        ap (λ (b : Bool). if b then names_drawn now else names_drawn_in (segment_generation seg) past) here ∙ ap (λ (b : Bool). if b then names_drawn past + 1 else names_drawn past) put in
+    ap (λ (b : Bool). if b then names_drawn now else names_drawn_in (segment_generation seg) past) here ∙ ap (λ (b : Bool). if b then names_drawn past + 1 else names_drawn past) put in
     within (segment_place seg) (names_drawn_in (segment_generation seg) now) (omega (arith, place, count))
   where
     within : (place drawn : ℕ) → place < drawn → nat_lt place drawn ≡ true

@@ -104,7 +104,6 @@ not_commit past start at n v (Some (Settling w)) is started = ap is_commit_line 
 not_commit past start at n v o is started = absurd started
 
 module _ {D : Type 0} (cells : D → Cells) where
-
   there_primary : (log : Log) (size p : ℕ) (places : List (Option (Place D))) (shows : Shows cells log size places) (files : FilesShow cells log size places) (q : PrimaryParts D) (held : Vec Held Global) → IsNode size p
       → place_of places p ≡ Some (record { node = Primary q; held = held }) → PlaceShows cells log p (record { node = Primary q; held = held }) × PrimaryFiles files.source cells (λ s. jobs_like places s size) q
   there_primary log size p places shows files q held node there =

@@ -9,6 +9,7 @@ use Rattle.std.proofs.lemmas.Bool.Decides.{nat_tests}
 use Rattle.std.proofs.lemmas.List.Elements.{All-nil, All-cons}
 use Rattle.std.proofs.lemmas.List.Sorted.{length_permutation}
 use Rattle.std.proofs.lemmas.Slice.Eq.{bytes_eq-Decides}
+use Rattle.std.proofs.lemmas.Bool.{or_right}
 use Rattle.nrt_base.specs.declared.numbers.At.{At}
 use Rattle.nrt_base.specs.declared.numbers.NodeNo.{NodeNo}
 use Rattle.nrt_base.specs.declared.doc.Doc.{Doc}
@@ -70,10 +71,6 @@ ascends [] sorted = refl
 ascends (a ∷ []) sorted = refl
 ascends (a ∷ b ∷ names) sorted = ap (λ x. is_less x && is_ascending (b ∷ names)) sorted.0.0 ∙ ascends (b ∷ names) sorted.1
 
-or_right : (b : Bool) → (b || true) ≡ true
-or_right true = refl
-or_right false = refl
-
 -- a name that is among them and passes a test is one that passes it
 listed : (p : Name → Bool) (names : List Name) (q : Name) → is_among names q ≡ true → p q ≡ true → list_any p names ≡ true
 listed p [] q is holds = absurd (true≢false (sym is))
@@ -81,11 +78,11 @@ listed p (x ∷ xs) q is holds = go (same x q) refl is (λ later. listed p xs q 
   where
     go : (b : Bool) → same x q ≡ b → (b || is_among xs q) ≡ true → (is_among xs q ≡ true → list_any p xs ≡ true) → (p x || list_any p xs) ≡ true
     go true here got rest = ap (λ (b : Bool). b || list_any p xs) (ap p (same_true x q here) ∙ holds)
-    go false here got rest = ap (λ (b : Bool). p x || b) (rest got) ∙ or_right (p x)
+    go false here got rest = ap (λ (b : Bool). p x || b) (rest got) ∙ or_right (p x) true refl
 
 among_all : (P : Name → Type 0) (names : List Name) → ((q : Name) → is_among names q ≡ true → P q) → All P names
 among_all P [] each = All-nil P
-among_all P (x ∷ xs) each = All-cons P x xs (each x (ap (λ (b : Bool). b || is_among xs x) ((bytes_eq-Decides x x).1 refl))) (among_all P xs (λ q later. each q (ap (λ (b : Bool). same x q || b) later ∙ or_right (same x q))))
+among_all P (x ∷ xs) each = All-cons P x xs (each x (ap (λ (b : Bool). b || is_among xs x) ((bytes_eq-Decides x x).1 refl))) (among_all P xs (λ q later. each q (ap (λ (b : Bool). same x q || b) later ∙ or_right (same x q) true refl)))
 
 -- one that passes the test
 found : (p : Name → Bool) (names : List Name) → list_any p names ≡ true → (q : Name) × (p q ≡ true) × Contains names q

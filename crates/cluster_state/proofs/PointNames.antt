@@ -2,6 +2,7 @@
 use Rattle.std.proofs.Common.{◌≡◌, ◌⊎◌, ◌<◌, ◌==◌, ◌||◌, inl, inr, ℕ, zero, suc, Bool, true, false, List, [], ◌∷◌, ◌++◌, Some, None, Option, length, get_or, refl, ap, ◌∙◌, sym, subst, arith, if◌then◌else◌}
 use Rattle.std.specs.List.{Contains, AllZip, flat_map, list_any}
 use Rattle.std.proofs.lemmas.List.Elements.{Contains-append_left, Contains-push_cases}
+use Rattle.std.proofs.lemmas.Bool.{or_right}
 use Rattle.disk_model.specs.Disk.{Name, Content, Cells, reads_of}
 use Rattle.file_names.specs.Names.{part_name_of, is_documents_name}
 use Rattle.file_names.specs.declared.composed.SegPart.TheVariants.{Docs}
@@ -33,10 +34,6 @@ use Rattle.cluster_state.proofs.Naming.{HoldsFrom}
 
 -- ---- lists
 
-or_true : (b : Bool) → (b || true) ≡ true
-or_true true = refl
-or_true false = refl
-
 -- one that passes a test is among them, so one does
 pub any_passes : {X : Type 0} (p : X → Bool) (xs : List X) (x : X) → Contains xs x → p x ≡ true → list_any p xs ≡ true
 any_passes p [] x (i, lt, e) passes = absurd (omega (arith, lt))
@@ -44,7 +41,7 @@ any_passes {X} p (y ∷ xs) x (i, lt, e) passes = at i lt e (λ k lt' e'. any_pa
   where
     at : (i : ℕ) → i < length (y ∷ xs) → get_or (y ∷ xs) i x ≡ x → ((k : ℕ) → k < length xs → get_or xs k x ≡ x → list_any p xs ≡ true) → (p y || list_any p xs) ≡ true
     at zero lt e rest = ap (λ (b : Bool). b || list_any p xs) (ap p e ∙ passes)
-    at (suc k) lt e rest = ap (λ (b : Bool). p y || b) (rest k (omega (arith, lt)) e) ∙ or_true (p y)
+    at (suc k) lt e rest = ap (λ (b : Bool). p y || b) (rest k (omega (arith, lt)) e) ∙ or_right (p y) true refl
 
 -- ---- points
 

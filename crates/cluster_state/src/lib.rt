@@ -4,8 +4,8 @@
 mod cluster;
 mod copies;
 mod laws;
-mod lives;
 mod lists;
+mod lives;
 mod reads;
 mod settles;
 mod starting;

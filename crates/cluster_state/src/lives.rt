@@ -18,12 +18,7 @@ impl<D: FaultDir + Drop> ClusterState<D> {
 
     /// Begins a commit of the version that the running node searches, where none of it is in flight. The directory is not called.
     /// `Err` is want of memory, or of a number below 2^62: the cluster has ended, and the history is as before.
-    pub fn begin_commit(
-        &mut self,
-        alloc: Global,
-        at: At,
-        n: NodeNo,
-    ) -> Result<CommitTask, NoMemory>
+    pub fn begin_commit(&mut self, alloc: Global, at: At, n: NodeNo) -> Result<CommitTask, NoMemory>
         requires running { self.old.ended ≡ false }
         requires fresh { entries_of_line at (printed self.old.log) ≡ [] }
         requires node { IsNode self.old.nodes n.0 }

@@ -30,7 +30,7 @@ flies_apart : (past : Past) (x : At) (e : Event) (n : ℕ) (at : At) → same_at
     → CommitFlies (record { at = x; event = e } ∷ past) n at
 flies_apart past x e n at apart same was =
     let line : open_line at (record { at = x; event = e } ∷ past) ≡ open_line at past =
-        ap (λ (s : Bool). if s then begun_by e (length past) (length (operations_of_generation past)) (open_line at past) else open_line at past) apart in
+    ap (λ (s : Bool). if s then begun_by e (length past) (length (operations_of_generation past)) (open_line at past) else open_line at past) apart in
     record {
       alive = same ∙ (was.alive ∙ ap (crashes n) (sym (before_apart (record { at = x; event = e }) past at apart)));
       is_open = λ none. was.is_open (sym line ∙ none);
@@ -57,7 +57,7 @@ flies_step past x (Committing m v) n at turn was is = commits (m.0 == n.0) is
           alive = ap (λ (s : Bool). crashes n.0 (if s then past else before_start x past)) (sym (same_at_self x));
           is_open = λ none.
               let line : open_line x (record { at = x; event = Committing m v } ∷ past) ≡ begun_by (Committing m v) (length past) (length (operations_of_generation past)) (open_line x past) =
-                  ap (λ (s : Bool). if s then begun_by (Committing m v) (length past) (length (operations_of_generation past)) (open_line x past) else open_line x past) (same_at_self x) in
+              ap (λ (s : Bool). if s then begun_by (Committing m v) (length past) (length (operations_of_generation past)) (open_line x past) else open_line x past) (same_at_self x) in
               begun (sym line ∙ none);
         })
       where
