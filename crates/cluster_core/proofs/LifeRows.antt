@@ -49,6 +49,10 @@ job_apart start n v o starts = absurd starts
 pub job_no_commit : (past : Past) (at : At) (n v : ℕ) → StartsJob (before_start at past) n v (start_entry at past) → is_commit_line (start_entry at past) ≡ false
 job_no_commit past at n v starts = job_apart (before_start at past) n v (start_entry at past) starts
 
+-- in the terms of a call, whose book has this log
+pub job_line : (log l : Log) (at : At) (n v : ℕ) → l ≡ log → StartsJob (before_start at (printed l)) n v (start_entry at (printed l)) → is_commit_line (start_entry at (printed log)) ≡ false
+job_line log l at n v same starts = subst (λ (x : Log). is_commit_line (start_entry at (printed x)) ≡ false) same (job_no_commit (printed l) at n v starts)
+
 -- ---- a commit whose node has crashed
 
 same_node : (m n : NodeNo) (v w : Version) → ◌≡◌ {A = Option Event} (Some (Committing m v)) (Some (Committing n w)) → m ≡ n
@@ -101,6 +105,10 @@ module _ (at : At) (n : NodeNo) (v : Version) (old new : Run) where
   commit_goes_on alive true is now = absurd (true≢false is)
 
 -- ---- a reopening
+
+-- in the terms of a call, whose book has this log
+pub runs_told : (n : ℕ) (log l : Log) (b told : Bool) → l ≡ log → told ≡ is_running n (printed l) → told ≡ b → is_running n (printed log) ≡ b
+runs_told n log l b told same is runs = subst (λ (x : Log). is_running n (printed x) ≡ b) same (sym is ∙ runs)
 
 pub reopened : (at : At) (n : NodeNo) (old new : Run) → is_running n.0 (printed old.log) ≡ false → Reopens at n old new → ReopensNode at n old new
 reopened at n old new down opens = record {
