@@ -396,7 +396,7 @@ module _ {D : Type 0} (cells : D → Cells) where
 
   a_stage : (source : Name → Content) (past : Past) (n : ℕ) (at : At) (s : Option Stage) → StageShows source past n (Some at) s → IsSome s
   a_stage source past n at None is = absurd is
-  a_stage source past n at (Some s) is = tt
+  a_stage source past n at (Some s) is = refl
 
 -- ---- in the terms of a call
 
@@ -469,8 +469,8 @@ module _ {D : Type 0} (cells : D → Cells) (r : Run) (ended : Bool) (b0 : Pages
         unstarted fresh is = absurd (let both : None ≡ Some Publishing = sym fresh.begun ∙ is in cc)
 
     -- a call that is not the last
-    pub go_commit_path : (new : List (Option (Place D))) → CommitsIn (StepsBook false) cells n.0 old new → (b1 : Pages) → b1.log ≡ b0.log → b1.nodes ≡ b0.nodes → Shows cells b1.log b1.nodes new × FilesShow cells b1.log b1.nodes new
-    go_commit_path new b b1 e1 n1 =
+    go_path : (new : List (Option (Place D))) → CommitsIn (StepsBook false) cells n.0 old new → (b1 : Pages) → b1.log ≡ b0.log → b1.nodes ≡ b0.nodes → Shows cells b1.log b1.nodes new × FilesShow cells b1.log b1.nodes new
+    go_path new b b1 e1 n1 =
         let log : b1.log ≡ r.log = e1 ∙ ap (λ (x : Run). x.log) view in
         let size : b1.nodes ≡ r.nodes = n1 ∙ ap (λ (x : Run). x.nodes) view in
         let book = λ (infos : Infos) (c d : CommitBook) (point : IsPastPoint files.source (printed r.log) infos) (is : infos.version.0 ≡ version_of n.0 (printed r.log)) (steps : StepsBook false infos c d) (has : BookShows files.source (printed r.log) n.0 c).
@@ -484,10 +484,14 @@ module _ {D : Type 0} (cells : D → Cells) (r : Run) (ended : Bool) (b0 : Pages
               (commit_files cells (StepsBook false) r.nodes r.log r.log old new n.0 b lasting node shows files (grows_none (printed r.log)) jobs stay places (λ a none. shows.handed a none) book),
         )
 
+    pub go_commit_path : (done : Bool) → done ≡ false → (new : List (Option (Place D))) → CommitsIn (StepsBook done) cells n.0 old new → (b1 : Pages) → b1.log ≡ b0.log → b1.nodes ≡ b0.nodes → Shows cells b1.log b1.nodes new × FilesShow cells b1.log b1.nodes new
+    go_commit_path true is new b b1 e1 n1 = absurd (true≢false is)
+    go_commit_path false is new b b1 e1 n1 = go_path new b b1 e1 n1
+
     -- the last call
-    pub end_commit_path : (new : List (Option (Place D))) → CommitsIn (StepsBook true) cells n.0 old new → (b1 b2 : Pages) → b1.log ≡ b0.log → b1.nodes ≡ b0.nodes → b2.log ≡ shown at (Committed n v) ∷ b1.log → b2.nodes ≡ b1.nodes
+    end_path : (new : List (Option (Place D))) → CommitsIn (StepsBook true) cells n.0 old new → (b1 b2 : Pages) → b1.log ≡ b0.log → b1.nodes ≡ b0.nodes → b2.log ≡ shown at (Committed n v) ∷ b1.log → b2.nodes ≡ b1.nodes
         → MayCommit b0.nodes (printed b0.log) at n v → commit_in_flight n.0 (printed r.log) ≡ Some at → start_entry at (printed r.log) ≡ Some (Committing n v) → Shows cells b2.log b2.nodes new × FilesShow cells b2.log b2.nodes new
-    end_commit_path new b b1 b2 e1 n1 e2 n2 may flight started =
+    end_path new b b1 b2 e1 n1 e2 n2 may flight started =
         let rule : KeepsRule r.nodes (printed r.log) at (Committed n v) = subst (λ (x : Run). MayCommit x.nodes (printed x.log) at n v) view may in
         let turn : InTurn (printed r.log) at (Committed n v) = record { once = tt; flight = flight } in
         let places = λ (m : ℕ) (z : Place D) (has : PlaceShows cells r.log m z). place_same cells r.log (shown at (Committed n v) ∷ r.log) m z
@@ -508,19 +512,21 @@ module _ {D : Type 0} (cells : D → Cells) (r : Run) (ended : Bool) (b0 : Pages
         commits : start_entry at (printed r.log) ≡ Some (Committing n v) → start_entry at (printed r.log) ≢ Some Publishing
         commits started is = absurd (let both : Some (Committing n v) ≡ Some Publishing = sym started ∙ is in cc)
 
+        at_node : (m : ℕ) (w : Version) → Some (Committing n v) ≡ Some (Committing (record { 0 = m }) w) → n.0 ≡ m
+        at_node m w both = let is : n ≡ record { 0 = m } = cc in ap (λ (k : NodeNo). k.0) is
+
         elsewhere : (m : ℕ) → (n.0 == m) ≡ false → start_entry at (printed r.log) ≡ Some (Committing n v) → commit_in_flight m (printed r.log) ≢ Some at
         elsewhere m apart started flies =
             let found = commit_found r.nodes (printed r.log) (record { 0 = m }) at legal_now turns_now flies in
             let both : Some (Committing n v) ≡ Some (Committing (record { 0 = m }) found.version) = sym started ∙ found.entry in
             absurd (true≢false (sym (eq-eqb n.0 m (at_node m found.version both)) ∙ apart))
 
-        at_node : (m : ℕ) (w : Version) → Some (Committing n v) ≡ Some (Committing (record { 0 = m }) w) → n.0 ≡ m
-        at_node m w both = let is : n ≡ record { 0 = m } = cc in ap (λ (k : NodeNo). k.0) is
+    pub end_commit_path : (done : Bool) → done ≡ true → (new : List (Option (Place D))) → CommitsIn (StepsBook done) cells n.0 old new → (b1 b2 : Pages) → b1.log ≡ b0.log → b1.nodes ≡ b0.nodes → b2.log ≡ shown at (Committed n v) ∷ b1.log → b2.nodes ≡ b1.nodes
+        → MayCommit b0.nodes (printed b0.log) at n v → commit_in_flight n.0 (printed r.log) ≡ Some at → start_entry at (printed r.log) ≡ Some (Committing n v) → Shows cells b2.log b2.nodes new × FilesShow cells b2.log b2.nodes new
+    end_commit_path true is new b b1 b2 e1 n1 e2 n2 may flight started = end_path new b b1 b2 e1 n1 e2 n2 may flight started
+    end_commit_path false is new b b1 b2 e1 n1 e2 n2 may flight started = absurd (true≢false (sym is))
 
     -- ---- what is now
 
     pub entry_now : (e : Event) (b1 b2 : Pages) → b1.log ≡ b0.log → b1.nodes ≡ b0.nodes → b2.log ≡ shown at e ∷ b1.log → b2.nodes ≡ b1.nodes → IsNow r (record { ended = false; nodes = b2.nodes; log = b2.log }) (shown at e ∷ r.log)
     entry_now e b1 b2 e1 n1 e2 n2 = record { running = refl; nodes = size_is b1 b2 n1 n2; log = log_is b1 b2 e e1 e2 }
-
-    pub same_now : (b1 : Pages) → b1.log ≡ b0.log → b1.nodes ≡ b0.nodes → IsNow r (record { ended = false; nodes = b1.nodes; log = b1.log }) r.log
-    same_now b1 e1 n1 = record { running = refl; nodes = n1 ∙ ap (λ (x : Run). x.nodes) view; log = e1 ∙ ap (λ (x : Run). x.log) view }

@@ -1,3 +1,4 @@
+use Rattle.std.proofs.Common.{refl}
 use Rattle.history_entries.specs.declared.entry.Event.TheVariants.{Committing}
 use Rattle.cluster_state.proofs.Frames.{slot_at, rule_at}
 use Rattle.cluster_state.proofs.Committing.{version_at, uncommitting_there, may_begin_commit, begin_commit_path, entry_now}

@@ -23,6 +23,6 @@ invariant_of-self-2 g c = λ running. reopen_path g.D.Dir.cells c.args.self.now 
 pub returns-clause-ok : goal.returns-clause-ok
 returns-clause-ok g c = record {
   version = c.in_ok-v.v;
-  now = reopened_now c.in_ok-v.v _ c.in_ok-v.ensures c.reserve.new.self c.show.new.self c.in_ok-reserve.ensures.log c.in_ok-reserve.ensures.nodes c.show.ensures.log c.show.ensures.nodes;
+  now = reopened_now g.D.Dir.cells c.args.self.now _ c.self.inside.book _ c.args.at c.args.n c.self.view_is c.requires.running c.self.invariant c.files_last.ensures c.is_legal.ensures.legal c.is_legal.ensures.turns c.is_fresh.ensures c.requires.node c.requires.down c.in_ok-v.v _ c.in_ok-v.ensures c.reserve.new.self c.show.new.self c.in_ok-reserve.ensures.log c.in_ok-reserve.ensures.nodes c.show.ensures.log c.show.ensures.nodes;
   found = (rule_there g.D.Dir.cells c.args.self.now _ c.self.inside.book _ c.args.at c.args.n c.self.view_is c.requires.running c.self.invariant c.files_last.ensures c.is_legal.ensures.legal c.is_legal.ensures.turns c.is_fresh.ensures c.requires.node c.requires.down c.in_ok-v.v _ c.in_ok-v.ensures).found;
 }
