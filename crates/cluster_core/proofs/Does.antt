@@ -146,7 +146,7 @@ close_replied at t old new (Some ticket) now = one_replied at old new (Closed (r
 
 -- ---- files
 
-up_unrefused : (n : ℕ) (past : Past) → is_running n past ≡ true → without_node n past ≡ None
+pub up_unrefused : (n : ℕ) (past : Past) → is_running n past ≡ true → without_node n past ≡ None
 up_unrefused n past up = ap (λ (b : Bool). when (not b) Down) up
 
 pub files_does : (at : At) (n : NodeNo) (old new : Run) → IsFresh at (printed old.log) → ListsFiles at n old new → Does (ListOf n) at old new
@@ -236,7 +236,7 @@ ask_begun at t old new Busy fresh starts = tt
 
 -- ---- answers
 
-answered_does : (command : LineCommand) (at : At) (old new : Run) (b : Bool) (begun answered : Event) → last_of_line at (printed old.log) ≡ Some begun → is_answered at (printed old.log) ≡ false
+pub answered_does : (command : LineCommand) (at : At) (old new : Run) (b : Bool) (begun answered : Event) → last_of_line at (printed old.log) ≡ Some begun → is_answered at (printed old.log) ≡ false
     → (Suits command at (printed old.log) (last_of_line at (printed old.log)) answered → SuitsOrFault command at (printed old.log) answered)
     → Follows command begun answered → Follows command begun (Refused Lost) → IsNow old new (shown at (if b then Refused Lost else answered) ∷ old.log) → Does command at old new
 answered_does command at old new true begun answered last unanswered lift follows late now =

@@ -3,3 +3,5 @@ mod Rows
 mod CopyRows
 mod CopyDoes
 mod SettleStays
+mod LifeRows
+mod LifeDoes

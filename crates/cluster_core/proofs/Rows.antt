@@ -12,7 +12,7 @@ use Rattle.documents.specs.Ranking.{scan_of}
 use Rattle.history_entries.specs.declared.cause.Cause.{Cause}
 use Rattle.history_entries.specs.declared.cause.Cause.TheVariants.{Lost}
 use Rattle.history_entries.specs.declared.entry.Event.{Event}
-use Rattle.history_entries.specs.declared.entry.Event.TheVariants.{Publishing, Opened, Asking, Answered, Closed, Refused}
+use Rattle.history_entries.specs.declared.entry.Event.TheVariants.{Publishing, Opened, Asking, Answered, Closed, Committing, Refused}
 use Rattle.history_entries.specs.Nodes.{Past, IsNode, crashes, primary_crashes}
 use Rattle.history_entries.specs.Lines.{is_start, entries_of_line, last_of_line, start_entry, before_start, publish_in_flight}
 use Rattle.history_entries.specs.Points.{documents_at}
@@ -77,6 +77,14 @@ pub lost_publish_rule : (size : ℕ) (past : Past) (at : At) → start_entry at 
     → KeepsRule size past at (Refused Lost)
 lost_publish_rule size past at is crashed = lost_rule size past at Publishing is (record {
   lost = crashed_lost (primary_crashes past == primary_crashes (before_start at past)) crashed;
+  met = λ never. absurd (true≢false never);
+  unswitched = refl;
+})
+
+pub lost_commit_rule : (size : ℕ) (past : Past) (at : At) (n : NodeNo) (v : Version) → start_entry at past ≡ Some (Committing n v) → (crashes n.0 past == crashes n.0 (before_start at past)) ≡ false
+    → KeepsRule size past at (Refused Lost)
+lost_commit_rule size past at n v is crashed = lost_rule size past at (Committing n v) is (record {
+  lost = crashed_lost (crashes n.0 past == crashes n.0 (before_start at past)) crashed;
   met = λ never. absurd (true≢false never);
   unswitched = refl;
 })

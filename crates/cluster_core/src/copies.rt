@@ -183,6 +183,7 @@ fn refuse_job<D: FaultDir + Drop>(
 {
     state.book().job_shows(row);
     state.is_apart(row.job.at);
+    state.has_no_commit(row.job.at);
     state.note(row.job.at, Event::Refused { cause })
 }
 

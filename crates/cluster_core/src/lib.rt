@@ -5,9 +5,12 @@
 mod asks;
 mod calls;
 mod cluster;
+mod commits;
 mod copies;
 mod copying;
+mod lasting;
 mod lists;
+mod lives;
 mod publishes;
 mod refusals;
 mod searches;

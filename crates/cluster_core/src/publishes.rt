@@ -118,6 +118,7 @@ fn lose_publish<D: FaultDir + Drop>(state: &mut ClusterState<D>, at: At) -> Resu
     ensures err { OnErr result (IsEnded state.old state.new) }
 {
     state.book().is_legal();
+    state.has_no_commit(at);
     let cause = Cause::Lost;
     state.note(at, Event::Refused { cause })
 }

@@ -26,6 +26,7 @@ pub fn refuse<D: FaultDir + Drop>(
     ensures err { OnErr result (IsEnded state.old state.new) }
 {
     state.is_apart(at);
+    state.has_no_commit(at);
     state.note(at, Event::Refused { cause })
 }
 

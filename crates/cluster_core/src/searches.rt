@@ -117,6 +117,7 @@ fn end_search<D: FaultDir + Drop>(
     ensures err { OnErr result (IsEnded state.old state.new) }
 {
     state.is_apart(at);
+    state.has_no_commit(at);
     if !state.book().node_survives(at, n) {
         let cause = Cause::Lost;
         return state.note(at, Event::Refused { cause });

@@ -51,6 +51,7 @@ pub fn settle_next<D: FaultDir + Drop>(
 {
     state.book().is_legal();
     state.is_apart(at);
+    state.has_no_commit(at);
     if !state.book().source_survives(at) {
         state.note(at, Event::Refused { cause: Cause::Lost })?;
         return Ok(Turn::Done);

@@ -57,6 +57,7 @@ pub fn ticket_close<D: FaultDir + Drop>(
         None => refuse(state, at, Cause::NoTicket),
         Some(opening) => {
             state.book().is_legal();
+            state.has_no_commit(at);
             let n = opening.node;
             let key = Key::Ticket { lane: at.lane, t };
             state.note_without(at, n, key, Event::Closed { n, t })

@@ -1,6 +1,7 @@
 mod Steps
 mod Jobs
 mod Publishes
+mod Commits
 mod Searches
 mod CopyLemmas
 mod Parts

@@ -3,6 +3,7 @@
 #![tactic(auto)]
 
 mod copying;
+mod lasting;
 mod line;
 mod part;
 mod phase;

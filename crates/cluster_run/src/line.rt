@@ -10,6 +10,7 @@ ghost use Rattle.cluster_run.specs.Going.{IsQuiet};
 ghost use Rattle.cluster_run.specs.Running.{EndsLine, IsAtRest, RunsLine};
 
 use crate::copying::{copy, settle};
+use crate::lasting::{commit, crash, reopen};
 use crate::publishing::{accept, publish};
 use crate::searching::{ask, close, list_files, open, search};
 use cluster_core::Cluster;
@@ -45,9 +46,9 @@ fn do_line<D: FaultDir + Drop>(
         LineCommand::Ask(t, query) => ask(cluster, alloc, at, *t, query),
         LineCommand::Close(t) => close(cluster, at, *t),
         LineCommand::Files(n) => list_files(cluster, alloc, at, *n),
-        LineCommand::Commit(_) => unreachable!(),
-        LineCommand::Crash(..) => unreachable!(),
-        LineCommand::Reopen(_) => unreachable!(),
+        LineCommand::Commit(n) => commit(cluster, alloc, at, *n),
+        LineCommand::Crash(n, pick) => crash(cluster, alloc, at, *n, *pick),
+        LineCommand::Reopen(n) => reopen(cluster, alloc, at, *n),
         LineCommand::Promote(..) => unreachable!(),
         LineCommand::Merge(_) => unreachable!(),
         LineCommand::Drain(_) => unreachable!(),

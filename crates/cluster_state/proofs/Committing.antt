@@ -484,8 +484,8 @@ module _ {D : Type 0} (cells : D → Cells) (r : Run) (ended : Bool) (b0 : Pages
               (commit_files cells (StepsBook false) r.nodes r.log r.log old new n.0 b lasting node shows files (grows_none (printed r.log)) jobs stay places (λ a none. shows.handed a none) book),
         )
 
-    pub go_commit_path : (done : Bool) → not done ≡ true → (new : List (Option (Place D))) → CommitsIn (StepsBook done) cells n.0 old new → (b1 : Pages) → b1.log ≡ b0.log → b1.nodes ≡ b0.nodes → Shows cells b1.log b1.nodes new × FilesShow cells b1.log b1.nodes new
-    go_commit_path true is new b b1 e1 n1 = absurd (true≢false (sym is))
+    pub go_commit_path : (done : Bool) → done ≡ false → (new : List (Option (Place D))) → CommitsIn (StepsBook done) cells n.0 old new → (b1 : Pages) → b1.log ≡ b0.log → b1.nodes ≡ b0.nodes → Shows cells b1.log b1.nodes new × FilesShow cells b1.log b1.nodes new
+    go_commit_path true is new b b1 e1 n1 = absurd (true≢false is)
     go_commit_path false is new b b1 e1 n1 = go_path new b b1 e1 n1
 
     -- the last call
@@ -521,10 +521,10 @@ module _ {D : Type 0} (cells : D → Cells) (r : Run) (ended : Bool) (b0 : Pages
             let both : Some (Committing n v) ≡ Some (Committing (record { 0 = m }) found.version) = sym started ∙ found.entry in
             absurd (true≢false (sym (eq-eqb n.0 m (at_node m found.version both)) ∙ apart))
 
-    pub end_commit_path : (done : Bool) → not done ≡ false → (new : List (Option (Place D))) → CommitsIn (StepsBook done) cells n.0 old new → (b1 b2 : Pages) → b1.log ≡ b0.log → b1.nodes ≡ b0.nodes → b2.log ≡ shown at (Committed n v) ∷ b1.log → b2.nodes ≡ b1.nodes
+    pub end_commit_path : (done : Bool) → done ≡ true → (new : List (Option (Place D))) → CommitsIn (StepsBook done) cells n.0 old new → (b1 b2 : Pages) → b1.log ≡ b0.log → b1.nodes ≡ b0.nodes → b2.log ≡ shown at (Committed n v) ∷ b1.log → b2.nodes ≡ b1.nodes
         → MayCommit b0.nodes (printed b0.log) at n v → commit_in_flight n.0 (printed r.log) ≡ Some at → start_entry at (printed r.log) ≡ Some (Committing n v) → Shows cells b2.log b2.nodes new × FilesShow cells b2.log b2.nodes new
     end_commit_path true is new b b1 b2 e1 n1 e2 n2 may flight started = end_path new b b1 b2 e1 n1 e2 n2 may flight started
-    end_commit_path false is new b b1 b2 e1 n1 e2 n2 may flight started = absurd (true≢false is)
+    end_commit_path false is new b b1 b2 e1 n1 e2 n2 may flight started = absurd (true≢false (sym is))
 
     -- ---- what is now
 

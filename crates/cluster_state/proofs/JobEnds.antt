@@ -16,8 +16,8 @@ use Rattle.history_book.proofs.JobLaws.{source_runs}
 use Rattle.cluster_state.specs.Run.{Run}
 
 -- so one runs while it has not crashed since
-pub source_runs : (size : ℕ) (past : Past) (row : JobRow) → IsLegalPast size past → LaneJobShows size past row → SourceSurvives past row.job.at → primary_of past ≢ None
-source_runs size past row legal s source none =
+pub source_on : (size : ℕ) (past : Past) (row : JobRow) → IsLegalPast size past → LaneJobShows size past row → SourceSurvives past row.job.at → primary_of past ≢ None
+source_on size past row legal s source none =
     let ran = source_runs size past row.job.at row.job.node.0 row.job.version.0 legal (start_entry row.job.at past) refl s.started in
     ran (sym (reigns_on size row.job.at past legal ran source.source).primary ∙ none)
 
@@ -30,4 +30,4 @@ pub source_ends : {X : Type 0} (r : Run) (ended : Bool) (b : Pages) (row : JobRo
     → SourceSurvives (printed r.log) row.job.at → primary_of (printed r.log) ≡ None → X
 source_ends r ended b row view legal s source none =
     let log : b.log ≡ r.log = ap (λ (x : Run). x.log) view in
-    absurd (source_runs b.nodes (printed b.log) row legal s (subst (λ (l : Log). SourceSurvives (printed l) row.job.at) (sym log) source) (ap (λ (l : Log). primary_of (printed l)) log ∙ none))
+    absurd (source_on b.nodes (printed b.log) row legal s (subst (λ (l : Log). SourceSurvives (printed l) row.job.at) (sym log) source) (ap (λ (l : Log). primary_of (printed l)) log ∙ none))

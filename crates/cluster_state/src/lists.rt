@@ -27,6 +27,7 @@ impl<D: FaultDir + Drop> ClusterState<D> {
     {
         self.book.is_fresh(at);
         self.is_apart(at);
+        self.has_no_commit(at);
         let names = match names_in(alloc, &self.places, n) {
             Ok(names) => names,
             Err(fault) => {

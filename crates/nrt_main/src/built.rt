@@ -23,6 +23,9 @@ fn is_built_command(name: &[u8]) -> bool
         || is_word(b"ask", name)
         || is_word(b"close", name)
         || is_word(b"files", name)
+        || is_word(b"commit", name)
+        || is_word(b"crash", name)
+        || is_word(b"reopen", name)
 }
 
 /// Whether the program runs this statement so far.

@@ -181,8 +181,8 @@ fn lines_not_built(rt: HostRuntime) -> Result<(), Fail> {
     let rows: &[(&[u8], u32)] = &[
         (b"nodes 2\nworkers 1", 2),
         (b"nodes 2\nlog", 2),
-        (b"nodes 2\n1 drop x\n1 commit 1", 3),
-        (b"nodes 3\n8 settle\njoin\n2 crash 1 0", 4),
+        (b"nodes 2\n1 crash 1 0\n1 promote 2 auto", 3),
+        (b"nodes 3\n8 commit 3\njoin\n2 fault stop 1 1", 4),
         (b"nodes 2\n1 merge 2", 2),
         (b"nodes 2\n# x\n2 drain 1", 3),
     ];
@@ -193,6 +193,42 @@ fn lines_not_built(rt: HostRuntime) -> Result<(), Fail> {
             Status::BadScript(LineNo(*line), LineFault::NotBuilt)
         );
         assert!(rt; text.is_empty());
+    }
+    Ok(())
+}
+
+// A replica that crashes before it has committed.
+const UNCOMMITTED: &[u8] =
+    b"nodes 2\n1 put a x\n1 publish\n1 copy 2\n1 crash 2 0\n1 search 2 x\n1 reopen 2\n1 search 2 x\n1 files 2\n";
+
+// A commit and two crashes.
+const COMMITTED: &[u8] =
+    b"nodes 2\n1 put a x\n1 publish\n1 copy 2\n1 commit 2\n1 put b x\n1 publish\n1 copy 2\n1 crash 2 0\n1 reopen 2\n1 copy 2\n1 crash 2 1\n1 reopen 2\n1 search 2 x\n1 files 2\n";
+
+// A ticket that a crash ends.
+const TICKET: &[u8] =
+    b"nodes 2\n1 put a x\n1 publish\n1 copy 2\n1 open 2 3\n1 crash 2 0\n1 ask 3 x\n1 reopen 2\n1 ask 3 x\n";
+
+#[test]
+fn crashes(rt: HostRuntime) -> Result<(), Fail> {
+    let rows: &[(&[u8], &[u8])] = &[
+        (
+            UNCOMMITTED,
+            b"\n5 crashed 2\n6 refused down\n7 reopened 2 1\n8 opened 2 0 1\n8 answer 2 0 1 0\n9 files 2\n",
+        ),
+        (
+            COMMITTED,
+            b"\n5 committing 2 2\n5 committed 2 2\n6 accepted 2\n7 publishing\n7 published 1 3\n8 copying 2 3\n8 switched 2 3\n8 copied 2 3\n9 crashed 2\n10 reopened 2 2\n11 copying 2 3\n11 switched 2 3\n11 copied 2 3\n12 crashed 2\n13 reopened 2 2\n14 opened 2 0 2\n14 answer 2 0 2 1 1:a\n15 files 2 _10000.docs _10000.post _10000.si segments_1\n",
+        ),
+        (
+            TICKET,
+            b"\n5 opened 2 3 2\n6 crashed 2\n7 refused no-ticket\n8 reopened 2 1\n9 refused no-ticket\n",
+        ),
+    ];
+    for (script, wanted) in rows {
+        let (status, text) = run(rt.alloc(), &[b"run"], script, &[], &[])?;
+        assert_eq!(rt; status, Status::Done);
+        assert!(rt; text.ends_with(wanted));
     }
     Ok(())
 }

@@ -1,5 +1,9 @@
 use Rattle.cluster_core.proofs.Rows.{fresh_start, refusal_rule, refusal_turn}
+use Rattle.cluster_core.proofs.LifeRows.{fresh_no_commit}
 use Rattle.cluster_core.proofs.refusals.refuse.Goals as goal
+
+pub has_no_commit-requires : goal.has_no_commit-requires
+has_no_commit-requires g c = record { line = fresh_no_commit _ c.args.at c.requires.fresh }
 
 pub is_apart-requires-clause-line : goal.is_apart-requires-clause-line
 is_apart-requires-clause-line g c = fresh_start _ c.args.at c.requires.fresh

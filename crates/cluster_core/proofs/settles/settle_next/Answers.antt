@@ -1,5 +1,10 @@
 use Rattle.cluster_core.proofs.CopyRows.{settle_source}
+use Rattle.std.proofs.Common.{ap}
+use Rattle.cluster_state.specs.FileChanges.{is_commit_line}
 use Rattle.cluster_core.proofs.settles.settle_next.Goals as goal
+
+pub has_no_commit-requires : goal.has_no_commit-requires
+has_no_commit-requires g c = record { line = ap is_commit_line c.requires.settling.started }
 
 pub unreachable-requires : goal.unreachable-requires
 unreachable-requires g c =

@@ -1,5 +1,9 @@
 use Rattle.cluster_core.proofs.Rows.{fresh_start, legal_at, ticket_told, close_rule, close_node}
+use Rattle.cluster_core.proofs.LifeRows.{fresh_no_commit}
 use Rattle.cluster_core.proofs.tickets.ticket_close.Goals as goal
+
+pub has_no_commit-requires : goal.has_no_commit-requires
+has_no_commit-requires g c = record { line = fresh_no_commit _ c.args.at c.requires.fresh }
 
 pub note_without-requires-clause-rule : goal.note_without-requires-clause-rule
 note_without-requires-clause-rule g c =

@@ -7,14 +7,14 @@ use Rattle.cluster_places.proofs.commits.step_commit_in.Goals as goal
 pub take-place-requires-clause-there : goal.take-place-requires-clause-there
 take-place-requires-clause-there g c = some_here g.D.Dir.cells IsSome _ c.requires.in_flight
 
-pub step_at-done-requires : goal.step_at-done-requires
-step_at-done-requires g c = stage_here g.D.Dir.cells IsSome _ c.take-place.result c.take-place.ensures.place c.requires.in_flight
+pub step_at-requires : goal.step_at-requires
+step_at-requires g c = stage_here g.D.Dir.cells IsSome _ c.take-place.result c.take-place.ensures.place c.requires.in_flight
 
 pub returns : goal.returns
 returns g c = record {
   place = c.take-place.result;
   there = c.take-place.ensures.place;
-  node = c.step_at-done.new.node;
+  node = c.step_at.new.node;
   moves = moved_one _ _ _ c.args.n.0 _ c.take-place.ensures.count c.take-place.ensures.places c.put.ensures.count c.put.ensures.places;
   alters = c.in_ok-done.ensures;
 }

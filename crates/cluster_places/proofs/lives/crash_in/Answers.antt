@@ -6,6 +6,6 @@ use Rattle.cluster_places.proofs.CrashedPlaces.{crashed_in}
 use Rattle.cluster_places.proofs.lives.crash_in.Goals as goal
 
 pub returns : goal.returns
-returns g c = crashed_in g.D.Dir.cells c.crash-crashed.result c.args.places.now.items c.take.new.places.items c.put.new.places.items c.args.n.0 c.take.result c.crash-crashed.new.self c.new-held.result
-    c.take.ensures.place c.new-held.ensures.items c.take.ensures.count c.take.ensures.places c.put.ensures.count c.put.ensures.places
+returns g c = crashed_in g.D.Dir.cells c.crash-crashed.result c.args.places.now.items c.take-node.new.places.items c.put.new.places.items c.args.n.0 c.take-node.result c.crash-crashed.new.self c.new-held.result
+    c.take-node.ensures.place c.new-held.ensures.items c.take-node.ensures.count c.take-node.ensures.places c.put.ensures.count c.put.ensures.places
     (subst (λ d. OnOk c.crash-crashed.result (HasCrashed (g.D.Dir.cells d) (g.D.Dir.cells c.crash-crashed.new.self))) c.dir_in-dir.ensures c.crash-crashed.ensures.image)

@@ -5,15 +5,15 @@ use Rattle.replica_opening.specs.Opened.{IsSettledOn}
 use Rattle.cluster_places.proofs.Taking.{moved_one}
 use Rattle.cluster_places.proofs.lives.reopen_in.Goals as goal
 
-pub open_on-replica-requires : goal.open_on-replica-requires
-open_on-replica-requires g c = subst (λ d. IsSettledOn (g.D.Dir.cells d)) (sym c.dir_in-dir.ensures) (c.requires.settled c.take.result c.take.ensures.place)
+pub open_on-requires : goal.open_on-requires
+open_on-requires g c = subst (λ d. IsSettledOn (g.D.Dir.cells d)) (sym c.dir_in-dir.ensures) (c.requires.settled c.take-node.result c.take-node.ensures.place)
 
 pub returns : goal.returns
 returns g c = record {
-  place = c.take.result;
-  there = c.take.ensures.place;
+  place = c.take-node.result;
+  there = c.take-node.ensures.place;
   replica = c.in_ok-replica.replica;
   opens = subst (λ d. OpensOn g.D.Dir.cells d c.in_ok-replica.replica) c.dir_in-dir.ensures c.in_ok-replica.ensures;
   version = sym c.version-version.ensures.version;
-  moves = moved_one _ _ _ c.args.n.0 _ c.take.ensures.count c.take.ensures.places c.put.ensures.count c.put.ensures.places;
+  moves = moved_one _ _ _ c.args.n.0 _ c.take-node.ensures.count c.take-node.ensures.places c.put.ensures.count c.put.ensures.places;
 }

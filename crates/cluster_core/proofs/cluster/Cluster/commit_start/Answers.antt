@@ -1,0 +1,14 @@
+use Rattle.std.proofs.lemmas.Result.{IfOk-weaker}
+use Rattle.cluster_core.proofs.Rows.{fresh_in}
+use Rattle.cluster_core.proofs.Does.{does_was, runs_in}
+use Rattle.cluster_core.proofs.LifeDoes.{commit_does, commit_begun}
+use Rattle.cluster_core.proofs.cluster.Cluster.commit_start.Goals as goal
+
+pub returns-clause-does : goal.returns-clause-does
+returns-clause-does g c = IfOk-weaker c.commit_start.result _ _
+    (λ turn starts. does_was _ c.args.at _ _ _ c.self.view_is
+    (commit_does c.args.at c.args.n _ _ turn (runs_in _ _ c.self.view_is c.requires.running) (fresh_in c.args.at _ _ c.self.view_is c.requires.fresh) starts)) c.commit_start.ensures.ok
+
+pub returns-clause-begun : goal.returns-clause-begun
+returns-clause-begun g c = IfOk-weaker c.commit_start.result _ _
+    (λ turn starts. commit_begun c.args.at c.args.n _ _ turn (fresh_in c.args.at _ _ c.self.view_is c.requires.fresh) starts) c.commit_start.ensures.ok
