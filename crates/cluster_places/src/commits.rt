@@ -86,7 +86,8 @@ pub fn step_commit_in<D: Dir + Drop>(
 ) -> Result<bool, NoMemory>
     requires slot { IsSlot places.old.items n.0 }
     requires in_flight { HasStageAt IsSome (place_of places.old.items n.0) }
-    ensures { IfOk result (λ done. CommitsIn (StepsBook done) D.cells n.0 places.old.items places.new.items) }
+    ensures { IfOk result (λ done.
+        CommitsIn (StepsBook done) D.cells n.0 places.old.items places.new.items) }
 {
     let mut place = take(places, n);
     let stepped = step_at(alloc, &mut place.node);
