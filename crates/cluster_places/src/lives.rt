@@ -34,8 +34,11 @@ pub fn crash_in<D: FaultDir + Drop>(
     requires there { place_of places.old.items n.0 ≢ None }
     ensures { OnOk result (CrashesIn D.cells n.0 places.old.items places.new.items) }
 {
-    let Place { node, held } = take(places, n);
-    drop(held);
+    let Place {
+        node,
+        held: tickets,
+    } = take(places, n);
+    drop(tickets);
     let mut dir = dir_in(node);
     let crashed = dir.crash(pick);
     let node = Node::Down(dir);
