@@ -8,9 +8,9 @@ use Rattle.disk_model.specs.Disk.{Name, same}
 use Rattle.disk_model.proofs.CellLemmas.{same_true}
 use Rattle.file_deleter.specs.Holdings.{times}
 use Rattle.file_deleter.proofs.NameLemmas.{times-append}
-use Rattle.index_primary.specs.declared.states.Out.{Out}
-use Rattle.index_primary.specs.States.{same_out, is_out, states_without, state_names}
-use Rattle.index_primary.proofs.StateLemmas.{same_out_self}
+use Rattle.primary_parts.specs.declared.states.Out.{Out}
+use Rattle.primary_parts.specs.States.{same_out, is_out, states_without, state_names}
+use Rattle.primary_parts.proofs.StateLemmas.{same_out_self}
 use Rattle.cluster_places.specs.declared.nodes.Place.{Place}
 use Rattle.cluster_places.specs.Places.{place_of}
 use Rattle.cluster_places.specs.Outs.{one_like, states_like, want_at, jobs_like}
@@ -112,6 +112,14 @@ module _ {D : Type 0} where
           let rest = more (let apart : (n == suc k) ≡ false = here in grind (arith, nat_tests)) in
           let one : one_like s (want_at (place_of new (suc k))) ≡ one_like s (want_at (place_of old (suc k))) = ap (one_like s) (others (suc k) here) in
           omega (arith, rest, one)
+
+  -- places without a job
+  pub jobs_none : (places : List (Option (Place D))) (s : Out) (k : ℕ) → ((m : ℕ) → 1 ≤ m → m ≤ k → want_at (place_of places m) ≡ None) → jobs_like places s k ≡ 0
+  jobs_none places s zero none = refl
+  jobs_none places s (suc k) none =
+      let rest = jobs_none places s k (λ m first last. none m first (omega (arith, last))) in
+      let one : one_like s (want_at (place_of places (suc k))) ≡ 0 = ap (one_like s) (none (suc k) (omega arith) (omega arith)) in
+      omega (arith, rest, one)
 
   -- a job of one of the places is counted
   pub job_counted : (places : List (Option (Place D))) (s : Out) (n k : ℕ) → 1 ≤ n → n ≤ k → want_at (place_of places n) ≡ Some s → 1 ≤ jobs_like places s k

@@ -1,4 +1,5 @@
-//! The program: it runs a script and writes its report, or tells the messages of a stream, or checks an image.
+//! The program: it runs a script and writes its report, or tells the messages of a stream, or checks an image, or runs the generated
+//! script and writes its summary.
 #![tactic(auto)]
 
 ghost use Rattle.std.specs.Prelude.{◌≡◌};
@@ -6,6 +7,8 @@ ghost use Rattle.nrt_main.specs.Statuses.{cause_number};
 
 mod built;
 mod checking;
+mod gate;
+mod loading;
 mod message;
 mod reading;
 mod standard;
@@ -15,6 +18,7 @@ mod tests;
 mod top;
 mod writing;
 
+use crate::gate::OpenGate;
 use crate::message::{line_of, stream_cause, unknown_word};
 use crate::standard::{StdSink, StdSource};
 use crate::status::Status;
@@ -87,7 +91,8 @@ fn explain(rt: &HostRuntime, status: Status, script: &[u8]) -> io::Result<()> {
         Status::Usage => {
             eprintln!(rt; "usage: nrt run < SCRIPT")?;
             eprintln!(rt; "       nrt frames < STREAM")?;
-            eprintln!(rt; "       nrt check < IMAGE")
+            eprintln!(rt; "       nrt check < IMAGE")?;
+            eprintln!(rt; "       nrt load N, N from 1 to 10000")
         }
         Status::BadScript(line, cause) => {
             eprintln!(rt; "line {} cause {}", line.0, cause_number(cause))?;
@@ -110,10 +115,12 @@ fn main(rt: HostRuntime) -> ExitCode {
     let mut kept: Option<Cluster<MemDir>> = None;
     let status = match words(&rt) {
         Ok(words) => run_nrt(
+            &rt,
             rt.alloc(),
             words.as_slice(),
             &mut source,
             &mut sink,
+            &OpenGate,
             &mut kept,
         ),
         Err(error) => match error.kind() {

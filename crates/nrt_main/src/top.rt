@@ -6,11 +6,13 @@ ghost use Rattle.nrt_main.specs.Headline.{Ran, Answers, RanInPart, AnswersInPart
 ghost use Rattle.frames_run.specs.Runs.{GaveBadStream, GaveMore};
 ghost use Rattle.nrt_main.specs.Frames.{IsFrames, RanFrames, RanFramesInPart, IsFramesAnswer};
 ghost use Rattle.nrt_main.specs.Check.{IsCheck, RanCheck, FoundWrong, RanCheckInPart, GaveNoImage, AnswersCheck};
+ghost use Rattle.nrt_main.specs.Load.{IsLoad, IsLoadOf, LeavesSummary, LeavesSummaryInPart, IsUnrun, IsLoadAnswer};
 ghost use Rattle.nrt_main.specs.Rows.{IsKnownRow};
 ghost use Rattle.nrt_main.specs.TopCalls.{IsRefusal, IsReport, LeavesText, LeavesFront};
 
 use crate::built::first_not_built;
 use crate::checking::check_source;
+use crate::loading::{load, load_asked};
 use crate::reading::{ReadEnd, read_all};
 use crate::status::Status;
 use crate::writing::write_all;
@@ -18,16 +20,19 @@ use cluster_core::Cluster;
 use cluster_run::run_script;
 use disk_memory::MemDir;
 use frames_run::{FramesEnd, run_frames};
+use lane_sections::Gate;
 use nrt_base::{LineNo, NoMemory};
 use nrt_streams::{Arg, Sink, Source};
 use report_text::report_entries;
 use script_serving::Script;
 use script_text::{LineFault, ScriptFault, parse_script};
 use std::alloc::Global;
+use std::sync::Wait;
+use std::thread::Threads;
 
 /// The script that the bytes are, where the program runs its every statement; else the answer to them.
 #[tactic(auto, using(crate::proofs::AnswerLaws::refused_line))]
-fn read_script(alloc: Global, bytes: &[u8]) -> Result<Script, Status>
+pub fn read_script(alloc: Global, bytes: &[u8]) -> Result<Script, Status>
     requires { length bytes.now ≤ longest }
     ensures script { IfOk result (IsRunnable bytes.now) }
     ensures form { IfOk result IsInForm }
@@ -46,20 +51,27 @@ fn read_script(alloc: Global, bytes: &[u8]) -> Result<Script, Status>
 }
 
 /// A run of the script, and its report.
-fn run_report(alloc: Global, script: &Script) -> Result<(Cluster<MemDir>, Vec<u8>), NoMemory>
+fn run_report<R: Threads + Wait + Sync, G: Gate + Sync>(
+    rt: &R,
+    alloc: Global,
+    gate: &G,
+    script: &Script,
+) -> Result<(Cluster<MemDir>, Vec<u8>), NoMemory>
     requires form { IsInForm script.now }
     requires built { IsPlainScript script.now }
     ensures { IfOk result (λ run. IsReport script.now run.0 run.1.items) }
 {
-    let cluster = run_script(alloc, script)?;
+    let cluster = run_script(rt, alloc, gate, script)?;
     let text = report_entries(alloc, cluster.entries())?;
     Ok((cluster, text))
 }
 
 /// Runs the script that the bytes are.
 #[tactic(auto, using(crate::proofs::BuiltScripts::is_built_script, crate::proofs::Leaving::leaves_text, crate::proofs::Leaving::leaves_front, crate::proofs::Leaving::answers_text, crate::proofs::Leaving::answers_front, crate::proofs::AnswerLaws::run_answer, crate::proofs::AnswerLaws::refusal_answer))]
-fn run_bytes<K: Sink>(
+fn run_bytes<R: Threads + Wait + Sync, K: Sink, G: Gate + Sync>(
+    rt: &R,
     alloc: Global,
+    gate: &G,
     bytes: &[u8],
     sink: &mut K,
     left: &mut Option<Cluster<MemDir>>,
@@ -90,7 +102,7 @@ fn run_bytes<K: Sink>(
         Ok(script) => script,
         Err(status) => return status,
     };
-    let Ok((cluster, text)) = run_report(alloc, &script) else {
+    let Ok((cluster, text)) = run_report(rt, alloc, gate, &script) else {
         return Status::Memory;
     };
     *left = Some(cluster);
@@ -117,8 +129,10 @@ fn is_word(words: &[Arg], word: &[u8]) -> bool
 }
 
 /// Reads a script from the source, runs it, and writes its report to the sink.
-fn run_source<S: Source, K: Sink>(
+fn run_source<R: Threads + Wait + Sync, S: Source, K: Sink, G: Gate + Sync>(
+    rt: &R,
     alloc: Global,
+    gate: &G,
     source: &mut S,
     sink: &mut K,
     left: &mut Option<Cluster<MemDir>>,
@@ -151,7 +165,7 @@ fn run_source<S: Source, K: Sink>(
     ensures none { result ≢ Status.Done → result ≢ Status.WriteFault → left.new ≡ None }
 {
     match read_all(alloc, source) {
-        Ok(bytes) => run_bytes(alloc, bytes.as_slice(), sink, left),
+        Ok(bytes) => run_bytes(rt, alloc, gate, bytes.as_slice(), sink, left),
         Err(ReadEnd::Memory) => Status::Memory,
         Err(ReadEnd::Fault) => Status::ReadFault,
         Err(ReadEnd::TooLarge) => Status::TooLarge,
@@ -210,12 +224,19 @@ fn frames_source<S: Source, K: Sink>(alloc: Global, source: &mut S, sink: &mut K
 /// sink. Where it is done, the source was read to its end, and the directory has no commit, or stands for the documents of
 /// the newest. `BadIndex` names the first thing that is wrong with it, and `BadImage` says that the bytes are no image.
 ///
+/// `load N`: it runs the generated script of N documents, N from 1 to 10,000, and writes its summary to the sink; it reads nothing. Where
+/// it is done, the totals that the sink gained are those of the scan over the documents that the script leaves, whatever the lanes'
+/// threads did in between, and `kept` has the cluster that ran it. `BadScript` names the first line that the program does not run yet.
+///
 /// On every answer but `Done`, `WriteFault` and `BadIndex` the sink is as before.
-pub fn run_nrt<S: Source, K: Sink>(
+#[tactic(auto, using(crate::proofs::Loads::one_word, crate::proofs::Loads::no_word, crate::proofs::Loads::takes_none))]
+pub fn run_nrt<R: Threads + Wait + Sync, S: Source, K: Sink, G: Gate + Sync>(
+    rt: &R,
     alloc: Global,
     words: &[Arg],
     source: &mut S,
     sink: &mut K,
+    gate: &G,
     kept: &mut Option<Cluster<MemDir>>,
 ) -> Status
     requires reads { S.fault_count source.old < 2 ^ 64 - 1 }
@@ -231,8 +252,9 @@ pub fn run_nrt<S: Source, K: Sink>(
         (S.left source.new) (K.held sink.old) (K.held sink.new) }
     ensures part { IsRun words.now → result ≡ Status.WriteFault → RanInPart (S.left source.old)
         (S.left source.new) (K.held sink.old) (K.held sink.new) }
-    ensures bad { (n : LineNo) (cause : LineFault) → result ≡ Status.BadScript n cause → Refuses
-        (S.left source.old) (S.left source.new) n.0 cause }
+    ensures bad { (n : LineNo) (cause : LineFault) → IsRun words.now
+        → result ≡ Status.BadScript n cause
+        → Refuses (S.left source.old) (S.left source.new) n.0 cause }
     ensures answers { IsRun words.now → result ≢ Status.ReadFault → result ≢ Status.TooLarge
         → result ≢ Status.Memory → AnswersWhole (S.left source.old) (S.left source.new) result }
 
@@ -242,7 +264,7 @@ pub fn run_nrt<S: Source, K: Sink>(
     ensures leaves_part { IsRun words.now → result ≡ Status.WriteFault → IsSomeAnd kept.new
         (LeavesRunInPart (S.left source.old) (S.left source.new) (K.held sink.old) (K.held sink.new)) }
     ensures leaves_none { result ≢ Status.Done → result ≢ Status.WriteFault → kept.new ≡ None }
-    ensures leaves_run { ¬ IsRun words.now → kept.new ≡ None }
+    ensures leaves_run { ¬ IsRun words.now → ¬ IsLoad words.now → kept.new ≡ None }
 
     // `frames`.
     ensures frames_done { IsFrames words.now → result ≡ Status.Done → RanFrames (S.left source.old)
@@ -270,7 +292,18 @@ pub fn run_nrt<S: Source, K: Sink>(
         → result ≢ Status.TooLarge → result ≢ Status.Memory
         → AnswersCheck (S.left source.old) (S.left source.new) result }
 
-    // All three.
+    // `load`.
+    ensures load_done { (n : ℕ) → IsLoadOf words.now n → result ≡ Status.Done
+        → IsSomeAnd kept.new (LeavesSummary n (K.held sink.old) (K.held sink.new)) }
+    ensures load_part { (n : ℕ) → IsLoadOf words.now n → result ≡ Status.WriteFault
+        → IsSomeAnd kept.new (LeavesSummaryInPart n (K.held sink.old) (K.held sink.new)) }
+    ensures load_bad { (n : ℕ) (line : LineNo) (cause : LineFault) → IsLoadOf words.now n
+        → result ≡ Status.BadScript line cause → IsUnrun n line.0 cause }
+    ensures load_answers { (n : ℕ) → IsLoadOf words.now n → result ≢ Status.Memory
+        → IsLoadAnswer n result }
+    ensures load_unread { IsLoad words.now → source.new ≡ source.old }
+
+    // All four.
     ensures read { result ≡ Status.ReadFault → S.fault_count source.old < S.fault_count source.new }
     ensures write { result ≡ Status.WriteFault → K.fault_count sink.old < K.fault_count sink.new }
     ensures large { result ≡ Status.TooLarge → TakesMore (S.left source.old) (S.left source.new) }
@@ -280,12 +313,15 @@ pub fn run_nrt<S: Source, K: Sink>(
         → sink.new ≡ sink.old }
 {
     if is_word(words, b"run") {
-        run_source(alloc, source, sink, kept)
+        run_source(rt, alloc, gate, source, sink, kept)
     } else if is_word(words, b"frames") {
         frames_source(alloc, source, sink)
     } else if is_word(words, b"check") {
         check_source(alloc, source, sink)
     } else {
-        Status::Usage
+        match load_asked(words) {
+            Some(n) => load(rt, alloc, gate, words, n, sink, kept),
+            None => Status::Usage,
+        }
     }
 }

@@ -2,15 +2,6 @@
 #![tactic(auto)]
 
 #[cfg(test)]
-mod bench;
-#[cfg(test)]
-mod calls;
-#[cfg(test)]
-mod plain;
-#[cfg(test)]
-mod reading;
-mod seen;
+mod merges;
 #[cfg(test)]
 mod tables;
-
-pub use seen::Seen;

@@ -2,25 +2,24 @@
 
 ghost use Rattle.std.specs.Prelude.{IfOk};
 ghost use Rattle.disk_memory.specs.Memory.{cells_in};
-ghost use Rattle.primary_tests.specs.Seeing.{IsEmpty};
+ghost use Rattle.primary_bench.specs.Seeing.{IsEmpty};
 
-use crate::bench::Call::{
+use disk_memory::MemDir;
+use nrt_base::NoMemory;
+use primary_bench::Call::{
     self, Accept, Acquire, Commit, GiveBack, HasDueNames, HasMet, Plan, Publish, PublishTo,
     Release, StopAt, TakeState,
 };
-use crate::bench::run;
-use crate::calls::Outcome;
-use crate::plain::Step::{self, Delete, Drop, Put};
-use disk_memory::MemDir;
-use nrt_base::NoMemory;
+use primary_bench::Step::{self, Delete, Drop, Put};
+use primary_bench::{Outcome, run};
 use std::alloc::Global;
 use std::test::Fail;
 
 /// No call of the directory is so far away.
-const FAR: u64 = 1_000_000;
+pub const FAR: u64 = 1_000_000;
 
-// A directory in memory without a file.
-fn empty_dir(alloc: Global) -> Result<MemDir, NoMemory>
+/// A directory in memory without a file.
+pub fn empty_dir(alloc: Global) -> Result<MemDir, NoMemory>
     ensures { IfOk result (λ dir. IsEmpty (cells_in dir)) }
 {
     let dir = MemDir::new(alloc)?;
@@ -213,7 +212,8 @@ fn a_put_wants_a_place_among_256_segments(rt: HostRuntime) -> Result<(), Fail> {
     Ok(())
 }
 
-fn next(seed: &mut u64) -> u64 {
+/// The next number of a random row.
+pub fn next(seed: &mut u64) -> u64 {
     *seed = seed
         .wrapping_mul(6364136223846793005)
         .wrapping_add(1442695040888963407);

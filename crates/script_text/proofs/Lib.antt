@@ -2,12 +2,12 @@ mod AnswerLaws
 mod CauseLemmas
 mod CommandLemmas
 mod DropLemmas
-mod FormLemmas
+pub mod FormLemmas
 mod HeaderLemmas
 mod LaneLineLemmas
 mod LineLemmas
 pub mod NumberLaws
-mod NumberLemmas
+pub mod NumberLemmas
 mod OneLine
 mod PhaseLemmas
 pub mod RefusalLaws

@@ -1,0 +1,7 @@
+mod Cuts
+mod Filling
+mod Writing
+mod Written
+mod Primaries
+mod PublishPaths
+mod PublishFiles

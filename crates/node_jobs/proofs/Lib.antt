@@ -1,0 +1,2 @@
+pub mod JobFiles
+mod JobNumbers

@@ -1,0 +1,5 @@
+mod Carrying
+pub mod MergedFiles
+mod Readied
+pub mod Abandoned
+mod Making
