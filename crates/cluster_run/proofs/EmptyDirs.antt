@@ -1,8 +1,8 @@
 -- A new directory in memory is empty, and so is each image of it.
-use Rattle.std.proofs.Common.{◌≡◌, ℕ, Bool, true, false, List, Some, None, Option, refl, ap, sym, subst, ◌∙◌}
-use Rattle.std.specs.Prelude.{is_none, Result, Ok, Err, IfOk}
+use Rattle.std.proofs.Common.{◌≡◌, ℕ, true, false, List, Some, None, refl, ap, subst}
+use Rattle.std.specs.Prelude.{Result, Ok, Err, IfOk}
 use Rattle.std.proofs.lemmas.Bool.{false≢true}
-use Rattle.disk_model.specs.Disk.{Name, Content, Cell, may_leave}
+use Rattle.disk_model.specs.Disk.{Content, may_leave}
 use Rattle.disk_memory.specs.declared.memory.MemDir.{MemDir}
 use Rattle.disk_memory.specs.Held.{Held, untouched, cell}
 use Rattle.disk_memory.specs.Memory.{table_of, cells_in}

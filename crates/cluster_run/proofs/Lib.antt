@@ -1,10 +1,3 @@
-mod Steps
-mod Jobs
-mod Publishes
-mod Commits
-mod Searches
-mod CopyLemmas
-mod Parts
-mod Phases
+mod BookParts
 mod EmptyDirs
 mod Scripts

@@ -1,4 +1,2 @@
 pub mod Built
-pub mod Going
 pub mod Running
-pub mod Copies

@@ -1,14 +1,11 @@
-//! Scripts, run over a cluster on disks in memory: line by line, part by part, phase by phase. One lane at a time goes on, so that
-//! nothing is in flight between two lines.
+//! Scripts, run over a cluster on disks in memory by lanes in threads: each line in sections of the one lock, and its work between them.
 #![tactic(auto)]
 
-mod copying;
-mod lasting;
-mod line;
-mod part;
-mod phase;
-mod publishing;
-mod script;
-mod searching;
+mod crossing;
+pub mod line;
+pub mod runner;
+pub mod script;
 
+pub use lane_sections::{Gate, Place};
+pub use runner::ClusterLines;
 pub use script::run_script;

@@ -8,14 +8,20 @@ ghost use Rattle.script_serving.specs.Serves.{Serves};
 ghost use Rattle.disk_memory.specs.Memory.{cells_in};
 ghost use Rattle.cluster_state.specs.Starting.{IsEmptyDir};
 ghost use Rattle.cluster_run.specs.Built.{IsPlainScript};
-ghost use Rattle.cluster_run.specs.Running.{history_of, RunsPhases};
+ghost use Rattle.cluster_run.specs.Running.{history_of};
 
-use crate::phase::run_phases;
+use crate::crossing::{book_crosses, sent};
+use crate::runner::ClusterLines;
 use cluster_core::Cluster;
+use cluster_places::Place;
+use cluster_state::ClusterState;
 use disk_memory::MemDir;
+use lane_sections::Gate;
 use nrt_base::NoMemory;
 use script_serving::Script;
 use std::alloc::Global;
+use std::sync::Wait;
+use std::thread::Threads;
 
 // An empty directory in memory.
 fn empty_dir(alloc: Global) -> Result<MemDir, NoMemory>
@@ -36,16 +42,29 @@ fn empty_dirs(alloc: Global, count: u8) -> Result<Vec<MemDir>, NoMemory>
     Ok(dirs)
 }
 
-/// Runs a script on a new cluster, and answers the cluster as the script leaves it. `Err` is want of memory alone.
-pub fn run_script(alloc: Global, script: &Script) -> Result<Cluster<MemDir>, NoMemory>
+/// Runs a script on a new cluster, its lanes in threads of their own, and answers the cluster as the script leaves it. `Err` is want of
+/// memory alone.
+///
+/// Whatever the lanes' threads do in between, the history is legal and serves the script.
+pub fn run_script<R: Threads + Wait + Sync, G: Gate + Sync>(
+    rt: &R,
+    alloc: Global,
+    gate: &G,
+    script: &Script,
+) -> Result<Cluster<MemDir>, NoMemory>
     requires form { IsInForm script.now }
     requires built { IsPlainScript script.now }
     ensures running { IfOk result (λ c. c.ended ≡ false) }
     ensures legal { IfOk result (λ c. IsLegal (history_of c)) }
     ensures serves { IfOk result (λ c. Serves script.now (history_of c)) }
 {
-    let mut cluster = Cluster::start(alloc, empty_dirs(alloc, script.nodes)?)?;
-    run_phases(&mut cluster, alloc, script.phases.as_slice())?;
-    cluster.ended();
-    Ok(cluster)
+    book_crosses();
+    sent::<Vec<Option<Place<MemDir>>>>();
+    sent::<ClusterState<MemDir>>();
+    let nodes = script.nodes;
+    let cluster = Cluster::start(alloc, empty_dirs(alloc, nodes)?)?;
+    let lines = ClusterLines { alloc, nodes, gate };
+    let left = lane_crew::run_script(rt, alloc, &lines, cluster, script)?;
+    left.ended();
+    Ok(left)
 }

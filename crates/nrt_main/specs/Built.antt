@@ -2,13 +2,22 @@
 use Rattle.std.specs.Prelude.{ℕ, ◌≡◌, List, [], ◌∷◌, codes, Bool, ◌&&◌, ◌||◌, if◌then◌else◌, Option, Some, None, bytes_eq}
 use Rattle.script_text.specs.Grammar.{Statement, statements_of, word_at, words_in}
 
--- the program runs lines of this command
-abbrev pub is_built_command : List ℕ → Bool
-is_built_command name =
+-- the program runs lines of this command that writes, copies or reads documents
+abbrev pub is_built_for_documents : List ℕ → Bool
+is_built_for_documents name =
     bytes_eq (codes "put") name || bytes_eq (codes "delete") name || bytes_eq (codes "drop") name || bytes_eq (codes "publish") name
     || bytes_eq (codes "copy") name || bytes_eq (codes "settle") name || bytes_eq (codes "search") name || bytes_eq (codes "open") name
-    || bytes_eq (codes "ask") name || bytes_eq (codes "close") name || bytes_eq (codes "files") name || bytes_eq (codes "commit") name
-    || bytes_eq (codes "crash") name || bytes_eq (codes "reopen") name
+    || bytes_eq (codes "ask") name || bytes_eq (codes "close") name
+
+-- the program runs lines of this command that does something with a node
+abbrev pub is_built_for_nodes : List ℕ → Bool
+is_built_for_nodes name =
+    bytes_eq (codes "files") name || bytes_eq (codes "commit") name || bytes_eq (codes "crash") name || bytes_eq (codes "reopen") name
+    || bytes_eq (codes "promote") name
+
+-- the program runs lines of this command
+abbrev pub is_built_command : List ℕ → Bool
+is_built_command name = is_built_for_documents name || is_built_for_nodes name
 
 -- the program runs a statement of these words: it asks for no workers, says how many nodes there are, ends a phase, or is a line
 -- of such a command

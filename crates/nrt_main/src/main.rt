@@ -6,6 +6,7 @@ ghost use Rattle.nrt_main.specs.Statuses.{cause_number};
 
 mod built;
 mod checking;
+mod gate;
 mod message;
 mod reading;
 mod standard;
@@ -15,6 +16,7 @@ mod tests;
 mod top;
 mod writing;
 
+use crate::gate::OpenGate;
 use crate::message::{line_of, stream_cause, unknown_word};
 use crate::standard::{StdSink, StdSource};
 use crate::status::Status;
@@ -110,10 +112,12 @@ fn main(rt: HostRuntime) -> ExitCode {
     let mut kept: Option<Cluster<MemDir>> = None;
     let status = match words(&rt) {
         Ok(words) => run_nrt(
+            &rt,
             rt.alloc(),
             words.as_slice(),
             &mut source,
             &mut sink,
+            &OpenGate,
             &mut kept,
         ),
         Err(error) => match error.kind() {

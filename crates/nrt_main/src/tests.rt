@@ -1,10 +1,13 @@
+use crate::gate::OpenGate;
 use crate::status::Status;
 use crate::top::run_nrt;
 use nrt_base::LineNo;
 use nrt_streams::{Arg, MemSink, MemSource};
 use script_text::{LONGEST, LineFault};
 use std::alloc::Global;
+use std::sync::Wait;
 use std::test::Fail;
+use std::thread::Threads;
 use text_query::QueryFault;
 
 const PLAIN: &[u8] = b"nodes 2\n1 put a Quick fox\n1 publish\n1 copy 2\n1 search 2 fox\n";
@@ -21,7 +24,8 @@ fn words(alloc: Global, texts: &[&[u8]]) -> Result<Vec<Arg>, Fail> {
 }
 
 /// A run of words over a script, read and written three bytes at a time: its status, and what the sink holds.
-fn run(
+fn run<R: Threads + Wait + Sync>(
+    rt: &R,
     alloc: Global,
     texts: &[&[u8]],
     script: &[u8],
@@ -32,13 +36,21 @@ fn run(
     let mut source = MemSource::new(script.to_vec(alloc)?, 3, reads.to_vec(alloc)?);
     let mut sink = MemSink::new(alloc, 4096, 3, writes.to_vec(alloc)?)?;
     let mut kept = None;
-    let status = run_nrt(alloc, words.as_slice(), &mut source, &mut sink, &mut kept);
+    let status = run_nrt(
+        rt,
+        alloc,
+        words.as_slice(),
+        &mut source,
+        &mut sink,
+        &OpenGate,
+        &mut kept,
+    );
     Ok((status, sink.bytes().to_vec(alloc)?))
 }
 
 #[test]
 fn plain_path(rt: HostRuntime) -> Result<(), Fail> {
-    let (status, text) = run(rt.alloc(), &[b"run"], PLAIN, &[], &[])?;
+    let (status, text) = run(&rt, rt.alloc(), &[b"run"], PLAIN, &[], &[])?;
     assert_eq!(rt; status, Status::Done);
     assert_eq!(rt; text.as_slice(), REPORT);
     Ok(())
@@ -54,7 +66,7 @@ fn statuses(rt: HostRuntime) -> Result<(), Fail> {
         (&[], &[], &[], Status::Usage),
     ];
     for (texts, reads, writes, wanted) in rows {
-        let (status, text) = run(alloc, texts, PLAIN, reads, writes)?;
+        let (status, text) = run(&rt, alloc, texts, PLAIN, reads, writes)?;
         assert_eq!(rt; status, *wanted);
         assert!(rt; text.is_empty());
     }
@@ -79,7 +91,7 @@ fn frames(rt: HostRuntime) -> Result<(), Fail> {
         (NOTICE_AND_MORE, &[], &[], Status::BadStream(4), b""),
     ];
     for (stream, reads, writes, wanted, text) in rows {
-        let (status, written) = run(rt.alloc(), &[b"frames"], stream, reads, writes)?;
+        let (status, written) = run(&rt, rt.alloc(), &[b"frames"], stream, reads, writes)?;
         assert_eq!(rt; status, *wanted);
         assert_eq!(rt; written.as_slice(), *text);
     }
@@ -105,7 +117,7 @@ fn check(rt: HostRuntime) -> Result<(), Fail> {
         (EMPTY_INFOS, &[], &[2], Status::WriteFault, b"che"),
     ];
     for (image, reads, writes, wanted, text) in rows {
-        let (status, written) = run(rt.alloc(), &[b"check"], image, reads, writes)?;
+        let (status, written) = run(&rt, rt.alloc(), &[b"check"], image, reads, writes)?;
         assert_eq!(rt; status, *wanted);
         assert_eq!(rt; written.as_slice(), *text);
     }
@@ -115,7 +127,7 @@ fn check(rt: HostRuntime) -> Result<(), Fail> {
 #[test]
 fn replica_never_copied(rt: HostRuntime) -> Result<(), Fail> {
     let script = b"nodes 2\n1 put a x\n1 publish\n1 search 2 x";
-    let (status, text) = run(rt.alloc(), &[b"run"], script, &[], &[])?;
+    let (status, text) = run(&rt, rt.alloc(), &[b"run"], script, &[], &[])?;
     assert_eq!(rt; status, Status::Done);
     assert!(rt; text.ends_with(b"4 opened 2 0 1\n4 answer 2 0 1 0\n"));
     Ok(())
@@ -125,7 +137,7 @@ fn replica_never_copied(rt: HostRuntime) -> Result<(), Fail> {
 fn drop_and_ranks(rt: HostRuntime) -> Result<(), Fail> {
     let script =
         b"nodes 2\n1 put a red fox red\n1 put b red hen\n1 put c blue hen\n1 publish\n1 search 1 red OR hen\n1 drop red\n1 put d red owl\n1 publish\n1 search 1 red OR hen";
-    let (status, text) = run(rt.alloc(), &[b"run"], script, &[], &[])?;
+    let (status, text) = run(&rt, rt.alloc(), &[b"run"], script, &[], &[])?;
     assert_eq!(rt; status, Status::Done);
     assert!(rt;
         text.ends_with(
@@ -138,7 +150,7 @@ fn drop_and_ranks(rt: HostRuntime) -> Result<(), Fail> {
 #[test]
 fn nothing_to_publish(rt: HostRuntime) -> Result<(), Fail> {
     let script = b"nodes 2\n1 put a x\n1 publish\n1 publish\n1 put b y\n1 publish\n";
-    let (status, text) = run(rt.alloc(), &[b"run"], script, &[], &[])?;
+    let (status, text) = run(&rt, rt.alloc(), &[b"run"], script, &[], &[])?;
     assert_eq!(rt; status, Status::Done);
     assert!(rt; text.ends_with(b"4 refused none\n5 accepted 2\n6 publishing\n6 published 1 3\n"));
     Ok(())
@@ -147,7 +159,7 @@ fn nothing_to_publish(rt: HostRuntime) -> Result<(), Fail> {
 #[test]
 fn comments_are_skipped(rt: HostRuntime) -> Result<(), Fail> {
     let script = b"# two\n nodes  2 \n\n   \n1 publish\n\t";
-    let (status, text) = run(rt.alloc(), &[b"run"], script, &[], &[])?;
+    let (status, text) = run(&rt, rt.alloc(), &[b"run"], script, &[], &[])?;
     assert_eq!(rt; status, Status::BadScript(LineNo(6), LineFault::Text));
     assert!(rt; text.is_empty());
     Ok(())
@@ -169,7 +181,7 @@ fn refused_lines(rt: HostRuntime) -> Result<(), Fail> {
         (b"nodes 2\n1 put a\t", 2, LineFault::Text),
     ];
     for (script, line, cause) in rows {
-        let (status, text) = run(rt.alloc(), &[b"run"], script, &[], &[])?;
+        let (status, text) = run(&rt, rt.alloc(), &[b"run"], script, &[], &[])?;
         assert_eq!(rt; status, Status::BadScript(LineNo(*line), *cause));
         assert!(rt; text.is_empty());
     }
@@ -181,13 +193,13 @@ fn lines_not_built(rt: HostRuntime) -> Result<(), Fail> {
     let rows: &[(&[u8], u32)] = &[
         (b"nodes 2\nworkers 1", 2),
         (b"nodes 2\nlog", 2),
-        (b"nodes 2\n1 crash 1 0\n1 promote 2 auto", 3),
+        (b"nodes 2\n1 crash 1 0\n1 promote 2 auto\n1 merge 2", 4),
         (b"nodes 3\n8 commit 3\njoin\n2 fault stop 1 1", 4),
         (b"nodes 2\n1 merge 2", 2),
         (b"nodes 2\n# x\n2 drain 1", 3),
     ];
     for (script, line) in rows {
-        let (status, text) = run(rt.alloc(), &[b"run"], script, &[], &[])?;
+        let (status, text) = run(&rt, rt.alloc(), &[b"run"], script, &[], &[])?;
         assert_eq!(rt;
             status,
             Status::BadScript(LineNo(*line), LineFault::NotBuilt)
@@ -226,7 +238,59 @@ fn crashes(rt: HostRuntime) -> Result<(), Fail> {
         ),
     ];
     for (script, wanted) in rows {
-        let (status, text) = run(rt.alloc(), &[b"run"], script, &[], &[])?;
+        let (status, text) = run(&rt, rt.alloc(), &[b"run"], script, &[], &[])?;
+        assert_eq!(rt; status, Status::Done);
+        assert!(rt; text.ends_with(wanted));
+    }
+    Ok(())
+}
+
+// A published version that no replica has.
+const UNCOPIED: &[u8] =
+    b"nodes 2\n1 put a x\n1 publish\n1 put b x\n1 publish\n1 put c x\n1 publish\n1 put d x\n1 publish\n1 put e x\n1 publish\n1 copy 2\n1 put f x\n1 publish\n1 crash 1 0\n1 promote 2 6\n1 promote 2 7\n1 search 2 x\n";
+
+// The old primary comes back as a replica.
+const BACK: &[u8] =
+    b"nodes 2\n1 put a x\n1 publish\n1 copy 2\n1 put b x\n1 publish\n1 commit 1\n1 crash 1 0\n1 promote 2 auto\n1 put c x\n1 publish\n1 reopen 1\n1 search 1 x\n1 copy 1\n1 search 1 x\n1 files 1\n";
+
+// Forced versions that are too high, and the highest.
+const HIGH: &[u8] =
+    b"nodes 2\n1 crash 1 0\n1 promote 2 4611686018427387904\n1 promote 2 4611686018427387903\n1 crash 2 0\n1 promote 1 auto\n1 reopen 1\n1 promote 1 auto\n";
+
+// Two live files of one segment, of two generations.
+const LIVE: &[u8] =
+    b"nodes 3\n1 put a x\n1 put c x\n1 publish\n1 copy 2\n1 delete a\n1 publish\n1 copy 3\n1 crash 1 0\n1 promote 2 auto\n1 delete c\n1 publish\n1 copy 3\n1 search 3 x\n1 files 3\n";
+
+// Each refusal of a promotion.
+const REFUSED: &[u8] =
+    b"nodes 3\n1 promote 2 auto\n1 crash 1 0\n1 promote 1 0\n1 promote 2 0\n1 promote 2 4611686018427387904\n";
+
+#[test]
+fn promotions(rt: HostRuntime) -> Result<(), Fail> {
+    let rows: &[(&[u8], &[u8])] = &[
+        (
+            UNCOPIED,
+            b"\n15 crashed 1\n16 refused force-low 7\n17 promoted 2 2 7 8\n18 opened 2 0 8\n18 answer 2 0 8 5 1:a 1:b 1:c 1:d 1:e\n",
+        ),
+        (
+            BACK,
+            b"\n7 committing 1 3\n7 committed 1 3\n8 crashed 1\n9 promoted 2 2 3 4\n10 accepted 3\n11 publishing\n11 published 2 5\n12 reopened 1 3\n13 opened 1 0 3\n13 answer 1 0 3 2 1:a 1:b\n14 copying 1 5\n14 switched 1 5\n14 copied 1 5\n15 opened 1 0 5\n15 answer 1 0 5 2 1:a 1:c\n16 files 1 _10000.docs _10000.post _10000.si _10001.docs _10001.post _10001.si _20000.docs _20000.post _20000.si segments_1\n",
+        ),
+        (
+            HIGH,
+            b"2 crashed 1\n3 refused force-high\n4 promoted 2 2 4611686018427387903 4611686018427387904\n5 crashed 2\n6 refused down\n7 reopened 1 1\n8 refused force-high\n",
+        ),
+        (
+            LIVE,
+            b"\n8 copying 3 3\n8 switched 3 3\n8 copied 3 3\n9 crashed 1\n10 promoted 2 2 3 4\n11 accepted 4\n12 publishing\n12 published 2 5\n13 copying 3 5\n13 switched 3 5\n13 copied 3 5\n14 opened 3 0 5\n14 answer 3 0 5 1 1:a\n15 files 3 _10000.docs _10000.post _10000.si _10000_1z141z5.liv\n",
+        ),
+        (
+            REFUSED,
+            b"2 refused primary-up\n3 crashed 1\n4 refused down\n5 refused force-low 1\n6 refused force-high\n",
+        ),
+    ];
+    for (script, wanted) in rows {
+        let (status, text) = run(&rt, rt.alloc(), &[b"run"], script, &[], &[])?;
         assert_eq!(rt; status, Status::Done);
         assert!(rt; text.ends_with(wanted));
     }
@@ -234,22 +298,34 @@ fn crashes(rt: HostRuntime) -> Result<(), Fail> {
 }
 
 /// The answer to so many line feeds.
-fn line_feeds(alloc: Global, count: usize) -> Result<Status, Fail> {
+fn line_feeds<R: Threads + Wait + Sync>(
+    rt: &R,
+    alloc: Global,
+    count: usize,
+) -> Result<Status, Fail> {
     let words = words(alloc, &[b"run"])?;
     let mut source = MemSource::new(vec![in alloc; b'\n'; count]?, 4096, Vec::new(alloc));
     let mut sink = MemSink::new(alloc, 0, 1, Vec::new(alloc))?;
     let mut kept = None;
-    Ok(run_nrt(alloc, words.as_slice(), &mut source, &mut sink, &mut kept))
+    Ok(run_nrt(
+        rt,
+        alloc,
+        words.as_slice(),
+        &mut source,
+        &mut sink,
+        &OpenGate,
+        &mut kept,
+    ))
 }
 
 #[test]
 fn longest_script(rt: HostRuntime) -> Result<(), Fail> {
-    let full = line_feeds(rt.alloc(), LONGEST)?;
+    let full = line_feeds(&rt, rt.alloc(), LONGEST)?;
     assert_eq!(rt;
         full,
         Status::BadScript(LineNo(16_777_217), LineFault::NoNodes)
     );
-    let over = line_feeds(rt.alloc(), LONGEST + 1)?;
+    let over = line_feeds(&rt, rt.alloc(), LONGEST + 1)?;
     assert_eq!(rt; over, Status::TooLarge);
     Ok(())
 }
@@ -267,7 +343,7 @@ fn forty_lines(alloc: Global) -> Result<Vec<u8>, Fail> {
 fn each_prefix(rt: HostRuntime) -> Result<(), Fail> {
     let script = forty_lines(rt.alloc())?;
     for count in 0..script.len() {
-        let (status, text) = run(rt.alloc(), &[b"run"], &script[..count], &[], &[])?;
+        let (status, text) = run(&rt, rt.alloc(), &[b"run"], &script[..count], &[], &[])?;
         match status {
             Status::Done => {}
             Status::BadScript(..) => assert!(rt; text.is_empty()),

@@ -18,12 +18,15 @@ use cluster_core::Cluster;
 use cluster_run::run_script;
 use disk_memory::MemDir;
 use frames_run::{FramesEnd, run_frames};
+use lane_sections::Gate;
 use nrt_base::{LineNo, NoMemory};
 use nrt_streams::{Arg, Sink, Source};
 use report_text::report_entries;
 use script_serving::Script;
 use script_text::{LineFault, ScriptFault, parse_script};
 use std::alloc::Global;
+use std::sync::Wait;
+use std::thread::Threads;
 
 /// The script that the bytes are, where the program runs its every statement; else the answer to them.
 #[tactic(auto, using(crate::proofs::AnswerLaws::refused_line))]
@@ -46,20 +49,27 @@ fn read_script(alloc: Global, bytes: &[u8]) -> Result<Script, Status>
 }
 
 /// A run of the script, and its report.
-fn run_report(alloc: Global, script: &Script) -> Result<(Cluster<MemDir>, Vec<u8>), NoMemory>
+fn run_report<R: Threads + Wait + Sync, G: Gate + Sync>(
+    rt: &R,
+    alloc: Global,
+    gate: &G,
+    script: &Script,
+) -> Result<(Cluster<MemDir>, Vec<u8>), NoMemory>
     requires form { IsInForm script.now }
     requires built { IsPlainScript script.now }
     ensures { IfOk result (λ run. IsReport script.now run.0 run.1.items) }
 {
-    let cluster = run_script(alloc, script)?;
+    let cluster = run_script(rt, alloc, gate, script)?;
     let text = report_entries(alloc, cluster.entries())?;
     Ok((cluster, text))
 }
 
 /// Runs the script that the bytes are.
 #[tactic(auto, using(crate::proofs::BuiltScripts::is_built_script, crate::proofs::Leaving::leaves_text, crate::proofs::Leaving::leaves_front, crate::proofs::Leaving::answers_text, crate::proofs::Leaving::answers_front, crate::proofs::AnswerLaws::run_answer, crate::proofs::AnswerLaws::refusal_answer))]
-fn run_bytes<K: Sink>(
+fn run_bytes<R: Threads + Wait + Sync, K: Sink, G: Gate + Sync>(
+    rt: &R,
     alloc: Global,
+    gate: &G,
     bytes: &[u8],
     sink: &mut K,
     left: &mut Option<Cluster<MemDir>>,
@@ -90,7 +100,7 @@ fn run_bytes<K: Sink>(
         Ok(script) => script,
         Err(status) => return status,
     };
-    let Ok((cluster, text)) = run_report(alloc, &script) else {
+    let Ok((cluster, text)) = run_report(rt, alloc, gate, &script) else {
         return Status::Memory;
     };
     *left = Some(cluster);
@@ -117,8 +127,10 @@ fn is_word(words: &[Arg], word: &[u8]) -> bool
 }
 
 /// Reads a script from the source, runs it, and writes its report to the sink.
-fn run_source<S: Source, K: Sink>(
+fn run_source<R: Threads + Wait + Sync, S: Source, K: Sink, G: Gate + Sync>(
+    rt: &R,
     alloc: Global,
+    gate: &G,
     source: &mut S,
     sink: &mut K,
     left: &mut Option<Cluster<MemDir>>,
@@ -151,7 +163,7 @@ fn run_source<S: Source, K: Sink>(
     ensures none { result ≢ Status.Done → result ≢ Status.WriteFault → left.new ≡ None }
 {
     match read_all(alloc, source) {
-        Ok(bytes) => run_bytes(alloc, bytes.as_slice(), sink, left),
+        Ok(bytes) => run_bytes(rt, alloc, gate, bytes.as_slice(), sink, left),
         Err(ReadEnd::Memory) => Status::Memory,
         Err(ReadEnd::Fault) => Status::ReadFault,
         Err(ReadEnd::TooLarge) => Status::TooLarge,
@@ -211,11 +223,13 @@ fn frames_source<S: Source, K: Sink>(alloc: Global, source: &mut S, sink: &mut K
 /// the newest. `BadIndex` names the first thing that is wrong with it, and `BadImage` says that the bytes are no image.
 ///
 /// On every answer but `Done`, `WriteFault` and `BadIndex` the sink is as before.
-pub fn run_nrt<S: Source, K: Sink>(
+pub fn run_nrt<R: Threads + Wait + Sync, S: Source, K: Sink, G: Gate + Sync>(
+    rt: &R,
     alloc: Global,
     words: &[Arg],
     source: &mut S,
     sink: &mut K,
+    gate: &G,
     kept: &mut Option<Cluster<MemDir>>,
 ) -> Status
     requires reads { S.fault_count source.old < 2 ^ 64 - 1 }
@@ -280,7 +294,7 @@ pub fn run_nrt<S: Source, K: Sink>(
         → sink.new ≡ sink.old }
 {
     if is_word(words, b"run") {
-        run_source(alloc, source, sink, kept)
+        run_source(rt, alloc, gate, source, sink, kept)
     } else if is_word(words, b"frames") {
         frames_source(alloc, source, sink)
     } else if is_word(words, b"check") {

@@ -1,0 +1,3 @@
+mod Stays
+mod JobCalls
+mod Steps

@@ -1,0 +1,11 @@
+//! Lines that copy points to nodes and settle, on a cluster that lanes share.
+#![tactic(auto)]
+
+pub mod calls;
+pub mod carrying;
+pub mod copying;
+pub mod jobs;
+pub mod settling;
+
+pub use copying::copy;
+pub use settling::settle;
