@@ -1,4 +1,4 @@
-use Rattle.std.proofs.Common.{◌≡◌, List, ℕ, map, arith, subst, length}
+use Rattle.std.proofs.Common.{List, ℕ, map, arith, subst}
 use Rattle.std.proofs.lemmas.List.{length-map}
 use Rattle.docs_plain.specs.Documents.{IsDocumentsFile}
 use Rattle.postings_plain.specs.Body.{in_format, IsPostingsFile}
