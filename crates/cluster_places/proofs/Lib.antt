@@ -3,6 +3,7 @@ mod JobFiles
 pub mod Keys
 mod CommitPlaces
 mod CrashedPlaces
+mod EndedJobs
 pub mod OutCounts
 mod Slots
 pub mod Stepping

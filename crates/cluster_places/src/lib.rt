@@ -3,6 +3,7 @@
 #![tactic(auto)]
 
 mod commits;
+mod ends;
 mod held;
 mod jobs;
 mod lists;
