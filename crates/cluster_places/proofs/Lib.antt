@@ -1,5 +1,4 @@
 mod HeldRows
-mod JobFiles
 pub mod Keys
 mod CommitPlaces
 mod CrashedPlaces
