@@ -2,8 +2,6 @@
 //! out.
 #![tactic(auto)]
 
-mod commits;
-mod ends;
 mod held;
 mod lists;
 mod nodes;

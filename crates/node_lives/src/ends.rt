@@ -7,10 +7,10 @@ ghost use Rattle.cluster_places.specs.Outs.{want_of, want_at};
 ghost use Rattle.cluster_places.specs.Places.{place_of, IsSlot};
 ghost use Rattle.cluster_places.specs.Ends.{EndsJob, EndsNodeJob, EndsPlaceJob, CanTakeBack, TakesBackIn, CanEnd, EndsWith};
 
-use crate::nodes::{Node, Place, primary_in, put, take};
-use crate::states::share_state;
+use cluster_places::{Node, Place, primary_in, put, take};
 use copy_state::CopyState;
 use disk_model::Dir;
+use node_jobs::share_state;
 use nrt_base::{NoMemory, NodeNo};
 use replica_node::Replica;
 use std::alloc::Global;
