@@ -6,4 +6,4 @@ mod states;
 mod transfers;
 
 pub use states::share_state;
-pub use transfers::{begin_in, finish_in, next_in, read_in, take_in};
+pub use transfers::{begin_in, finish_in, next_in, read_in, take_in, take_replica};
