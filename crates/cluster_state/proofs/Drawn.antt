@@ -17,7 +17,7 @@ use Rattle.history_tables.proofs.RowLemmas.{by_test}
 use Rattle.cluster_state.proofs.Growing.{generation_more}
 
 -- a generation that is not there yet has drawn nothing
-none_drawn : (size : ℕ) (g : ℕ) (past : Past) → IsLegalPast size past → generation_of past < g → names_drawn_in g past ≡ 0
+pub none_drawn : (size : ℕ) (g : ℕ) (past : Past) → IsLegalPast size past → generation_of past < g → names_drawn_in g past ≡ 0
 none_drawn size g [] legal above = refl
 none_drawn size g (e ∷ past) legal above =
     let low = generation_more size past e.at e.event legal.0 in

@@ -195,9 +195,6 @@ module _ {D : Type 0} (cells : D → Cells) (source : Name → Content) where
     outs = λ s. subst (λ (ts : List Out). jobs s ≤ states_like s ts) (sym fills.states) (was.outs s);
   }
     where
-      held_now : HeldReadAs (widened source (cells q.dir) q.files) (cells q.dir) q.files
-      held_now = record { each = λ name lasting counted. held name lasting counted (count_of p.files name) refl }
-
       held : (name : Name) → IsLasting name → 0 < count_of q.files name → (k : ℕ) → count_of p.files name ≡ k → (cells q.dir name).now ≡ widened source (cells q.dir) q.files name
       held name lasting counted zero is =
           let none : source name ≡ None = was.unwritten name (fills.fresh.each name is counted) in
@@ -208,3 +205,6 @@ module _ {D : Type 0} (cells : D → Cells) (source : Name → Content) where
           let now : (cells q.dir name).now ≡ source name = fills.stays.held name before counted ∙ was.held.each name lasting before in
           let there : is_some (source name) ≡ true = ap is_some (sym now) ∙ (whole.node.whole.names name ∙ known_counted q.files name counted) in
           now ∙ sym (some_wider source (widened source (cells q.dir) q.files) name (widened_more source (cells q.dir) q.files) there)
+
+      held_now : HeldReadAs (widened source (cells q.dir) q.files) (cells q.dir) q.files
+      held_now = record { each = λ name lasting counted. held name lasting counted (count_of p.files name) refl }
