@@ -74,10 +74,15 @@ module _ {D : Type 0} where
     pub held : new.held ≡ old.held
     pub node : NodeOutlives cells crashed this state old.node new.node
 
+  -- the same of what is there
+  abbrev pub PlaceOutlives : (D → Cells) → (crashed this : Bool) → Option Out → Option (Place D) → Option (Place D) → Type 0
+  PlaceOutlives cells crashed this state None new = new ≡ None
+  PlaceOutlives cells crashed this state (Some x) new = IsSomeAnd new (Outlives cells crashed this state x)
+
   -- what becomes of all places but that of the node
   abbrev pub OthersOutlive : (D → Cells) → Option NodeNo → ℕ → List (Option (Place D)) → List (Option (Place D)) → Type 0
-  OthersOutlive cells primary n old new = (m : ℕ) → (n == m) ≡ false → (x : Place D) → place_of old m ≡ Some x
-      → IsSomeAnd (place_of new m) (Outlives cells (is_at primary n) (is_at primary m) (want_at (place_of old n)) x)
+  OthersOutlive cells primary n old new = (m : ℕ) → (n == m) ≡ false
+      → PlaceOutlives cells (is_at primary n) (is_at primary m) (want_at (place_of old n)) (place_of old m) (place_of new m)
 
   -- so it is, and the node itself is as before
   pub record EndsWith (cells : D → Cells) (primary : Option NodeNo) (n : ℕ) (old new : List (Option (Place D))) : Type 0 where

@@ -1,6 +1,6 @@
 -- A node that crashed, in its place.
-use Rattle.std.proofs.Common.{◌≡◌, ◌≢◌, ◌==◌, ℕ, true, false, List, [], Some, None, Option, Vec, Global, Result, Ok, Err, length, refl, ap, ◌∙◌, sym, subst, if◌then◌else◌}
-use Rattle.std.specs.Prelude.{OnOk, IsSomeAnd}
+use Rattle.std.proofs.Common.{◌≡◌, ◌≢◌, ◌==◌, ℕ, Bool, true, false, List, [], Some, None, Option, Vec, Global, Result, Ok, Err, length, refl, ap, ◌∙◌, sym, subst, if◌then◌else◌}
+use Rattle.std.specs.Prelude.{OnOk}
 use Rattle.std.proofs.lemmas.Bool.{eq-eqb}
 use Rattle.nrt_base.specs.declared.numbers.NodeNo.{NodeNo}
 use Rattle.disk_model.specs.Disk.{Cells, HasCrashed}
@@ -10,7 +10,7 @@ use Rattle.cluster_places.specs.declared.nodes.Node.TheVariants.{Down}
 use Rattle.cluster_places.specs.declared.nodes.Place.{Place}
 use Rattle.cluster_places.specs.Places.{place_of, dir_of, IsSlot}
 use Rattle.cluster_places.specs.Outs.{want_at}
-use Rattle.cluster_places.specs.Ends.{Outlives, EndsWith}
+use Rattle.cluster_places.specs.Ends.{PlaceOutlives, EndsWith}
 use Rattle.cluster_places.specs.Lives.{CrashesIn}
 use Rattle.cluster_places.proofs.Taking.{moved_one}
 
@@ -37,8 +37,8 @@ module _ {D : Type 0} (cells : D → Cells) where
         none = none;
         crashed = crashed;
         count = moves.count ∙ ends.count;
-        here = moves.there n ∙ ap (λ (t : _). if t then Some left else place_of a n) (eq-eqb n n refl);
-        others = λ m apart z is. subst (λ (o : Option (Place D)). IsSomeAnd o (Outlives cells (is_at primary n) (is_at primary m) (want_at (place_of old n)) z))
-            (sym (moves.there m ∙ ap (λ (t : _). if t then Some left else place_of a m) apart)) (ends.others m apart z is);
+        here = moves.there n ∙ ap (λ (t : Bool). if t then Some left else place_of a n) (eq-eqb n n refl);
+        others = λ m apart. subst (λ (o : Option (Place D)). PlaceOutlives cells (is_at primary n) (is_at primary m) (want_at (place_of old n)) (place_of old m) o)
+            (sym (moves.there m ∙ ap (λ (t : Bool). if t then Some left else place_of a m) apart)) (ends.others m apart);
       }
   crashed_in (Err e) primary old a b new n place dir held ends there none cm tm cn tn crashed = tt

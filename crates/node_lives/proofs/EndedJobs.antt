@@ -23,7 +23,7 @@ use Rattle.cluster_places.specs.Places.{place_of, IsSlot, HasPrimary}
 use Rattle.cluster_places.specs.Outs.{want_at}
 use Rattle.cluster_places.specs.JobChanges.{given_back, AltersStates, AltersJob}
 use Rattle.cluster_places.specs.JobPlaces.{MovesOne}
-use Rattle.cluster_places.specs.Ends.{EndsJob, EndsNodeJob, EndsPlaceJob, TakesBack, CanTakeBack, TakesBackIn, Outlives, EndsWith}
+use Rattle.cluster_places.specs.Ends.{EndsJob, EndsNodeJob, EndsPlaceJob, TakesBack, CanTakeBack, TakesBackIn, Outlives, PlaceOutlives, EndsWith}
 use Rattle.cluster_places.proofs.Stepping.{alters_none, job_none}
 use Rattle.cluster_places.proofs.Slots.{place_set}
 use Rattle.cluster_places.proofs.Taking.{moved_one}
@@ -109,57 +109,51 @@ module _ {D : Type 0} (cells : D → Cells) where
       node (Replica r) at has same = absurd has
       node (Down d) at has same = absurd has
 
+  -- a job that ended outlives the primary
+  ended_outlives : (this : Bool) (state : Option Out) (o new : Option (Place D)) → EndsPlaceJob cells o new → PlaceOutlives cells true this state o new
+  ended_outlives this state None new is = is
+  ended_outlives this state (Some x) None is = is
+  ended_outlives this state (Some x) (Some y) is = record { held = is.0; node = is.1 }
+
   pub primary_ends : (p n : NodeNo) (old new : List (Option (Place D))) → p.0 ≡ n.0 → HasPrimary (place_of old p.0) → length new ≡ length old → ((m : ℕ) → EndsPlaceJob cells (place_of old m) (place_of new m))
       → EndsWith cells (Some p) n.0 old new
   primary_ends p n old new is has count each = record {
     count = count;
     here = primary_same (place_of old n.0) (place_of new n.0) (subst (λ (k : ℕ). HasPrimary (place_of old k)) is has) (each n.0);
-    others = λ m apart x there. by m x there (p.0 == n.0) (eq-eqb p.0 n.0 is);
+    others = λ m apart. subst (λ (b : Bool). PlaceOutlives cells b (p.0 == m) (want_at (place_of old n.0)) (place_of old m) (place_of new m)) (sym (eq-eqb p.0 n.0 is))
+        (ended_outlives (p.0 == m) (want_at (place_of old n.0)) (place_of old m) (place_of new m) (each m));
   }
-    where
-      by : (m : ℕ) (x : Place D) → place_of old m ≡ Some x → (b : Bool) → b ≡ true → IsSomeAnd (place_of new m) (Outlives cells b (p.0 == m) (want_at (place_of old n.0)) x)
-      by m x there true here = some (place_of new m) (subst (λ (o : Option (Place D)). EndsPlaceJob cells o (place_of new m)) there (each m))
-        where
-          some : (o : Option (Place D)) → EndsPlaceJob cells (Some x) o → IsSomeAnd o (Outlives cells true (p.0 == m) (want_at (place_of old n.0)) x)
-          some None is = is
-          some (Some y) is = record { held = is.0; node = is.1 }
-      by m x there false here = absurd (true≢false (sym here))
 
   -- ---- a replica crashes, or nobody is primary
 
+  same_outlives : (state : Option Out) (o new : Option (Place D)) → new ≡ o → PlaceOutlives cells false false state o new
+  same_outlives state None new is = is
+  same_outlives state (Some x) new is = subst (λ (o : Option (Place D)). IsSomeAnd o (Outlives cells false false state x)) (sym is) (record { held = refl; node = refl })
+
   pub none_ends : (n : ℕ) (places : List (Option (Place D))) → EndsWith cells None n places places
-  none_ends n places = record {
-    count = refl;
-    here = refl;
-    others = λ m apart x there. subst (λ (o : Option (Place D)). IsSomeAnd o (Outlives cells false false (want_at (place_of places n)) x)) (sym there) (record { held = refl; node = refl });
-  }
+  none_ends n places = record { count = refl; here = refl; others = λ m apart. same_outlives (want_at (place_of places n)) (place_of places m) (place_of places m) refl }
 
   pub replica_ends : (p n : NodeNo) (old new : List (Option (Place D))) → (p.0 == n.0) ≡ false → TakesBackIn cells p.0 n.0 old new → EndsWith cells (Some p) n.0 old new
   replica_ends p n old new apart takes = record {
     count = takes.moves.count;
     here = takes.moves.there n.0 ∙ ap (λ (t : Bool). if t then Some left else place_of old n.0) apart;
-    others = λ m away x there. first m x there (p.0 == n.0) apart;
+    others = λ m away. subst (λ (b : Bool). PlaceOutlives cells b (p.0 == m) state (place_of old m) (place_of new m)) (sym apart) (other m (p.0 == m) refl);
   }
     where
+      state : Option Out
+      state = want_at (place_of old n.0)
+
       left : Place D
       left = record { node = Primary takes.primary; held = takes.at.held }
 
-      other : (m : ℕ) (x : Place D) → place_of old m ≡ Some x → (b : Bool) → (p.0 == m) ≡ b → IsSomeAnd (place_of new m) (Outlives cells false b (want_at (place_of old n.0)) x)
-      other m x there true here =
-          let is : p.0 ≡ m = eqb-true p.0 m here in
-          let was : Some (record { node = Primary takes.at.parts; held = takes.at.held }) ≡ Some x = sym takes.at.there ∙ (ap (place_of old) is ∙ there) in
-          subst (λ (o : Option (Place D)). IsSomeAnd o (Outlives cells false true (want_at (place_of old n.0)) x)) (sym (takes.moves.there m ∙ ap (λ (t : Bool). if t then Some left else place_of old m) here))
-          (mine x was)
-        where
-          mine : (z : Place D) → Some (record { node = Primary takes.at.parts; held = takes.at.held }) ≡ Some z → Outlives cells false true (want_at (place_of old n.0)) z left
-          mine z was = subst (λ (o : Option (Place D)). IsSomeAnd o (λ y. Outlives cells false true (want_at (place_of old n.0)) y left)) was (record { held = refl; node = takes.back })
-      other m x there false far =
-          subst (λ (o : Option (Place D)). IsSomeAnd o (Outlives cells false false (want_at (place_of old n.0)) x)) (sym ((takes.moves.there m ∙ ap (λ (t : Bool). if t then Some left else place_of old m) far) ∙ there))
-          (record { held = refl; node = refl })
+      mine : PlaceOutlives cells false true (want_at (place_of old n.0)) (Some (record { node = Primary takes.at.parts; held = takes.at.held })) (Some (record { node = Primary takes.primary; held = takes.at.held }))
+      mine = record { held = refl; node = takes.back }
 
-      first : (m : ℕ) (x : Place D) → place_of old m ≡ Some x → (a : Bool) → a ≡ false → IsSomeAnd (place_of new m) (Outlives cells a (p.0 == m) (want_at (place_of old n.0)) x)
-      first m x there false is = other m x there (p.0 == m) refl
-      first m x there true is = absurd (true≢false is)
+      other : (m : ℕ) (b : Bool) → (p.0 == m) ≡ b → PlaceOutlives cells false b (want_at (place_of old n.0)) (place_of old m) (place_of new m)
+      other m true here =
+          subst (λ (x : Option (Place D) × Option (Place D)). PlaceOutlives cells false true (want_at (place_of old n.0)) x.0 x.1)
+          (λ i. ((sym takes.at.there ∙ ap (place_of old) (eqb-true p.0 m here)) i, sym (takes.moves.there m ∙ ap (λ (t : Bool). if t then Some left else place_of old m) here) i)) mine
+      other m false far = same_outlives (want_at (place_of old n.0)) (place_of old m) (place_of new m) (takes.moves.there m ∙ ap (λ (t : Bool). if t then Some left else place_of old m) far)
 
   -- in the terms of a call
   pub replica_end : {E : Type 0} (result : Result Unit E) (p n : NodeNo) (old new : List (Option (Place D))) → (p.0 == n.0) ≡ false → OnOk result (TakesBackIn cells p.0 n.0 old new) → OnOk result (EndsWith cells (Some p) n.0 old new)
@@ -167,9 +161,6 @@ module _ {D : Type 0} (cells : D → Cells) where
   replica_end (Err e) p n old new apart takes = tt
 
   -- ---- the state is taken back
-
-  primary_of_place : (o : Option (Place D)) (q : PrimaryParts D) (held : Vec Held Global) → o ≡ Some (record { node = Primary q; held = held }) → o ≡ Some (record { node = Primary q; held = held })
-  primary_of_place o q held is = is
 
   -- no job, no state
   pub nothing_back : (p n : ℕ) (places : List (Option (Place D))) → CanTakeBack p n places → want_at (place_of places n) ≡ None → TakesBackIn cells p n places places
