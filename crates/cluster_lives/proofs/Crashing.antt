@@ -27,6 +27,7 @@ use Rattle.node_files.specs.Node.{IsWholeNode}
 use Rattle.index_primary.specs.declared.parts.Parts.{Parts as PrimaryParts}
 use Rattle.index_primary.specs.declared.states.Out.{Out}
 use Rattle.index_primary.specs.Primary.{primary_names}
+use Rattle.index_primary.specs.States.{is_out}
 use Rattle.replica_opening.specs.Opening.{FindsPoint, opening_infos}
 use Rattle.replica_opening.specs.Opened.{IsSettledOn}
 use Rattle.replica_opening.proofs.Settled.{restarted_settled}
@@ -49,6 +50,7 @@ use Rattle.history_tables.specs.declared.jobs.Job.{Job}
 use Rattle.history_tables.specs.declared.jobs.JobRow.{JobRow}
 use Rattle.history_tables.specs.JobRows.{while_going}
 use Rattle.history_tables.specs.NodeRows.{crashed_at}
+use Rattle.history_tables.proofs.RowLemmas.{by_test}
 use Rattle.history_tables.specs.Numbering.{primary_crashed}
 use Rattle.history_book.specs.Log.{Log, Pages, printed, shown}
 use Rattle.history_book.specs.Laws.{IsFresh}
@@ -60,28 +62,32 @@ use Rattle.cluster_places.specs.declared.held.Held.{Held}
 use Rattle.cluster_places.specs.declared.nodes.Node.{Node}
 use Rattle.cluster_places.specs.declared.nodes.Node.TheVariants.{Primary, Replica, Down}
 use Rattle.cluster_places.specs.declared.nodes.Place.{Place}
-use Rattle.cluster_places.specs.Places.{Disk, place_of, disk_of, disk_at, dir_of}
+use Rattle.cluster_places.specs.Places.{Disk, place_of, disk_of, disk_at, dir_of, HasPrimary}
 use Rattle.cluster_places.specs.Outs.{one_like, want_at, jobs_like, states_like}
+use Rattle.cluster_places.specs.JobChanges.{given_back}
+use Rattle.cluster_places.specs.Ends.{EndsJob, TakesBack, CanTakeBack, CanEnd, NodeOutlives, PlaceOutlives}
 use Rattle.cluster_places.specs.Lives.{CrashesIn}
-use Rattle.cluster_places.proofs.OutCounts.{jobs_moved}
+use Rattle.cluster_places.proofs.OutCounts.{jobs_moved, jobs_none, job_counted, states_given, is_there}
 use Rattle.cluster_state.specs.Lookups.{IsSearching}
 use Rattle.cluster_state.specs.State.{NodeShows, PlaceShows, Shows, HoldsTickets}
 use Rattle.cluster_state.specs.Files.{JobShows, IsJobFor, ReplicaFiles, PrimaryFiles, NodeFiles, FilesShow}
 use Rattle.cluster_state.specs.FileChanges.{SameJob}
 use Rattle.cluster_state.specs.Names.{NamesShow}
-use Rattle.cluster_state.specs.Disks.{IsPastPoint, MayFindPoint, LastShows, StageShows, BookShows, DirShows, DiskShows, DisksShow, CommitsStay}
+use Rattle.cluster_state.specs.Disks.{IsPastPoint, MayFindPoint, LastShows, StageShows, BookShows, DirShows, DiskShows, DisksShow, PointsStay, CommitsStay}
 use Rattle.cluster_state.proofs.Growing.{lasts, same, fewer, not_flying}
 use Rattle.cluster_state.specs.Run.{Run}
 use Rattle.cluster_state.proofs.Frames.{some_at, some_then, place_same, was, now_is}
 use Rattle.cluster_state.proofs.JobFrames.{begun_still}
 use Rattle.cluster_state.proofs.Drawn.{Grows, grows_shown}
-use Rattle.cluster_state.proofs.Naming.{FilesLast, means_more, node_grows}
+use Rattle.cluster_state.proofs.Naming.{FilesLast, means_more}
 use Rattle.cluster_state.proofs.Disks.{fresh_flights, commits_shown, disk_stays}
 use Rattle.cluster_state.proofs.Points.{points_shown, point_stays}
-use Rattle.cluster_state.proofs.Wider.{primary_stays}
-use Rattle.cluster_state.proofs.FileFrames.{Both, both_of, one_each, replica_same, before, files_was, files_is}
+use Rattle.cluster_state.proofs.Wider.{primary_stays, primary_kept}
+use Rattle.cluster_state.proofs.FileFrames.{Both, both_of, replica_same, before, files_was, files_is}
+use Rattle.cluster_state.proofs.FileJobs.{PrimaryHere, primary_here}
 use Rattle.cluster_state.proofs.Turning.{past_has}
 use Rattle.cluster_state.proofs.PointStands.{opening_stands, opening_writable}
+use Rattle.cluster_lives.proofs.Outliving.{place_outlives, disk_outlives, names_outlive, wants_end, wants_stay, each_outlives}
 
 -- ---- the past
 
@@ -323,12 +329,19 @@ module _ {D : Type 0} (cells : D → Cells) where
       node (Down d) shows files disk left = absurd (true≢false (sym rule.running ∙ shows.down))
 
   module _ (size : ℕ) (log : Log) (old new : List (Option (Place D))) (at : At) (n : NodeNo) (legal : IsLegalPast size (printed log)) (turns : AreInTurn (printed log)) (rule : KeepsRule size (printed log) at (Crashed n))
-      (none : start_entry at (printed log) ≡ None) (b : CrashesIn cells n.0 old new) where
+      (none : start_entry at (printed log) ≡ None) (b : CrashesIn cells (primary_of (printed log)) n.0 old new) where
     abbrev now : Log
     now = shown at (Crashed n) ∷ log
 
     abbrev left : Place D
     left = record { node = Down b.dir; held = b.held }
+
+    -- the running primary, and the copy state of the node's job
+    abbrev primary : Option NodeNo
+    primary = primary_of (printed log)
+
+    abbrev state : Option Out
+    state = want_at (place_of old n.0)
 
     -- ---- what each node is
 
@@ -355,8 +368,9 @@ module _ {D : Type 0} (cells : D → Cells) where
     pub crashed_shows : Shows cells log size old → Shows cells now size new
     crashed_shows shows = record {
       some = shows.some;
-      count = b.moves.count ∙ shows.count;
-      each = one_each {P = PlaceShows cells log} {Q = PlaceShows cells now} size n.0 left old new b.moves shows.each (λ m z node apart has. stays m z apart has) is_down;
+      count = b.count ∙ shows.count;
+      each = each_outlives cells {P = PlaceShows cells log} {Q = PlaceShows cells now} size primary n.0 left old new b.here b.others shows.each
+          (λ m x y node apart out has. stays m y apart (place_outlives cells log m (is_at primary n.0) (is_at primary m) state x y out has)) is_down;
       handed = λ a is. shows.handed a is;
     }
 
@@ -369,23 +383,32 @@ module _ {D : Type 0} (cells : D → Cells) where
       abbrev count : Out → ℕ
       count s = jobs_like new s size
 
-      there_now : place_of new n.0 ≡ Some left
-      there_now = b.moves.there n.0 ∙ ap (λ (t : Bool). if t then Some left else place_of old n.0) (eq-eqb n.0 n.0 refl)
-
-      less : (s : Out) → count s ≤ jobs s
-      less s =
-          let moved = jobs_moved old new s n.0 size node.0 node.1 (λ m apart. ap want_at (b.moves.there m ∙ ap (λ (t : Bool). if t then Some left else place_of old m) apart)) in
-          let gone : one_like s (want_at (place_of new n.0)) ≡ 0 = ap (λ (o : Option (Place D)). one_like s (want_at o)) there_now in
+      -- the job of a replica that crashed is counted no more
+      fewer_jobs : is_at primary n.0 ≡ false → (s : Out) → count s + one_like s state ≡ jobs s
+      fewer_jobs far s =
+          let moved = jobs_moved old new s n.0 size node.0 node.1
+              (λ m apart. wants_stay cells (is_at primary m) state (place_of old m) (place_of new m) (subst (λ (c : Bool). PlaceOutlives cells c (is_at primary m) state (place_of old m) (place_of new m)) far (b.others m apart))) in
+          let gone : one_like s (want_at (place_of new n.0)) ≡ 0 = ap (λ (o : Option (Place D)). one_like s (want_at o)) b.here in
           omega (arith, moved, gone)
+
+      -- and none is where the primary crashed
+      no_jobs : is_at primary n.0 ≡ true → (s : Out) → count s ≡ 0
+      no_jobs here s = jobs_none new s size (λ m first last. by_test (n.0 == m) (λ t. (n.0 == m) ≡ t → want_at (place_of new m) ≡ None)
+          (λ same q. ap (λ (k : ℕ). want_at (place_of new k)) (sym (eqb-true n.0 m same)) ∙ ap want_at b.here)
+          (λ apart q. wants_end cells (is_at primary m) state (place_of old m) (place_of new m) (subst (λ (c : Bool). PlaceOutlives cells c (is_at primary m) state (place_of old m) (place_of new m)) here (b.others m apart)))
+          refl)
 
       stay : (m : ℕ) → (n.0 == m) ≡ false → CommitsStay (printed log) (printed now) m
       stay m apart = commits_shown (printed log) at m size (Crashed n) legal turns rule (record { once = tt; flight = tt }) (ap not apart) (fresh_flights size (printed log) at legal turns none m)
+
+      points : PointsStay (printed log) (printed now)
+      points = points_shown size (printed log) at (Crashed n) legal rule
 
       -- the job of another node, where a replica crashed
       same_job : (m : ℕ) → (n.0 == m) ≡ false → is_at (primary_of (printed log)) n.0 ≡ false → SameJob log now m
       same_job m apart far = record {
         job = going (last_job false m log);
-        points = points_shown size (printed log) at (Crashed n) legal rule;
+        points = points;
         latest = omega arith;
         version = refl;
         start = λ job is begun. begun_still (printed log) at (Crashed n) job.at (record { once = tt; flight = tt }) begun;
@@ -402,36 +425,64 @@ module _ {D : Type 0} (cells : D → Cells) where
           going (Some row) = ap (λ (x : Bool × Bool). if not row.ended && nat_le (if x.0 then length (printed log) + 1 else crashed_at m (printed log)) row.before && nat_le (if x.1 then length (printed log) + 1 else primary_crashed (printed log)) row.before
               then Some row.job else None) (λ i. (apart i, far i))
 
-      -- another replica, where the primary crashed
-      idle_shows : (m : ℕ) (p : Option PointJob) → JobShows files.source now m None p
-      idle_shows m None = tt
-      idle_shows m (Some j) = tt
-
-      orphan : (m : ℕ) (r : ReplicaParts D) → (n.0 == m) ≡ false → is_at (primary_of (printed log)) n.0 ≡ true → ReplicaFiles files.source cells log m r → ReplicaFiles files.source cells now m r
-      orphan m r apart here was =
-          let s = stay m apart in
+      -- another replica, where the primary crashed: its job has ended
+      orphan : (m : ℕ) (r s : ReplicaParts D) → (n.0 == m) ≡ false → is_at (primary_of (printed log)) n.0 ≡ true → EndsJob cells r s → ReplicaFiles files.source cells log m r → ReplicaFiles files.source cells now m s
+      orphan m r s apart here ends was =
           let gone : primary_of (printed now) ≡ None = ap (λ (t : Bool). if t then None else primary_of (printed log)) here in
           record {
-            sourced = was.sourced;
-            job = subst (λ (o : Option Job). JobShows files.source now m o r.job) (sym (vacant m gone)) (idle_shows m r.job);
-            point = point_stays files.source (printed log) (printed now) r.infos s.points was.point;
+            sourced = ends.alters.sourced files.source was.sourced;
+            job = subst (λ (x : Option Job × Option PointJob). JobShows files.source now m x.0 x.1) (λ i. (sym (vacant m gone) i, sym ends.none i)) tt;
+            point = point_stays files.source (printed log) (printed now) s.infos points (subst (λ (x : ReplicaParts D). IsPastPoint files.source (printed log) x.infos) (sym ends.alters.others) was.point);
             flight = λ a is. absurd (nowhere a (sym (ap (λ (x : Bool × Bool). if x.0 || x.1 then None else without_at at (copy_in_flight m (newest_version (printed log)) (printed log))) (λ i. (apart i, here i))) ∙ is));
           }
         where
           nowhere : (a : At) → None ≡ Some a → ⊥
           nowhere a is = absurd (cc)
 
-      replica_left : (m : ℕ) (r : ReplicaParts D) → (n.0 == m) ≡ false → ReplicaFiles files.source cells log m r → ReplicaFiles files.source cells now m r
-      replica_left m r apart was = tests (is_at (primary_of (printed log)) n.0) refl
-        where
-          tests : (t : Bool) → is_at (primary_of (printed log)) n.0 ≡ t → ReplicaFiles files.source cells now m r
-          tests true here = orphan m r apart here was
-          tests false far = replica_same cells files.source log now m r (same_job m apart far) was
+      -- the state of the node's job is out at the primary
+      state_out : (p : PrimaryParts D) → PrimaryFiles files.source cells (printed log) jobs p → (o : Option Out) → want_at (place_of old n.0) ≡ o → IfSome o (λ t. is_out t p.states ≡ true)
+      state_out p was None is = tt
+      state_out p was (Some t) is =
+          let counted = job_counted old t n.0 size node.0 node.1 is in
+          let low = was.outs t in
+          is_there t p.states (omega (arith, counted, low))
 
-      node_left : (m : ℕ) (z : Node D) → (n.0 == m) ≡ false → NodeFiles files.source cells log jobs m z → NodeFiles files.source cells now count m z
-      node_left m (Primary p) apart was = primary_stays cells files.source (printed log) (printed now) jobs count p (stay m apart).points less was
-      node_left m (Replica r) apart was = replica_left m r apart was
-      node_left m (Down d) apart was = tt
+      -- the primary, where a replica crashed
+      reigning : (p q : PrimaryParts D) → is_at primary n.0 ≡ false → TakesBack cells state p q → PrimaryFiles files.source cells (printed log) jobs p → PrimaryFiles files.source cells (printed now) count q
+      reigning p q far back was = primary_stays cells files.source (printed log) (printed now) count count q points (λ s. omega arith) (primary_kept cells files.source (printed log) jobs count p q back.alters.files outs was)
+        where
+          outs : (s : Out) → count s ≤ states_like s q.states
+          outs s =
+              let given = states_given s state p.states (state_out p was state refl) in
+              let same : states_like s q.states ≡ states_like s (given_back state p.states) = ap (states_like s) back.states in
+              let moved = fewer_jobs far s in
+              let low = was.outs s in
+              omega (arith, given, same, moved, low)
+
+      node_left : (m : ℕ) (x y : Node D) → (n.0 == m) ≡ false → NodeOutlives cells (is_at primary n.0) (is_at primary m) state x y → NodeShows cells log m x → NodeFiles files.source cells log jobs m x → NodeFiles files.source cells now count m y
+      node_left m x y apart out has was = tests (is_at primary n.0) (is_at primary m) refl refl x y out has was
+        where
+          unlike : (r : ReplicaParts D) (q : PrimaryParts D) → ◌≡◌ {A = Node D} (Primary q) (Replica r) → ⊥
+          unlike r q is = subst (λ (z : Node D). elim z [ Primary p ↦ Unit {0} | Replica s ↦ ⊥ | Down d ↦ ⊥ ]) is tt
+
+          as_was : (u v : Node D) → v ≡ u → NodeFiles files.source cells now count m u → NodeFiles files.source cells now count m v
+          as_was u v is had = subst (λ (z : Node D). NodeFiles files.source cells now count m z) (sym is) had
+
+          tests : (c t : Bool) → is_at primary n.0 ≡ c → is_at primary m ≡ t → (u v : Node D) → NodeOutlives cells c t state u v → NodeShows cells log m u → NodeFiles files.source cells log jobs m u → NodeFiles files.source cells now count m v
+          tests true t here q (Primary p) v out has was =
+              as_was (Primary p) v out (primary_stays cells files.source (printed log) (printed now) jobs count p points (λ s. let gone = no_jobs here s in omega (arith, gone)) was)
+          tests true t here q (Replica r) (Replica s) out has was = orphan m r s apart here out was
+          tests true t here q (Replica r) (Primary p) out has was = absurd (unlike r p out)
+          tests true t here q (Replica r) (Down e) out has was = tt
+          tests true t here q (Down d) v out has was = as_was (Down d) v out tt
+          tests false true far q (Primary p) (Primary k) out has was = reigning p k far out was
+          tests false true far q (Primary p) (Replica s) out has was = absurd out
+          tests false true far q (Primary p) (Down e) out has was = absurd out
+          tests false true far q (Replica r) v out has was = absurd out
+          tests false true far q (Down d) v out has was = absurd out
+          tests false false far q (Primary p) v out has was = absurd (true≢false (sym has.primary ∙ q))
+          tests false false far q (Replica r) v out has was = as_was (Replica r) v out (replica_same cells files.source log now m r (same_job m apart far) was)
+          tests false false far q (Down d) v out has was = as_was (Down d) v out tt
 
       grows : Grows (printed log) (printed now)
       grows = grows_shown size (printed log) at (Crashed n) legal rule
@@ -446,9 +497,10 @@ module _ {D : Type 0} (cells : D → Cells) where
 
       disks_left : DisksShow files.source cells now size new
       disks_left m slot = some_disk (DiskShows files.source cells (printed now) m) (place_of new m)
-          (one_each {P = λ k z. DiskShows files.source cells (printed log) k (disk_of z.node)} {Q = λ k z. DiskShows files.source cells (printed now) k (disk_of z.node)} size n.0 left old new b.moves
+          (each_outlives cells {P = λ k z. DiskShows files.source cells (printed log) k (disk_of z.node)} {Q = λ k z. DiskShows files.source cells (printed now) k (disk_of z.node)} size primary n.0 left old new b.here b.others
           (λ k here. disk_some (DiskShows files.source cells (printed log) k) (place_of old k) (files.disks k here))
-          (λ k z here apart disk. disk_stays files.source files.source (λ q bytes is. is) (printed log) (printed now) k (stay k apart) cells (disk_of z.node) disk)
+          (λ k x y here apart out disk. subst (λ (d : Disk D). DiskShows files.source cells (printed now) k d) (sym (disk_outlives cells (is_at primary n.0) (is_at primary k) state x.node y.node out.node))
+              (disk_stays files.source files.source (λ q bytes is. is) (printed log) (printed now) k (stay k apart) cells (disk_of x.node) disk))
           (record { book = tt; dir = dir_here }) m slot)
         where
           both : Both cells files.source log jobs n.0 b.place
@@ -462,20 +514,48 @@ module _ {D : Type 0} (cells : D → Cells) where
       crashed_files = record {
         source = files.source;
         drawn = means_more files.source (printed log) (printed now) grows files.drawn;
-        names = one_each {P = λ k z. NamesShow cells (printed log) z.node} {Q = λ k z. NamesShow cells (printed now) z.node} size n.0 left old new b.moves files.names
-            (λ k z here apart has. node_grows cells (printed log) (printed now) z.node grows has) tt;
-        each = one_each {P = Both cells files.source log jobs} {Q = λ m z. NodeFiles files.source cells now count m z.node} size n.0 left old new b.moves (both_of cells log size old shows files)
-            (λ m z here apart both. node_left m z.node apart both.1) tt;
+        names = each_outlives cells {P = λ k z. NamesShow cells (printed log) z.node} {Q = λ k z. NamesShow cells (printed now) z.node} size primary n.0 left old new b.here b.others files.names
+            (λ k x y here apart out has. names_outlive cells (printed log) (printed now) (is_at primary n.0) (is_at primary k) state x.node y.node grows out.node has) tt;
+        each = each_outlives cells {P = Both cells files.source log jobs} {Q = λ m z. NodeFiles files.source cells now count m z.node} size primary n.0 left old new b.here b.others (both_of cells log size old shows files)
+            (λ m x y here apart out both. node_left m x.node y.node apart out.node both.0.node_shows both.1) tt;
         disks = disks_left;
       }
 
   -- ---- in the terms of a call
 
-  pub crash_path : (r : Run) (ended : Bool) (b0 b1 b2 : Pages) (old new : List (Option (Place D))) (at : At) (n : NodeNo) → record { ended = ended; nodes = b0.nodes; log = b0.log } ≡ r → r.ended ≡ false
+  -- the running primary stands in its place, and the state of the node's job is out there
+  can_take_back : (log : Log) (size : ℕ) (places : List (Option (Place D))) (p n : NodeNo) → Shows cells log size places → FilesShow cells log size places → primary_of (printed log) ≡ Some p → IsNode size p.0 → IsNode size n.0 → CanTakeBack p.0 n.0 places
+  can_take_back log size places p n shows files is reigns node =
+      let here = primary_here cells log size p.0 places shows files reigns (ap (λ (o : Option NodeNo). is_at o p.0) is ∙ eq-eqb p.0 p.0 refl) in
+      record {
+        slot = here.at.slot;
+        primary = subst (λ (o : Option (Place D)). HasPrimary o) (sym here.at.there) tt;
+        out = λ q held there. out here q held there (want_at (place_of places n.0)) refl;
+      }
+    where
+      out : (here : PrimaryHere cells files.source log (λ s. jobs_like places s size) p.0 places) (q : PrimaryParts D) (held : Vec Held Global) → place_of places p.0 ≡ Some (record { node = Primary q; held = held })
+          → (o : Option Out) → want_at (place_of places n.0) ≡ o → IfSome o (λ s. is_out s q.states ≡ true)
+      out here q held there None none = tt
+      out here q held there (Some s) want =
+          let counted = job_counted places s n.0 size node.0 node.1 want in
+          let low = here.files.outs s in
+          mine (is_there s here.at.parts.states (omega (arith, counted, low)))
+        where
+          mine : is_out s here.at.parts.states ≡ true → is_out s q.states ≡ true
+          mine has = some_at (λ z. elim z.node [ Primary k ↦ is_out s k.states ≡ true | Replica r ↦ ⊥ | Down d ↦ ⊥ ]) (place_of places p.0) (record { node = Primary q; held = held }) there
+              (subst (λ (o : Option (Place D)). IsSomeAnd o (λ z. elim z.node [ Primary k ↦ is_out s k.states ≡ true | Replica r ↦ ⊥ | Down d ↦ ⊥ ])) (sym here.at.there) has)
+
+  pub can_end : (r : Run) (ended : Bool) (b : Pages) (places : List (Option (Place D))) (primary : Option NodeNo) (n : NodeNo) → record { ended = ended; nodes = b.nodes; log = b.log } ≡ r → r.ended ≡ false
+      → (ended ≡ false → Shows cells b.log b.nodes places × FilesShow cells b.log b.nodes places) → primary ≡ primary_of (printed r.log) → IfSome primary (λ p. IsNode r.nodes p.0) → IsNode r.nodes n.0 → CanEnd primary n.0 places
+  can_end r ended b places None n view running pair is reigns node = tt
+  can_end r ended b places (Some p) n view running pair is reigns node =
+      can_take_back r.log r.nodes places p n (was cells r ended b.nodes b.log places view running (λ e. (pair e).0)) (files_was cells r ended b.nodes b.log places view running (λ e. (pair e).1)) (sym is) reigns node
+
+  pub crash_path : (r : Run) (ended : Bool) (b0 b1 b2 : Pages) (old new : List (Option (Place D))) (at : At) (n : NodeNo) (primary : Option NodeNo) → record { ended = ended; nodes = b0.nodes; log = b0.log } ≡ r → r.ended ≡ false
       → (ended ≡ false → Shows cells b0.log b0.nodes old × FilesShow cells b0.log b0.nodes old) → b1.log ≡ b0.log → b1.nodes ≡ b0.nodes → b2.log ≡ shown at (Crashed n) ∷ b1.log → b2.nodes ≡ b1.nodes
       → IsLegalPast b1.nodes (printed b1.log) → AreInTurn (printed b1.log) → FilesLast → ((m : ℕ) → primary_of (printed b2.log) ≡ None → job_at m b2.log ≡ None) → IsFresh at (printed b0.log) → IsNode r.nodes n.0
-      → is_running n.0 (printed r.log) ≡ true → CrashesIn cells n.0 old new → Shows cells b2.log b2.nodes new × FilesShow cells b2.log b2.nodes new
-  crash_path r ended b0 b1 b2 old new at n view running pair e1 n1 e2 n2 legal turns lasting vacant fresh node up crashes =
+      → is_running n.0 (printed r.log) ≡ true → primary ≡ primary_of (printed r.log) → CrashesIn cells primary n.0 old new → Shows cells b2.log b2.nodes new × FilesShow cells b2.log b2.nodes new
+  crash_path r ended b0 b1 b2 old new at n primary view running pair e1 n1 e2 n2 legal turns lasting vacant fresh node up is crashed_so =
       let b = before cells r ended b0 b1 view e1 n1 legal turns in
       let log : b2.log ≡ shown at (Crashed n) ∷ r.log = e2 ∙ ap (λ (l : Log). shown at (Crashed n) ∷ l) b.log in
       let size : b2.nodes ≡ r.nodes = n2 ∙ b.size in
@@ -483,7 +563,8 @@ module _ {D : Type 0} (cells : D → Cells) where
       let s = was cells r ended b0.nodes b0.log old view running (λ e. (pair e).0) in
       let f = files_was cells r ended b0.nodes b0.log old view running (λ e. (pair e).1) in
       let rule : KeepsRule r.nodes (printed r.log) at (Crashed n) = record { node = node; running = up } in
-      let vacant_now = subst (λ (l : Log). (m : ℕ) → primary_of (printed l) ≡ None → job_at m l ≡ None) log vacant in (
+      let vacant_now = subst (λ (l : Log). (m : ℕ) → primary_of (printed l) ≡ None → job_at m l ≡ None) log vacant in
+      let crashes = subst (λ (o : Option NodeNo). CrashesIn cells o n.0 old new) is crashed_so in (
         now_is cells (shown at (Crashed n) ∷ r.log) b2.log r.nodes b2.nodes new log size (crashed_shows r.nodes r.log old new at n b.legal b.turns rule none crashes s),
         files_is cells (shown at (Crashed n) ∷ r.log) b2.log r.nodes b2.nodes new log size (crashed_files r.nodes r.log old new at n b.legal b.turns rule none crashes lasting vacant_now node s f),
       )

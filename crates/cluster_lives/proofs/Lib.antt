@@ -1,2 +1,3 @@
 mod Crashing
+mod Outliving
 mod Reopening

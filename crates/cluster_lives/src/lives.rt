@@ -32,11 +32,12 @@ pub fn crash_node<D: FaultDir + Drop>(
         (shown at (Event.Crashed n) ∷ cluster.old.log)) }
     ensures err { OnErr result (IsEnded cluster.old cluster.new) }
 {
+    let primary = cluster.primary();
     cluster.book.is_fresh(at);
     files_last();
     cluster.ended = true;
     cluster.book.reserve(1)?;
-    crash_in(alloc, &mut cluster.places, n, pick)?;
+    crash_in(alloc, &mut cluster.places, primary, n, pick)?;
     cluster.book.show(at, Event::Crashed { n });
     cluster.book.is_idle();
     cluster.ended = false;
