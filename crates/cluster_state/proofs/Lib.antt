@@ -13,3 +13,6 @@ pub mod JobMoves
 mod JobLaw
 mod BookLaws
 pub mod PointStands
+pub mod Lasting
+pub mod Living
+pub mod Points
