@@ -5,3 +5,4 @@ mod CopyDoes
 mod SettleStays
 mod LifeRows
 mod LifeDoes
+mod PromoteRows

@@ -2,3 +2,4 @@ pub mod Doing
 pub mod Calls
 pub mod CopyCalls
 pub mod LifeCalls
+pub mod PromoteCalls

@@ -11,6 +11,8 @@ mod copying;
 mod lasting;
 mod lists;
 mod lives;
+mod promoting;
+mod promotions;
 mod publishes;
 mod refusals;
 mod searches;
