@@ -40,9 +40,9 @@ calm_first : (b : Bool) (first : Cause) (o : Option Cause) → is_disk_fault fir
 calm_first true first o calm others cause is = let same : first ≡ cause = cc in subst (λ (c : Cause). is_disk_fault c ≡ false) same calm
 calm_first false first o calm others cause is = others cause is
 
-calm_last : (b : Bool) (last cause : Cause) → is_disk_fault last ≡ false → when b last ≡ Some cause → is_disk_fault cause ≡ false
-calm_last true last cause calm is = let same : last ≡ cause = cc in subst (λ (c : Cause). is_disk_fault c ≡ false) same calm
-calm_last false last cause calm is = absurd (cc)
+calm_last : (b : Bool) (held cause : Cause) → is_disk_fault held ≡ false → when b held ≡ Some cause → is_disk_fault cause ≡ false
+calm_last true held cause calm is = let same : held ≡ cause = cc in subst (λ (c : Cause). is_disk_fault c ≡ false) same calm
+calm_last false held cause calm is = absurd (cc)
 
 runs_by : (b : Bool) → not b ≡ false → b ≡ true
 runs_by true is = refl
