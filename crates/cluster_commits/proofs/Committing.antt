@@ -65,7 +65,7 @@ use Rattle.cluster_state.proofs.Frames.{some_at, start_back, place_same, was, no
 use Rattle.cluster_state.proofs.JobFrames.{same_shown, job_stays}
 use Rattle.cluster_state.proofs.Drawn.{Grows, grows_none, grows_shown}
 use Rattle.cluster_state.proofs.Naming.{FilesLast, NodeSteps, means_more}
-use Rattle.cluster_state.proofs.Beginning.{point_stands}
+use Rattle.cluster_state.proofs.PointStands.{point_stands}
 use Rattle.cluster_state.proofs.Disks.{fresh_flights, point_stays, commits_shown, commits_alone, disk_stays}
 use Rattle.cluster_state.proofs.FileFrames.{Both, both_of, one_each, wants_same, names_one, node_files, replica_apart, files_was, files_is}
 use Rattle.cluster_state.proofs.Turning.{past_has, fresh_turn}

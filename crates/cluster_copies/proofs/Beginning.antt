@@ -1,5 +1,5 @@
 -- What is shown of files and jobs once a job of the newest point has begun.
-use Rattle.std.proofs.Common.{◌≡◌, ◌≢◌, ◌≤◌, ◌<◌, ◌+◌, ◌&&◌, ◌==◌, ℕ, Bool, true, false, true≢false, List, [], ◌∷◌, ◌++◌, Some, None, Option, max, nat_le, zero, suc, get_or, refl, ap, ◌∙◌, sym, subst, arith, if◌then◌else◌, length}
+use Rattle.std.proofs.Common.{◌≡◌, ◌≢◌, ◌≤◌, ◌<◌, ◌+◌, ◌&&◌, ◌==◌, ℕ, Bool, true, false, true≢false, List, [], ◌∷◌, ◌++◌, Some, None, Option, max, nat_le, refl, ap, ◌∙◌, sym, subst, arith, if◌then◌else◌, length}
 use Rattle.std.specs.Prelude.{IsSomeAnd, IfSome, not, Contains}
 use Rattle.std.specs.List.{All, flat_map}
 use Rattle.std.proofs.lemmas.Bool.{eqb-true, eq-eqb}
@@ -9,23 +9,14 @@ use Rattle.nrt_base.specs.declared.numbers.Gen.{Gen}
 use Rattle.nrt_base.specs.declared.numbers.NodeNo.{NodeNo}
 use Rattle.nrt_base.specs.declared.numbers.Version.{Version}
 use Rattle.nrt_base.specs.declared.doc.Doc.{Doc}
-use Rattle.disk_model.specs.Disk.{Name, Content, Cells, same, reads_of}
-use Rattle.file_deleter.specs.Holdings.{count_of, times}
-use Rattle.file_deleter.proofs.NameLemmas.{times-append, among_times}
-use Rattle.commit_steps.proofs.Safe.{among_of}
+use Rattle.disk_model.specs.Disk.{Name, Content, Cells, same}
 use Rattle.segment_infos.specs.declared.infos.Infos.{Infos}
 use Rattle.segment_infos.specs.Files.{files_of_segment, AreFilesOf}
 use Rattle.segment_infos.proofs.FileLaws.{infos_files_one_to_one}
 use Rattle.seg_reader.specs.Stands.{StandsFor}
-use Rattle.node_files.proofs.Standing.{stands_along}
 use Rattle.copy_state.specs.declared.state.CopyState.{CopyState}
-use Rattle.copy_state.specs.declared.meta.FileMetaData.{FileMetaData}
-use Rattle.copy_state.specs.States.{meta_names}
 use Rattle.index_primary.specs.declared.parts.Parts.{Parts as PrimaryParts}
 use Rattle.index_primary.specs.declared.states.Out.{Out}
-use Rattle.searcher_switch.specs.Tickets.{ticket_names}
-use Rattle.searcher_switch.specs.Searching.{searcher_names}
-use Rattle.index_primary.specs.Primary.{IsPrimary, primary_names, rest_names}
 use Rattle.index_primary.specs.States.{out_of, is_out}
 use Rattle.replica_opening.specs.Known.{IsLasting, HasMeta}
 use Rattle.replica_node.specs.declared.job.PointJob.{PointJob}
@@ -51,12 +42,12 @@ use Rattle.cluster_places.specs.declared.nodes.Node.{Node}
 use Rattle.cluster_places.specs.declared.nodes.Node.TheVariants.{Primary, Replica, Down}
 use Rattle.cluster_places.specs.declared.nodes.Place.{Place}
 use Rattle.cluster_places.specs.Places.{place_of}
-use Rattle.cluster_state.specs.State.{PrimaryShows, NodeShows, Shows}
+use Rattle.cluster_state.specs.State.{NodeShows, Shows}
 use Rattle.cluster_state.specs.FilesOut.{is_job, file_out}
 use Rattle.cluster_places.specs.Outs.{want_of, want_at, one_like, jobs_like, states_like}
 use Rattle.cluster_state.specs.Files.{CopyShows, JobShows, IsJobFor, ReplicaFiles, PrimaryFiles, NodeFiles, FilesShow}
 use Rattle.cluster_state.specs.FileChanges.{SameJob}
-use Rattle.cluster_places.specs.JobChanges.{given_back, IsStateOfPoint, BeginsAt}
+use Rattle.cluster_places.specs.JobChanges.{given_back, BeginsAt}
 use Rattle.cluster_places.specs.JobPlaces.{BeginsIn}
 use Rattle.cluster_state.proofs.Frames.{some_at}
 use Rattle.cluster_state.proofs.JobFrames.{same_shown, same_inner, same_then}
@@ -65,10 +56,11 @@ use Rattle.cluster_state.specs.Disks.{IsPastPoint, CommitsStay}
 use Rattle.cluster_state.proofs.Disks.{fresh_flights, commits_shown, commits_alone, point_stays, disks_moved, disk_same, disks_kept}
 use Rattle.cluster_state.proofs.Wider.{primary_kept}
 use Rattle.cluster_state.proofs.Drawn.{Grows, grows_none, grows_shown}
-use Rattle.cluster_state.proofs.Naming.{FilesLast, means_more, altered_steps, altered_job}
+use Rattle.cluster_state.proofs.Naming.{means_more, altered_steps, altered_job}
 use Rattle.cluster_state.proofs.FileFrames.{names_both, replica_same, both_each, both_of, Both}
 use Rattle.cluster_state.proofs.FileJobs.{job_out}
 use Rattle.cluster_places.proofs.Stepping.{out_pushed}
+use Rattle.cluster_state.proofs.PointStands.{point_stands, state_metas}
 
 -- ---- the past
 
@@ -188,54 +180,9 @@ module _ (mid : Log) (at : At) (n : NodeNo) (v : Version) (number : ℕ) where
       cc' : ◌≡◌ {A = Content} None (Some bytes) → ⊥
       cc' none = absurd (cc)
 
--- ---- the state of the primary's point
+-- ---- nodes
 
 module _ {D : Type 0} (cells : D → Cells) where
-  -- a name of the point is counted
-  point_counted : (p : PrimaryParts D) (q : Name) → IsPrimary cells p → 0 < times p.searchers.point.names q → 0 < count_of p.files q
-  point_counted p q whole named =
-      let counts = whole.node.counts q in
-      let first : times (primary_names p) q ≡ times (searcher_names p.searchers) q + times (p.names ++ rest_names p) q
-      = times-append (searcher_names p.searchers) (p.names ++ rest_names p) q in
-      let second : times (searcher_names p.searchers) q ≡ times p.searchers.point.names q + times (ticket_names p.searchers.tickets) q
-      = times-append p.searchers.point.names (ticket_names p.searchers.tickets) q in
-      omega (arith, counts, first, second, named)
-
-  -- a file of the point reads as at the source
-  point_reads : (source : Name → Content) (jobs : Out → ℕ) (p : PrimaryParts D) → ((infos : Infos) (names : List Name) → AreFilesOf infos names → (q : Name) → Contains (flat_map files_of_segment infos.segs) q → IsLasting q)
-      → IsPrimary cells p → PrimaryFiles source cells jobs p → (q : Name) → Contains p.searchers.point.names q → source q ≡ (cells p.dir q).now
-  point_reads source jobs p lasting whole files q named =
-      let last = lasting p.point_infos p.searchers.point.names whole.searched.files q ((whole.searched.files.named q).0 named) in
-      sym (files.held.each q last (point_counted p q whole (among_times p.searchers.point.names q (among_of p.searchers.point.names q named))))
-
-  pub state_metas : (source : Name → Content) (jobs : Out → ℕ) (p : PrimaryParts D) (state : CopyState) → ((infos : Infos) (names : List Name) → AreFilesOf infos names → (q : Name) → Contains (flat_map files_of_segment infos.segs) q → IsLasting q)
-      → IsPrimary cells p → PrimaryFiles source cells jobs p → IsStateOfPoint cells p state → All (λ f. HasMeta source f.0 f.1) state.files
-  state_metas source jobs p state lasting whole files is = λ i d lt.
-      let h = is.metas i d lt in
-      let f = get_or state.files i d in
-      let named : Contains p.searchers.point.names f.0 = subst (λ (names : List Name). Contains names f.0) is.names (i, length_map (λ (x : Name × FileMetaData). x.0) state.files i lt, name_at state.files i d lt) in
-      record { bytes = h.bytes; there = point_reads source jobs p lasting whole files f.0 named ∙ h.there; meta_is = h.meta }
-    where
-      length_map : (g : Name × FileMetaData → Name) (xs : List (Name × FileMetaData)) (i : ℕ) → i < length xs → i < length (meta_names xs)
-      length_map g [] i lt = absurd (omega (arith, lt))
-      length_map g (x ∷ xs) zero lt = omega arith
-      length_map g (x ∷ xs) (suc i) lt = let more = length_map g xs i (omega (arith, lt)) in omega (arith, more)
-
-      name_at : (xs : List (Name × FileMetaData)) (i : ℕ) (d : Name × FileMetaData) → i < length xs → get_or (meta_names xs) i (get_or xs i d).0 ≡ (get_or xs i d).0
-      name_at [] i d lt = absurd (omega (arith, lt))
-      name_at (x ∷ xs) zero d lt = refl
-      name_at (x ∷ xs) (suc i) d lt = name_at xs i d (omega (arith, lt))
-
-  pub point_stands : (source : Name → Content) (jobs : Out → ℕ) (log : Log) (n : ℕ) (p : PrimaryParts D) → ((infos : Infos) (names : List Name) → AreFilesOf infos names → (q : Name) → Contains (flat_map files_of_segment infos.segs) q → IsLasting q)
-      → PrimaryShows cells log n p → PrimaryFiles source cells jobs p → StandsFor source p.point_infos (documents_at (printed log) (version_of n (printed log)))
-  point_stands source jobs log n p lasting shows files =
-      let held = shows.whole.searched in
-      stands_along (reads_of (cells p.dir)) source p.point_infos (documents_at (printed log) (version_of n (printed log)))
-      (λ q named. point_reads source jobs p lasting shows.whole files q ((held.files.named q).1 named))
-      (record { segs = p.searchers.point.readers; stands = record { each = held.stands.each; stand = shows.point.stands.documents } })
-
-  -- ---- nodes
-
   -- a node that is not the primary
   other_files : (source : Name → Content) (log now : Log) (jobs count : Out → ℕ) (n : ℕ) (x : Node D) → NodeShows cells log n x → is_at (primary_of (printed log)) n ≡ false → SameJob log now n → NodeFiles source cells log jobs n x → NodeFiles source cells now count n x
   other_files source log now jobs count n (Primary p) shows other same was = absurd (true≢false (sym shows.primary ∙ other))
@@ -346,7 +293,7 @@ module _ {D : Type 0} (cells : D → Cells) where
 
       stands : StandsFor files.source b.begins.job.infos (documents_at (printed mid) v.0)
       stands =
-          let point = point_stands files.source jobs log p.0 q lasting at_p.0.node_shows at_p.1 in
+          let point = point_stands cells files.source jobs log p.0 q lasting at_p.0.node_shows at_p.1 in
           let here = subst (λ (k : ℕ). StandsFor files.source q.point_infos (documents_at (printed log) k)) newest_here point in
           let then_mid = subst (λ (docs : List Doc). StandsFor files.source q.point_infos docs) (sym over.documents) here in
           subst (λ (i : Infos). StandsFor files.source i (documents_at (printed mid) v.0)) (sym infos) then_mid
@@ -365,7 +312,7 @@ module _ {D : Type 0} (cells : D → Cells) where
             let three = at_p.0.node_shows.writer.generation in
             let four = (over.stay n.0).generation in
             omega (arith, one, two, three, four);
-        metas = subst (λ (s : CopyState). All (λ f. HasMeta files.source f.0 f.1) s.files) (sym b.begins.want) (state_metas files.source jobs q b.begins.state lasting at_p.0.node_shows.whole at_p.1 b.begins.of_point);
+        metas = subst (λ (s : CopyState). All (λ f. HasMeta files.source f.0 f.1) s.files) (sym b.begins.want) (state_metas cells files.source jobs q b.begins.state lasting at_p.0.node_shows.whole at_p.1 b.begins.of_point);
         stands = stands;
         handed = λ name bytes out. absurd (nothing_out mid at n v number name bytes out);
       }

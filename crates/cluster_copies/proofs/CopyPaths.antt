@@ -52,7 +52,7 @@ use Rattle.cluster_state.proofs.Turning.{fresh_line}
 use Rattle.cluster_state.proofs.FileFrames.{both_of, Both, files_was, files_is, before}
 use Rattle.cluster_state.proofs.FileJobs.{PrimaryHere, ReplicaHere, primary_here, replica_here, job_out, no_flight}
 use Rattle.cluster_state.proofs.JobMoves.{shows_kept, shows_both, primary_place, replica_place}
-use Rattle.cluster_state.proofs.Beginning.{over_copying, over_settle, files_begun}
+use Rattle.cluster_copies.proofs.Beginning.{over_copying, over_settle, files_begun}
 
 -- ---- the past
 

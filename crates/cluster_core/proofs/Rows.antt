@@ -35,7 +35,7 @@ use Rattle.history_book.proofs.LineLaws.{flying, open_started}
 use Rattle.history_book.proofs.OpenLaws.{last_started}
 use Rattle.history_book.proofs.ReignLaws.{start_kept}
 use Rattle.cluster_state.proofs.Turning.{fresh_turn, later_turn, fresh_line}
-use Rattle.cluster_state.proofs.Leasing.{ticket_node}
+use Rattle.cluster_reads.proofs.Leasing.{ticket_node}
 use Rattle.cluster_core.specs.Calls.{ScansAt, AnswerEnds}
 
 -- ---- a line of which no entry stands there

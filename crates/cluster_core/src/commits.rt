@@ -11,6 +11,7 @@ ghost use Rattle.cluster_core.specs.LifeCalls.{CommitStarts, CommitSteps};
 
 use crate::refusals::refuse_turn;
 use crate::turn::Turn;
+use cluster_commits::{begin_commit, step_commit};
 use cluster_places::CommitTask;
 use cluster_state::ClusterState;
 use disk_model::FaultDir;
@@ -37,7 +38,7 @@ pub fn commit_start<D: FaultDir + Drop>(
     if state.book().committing(n).is_some() {
         return Ok(Turn::Busy);
     }
-    let task = state.begin_commit(alloc, at, n)?;
+    let task = begin_commit(alloc, state, at, n)?;
     Ok(Turn::Work(task))
 }
 
@@ -63,7 +64,7 @@ pub fn commit_step<D: FaultDir + Drop>(
     }
     state.book().commit_flies(at, n, v);
     state.book().is_idle();
-    if state.step_commit(alloc, at, n, v)? {
+    if step_commit(alloc, state, at, n, v)? {
         Ok(Turn::Done)
     } else {
         Ok(Turn::Work(()))

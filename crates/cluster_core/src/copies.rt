@@ -22,8 +22,10 @@ ghost use Rattle.cluster_core.specs.CopyCalls.{IsBeingCopied, IsNotBeingCopied, 
 use crate::refusals::refuse_turn;
 use crate::standing::Standing;
 use crate::turn::Turn;
+use cluster_copies::{begin_copy, note_copied};
 use cluster_places::{CopyTask, FileTask};
 use cluster_state::ClusterState;
+use cluster_transfers::{go_on, take_part};
 use copy_job::Part;
 use disk_model::FaultDir;
 use history_book::{Book, JobRow, Start};
@@ -98,14 +100,14 @@ pub fn copy_start<D: FaultDir + Drop>(
         Err(cause) => return refuse_turn(state, at, cause),
     };
     if !is_behind(state.book(), n) {
-        state.note_copied(at, n)?;
+        note_copied(state, at, n)?;
         return Ok(Turn::Done);
     }
     if is_being_copied(state.book(), n) {
         return Ok(Turn::Busy);
     }
     state.job_low(n);
-    let task = state.begin_copy(alloc, at, p, n)?;
+    let task = begin_copy(alloc, state, at, p, n)?;
     Ok(Turn::Work(task))
 }
 
@@ -229,7 +231,7 @@ pub fn copy_next<D: FaultDir + Drop>(
     if is_stopped(state, row)? {
         return Ok(Turn::Done);
     }
-    match state.go_on(alloc, row)? {
+    match go_on(alloc, state, row)? {
         Some(file) => Ok(Turn::Work(file)),
         None => Ok(Turn::Done),
     }
@@ -256,6 +258,6 @@ pub fn copy_arrived<D: FaultDir + Drop>(
     if is_stopped(state, row)? {
         return Ok(Turn::Done);
     }
-    state.take_part(row, part)?;
+    take_part(state, row, part)?;
     Ok(Turn::Work(()))
 }

@@ -8,6 +8,7 @@ ghost use Rattle.cluster_state.specs.Run.{IsEnded};
 ghost use Rattle.cluster_core.specs.Calls.{ListsFiles};
 
 use crate::refusals::refuse;
+use cluster_reads::list_files;
 use cluster_state::ClusterState;
 use disk_model::FaultDir;
 use history_entries::Cause;
@@ -30,5 +31,5 @@ pub fn files<D: FaultDir + Drop>(
     if !state.book().runs(n) {
         return refuse(state, at, Cause::Down);
     }
-    state.list_files(alloc, at, n)
+    list_files(alloc, state, at, n)
 }

@@ -8,6 +8,7 @@ ghost use Rattle.cluster_state.specs.Run.{IsNow, IsEnded};
 ghost use Rattle.cluster_core.specs.LifeCalls.{crash_event, ReopensNode};
 
 use crate::refusals::refuse;
+use cluster_lives::{crash_node, reopen_node};
 use cluster_state::ClusterState;
 use disk_model::FaultDir;
 use history_entries::Cause;
@@ -32,7 +33,7 @@ pub fn crash<D: FaultDir + Drop>(
     if !state.book().runs(n) {
         return refuse(state, at, Cause::Down);
     }
-    state.crash_node(alloc, at, n, pick)
+    crash_node(alloc, state, at, n, pick)
 }
 
 /// Reopens a node.
@@ -51,5 +52,5 @@ pub fn reopen<D: FaultDir + Drop>(
     if state.book().runs(n) {
         return refuse(state, at, Cause::Up);
     }
-    state.reopen_node(alloc, at, n)
+    reopen_node(alloc, state, at, n)
 }

@@ -14,6 +14,7 @@ ghost use Rattle.cluster_core.specs.Calls.{by_refusal, cut_refusal as cut_refusa
 use crate::refusals::{refuse, refuse_turn};
 use crate::turn::Turn;
 use cluster_state::ClusterState;
+use cluster_writes::{accept_at, end_publish, start_publish};
 use disk_model::FaultDir;
 use documents::Op;
 use history_book::Book;
@@ -38,7 +39,7 @@ pub fn accept<D: FaultDir + Drop>(
 {
     match state.primary() {
         None => refuse(state, at, Cause::NoPrimary),
-        Some(p) => state.accept_at(alloc, at, p, op),
+        Some(p) => accept_at(alloc, state, at, p, op),
     }
 }
 
@@ -76,7 +77,7 @@ pub fn publish_start<D: FaultDir + Drop>(
     if let Some(cause) = cut_refusal(state.book()) {
         return refuse_turn(state, at, cause);
     }
-    match state.start_publish(alloc, at, p)? {
+    match start_publish(alloc, state, at, p)? {
         Some(task) => Ok(Turn::Work(task)),
         None => refuse_turn(state, at, Cause::TooManySegments),
     }
@@ -103,7 +104,7 @@ pub fn publish_end<D: FaultDir + Drop>(
     state.book().publish_flies(at);
     match state.primary() {
         None => unreachable!(),
-        Some(p) => state.end_publish(alloc, at, p, work),
+        Some(p) => end_publish(alloc, state, at, p, work),
     }
 }
 

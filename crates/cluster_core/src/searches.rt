@@ -14,6 +14,7 @@ ghost use Rattle.cluster_core.specs.Calls.{SearchStarts, AskStarts, ScansAt, Ans
 use crate::refusals::refuse_turn;
 use crate::turn::Turn;
 use cluster_places::Key;
+use cluster_reads::{ask_ticket, note_without, open_search};
 use cluster_state::ClusterState;
 use disk_model::FaultDir;
 use documents::{Answer, Query};
@@ -40,7 +41,7 @@ pub fn search_start<D: FaultDir + Drop>(
     if !state.book().runs(n) {
         return refuse_turn(state, at, Cause::Down);
     }
-    let lease = state.open_search(alloc, at, n)?;
+    let lease = open_search(alloc, state, at, n)?;
     Ok(Turn::Work(lease))
 }
 
@@ -59,7 +60,7 @@ pub fn ask_start<D: FaultDir + Drop>(
     let Some(opening) = state.book().ticket(at.lane, t) else {
         return refuse_turn(state, at, Cause::NoTicket);
     };
-    let lease = state.ask_ticket(alloc, at, t, opening)?;
+    let lease = ask_ticket(alloc, state, at, t, opening)?;
     Ok(Turn::Work(lease))
 }
 
@@ -134,7 +135,7 @@ fn end_search<D: FaultDir + Drop>(
         answer,
     };
     if t.0 == 0 {
-        state.note_without(at, n, Key::Search { at }, event)
+        note_without(state, at, n, Key::Search { at }, event)
     } else {
         state.note(at, event)
     }

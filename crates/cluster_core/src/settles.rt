@@ -10,6 +10,7 @@ ghost use Rattle.cluster_core.specs.CopyCalls.{SettleStarts, SettleGoesOn};
 use crate::copies::is_being_copied;
 use crate::refusals::refuse_turn;
 use crate::turn::Turn;
+use cluster_copies::{begin_settle, begin_settling, next_left};
 use cluster_places::{CopyTask, SettleTask};
 use cluster_state::ClusterState;
 use disk_model::FaultDir;
@@ -31,7 +32,7 @@ pub fn settle_start<D: FaultDir + Drop>(
     if state.primary().is_none() {
         return refuse_turn(state, at, Cause::NoPrimary);
     }
-    let task = state.begin_settle(alloc, at)?;
+    let task = begin_settle(alloc, state, at)?;
     Ok(Turn::Work(task))
 }
 
@@ -56,7 +57,7 @@ pub fn settle_next<D: FaultDir + Drop>(
         state.note(at, Event::Refused { cause: Cause::Lost })?;
         return Ok(Turn::Done);
     }
-    let Some(n) = state.next_left(at, task) else {
+    let Some(n) = next_left(state, at, task) else {
         state.note(at, Event::Settled { v: task.version })?;
         return Ok(Turn::Done);
     };
@@ -67,7 +68,7 @@ pub fn settle_next<D: FaultDir + Drop>(
     match state.primary() {
         None => unreachable!(),
         Some(p) => {
-            let job = state.begin_settling(alloc, at, p, n, task.version)?;
+            let job = begin_settling(alloc, state, at, p, n, task.version)?;
             Ok(Turn::Work(job))
         }
     }

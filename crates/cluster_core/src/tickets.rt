@@ -10,6 +10,7 @@ ghost use Rattle.cluster_core.specs.Calls.{open_event, close_by};
 
 use crate::refusals::refuse;
 use cluster_places::Key;
+use cluster_reads::{note_without, open_ticket};
 use cluster_state::ClusterState;
 use disk_model::FaultDir;
 use history_entries::{Cause, Event};
@@ -35,7 +36,7 @@ pub fn ticket_open<D: FaultDir + Drop>(
     if state.book().ticket(at.lane, t).is_some() {
         refuse(state, at, Cause::NameUsed)
     } else if state.book().runs(n) {
-        state.open_ticket(alloc, at, n, t)
+        open_ticket(alloc, state, at, n, t)
     } else {
         refuse(state, at, Cause::Down)
     }
@@ -60,7 +61,7 @@ pub fn ticket_close<D: FaultDir + Drop>(
             state.has_no_commit(at);
             let n = opening.node;
             let key = Key::Ticket { lane: at.lane, t };
-            state.note_without(at, n, key, Event::Closed { n, t })
+            note_without(state, at, n, key, Event::Closed { n, t })
         }
     }
 }

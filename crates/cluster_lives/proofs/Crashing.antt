@@ -79,7 +79,7 @@ use Rattle.cluster_state.proofs.Naming.{FilesLast, means_more, node_grows}
 use Rattle.cluster_state.proofs.Disks.{fresh_flights, point_stays, commits_shown, disk_stays}
 use Rattle.cluster_state.proofs.FileFrames.{Both, both_of, one_each, replica_same, before, files_was, files_is}
 use Rattle.cluster_state.proofs.Turning.{past_has}
-use Rattle.cluster_state.proofs.FirstNodes.{opening_stands}
+use Rattle.cluster_state.proofs.PointStands.{opening_stands}
 
 -- ---- the past
 

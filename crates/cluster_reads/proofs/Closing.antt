@@ -30,7 +30,7 @@ use Rattle.cluster_places.specs.Changes.{KeepsNode, ClosesTicket, HoldsLess}
 use Rattle.cluster_state.specs.Moves.{moves, EndsKey}
 use Rattle.cluster_state.proofs.Growing.{stands_more, same, not_flying}
 use Rattle.cluster_state.proofs.Frames.{some_then, node_same}
-use Rattle.cluster_state.proofs.Holding.{ticket_left, node_kept}
+use Rattle.cluster_reads.proofs.Holding.{ticket_left, node_kept}
 
 some_with : {A : Type 0} {P Q : A → Type 0} (o : Option A) → IsSomeAnd o P → ((x : A) → o ≡ Some x → P x → Q x) → IsSomeAnd o Q
 some_with None h step = h

@@ -26,7 +26,7 @@ use Rattle.cluster_places.specs.Places.{place_of, searchers_of, tickets_of}
 use Rattle.cluster_state.specs.State.{StandForVersion, IsPointAt, ReadsAt, ticket_key, HoldsTickets, NodeShows, PlaceShows}
 use Rattle.cluster_places.specs.Changes.{HoldsMore, HoldsTicket, IsLeaseUnder}
 use Rattle.cluster_places.proofs.Keys.{same_key_self}
-use Rattle.cluster_state.proofs.Holding.{ticket_last}
+use Rattle.cluster_reads.proofs.Holding.{ticket_last}
 
 some_is : {A : Type 0} (P : A → Type 0) (o : Option A) → IsSomeAnd o P → is_some o ≡ true
 some_is P None is = absurd is

@@ -59,7 +59,7 @@ use Rattle.cluster_state.specs.Disks.{DiskShows}
 use Rattle.cluster_state.specs.Files.{FilesShow}
 use Rattle.cluster_state.proofs.Frames.{was}
 use Rattle.cluster_state.proofs.FileFrames.{files_was}
-use Rattle.cluster_state.proofs.PointNames.{primary_named, replica_named}
+use Rattle.cluster_reads.proofs.PointNames.{primary_named, replica_named}
 use Rattle.cluster_state.proofs.Turning.{past_has}
 
 -- ---- names in a list

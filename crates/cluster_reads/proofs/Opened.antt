@@ -16,7 +16,7 @@ use Rattle.cluster_places.specs.Held.{same_key}
 use Rattle.cluster_state.specs.Lookups.{IsSearchAt, IsSearching}
 use Rattle.cluster_state.specs.State.{ticket_key}
 use Rattle.cluster_state.proofs.Growing.{alive_less, by_number}
-use Rattle.cluster_state.proofs.Holding.{IsNewOr}
+use Rattle.cluster_reads.proofs.Holding.{IsNewOr}
 
 -- ---- a ticket of a lane
 

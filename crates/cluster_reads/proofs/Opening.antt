@@ -30,7 +30,7 @@ use Rattle.cluster_state.specs.State.{StandForVersion, IsPointAt, ticket_key, Ho
 use Rattle.cluster_places.specs.Changes.{KeepsNode, HoldsMore}
 use Rattle.cluster_state.proofs.Growing.{stands_more, same, not_flying}
 use Rattle.cluster_state.proofs.Frames.{node_same}
-use Rattle.cluster_state.proofs.Holding.{IsNewOr, holds_more, node_kept}
+use Rattle.cluster_reads.proofs.Holding.{IsNewOr, holds_more, node_kept}
 
 -- what the log shows of a ticket after the entry: it is the new one, or it was there
 abbrev pub TicketsAfter : Past → Past → ℕ → Key → ℕ → Type 0

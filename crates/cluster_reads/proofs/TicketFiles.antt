@@ -22,9 +22,9 @@ use Rattle.cluster_places.specs.KeptFiles.{KeepsNodeFiles}
 use Rattle.cluster_places.specs.declared.held.Key.{Key}
 use Rattle.cluster_places.specs.Changes.{KeepsNode, HoldsMore}
 use Rattle.cluster_state.proofs.Frames.{PutsBack, place_at}
-use Rattle.cluster_state.proofs.PointNames.{opened_holds}
+use Rattle.cluster_reads.proofs.PointNames.{opened_holds}
 use Rattle.cluster_state.proofs.FileFrames.{flights_of, files_noted, files_moved}
-use Rattle.cluster_state.proofs.TicketPaths.{may_ask}
+use Rattle.cluster_reads.proofs.TicketPaths.{may_ask}
 use Rattle.cluster_state.proofs.Turning.{fresh_turn, past_has}
 
 module _ {D : Type 0} (cells : D → Cells) where

@@ -32,10 +32,10 @@ use Rattle.cluster_places.specs.Changes.{KeepsNode, HoldsMore, HoldsLess, HoldsT
 use Rattle.cluster_state.specs.Moves.{moves, moves_tickets, EndsKey}
 use Rattle.cluster_state.proofs.Frames.{PutsBack, was, noted, moved_at, place_at, rule_at}
 use Rattle.cluster_state.proofs.Growing.{not_flying}
-use Rattle.cluster_state.proofs.Opened.{ticket_opened, ticket_searched, search_ticket, search_opened}
-use Rattle.cluster_state.proofs.Opening.{TicketsAfter, SearchesAfter, opened_place, running_searches}
-use Rattle.cluster_state.proofs.Closing.{closed_place}
-use Rattle.cluster_state.proofs.Leasing.{ticket_held, ticket_reads, gives_back, opened_reads, opened_held, there_now, ticket_node, ticket_is}
+use Rattle.cluster_reads.proofs.Opened.{ticket_opened, ticket_searched, search_ticket, search_opened}
+use Rattle.cluster_reads.proofs.Opening.{TicketsAfter, SearchesAfter, opened_place, running_searches}
+use Rattle.cluster_reads.proofs.Closing.{closed_place}
+use Rattle.cluster_reads.proofs.Leasing.{ticket_held, ticket_reads, gives_back, opened_reads, opened_held, there_now, ticket_node, ticket_is}
 use Rattle.cluster_state.proofs.Turning.{fresh_line, past_has}
 
 -- ---- rules

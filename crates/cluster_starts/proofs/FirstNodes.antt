@@ -1,5 +1,5 @@
 -- The nodes of a cluster that has just started.
-use Rattle.std.proofs.Common.{◌≡◌, ◌≢◌, ◌≤◌, ◌<◌, ◌+◌, ◌++◌, ◌^◌, ◌==◌, inl, inr, ℕ, suc, zero, Bool, true, false, true≢false, is_some, List, [], ◌∷◌, Some, None, Option, Vec, Global, length, length-append, refl, ap, ◌∙◌, sym, subst, arith, rules, if◌then◌else◌}
+use Rattle.std.proofs.Common.{◌≡◌, ◌≢◌, ◌≤◌, ◌<◌, ◌+◌, ◌++◌, ◌^◌, ◌==◌, inl, inr, ℕ, suc, zero, Bool, true, false, true≢false, is_some, List, [], ◌∷◌, Some, None, Option, Vec, Global, length, length-append, refl, ap, ◌∙◌, sym, subst, arith, if◌then◌else◌}
 use Rattle.std.specs.Prelude.{IsSomeAnd, Contains, Result, Ok, Err, IfOk}
 use Rattle.std.specs.List.{slice_get, flat_map}
 use Rattle.std.proofs.lemmas.Bool.Decides.{nat_tests, eqb_tells}
@@ -62,6 +62,7 @@ use Rattle.nrt_base.specs.declared.numbers.At.{At}
 use Rattle.replica_node.specs.declared.job.PointJob.{PointJob}
 use Rattle.cluster_places.specs.declared.nodes.Node.{Node}
 use Rattle.cluster_state.specs.State.{IsPointAt, WritesAt, HoldsTickets, PrimaryShows, PlaceShows, Shows}
+use Rattle.cluster_state.proofs.PointStands.{opening_stands}
 
 -- an empty directory shows no commit
 no_commit : (cells : Cells) (n : ℕ) (infos : Infos) → IsEmptyDir cells → ShowsCommit (reads_of cells) n infos → ⊥
@@ -108,13 +109,6 @@ nothing_held n tickets = record {
     none_some number is = absurd (cc)
 
 -- ---- the opening point
-
-no_segments : AreSegmentsOf [] []
-no_segments = record { sound = λ k d lt. absurd (omega (arith, lt)); apart = λ i j d lt in'. absurd (omega (arith, lt, in')); documents = search rules }
-
--- it is of no documents, whatever a directory has
-pub opening_stands : (reads : Name → Content) (infos : Infos) → infos ≡ opening_infos → StandsFor reads infos []
-opening_stands reads infos is = subst (λ (i : Infos). StandsFor reads i []) (sym is) (record { segs = []; stands = record { each = tt; stand = no_segments } })
 
 -- it has no file
 no_names : (infos : Infos) (names : List Name) → infos ≡ opening_infos → AreFilesOf infos names → names ≡ []

@@ -14,7 +14,7 @@ use Rattle.cluster_places.specs.Places.{place_of}
 use Rattle.cluster_state.specs.State.{PlaceShows, Shows}
 use Rattle.cluster_state.specs.Files.{FilesShow}
 use Rattle.cluster_state.specs.Starting.{OpensPlace}
-use Rattle.cluster_state.proofs.FirstNodes.{place_more, first_shows, first_sources}
+use Rattle.cluster_starts.proofs.FirstNodes.{place_more, first_shows, first_sources}
 
 -- what the iterator of a vector has given is a front of its items
 taken_front : {X A : Type 0} (s : IntoIter X A) (xs : List X) (t : IntoIter X A) → Yields into_iter_steps s xs t → into_iter_items s ≡ xs ++ into_iter_items t

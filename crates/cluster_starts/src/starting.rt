@@ -1,16 +1,16 @@
-//! A cluster that starts: the nodes open on empty directories, and the first is the primary.
+//! A cluster that has just started.
 
-ghost use Rattle.std.specs.Prelude.{ℕ, ◌≡◌, ◌≤◌, IfOk, IsSomeAnd, None, length, []};
+ghost use Rattle.std.specs.Prelude.{◌≡◌, ◌≤◌, [], false, None, ℕ, IfOk, IsSomeAnd, length};
 ghost use Rattle.std.specs.List.{All};
 ghost use Rattle.history_entries.specs.Nodes.{IsNode};
+ghost use Rattle.cluster_places.specs.Places.{place_of};
 ghost use Rattle.cluster_state.specs.Starting.{IsEmptyDir, IsUncommitted, IsOpening, OpensPlace};
 ghost use Rattle.cluster_state.specs.State.{PrimaryShows};
 ghost use Rattle.cluster_state.specs.Files.{PrimaryFiles};
 ghost use Rattle.cluster_state.specs.Names.{NamesShow};
-ghost use Rattle.cluster_places.specs.Places.{place_of};
 
-use crate::cluster::ClusterState;
 use cluster_places::{Node, Place};
+use cluster_state::ClusterState;
 use disk_model::{Dir, FaultDir};
 use history_book::Book;
 use index_primary::Primary;
@@ -81,28 +81,25 @@ fn first_places<D: Dir + Drop>(
     Ok(places)
 }
 
-impl<D: FaultDir + Drop> ClusterState<D> {
-    ghost use Rattle.std.specs.Prelude.{◌≡◌, ◌≤◌, [], false, IfOk, length};
-    ghost use Rattle.std.specs.List.{All};
-    ghost use Rattle.cluster_state.specs.Starting.{IsEmptyDir};
-
-    /// A cluster over these directories, where nothing stands: node n is on the n-th of them, from 1. Node 1 is the primary, and
-    /// the others are replicas. `Err` is want of memory, or a disk that failed.
-    pub fn start(alloc: Global, dirs: Vec<D>) -> Result<Self, NoMemory>
-        requires some { 1 ≤ length dirs.items }
-        requires few { length dirs.items ≤ 16 }
-        requires empty { All (λ dir. IsEmptyDir (D.cells dir)) dirs.items }
-        ensures running { IfOk result (λ c. c.ended ≡ false) }
-        ensures nodes { IfOk result (λ c. c.nodes ≡ length dirs.items) }
-        ensures log { IfOk result (λ c. c.log ≡ []) }
-    {
-        let book = Book::new(alloc, dirs.len() as u8)?;
-        let places = first_places(alloc, dirs)?;
-        let ended = false;
-        Ok(ClusterState {
-            book,
-            places,
-            ended,
-        })
-    }
+/// A cluster over these directories, where nothing stands: node n is on the n-th of them, from 1. Node 1 is the primary, and
+/// the others are replicas. `Err` is want of memory, or a disk that failed.
+pub fn start_cluster<D: FaultDir + Drop>(
+    alloc: Global,
+    dirs: Vec<D>,
+) -> Result<ClusterState<D>, NoMemory>
+    requires some { 1 ≤ length dirs.items }
+    requires few { length dirs.items ≤ 16 }
+    requires empty { All (λ dir. IsEmptyDir (D.cells dir)) dirs.items }
+    ensures running { IfOk result (λ c. c.ended ≡ false) }
+    ensures nodes { IfOk result (λ c. c.nodes ≡ length dirs.items) }
+    ensures log { IfOk result (λ c. c.log ≡ []) }
+{
+    let book = Book::new(alloc, dirs.len() as u8)?;
+    let places = first_places(alloc, dirs)?;
+    let ended = false;
+    Ok(ClusterState {
+        book,
+        places,
+        ended,
+    })
 }

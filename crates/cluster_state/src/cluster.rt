@@ -10,9 +10,9 @@ use std::marker::Model;
 /// All nodes of a cluster and what happened in it. A call that finds no memory ends it: no other has a condition to rest on.
 #[derive(Drop)]
 pub struct ClusterState<D: FaultDir> {
-    pub(crate) book: Book,
-    pub(crate) places: Vec<Option<Place<D>>>,
-    pub(crate) ended: bool,
+    pub book: Book,
+    pub places: Vec<Option<Place<D>>>,
+    pub ended: bool,
 }
 
 impl<D: FaultDir> Model for ClusterState<D> {

@@ -68,7 +68,7 @@ use Rattle.cluster_state.proofs.Naming.{FilesLast, means_more, altered_steps, fi
 use Rattle.cluster_state.proofs.FileFrames.{names_both, Both, both_of, both_each, replica_same, files_was}
 use Rattle.cluster_state.proofs.FileJobs.{PrimaryHere, ReplicaHere, JobHere, primary_here, replica_here, job_here, job_out, runs_at}
 use Rattle.cluster_state.proofs.JobMoves.{shows_kept, primary_place}
-use Rattle.cluster_state.proofs.PartPaths.{there_both, some_job}
+use Rattle.cluster_transfers.proofs.PartPaths.{there_both, some_job}
 
 -- what is known of points that were copied whole
 abbrev pub SourcedStand : Type 0

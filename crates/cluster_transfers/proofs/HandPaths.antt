@@ -30,7 +30,7 @@ use Rattle.cluster_state.proofs.Frames.{some_at, was, now_is, slot_of}
 use Rattle.cluster_state.proofs.FileFrames.{both_of, Both, files_was, files_is}
 use Rattle.cluster_state.proofs.FileJobs.{ReplicaHere, JobHere, primary_here, replica_here, job_here, job_out, runs_at}
 use Rattle.cluster_state.proofs.Naming.{FilesLast}
-use Rattle.cluster_state.proofs.Handing.{has_job, next_is, IsFileToCopy, file_to_copy, file_footer, file_handed}
+use Rattle.cluster_transfers.proofs.Handing.{has_job, next_is, IsFileToCopy, file_to_copy, file_footer, file_handed}
 
 module _ {D : Type 0} (cells : D → Cells) where
   -- the replica of a job that runs, with the job

@@ -1,17 +1,15 @@
 -- What the calls of the primary ask for, by what it shows.
-use Rattle.std.proofs.Common.{◌≡◌, ◌==◌, ◌≤◌, ◌<◌, ◌+◌, ◌^◌, ℕ, Bool, true, false, true≢false, List, [], ◌∷◌, Some, None, Option, Vec, Global, refl, ap, ◌∙◌, sym, subst, arith, if◌then◌else◌, length, take}
+use Rattle.std.proofs.Common.{◌≡◌, ◌==◌, ◌≤◌, ◌<◌, ◌+◌, ◌^◌, ℕ, true, false, true≢false, List, Some, None, Option, Vec, Global, refl, ap, ◌∙◌, sym, subst, arith, length, take}
 use Rattle.std.proofs.lemmas.Bool.{eq-eqb}
 use Rattle.std.specs.Prelude.{IsSomeAnd}
 use Rattle.nrt_base.specs.declared.numbers.At.{At}
 use Rattle.nrt_base.specs.declared.numbers.NodeNo.{NodeNo}
 use Rattle.disk_model.specs.Disk.{Cells}
 use Rattle.segment_steps.specs.declared.flushing.FlushWork.{FlushWork}
-use Rattle.history_entries.specs.declared.entry.Event.{Event}
-use Rattle.history_entries.specs.declared.entry.Event.TheVariants.{Crashed, Promoted}
-use Rattle.history_entries.specs.Nodes.{Past, IsNode, is_at, primary_of, accepted_count}
+use Rattle.history_entries.specs.Nodes.{is_at, primary_of, accepted_count}
 use Rattle.history_entries.specs.Lines.{publish_in_flight}
 use Rattle.history_entries.specs.Points.{operations_of_generation}
-use Rattle.history_entries.specs.Legal.{KeepsRule, IsLegalPast}
+use Rattle.history_entries.specs.Legal.{IsLegalPast}
 use Rattle.history_book.specs.Log.{Log, printed}
 use Rattle.history_book.specs.Turns.{AreInTurn}
 use Rattle.index_primary.specs.declared.parts.Parts.{Parts as PrimaryParts}
@@ -25,7 +23,7 @@ use Rattle.cluster_state.specs.Lookups.{Handed}
 use Rattle.cluster_places.specs.Places.{HasPrimary}
 use Rattle.cluster_state.specs.State.{IsFlying, FlightShows, PrimaryShows, NodeShows, PlaceShows}
 use Rattle.cluster_state.specs.Writes.{IsFlushed}
-use Rattle.cluster_state.proofs.Cuts.{FliesWith, flies_with}
+use Rattle.cluster_writes.proofs.Cuts.{FliesWith, flies_with}
 
 -- another node than the primary is not the primary
 pub others_apart : (p : Option NodeNo) (n : NodeNo) (m : ℕ) → p ≡ Some n → (n.0 == m) ≡ false → is_at p m ≡ false
@@ -33,21 +31,6 @@ others_apart p n m is apart = ap (λ (o : Option NodeNo). is_at o m) is ∙ apar
 
 pub primary_there : (p : Option NodeNo) (n : NodeNo) → p ≡ Some n → is_at p n.0 ≡ true
 primary_there p n is = ap (λ (o : Option NodeNo). is_at o n.0) is ∙ eq-eqb n.0 n.0 refl
-
-primary_step : (size : ℕ) (past : Past) (at : At) (e : Event) (p : NodeNo) → KeepsRule size past at e → (primary_of past ≡ Some p → IsNode size p.0)
-    → primary_of (record { at = at; event = e } ∷ past) ≡ Some p → IsNode size p.0
-primary_step size past at (Crashed m) p keeps was is = crash (is_at (primary_of past) m.0) is
-  where
-    crash : (b : Bool) → (if b then None else primary_of past) ≡ Some p → IsNode size p.0
-    crash true got = absurd (cc)
-    crash false got = was got
-primary_step size past at (Promoted m g f v) p keeps was is = let same : m ≡ p = cc in subst (λ (q : NodeNo). IsNode size q.0) same keeps.node
-primary_step size past at e p keeps was is = was is
-
--- the primary is a node
-pub primary_node : (size : ℕ) (past : Past) (p : NodeNo) → 1 ≤ size → IsLegalPast size past → primary_of past ≡ Some p → IsNode size p.0
-primary_node size [] p some legal is = let same : ◌≡◌ {A = NodeNo} (record { 0 = 1 }) p = cc in subst (λ (q : NodeNo). IsNode size q.0) same (omega arith, some)
-primary_node size (e ∷ past) p some legal is = primary_step size past e.at e.event p legal.0 (λ was. primary_node size past p some legal.1 was) is
 
 module _ {D : Type 0} (cells : D → Cells) where
   node_is_primary : (log : Log) (n : ℕ) (x : Node D) (held : Vec Held Global) → is_at (primary_of (printed log)) n ≡ true → NodeShows cells log n x → HasPrimary (Some (record { node = x; held = held }))

@@ -13,7 +13,7 @@ use Rattle.disk_model.specs.Disk.{Cells, reads_of}
 use Rattle.seg_reader.specs.Shown.{Shown}
 use Rattle.history_entries.specs.declared.entry.Event.TheVariants.{Accepted, Publishing, Published}
 use Rattle.history_entries.specs.Nodes.{IsNode, primary_of, newest_version, generation_of, accepted_count}
-use Rattle.history_entries.specs.Lines.{same_at, start_entry, publish_in_flight, is_free_for}
+use Rattle.history_entries.specs.Lines.{same_at, publish_in_flight, is_free_for}
 use Rattle.history_entries.specs.Points.{operations_of_generation, cut_of, cut_has_put, names_drawn}
 use Rattle.history_entries.specs.Legal.{KeepsRule, IsLegalPast}
 use Rattle.script_serving.specs.Refusals.{may_be_full}
@@ -38,12 +38,11 @@ use Rattle.cluster_places.specs.Places.{place_of, HasPrimary}
 use Rattle.cluster_state.specs.Run.{Run, IsNow}
 use Rattle.cluster_state.specs.State.{PrimaryShows, PlaceShows, Shows}
 use Rattle.cluster_state.specs.Writes.{HandsFlush, IsFlushed}
-use Rattle.cluster_state.proofs.Growing.{not_flying}
 use Rattle.cluster_state.proofs.Frames.{PutsBack, was, now_is, place_at, moved_at, moved_out}
-use Rattle.cluster_state.proofs.Written.{accepted_place, started_place, published_place}
-use Rattle.cluster_state.proofs.Paid.{ends_paid}
-use Rattle.cluster_state.proofs.Filling.{is_full}
-use Rattle.cluster_state.proofs.Primaries.{others_apart, primary_there, primary_node, has_primary, numbered, unpublished, is_work}
+use Rattle.cluster_writes.proofs.Written.{accepted_place, started_place, published_place}
+use Rattle.cluster_writes.proofs.Paid.{ends_paid}
+use Rattle.cluster_writes.proofs.Filling.{is_full}
+use Rattle.cluster_writes.proofs.Primaries.{others_apart, primary_there, has_primary, numbered, unpublished, is_work}
 use Rattle.cluster_state.proofs.Turning.{fresh_line, log_is, nodes_is, past_has}
 
 -- ---- what a call answered
@@ -94,21 +93,6 @@ may_publish r ended b at g v view legal turns flight flying present next =
       next = past_has (λ p. v.0 ≡ newest_version p + 1) r ended b view next;
       merged = ends_paid b.nodes (printed r.log) at all order flight;
     }
-
--- the publish in flight is not that of a line which did not start as one
-pub apart_of : (r : Run) (ended : Bool) (b : Pages) (at : At) → record { ended = ended; nodes = b.nodes; log = b.log } ≡ r → IsLegalPast b.nodes (printed b.log) → AreInTurn (printed b.log)
-    → start_entry at (printed r.log) ≢ Some Publishing → publish_in_flight (printed r.log) ≢ Some at
-apart_of r ended b at view legal turns line = not_flying r.nodes (printed r.log) at (subst (λ (x : Run). IsLegalPast x.nodes (printed x.log)) view legal) (past_has AreInTurn r ended b view turns) line
-
--- the primary of the book is a node
-pub primary_is_node : {D : Type 0} (cells : D → Cells) (r : Run) (ended : Bool) (b : Pages) (places : List (Option (Place D))) (o : Option NodeNo)
-    → record { ended = ended; nodes = b.nodes; log = b.log } ≡ r → r.ended ≡ false → (ended ≡ false → Shows cells b.log b.nodes places)
-    → IsLegalPast b.nodes (printed b.log) → o ≡ primary_of (printed b.log) → IfSome o (λ p. IsNode r.nodes p.0)
-primary_is_node cells r ended b places None view running shows legal is = tt
-primary_is_node cells r ended b places (Some p) view running shows legal is =
-    primary_node r.nodes (printed r.log) p (was cells r ended b.nodes b.log places view running shows).some
-    (subst (λ (x : Run). IsLegalPast x.nodes (printed x.log)) view legal)
-    (sym (ap (λ (x : Run). primary_of (printed x.log)) view) ∙ sym is)
 
 -- a publish has ended
 pub ends_now : (r : Run) (ended : Bool) (b0 b1 b2 : Pages) (at : At) (g : Gen) (v : Version) → record { ended = ended; nodes = b0.nodes; log = b0.log } ≡ r

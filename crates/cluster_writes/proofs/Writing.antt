@@ -42,8 +42,8 @@ use Rattle.cluster_state.specs.State.{StandForVersion, IsPointAt, IsFlying, Flig
 use Rattle.cluster_state.specs.Writes.{IsFlushed}
 use Rattle.cluster_state.proofs.Growing.{stands_more, flight_stays, not_flying}
 use Rattle.cluster_state.proofs.Frames.{flight_same}
-use Rattle.cluster_state.proofs.Filling.{IsLive, next_live, next_few}
-use Rattle.cluster_state.proofs.Cuts.{length_last, drop_last, drop_on, take_on, after_ops-append, FliesWith, flies_with}
+use Rattle.cluster_writes.proofs.Filling.{IsLive, next_live, next_few}
+use Rattle.cluster_writes.proofs.Cuts.{length_last, drop_last, drop_on, take_on, after_ops-append, FliesWith, flies_with}
 
 module _ {D : Type 0} (cells : D → Cells) where
   -- ---- an operation is accepted

@@ -30,7 +30,7 @@ use Rattle.cluster_state.specs.Writes.{IsFlushed}
 use Rattle.cluster_state.specs.Moves.{moves_tickets}
 use Rattle.cluster_state.proofs.Growing.{lasts, fewer}
 use Rattle.cluster_state.proofs.Frames.{holds_same}
-use Rattle.cluster_state.proofs.Writing.{accepted_primary, started_primary, published_primary}
+use Rattle.cluster_writes.proofs.Writing.{accepted_primary, started_primary, published_primary}
 
 tickets_next : (size : ℕ) (past : Past) (at : At) (e : Event) (n : ℕ) (old new : List (Open Shown)) (held : List Held) → IsLegalPast size past → KeepsRule size past at e → moves_tickets e n ≡ false
     → new ≡ old → HoldsTickets past n old held → HoldsTickets (record { at = at; event = e } ∷ past) n new held

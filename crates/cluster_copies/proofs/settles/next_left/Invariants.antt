@@ -1,11 +1,11 @@
 use Rattle.std.proofs.Common.{◌≡◌, length}
 use Rattle.history_book.specs.Log.{printed}
 use Rattle.cluster_state.specs.Settles.{IsSettling}
-use Rattle.cluster_state.proofs.cluster.ClusterState.next_left.Given as goal
+use Rattle.cluster_copies.proofs.settles.next_left.Given as goal
 
 abbrev pub invariant-loop-n : goal.invariant-loop-n
 invariant-loop-n g l = record {
-  settling : IsSettling l.self.nodes (printed l.self.log) l.at l.task;
+  settling : IsSettling l.cluster.nodes (printed l.cluster.log) l.at l.task;
   same : l.task.version ≡ l.initial.task.version;
 }
 

@@ -1,6 +1,6 @@
-use Rattle.cluster_state.proofs.FirstNodes.{opens_primary, opens_replica}
-use Rattle.cluster_state.proofs.starting.first_place.Goals.{then-n-eq1+in_ok-first_primary, else-n-eq1}
-use Rattle.cluster_state.proofs.starting.first_place.Goals as goal
+use Rattle.cluster_starts.proofs.FirstNodes.{opens_primary, opens_replica}
+use Rattle.cluster_starts.proofs.starting.first_place.Goals.{then-n-eq1+in_ok-first_primary, else-n-eq1}
+use Rattle.cluster_starts.proofs.starting.first_place.Goals as goal
 
 pub returns : goal.returns
 returns g c = elim c.if-n-eq1.branch [

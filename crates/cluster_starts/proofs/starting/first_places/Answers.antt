@@ -4,8 +4,8 @@ use Rattle.history_entries.specs.Nodes.{IsNode}
 use Rattle.std.specs.Prelude.{IsSomeAnd}
 use Rattle.cluster_state.specs.Starting.{IsEmptyDir, OpensPlace}
 use Rattle.cluster_places.specs.Places.{place_of}
-use Rattle.cluster_state.proofs.FirstPlaces.{given_has, more_count, more_each}
-use Rattle.cluster_state.proofs.starting.first_places.Goals as goal
+use Rattle.cluster_starts.proofs.FirstPlaces.{given_has, more_count, more_each}
+use Rattle.cluster_starts.proofs.starting.first_places.Goals as goal
 
 pub loop-dir-init : goal.loop-dir-init
 loop-dir-init g c = record { count = ap length c.new-places.ensures.items; each = λ n node. absurd (omega (arith, node.0, node.1)) }

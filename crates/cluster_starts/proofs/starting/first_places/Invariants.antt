@@ -3,7 +3,7 @@ use Rattle.std.specs.Prelude.{IsSomeAnd}
 use Rattle.history_entries.specs.Nodes.{IsNode}
 use Rattle.cluster_places.specs.Places.{place_of}
 use Rattle.cluster_state.specs.Starting.{OpensPlace}
-use Rattle.cluster_state.proofs.starting.first_places.Given as goal
+use Rattle.cluster_starts.proofs.starting.first_places.Given as goal
 
 abbrev pub invariant-loop-dir : goal.invariant-loop-dir
 invariant-loop-dir g l = record {

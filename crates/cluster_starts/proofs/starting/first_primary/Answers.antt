@@ -1,5 +1,5 @@
-use Rattle.cluster_state.proofs.FirstNodes.{parts_undrawn, files_done, names_done, commits_done}
-use Rattle.cluster_state.proofs.starting.first_primary.Goals as goal
+use Rattle.cluster_starts.proofs.FirstNodes.{parts_undrawn, files_done, names_done, commits_done}
+use Rattle.cluster_starts.proofs.starting.first_primary.Goals as goal
 
 pub from_parts-requires-clause-undrawn : goal.from_parts-requires-clause-undrawn
 from_parts-requires-clause-undrawn g c =

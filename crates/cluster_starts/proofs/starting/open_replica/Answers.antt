@@ -1,5 +1,5 @@
-use Rattle.cluster_state.proofs.FirstNodes.{empty_settled, is_opening}
-use Rattle.cluster_state.proofs.starting.open_replica.Goals as goal
+use Rattle.cluster_starts.proofs.FirstNodes.{empty_settled, is_opening}
+use Rattle.cluster_starts.proofs.starting.open_replica.Goals as goal
 
 pub start_from-requires : goal.start_from-requires
 start_from-requires g c = empty_settled _ c.requires

@@ -1,6 +1,6 @@
 use Rattle.std.proofs.Common.{arith}
-use Rattle.cluster_state.proofs.FirstPlaces.{first_state}
-use Rattle.cluster_state.proofs.cluster.ClusterState.start.Goals as goal
+use Rattle.cluster_starts.proofs.FirstPlaces.{first_state}
+use Rattle.cluster_starts.proofs.starting.start_cluster.Goals as goal
 
 pub invariant_of-result : goal.invariant_of-result
 invariant_of-result g c = λ running.

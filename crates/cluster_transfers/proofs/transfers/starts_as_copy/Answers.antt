@@ -1,8 +1,8 @@
 use Rattle.std.proofs.Common.{◌∙◌, ap, sym}
 use Rattle.history_book.specs.Log.{printed}
 use Rattle.cluster_state.specs.Copies.{is_copy_start}
-use Rattle.cluster_state.proofs.JobEnds.{start_is}
-use Rattle.cluster_state.proofs.copies.starts_as_copy.Goals as goal
+use Rattle.cluster_transfers.proofs.JobEnds.{start_is}
+use Rattle.cluster_transfers.proofs.transfers.starts_as_copy.Goals as goal
 
 pub returns-in-Copying : goal.returns-in-Copying
 returns-in-Copying c = sym (ap is_copy_start (start_is c.args.at (printed c.args.book.now.log) c.in-Some.begun _ (sym c.line.ensures ∙ c.in-Some.is) c.in-Copying.is))

@@ -1,0 +1,2 @@
+mod Crashing
+mod Reopening
