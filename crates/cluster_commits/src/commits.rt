@@ -7,10 +7,11 @@ ghost use Rattle.history_book.specs.Log.{printed};
 ghost use Rattle.cluster_state.specs.Run.{IsEnded};
 ghost use Rattle.cluster_state.specs.Lives.{BeginsCommit, StepsCommit};
 
-use cluster_places::{CommitTask, begin_commit_in, step_commit_in};
+use cluster_places::CommitTask;
 use cluster_state::ClusterState;
 use disk_model::FaultDir;
 use history_entries::Event;
+use node_commits::{begin_commit_in, step_commit_in};
 use nrt_base::{At, NoMemory, NodeNo, Version};
 use replica_node::laws::files_last;
 use std::alloc::Global;

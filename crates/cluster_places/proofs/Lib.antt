@@ -1,8 +1,5 @@
 mod HeldRows
-mod JobFiles
 pub mod Keys
-mod CommitPlaces
-mod CrashedPlaces
 pub mod OutCounts
 mod Slots
 pub mod Stepping

@@ -11,12 +11,13 @@ ghost use Rattle.cluster_state.specs.Copies.{is_copy_start, JobRuns, ended_log, 
 ghost use Rattle.cluster_state.specs.Run.{IsNow, IsEnded};
 ghost use Rattle.cluster_state.specs.FilesOut.{file_out};
 
-use cluster_places::{FileTask, finish_in, next_in, read_in, take_in};
+use cluster_places::FileTask;
 use cluster_state::ClusterState;
 use copy_job::Part;
 use disk_model::FaultDir;
 use history_book::{Book, Inner, Job, JobRow, Start};
 use history_entries::Event;
+use node_jobs::{finish_in, next_in, read_in, take_in};
 use nrt_base::{At, NoMemory, NodeNo};
 use replica_node::laws::{files_last, sourced_stands};
 use std::alloc::Global;

@@ -5,7 +5,7 @@ ghost use Rattle.commit_steps.specs.Book.{HasBegun};
 ghost use Rattle.cluster_places.specs.Places.{place_of, disk_of, IsSlot};
 ghost use Rattle.cluster_places.specs.Commits.{HasStage, HasStageAt, StepsBook, AltersCommits, CommitsIn};
 
-use crate::nodes::{Node, Place, put, take};
+use cluster_places::{Node, Place, put, take};
 use disk_model::Dir;
 use node_files::laws::holds_no_more;
 use nrt_base::{NoMemory, NodeNo};

@@ -6,11 +6,10 @@ ghost use Rattle.cluster_places.specs.Places.{place_of, IsSlot, HasPrimary};
 ghost use Rattle.cluster_places.specs.JobChanges.{HasReplica, HasJob, HasNextFile};
 ghost use Rattle.cluster_places.specs.JobPlaces.{CanBegin, BeginsIn, CanFinish, FinishesIn, CanRead, ReadsIn, CanTake, TakesIn};
 
-use crate::held::Held;
 use crate::jobs::{begin_job, finish_job, take_part};
-use crate::nodes::{Node, Place, primary_in, put, take};
 use crate::states::next_file;
 use bytes::Bytes;
+use cluster_places::{Held, Node, Place, primary_in, put, take};
 use copy_job::Part;
 use copy_state::FileMetaData;
 use disk_model::Dir;

@@ -6,7 +6,7 @@ ghost use Rattle.replica_opening.specs.Opened.{IsSettledOn};
 ghost use Rattle.cluster_places.specs.Places.{place_of, dir_of, IsSlot};
 ghost use Rattle.cluster_places.specs.Lives.{CrashesIn, OpensOn, ReopensIn};
 
-use crate::nodes::{Node, Place, put, take};
+use cluster_places::{Node, Place, put, take};
 use disk_model::{Dir, FaultDir};
 use nrt_base::{NoMemory, NodeNo, Version};
 use replica_node::Replica;

@@ -1,5 +1,5 @@
-use Rattle.cluster_places.proofs.CommitPlaces.{primary_steps, replica_steps}
-use Rattle.cluster_places.proofs.commits.step_at.Goals as goal
+use Rattle.node_commits.proofs.CommitPlaces.{primary_steps, replica_steps}
+use Rattle.node_commits.proofs.commits.step_at.Goals as goal
 
 pub returns-in-Ok : goal.returns-in-Ok
 returns-in-Ok g c = primary_steps g.D.Dir.cells c.holds_no_more.ensures.step c.args.node.now c.in-Primary.primary c.commit_step.new.self c.in-Ok.done c.in-Primary.is c.commit_step.ensures.others c.commit_step.ensures.stays c.commit_step.ensures.appears c.commit_step.ensures.whole

@@ -1,8 +1,8 @@
 use Rattle.std.proofs.Common.{◌≡◌, None}
 use Rattle.std.specs.Prelude.{IsSome}
 use Rattle.cluster_places.proofs.Taking.{moved_one}
-use Rattle.cluster_places.proofs.CommitPlaces.{stage_here, some_here}
-use Rattle.cluster_places.proofs.commits.step_commit_in.Goals as goal
+use Rattle.node_commits.proofs.CommitPlaces.{stage_here, some_here}
+use Rattle.node_commits.proofs.commits.step_commit_in.Goals as goal
 
 pub take-place-requires-clause-there : goal.take-place-requires-clause-there
 take-place-requires-clause-there g c = some_here g.D.Dir.cells IsSome _ c.requires.in_flight

@@ -3,7 +3,7 @@ use Rattle.index_primary.specs.States.{out_of}
 use Rattle.replica_node.specs.declared.parts.Parts.{Parts as ReplicaParts}
 use Rattle.cluster_places.specs.Outs.{want_of}
 use Rattle.cluster_places.proofs.Stepping.{out_pushed, begins, alters_by, none_by, job_seen, job_by}
-use Rattle.cluster_places.proofs.jobs.begin_job.Goals as goal
+use Rattle.node_jobs.proofs.jobs.begin_job.Goals as goal
 
 pub drop_job-requires : goal.drop_job-requires
 drop_job-requires g c = out_pushed (want_of c.args.replica.now.job) (out_of c.in-Ok.state) c.args.primary.now.states c.take_state.new.self.states c.in-Ok.ensures.out c.requires.out

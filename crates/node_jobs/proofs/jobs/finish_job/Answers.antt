@@ -1,6 +1,6 @@
 use Rattle.std.proofs.Common.{◌∙◌}
 use Rattle.cluster_places.proofs.Stepping.{finishes, alters_by}
-use Rattle.cluster_places.proofs.jobs.finish_job.Goals as goal
+use Rattle.node_jobs.proofs.jobs.finish_job.Goals as goal
 
 pub returns : goal.returns
 returns g c = finishes g.D.Dir.cells c.args.primary.now c.give_back.new.self c.args.replica.now c.finish.new.self c.in_ok-state.state c.in-Some.job.now c.in-Some.ensures.job (c.in_ok-state.ensures ∙ c.want.ensures)

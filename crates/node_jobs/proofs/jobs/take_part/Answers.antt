@@ -1,7 +1,7 @@
 use Rattle.std.proofs.Common.{sym, arith}
-use Rattle.cluster_places.proofs.JobFiles.{part_lacked, part_wanted}
+use Rattle.node_jobs.proofs.JobFiles.{part_lacked, part_wanted}
 use Rattle.cluster_places.proofs.Stepping.{takes_in}
-use Rattle.cluster_places.proofs.jobs.take_part.Goals as goal
+use Rattle.node_jobs.proofs.jobs.take_part.Goals as goal
 
 pub arrived-requires-clause-missing : goal.arrived-requires-clause-missing
 arrived-requires-clause-missing g c = part_lacked c.args.replica.now.job c.in-Some.job.now c.args.part.name c.in-Some.ensures.job (sym c.if-not-lacks.ensures.is)

@@ -1,7 +1,7 @@
 use Rattle.std.proofs.Common.{◌∙◌, ap}
 use Rattle.copy_state.specs.declared.state.CopyState.{CopyState}
-use Rattle.cluster_places.proofs.JobFiles.{first_meta, first_next}
-use Rattle.cluster_places.proofs.states.next_file.Goals as goal
+use Rattle.node_jobs.proofs.JobFiles.{first_meta, first_next}
+use Rattle.node_jobs.proofs.states.next_file.Goals as goal
 
 pub unreachable-requires : goal.unreachable-requires
 unreachable-requires c = first_meta c.args.job.now c.missing.result.now c.as_slice.result.now c.in-Some.name.now c.missing.ensures.job c.missing.ensures.names c.in-Some.ensures.value (c.as_slice.ensures ∙ ap (λ (s : CopyState). s.files) c.want.ensures) c.in-None.ensures

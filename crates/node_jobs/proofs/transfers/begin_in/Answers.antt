@@ -1,6 +1,6 @@
 use Rattle.cluster_places.specs.JobPlaces.{MayBegin}
 use Rattle.cluster_places.proofs.Taking.{may_of, begun_in}
-use Rattle.cluster_places.proofs.transfers.begin_in.Goals as goal
+use Rattle.node_jobs.proofs.transfers.begin_in.Goals as goal
 
 pub begin_job-begun-requires-clause-behind : goal.begin_job-begun-requires-clause-behind
 begin_job-begun-requires-clause-behind g c = (may_of MayBegin c.args.places.now.items c.take_primary-primary.new.places.items c.args.p.0 c.args.n.0 _ _ _ _ c.requires.stand c.take_primary-primary.ensures.places c.take_primary-primary.ensures.place c.take_replica-replica.ensures.place c.requires.may).behind

@@ -1,6 +1,6 @@
 use Rattle.cluster_places.specs.JobPlaces.{MayFinish}
 use Rattle.cluster_places.proofs.Taking.{may_of, finished_in}
-use Rattle.cluster_places.proofs.transfers.finish_in.Goals as goal
+use Rattle.node_jobs.proofs.transfers.finish_in.Goals as goal
 
 pub finish_job-finished-requires-clause-some : goal.finish_job-finished-requires-clause-some
 finish_job-finished-requires-clause-some g c = (may_of (MayFinish g.D.Dir.cells) c.args.places.now.items c.take_primary-primary.new.places.items c.args.p.0 c.args.n.0 _ _ _ _ c.requires.stand c.take_primary-primary.ensures.places c.take_primary-primary.ensures.place c.take_replica-replica.ensures.place c.requires.may).some

@@ -1,5 +1,5 @@
 use Rattle.cluster_places.proofs.Taking.{read_at}
-use Rattle.cluster_places.proofs.transfers.read_in.Goals as goal
+use Rattle.node_jobs.proofs.transfers.read_in.Goals as goal
 
 pub source-read-requires : goal.source-read-requires
 source-read-requires g c = record { out = c.requires.out _ _ c.take_primary-primary.ensures.place }

@@ -1,5 +1,5 @@
 use Rattle.cluster_places.proofs.Taking.{taken_in}
-use Rattle.cluster_places.proofs.transfers.take_in.Goals as goal
+use Rattle.node_jobs.proofs.transfers.take_in.Goals as goal
 
 pub take_part-taken-requires-clause-some : goal.take_part-taken-requires-clause-some
 take_part-taken-requires-clause-some g c = c.requires.can.some _ _ c.take_replica-replica.ensures.place

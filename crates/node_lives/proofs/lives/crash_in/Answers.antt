@@ -2,8 +2,8 @@ use Rattle.std.proofs.Common.{subst}
 use Rattle.std.specs.Prelude.{OnOk}
 use Rattle.disk_model.specs.Disk.{HasCrashed}
 use Rattle.cluster_places.specs.Places.{dir_of}
-use Rattle.cluster_places.proofs.CrashedPlaces.{crashed_in}
-use Rattle.cluster_places.proofs.lives.crash_in.Goals as goal
+use Rattle.node_lives.proofs.CrashedPlaces.{crashed_in}
+use Rattle.node_lives.proofs.lives.crash_in.Goals as goal
 
 pub returns : goal.returns
 returns g c = crashed_in g.D.Dir.cells c.crash-crashed.result c.args.places.now.items c.take-node.new.places.items c.put.new.places.items c.args.n.0 c.take-node.result c.crash-crashed.new.self c.new-held.result

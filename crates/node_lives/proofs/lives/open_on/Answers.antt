@@ -1,4 +1,4 @@
-use Rattle.cluster_places.proofs.lives.open_on.Goals as goal
+use Rattle.node_lives.proofs.lives.open_on.Goals as goal
 
 pub returns-in-Ok : goal.returns-in-Ok
 returns-in-Ok g c = record {

@@ -3,7 +3,7 @@ use Rattle.cluster_places.specs.Places.{dir_of}
 use Rattle.cluster_places.specs.Lives.{OpensOn}
 use Rattle.replica_opening.specs.Opened.{IsSettledOn}
 use Rattle.cluster_places.proofs.Taking.{moved_one}
-use Rattle.cluster_places.proofs.lives.reopen_in.Goals as goal
+use Rattle.node_lives.proofs.lives.reopen_in.Goals as goal
 
 pub open_on-requires : goal.open_on-requires
 open_on-requires g c = subst (λ d. IsSettledOn (g.D.Dir.cells d)) (sym c.dir_in-dir.ensures) (c.requires.settled c.take-node.result c.take-node.ensures.place)
