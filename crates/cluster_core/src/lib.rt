@@ -5,8 +5,6 @@
 mod asks;
 mod calls;
 mod cluster;
-mod commits;
-mod copies;
 mod copying;
 mod lasting;
 mod lists;
@@ -22,4 +20,4 @@ mod tickets;
 mod turn;
 
 pub use cluster::Cluster;
-pub use turn::Turn;
+pub use line_turns::Turn;

@@ -1,6 +1,6 @@
 -- How far a line has come that copies or settles.
-use Rattle.std.proofs.Common.{◌≡◌, ◌≢◌, ◌≤◌, ◌<◌, ◌&&◌, ◌||◌, ◌==◌, ℕ, Bool, true, false, true≢false, [], ◌∷◌, Some, None, Option, max, refl, ap, ◌∙◌, sym, subst, if◌then◌else◌, inr, arith, length}
-use Rattle.std.specs.Prelude.{not, nat_lt, IfSome, IsSomeAnd, ⊤}
+use Rattle.std.proofs.Common.{◌≡◌, ◌≢◌, ◌≤◌, ◌<◌, ◌&&◌, ◌||◌, ◌==◌, ℕ, Bool, true, false, true≢false, [], ◌∷◌, Some, None, Option, max, refl, ap, ◌∙◌, sym, subst, if◌then◌else◌, arith, length}
+use Rattle.std.specs.Prelude.{not, nat_lt, IfSome, IsSomeAnd}
 use Rattle.std.proofs.lemmas.Bool.{eqb-true, eq-eqb, ltb-false}
 use Rattle.nrt_base.specs.declared.numbers.At.{At}
 use Rattle.nrt_base.specs.declared.numbers.NodeNo.{NodeNo}
@@ -19,7 +19,7 @@ use Rattle.history_tables.specs.declared.jobs.JobRow.{JobRow}
 use Rattle.history_book.specs.Jobs.{job_of, StartsJob, IsCancelled, IsOlder}
 use Rattle.history_book.specs.Steps.{last_by, highest_by}
 use Rattle.history_tables.proofs.RowLemmas.{same_at_is}
-use Rattle.history_entries.specs.Rules.{StartedCopy, is_copy, is_lost, MayRefuse, MayRefuseLine}
+use Rattle.history_entries.specs.Rules.{StartedCopy, is_copy, is_lost, MayRefuseLine}
 use Rattle.history_tables.specs.declared.lines.Start.{Start}
 use Rattle.history_tables.specs.declared.lines.Begun.{Begun}
 use Rattle.history_book.proofs.LineLaws.{open_started}
@@ -33,12 +33,12 @@ use Rattle.script_serving.specs.declared.script.LineCommand.TheVariants.{Copy}
 use Rattle.script_serving.specs.Refusals.{refusal}
 use Rattle.cluster_places.specs.declared.tasks.CopyTask.{CopyTask}
 use Rattle.cluster_state.specs.Run.{Run}
-use Rattle.cluster_core.specs.declared.turn.Turn.{Turn}
-use Rattle.cluster_core.specs.declared.turn.Turn.TheVariants.{Work, Done, Busy}
-use Rattle.cluster_core.specs.Calls.{IsRefusedTurn}
+use Rattle.line_turns.specs.declared.turn.Turn.{Turn}
+use Rattle.line_turns.specs.declared.turn.Turn.TheVariants.{Work, Done, Busy}
+use Rattle.line_turns.specs.Calls.{IsRefusedTurn}
 use Rattle.cluster_state.specs.Copies.{IsCopying}
-use Rattle.cluster_core.specs.CopyCalls.{CopyAnswered, CopyStarts, CopyStartsWhen, IsOpenJob}
-use Rattle.cluster_core.proofs.Rows.{legal_at}
+use Rattle.line_turns.specs.CopyCalls.{CopyAnswered, CopyStarts, CopyStartsWhen, IsOpenJob}
+use Rattle.line_turns.proofs.Rows.{legal_at}
 
 -- what one more entry of the line leaves of a copy that is open, and has switched no node as high as its own
 switched_out : (n m k : ℕ) → n ≡ m → max k m < n → ⊥

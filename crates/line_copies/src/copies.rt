@@ -16,12 +16,9 @@ ghost use Rattle.script_serving.specs.Refusals.{refusal};
 ghost use Rattle.cluster_state.specs.Run.{IsEnded};
 ghost use Rattle.cluster_state.specs.Copies.{JobRuns};
 ghost use Rattle.cluster_state.specs.FilesOut.{file_out};
-ghost use Rattle.cluster_core.specs.Calls.{LineRefused};
-ghost use Rattle.cluster_core.specs.CopyCalls.{IsBeingCopied, IsNotBeingCopied, CopyStarts, CopyStartsWhen, IsSourceFor, IsOpenJob, standing_of, MayEnd, stopped_log, Stops, RunsOn, JobGoesOn, JobSteps, JobHasPart, PartArrives};
+ghost use Rattle.line_turns.specs.Calls.{LineRefused};
+ghost use Rattle.line_turns.specs.CopyCalls.{IsBeingCopied, IsNotBeingCopied, CopyStarts, CopyStartsWhen, IsSourceFor, IsOpenJob, standing_of, MayEnd, stopped_log, Stops, RunsOn, JobGoesOn, JobSteps, JobHasPart, PartArrives};
 
-use crate::refusals::refuse_turn;
-use crate::standing::Standing;
-use crate::turn::Turn;
 use cluster_copies::{begin_copy, note_copied};
 use cluster_places::{CopyTask, FileTask};
 use cluster_state::ClusterState;
@@ -30,6 +27,7 @@ use copy_job::Part;
 use disk_model::FaultDir;
 use history_book::{Book, JobRow, Start};
 use history_entries::{Cause, Event};
+use line_turns::{Standing, Turn, refuse_turn};
 use nrt_base::{At, NoMemory, NodeNo};
 use std::alloc::Global;
 

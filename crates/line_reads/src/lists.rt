@@ -5,13 +5,13 @@ ghost use Rattle.history_entries.specs.Nodes.{IsNode};
 ghost use Rattle.history_entries.specs.Lines.{entries_of_line};
 ghost use Rattle.history_book.specs.Log.{printed};
 ghost use Rattle.cluster_state.specs.Run.{IsEnded};
-ghost use Rattle.cluster_core.specs.Calls.{ListsFiles};
+ghost use Rattle.line_turns.specs.Calls.{ListsFiles};
 
-use crate::refusals::refuse;
 use cluster_reads::list_files;
 use cluster_state::ClusterState;
 use disk_model::FaultDir;
 use history_entries::Cause;
+use line_turns::refuse;
 use nrt_base::{At, NoMemory, NodeNo};
 use std::alloc::Global;
 

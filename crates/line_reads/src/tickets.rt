@@ -6,14 +6,14 @@ ghost use Rattle.history_entries.specs.Lines.{entries_of_line};
 ghost use Rattle.history_entries.specs.Tickets.{open_ticket};
 ghost use Rattle.history_book.specs.Log.{printed, shown};
 ghost use Rattle.cluster_state.specs.Run.{IsNow, IsEnded};
-ghost use Rattle.cluster_core.specs.Calls.{open_event, close_by};
+ghost use Rattle.line_turns.specs.Calls.{open_event, close_by};
 
-use crate::refusals::refuse;
 use cluster_places::Key;
 use cluster_reads::{note_without, open_ticket};
 use cluster_state::ClusterState;
 use disk_model::FaultDir;
 use history_entries::{Cause, Event};
+use line_turns::refuse;
 use nrt_base::{At, NoMemory, NodeNo, TicketNo};
 use std::alloc::Global;
 

@@ -6,7 +6,6 @@ use Rattle.nrt_base.specs.declared.numbers.At.{At}
 use Rattle.nrt_base.specs.declared.numbers.NodeNo.{NodeNo}
 use Rattle.nrt_base.specs.declared.numbers.TicketNo.{TicketNo}
 use Rattle.nrt_base.specs.declared.numbers.Version.{Version}
-use Rattle.history_entries.specs.declared.cause.Cause.{Cause}
 use Rattle.history_entries.specs.declared.cause.Cause.TheVariants.{Up, Lost}
 use Rattle.history_entries.specs.declared.entry.Event.{Event}
 use Rattle.history_entries.specs.declared.entry.Event.TheVariants.{Copying, Settling, Opened, Asking, Committing, Committed, Reopened, Refused}
@@ -24,9 +23,9 @@ use Rattle.script_serving.specs.Refusals.{when}
 use Rattle.cluster_state.specs.FileChanges.{is_commit_line}
 use Rattle.cluster_state.specs.Run.{Run, IsNow}
 use Rattle.cluster_state.specs.Lives.{StepsCommit, Reopens}
-use Rattle.cluster_core.specs.declared.turn.Turn.TheVariants.{Work, Done}
-use Rattle.cluster_core.specs.Calls.{by_refusal, LineRefused}
-use Rattle.cluster_core.specs.LifeCalls.{CommitSteps, commit_end_event, ReopensNode}
+use Rattle.line_turns.specs.declared.turn.Turn.TheVariants.{Work, Done}
+use Rattle.line_turns.specs.Calls.{by_refusal, LineRefused}
+use Rattle.line_turns.specs.LifeCalls.{CommitSteps, ReopensNode}
 
 -- ---- a line that is no commit
 

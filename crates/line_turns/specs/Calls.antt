@@ -22,9 +22,9 @@ use Rattle.history_entries.specs.Points.{documents_at, cut_of, cut_has_put}
 use Rattle.history_entries.specs.Tickets.{Ticket, has_ticket, open_ticket}
 use Rattle.history_entries.specs.Rules.{is_lost}
 use Rattle.script_serving.specs.Refusals.{when, without_primary, without_node, names_are_spent, may_be_full}
-use Rattle.history_book.specs.Log.{Log, printed, shown}
-use Rattle.cluster_core.specs.declared.turn.Turn.{Turn}
-use Rattle.cluster_core.specs.declared.turn.Turn.TheVariants.{Work, Done, Busy}
+use Rattle.history_book.specs.Log.{printed, shown}
+use Rattle.line_turns.specs.declared.turn.Turn.{Turn}
+use Rattle.line_turns.specs.declared.turn.Turn.TheVariants.{Work, Done, Busy}
 use Rattle.cluster_state.specs.Run.{Run, IsNow}
 use Rattle.cluster_state.specs.State.{ReadsAt}
 use Rattle.cluster_state.specs.Writes.{HandsFlush}

@@ -26,11 +26,11 @@ use Rattle.cluster_places.specs.declared.tasks.SettleTask.{SettleTask}
 use Rattle.cluster_state.specs.Run.{Run, IsNow}
 use Rattle.cluster_state.specs.Copies.{newest_of, JobRuns, BeginsJob, GoesOn}
 use Rattle.cluster_state.specs.Settles.{IsSettling, WaitsFor}
-use Rattle.cluster_core.specs.declared.standing.Standing.{Standing}
-use Rattle.cluster_core.specs.declared.standing.Standing.TheVariants.{Runs, Passed, Ends}
-use Rattle.cluster_core.specs.declared.turn.Turn.{Turn}
-use Rattle.cluster_core.specs.declared.turn.Turn.TheVariants.{Work, Done, Busy}
-use Rattle.cluster_core.specs.Calls.{LineRefused, IsRefusedFor}
+use Rattle.line_turns.specs.declared.standing.Standing.{Standing}
+use Rattle.line_turns.specs.declared.standing.Standing.TheVariants.{Runs, Passed, Ends}
+use Rattle.line_turns.specs.declared.turn.Turn.{Turn}
+use Rattle.line_turns.specs.declared.turn.Turn.TheVariants.{Work, Done, Busy}
+use Rattle.line_turns.specs.Calls.{LineRefused, IsRefusedFor}
 
 -- a line that has started so asks for copies
 abbrev pub CopiesFor : LineCommand → Option Event → Type 0

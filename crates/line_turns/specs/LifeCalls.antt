@@ -16,9 +16,9 @@ use Rattle.script_serving.specs.Refusals.{when, without_node}
 use Rattle.cluster_places.specs.declared.tasks.CommitTask.{CommitTask}
 use Rattle.cluster_state.specs.Run.{Run, IsNow}
 use Rattle.cluster_state.specs.Lives.{BeginsCommit}
-use Rattle.cluster_core.specs.declared.turn.Turn.{Turn}
-use Rattle.cluster_core.specs.declared.turn.Turn.TheVariants.{Work, Done, Busy}
-use Rattle.cluster_core.specs.Calls.{by_refusal, IsRefusedFor}
+use Rattle.line_turns.specs.declared.turn.Turn.{Turn}
+use Rattle.line_turns.specs.declared.turn.Turn.TheVariants.{Work, Done, Busy}
+use Rattle.line_turns.specs.Calls.{by_refusal, IsRefusedFor}
 
 -- a commit starts: it is handed out, its node is down, or it waits while another line's commit is in flight at the node
 abbrev pub CommitStarts : At → NodeNo → Run → Run → Turn CommitTask → Type 0

@@ -5,7 +5,7 @@ ghost use Rattle.history_entries.specs.Lines.{entries_of_line};
 ghost use Rattle.history_entries.specs.Commits.{is_disk_fault};
 ghost use Rattle.history_book.specs.Log.{printed};
 ghost use Rattle.cluster_state.specs.Run.{IsEnded};
-ghost use Rattle.cluster_core.specs.Calls.{LineRefused, IsRefusedTurn};
+ghost use Rattle.line_turns.specs.Calls.{LineRefused, IsRefusedTurn};
 
 use crate::turn::Turn;
 use cluster_state::ClusterState;

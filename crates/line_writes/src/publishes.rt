@@ -9,16 +9,15 @@ ghost use Rattle.history_book.specs.Log.{printed, shown};
 ghost use Rattle.script_serving.specs.Refusals.{without_primary};
 ghost use Rattle.cluster_state.specs.Run.{IsNow, IsEnded};
 ghost use Rattle.cluster_state.specs.Writes.{IsFlushed};
-ghost use Rattle.cluster_core.specs.Calls.{by_refusal, cut_refusal as cut_refusal_lem, LineRefused, PublishStarts, publish_end_event};
+ghost use Rattle.line_turns.specs.Calls.{by_refusal, cut_refusal as cut_refusal_lem, LineRefused, PublishStarts, publish_end_event};
 
-use crate::refusals::{refuse, refuse_turn};
-use crate::turn::Turn;
 use cluster_state::ClusterState;
 use cluster_writes::{accept_at, end_publish, start_publish};
 use disk_model::FaultDir;
 use documents::Op;
 use history_book::Book;
 use history_entries::{Cause, Event};
+use line_turns::{Turn, refuse, refuse_turn};
 use nrt_base::{At, NoMemory, SegNo};
 use segment_steps::{FlushTask, FlushWork};
 use std::alloc::Global;

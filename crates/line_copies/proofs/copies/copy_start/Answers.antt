@@ -1,6 +1,6 @@
 use Rattle.std.proofs.lemmas.Result.{IfOk-weaker}
-use Rattle.cluster_core.proofs.CopyRows.{refused_starts, refused_when}
-use Rattle.cluster_core.proofs.copies.copy_start.Goals as goal
+use Rattle.line_copies.proofs.CopyRows.{refused_starts, refused_when}
+use Rattle.line_copies.proofs.copies.copy_start.Goals as goal
 
 pub returns-in-Err-clause-ok : goal.returns-in-Err-clause-ok
 returns-in-Err-clause-ok g c = IfOk-weaker c.refuse_turn.result _ _

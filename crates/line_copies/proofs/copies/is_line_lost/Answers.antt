@@ -1,11 +1,7 @@
-use Rattle.std.proofs.Common.{sym, ap, subst, ◌∙◌, Bool, if◌then◌else◌}
-use Rattle.std.specs.Prelude.{not, Some}
-use Rattle.history_entries.specs.declared.entry.Event.{Event}
-use Rattle.history_entries.specs.Lines.{before_start}
-use Rattle.history_book.specs.Jobs.{StartsJob}
+use Rattle.std.proofs.Common.{if◌then◌else◌}
 use Rattle.history_book.specs.Log.{printed}
-use Rattle.cluster_core.proofs.CopyRows.{lost_here, lost_there}
-use Rattle.cluster_core.proofs.copies.is_line_lost.Goals as goal
+use Rattle.line_copies.proofs.CopyRows.{lost_here, lost_there}
+use Rattle.line_copies.proofs.copies.is_line_lost.Goals as goal
 
 pub returns-then-starts_copy : goal.returns-then-starts_copy
 returns-then-starts_copy c = λ begun is.

@@ -1,6 +1,6 @@
 use Rattle.std.proofs.Common.{refl}
-use Rattle.cluster_core.proofs.CopyRows.{lost_job, cancelled_job, job_source, job_node, lost_rests}
-use Rattle.cluster_core.proofs.copies.standing.Goals as goal
+use Rattle.line_copies.proofs.CopyRows.{lost_job, cancelled_job, job_source, job_node, lost_rests}
+use Rattle.line_copies.proofs.copies.standing.Goals as goal
 
 pub returns-then-is_line_lost-clause-rule : goal.returns-then-is_line_lost-clause-rule
 returns-then-is_line_lost-clause-rule c =

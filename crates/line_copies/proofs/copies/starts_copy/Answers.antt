@@ -1,5 +1,5 @@
-use Rattle.cluster_core.proofs.CopyRows.{starts_by}
-use Rattle.cluster_core.proofs.copies.starts_copy.Goals as goal
+use Rattle.line_copies.proofs.CopyRows.{starts_by}
+use Rattle.line_copies.proofs.copies.starts_copy.Goals as goal
 
 pub returns-in-Copying : goal.returns-in-Copying
 returns-in-Copying c = λ begun is line. starts_by c.args.at _ c.line.result c.in-Some.begun _ begun c.line.ensures c.in-Some.is c.in-Copying.is is

@@ -1,7 +1,7 @@
-use Rattle.cluster_core.proofs.CopyRows.{settle_source}
+use Rattle.line_copies.proofs.CopyRows.{settle_source}
 use Rattle.std.proofs.Common.{ap}
 use Rattle.cluster_state.specs.FileChanges.{is_commit_line}
-use Rattle.cluster_core.proofs.settles.settle_next.Goals as goal
+use Rattle.line_copies.proofs.settles.settle_next.Goals as goal
 
 pub has_no_commit-requires : goal.has_no_commit-requires
 has_no_commit-requires g c = record { line = ap is_commit_line c.requires.settling.started }

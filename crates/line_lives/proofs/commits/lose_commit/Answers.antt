@@ -1,6 +1,6 @@
-use Rattle.cluster_core.proofs.Rows.{legal_at, turns_at}
-use Rattle.cluster_core.proofs.LifeRows.{lost_apart}
-use Rattle.cluster_core.proofs.commits.lose_commit.Goals as goal
+use Rattle.line_turns.proofs.Rows.{legal_at, turns_at}
+use Rattle.line_turns.proofs.LifeRows.{lost_apart}
+use Rattle.line_lives.proofs.commits.lose_commit.Goals as goal
 
 pub note-requires-clause-flights : goal.note-requires-clause-flights
 note-requires-clause-flights g c =

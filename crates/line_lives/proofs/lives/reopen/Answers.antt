@@ -1,6 +1,6 @@
 use Rattle.std.proofs.lemmas.Result.{on_ok_weaker}
-use Rattle.cluster_core.proofs.LifeRows.{reopened, unreopened, runs_told}
-use Rattle.cluster_core.proofs.lives.reopen.Goals as goal
+use Rattle.line_turns.proofs.LifeRows.{unreopened, runs_told}
+use Rattle.line_lives.proofs.lives.reopen.Goals as goal
 
 pub returns-then-runs-clause-ok : goal.returns-then-runs-clause-ok
 returns-then-runs-clause-ok g c = on_ok_weaker c.refuse.result

@@ -2,8 +2,8 @@ use Rattle.std.proofs.Common.{ap, sym, ◌∙◌}
 use Rattle.std.proofs.lemmas.Result.{on_ok_weaker}
 use Rattle.history_entries.specs.Nodes.{is_running}
 use Rattle.history_book.specs.Log.{Log, printed}
-use Rattle.cluster_core.proofs.Does.{listed, unlisted}
-use Rattle.cluster_core.proofs.lists.files.Goals as goal
+use Rattle.line_reads.proofs.ReadRows.{listed, unlisted}
+use Rattle.line_reads.proofs.lists.files.Goals as goal
 
 pub returns-then-not-runs-clause-ok : goal.returns-then-not-runs-clause-ok
 returns-then-not-runs-clause-ok g c = on_ok_weaker c.refuse.result

@@ -1,6 +1,6 @@
 use Rattle.std.proofs.lemmas.Result.{on_ok_weaker}
-use Rattle.cluster_core.proofs.Rows.{search_found, search_there, opened_ends, asking_ends}
-use Rattle.cluster_core.proofs.searches.answer_end.Goals as goal
+use Rattle.line_reads.proofs.ReadRows.{search_found, search_there, opened_ends, asking_ends}
+use Rattle.line_reads.proofs.searches.answer_end.Goals as goal
 
 pub unreachable-requires : goal.unreachable-requires
 unreachable-requires g c = search_there c.args.at c.args.query.now c.args.answer _ _ _ c.book-2.ensures.log c.requires.right c.line.ensures c.in_default.is

@@ -1,6 +1,7 @@
-use Rattle.cluster_core.proofs.Rows.{fresh_start, legal_at, ticket_told, close_rule, close_node}
-use Rattle.cluster_core.proofs.LifeRows.{fresh_no_commit}
-use Rattle.cluster_core.proofs.tickets.ticket_close.Goals as goal
+use Rattle.line_turns.proofs.Rows.{fresh_start, legal_at}
+use Rattle.line_reads.proofs.ReadRows.{ticket_told, close_rule, close_node}
+use Rattle.line_turns.proofs.LifeRows.{fresh_no_commit}
+use Rattle.line_reads.proofs.tickets.ticket_close.Goals as goal
 
 pub has_no_commit-requires : goal.has_no_commit-requires
 has_no_commit-requires g c = record { line = fresh_no_commit _ c.args.at c.requires.fresh }

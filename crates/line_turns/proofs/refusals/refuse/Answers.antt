@@ -1,6 +1,6 @@
-use Rattle.cluster_core.proofs.Rows.{fresh_start, refusal_rule, refusal_turn}
-use Rattle.cluster_core.proofs.LifeRows.{fresh_no_commit}
-use Rattle.cluster_core.proofs.refusals.refuse.Goals as goal
+use Rattle.line_turns.proofs.Rows.{fresh_start, refusal_rule, refusal_turn}
+use Rattle.line_turns.proofs.LifeRows.{fresh_no_commit}
+use Rattle.line_turns.proofs.refusals.refuse.Goals as goal
 
 pub has_no_commit-requires : goal.has_no_commit-requires
 has_no_commit-requires g c = record { line = fresh_no_commit _ c.args.at c.requires.fresh }

@@ -1,7 +1,7 @@
-use Rattle.cluster_core.proofs.Rows.{lost_flight, legal_at, turns_at}
+use Rattle.line_turns.proofs.Rows.{lost_flight, legal_at, turns_at}
 use Rattle.std.proofs.Common.{ap}
 use Rattle.cluster_state.specs.FileChanges.{is_commit_line}
-use Rattle.cluster_core.proofs.publishes.lose_publish.Goals as goal
+use Rattle.line_writes.proofs.publishes.lose_publish.Goals as goal
 
 pub has_no_commit-requires : goal.has_no_commit-requires
 has_no_commit-requires g c = record { line = ap is_commit_line c.requires.started }
