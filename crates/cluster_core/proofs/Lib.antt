@@ -2,4 +2,4 @@ pub mod Does
 mod CopyDoes
 mod SettleStays
 mod LifeDoes
-mod PromoteRows
+mod PromoteDoes

@@ -7,17 +7,7 @@ mod calls;
 mod cluster;
 mod copying;
 mod lasting;
-mod lists;
-mod lives;
 mod promoting;
-mod promotions;
-mod publishes;
-mod refusals;
-mod searches;
-mod settles;
-mod standing;
-mod tickets;
-mod turn;
 
 pub use cluster::Cluster;
 pub use line_turns::Turn;

@@ -1,7 +1,7 @@
 use Rattle.std.proofs.lemmas.Result.{on_ok_weaker}
-use Rattle.cluster_core.proofs.Rows.{fresh_in}
+use Rattle.line_turns.proofs.Rows.{fresh_in}
 use Rattle.cluster_core.proofs.Does.{does_was}
-use Rattle.cluster_core.proofs.PromoteRows.{promote_does, promote_replied}
+use Rattle.cluster_core.proofs.PromoteDoes.{promote_does, promote_replied}
 use Rattle.cluster_core.proofs.cluster.Cluster.promote.Goals as goal
 
 pub returns-clause-does : goal.returns-clause-does

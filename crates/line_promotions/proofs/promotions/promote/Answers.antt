@@ -1,7 +1,7 @@
 use Rattle.std.proofs.lemmas.Result.{on_ok_weaker}
 use Rattle.history_book.specs.Log.{printed}
-use Rattle.cluster_core.proofs.PromoteRows.{refused_calm, is_refused, is_forced, unpromoted, promoted}
-use Rattle.cluster_core.proofs.promotions.promote.Goals as goal
+use Rattle.line_promotions.proofs.PromoteRows.{refused_calm, is_refused, is_forced, unpromoted, promoted}
+use Rattle.line_promotions.proofs.promotions.promote.Goals as goal
 
 pub refuse-requires-clause-cause : goal.refuse-requires-clause-cause
 refuse-requires-clause-cause g c =

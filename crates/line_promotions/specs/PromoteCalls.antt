@@ -9,7 +9,7 @@ use Rattle.history_entries.specs.Nodes.{Past, generation_of}
 use Rattle.script_serving.specs.declared.script.Force.{Force}
 use Rattle.script_serving.specs.declared.script.LineCommand.TheVariants.{Promote}
 use Rattle.script_serving.specs.Refusals.{forced_version, refusal}
-use Rattle.cluster_core.specs.Calls.{by_refusal}
+use Rattle.line_turns.specs.Calls.{by_refusal}
 
 -- what a line does that promotes a node: the next generation begins with the node, one version above the forced one
 abbrev pub promote_event : ℕ → NodeNo → Force → Past → Event

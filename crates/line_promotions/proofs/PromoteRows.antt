@@ -1,4 +1,4 @@
--- What a line that promotes a node finds of the log, and what it does for the line.
+-- What a line that promotes a node finds of the log.
 use Rattle.std.proofs.Common.{◌≡◌, ◌≤◌, ◌<◌, ◌^◌, ◌+◌, ℕ, Bool, true, false, true≢false, ◌∷◌, Some, None, Option, refl, ap, ◌∙◌, sym, subst, arith}
 use Rattle.std.specs.Prelude.{not, is_some, nat_le, nat_lt, Result, Ok, Err}
 use Rattle.std.specs.Option.{option_or}
@@ -12,16 +12,13 @@ use Rattle.history_entries.specs.declared.entry.Event.{Event}
 use Rattle.history_entries.specs.declared.entry.Event.TheVariants.{Promoted}
 use Rattle.history_entries.specs.Nodes.{Past, primary_of, is_running, generation_of, newest_version}
 use Rattle.history_entries.specs.Commits.{is_disk_fault}
-use Rattle.history_book.specs.Laws.{IsFresh}
 use Rattle.history_book.specs.Log.{Log, printed, shown}
 use Rattle.script_serving.specs.declared.script.Force.{Force}
 use Rattle.script_serving.specs.declared.script.LineCommand.TheVariants.{Promote}
 use Rattle.script_serving.specs.Refusals.{when, forced_version, refusal}
 use Rattle.cluster_state.specs.Run.{Run, IsNow}
-use Rattle.cluster_core.specs.Calls.{by_refusal, LineRefused}
-use Rattle.cluster_core.specs.Doing.{Does, IsReplied}
-use Rattle.cluster_core.specs.PromoteCalls.{promote_event, ForcesAbove}
-use Rattle.cluster_core.proofs.Does.{row_does, row_replied}
+use Rattle.line_turns.specs.Calls.{by_refusal, LineRefused}
+use Rattle.line_promotions.specs.PromoteCalls.{promote_event, ForcesAbove}
 
 -- ---- the first cause of the row
 
@@ -129,12 +126,3 @@ module _ (at : At) (n : NodeNo) (force : Force) (old new : Run) where
   pub promoted : (forced : Version) → IsForced n force (printed old.log) forced → Adds (promotion forced.0) → Adds (promote_event at.lane.0 n force (printed old.log))
   promoted forced is now =
       subst (λ (o : Option Cause). Adds (by_refusal o (promotion (forced_version force (printed old.log))))) (sym is.none) (subst (λ (x : ℕ). Adds (promotion x)) is.is now)
-
-  -- ---- what the line is owed
-
-  pub promote_does : IsFresh at (printed old.log) → Adds (promote_event at.lane.0 n force (printed old.log)) → Does (Promote n force) at old new
-  promote_does fresh now =
-      row_does (Promote n force) at old new (refusal (Promote n force) at.lane.0 (printed old.log)) (promotion (forced_version force (printed old.log))) (λ suits. suits) fresh refl now (refl, refl)
-
-  pub promote_replied : Adds (promote_event at.lane.0 n force (printed old.log)) → IsReplied at new
-  promote_replied now = row_replied at old new (refusal (Promote n force) at.lane.0 (printed old.log)) (promotion (forced_version force (printed old.log))) refl now
