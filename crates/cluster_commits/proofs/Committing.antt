@@ -3,16 +3,13 @@ use Rattle.std.proofs.Common.{◌≡◌, ◌≢◌, ◌≤◌, ◌<◌, ◌==◌
 use Rattle.std.specs.Prelude.{IsSomeAnd, IfSome, IsSome, not, is_some, Contains}
 use Rattle.std.specs.List.{list_any}
 use Rattle.std.proofs.lemmas.Bool.{eqb-true, eq-eqb}
-use Rattle.nrt_base.specs.declared.doc.Doc.{Doc}
 use Rattle.nrt_base.specs.declared.numbers.At.{At}
-use Rattle.nrt_base.specs.declared.numbers.Gen.{Gen}
 use Rattle.nrt_base.specs.declared.numbers.NodeNo.{NodeNo}
 use Rattle.nrt_base.specs.declared.numbers.Version.{Version}
 use Rattle.disk_model.specs.Disk.{Name, Content, Cells}
 use Rattle.file_deleter.specs.Holdings.{count_of}
 use Rattle.segment_infos.specs.declared.infos.Infos.{Infos}
 use Rattle.seg_reader.specs.Shown.{Shown}
-use Rattle.seg_reader.specs.Stands.{StandsFor}
 use Rattle.commit_steps.specs.declared.states.Commit.{Commit}
 use Rattle.commit_steps.specs.declared.stage.Stage.{Stage}
 use Rattle.commit_steps.specs.declared.stage.Stage.TheVariants.{Begun, Synced, Written, Pending, Named, Renamed}
@@ -31,13 +28,11 @@ use Rattle.replica_node.specs.declared.job.PointJob.{PointJob}
 use Rattle.replica_node.specs.declared.parts.Parts.{Parts as ReplicaParts}
 use Rattle.history_entries.specs.declared.entry.Event.{Event}
 use Rattle.history_entries.specs.declared.entry.Event.TheVariants.{Publishing, Committing, Committed}
-use Rattle.history_entries.specs.Nodes.{Past, IsNode, is_at, primary_of, is_running, newest_version, generation_of, version_of}
+use Rattle.history_entries.specs.Nodes.{Past, IsNode, is_at, primary_of, is_running, version_of}
 use Rattle.history_entries.specs.Lines.{start_entry, without_at, publish_in_flight, commit_in_flight}
-use Rattle.history_entries.specs.Points.{documents_at}
 use Rattle.history_entries.specs.Commits.{has_committed, reopenable_versions}
 use Rattle.history_entries.specs.Rules.{MayHaveName, MayCommit}
 use Rattle.history_entries.specs.Legal.{KeepsRule, IsLegalPast}
-use Rattle.history_laws.proofs.PointLemmas.{documents_stay_lem}
 use Rattle.history_tables.specs.declared.jobs.Job.{Job}
 use Rattle.history_tables.proofs.RowLemmas.{same_at_self}
 use Rattle.history_book.specs.Laws.{IsFresh, may_find}
@@ -59,14 +54,14 @@ use Rattle.cluster_state.specs.State.{IsPointAt, FlightShows, WritesAt, NodeShow
 use Rattle.cluster_state.specs.Files.{JobShows, IsJobFor, ReplicaFiles, PrimaryFiles, NodeFiles, FilesShow}
 use Rattle.cluster_state.specs.FileChanges.{SameJob}
 use Rattle.cluster_state.specs.Names.{NamesShow}
-use Rattle.cluster_state.specs.Disks.{IsPastPoint, MayFindPoint, LastShows, CommitsPoint, StageShows, BookShows, DiskShows, DisksShow, CommitsStay}
+use Rattle.cluster_state.specs.Disks.{IsPastPoint, MayFindPoint, LastShows, CommitsPoint, StageShows, BookShows, DiskShows, DisksShow, PointsStay, CommitsStay}
+use Rattle.cluster_state.proofs.Points.{points_alone, points_shown, point_stays}
 use Rattle.cluster_state.proofs.Growing.{same, fewer, not_flying}
 use Rattle.cluster_state.proofs.Frames.{some_at, start_back, place_same, was, now_is}
 use Rattle.cluster_state.proofs.JobFrames.{same_shown, job_stays}
 use Rattle.cluster_state.proofs.Drawn.{Grows, grows_none, grows_shown}
 use Rattle.cluster_state.proofs.Naming.{FilesLast, NodeSteps, means_more}
-use Rattle.cluster_state.proofs.PointStands.{point_stands}
-use Rattle.cluster_state.proofs.Disks.{fresh_flights, point_stays, commits_shown, commits_alone, disk_stays}
+use Rattle.cluster_state.proofs.Disks.{fresh_flights, commits_shown, commits_alone, disk_stays}
 use Rattle.cluster_state.proofs.FileFrames.{Both, both_of, one_each, wants_same, names_one, node_files, replica_apart, files_was, files_is}
 use Rattle.cluster_state.proofs.Turning.{past_has, fresh_turn}
 
@@ -133,6 +128,7 @@ module _ {D : Type 0} (cells : D → Cells) (Step : Infos → CommitBook → Com
       let o = a.0.others in record {
         held = record { each = λ name lasting counted. held name lasting counted (count_of p.files name) refl };
         unwritten = λ name undrawn. was.unwritten name (subst (λ (z : Infos × List ℕ). IsUndrawn z.0 z.1 name) (λ i. (ap (λ (z : PrimaryParts D). z.infos) o i, ap (λ (z : PrimaryParts D). loose_of z) o i)) undrawn);
+        point = subst (λ (i : Infos). IsPastPoint source (printed log) i) (sym (ap (λ (z : PrimaryParts D). z.point_infos) o)) was.point;
         generation = ap (λ (z : PrimaryParts D). z.point_infos.generation) o ∙ (was.generation ∙ sym (ap (λ (z : PrimaryParts D). z.infos.generation) o));
         outs = λ s. subst (λ (ts : List Out). jobs s ≤ states_like s ts) (sym (ap (λ (z : PrimaryParts D). z.states) o)) (was.outs s);
       }
@@ -189,11 +185,7 @@ module _ {D : Type 0} (cells : D → Cells) (Step : Infos → CommitBook → Com
       → ((infos : Infos) (c d : CommitBook) → IsPastPoint source (printed log) infos → infos.version.0 ≡ version_of n (printed log) → Step infos c d → BookShows source (printed log) n c → BookShows source (printed now) n d)
       → DiskShows source cells (printed log) n (disk_of x) → DiskShows source cells (printed now) n (disk_of y)
   disk_alter source log now jobs n (Primary p) (Primary q) lasting a shows files book disk = record {
-    book = book p.point_infos p.commits q.commits (record {
-      known = (let low = shows.point.stands.known in omega (arith, low, version));
-      generation = (let is : p.point_infos.generation.0 ≡ p.infos.generation.0 = ap (λ (g : Gen). g.0) files.generation in let now_is = shows.writer.generation in omega (arith, is, now_is));
-      stands = subst (λ (v : ℕ). StandsFor source p.point_infos (documents_at (printed log) v)) (sym version) (point_stands cells source jobs log n p lasting shows files);
-    }) version a.1 disk.book;
+    book = book p.point_infos p.commits q.commits files.point version a.1 disk.book;
     dir = tt;
   }
     where
@@ -224,7 +216,7 @@ module _ (source : Name → Content) (size : ℕ) (past : Past) (at : At) (n : N
 
   module _ (rule : KeepsRule size past at (Committing n v)) where
     point_begun : (infos : Infos) → IsPastPoint source past infos → IsPastPoint source begun infos
-    point_begun infos was = point_stays source source (λ q bytes is. is) past begun infos (omega arith) (omega arith) (λ k low. documents_stay_lem size (record { at = at; event = Committing n v } ∷ []) past k (rule, legal) low) was
+    point_begun infos was = point_stays source past begun infos (points_shown size past at (Committing n v) legal rule) was
 
     found_begun : (k : ℕ) → may_find n.0 k past ≡ true → may_find n.0 k begun ≡ true
     found_begun k found = ap (λ (b : Bool). list_any (λ w. w == k) (if b then v.0 ∷ reopenable_versions n.0 past else reopenable_versions n.0 past)) (eq-eqb n.0 n.0 refl) ∙ more (v.0 == k) found
@@ -294,7 +286,7 @@ module _ (source : Name → Content) (size : ℕ) (past : Past) (at : At) (n : N
 
     last_made : (c : Commit) → CommitsPoint source past n.0 at c → MayFindPoint source made n.0 c.infos
     last_made c was = record {
-      point = point_stays source source (λ q bytes is. is) past made c.infos (omega arith) (omega arith) (λ k low. documents_stay_lem size (record { at = at; event = Committed n v } ∷ []) past k (rule, legal) low) was.point.point;
+      point = point_stays source past made c.infos (points_shown size past at (Committed n v) legal rule) was.point.point;
       found = only_its c.infos.version.0 (was.started n v started);
     }
 
@@ -327,7 +319,7 @@ module _ {D : Type 0} (cells : D → Cells) where
 
   module _ (Step : Infos → CommitBook → CommitBook → Type 0) (size : ℕ) (log now : Log) (old new : List (Option (Place D))) (n : ℕ) (b : CommitsIn Step cells n old new) (lasting : FilesLast) (node : IsNode size n)
       (shows : Shows cells log size old) (files : FilesShow cells log size old) (grows : Grows (printed log) (printed now)) (same_job : (m : ℕ) → is_at (primary_of (printed log)) m ≡ false → SameJob log now m)
-      (stay : (m : ℕ) → (n == m) ≡ false → CommitsStay (printed log) (printed now) m) (places : (m : ℕ) (z : Place D) → PlaceShows cells log m z → PlaceShows cells now m z)
+      (points : PointsStay (printed log) (printed now)) (stay : (m : ℕ) → (n == m) ≡ false → CommitsStay (printed log) (printed now) m) (places : (m : ℕ) (z : Place D) → PlaceShows cells log m z → PlaceShows cells now m z)
       (handed : (a : At) → start_entry a (printed now) ≡ None → flush_out a now ≡ None)
       (book : (infos : Infos) (c d : CommitBook) → IsPastPoint files.source (printed log) infos → infos.version.0 ≡ version_of n (printed log) → Step infos c d → BookShows files.source (printed log) n c → BookShows files.source (printed now) n d) where
     abbrev jobs : Out → ℕ
@@ -369,8 +361,8 @@ module _ {D : Type 0} (cells : D → Cells) where
       drawn = means_more files.source (printed log) (printed now) grows files.drawn;
       names = names_one cells size (printed log) (printed now) old new n here b.place grows b.moves node b.there (names_alter cells Step (printed now) b.place.node b.node b.alters) files.names;
       each = one_each {P = Both cells files.source log jobs} {Q = λ m z. NodeFiles files.source cells now count m z.node} size n here old new b.moves (both_of cells log size old shows files)
-          (λ m z slot apart has. node_files cells files.source log now jobs count m z.node (λ r is. same_job m (replica_apart cells log m z.node r has.0.node_shows is)) (λ s. (let is = same_count s in omega (arith, is))) has.1)
-          (node_files cells files.source log now jobs count n b.node (λ r is. same_job n (replica_apart cells log n b.node r (shows_alter cells Step log n b.place.node b.node b.alters both.0.node_shows) is)) (λ s. (let is = same_count s in omega (arith, is)))
+          (λ m z slot apart has. node_files cells files.source log now jobs count m z.node points (λ r is. same_job m (replica_apart cells log m z.node r has.0.node_shows is)) (λ s. (let is = same_count s in omega (arith, is))) has.1)
+          (node_files cells files.source log now jobs count n b.node points (λ r is. same_job n (replica_apart cells log n b.node r (shows_alter cells Step log n b.place.node b.node b.alters both.0.node_shows) is)) (λ s. (let is = same_count s in omega (arith, is)))
           (files_alter cells Step files.source log jobs n b.place.node b.node b.alters both.0.node_shows both.1));
       disks = disks_now;
     }
@@ -460,9 +452,9 @@ module _ {D : Type 0} (cells : D → Cells) (r : Run) (ended : Bool) (b0 : Pages
         let grows = grows_shown r.nodes (printed r.log) at (Committing n v) legal_now rule in
         let handed = λ (a : At) (none : start_entry a (printed (shown at (Committing n v) ∷ r.log)) ≡ None). shows.handed a (start_back a (record { at = at; event = Committing n v }) (printed r.log) none) in (
           now_is cells (shown at (Committing n v) ∷ r.log) b2.log r.nodes b2.nodes new (log_is b1 b2 (Committing n v) e1 e2) (size_is b1 b2 n1 n2)
-              (commit_shows cells HasBegun r.nodes r.log (shown at (Committing n v) ∷ r.log) old new n.0 b lasting node shows files grows jobs stay places handed book),
+              (commit_shows cells HasBegun r.nodes r.log (shown at (Committing n v) ∷ r.log) old new n.0 b lasting node shows files grows jobs (points_shown r.nodes (printed r.log) at (Committing n v) legal_now rule) stay places handed book),
           files_is cells (shown at (Committing n v) ∷ r.log) b2.log r.nodes b2.nodes new (log_is b1 b2 (Committing n v) e1 e2) (size_is b1 b2 n1 n2)
-              (commit_files cells HasBegun r.nodes r.log (shown at (Committing n v) ∷ r.log) old new n.0 b lasting node shows files grows jobs stay places handed book),
+              (commit_files cells HasBegun r.nodes r.log (shown at (Committing n v) ∷ r.log) old new n.0 b lasting node shows files grows jobs (points_shown r.nodes (printed r.log) at (Committing n v) legal_now rule) stay places handed book),
         )
       where
         unstarted : IsFresh at (printed r.log) → start_entry at (printed r.log) ≢ Some Publishing
@@ -479,9 +471,9 @@ module _ {D : Type 0} (cells : D → Cells) (r : Run) (ended : Bool) (b0 : Pages
         let stay = λ (m : ℕ) (apart : (n.0 == m) ≡ false). commits_alone (printed r.log) m in
         let jobs = λ (m : ℕ) (other : is_at (primary_of (printed r.log)) m ≡ false). job_stays r.log m in (
           now_is cells r.log b1.log r.nodes b1.nodes new log size
-              (commit_shows cells (StepsBook false) r.nodes r.log r.log old new n.0 b lasting node shows files (grows_none (printed r.log)) jobs stay places (λ a none. shows.handed a none) book),
+              (commit_shows cells (StepsBook false) r.nodes r.log r.log old new n.0 b lasting node shows files (grows_none (printed r.log)) jobs (points_alone (printed r.log)) stay places (λ a none. shows.handed a none) book),
           files_is cells r.log b1.log r.nodes b1.nodes new log size
-              (commit_files cells (StepsBook false) r.nodes r.log r.log old new n.0 b lasting node shows files (grows_none (printed r.log)) jobs stay places (λ a none. shows.handed a none) book),
+              (commit_files cells (StepsBook false) r.nodes r.log r.log old new n.0 b lasting node shows files (grows_none (printed r.log)) jobs (points_alone (printed r.log)) stay places (λ a none. shows.handed a none) book),
         )
 
     pub go_commit_path : (done : Bool) → done ≡ false → (new : List (Option (Place D))) → CommitsIn (StepsBook done) cells n.0 old new → (b1 : Pages) → b1.log ≡ b0.log → b1.nodes ≡ b0.nodes → Shows cells b1.log b1.nodes new × FilesShow cells b1.log b1.nodes new
@@ -504,9 +496,9 @@ module _ {D : Type 0} (cells : D → Cells) (r : Run) (ended : Bool) (b0 : Pages
         let grows = grows_shown r.nodes (printed r.log) at (Committed n v) legal_now rule in
         let handed = λ (a : At) (none : start_entry a (printed (shown at (Committed n v) ∷ r.log)) ≡ None). shows.handed a (start_back a (record { at = at; event = Committed n v }) (printed r.log) none) in (
           now_is cells (shown at (Committed n v) ∷ r.log) b2.log r.nodes b2.nodes new (log_is b1 b2 (Committed n v) e1 e2) (size_is b1 b2 n1 n2)
-              (commit_shows cells (StepsBook true) r.nodes r.log (shown at (Committed n v) ∷ r.log) old new n.0 b lasting node shows files grows jobs stay places handed book),
+              (commit_shows cells (StepsBook true) r.nodes r.log (shown at (Committed n v) ∷ r.log) old new n.0 b lasting node shows files grows jobs (points_shown r.nodes (printed r.log) at (Committed n v) legal_now rule) stay places handed book),
           files_is cells (shown at (Committed n v) ∷ r.log) b2.log r.nodes b2.nodes new (log_is b1 b2 (Committed n v) e1 e2) (size_is b1 b2 n1 n2)
-              (commit_files cells (StepsBook true) r.nodes r.log (shown at (Committed n v) ∷ r.log) old new n.0 b lasting node shows files grows jobs stay places handed book),
+              (commit_files cells (StepsBook true) r.nodes r.log (shown at (Committed n v) ∷ r.log) old new n.0 b lasting node shows files grows jobs (points_shown r.nodes (printed r.log) at (Committed n v) legal_now rule) stay places handed book),
         )
       where
         commits : start_entry at (printed r.log) ≡ Some (Committing n v) → start_entry at (printed r.log) ≢ Some Publishing

@@ -5,15 +5,12 @@ use Rattle.std.specs.List.{All, flat_map}
 use Rattle.std.proofs.lemmas.Bool.{eqb-true, eq-eqb}
 use Rattle.std.proofs.lemmas.Bool.Decides.{nat_tests}
 use Rattle.nrt_base.specs.declared.numbers.At.{At}
-use Rattle.nrt_base.specs.declared.numbers.Gen.{Gen}
 use Rattle.nrt_base.specs.declared.numbers.NodeNo.{NodeNo}
 use Rattle.nrt_base.specs.declared.numbers.Version.{Version}
-use Rattle.nrt_base.specs.declared.doc.Doc.{Doc}
 use Rattle.disk_model.specs.Disk.{Name, Content, Cells, same}
 use Rattle.segment_infos.specs.declared.infos.Infos.{Infos}
 use Rattle.segment_infos.specs.Files.{files_of_segment, AreFilesOf}
 use Rattle.segment_infos.proofs.FileLaws.{infos_files_one_to_one}
-use Rattle.seg_reader.specs.Stands.{StandsFor}
 use Rattle.copy_state.specs.declared.state.CopyState.{CopyState}
 use Rattle.index_primary.specs.declared.parts.Parts.{Parts as PrimaryParts}
 use Rattle.index_primary.specs.declared.states.Out.{Out}
@@ -25,7 +22,6 @@ use Rattle.history_entries.specs.declared.entry.Event.{Event}
 use Rattle.history_entries.specs.declared.entry.Event.TheVariants.{Published, Copying, Promoted}
 use Rattle.history_entries.specs.Nodes.{Past, IsNode, is_at, primary_of, newest_version, version_of}
 use Rattle.history_entries.specs.Lines.{same_at, start_entry, before_start, copy_in_flight, highest_copy}
-use Rattle.history_entries.specs.Points.{documents_at}
 use Rattle.history_entries.specs.Legal.{KeepsRule, IsLegalPast}
 use Rattle.history_tables.specs.declared.jobs.Job.{Job}
 use Rattle.history_tables.specs.declared.jobs.JobStep.TheVariants.{Begins}
@@ -52,15 +48,16 @@ use Rattle.cluster_places.specs.JobPlaces.{BeginsIn}
 use Rattle.cluster_state.proofs.Frames.{some_at}
 use Rattle.cluster_state.proofs.JobFrames.{same_shown, same_inner, same_then}
 use Rattle.cluster_places.proofs.OutCounts.{states_push, states_given, jobs_moved}
-use Rattle.cluster_state.specs.Disks.{IsPastPoint, CommitsStay}
-use Rattle.cluster_state.proofs.Disks.{fresh_flights, commits_shown, commits_alone, point_stays, disks_moved, disk_same, disks_kept}
-use Rattle.cluster_state.proofs.Wider.{primary_kept}
+use Rattle.cluster_state.specs.Disks.{IsPastPoint, PointsStay, CommitsStay}
+use Rattle.cluster_state.proofs.Points.{points_alone, point_stays}
+use Rattle.cluster_state.proofs.Disks.{fresh_flights, commits_shown, commits_alone, disks_moved, disk_same, disks_kept}
+use Rattle.cluster_state.proofs.Wider.{primary_stays, primary_kept}
 use Rattle.cluster_state.proofs.Drawn.{Grows, grows_none, grows_shown}
 use Rattle.cluster_state.proofs.Naming.{means_more, altered_steps, altered_job}
 use Rattle.cluster_state.proofs.FileFrames.{names_both, replica_same, both_each, both_of, Both}
 use Rattle.cluster_state.proofs.FileJobs.{job_out}
 use Rattle.cluster_places.proofs.Stepping.{out_pushed}
-use Rattle.cluster_state.proofs.PointStands.{point_stands, state_metas}
+use Rattle.cluster_state.proofs.PointStands.{state_metas}
 
 -- ---- the past
 
@@ -85,7 +82,6 @@ pub record BeginsOver (log mid : Log) (at : At) (n v : ℕ) : Type 0 where
   pub same : (m : ℕ) → (n == m) ≡ false → is_at (primary_of (printed log)) m ≡ false → SameJob log mid m
   pub newest : newest_version (printed mid) ≡ newest_version (printed log)
   pub version : v ≡ newest_version (printed log)
-  pub documents : documents_at (printed mid) v ≡ documents_at (printed log) v
   pub highest : highest_copy n (printed mid) ≤ v
   pub begun : start_entry at (printed mid) ≢ None
   pub behind : version_of n (printed mid) < newest_version (before_start at (printed mid))
@@ -100,7 +96,6 @@ over_copying size log at n v legal turns rule turn behind = record {
   same = λ m apart other. same_shown size log at m legal turns other (Copying n v) rule turn (ap not apart);
   newest = refl;
   version = rule.newest;
-  documents = refl;
   highest = top (n.0 == n.0);
   begun = λ none. begins (sym (ap (λ (b : Bool). if b then Some (Copying n v) else start_entry at (printed log)) mine) ∙ none);
   behind = subst (λ (p : Past). version_of n.0 (printed log) < newest_version p) (sym (ap (λ (b : Bool). if b then printed log else before_start at (printed log)) mine))
@@ -132,9 +127,7 @@ over_settle size log at n v legal begun is behind none = record {
   grows = grows_none (printed log);
   same = λ m apart other. record {
     job = refl;
-    newest = omega arith;
-    generation = omega arith;
-    documents = λ v low. refl;
+    points = points_alone (printed log);
     latest = omega arith;
     version = refl;
     start = λ job is begun. (begun, refl);
@@ -143,7 +136,6 @@ over_settle size log at n v legal begun is behind none = record {
   };
   newest = refl;
   version = is;
-  documents = refl;
   highest = (let low = highest_low size (printed log) n legal in omega (arith, low, is));
   begun = begun;
   behind = behind;
@@ -190,9 +182,9 @@ module _ {D : Type 0} (cells : D → Cells) where
   other_files source log now jobs count n (Down d) shows other same was = tt
 
   -- the primary, whose states are counted anew
-  primary_side : (source : Name → Content) (jobs count : Out → ℕ) (number : ℕ) (p q : PrimaryParts D) (r s : ReplicaParts D) (b : BeginsAt cells number p q r s) → IfSome (want_of r.job) (λ t. is_out t p.states ≡ true)
-      → ((t : Out) → count t + one_like t (want_of r.job) ≡ jobs t + one_like t (Some (out_of b.state))) → PrimaryFiles source cells jobs p → PrimaryFiles source cells count q
-  primary_side source jobs count number p q r s b out counted was = primary_kept cells source jobs count p q b.primary.files low was
+  primary_side : (source : Name → Content) (log mid : Log) (jobs count : Out → ℕ) (number : ℕ) (p q : PrimaryParts D) (r s : ReplicaParts D) (b : BeginsAt cells number p q r s) → IfSome (want_of r.job) (λ t. is_out t p.states ≡ true)
+      → ((t : Out) → count t + one_like t (want_of r.job) ≡ jobs t + one_like t (Some (out_of b.state))) → PointsStay (printed log) (printed mid) → PrimaryFiles source cells (printed log) jobs p → PrimaryFiles source cells (printed mid) count q
+  primary_side source log mid jobs count number p q r s b out counted stay was = primary_stays cells source (printed log) (printed mid) count count q stay (λ t. omega arith) (primary_kept cells source (printed log) jobs count p q b.primary.files low was)
     where
       low : (t : Out) → count t ≤ states_like t q.states
       low t =
@@ -218,7 +210,7 @@ module _ {D : Type 0} (cells : D → Cells) where
         each = both_each {P = Both cells files.source log jobs} {Q = λ m z. NodeFiles files.source cells now count m z.node} size p.0 n.0 x y old new b.moves (both_of cells log size old shows files)
             (λ m z node away apart both. other_files files.source log now jobs count m z.node both.0.node_shows (ap (λ (o : Option NodeNo). is_at o m) primary ∙ away)
             (same_then log mid now m (over.same m apart (ap (λ (o : Option NodeNo). is_at o m) primary ∙ away)) (same_inner mid (JobBegun at.line n number (Some v) (Some at)) m (ap not apart))) both.1)
-            (primary_side files.source jobs count number q b.primary r b.replica b.begins (job_out cells log size n.0 old q r b.both.replica.held files.source node_n b.both.replica.there at_p.1) counted at_p.1)
+            (primary_side files.source log mid jobs count number q b.primary r b.replica b.begins (job_out cells log size n.0 old q r b.both.replica.held files.source node_n b.both.replica.there at_p.1) counted stay at_p.1)
             replica_side;
         disks = disks_kept cells files.source files.source log now size old new (λ name bytes is. is)
             (disks_moved p.0 n.0 x y (record { node = Primary q; held = b.both.primary.held }) (record { node = Replica r; held = b.both.replica.held }) old new b.moves b.both.primary.there b.both.replica.there
@@ -276,14 +268,6 @@ module _ {D : Type 0} (cells : D → Cells) where
       infos : b.begins.job.infos ≡ q.point_infos
       infos = infos_files_one_to_one.one_value b.begins.state.infos b.begins.job.infos q.point_infos b.begins.infos b.begins.of_point.infos
 
-      newest_here : version_of p.0 (printed log) ≡ v.0
-      newest_here =
-          let point : q.searchers.point.version.0 ≡ version_of p.0 (printed log) = at_p.0.node_shows.point.version in
-          let one : q.point_infos.version.0 ≡ q.searchers.point.version.0 = ap (λ (w : Version). w.0) at_p.0.node_shows.whole.version in
-          let two : q.infos.version.0 ≡ q.point_infos.version.0 = ap (λ (w : Version). w.0) at_p.0.node_shows.whole.versions in
-          let three = at_p.0.node_shows.writer.version in
-          omega (arith, point, one, two, three, over.version)
-
       version : b.begins.job.infos.version.0 ≡ v.0
       version =
           let one : b.begins.job.infos.version.0 ≡ q.point_infos.version.0 = ap (λ (i : Infos). i.version.0) infos in
@@ -291,29 +275,22 @@ module _ {D : Type 0} (cells : D → Cells) where
           let three = at_p.0.node_shows.writer.version in
           omega (arith, one, two, three, over.version)
 
-      stands : StandsFor files.source b.begins.job.infos (documents_at (printed mid) v.0)
-      stands =
-          let point = point_stands cells files.source jobs log p.0 q lasting at_p.0.node_shows at_p.1 in
-          let here = subst (λ (k : ℕ). StandsFor files.source q.point_infos (documents_at (printed log) k)) newest_here point in
-          let then_mid = subst (λ (docs : List Doc). StandsFor files.source q.point_infos docs) (sym over.documents) here in
-          subst (λ (i : Infos). StandsFor files.source i (documents_at (printed mid) v.0)) (sym infos) then_mid
+      -- the points of before are points still
+      stay : PointsStay (printed log) (printed mid)
+      stay = (over.stay n.0).points
+
+      point : IsPastPoint files.source (printed mid) b.begins.job.infos
+      point = subst (λ (i : Infos). IsPastPoint files.source (printed mid) i) (sym infos) (point_stays files.source (printed log) (printed mid) q.point_infos stay at_p.1.point)
 
       shows_job : CopyShows files.source now n.0 (begun_job mid at n v number) b.begins.job
       shows_job = record {
         number = b.begins.number_is;
         version = version;
-        known = (let a = over.version in let c = over.newest in omega (arith, a, c));
+        point = point;
         latest = over.highest;
         begun = over.begun;
         behind = over.behind;
-        generation =
-            let one : b.begins.job.infos.generation.0 ≡ q.point_infos.generation.0 = ap (λ (i : Infos). i.generation.0) infos in
-            let two : q.point_infos.generation.0 ≡ q.infos.generation.0 = ap (λ (g : Gen). g.0) at_p.1.generation in
-            let three = at_p.0.node_shows.writer.generation in
-            let four = (over.stay n.0).generation in
-            omega (arith, one, two, three, four);
-        metas = subst (λ (s : CopyState). All (λ f. HasMeta files.source f.0 f.1) s.files) (sym b.begins.want) (state_metas cells files.source jobs q b.begins.state lasting at_p.0.node_shows.whole at_p.1 b.begins.of_point);
-        stands = stands;
+        metas = subst (λ (s : CopyState). All (λ f. HasMeta files.source f.0 f.1) s.files) (sym b.begins.want) (state_metas cells files.source q b.begins.state lasting at_p.0.node_shows.whole at_p.1.held b.begins.of_point);
         handed = λ name bytes out. absurd (nothing_out mid at n v number name bytes out);
       }
 
@@ -322,9 +299,6 @@ module _ {D : Type 0} (cells : D → Cells) where
         sourced = b.begins.replica.sourced files.source at_n.1.sourced;
         job = subst (λ (o : Option Job). JobShows files.source now n.0 o b.replica.job) (sym (begun_at mid at n v number))
             (subst (λ (o : Option PointJob). JobShows files.source now n.0 (Some (begun_job mid at n v number)) o) (sym b.begins.there) shows_job);
-        point =
-            let s = over.stay n.0 in
-            subst (λ (i : Infos). IsPastPoint files.source (printed mid) i) (sym (ap (λ (z : ReplicaParts D). z.infos) b.begins.replica.others))
-            (point_stays files.source files.source (λ name bytes is. is) (printed log) (printed mid) r.infos s.newest s.generation s.documents at_n.1.point);
+        point = subst (λ (i : Infos). IsPastPoint files.source (printed mid) i) (sym (ap (λ (z : ReplicaParts D). z.infos) b.begins.replica.others)) (point_stays files.source (printed log) (printed mid) r.infos stay at_n.1.point);
         flight = λ a is. subst (λ (o : Option Job). IsSomeAnd o (IsJobFor a (newest_version (printed mid)))) (sym (begun_at mid at n v number)) (sym (over.flight a is), over.version ∙ sym over.newest);
       }

@@ -30,6 +30,9 @@ use Rattle.cluster_places.specs.Outs.{jobs_like}
 use Rattle.cluster_state.specs.Run.{Run}
 use Rattle.cluster_state.specs.State.{NodeShows, Shows}
 use Rattle.cluster_state.specs.Files.{JobShows, IsJobFor, ReplicaFiles, NodeFiles, FilesShow}
+use Rattle.cluster_state.specs.Disks.{PointsStay}
+use Rattle.cluster_state.proofs.Points.{points_then, points_shown, writable_stays}
+use Rattle.cluster_state.proofs.Wider.{primary_stays}
 use Rattle.cluster_state.proofs.Growing.{not_flying}
 use Rattle.cluster_state.proofs.Disks.{no_commit, fresh_flights, commits_shown, commits_then, disks_still}
 use Rattle.cluster_state.proofs.Frames.{some_then, was, noted}
@@ -90,7 +93,7 @@ module _ {D : Type 0} (cells : D → Cells) where
       found : (o : Option Job) (p : Option PointJob) → JobShows source log n o p → IfSome p (IsJobAbove r.searchers.point.version.0) → o ≡ None
       found None p is newer = refl
       found (Some job) None is newer = absurd is
-      found (Some job) (Some point) is newer = absurd (omega (arith, is.version, is.known, newer.above, shows.point.version, reached))
+      found (Some job) (Some point) is newer = absurd (omega (arith, is.point.known, newer.above, shows.point.version, reached))
 
   -- so none is in flight there
   no_copy : (log : Log) (n : ℕ) (r : ReplicaParts D) (source : Name → Content) → job_at n log ≡ None → ReplicaFiles source cells log n r → (at : At)
@@ -108,7 +111,7 @@ module _ {D : Type 0} (cells : D → Cells) where
     sourced = files.sourced;
     job = subst (λ (o : Option Job). JobShows source (copied_log at n v log) n.0 o r.job) (sym (job_stays at n v n.0 log ∙ none))
         (quiet r.job (subst (λ (o : Option Job). JobShows source log n.0 o r.job) none files.job));
-    point = record { known = files.point.known; generation = files.point.generation; stands = files.point.stands };
+    point = record { known = files.point.known; generation = files.point.generation; stands = files.point.stands; writable = writable_stays (printed log) (printed (copied_log at n v log)) r.infos (omega arith) files.point.writable };
     flight = λ a is. absurd (nowhere a (sym (none_flies at n v log newest) ∙ is));
   }
     where
@@ -170,8 +173,11 @@ module _ {D : Type 0} (cells : D → Cells) where
       between : Past
       between = record { at = at; event = Copying n v } ∷ printed log
 
+      points : PointsStay (printed log) (printed (copied_log at n v log))
+      points = points_then (printed log) between (printed (copied_log at n v log)) (points_shown size (printed log) at (Copying n v) legal rule) (points_shown size between at (Copied n v) (rule, legal) later)
+
       step : (m : ℕ) (x : Node D) → NodeShows cells log m x → NodeFiles files.source cells log (λ s. jobs_like places s size) m x → NodeFiles files.source cells (copied_log at n v log) (λ s. jobs_like places s size) m x
-      step m (Primary p) is mine = mine
+      step m (Primary p) is mine = primary_stays cells files.source (printed log) (printed (copied_log at n v log)) (λ s. jobs_like places s size) (λ s. jobs_like places s size) p points (λ s. omega arith) mine
       step m (Down d) is mine = mine
       step m (Replica r) is mine =
           by_test (n.0 == m) (λ b. (n.0 == m) ≡ b → ReplicaFiles files.source cells (copied_log at n v log) m r)

@@ -2,3 +2,4 @@ pub mod Does
 mod CopyDoes
 mod SettleStays
 mod LifeDoes
+mod PromoteDoes

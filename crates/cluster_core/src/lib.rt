@@ -7,6 +7,7 @@ mod calls;
 mod cluster;
 mod copying;
 mod lasting;
+mod promoting;
 
 pub use cluster::Cluster;
 pub use line_turns::Turn;

@@ -76,10 +76,12 @@ use Rattle.cluster_state.proofs.Frames.{some_at, some_then, place_same, was, now
 use Rattle.cluster_state.proofs.JobFrames.{begun_still}
 use Rattle.cluster_state.proofs.Drawn.{Grows, grows_shown}
 use Rattle.cluster_state.proofs.Naming.{FilesLast, means_more, node_grows}
-use Rattle.cluster_state.proofs.Disks.{fresh_flights, point_stays, commits_shown, disk_stays}
+use Rattle.cluster_state.proofs.Disks.{fresh_flights, commits_shown, disk_stays}
+use Rattle.cluster_state.proofs.Points.{points_shown, point_stays}
+use Rattle.cluster_state.proofs.Wider.{primary_stays}
 use Rattle.cluster_state.proofs.FileFrames.{Both, both_of, one_each, replica_same, before, files_was, files_is}
 use Rattle.cluster_state.proofs.Turning.{past_has}
-use Rattle.cluster_state.proofs.PointStands.{opening_stands}
+use Rattle.cluster_state.proofs.PointStands.{opening_stands, opening_writable}
 
 -- ---- the past
 
@@ -196,8 +198,7 @@ module _ (source : Name → Content) (lasting : FilesLast) (size : ℕ) (past : 
   -- a point of the history is one behind the crash
   point_left : (infos : Infos) → MayFindPoint source past n.0 infos → MayFindPoint source (crashed past at n) n.0 infos
   point_left infos was = record {
-    point = point_stays source source (λ q bytes is. is) past (crashed past at n) infos (omega arith) (omega arith)
-        (λ v low. documents_stay_lem size (record { at = at; event = Crashed n } ∷ []) past v (rule, legal) low) was.point;
+    point = point_stays source past (crashed past at n) infos (points_shown size past at (Crashed n) legal rule) was.point;
     found = was.found;
   }
 
@@ -279,6 +280,7 @@ module _ (source : Name → Content) (lasting : FilesLast) (size : ℕ) (past : 
           known = one_newest past;
           generation = one_generation size past legal;
           stands = subst (λ (docs : List Doc). StandsFor source opening_infos docs) (sym (no_documents size past legal)) (opening_stands source opening_infos refl);
+          writable = opening_writable past opening_infos refl;
         };
         found = subst (λ (o : Option Commit). LastShows source past n.0 o) none shows.last;
       });
@@ -383,9 +385,7 @@ module _ {D : Type 0} (cells : D → Cells) where
       same_job : (m : ℕ) → (n.0 == m) ≡ false → is_at (primary_of (printed log)) n.0 ≡ false → SameJob log now m
       same_job m apart far = record {
         job = going (last_job false m log);
-        newest = omega arith;
-        generation = omega arith;
-        documents = λ v low. documents_stay_lem size (record { at = at; event = Crashed n } ∷ []) (printed log) v (rule, legal) low;
+        points = points_shown size (printed log) at (Crashed n) legal rule;
         latest = omega arith;
         version = refl;
         start = λ job is begun. begun_still (printed log) at (Crashed n) job.at (record { once = tt; flight = tt }) begun;
@@ -414,7 +414,7 @@ module _ {D : Type 0} (cells : D → Cells) where
           record {
             sourced = was.sourced;
             job = subst (λ (o : Option Job). JobShows files.source now m o r.job) (sym (vacant m gone)) (idle_shows m r.job);
-            point = point_stays files.source files.source (λ q bytes is. is) (printed log) (printed now) r.infos s.newest s.generation s.documents was.point;
+            point = point_stays files.source (printed log) (printed now) r.infos s.points was.point;
             flight = λ a is. absurd (nowhere a (sym (ap (λ (x : Bool × Bool). if x.0 || x.1 then None else without_at at (copy_in_flight m (newest_version (printed log)) (printed log))) (λ i. (apart i, here i))) ∙ is));
           }
         where
@@ -429,12 +429,7 @@ module _ {D : Type 0} (cells : D → Cells) where
           tests false far = replica_same cells files.source log now m r (same_job m apart far) was
 
       node_left : (m : ℕ) (z : Node D) → (n.0 == m) ≡ false → NodeFiles files.source cells log jobs m z → NodeFiles files.source cells now count m z
-      node_left m (Primary p) apart was = record {
-        held = was.held;
-        unwritten = was.unwritten;
-        generation = was.generation;
-        outs = λ s. let low = less s in let outs = was.outs s in omega (arith, low, outs);
-      }
+      node_left m (Primary p) apart was = primary_stays cells files.source (printed log) (printed now) jobs count p (stay m apart).points less was
       node_left m (Replica r) apart was = replica_left m r apart was
       node_left m (Down d) apart was = tt
 

@@ -41,7 +41,6 @@ use Rattle.history_entries.specs.Commits.{has_committed, reopenable_versions}
 use Rattle.history_entries.specs.Rules.{MayHaveName}
 use Rattle.history_entries.specs.Legal.{KeepsRule, IsLegalPast}
 use Rattle.history_laws.specs.Steps.{is_running_by, copy_by}
-use Rattle.history_laws.proofs.PointLemmas.{documents_stay_lem}
 use Rattle.history_tables.specs.declared.jobs.Job.{Job}
 use Rattle.history_tables.specs.declared.jobs.JobRow.{JobRow}
 use Rattle.history_tables.specs.JobRows.{while_going}
@@ -68,7 +67,8 @@ use Rattle.cluster_state.proofs.Frames.{some_at, some_then, place_same, holds_sa
 use Rattle.cluster_state.proofs.JobFrames.{same_shown}
 use Rattle.cluster_state.proofs.Drawn.{Grows, grows_shown, file_more}
 use Rattle.cluster_state.proofs.Naming.{FilesLast, means_more, node_grows}
-use Rattle.cluster_state.proofs.Disks.{fresh_flights, point_stays, commits_shown, disk_stays}
+use Rattle.cluster_state.proofs.Disks.{fresh_flights, commits_shown, disk_stays}
+use Rattle.cluster_state.proofs.Points.{points_shown, point_stays}
 use Rattle.cluster_state.proofs.FileFrames.{Both, both_of, one_each, replica_same, wants_same, node_files, replica_apart, before, files_was, files_is}
 use Rattle.cluster_state.proofs.Turning.{past_has}
 
@@ -130,12 +130,9 @@ module _ {D : Type 0} (cells : D → Cells) (source : Name → Content) (size : 
   }
 
   module _ (rule : KeepsRule size past at (Reopened n v)) where
-    more : (k : ℕ) → k ≤ newest_version past → documents_at (printed now) k ≡ documents_at past k
-    more k low = documents_stay_lem size (record { at = at; event = Reopened n v } ∷ []) past k (rule, legal) low
-
     point_now : IsPastPoint source (printed now) r.infos
     point_now = subst (λ (i : Infos). IsPastPoint source (printed now) i) (sym found.1)
-        (point_stays source source (λ q bytes is. is) past (printed now) was.infos (omega arith) (omega arith) more was.point.point)
+        (point_stays source past (printed now) was.infos (points_shown size past at (Reopened n v) legal rule) was.point.point)
 
     files_are : (q : Name) → Contains (flat_map files_of_segment r.infos.segs) q → (cells dir q).now ≡ source q
     files_are q named = (was.sourced q (subst (λ (i : Infos). Contains (flat_map files_of_segment i.segs) q) found.1 named)).0
@@ -172,7 +169,7 @@ module _ {D : Type 0} (cells : D → Cells) (source : Name → Content) (size : 
     files_now : is_running n.0 past ≡ false → job_at n.0 log ≡ None → ReplicaFiles source cells now n.0 r
     files_now down idle = record {
       sourced = opens.sourced source files_are;
-      job = subst (λ (o : Option Job). JobShows source now n.0 o r.job) (sym (going (last_job false n.0 log) ∙ idle)) tt;
+      job = subst (λ (o : Option Job). JobShows source now n.0 o r.job) (sym (going (last_job false n.0 log) ∙ idle)) (subst (λ (o : Option PointJob). JobShows source now n.0 None o) (sym opens.fresh.job) tt);
       point = point_now;
       flight = λ a is. absurd (nowhere a (sym (ap (without_at at) (down_uncopied size n.0 (newest_version past) past legal down)) ∙ is));
     }
@@ -203,7 +200,7 @@ module _ {D : Type 0} (cells : D → Cells) (source : Name → Content) (size : 
             drawn_in : (o : Content) → source q ≡ o → MayHaveName (printed now) q
             drawn_in None none = absurd (true≢false (sym (was.sourced q named').1 ∙ ap is_some ((was.sourced q named').0 ∙ none)))
             drawn_in (Some bytes) is = inr (inr (inl (file_more past (printed now) q (grows_shown size past at (Reopened n v) legal rule)
-                (drawn q bytes (lasting r.infos r.searchers.point.names opens.whole.point.names q named) is))))
+                (drawn.drawn q bytes (lasting r.infos r.searchers.point.names opens.whole.point.names q named) is))))
 
         of_commit : (o : Option Commit) (q : Name) → IsSomeAnd o (λ c. (is_commit_name q ≡ true) × (commit_number q ≡ c.number)) → is_commit_name q ≡ true
         of_commit None q none = absurd none
@@ -388,7 +385,7 @@ module _ {D : Type 0} (cells : D → Cells) (size : ℕ) (log : Log) (old new : 
             (λ k z here apart has. node_grows cells (printed log) (printed after) z.node grows has)
             (names_now cells files.source size log at n v (dir_of b.place.node) b.replica lasting legal b.opens b.version d reopen_rule files.drawn);
         each = one_each {P = Both cells files.source log jobs} {Q = λ m z. NodeFiles files.source cells after count m z.node} size n.0 there old new b.moves (both_of cells log size old shows files)
-            (λ m z here apart has. node_files cells files.source log after jobs count m z.node
+            (λ m z here apart has. node_files cells files.source log after jobs count m z.node (points_shown size (printed log) at (Reopened n v) legal reopen_rule)
             (λ r is. same_shown size log at m legal turns (replica_apart cells log m z.node r has.0.node_shows is) (Reopened n v) reopen_rule (record { once = tt; flight = tt }) (ap not apart))
             (λ s. (let is = same_count s in omega (arith, is))) has.1)
             (files_now cells files.source size log at n v (dir_of b.place.node) b.replica lasting legal b.opens b.version d reopen_rule down idle);

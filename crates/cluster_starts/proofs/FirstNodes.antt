@@ -51,7 +51,7 @@ use Rattle.cluster_places.specs.Places.{place_of, unwrapped, disk_at}
 use Rattle.cluster_state.specs.Names.{AreNamesShown, NamesShow}
 use Rattle.cluster_state.proofs.Frames.{some_then}
 use Rattle.cluster_state.specs.Starting.{IsEmptyDir, IsUncommitted, IsOpening, OpensPlace}
-use Rattle.cluster_state.specs.Disks.{LastShows, StageShows, DiskShows}
+use Rattle.cluster_state.specs.Disks.{IsPastPoint, LastShows, StageShows, DiskShows}
 use Rattle.cluster_state.specs.Files.{JobShows, PrimaryFiles, ReplicaFiles, NodeFiles, FilesShow}
 use Rattle.cluster_places.specs.Outs.{want_of, one_like, want_at, jobs_like}
 use Rattle.index_primary.specs.declared.states.Out.{Out}
@@ -62,7 +62,7 @@ use Rattle.nrt_base.specs.declared.numbers.At.{At}
 use Rattle.replica_node.specs.declared.job.PointJob.{PointJob}
 use Rattle.cluster_places.specs.declared.nodes.Node.{Node}
 use Rattle.cluster_state.specs.State.{IsPointAt, WritesAt, HoldsTickets, PrimaryShows, PlaceShows, Shows}
-use Rattle.cluster_state.proofs.PointStands.{opening_stands}
+use Rattle.cluster_state.proofs.PointStands.{opening_stands, opening_writable}
 
 -- an empty directory shows no commit
 no_commit : (cells : Cells) (n : ℕ) (infos : Infos) → IsEmptyDir cells → ShowsCommit (reads_of cells) n infos → ⊥
@@ -176,6 +176,15 @@ module _ {D : Type 0} (cells : D → Cells) where
     tickets = subst (λ (rows : List Held). HoldsTickets [] n r.searchers.tickets rows) (sym none) (nothing_held n r.searchers.tickets);
   }
 
+  -- the opening point, where nothing has happened
+  opening_past : (infos : Infos) → infos ≡ opening_infos → IsPastPoint (λ q. None) [] infos
+  opening_past infos is = record {
+    known = (let one : infos.version.0 ≡ 1 = ap (λ (i : Infos). i.version.0) is in omega (arith, one));
+    generation = (let one : infos.generation.0 ≡ 1 = ap (λ (i : Infos). i.generation.0) is in omega (arith, one));
+    stands = opening_stands (λ q. None) infos is;
+    writable = opening_writable [] infos is;
+  }
+
   -- ---- the first primary, of its parts
 
   module _ (r : ReplicaParts D) (p : NodeParts D) (is : IsOpening cells r) (same : IsTakenApart r p) where
@@ -228,10 +237,11 @@ module _ {D : Type 0} (cells : D → Cells) where
         segs_are = same.segs ∙ is.whole.segs
 
     -- it holds no file
-    pub first_files : (q : PrimaryParts D) → IsPrimary cells q → IsOpenedOn p.dir p.searchers p.commits p.infos p.segs q → PrimaryFiles (λ name. None) cells (λ s. 0) q
+    pub first_files : (q : PrimaryParts D) → IsPrimary cells q → IsOpenedOn p.dir p.searchers p.commits p.infos p.segs q → PrimaryFiles (λ name. None) cells [] (λ s. 0) q
     first_files q whole opened = record {
       held = record { each = λ name lasting some. absurd (none_some (count_of q.files name) (uncounted name) some) };
       unwritten = λ name undrawn. refl;
+      point = opening_past q.point_infos (opened.point_infos ∙ infos_are);
       generation = ap (λ (i : Infos). i.generation) (opened.point_infos ∙ sym opened.infos_are);
       outs = λ s. omega arith;
     }
@@ -264,7 +274,7 @@ module _ {D : Type 0} (cells : D → Cells) where
     commits_done (Err e) opened = tt
 
     pub files_done : {E : Type 0} (result : Result (PrimaryParts D) E) → IfOk result (IsPrimary cells) → IfOk result (IsOpenedOn p.dir p.searchers p.commits p.infos p.segs)
-        → IfOk result (PrimaryFiles (λ name. None) cells (λ s. 0))
+        → IfOk result (PrimaryFiles (λ name. None) cells [] (λ s. 0))
     files_done (Ok q) whole opened = first_files q whole opened
     files_done (Err e) whole opened = tt
 
@@ -286,11 +296,7 @@ module _ {D : Type 0} (cells : D → Cells) where
   replica_files n r is = record {
     sourced = is.sourced;
     job = subst (λ (o : Option PointJob). JobShows (λ q. None) [] n None o) (sym is.job) tt;
-    point = record {
-      known = (let one : r.infos.version.0 ≡ 1 = ap (λ (i : Infos). i.version.0) is.infos in omega (arith, one));
-      generation = (let one : r.infos.generation.0 ≡ 1 = ap (λ (i : Infos). i.generation.0) is.infos in omega (arith, one));
-      stands = opening_stands (λ q. None) r.infos is.infos;
-    };
+    point = opening_past r.infos is.infos;
     flight = λ at flies. absurd (none_at at flies);
   }
     where
@@ -314,7 +320,7 @@ module _ {D : Type 0} (cells : D → Cells) where
     tickets = subst (λ (rows : List Held). HoldsTickets [] 1 p.searchers.tickets rows) (sym none) (nothing_held 1 p.searchers.tickets);
   }
 
-  pub opens_primary : (n : ℕ) (p : PrimaryParts D) (held : Vec Held Global) (x : Node D) → n ≡ 1 → x ≡ Primary p → held.items ≡ [] → PrimaryShows cells [] 1 p → PrimaryFiles (λ q. None) cells (λ s. 0) p
+  pub opens_primary : (n : ℕ) (p : PrimaryParts D) (held : Vec Held Global) (x : Node D) → n ≡ 1 → x ≡ Primary p → held.items ≡ [] → PrimaryShows cells [] 1 p → PrimaryFiles (λ q. None) cells [] (λ s. 0) p
       → NamesShow cells [] (Primary p) → IsUncommitted p.commits → OpensPlace cells n (record { node = x; held = held })
   opens_primary n p held x one is none shows files named commits =
       subst (λ (y : ℕ × Node D). OpensPlace cells y.0 (record { node = y.1; held = held })) (λ i. (sym one i, sym is i)) (record { shows = first_place p held none shows; files = files; named = named; disk = no_commits 1 p.commits commits; idle = refl })
@@ -357,7 +363,7 @@ module _ {D : Type 0} (cells : D → Cells) where
   pub first_sources : (log : Log) (size : ℕ) (places : List (Option (Place D))) → log ≡ [] → ((n : ℕ) → IsNode size n → IsSomeAnd (place_of places n) (OpensPlace cells n)) → FilesShow cells log size places
   first_sources log size places none each = subst (λ (l : Log). FilesShow cells l size places) (sym none) (record {
     source = λ q. None;
-    drawn = λ q bytes lasting is. absurd (nothing_means bytes is);
+    drawn = record { drawn = λ q bytes lasting is. absurd (nothing_means bytes is); live = λ r live_gen bytes small fits is. absurd (nothing_means bytes is) };
     each = λ n node. at (place_of places n) n (each n node);
     names = λ n node. some_then (place_of places n) (each n node) (λ place opens. opens.named);
     disks = λ n node. disk (place_of places n) n (each n node);
@@ -374,6 +380,7 @@ module _ {D : Type 0} (cells : D → Cells) where
       node_files n (Primary p) files = record {
         held = files.held;
         unwritten = files.unwritten;
+        point = files.point;
         generation = files.generation;
         outs = λ s. let none' = jobs_none places size size s (omega arith) each in omega (arith, none');
       }

@@ -33,7 +33,7 @@ fn open_replica<D: Dir + Drop>(alloc: Global, dir: D) -> Result<Replica<D>, NoMe
 fn first_primary<D: Dir + Drop>(alloc: Global, replica: Replica<D>) -> Result<Primary<D>, NoMemory>
     requires { IsOpening D.cells replica }
     ensures shows { IfOk result (PrimaryShows D.cells [] 1) }
-    ensures files { IfOk result (PrimaryFiles (λ q. None) D.cells (λ s. 0)) }
+    ensures files { IfOk result (PrimaryFiles (λ q. None) D.cells [] (λ s. 0)) }
     ensures names { IfOk result (λ p. NamesShow D.cells [] (Node.Primary p)) }
     ensures commits { IfOk result (λ p. IsUncommitted p.commits) }
 {

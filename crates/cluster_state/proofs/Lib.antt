@@ -13,3 +13,7 @@ pub mod JobMoves
 mod JobLaw
 mod BookLaws
 pub mod PointStands
+mod Lasting
+mod Living
+pub mod Points
+mod Reigning

@@ -61,8 +61,9 @@ use Rattle.cluster_state.proofs.Frames.{some_at, holds_same, place_same, shows_s
 use Rattle.cluster_state.proofs.JobFrames.{IsCopyStart, copy_flying, same_shown, same_inner, same_then}
 use Rattle.cluster_places.proofs.OutCounts.{jobs_moved, states_back}
 use Rattle.cluster_state.specs.Disks.{IsPastPoint, CommitsStay}
-use Rattle.cluster_state.proofs.Disks.{no_commit, commits_shown, commits_then, point_stays, disks_moved, disk_same, disks_kept}
-use Rattle.cluster_state.proofs.Wider.{primary_kept}
+use Rattle.cluster_state.proofs.Disks.{no_commit, commits_shown, commits_then, disks_moved, disk_same, disks_kept}
+use Rattle.cluster_state.proofs.Points.{point_stays}
+use Rattle.cluster_state.proofs.Wider.{primary_stays, primary_kept}
 use Rattle.cluster_state.proofs.Drawn.{Grows, grows_then, grows_shown}
 use Rattle.cluster_state.proofs.Naming.{FilesLast, means_more, altered_steps, finished_steps}
 use Rattle.cluster_state.proofs.FileFrames.{names_both, Both, both_of, both_each, replica_same, files_was}
@@ -105,7 +106,7 @@ not_commit past start at n v o is started = absurd started
 
 module _ {D : Type 0} (cells : D → Cells) where
   there_primary : (log : Log) (size p : ℕ) (places : List (Option (Place D))) (shows : Shows cells log size places) (files : FilesShow cells log size places) (q : PrimaryParts D) (held : Vec Held Global) → IsNode size p
-      → place_of places p ≡ Some (record { node = Primary q; held = held }) → PlaceShows cells log p (record { node = Primary q; held = held }) × PrimaryFiles files.source cells (λ s. jobs_like places s size) q
+      → place_of places p ≡ Some (record { node = Primary q; held = held }) → PlaceShows cells log p (record { node = Primary q; held = held }) × PrimaryFiles files.source cells (printed log) (λ s. jobs_like places s size) q
   there_primary log size p places shows files q held node there =
       some_at (Both cells files.source log (λ s. jobs_like places s size) p) (place_of places p) (record { node = Primary q; held = held }) there (both_of cells log size places shows files p node)
 
@@ -124,7 +125,8 @@ module _ {D : Type 0} (cells : D → Cells) where
   job_stands source log n job r j stand runs newer files shows missing =
       let above : IsJobAbove r.searchers.point.version.0 j = subst (λ (o : Option PointJob). IfSome o (IsJobAbove r.searchers.point.version.0)) runs newer in
       let copies : CopiesFrom source (reads_of (cells r.dir)) j.copy = subst (λ (o : Option PointJob). IfSome o (λ k. CopiesFrom source (reads_of (cells r.dir)) k.copy)) runs files.sourced.job in
-      stand source (reads_of (cells r.dir)) j.copy j.infos (documents_at (printed log) job.version.0) copies missing above.state.files shows.stands
+      stand source (reads_of (cells r.dir)) j.copy j.infos (documents_at (printed log) job.version.0) copies missing above.state.files
+      (subst (λ (v : ℕ). StandsFor source j.infos (documents_at (printed log) v)) shows.version shows.point.stands)
 
   can_finish_of : (log : Log) (size : ℕ) (places : List (Option (Place D))) (p : NodeNo) (job : Job) (shows : Shows cells log size places) (files : FilesShow cells log size places) → SourcedStand → IsNode size p.0 → primary_of (printed log) ≡ Some p
       → IsNode size job.node.0 → IsReplica (printed log) job.node.0 → job_at job.node.0 log ≡ Some job → HasNextFile (place_of places job.node.0) None → CanFinish cells p.0 job.node.0 places
@@ -194,7 +196,7 @@ module _ {D : Type 0} (cells : D → Cells) where
       standing = f.standing has.node_shows.standing;
       point = record {
         version = point_version ∙ sym version_now;
-        stands = subst (λ (v : ℕ). StandForVersion now v s.searchers.point.readers) (sym version_now) (more.stands job.version.0 s.searchers.point.readers (record { known = shows.known; documents = segments }));
+        stands = subst (λ (v : ℕ). StandForVersion now v s.searchers.point.readers) (sym version_now) (more.stands job.version.0 s.searchers.point.readers (record { known = (let known = shows.point.known in omega (arith, known, shows.version)); documents = segments }));
       };
       seen = subst (λ (k : ReplicaParts D). k.seen.0 ≤ generation_of (printed log)) (sym f.others) has.node_shows.seen;
     };
@@ -236,7 +238,7 @@ module _ {D : Type 0} (cells : D → Cells) where
         (finished_steps cells files.source (printed now) here.point b.both.primary.parts b.primary r s r.searchers.point.version.0 lasting drawn here.shows.metas above f) files.names;
     each = both_each {P = Both cells files.source log jobs} {Q = λ m z. NodeFiles files.source cells now count m z.node} size p.0 n x y old new b.moves (both_of cells log size old shows files)
         (λ m z node' away other both. other_node m z.node other (ap (λ (o : Option NodeNo). is_at o m) primary ∙ away) both.0.node_shows both.1)
-        (primary_kept cells files.source jobs count b.both.primary.parts b.primary f.primary.files low at_p.1)
+        (primary_stays cells files.source (printed log) (printed now) count count b.primary (stay n).points (λ t. omega arith) (primary_kept cells files.source (printed log) jobs count b.both.primary.parts b.primary f.primary.files low at_p.1))
         mine;
     disks = disks_kept cells files.source files.source log now size old new (λ name bytes is. is)
         (disks_moved p.0 n x y (record { node = Primary b.both.primary.parts; held = b.both.primary.held }) (record { node = Replica r; held = b.both.replica.held }) old new b.moves b.both.primary.there b.both.replica.there
@@ -268,7 +270,7 @@ module _ {D : Type 0} (cells : D → Cells) where
       count : Out → ℕ
       count o = jobs_like new o size
 
-      at_p : PlaceShows cells log p.0 (record { node = Primary b.both.primary.parts; held = b.both.primary.held }) × PrimaryFiles files.source cells jobs b.both.primary.parts
+      at_p : PlaceShows cells log p.0 (record { node = Primary b.both.primary.parts; held = b.both.primary.held }) × PrimaryFiles files.source cells (printed log) jobs b.both.primary.parts
       at_p = there_primary log size p.0 old shows files b.both.primary.parts b.both.primary.held node_p b.both.primary.there
 
       at_n : PlaceShows cells log n (record { node = Replica r; held = b.both.replica.held }) × ReplicaFiles files.source cells log n r
@@ -308,21 +310,11 @@ module _ {D : Type 0} (cells : D → Cells) where
       other_node m (Replica t) other far has was_files = replica_same cells files.source log now m t (others m other far) was_files
       other_node m (Down d) other far has was_files = tt
 
-      here_point : IsPastPoint files.source (printed log) here.point.infos
-      here_point = record {
-        known = let same_version = here.shows.version in let known = here.shows.known in omega (arith, same_version, known);
-        generation = here.shows.generation;
-        stands = subst (λ (v : ℕ). StandsFor files.source here.point.infos (documents_at (printed log) v)) (sym here.shows.version) here.shows.stands;
-      }
-
       mine : ReplicaFiles files.source cells now n s
       mine = record {
         sourced = f.sourced files.source at_n.1.sourced;
         job = subst (λ (o : Option Job). JobShows files.source now n o s.job) (sym ended) (subst (λ (o : Option PointJob). JobShows files.source now n None o) (sym f.job) tt);
-        point =
-            let k = stay n in
-            subst (λ (i : Infos). IsPastPoint files.source (printed now) i) (sym f.infos)
-            (point_stays files.source files.source (λ name bytes is. is) (printed log) (printed now) here.point.infos k.newest k.generation k.documents here_point);
+        point = subst (λ (i : Infos). IsPastPoint files.source (printed now) i) (sym f.infos) (point_stays files.source (printed log) (printed now) here.point.infos (stay n).points here.shows.point);
         flight = λ a flies. absurd (none a flies);
       }
 
@@ -344,7 +336,7 @@ module _ {D : Type 0} (cells : D → Cells) where
       at_n : PlaceShows cells log job.node.0 (record { node = Replica b.both.replica.parts; held = b.both.replica.held }) × ReplicaFiles files.source cells log job.node.0 b.both.replica.parts
       at_n = there_both cells log size job.node.0 old shows files b.both.replica.parts b.both.replica.held node b.both.replica.there
 
-      at_p : PlaceShows cells log p.0 (record { node = Primary b.both.primary.parts; held = b.both.primary.held }) × PrimaryFiles files.source cells (λ s. jobs_like old s size) b.both.primary.parts
+      at_p : PlaceShows cells log p.0 (record { node = Primary b.both.primary.parts; held = b.both.primary.held }) × PrimaryFiles files.source cells (printed log) (λ s. jobs_like old s size) b.both.primary.parts
       at_p = there_primary log size p.0 old shows files b.both.primary.parts b.both.primary.held node_p b.both.primary.there
 
       here : JobHere cells files.source log job.node.0 job b.both.replica.parts

@@ -93,7 +93,7 @@ module _ {D : Type 0} (cells : D → Cells) where
     pub has : HasMeta source q meta
     pub reads : (cells p.dir q).now ≡ source q
 
-  pub file_to_copy : (source : Name → Content) (jobs : Out → ℕ) (log : Log) (n : ℕ) (job : Job) (p : PrimaryParts D) (r : ReplicaParts D) (j : PointJob) (q : Name) (meta : FileMetaData) → FilesLast → IsPrimary cells p → PrimaryFiles source cells jobs p
+  pub file_to_copy : (source : Name → Content) (jobs : Out → ℕ) (log : Log) (n : ℕ) (job : Job) (p : PrimaryParts D) (r : ReplicaParts D) (j : PointJob) (q : Name) (meta : FileMetaData) → FilesLast → IsPrimary cells p → PrimaryFiles source cells (printed log) jobs p
       → IfSome r.job (IsJobAbove r.searchers.point.version.0) → r.job ≡ Some j → IfSome (want_of r.job) (λ s. is_out s p.states ≡ true) → CopyShows source log n job j → IsNextFile j (Some (q, meta)) → IsFileToCopy source p q meta
   file_to_copy source jobs log n job p r j q meta lasting whole files newer runs out shows next =
       let above : IsJobAbove r.searchers.point.version.0 j = subst (λ (o : Option PointJob). IfSome o (IsJobAbove r.searchers.point.version.0)) runs newer in
@@ -114,9 +114,10 @@ module _ {D : Type 0} (cells : D → Cells) where
   pub file_footer : (source : Name → Content) (log : Log) (n v : ℕ) (job : Job) (j : PointJob) (q : Name) (meta : FileMetaData) (bytes : List ℕ) → IsJobAbove v j → CopyShows source log n job j → IsNextFile j (Some (q, meta)) → source q ≡ Some bytes → AreBytes bytes → HasFooter bytes
   file_footer source log n v job j q meta bytes above shows next reads fits =
       let wanted : 0 < times (meta_names j.copy.want.files) q = (let all = above.copy.each q in let lacks = next.0 in omega (arith, all, lacks)) in
-      let held : IsHeld source j.infos shows.stands.segs (meta_names j.copy.want.files)
-      = record { spelled = above.state.spelled.spelled.can; files = above.state.files; docs = documents_at (printed log) job.version.0; stands = shows.stands.stands } in
-      let framed = held_framed source j.infos shows.stands.segs (meta_names j.copy.want.files) held above.state.spelled.spelled.fit.records in
+      let stands = shows.point.stands in
+      let held : IsHeld source j.infos stands.segs (meta_names j.copy.want.files)
+      = record { spelled = above.state.spelled.spelled.can; files = above.state.files; docs = documents_at (printed log) j.infos.version.0; stands = stands.stands } in
+      let framed = held_framed source j.infos stands.segs (meta_names j.copy.want.files) held above.state.spelled.spelled.fit.records in
       let here = All-contains (IsFramedIn source) (meta_names j.copy.want.files) q framed (contains_of (meta_names j.copy.want.files) q (among_is (meta_names j.copy.want.files) q ∙ lt-ltb 0 (times (meta_names j.copy.want.files) q) wanted)) in
       let same_read : here.bytes ≡ bytes = same_bytes here.bytes (sym here.there ∙ reads) in
       subst HasFooter same_read (framed_footer here.file.want here.file.version here.file.id here.file.body here.bytes (subst AreBytes (sym same_read) fits) here.file.framed)
@@ -132,7 +133,7 @@ module _ {D : Type 0} (cells : D → Cells) where
   handed_replica source log n job r line name bytes is reads was = record {
     sourced = was.sourced;
     job = subst (λ (o : Option Job). JobShows source now n.0 o r.job) (sym same_job_at) (shows (job_at n.0 log) r.job is was.job);
-    point = record { known = was.point.known; generation = was.point.generation; stands = was.point.stands };
+    point = was.point;
     flight = λ a flies. subst (λ (o : Option Job). IsSomeAnd o (IsJobFor a (newest_version (printed log)))) (sym same_job_at) (was.flight a flies);
   }
     where
@@ -150,13 +151,11 @@ module _ {D : Type 0} (cells : D → Cells) where
       step j s = record {
         number = s.number;
         version = s.version;
-        known = s.known;
+        point = s.point;
         latest = s.latest;
         begun = s.begun;
         behind = s.behind;
-        generation = s.generation;
         metas = s.metas;
-        stands = s.stands;
         handed = λ q b out. given q b (is_job job.at n.0 job.number (Some job.at) n.0 job.number && same name q) refl out;
       }
         where
@@ -187,7 +186,7 @@ module _ {D : Type 0} (cells : D → Cells) where
       names = names_one cells size (printed log) (printed log) old new p.0 x (record { node = Primary b.at.parts; held = b.at.held }) (grows_none (printed log)) b.moves node b.at.there (altered_steps cells (printed log) b.at.parts b.primary b.alters) files.names;
       each = one_each {P = Both cells files.source log jobs} {Q = λ m z. NodeFiles files.source cells now count m z.node} size p.0 x old new b.moves (both_of cells log size old shows files)
           (λ m z node apart both. other_node m z.node (ap (λ (o : Option NodeNo). is_at o m) primary ∙ apart) both.0.node_shows both.1)
-          (primary_kept cells files.source jobs count b.at.parts b.primary b.alters.files (λ s. (let low = at_p.1.outs s in let same_count = counted s in
+          (primary_kept cells files.source (printed log) jobs count b.at.parts b.primary b.alters.files (λ s. (let low = at_p.1.outs s in let same_count = counted s in
           let here : states_like s b.primary.states ≡ states_like s b.at.parts.states = ap (states_like s) b.states in omega (arith, low, same_count, here))) at_p.1);
       disks = disks_kept cells files.source files.source log now size old new (λ name bytes is. is)
           (disk_moved p.0 x (record { node = Primary b.at.parts; held = b.at.held }) old new b.moves b.at.there (disk_same b.at.parts.commits b.primary.commits b.alters.files.commits)) (λ m. commits_alone (printed log) m) files.disks;

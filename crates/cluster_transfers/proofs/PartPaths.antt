@@ -11,13 +11,11 @@ use Rattle.copy_state.proofs.MetaLaws.{one_meta}
 use Rattle.copy_job.specs.declared.copying.Part.{Part}
 use Rattle.index_primary.specs.declared.states.Out.{Out}
 use Rattle.index_primary.specs.States.{out_of}
-use Rattle.seg_reader.specs.Stands.{StandsFor}
 use Rattle.segment_infos.specs.declared.infos.Infos.{Infos}
 use Rattle.replica_opening.specs.Known.{HasMeta}
 use Rattle.replica_node.specs.declared.job.PointJob.{PointJob}
 use Rattle.replica_node.specs.declared.parts.Parts.{Parts as ReplicaParts}
 use Rattle.history_entries.specs.Nodes.{IsNode, IsReplica, version_of, generation_of}
-use Rattle.history_entries.specs.Points.{documents_at}
 use Rattle.history_tables.specs.declared.jobs.Job.{Job}
 use Rattle.history_tables.specs.declared.jobs.JobRow.{JobRow}
 use Rattle.history_book.specs.Log.{Log, printed}
@@ -35,6 +33,7 @@ use Rattle.cluster_state.specs.Copies.{JobRuns}
 use Rattle.cluster_places.specs.JobChanges.{HasReplica, TakesPart}
 use Rattle.cluster_places.specs.JobPlaces.{CanTake, TakesIn}
 use Rattle.cluster_state.specs.Disks.{IsPastPoint}
+use Rattle.cluster_state.proofs.Points.{points_alone}
 use Rattle.cluster_state.proofs.Disks.{commits_alone, disk_moved, disk_same, disks_kept}
 use Rattle.cluster_state.proofs.Frames.{some_at, slot_of, was}
 use Rattle.cluster_places.proofs.OutCounts.{jobs_same}
@@ -112,13 +111,11 @@ module _ {D : Type 0} (cells : D → Cells) where
   copy_took source log n job j k goes shows = record {
     number = goes.number ∙ shows.number;
     version = ap (λ (i : Infos). i.version.0) goes.infos ∙ shows.version;
-    known = shows.known;
+    point = subst (λ (i : Infos). IsPastPoint source (printed log) i) (sym goes.infos) shows.point;
     latest = shows.latest;
     begun = shows.begun;
     behind = shows.behind;
-    generation = subst (λ (i : Infos). i.generation.0 ≤ generation_of (printed log)) (sym goes.infos) shows.generation;
     metas = subst (λ (w : CopyState). All (λ f. HasMeta source f.0 f.1) w.files) (sym goes.want) shows.metas;
-    stands = subst (λ (i : Infos). StandsFor source i (documents_at (printed log) job.version.0)) (sym goes.infos) shows.stands;
     handed = shows.handed;
   }
 
@@ -144,7 +141,7 @@ module _ {D : Type 0} (cells : D → Cells) where
       names = names_one cells size (printed log) (printed log) old new n x y (grows_none (printed log)) b.moves node b.at.there
           (took_steps cells files.source (printed log) here.point part r s r.searchers.point.version.0 lasting files.drawn here.shows.metas above here.runs b.takes) files.names;
       each = one_each {P = Both cells files.source log jobs} {Q = λ m z. NodeFiles files.source cells log count m z.node} size n x old new b.moves (both_of cells log size old shows files)
-          (λ m z other apart has. node_files cells files.source log log jobs count m z.node (λ t rep. job_stays log m) fewer has.1)
+          (λ m z other apart has. node_files cells files.source log log jobs count m z.node (points_alone (printed log)) (λ t rep. job_stays log m) fewer has.1)
           mine;
       disks = disks_kept cells files.source files.source log log size old new (λ name bytes is. is) (disk_moved n x y old new b.moves b.at.there (disk_same r.commits s.commits (ap (λ (t : ReplicaParts D). t.commits) b.takes.others)))
           (λ m. commits_alone (printed log) m) files.disks;

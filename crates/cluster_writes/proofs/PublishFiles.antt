@@ -1,7 +1,7 @@
 -- What each path of the primary leaves of files and jobs, from what its calls say.
 use Rattle.std.proofs.Common.{◌≡◌, ◌≢◌, ◌⊎◌, ◌≤◌, ◌<◌, ◌+◌, inl, inr, ℕ, Bool, true, false, List, [], ◌∷◌, ◌++◌, Some, None, Option, Vec, Global, refl, ap, ◌∙◌, sym, subst, arith, zero, suc}
 use Rattle.std.proofs.lemmas.Bool.Decides.{nat_tests}
-use Rattle.std.specs.List.{Contains}
+use Rattle.std.specs.List.{Contains, flat_map}
 use Rattle.std.proofs.lemmas.List.Elements.{Contains-append_cases, Contains-append_right}
 use Rattle.nrt_base.specs.declared.numbers.At.{At}
 use Rattle.nrt_base.specs.declared.numbers.Gen.{Gen}
@@ -9,7 +9,7 @@ use Rattle.nrt_base.specs.declared.numbers.NodeNo.{NodeNo}
 use Rattle.nrt_base.specs.declared.numbers.SegNo.{SegNo}
 use Rattle.nrt_base.specs.declared.numbers.Version.{Version}
 use Rattle.documents.specs.declared.operation.Op.{Op}
-use Rattle.disk_model.specs.Disk.{Cells}
+use Rattle.disk_model.specs.Disk.{Name, Cells}
 use Rattle.seg_reader.specs.Shown.{Shown}
 use Rattle.segment_infos.specs.declared.infos.Infos.{Infos}
 use Rattle.segment_steps.specs.declared.flushing.FlushWork.{FlushWork}
@@ -26,7 +26,16 @@ use Rattle.history_book.specs.Turns.{AreInTurn}
 use Rattle.index_primary.specs.declared.parts.Parts.{Parts as PrimaryParts}
 use Rattle.node_files.specs.Appearing.{AppearsOnly}
 use Rattle.searcher_switch.specs.declared.open.Open.{Open}
-use Rattle.index_primary.specs.Primary.{IsPrimary, KeepsHeldBytes, loose_of, loose_in, rest_loose, publish_loose}
+use Rattle.index_primary.specs.Primary.{IsPrimary, KeepsHeldBytes, primary_names, rest_names, loose_of, loose_in, rest_loose, publish_loose}
+use Rattle.index_primary.specs.Work.{AreOfCut}
+use Rattle.searcher_switch.specs.Tickets.{ticket_names}
+use Rattle.searcher_switch.specs.Searching.{searcher_names}
+use Rattle.commit_steps.specs.Book.{book_names}
+use Rattle.file_deleter.specs.Holdings.{count_of, times}
+use Rattle.file_deleter.proofs.NameLemmas.{times-append}
+use Rattle.segment_infos.specs.Files.{files_of_segment}
+use Rattle.cluster_state.specs.Writes.{IsFlushed}
+use Rattle.cluster_writes.proofs.Writing.{published_primary}
 use Rattle.index_primary.specs.Calls.{IsPublished, FillsUndrawn, DrawsOnly, KeepsOthers}
 use Rattle.index_primary.specs.declared.parts.Publish.{Publish}
 use Rattle.index_primary.specs.Held.{IsOwnFile, drawn_to}
@@ -42,9 +51,9 @@ use Rattle.cluster_places.specs.KeptFiles.{FillsPrimaryFiles, KeepsNodeFiles}
 use Rattle.cluster_places.proofs.TicketNodes.{node_alone}
 use Rattle.cluster_state.proofs.Disks.{commits_alone}
 use Rattle.cluster_state.proofs.Drawn.{grows_none, just_drawn}
-use Rattle.cluster_state.proofs.Naming.{FilesLast, HoldsFrom, holds_same}
+use Rattle.cluster_state.proofs.Naming.{FilesLast, named_in, HoldsFrom, holds_same}
 use Rattle.cluster_state.proofs.Frames.{PutsBack, was, place_at}
-use Rattle.cluster_state.proofs.FileFrames.{flights_of, files_one, files_was, files_is, files_moved, files_started, files_published, put_one}
+use Rattle.cluster_state.proofs.FileFrames.{before, flights_of, files_one, files_was, files_is, files_moved, files_started, files_published, put_one}
 use Rattle.cluster_state.proofs.Turning.{log_is, nodes_is, past_has, fresh_turn, later_turn}
 use Rattle.cluster_state.proofs.JobFrames.{job_stays}
 
@@ -89,15 +98,44 @@ module _ {D : Type 0} (cells : D → Cells) where
         refl,
       )) drawn
 
+  -- a file that is counted now and was not is one of the new point
+  newly_named : (p q : PrimaryParts D) (work : FlushWork) → IsPublished p work q → KeepsOthers p q → IsPrimary cells p → IsPrimary cells q → (name : Name) → count_of p.files name ≡ 0 → 0 < count_of q.files name
+      → Contains (flat_map files_of_segment q.infos.segs) name
+  newly_named p q work published others was whole name none some = by (times q.searchers.point.names name) refl
+    where
+      split : (z : PrimaryParts D) → IsPrimary cells z → count_of z.files name ≡ times z.searchers.point.names name + times (ticket_names z.searchers.tickets) name + times z.names name + times (rest_names z) name + times (book_names z.commits) name
+      split z is =
+          let counts = is.node.counts name in
+          let one : times (primary_names z) name ≡ times (searcher_names z.searchers) name + times (z.names ++ rest_names z) name = times-append (searcher_names z.searchers) (z.names ++ rest_names z) name in
+          let two : times (searcher_names z.searchers) name ≡ times z.searchers.point.names name + times (ticket_names z.searchers.tickets) name = times-append z.searchers.point.names (ticket_names z.searchers.tickets) name in
+          let three : times (z.names ++ rest_names z) name ≡ times z.names name + times (rest_names z) name = times-append z.names (rest_names z) name in
+          omega (arith, counts, one, two, three)
+
+      -- the point or the writer's infos name it
+      either : 0 < times q.searchers.point.names name + times q.names name
+      either =
+          let old = split p was in
+          let new = split q whole in
+          let tickets : times (ticket_names q.searchers.tickets) name ≡ times (ticket_names p.searchers.tickets) name = ap (λ (ts : List (Open Shown)). times (ticket_names ts) name) published.point.tickets in
+          let rest : times (rest_names q) name ≡ times (rest_names p) name = ap (λ (z : PrimaryParts D). times (rest_names z) name) others in
+          let book : times (book_names q.commits) name ≡ times (book_names p.commits) name = ap (λ (z : PrimaryParts D). times (book_names z.commits) name) others in
+          omega (arith, none, some, old, new, tickets, rest, book)
+
+      by : (k : ℕ) → times q.searchers.point.names name ≡ k → Contains (flat_map files_of_segment q.infos.segs) name
+      by zero is = (whole.writer.files.named name).0 (named_in q.names name (let e = either in omega (arith, is, e)))
+      by (suc k) is = subst (λ (i : Infos). Contains (flat_map files_of_segment i.segs) name) (published.point.point_infos ∙ sym published.point.infos)
+          ((whole.searched.files.named name).0 (named_in q.searchers.point.names name (omega (arith, is))))
+
   published_fills : (p q : PrimaryParts D) (work : FlushWork) → IsPublished p work q → KeepsHeldBytes cells p q → FillsUndrawn p q → DrawsOnly p q → AppearsOnly (IsOwnFile p.infos (loose_of p)) (cells p.dir) (cells q.dir) → KeepsOthers p q
-      → FillsPrimaryFiles cells p q
-  published_fills p q work published stays fresh drawn appears others = record {
+      → IsPrimary cells p → IsPrimary cells q → FillsPrimaryFiles cells p q
+  published_fills p q work published stays fresh drawn appears others was whole = record {
     stays = stays;
     fresh = fresh;
     drawn = drawn;
     appears = appears;
     commits = ap (λ (z : PrimaryParts D). z.commits) others;
-    point = ap (λ (i : Infos). i.generation) (published.point.point_infos ∙ sym published.point.infos);
+    named = λ name none some. newly_named p q work published others was whole name none some;
+    point = published.point.point_infos ∙ sym published.point.infos;
     states = ap (λ (z : PrimaryParts D). z.states) others;
   }
 
@@ -172,6 +210,10 @@ module _ {D : Type 0} (cells : D → Cells) where
         (keeps_at (subst (λ (z : PrimaryParts D). KeepsNodeFiles cells (Primary p) (Primary z)) (sym same) (node_alone cells (Primary p))))
         (was cells r ended b0.nodes b0.log old view running shows) (files_was cells r ended b0.nodes b0.log old view running files))
 
+    -- what the primary was
+    here : PrimaryShows cells r.log n.0 p
+    here = (subst (λ (z : Place D). PlaceShows cells r.log n.0 z) is (place_at cells r ended b0.nodes n.0 b0.log old x view running shows node there)).node_shows
+
     module _ (b2 : Pages) (at : At) (legal : IsLegalPast b1.nodes (printed b1.log)) (turns : AreInTurn (printed b1.log)) where
       pub accept_files : (seq : ℕ) (op copy : Op) → b2.log ≡ shown at (Accepted seq op) ∷ b1.log → b2.nodes ≡ b1.nodes → IsFresh at (printed b0.log) → KeepsRule r.nodes (printed r.log) at (Accepted seq op)
           → q ≡ record p { waiting = p.waiting ++ copy ∷ []; accepted = p.accepted + 1 } → FilesShow cells b2.log b2.nodes new
@@ -190,14 +232,13 @@ module _ {D : Type 0} (cells : D → Cells) where
           files_started cells r ended b0 b1 b2 b3 old mid new at seg segs n.0 (record { node = Primary q; held = held }) x view running shows files e1 n1 e2 n2 legal turns e3 n3 rule
           (fresh_turn (printed r.log) at Publishing (past_has (IsFresh at) r ended b0 view fresh) tt) put node there (keeps_at (started_alone p q seg next drawn))
           (holds_at (printed (shown at Publishing ∷ r.log)) (started_holds r.log at n.0 p q seg here next number names))
-        where
-          here : PrimaryShows cells r.log n.0 p
-          here = (subst (λ (z : Place D). PlaceShows cells r.log n.0 z) is (place_at cells r ended b0.nodes n.0 b0.log old x view running shows node there)).node_shows
 
       pub end_files : (g : Gen) (v : Version) (work : FlushWork) → b2.log ≡ shown at (Published g v) ∷ b1.log → b2.nodes ≡ b1.nodes → KeepsRule r.nodes (printed r.log) at (Published g v)
-          → publish_in_flight (printed r.log) ≡ Some at → primary_of (printed r.log) ≡ Some n → IsPublished p work q → KeepsHeldBytes cells p q → FillsUndrawn p q → DrawsOnly p q
+          → publish_in_flight (printed r.log) ≡ Some at → primary_of (printed r.log) ≡ Some n → IsFlushed at r.log work → IsPublished p work q → AreOfCut p q → KeepsHeldBytes cells p q → FillsUndrawn p q → DrawsOnly p q
           → AppearsOnly (IsOwnFile p.infos (loose_of p)) (cells p.dir) (cells q.dir) → KeepsOthers p q → IsPrimary cells q → FilesLast → FilesShow cells b2.log b2.nodes new
-      end_files g v work e2 n2 rule flight primary published stays fresh drawn appears others whole lasting =
+      end_files g v work e2 n2 rule flight primary flushed published of_cut stays fresh drawn appears others whole lasting =
+          let b = before cells r ended b0 b1 view e1 n1 legal turns in
           files_published cells r ended b0 b1 b2 old mid new at g v n p q held view running shows files e1 n1 e2 n2 legal turns rule (later_turn (printed r.log) at (Published g v) refl flight) primary put node
-          (there ∙ ap (λ (z : Place D). Some z) is) (published_fills p q work published stays fresh drawn appears others) whole lasting
+          (there ∙ ap (λ (z : Place D). Some z) is) (published_fills p q work published stays fresh drawn appears others here.whole whole)
+          (published_primary cells r.nodes r.log at g v n.0 p q work b.legal b.turns rule flight rule.next flushed published of_cut (ap (λ (z : PrimaryParts D). z.accepted) others) (ap (λ (z : PrimaryParts D). z.merges) others) whole here) lasting
           (ended_holds (printed (shown at (Published g v) ∷ r.log)) p q work published others)

@@ -55,7 +55,7 @@ invariant_of-cluster-2 g c = λ running. (
       (may_publish c.args.cluster.now _ c.cluster.inside.book c.args.at (record { 0 = c.generation.result }) c.in-Ok.v c.cluster.view_is c.is_legal.ensures.legal c.is_legal.ensures.turns c.requires.flight c.flies.ensures
       c.generation.ensures (next_is g.D.Dir.cells c.args.cluster.now _ c.cluster.inside.book _ c.args.p c.take.result c.cluster.view_is c.requires.running (λ e. (c.cluster.invariant e).0) c.requires.node c.take.ensures.place
       c.primary_in-primary.result.0 c.primary_in-primary.result.1 c.primary_in-primary.ensures c.in-Ok.v c.in-Ok.ensures.version))
-      c.requires.flight c.requires.primary c.in-Ok.ensures.point c.publish_end-ended.ensures.stays c.publish_end-ended.ensures.fresh c.publish_end-ended.ensures.drawn
+      c.requires.flight c.requires.primary c.requires.work c.in-Ok.ensures.point c.in-Ok.ensures.documents c.publish_end-ended.ensures.stays c.publish_end-ended.ensures.fresh c.publish_end-ended.ensures.drawn
       c.publish_end-ended.ensures.appears c.publish_end-ended.ensures.others c.publish_end-ended.ensures.whole c.files_last.ensures,
 )
 
