@@ -16,3 +16,4 @@ pub mod PointStands
 pub mod Lasting
 pub mod Living
 pub mod Points
+pub mod Reigning
