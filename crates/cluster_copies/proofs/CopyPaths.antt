@@ -130,8 +130,8 @@ module _ {D : Type 0} (cells : D → Cells) where
       clash (Some job) older some = absurd (omega (arith, older, some.1))
 
   can_begin_of : (log : Log) (size : ℕ) (places : List (Option (Place D))) (p n : NodeNo) (shows : Shows cells log size places) (files : FilesShow cells log size places) → IsNode size p.0 → IsNode size n.0 → primary_of (printed log) ≡ Some p
-      → IsReplica (printed log) n.0 → version_of n.0 (printed log) < newest_version (printed log) → newest_version (printed log) < 2 ^ 62 → CanBegin p.0 n.0 places
-  can_begin_of log size places p n shows files node_p node_n primary replica behind bound = record {
+      → IsReplica (printed log) n.0 → version_of n.0 (printed log) < newest_version (printed log) → CanBegin p.0 n.0 places
+  can_begin_of log size places p n shows files node_p node_n primary replica behind = record {
     stand = record {
       slot_primary = slot_of cells log size p.0 places node_p shows;
       slot_replica = slot_of cells log size n.0 places node_n shows;
@@ -179,25 +179,23 @@ module _ {D : Type 0} (cells : D → Cells) where
 
   -- ---- in the terms of a call
 
-  pub can_begin : (r : Run) (ended : Bool) (size : ℕ) (log : Log) (places : List (Option (Place D))) (p n : NodeNo) (newest : ℕ) → record { ended = ended; nodes = size; log = log } ≡ r → r.ended ≡ false
+  pub can_begin : (r : Run) (ended : Bool) (size : ℕ) (log : Log) (places : List (Option (Place D))) (p n : NodeNo) → record { ended = ended; nodes = size; log = log } ≡ r → r.ended ≡ false
       → (ended ≡ false → Shows cells log size places × FilesShow cells log size places) → IsNode r.nodes p.0 → IsNode r.nodes n.0 → primary_of (printed r.log) ≡ Some p → IsReplica (printed r.log) n.0
-      → version_of n.0 (printed r.log) < newest_version (printed r.log) → newest ≡ newest_version (printed log) → newest < 2 ^ 62 → CanBegin p.0 n.0 places
-  can_begin r ended size log places p n newest view running pair node_p node_n primary replica behind is bound =
-      let same_log : log ≡ r.log = ap (λ (x : Run). x.log) view in
-      let now : newest ≡ newest_version (printed r.log) = is ∙ ap (λ (l : Log). newest_version (printed l)) same_log in
-      can_begin_of r.log r.nodes places p n (was cells r ended size log places view running (λ e. (pair e).0)) (files_was cells r ended size log places view running (λ e. (pair e).1)) node_p node_n primary replica behind (omega (arith, now, bound))
+      → version_of n.0 (printed r.log) < newest_version (printed r.log) → CanBegin p.0 n.0 places
+  can_begin r ended size log places p n view running pair node_p node_n primary replica behind =
+      can_begin_of r.log r.nodes places p n (was cells r ended size log places view running (λ e. (pair e).0)) (files_was cells r ended size log places view running (λ e. (pair e).1)) node_p node_n primary replica behind
 
-  pub can_begin_settling : (r : Run) (ended : Bool) (size : ℕ) (log : Log) (places : List (Option (Place D))) (at : At) (p n : NodeNo) (w : Version) (newest : ℕ) → record { ended = ended; nodes = size; log = log } ≡ r → r.ended ≡ false
+  pub can_begin_settling : (r : Run) (ended : Bool) (size : ℕ) (log : Log) (places : List (Option (Place D))) (at : At) (p n : NodeNo) (w : Version) → record { ended = ended; nodes = size; log = log } ≡ r → r.ended ≡ false
       → (ended ≡ false → Shows cells log size places × FilesShow cells log size places) → IsLegalPast size (printed log) → start_entry at (printed r.log) ≡ Some (Settling w) → WaitsFor r.nodes (printed r.log) at w.0 n → IsNode r.nodes p.0
-      → primary_of (printed r.log) ≡ Some p → newest ≡ newest_version (printed log) → newest < 2 ^ 62 → CanBegin p.0 n.0 places
-  can_begin_settling r ended size log places at p n w newest view running pair legal started waits node_p primary is bound =
+      → primary_of (printed r.log) ≡ Some p → CanBegin p.0 n.0 places
+  can_begin_settling r ended size log places at p n w view running pair legal started waits node_p primary =
       let same_log : log ≡ r.log = ap (λ (x : Run). x.log) view in
       let same_size : size ≡ r.nodes = ap (λ (x : Run). x.nodes) view in
       let all : IsLegalPast r.nodes (printed r.log) = subst (λ (x : Log × ℕ). IsLegalPast x.1 (printed x.0)) (λ i. (same_log i, same_size i)) legal in
       let noted : w.0 ≡ newest_version (before_start at (printed r.log)) = (start_kept r.nodes at (printed r.log) (Settling w) all started).newest in
       let late = newest_before at (printed r.log) in
       let low = waits.behind in
-      can_begin r ended size log places p n newest view running pair node_p waits.node primary waits.replica (omega (arith, noted, late, low)) is bound
+      can_begin r ended size log places p n view running pair node_p waits.node primary waits.replica (omega (arith, noted, late, low))
 
   -- the rule of a copy's start
   pub may_copy : (r : Run) (ended : Bool) (size : ℕ) (log : Log) (places : List (Option (Place D))) (at : At) (p n : NodeNo) (v : Version) → record { ended = ended; nodes = size; log = log } ≡ r → r.ended ≡ false

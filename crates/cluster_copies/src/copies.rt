@@ -18,7 +18,7 @@ use history_entries::Event;
 use node_jobs::begin_in;
 use nrt_base::{At, NoMemory, NodeNo, Version};
 use replica_node::laws::files_last;
-use std::alloc::{AllocError, Global};
+use std::alloc::Global;
 
 /// A copy to a replica that searches the newest version: it starts, and has its reply.
 pub fn note_copied<D: FaultDir + Drop>(
@@ -75,9 +75,6 @@ pub fn begin_copy<D: FaultDir + Drop>(
     files_last();
     let newest = cluster.book.newest();
     cluster.ended = true;
-    if newest >= 1 << 62 {
-        return Err(AllocError);
-    }
     cluster.book.reserve(2)?;
     let job = begin_in(alloc, &mut cluster.places, p, n)?;
     let v = Version(newest);
@@ -123,9 +120,6 @@ pub fn begin_settling<D: FaultDir + Drop>(
     files_last();
     let newest = cluster.book.newest();
     cluster.ended = true;
-    if newest >= 1 << 62 {
-        return Err(AllocError);
-    }
     cluster.book.reserve(1)?;
     let job = begin_in(alloc, &mut cluster.places, p, n)?;
     cluster.book.keep(Inner::JobBegun {

@@ -1,6 +1,5 @@
 -- What each row of commits, crashes and reopenings does for its line, from the entries that it adds.
 use Rattle.std.proofs.Common.{◌≡◌, ℕ, ◌∷◌, false, Some, None, refl, ap, sym, subst}
-use Rattle.std.specs.Prelude.{⊤}
 use Rattle.nrt_base.specs.declared.numbers.At.{At}
 use Rattle.nrt_base.specs.declared.numbers.NodeNo.{NodeNo}
 use Rattle.nrt_base.specs.declared.numbers.Version.{Version}
@@ -15,11 +14,12 @@ use Rattle.script_serving.specs.declared.script.LineCommand.TheVariants.{Commit,
 use Rattle.script_serving.specs.Refusals.{without_node}
 use Rattle.cluster_places.specs.declared.tasks.CommitTask.{CommitTask}
 use Rattle.cluster_state.specs.Run.{Run, IsNow}
-use Rattle.cluster_core.specs.declared.turn.Turn.{Turn}
-use Rattle.cluster_core.specs.declared.turn.Turn.TheVariants.{Work, Done, Busy}
+use Rattle.line_turns.specs.declared.turn.Turn.{Turn}
+use Rattle.line_turns.specs.declared.turn.Turn.TheVariants.{Work, Done, Busy}
 use Rattle.cluster_core.specs.Doing.{Does, IsReplied, IsRepliedAtDone, IsBegunAtWork}
-use Rattle.cluster_core.specs.LifeCalls.{CommitStarts, commit_end_event, CommitSteps, crash_event, with_node, ReopensNode}
-use Rattle.cluster_core.proofs.Does.{row_does, row_replied, none_does, up_unrefused, refused_for_does, refused_for_replied, begun_by, answered_does, started_unanswered, one_replied, lost_reply}
+use Rattle.line_turns.specs.LifeCalls.{CommitStarts, commit_end_event, CommitSteps, crash_event, with_node, ReopensNode}
+use Rattle.cluster_core.proofs.Does.{row_does, row_replied, none_does, refused_for_does, refused_for_replied, begun_by, answered_does, started_unanswered, one_replied, lost_reply}
+use Rattle.line_turns.proofs.Rows.{up_unrefused}
 
 -- ---- commits
 

@@ -18,10 +18,10 @@ use Rattle.script_serving.specs.declared.script.LineCommand.TheVariants.{Commit}
 use Rattle.script_serving.specs.Refusals.{without_node}
 use Rattle.cluster_places.specs.declared.tasks.CommitTask.{CommitTask}
 use Rattle.cluster_state.specs.Run.{Run, IsNow}
-use Rattle.cluster_core.specs.declared.turn.Turn.{Turn}
-use Rattle.cluster_core.specs.declared.turn.Turn.TheVariants.{Work, Done, Busy}
-use Rattle.cluster_core.specs.Calls.{by_refusal}
-use Rattle.cluster_core.specs.LifeCalls.{CommitStarts, CommitSteps, commit_end_event, with_node, ReopensNode}
+use Rattle.line_turns.specs.declared.turn.Turn.{Turn}
+use Rattle.line_turns.specs.declared.turn.Turn.TheVariants.{Work, Done, Busy}
+use Rattle.line_turns.specs.Calls.{by_refusal}
+use Rattle.line_turns.specs.LifeCalls.{CommitStarts, CommitSteps, commit_end_event, with_node, ReopensNode}
 use Rattle.cluster_core.specs.Doing.{Does, IsReplied, IsBegunBy}
 use Rattle.cluster_core.proofs.Does.{none_does}
 use Rattle.cluster_run.specs.Going.{HaveJobsEnded}

@@ -13,7 +13,7 @@ pub mod JobMoves
 mod JobLaw
 mod BookLaws
 pub mod PointStands
-pub mod Lasting
-pub mod Living
+mod Lasting
+mod Living
 pub mod Points
 pub mod Reigning

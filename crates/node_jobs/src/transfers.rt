@@ -48,8 +48,8 @@ fn take_primary<D: Dir + Drop>(
     primary_in(take(places, p))
 }
 
-// Takes a replica out of its place.
-fn take_replica<D: Dir + Drop>(
+/// Takes a replica out of its place.
+pub fn take_replica<D: Dir + Drop>(
     places: &mut Vec<Option<Place<D>>>,
     n: NodeNo,
 ) -> (Replica<D>, Vec<Held>)

@@ -1,1 +1,2 @@
 mod CrashedPlaces
+mod EndedJobs

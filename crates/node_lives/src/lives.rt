@@ -4,8 +4,10 @@ ghost use Rattle.std.specs.Prelude.{◌≡◌, ◌≢◌, None, Some, OnOk, IfOk
 ghost use Rattle.cluster_places.specs.declared.nodes.Place.{Place};
 ghost use Rattle.replica_opening.specs.Opened.{IsSettledOn};
 ghost use Rattle.cluster_places.specs.Places.{place_of, dir_of, IsSlot};
+ghost use Rattle.cluster_places.specs.Ends.{CanEnd};
 ghost use Rattle.cluster_places.specs.Lives.{CrashesIn, OpensOn, ReopensIn};
 
+use crate::ends::end_with;
 use cluster_places::{Node, Place, put, take};
 use disk_model::{Dir, FaultDir};
 use nrt_base::{NoMemory, NodeNo, Version};
@@ -23,17 +25,20 @@ fn dir_in<D: Dir + Drop>(node: Node<D>) -> D
     }
 }
 
-/// Crashes a node. The number picks among what a crash may leave of its directory.
+/// Crashes a node, by the running primary. The number picks among what a crash may leave of its directory.
 pub fn crash_in<D: FaultDir + Drop>(
     alloc: Global,
     places: &mut Vec<Option<Place<D>>>,
+    primary: Option<NodeNo>,
     n: NodeNo,
     pick: u64,
 ) -> Result<(), NoMemory>
     requires slot { IsSlot places.old.items n.0 }
     requires there { place_of places.old.items n.0 ≢ None }
-    ensures { OnOk result (CrashesIn D.cells n.0 places.old.items places.new.items) }
+    requires ends { CanEnd primary n.0 places.old.items }
+    ensures { OnOk result (CrashesIn D.cells primary n.0 places.old.items places.new.items) }
 {
+    end_with(alloc, places, primary, n)?;
     let Place {
         node,
         held: tickets,

@@ -1,4 +1,4 @@
-use Rattle.std.proofs.Common.{◌∙◌, ℕ, ap, refl, arith, Some, ◌∷◌}
+use Rattle.std.proofs.Common.{◌∙◌, ℕ, ap, refl, Some, ◌∷◌}
 use Rattle.nrt_base.specs.declared.numbers.Version.{Version}
 use Rattle.history_entries.specs.declared.entry.Event.TheVariants.{Copying}
 use Rattle.history_entries.specs.Nodes.{newest_version}
@@ -12,8 +12,7 @@ use Rattle.cluster_copies.proofs.CopyPaths.{can_begin, may_copy, copy_path, copy
 use Rattle.cluster_copies.proofs.copies.begin_copy.Goals as goal
 
 pub begin_in-requires : goal.begin_in-requires
-begin_in-requires g c = can_begin g.D.Dir.cells c.args.cluster.now _ _ _ _ c.args.p c.args.n c.newest-newest.result c.cluster.view_is c.requires.running c.cluster.invariant c.requires.source c.requires.node c.requires.primary c.requires.replica c.requires.behind
-    c.newest-newest.ensures (omega (arith, c.if-newest.false))
+begin_in-requires g c = can_begin g.D.Dir.cells c.args.cluster.now _ _ _ _ c.args.p c.args.n c.cluster.view_is c.requires.running c.cluster.invariant c.requires.source c.requires.node c.requires.primary c.requires.replica c.requires.behind
 
 pub show-requires-clause-rule : goal.show-requires-clause-rule
 show-requires-clause-rule g c = rule_at c.args.cluster.now _ c.cluster.inside.book c.reserve.new.self c.args.at (Copying c.args.n (record { 0 = c.newest-newest.result })) c.cluster.view_is c.in_ok-reserve.ensures.log c.in_ok-reserve.ensures.nodes

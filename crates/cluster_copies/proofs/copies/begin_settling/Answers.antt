@@ -1,4 +1,4 @@
-use Rattle.std.proofs.Common.{◌∙◌, ℕ, ap, refl, arith, Some, ◌∷◌}
+use Rattle.std.proofs.Common.{◌∙◌, ℕ, ap, refl, Some, ◌∷◌}
 use Rattle.nrt_base.specs.declared.numbers.Version.{Version}
 use Rattle.history_entries.specs.Nodes.{newest_version}
 use Rattle.history_book.specs.Log.{Log, printed, kept}
@@ -8,8 +8,7 @@ use Rattle.cluster_copies.proofs.CopyPaths.{can_begin_settling, settle_path, set
 use Rattle.cluster_copies.proofs.copies.begin_settling.Goals as goal
 
 pub begin_in-requires : goal.begin_in-requires
-begin_in-requires g c = can_begin_settling g.D.Dir.cells c.args.cluster.now _ _ _ _ c.args.at c.args.p c.args.n c.args.v c.newest-newest.result c.cluster.view_is c.requires.running c.cluster.invariant c.is_legal.ensures.legal c.requires.started c.requires.waits c.requires.source c.requires.primary
-    c.newest-newest.ensures (omega (arith, c.if-newest.false))
+begin_in-requires g c = can_begin_settling g.D.Dir.cells c.args.cluster.now _ _ _ _ c.args.at c.args.p c.args.n c.args.v c.cluster.view_is c.requires.running c.cluster.invariant c.is_legal.ensures.legal c.requires.started c.requires.waits c.requires.source c.requires.primary
 
 pub keep-requires-clause-turn : goal.keep-requires-clause-turn
 keep-requires-clause-turn g c = (

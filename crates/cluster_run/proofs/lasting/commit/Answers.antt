@@ -3,10 +3,10 @@ use Rattle.history_book.specs.Log.{printed}
 use Rattle.history_entries.specs.declared.entry.Event.TheVariants.{Committing}
 use Rattle.script_serving.specs.declared.script.LineCommand.TheVariants.{Commit}
 use Rattle.cluster_places.specs.declared.tasks.CommitTask.{CommitTask}
-use Rattle.cluster_core.specs.declared.turn.Turn.{Turn}
-use Rattle.cluster_core.specs.declared.turn.Turn.TheVariants.{Work, Busy}
+use Rattle.line_turns.specs.declared.turn.Turn.{Turn}
+use Rattle.line_turns.specs.declared.turn.Turn.TheVariants.{Work, Busy}
 use Rattle.cluster_core.specs.Doing.{IsBegunBy, IsBegunAtWork}
-use Rattle.cluster_core.specs.LifeCalls.{CommitStarts}
+use Rattle.line_turns.specs.LifeCalls.{CommitStarts}
 use Rattle.cluster_run.specs.Running.{EndsLine}
 use Rattle.cluster_run.proofs.Commits.{none_commits, commit_jobs, commit_started, on_node}
 use Rattle.cluster_run.proofs.Steps.{on_rest}

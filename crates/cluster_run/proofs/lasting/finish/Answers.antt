@@ -1,10 +1,10 @@
 use Rattle.std.proofs.Common.{◌≡◌, Some, ap, ◌∙◌, subst}
 use Rattle.history_entries.specs.Lines.{last_of_line}
 use Rattle.history_book.specs.Log.{Log, printed}
-use Rattle.cluster_core.specs.declared.turn.Turn.{Turn}
-use Rattle.cluster_core.specs.declared.turn.Turn.TheVariants.{Work, Done}
+use Rattle.line_turns.specs.declared.turn.Turn.{Turn}
+use Rattle.line_turns.specs.declared.turn.Turn.TheVariants.{Work, Done}
 use Rattle.cluster_core.specs.Doing.{IsReplied, IsRepliedAtDone}
-use Rattle.cluster_core.specs.LifeCalls.{CommitSteps}
+use Rattle.line_turns.specs.LifeCalls.{CommitSteps}
 use Rattle.cluster_run.proofs.Commits.{commit_goes_on, commit_ends}
 use Rattle.cluster_run.proofs.lasting.finish.Goals as goal
 

@@ -1,0 +1,89 @@
+-- What all lanes have done once their seats are joined and the lock is closed.
+use Rattle.std.proofs.Common.{◌≡◌, ℕ, ◌+◌, ◌<◌, ◌≤◌, Bool, List, [], ◌∷◌, ◌++◌, refl, ap, ◌∙◌, sym, subst, arith, reverse, length, take, drop}
+use Rattle.std.specs.Prelude.{slice_index_or, ◌-◌, Result, Ok, Err, OnOk}
+use Rattle.std.proofs.lemmas.List.{reverse-reverse, take_all, drop_all}
+use Rattle.std.proofs.Math.Seq.{take-append_seam}
+use mathlib.Core.List.{IsPrefix}
+use Rattle.script_serving.specs.declared.script.Phase.{Phase}
+use Rattle.script_serving.specs.declared.script.Script.{Script}
+use Rattle.script_serving.specs.Form.{IsInForm}
+use Rattle.script_serving.specs.Serves.{Serves}
+use Rattle.history_entries.specs.declared.entry.History.{History}
+use Rattle.hist_lock.specs.declared.grows.Grows.{Ghosts}
+use Rattle.hist_lock.specs.declared.lock.HistLock.{HistLock}
+use Rattle.hist_lock.specs.declared.lock.LaneSeat.{LaneSeat}
+use Rattle.hist_lock.specs.History.{Each, HasJust, Continues, entries_by}
+use Rattle.hist_lock.specs.Seats.{history_seen, number_of, own_entries, view_of}
+use Rattle.hist_lock.proofs.Histories.{prefix_trans}
+use Rattle.history_book.specs.declared.inner.Mark.{Mark}
+use Rattle.history_book.specs.Log.{Log, name_of}
+use Rattle.lane_walks.specs.Owes.{FaultsFit, IsSettledLog}
+use Rattle.lane_walks.specs.Walks.{GrowsByOthers}
+use Rattle.lane_walks.specs.Phases.{LaneReady, LaneEnds, LanesEnd, IsHistoryOf}
+use Rattle.lane_walks.proofs.ScriptLemmas.{form_of, script_served}
+use Rattle.lane_seats.specs.Seats.{log_seen}
+use Rattle.lane_seats.proofs.SeatLemmas.{apart_of, of_lanes}
+use Rattle.lane_crew.specs.declared.lane.Lane.{Lane}
+use Rattle.lane_crew.specs.Lanes.{IsIdleLane, IsJoined, AreJoined, ArePhasesDone}
+
+module _ {T : Type 0} {g : Ghosts T Mark} (named : g.names ≡ name_of) (lock : HistLock T Mark) (script : Script) (s t : LaneSeat T Mark g) (ls : List (Lane T Mark g)) (log : Log)
+    (done : ArePhasesDone script.log lock script.phases (length script.phases) s ls) (joined : AreJoined lock 0 t ls []) (history : List Mark) (is : history ≡ reverse log)
+    (found : Continues g.names (view_of t) history) (settled : IsSettledLog script.log log) where
+  goes : Continues name_of (view_of t) (reverse log)
+  goes = subst (Continues name_of (view_of t)) is (subst (λ (f : Mark → ℕ). Continues f (view_of t) history) named found)
+
+  -- since a lane has done all phases only others have gone on
+  lane_ends : (l : Lane T Mark g) → IsIdleLane script.log lock l → IsJoined t l
+      → LaneReady script.log l.number.0 script.phases (take (length script.phases) script.phases) (drop (length script.phases) script.phases) (log_seen l.seat)
+      → LaneEnds script.log l.number.0 script.phases log
+  lane_ends l idle j ready =
+      let first : 1 ≤ number_of l.seat = subst (λ (n : ℕ). 1 ≤ n) (sym idle.number) idle.first in
+      let positive : 0 < number_of l.seat = omega arith in
+      let own : entries_by name_of l.number.0 (reverse log) ≡ own_entries l.seat =
+      subst (λ (n : ℕ). entries_by name_of n (reverse log) ≡ own_entries l.seat) idle.number (j.just (reverse log) goes.joined positive) in
+      let mine : entries_by name_of l.number.0 (history_seen l.seat) ≡ own_entries l.seat =
+      subst (λ (n : ℕ). entries_by name_of n (history_seen l.seat) ≡ own_entries l.seat) idle.number (recalled positive) in
+      let apart : GrowsByOthers script.log l.number.0 (log_seen l.seat) (reverse (reverse log)) =
+      apart_of script.log l.number.0 (history_seen l.seat) (reverse log) (own_entries l.seat) idle.first
+      (prefix_trans (history_seen l.seat) (history_seen t) (reverse log) j.seen goes.seen) mine own
+      (subst (FaultsFit script.log) (sym (reverse-reverse log)) settled.faults) in
+      record {
+        seen = log_seen l.seat;
+        ready = subst (λ (ps : List Phase). LaneReady script.log l.number.0 script.phases ps [] (log_seen l.seat)) (take_all (length script.phases) script.phases (omega arith))
+            (subst (λ (ps : List Phase). LaneReady script.log l.number.0 script.phases (take (length script.phases) script.phases) ps (log_seen l.seat)) (drop_all (length script.phases) script.phases (omega arith)) ready);
+        since = subst (GrowsByOthers script.log l.number.0 (log_seen l.seat)) (reverse-reverse log) apart;
+      }
+    where
+      recalled : 0 < number_of l.seat → entries_by name_of (number_of l.seat) (history_seen l.seat) ≡ own_entries l.seat
+      recalled positive = subst (λ (f : Mark → ℕ). entries_by f (number_of l.seat) (history_seen l.seat) ≡ own_entries l.seat) named (l.seat.recalls positive)
+
+  each_ends : Lane T Mark g → (lane : ℕ) → 1 ≤ lane → lane ≤ 8 → LaneEnds script.log lane script.phases log
+  each_ends d lane low high =
+      let i : ℕ = lane - 1 in
+      let within : i < length ls = let e = done.crew.count in omega arith in
+      let number : (slice_index_or ls i d).number.0 ≡ lane = done.crew.places i d within ∙ (omega arith) in
+      subst (λ (n : ℕ). LaneEnds script.log n script.phases log) number
+      (lane_ends (slice_index_or ls i d) (done.idle i d within) (joined.joined i d (omega arith) within) (done.ready i d within))
+
+  ends_with : Lane T Mark g → LanesEnd script log
+  ends_with d =
+      record {
+        each = each_ends d;
+        others = of_lanes log (λ n beyond. goes.others joined.hub.first n (let e = joined.hub.count in omega arith));
+        settled = settled;
+      }
+
+  first_of : (ms : List (Lane T Mark g)) → length ms ≡ 8 → Lane T Mark g
+  first_of [] e = absurd (omega arith)
+  first_of (l ∷ ms) e = l
+
+  -- so the history serves the script
+  pub script_left : IsInForm script → (h : History) → IsHistoryOf script.nodes log h → Serves script h
+  script_left form h of = script_served script log h (form_of script form) (ends_with (first_of ls done.crew.count)) of
+
+-- what a slice of a vector leaves behind: the vector has it
+pub phases_back : {T X E : Type 0} {g : Ghosts T Mark} (r : Result X E) (logged : Bool) (lock : HistLock T Mark) (phases : List Phase) (k n : ℕ) (s : LaneSeat T Mark g) (ls rest : List (Lane T Mark g))
+    → n ≡ 8 → OnOk r (ArePhasesDone logged lock phases k s ls) → OnOk r (ArePhasesDone logged lock phases k s (take n (ls ++ rest)))
+phases_back (Ok x) logged lock phases k n s ls rest e h =
+    subst (ArePhasesDone logged lock phases k s) (sym (subst (λ (m : ℕ). take m (ls ++ rest) ≡ ls) (h.crew.count ∙ sym e) (take-append_seam ls rest))) h
+phases_back (Err x) logged lock phases k n s ls rest e h = tt
