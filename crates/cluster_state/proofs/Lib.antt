@@ -16,4 +16,4 @@ pub mod PointStands
 mod Lasting
 mod Living
 pub mod Points
-mod Reigning
+pub mod Reigning

@@ -55,8 +55,8 @@ module _ (infos next : Infos) (segs : next.segs ≡ infos.segs) (counter : next.
     live_gen = (let bound = is.live_gen in raised (infos.generation.0 - record_generation r) (next.generation.0 - record_generation r) r.live_gen r.live r.rows (omega (arith, above)) bound);
   }
     where
-      raised : (d e own live rows : ℕ) → d ≤ e → own + live ≤ d * 4294967296 + rows → own + live ≤ e * 4294967296 + rows
-      raised d e own live rows low bound = omega (arith, low, bound)
+      raised : (d e own alive rows : ℕ) → d ≤ e → own + alive ≤ d * 4294967296 + rows → own + alive ≤ e * 4294967296 + rows
+      raised d e own alive rows low bound = omega (arith, low, bound)
 
   pub numbered_next : infos.generation.0 < next.generation.0 → next.generation.0 < 2 ^ 31 → AreNumbered next []
   numbered_next above small = record {
