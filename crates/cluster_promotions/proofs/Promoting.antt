@@ -76,7 +76,7 @@ use Rattle.cluster_state.proofs.Turning.{past_has}
 -- no copy is in flight where no primary runs
 uncopied_step : (size n v : ℕ) (past : Past) (at : At) (e : Event) → KeepsRule size past at e → (primary_of past ≡ None → copy_in_flight n v past ≡ None)
     → primary_by e (primary_of past) ≡ None → copy_by n v at e (primary_of past) (copy_in_flight n v past) ≡ None
-uncopied_step size n v past at (Copying m w) keeps was none = absurd (keeps.primary none)
+uncopied_step size n v past at (Copying m w) keeps was none = absurd (keeps.source none)
 uncopied_step size n v past at (Crashed m) keeps was none = crash (m.0 == n) (is_at (primary_of past) m.0) none
   where
     crash : (b c : Bool) → (if c then None else primary_of past) ≡ None → (if b || c then None else without_at at (copy_in_flight n v past)) ≡ None
@@ -111,14 +111,14 @@ module _ {D : Type 0} (cells : D → Cells) where
   can_promote size log places n g forced legal shows files node up vacant next small low high = record {
     slot = here.at.slot;
     replica = subst (λ (o : Option (Place D)). HasReplica o) (sym here.at.there) tt;
-    can = λ r held there. can r (some_at (Both cells files.source log (λ s. jobs_like places s size) n.0) (place_of places n.0) (record { node = Replica r; held = held }) there (both_of cells log size places shows files n.0 node));
+    can = λ r held there. able r (some_at (Both cells files.source log (λ s. jobs_like places s size) n.0) (place_of places n.0) (record { node = Replica r; held = held }) there (both_of cells log size places shows files n.0 node));
   }
     where
       here : ReplicaHere cells files.source log n.0 places
       here = replica_here cells log size n.0 places shows files node (record { running = up; other = ap (λ (o : Option NodeNo). is_at o n.0) vacant })
 
-      can : {held : Vec Held Global} (r : ReplicaParts D) → Both cells files.source log (λ s. jobs_like places s size) n.0 (record { node = Replica r; held = held }) → CanPromote cells g forced r
-      can r both =
+      able : {held : Vec Held Global} (r : ReplicaParts D) → Both cells files.source log (λ s. jobs_like places s size) n.0 (record { node = Replica r; held = held }) → CanPromote cells g forced r
+      able r both =
           let point = both.1.point in
           let newer : r.infos.generation.0 < g.0 = (let old = point.generation in omega (arith, old, next)) in
           let infos : Infos = promoted_infos r.infos g forced in
@@ -299,8 +299,8 @@ module _ {D : Type 0} (cells : D → Cells) where
             stood : AreSegmentsOf (documents_at past (version_of n.0 past)) both.1.point.stands.segs
             stood =
                 let searched : b.at.parts.searchers.point.version.0 ≡ version_of n.0 past = both.0.node_shows.point.version in
-                let same : b.at.parts.infos.version.0 ≡ version_of n.0 past = sym (ap (λ (w : Version). w.0) both.0.node_shows.whole.point.version) ∙ searched in
-                subst (λ (k : ℕ). AreSegmentsOf (documents_at past k) both.1.point.stands.segs) same both.1.point.stands.stands.stand
+                let equal : b.at.parts.infos.version.0 ≡ version_of n.0 past = sym (ap (λ (w : Version). w.0) both.0.node_shows.whole.point.version) ∙ searched in
+                subst (λ (k : ℕ). AreSegmentsOf (documents_at past k) both.1.point.stands.segs) equal both.1.point.stands.stands.stand
 
             newer : b.at.parts.infos.generation.0 < g.0
             newer = let low = both.1.point.generation in let next = rule.next in omega (arith, low, next)
