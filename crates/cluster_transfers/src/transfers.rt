@@ -18,7 +18,7 @@ use disk_model::FaultDir;
 use history_book::{Book, Inner, Job, JobRow, Start};
 use history_entries::Event;
 use node_jobs::{finish_in, next_in, read_in, take_in};
-use nrt_base::{At, NoMemory, NodeNo};
+use nrt_base::{At, NoMemory, NodeNo, Share};
 use replica_node::laws::{files_last, sourced_stands};
 use std::alloc::Global;
 

@@ -16,7 +16,7 @@ use documents::Op;
 use history_book::Inner;
 use history_entries::Event;
 use index_primary::{FlushTask, FlushWork, PublishFault};
-use nrt_base::{At, Gen, NoMemory, NodeNo};
+use nrt_base::{At, Gen, NoMemory, NodeNo, Share};
 use replica_node::laws::files_last;
 use std::alloc::{AllocError, Global};
 
