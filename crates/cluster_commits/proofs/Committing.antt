@@ -393,18 +393,18 @@ module _ {D : Type 0} (cells : D → Cells) where
 -- ---- in the terms of a call
 
 -- what the book tells of what a node searches
-pub version_at : (r : Run) (ended : Bool) (b0 : Pages) (n : NodeNo) (v : ℕ) → record { ended = ended; nodes = b0.nodes; log = b0.log } ≡ r → v ≡ version_of n.0 (printed b0.log) → v ≡ version_of n.0 (printed r.log)
+pub version_at : (r : Run) (ended : Bool) (b0 : Pages) (n : NodeNo) (v : ℕ) → {left : List ℕ} → record { ended = ended; nodes = b0.nodes; log = b0.log; calls_left = left } ≡ r → v ≡ version_of n.0 (printed b0.log) → v ≡ version_of n.0 (printed r.log)
 version_at r ended b0 n v view is = is ∙ ap (λ (x : Run). version_of n.0 (printed x.log)) view
 
 -- and of a commit that ends
-pub may_at : (r : Run) (ended : Bool) (b0 : Pages) (at : At) (n : NodeNo) (v : Version) → record { ended = ended; nodes = b0.nodes; log = b0.log } ≡ r → MayCommit b0.nodes (printed b0.log) at n v → KeepsRule r.nodes (printed r.log) at (Committed n v)
+pub may_at : (r : Run) (ended : Bool) (b0 : Pages) (at : At) (n : NodeNo) (v : Version) → {left : List ℕ} → record { ended = ended; nodes = b0.nodes; log = b0.log; calls_left = left } ≡ r → MayCommit b0.nodes (printed b0.log) at n v → KeepsRule r.nodes (printed r.log) at (Committed n v)
 may_at r ended b0 at n v view may = subst (λ (x : Run). MayCommit x.nodes (printed x.log) at n v) view may
 
-pub turn_at : (r : Run) (ended : Bool) (b0 b1 : Pages) (at : At) (n : NodeNo) (v : Version) → record { ended = ended; nodes = b0.nodes; log = b0.log } ≡ r → b1.log ≡ b0.log → commit_in_flight n.0 (printed r.log) ≡ Some at → InTurn (printed b1.log) at (Committed n v)
+pub turn_at : (r : Run) (ended : Bool) (b0 b1 : Pages) (at : At) (n : NodeNo) (v : Version) → {left : List ℕ} → record { ended = ended; nodes = b0.nodes; log = b0.log; calls_left = left } ≡ r → b1.log ≡ b0.log → commit_in_flight n.0 (printed r.log) ≡ Some at → InTurn (printed b1.log) at (Committed n v)
 turn_at r ended b0 b1 at n v view e1 flight = record { once = tt; flight = ap (λ (l : Log). commit_in_flight n.0 (printed l)) (e1 ∙ ap (λ (x : Run). x.log) view) ∙ flight }
 
 module _ {D : Type 0} (cells : D → Cells) (r : Run) (ended : Bool) (b0 : Pages) (old : List (Option (Place D))) (at : At) (n : NodeNo)
-    (view : record { ended = ended; nodes = b0.nodes; log = b0.log } ≡ r) (running : r.ended ≡ false) (pair : ended ≡ false → Shows cells b0.log b0.nodes old × FilesShow cells b0.log b0.nodes old)
+    {left : List ℕ} (view : record { ended = ended; nodes = b0.nodes; log = b0.log; calls_left = left } ≡ r) (running : r.ended ≡ false) (pair : ended ≡ false → Shows cells b0.log b0.nodes old × FilesShow cells b0.log b0.nodes old)
     (node : IsNode r.nodes n.0) (up : is_running n.0 (printed r.log) ≡ true) where
   shows : Shows cells r.log r.nodes old
   shows = was cells r ended b0.nodes b0.log old view running (λ e. (pair e).0)
@@ -520,5 +520,5 @@ module _ {D : Type 0} (cells : D → Cells) (r : Run) (ended : Bool) (b0 : Pages
 
     -- ---- what is now
 
-    pub entry_now : (e : Event) (b1 b2 : Pages) → b1.log ≡ b0.log → b1.nodes ≡ b0.nodes → b2.log ≡ shown at e ∷ b1.log → b2.nodes ≡ b1.nodes → IsNow r (record { ended = false; nodes = b2.nodes; log = b2.log }) (shown at e ∷ r.log)
+    pub entry_now : {now : List ℕ} (e : Event) (b1 b2 : Pages) → b1.log ≡ b0.log → b1.nodes ≡ b0.nodes → b2.log ≡ shown at e ∷ b1.log → b2.nodes ≡ b1.nodes → IsNow r (record { ended = false; nodes = b2.nodes; log = b2.log; calls_left = now }) (shown at e ∷ r.log)
     entry_now e b1 b2 e1 n1 e2 n2 = record { running = refl; nodes = size_is b1 b2 n1 n2; log = log_is b1 b2 e e1 e2 }

@@ -195,7 +195,7 @@ module _ {D : Type 0} (cells : D → Cells) where
   -- ---- in the terms of a call
 
   module _ (r : Run) (ended : Bool) (b0 b1 : Pages) (places : List (Option (Place D))) (at : At) (n : NodeNo) (v : Version)
-      (view : record { ended = ended; nodes = b0.nodes; log = b0.log } ≡ r) (running : r.ended ≡ false) (shows : ended ≡ false → Shows cells b0.log b0.nodes places) (files : ended ≡ false → FilesShow cells b0.log b0.nodes places)
+      {left : List ℕ} (view : record { ended = ended; nodes = b0.nodes; log = b0.log; calls_left = left } ≡ r) (running : r.ended ≡ false) (shows : ended ≡ false → Shows cells b0.log b0.nodes places) (files : ended ≡ false → FilesShow cells b0.log b0.nodes places)
       (e1 : b1.log ≡ b0.log) (n1 : b1.nodes ≡ b0.nodes) (fresh : IsFresh at (printed b0.log)) (node : IsNode r.nodes n.0) (replica : IsReplica (printed r.log) n.0) (source : primary_of (printed r.log) ≢ None)
       (reached : version_of n.0 (printed r.log) ≡ newest_version (printed r.log)) (newest : v.0 ≡ newest_version (printed b0.log)) where
     log_same : b1.log ≡ r.log
@@ -247,7 +247,7 @@ module _ {D : Type 0} (cells : D → Cells) where
 
         pub copied_shows : Shows cells b3.log b3.nodes places
         copied_shows =
-            noted cells (record { ended = false; nodes = b2.nodes; log = b2.log }) false b2 b2 b3 places at (Copied n v) refl refl (λ e. shows_between) refl refl e3 n3 later_legal later_turns copied_rule
+            noted cells (record { ended = false; nodes = b2.nodes; log = b2.log; calls_left = left }) false b2 b2 b3 places at (Copied n v) refl refl (λ e. shows_between) refl refl e3 n3 later_legal later_turns copied_rule
             (not_flying b2.nodes (printed b2.log) at later_legal later_turns copy_line) (λ p m. refl) (λ m. refl)
 
         pub copied_files : FilesShow cells b3.log b3.nodes places

@@ -46,13 +46,13 @@ pub step_does : (at : At) (n : NodeNo) (v : Version) (old new : Run) (turn : Tur
 step_does at n v old new (Work made) last turns steps = none_does (Commit n) at old new steps.0
 step_does at n v old new Done last turns steps =
     answered_does (Commit n) at old new (is_lost (printed old.log) (before_start at (printed old.log)) (Committing n v)) (Committing n v) (Committed n v) last
-    (started_unanswered at (printed old.log) (Committing n v) turns refl last) (λ suits. suits) refl refl steps
+    (started_unanswered at (printed old.log) (Committing n v) turns refl last) (λ suits. suits) refl refl steps.0
 step_does at n v old new Busy last turns steps = absurd steps
 
 pub step_replied : (at : At) (n : NodeNo) (v : Version) (old new : Run) (turn : Turn (Unit {0})) → CommitSteps at n v old new turn → IsRepliedAtDone at new turn
 step_replied at n v old new (Work made) steps = tt
 step_replied at n v old new Done steps =
-    one_replied at old new (commit_end_event at n v (printed old.log)) (lost_reply (is_lost (printed old.log) (before_start at (printed old.log)) (Committing n v)) (Committed n v) refl) steps
+    one_replied at old new (commit_end_event at n v (printed old.log)) (lost_reply (is_lost (printed old.log) (before_start at (printed old.log)) (Committing n v)) (Committed n v) refl) steps.0
 step_replied at n v old new Busy steps = absurd steps
 
 -- ---- crashes and reopenings

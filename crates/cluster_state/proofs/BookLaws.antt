@@ -34,13 +34,13 @@ primary_node size [] p some legal is = let same : ◌≡◌ {A = NodeNo} (record
 primary_node size (e ∷ past) p some legal is = primary_step size past e.at e.event p legal.0 (λ was. primary_node size past p some legal.1 was) is
 
 -- the publish in flight is not that of a line which did not start as one
-pub apart_of : (r : Run) (ended : Bool) (b : Pages) (at : At) → record { ended = ended; nodes = b.nodes; log = b.log } ≡ r → IsLegalPast b.nodes (printed b.log) → AreInTurn (printed b.log)
+pub apart_of : (r : Run) (ended : Bool) (b : Pages) (at : At) → {left : List ℕ} → record { ended = ended; nodes = b.nodes; log = b.log; calls_left = left } ≡ r → IsLegalPast b.nodes (printed b.log) → AreInTurn (printed b.log)
     → start_entry at (printed r.log) ≢ Some Publishing → publish_in_flight (printed r.log) ≢ Some at
 apart_of r ended b at view legal turns line = not_flying r.nodes (printed r.log) at (subst (λ (x : Run). IsLegalPast x.nodes (printed x.log)) view legal) (past_has AreInTurn r ended b view turns) line
 
 -- the primary of the book is a node
 pub primary_is_node : {D : Type 0} (cells : D → Cells) (r : Run) (ended : Bool) (b : Pages) (places : List (Option (Place D))) (o : Option NodeNo)
-    → record { ended = ended; nodes = b.nodes; log = b.log } ≡ r → r.ended ≡ false → (ended ≡ false → Shows cells b.log b.nodes places)
+    → {left : List ℕ} → record { ended = ended; nodes = b.nodes; log = b.log; calls_left = left } ≡ r → r.ended ≡ false → (ended ≡ false → Shows cells b.log b.nodes places)
     → IsLegalPast b.nodes (printed b.log) → o ≡ primary_of (printed b.log) → IfSome o (λ p. IsNode r.nodes p.0)
 primary_is_node cells r ended b places None view running shows legal is = tt
 primary_is_node cells r ended b places (Some p) view running shows legal is =

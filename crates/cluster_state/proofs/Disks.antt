@@ -105,7 +105,7 @@ module _ (past : Past) (at : At) (n : ℕ) where
   }
 
 -- in the terms of a call
-pub none_flying : (r : Run) (ended : Bool) (b : Pages) (at : At) → record { ended = ended; nodes = b.nodes; log = b.log } ≡ r → IsLegalPast b.nodes (printed b.log) → AreInTurn (printed b.log) → is_commit_line (start_entry at (printed r.log)) ≡ false
+pub none_flying : (r : Run) (ended : Bool) (b : Pages) (at : At) → {left : List ℕ} → record { ended = ended; nodes = b.nodes; log = b.log; calls_left = left } ≡ r → IsLegalPast b.nodes (printed b.log) → AreInTurn (printed b.log) → is_commit_line (start_entry at (printed r.log)) ≡ false
     → (m : ℕ) → commit_in_flight m (printed r.log) ≢ Some at
 none_flying r ended b at view legal turns line = no_commit r.nodes (printed r.log) at (subst (λ (x : Run). IsLegalPast x.nodes (printed x.log)) view legal) (subst (λ (x : Run). AreInTurn (printed x.log)) view turns) line
 

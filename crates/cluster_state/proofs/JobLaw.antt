@@ -25,7 +25,7 @@ module _ {D : Type 0} (cells : D → Cells) where
           let known = shows.point.known in
           omega (arith, known, shows.version)
 
-  pub job_below : (r : Run) (ended : Bool) (b : Pages) (places : List (Option (Place D))) (n : ℕ) → record { ended = ended; nodes = b.nodes; log = b.log } ≡ r
+  pub job_below : (r : Run) (ended : Bool) (b : Pages) (places : List (Option (Place D))) (n : ℕ) → {left : List ℕ} → record { ended = ended; nodes = b.nodes; log = b.log; calls_left = left } ≡ r
       → (ended ≡ false → Shows cells b.log b.nodes places × FilesShow cells b.log b.nodes places) → r.ended ≡ false → IsNode r.nodes n → IsReplica (printed r.log) n
       → IfSome (job_at n r.log) (λ job. job.version.0 ≤ newest_version (printed r.log))
   job_below r ended b places n view both =

@@ -27,8 +27,14 @@ impl<D: FaultDir> Model for ClusterState<D> {
 
     ghost use Rattle.cluster_state.specs.State.{Shows};
     ghost use Rattle.cluster_state.specs.Files.{FilesShow};
+    ghost use Rattle.cluster_state.specs.CallsLeft.{calls_in};
 
-    ghost view = { λ c. record { ended = c.ended; nodes = c.book.nodes; log = c.book.log } };
+    ghost view = { λ c. record {
+      ended = c.ended;
+      nodes = c.book.nodes;
+      log = c.book.log;
+      calls_left = calls_in c.places.items;
+    } };
 
     ghost invariant = { λ c. c.ended ≡ false → Shows D.cells c.book.log c.book.nodes c.places.items
         × FilesShow D.cells c.book.log c.book.nodes c.places.items };

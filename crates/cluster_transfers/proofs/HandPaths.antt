@@ -71,7 +71,7 @@ module _ {D : Type 0} (cells : D → Cells) where
 
   -- ---- in the terms of a call
 
-  module _ (r : Run) (ended : Bool) (b0 : Pages) (places : List (Option (Place D))) (row : JobRow) (view : record { ended = ended; nodes = b0.nodes; log = b0.log } ≡ r) (running : r.ended ≡ false)
+  module _ (r : Run) (ended : Bool) (b0 : Pages) (places : List (Option (Place D))) (row : JobRow) {left : List ℕ} (view : record { ended = ended; nodes = b0.nodes; log = b0.log; calls_left = left } ≡ r) (running : r.ended ≡ false)
       (pair : ended ≡ false → Shows cells b0.log b0.nodes places × FilesShow cells b0.log b0.nodes places) (runs : JobRuns r.log row) (lane : LaneJobShows b0.nodes (printed b0.log) row) (replica : IsReplica (printed b0.log) row.job.node.0) where
     same_log : b0.log ≡ r.log
     same_log = ap (λ (x : Run). x.log) view

@@ -1,5 +1,5 @@
 -- How the line of a job started, and that a primary runs while it goes on.
-use Rattle.std.proofs.Common.{◌≡◌, ◌≢◌, ℕ, Bool, Some, None, refl, ap, ◌∙◌, sym, subst}
+use Rattle.std.proofs.Common.{List, ◌≡◌, ◌≢◌, ℕ, Bool, Some, None, refl, ap, ◌∙◌, sym, subst}
 use Rattle.nrt_base.specs.declared.numbers.At.{At}
 use Rattle.history_entries.specs.Nodes.{Past, primary_of}
 use Rattle.history_entries.specs.Lines.{start_entry, SourceSurvives}
@@ -26,7 +26,7 @@ pub start_is : (at : At) (past : Past) (b : Begun) (s : Start) → open_line at 
 start_is at past b s is same = (open_started at past b is).entry ∙ ap (λ (x : Start). Some (event_of x)) same
 
 -- the same in the terms of a call
-pub source_ends : {X : Type 0} (r : Run) (ended : Bool) (b : Pages) (row : JobRow) → record { ended = ended; nodes = b.nodes; log = b.log } ≡ r → IsLegalPast b.nodes (printed b.log) → LaneJobShows b.nodes (printed b.log) row
+pub source_ends : {X : Type 0} (r : Run) (ended : Bool) (b : Pages) (row : JobRow) → {left : List ℕ} → record { ended = ended; nodes = b.nodes; log = b.log; calls_left = left } ≡ r → IsLegalPast b.nodes (printed b.log) → LaneJobShows b.nodes (printed b.log) row
     → SourceSurvives (printed r.log) row.job.at → primary_of (printed r.log) ≡ None → X
 source_ends r ended b row view legal s source none =
     let log : b.log ≡ r.log = ap (λ (x : Run). x.log) view in

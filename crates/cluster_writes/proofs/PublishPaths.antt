@@ -58,7 +58,7 @@ on_err {T} {E} {P} r e is holds = subst (λ (q : Result T E). OnErr q P) is hold
 
 -- ---- rules
 
-pub may_accept : (r : Run) (ended : Bool) (b : Pages) (at : At) (p : NodeNo) (seq : ℕ) (op : Op) → record { ended = ended; nodes = b.nodes; log = b.log } ≡ r
+pub may_accept : (r : Run) (ended : Bool) (b : Pages) (at : At) (p : NodeNo) (seq : ℕ) (op : Op) → {left : List ℕ} → record { ended = ended; nodes = b.nodes; log = b.log; calls_left = left } ≡ r
     → IsFresh at (printed b.log) → primary_of (printed r.log) ≡ Some p → seq ≡ accepted_count (printed b.log) + 1 → KeepsRule r.nodes (printed r.log) at (Accepted seq op)
 may_accept r ended b at p seq op view fresh primary next = record {
   running = λ none. some_none (sym primary ∙ none);
@@ -79,7 +79,7 @@ may_start r at p primary free some = record {
     some_none : Some p ≡ None → ⊥
     some_none is = absurd (cc)
 
-pub may_publish : (r : Run) (ended : Bool) (b : Pages) (at : At) (g : Gen) (v : Version) → record { ended = ended; nodes = b.nodes; log = b.log } ≡ r
+pub may_publish : (r : Run) (ended : Bool) (b : Pages) (at : At) (g : Gen) (v : Version) → {left : List ℕ} → record { ended = ended; nodes = b.nodes; log = b.log; calls_left = left } ≡ r
     → IsLegalPast b.nodes (printed b.log) → AreInTurn (printed b.log) → publish_in_flight (printed r.log) ≡ Some at → Flying (printed b.log) at
     → g.0 ≡ generation_of (printed b.log) → v.0 ≡ newest_version (printed b.log) + 1 → KeepsRule r.nodes (printed r.log) at (Published g v)
 may_publish r ended b at g v view legal turns flight flying present next =
@@ -95,9 +95,9 @@ may_publish r ended b at g v view legal turns flight flying present next =
     }
 
 -- a publish has ended
-pub ends_now : (r : Run) (ended : Bool) (b0 b1 b2 : Pages) (at : At) (g : Gen) (v : Version) → record { ended = ended; nodes = b0.nodes; log = b0.log } ≡ r
+pub ends_now : (r : Run) {now : List ℕ} (ended : Bool) (b0 b1 b2 : Pages) (at : At) (g : Gen) (v : Version) → {left : List ℕ} → record { ended = ended; nodes = b0.nodes; log = b0.log; calls_left = left } ≡ r
     → b1.log ≡ b0.log → b1.nodes ≡ b0.nodes → b2.log ≡ shown at (Published g v) ∷ b1.log → b2.nodes ≡ b1.nodes → g.0 ≡ generation_of (printed b0.log) → v.0 ≡ newest_version (printed b0.log) + 1
-    → IsNow r (record { ended = false; nodes = b2.nodes; log = b2.log }) (shown at (Published (record { 0 = generation_of (printed r.log) }) (record { 0 = newest_version (printed r.log) + 1 })) ∷ r.log)
+    → IsNow r (record { ended = false; nodes = b2.nodes; log = b2.log; calls_left = now }) (shown at (Published (record { 0 = generation_of (printed r.log) }) (record { 0 = newest_version (printed r.log) + 1 })) ∷ r.log)
 ends_now r ended b0 b1 b2 at g v view e1 n1 e2 n2 present next =
     let gen : g.0 ≡ generation_of (printed r.log) = past_has (λ p. g.0 ≡ generation_of p) r ended b0 view present in
     let version : v.0 ≡ newest_version (printed r.log) + 1 = past_has (λ p. v.0 ≡ newest_version p + 1) r ended b0 view next in
@@ -111,7 +111,7 @@ module _ {D : Type 0} (cells : D → Cells) where
   -- ---- the primary, taken out of its place
 
   module _ (r : Run) (ended : Bool) (b : Pages) (places : List (Option (Place D))) (n : NodeNo) (x : Place D)
-      (view : record { ended = ended; nodes = b.nodes; log = b.log } ≡ r) (running : r.ended ≡ false) (shows : ended ≡ false → Shows cells b.log b.nodes places)
+      {left : List ℕ} (view : record { ended = ended; nodes = b.nodes; log = b.log; calls_left = left } ≡ r) (running : r.ended ≡ false) (shows : ended ≡ false → Shows cells b.log b.nodes places)
       (node : IsNode r.nodes n.0) (there : place_of places n.0 ≡ Some x) where
     pub primary_stands : primary_of (printed r.log) ≡ Some n → HasPrimary (Some x)
     primary_stands primary = has_primary cells r.log n.0 x (primary_there (primary_of (printed r.log)) n primary) (place_at cells r ended b.nodes n.0 b.log places x view running shows node there)
@@ -159,9 +159,9 @@ module _ {D : Type 0} (cells : D → Cells) where
       next_fits newest is below = let same = past_has (λ q. newest ≡ newest_version q) r ended b view is in let version = primary_at.writer.version in omega (arith, same, version, below)
 
       -- what is handed out stands in the log
-      pub hands_out : (b1 b2 b3 : Pages) (at : At) (task : FlushTask) (segs : List Shown) → b1.log ≡ b.log → b1.nodes ≡ b.nodes → b2.log ≡ shown at Publishing ∷ b1.log → b2.nodes ≡ b1.nodes
+      pub hands_out : {now : List ℕ} (b1 b2 b3 : Pages) (at : At) (task : FlushTask) (segs : List Shown) → b1.log ≡ b.log → b1.nodes ≡ b.nodes → b2.log ≡ shown at Publishing ∷ b1.log → b2.nodes ≡ b1.nodes
           → b3.log ≡ kept (FlushOut at task.seg segs) ∷ b2.log → b3.nodes ≡ b2.nodes → IsFresh at (printed b.log) → segs ≡ task.segs → IsTaskOf p task
-          → HandsFlush at r (record { ended = false; nodes = b3.nodes; log = b3.log }) task
+          → HandsFlush at r (record { ended = false; nodes = b3.nodes; log = b3.log; calls_left = now }) task
       hands_out b1 b2 b3 at task segs e1 n1 e2 n2 e3 n3 fresh same t = record {
         now = record { running = refl; nodes = n3 ∙ (n2 ∙ (n1 ∙ nodes_is r ended b view)); log = log };
         out = ap (flush_out at) log ∙ (ap (λ (o : Option Handed). or_older o (if same_at at at then Some mine else None)) none ∙ ap (λ (c : Bool). if c then Some mine else None) (same_at_self at));
@@ -181,7 +181,7 @@ module _ {D : Type 0} (cells : D → Cells) where
 
   -- a place that was taken out and put back as it was
   pub back_path : (r : Run) (ended : Bool) (b0 b1 : Pages) (old mid new : List (Option (Place D))) (n : ℕ) (x : Place D) (p q : PrimaryParts D) (held : Vec Held Global)
-      → record { ended = ended; nodes = b0.nodes; log = b0.log } ≡ r → r.ended ≡ false → (ended ≡ false → Shows cells b0.log b0.nodes old)
+      → {left : List ℕ} → record { ended = ended; nodes = b0.nodes; log = b0.log; calls_left = left } ≡ r → r.ended ≡ false → (ended ≡ false → Shows cells b0.log b0.nodes old)
       → b1.log ≡ b0.log → b1.nodes ≡ b0.nodes → PutsBack cells old mid new n (record { node = Primary q; held = held }) → place_of old n ≡ Some x → x ≡ record { node = Primary p; held = held } → q ≡ p
       → Shows cells b1.log b1.nodes new
   back_path r ended b0 b1 old mid new n x p q held view running shows e1 n1 put there is same =
@@ -210,7 +210,7 @@ module _ {D : Type 0} (cells : D → Cells) where
   -- ---- what each path leaves
 
   pub accept_path : (r : Run) (ended : Bool) (b0 b1 b2 : Pages) (old mid new : List (Option (Place D))) (at : At) (n : NodeNo) (seq : ℕ) (op copy : Op) (x : Place D) (p q : PrimaryParts D) (held : Vec Held Global)
-      → record { ended = ended; nodes = b0.nodes; log = b0.log } ≡ r → r.ended ≡ false → (ended ≡ false → Shows cells b0.log b0.nodes old)
+      → {left : List ℕ} → record { ended = ended; nodes = b0.nodes; log = b0.log; calls_left = left } ≡ r → r.ended ≡ false → (ended ≡ false → Shows cells b0.log b0.nodes old)
       → b1.log ≡ b0.log → b1.nodes ≡ b0.nodes → b2.log ≡ shown at (Accepted seq op) ∷ b1.log → b2.nodes ≡ b1.nodes → IsLegalPast b1.nodes (printed b1.log) → AreInTurn (printed b1.log)
       → IsFresh at (printed b0.log) → KeepsRule r.nodes (printed r.log) at (Accepted seq op) → IsNode r.nodes n.0 → primary_of (printed r.log) ≡ Some n
       → PutsBack cells old mid new n.0 (record { node = Primary q; held = held }) → place_of old n.0 ≡ Some x → x ≡ record { node = Primary p; held = held }
@@ -223,7 +223,7 @@ module _ {D : Type 0} (cells : D → Cells) where
       (subst (λ (o : Op). q ≡ record p { waiting = p.waiting ++ o ∷ []; accepted = p.accepted + 1 }) same next) whole (subst (PlaceShows cells r.log n.0) is was))
 
   pub start_path : (r : Run) (ended : Bool) (b0 b1 b2 b3 : Pages) (old mid new : List (Option (Place D))) (at : At) (n : NodeNo) (seg : Option SegNo) (segs : List Shown) (x : Place D) (p q : PrimaryParts D) (held : Vec Held Global)
-      → record { ended = ended; nodes = b0.nodes; log = b0.log } ≡ r → r.ended ≡ false → (ended ≡ false → Shows cells b0.log b0.nodes old)
+      → {left : List ℕ} → record { ended = ended; nodes = b0.nodes; log = b0.log; calls_left = left } ≡ r → r.ended ≡ false → (ended ≡ false → Shows cells b0.log b0.nodes old)
       → b1.log ≡ b0.log → b1.nodes ≡ b0.nodes → b2.log ≡ shown at Publishing ∷ b1.log → b2.nodes ≡ b1.nodes → IsLegalPast b1.nodes (printed b1.log) → AreInTurn (printed b1.log)
       → b3.log ≡ kept (FlushOut at seg segs) ∷ b2.log → b3.nodes ≡ b2.nodes
       → IsFresh at (printed b0.log) → KeepsRule r.nodes (printed r.log) at Publishing → IsNode r.nodes n.0 → primary_of (printed r.log) ≡ Some n
@@ -235,7 +235,7 @@ module _ {D : Type 0} (cells : D → Cells) where
       (λ all order out was. started_place cells r.nodes r.log at seg segs n.0 p q held all keeps out same next whole (subst (PlaceShows cells r.log n.0) is was))
 
   pub end_path : (r : Run) (ended : Bool) (b0 b1 b2 : Pages) (old mid new : List (Option (Place D))) (at : At) (n : NodeNo) (g : Gen) (v : Version) (x : Place D) (p q : PrimaryParts D) (work : FlushWork) (held : Vec Held Global)
-      → record { ended = ended; nodes = b0.nodes; log = b0.log } ≡ r → r.ended ≡ false → (ended ≡ false → Shows cells b0.log b0.nodes old)
+      → {left : List ℕ} → record { ended = ended; nodes = b0.nodes; log = b0.log; calls_left = left } ≡ r → r.ended ≡ false → (ended ≡ false → Shows cells b0.log b0.nodes old)
       → b1.log ≡ b0.log → b1.nodes ≡ b0.nodes → b2.log ≡ shown at (Published g v) ∷ b1.log → b2.nodes ≡ b1.nodes → IsLegalPast b1.nodes (printed b1.log) → AreInTurn (printed b1.log)
       → KeepsRule r.nodes (printed r.log) at (Published g v) → publish_in_flight (printed r.log) ≡ Some at → IsNode r.nodes n.0 → primary_of (printed r.log) ≡ Some n
       → PutsBack cells old mid new n.0 (record { node = Primary q; held = held }) → place_of old n.0 ≡ Some x → x ≡ record { node = Primary p; held = held }

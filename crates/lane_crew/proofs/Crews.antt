@@ -1,6 +1,6 @@
 -- A phase of all lanes, and phase after phase.
-use Rattle.std.proofs.Common.{◌≡◌, ℕ, ◌+◌, ◌<◌, ◌≤◌, Bool, true, false, List, [], ◌∷◌, refl, ap, ◌∙◌, sym, subst, arith, length, take, drop, get_or, inl, inr}
-use Rattle.std.specs.Prelude.{slice_index_or, ◌-◌, IsTrue}
+use Rattle.std.proofs.Common.{◌≡◌, ℕ, ◌+◌, ◌<◌, ◌≤◌, Bool, true, false, List, ap, ◌∙◌, sym, subst, arith, length, take, drop, get_or, inl, inr}
+use Rattle.std.specs.Prelude.{slice_index_or, ◌-◌}
 use Rattle.std.specs.List.{list_all}
 use Rattle.std.proofs.lemmas.Bool.Decides.{eqb_tells}
 use Rattle.std.proofs.lemmas.List.{get_or_default}
@@ -14,9 +14,9 @@ use Rattle.hist_lock.specs.declared.grows.Grows.{Ghosts}
 use Rattle.hist_lock.specs.declared.lock.HistLock.{HistLock}
 use Rattle.hist_lock.specs.declared.lock.LaneSeat.{LaneSeat}
 use Rattle.history_book.specs.declared.inner.Mark.{Mark}
-use Rattle.history_book.specs.Log.{Log, printed}
+use Rattle.history_book.specs.Log.{printed}
 use Rattle.lane_walks.specs.Walks.{GrowsByOthers}
-use Rattle.lane_walks.specs.Phases.{lines_in, ArePhasesInForm, LaneReady, PhaseDone, HasRanPart}
+use Rattle.lane_walks.specs.Phases.{lines_in, ArePhasesInForm, LaneReady, HasRanPart}
 use Rattle.lane_walks.proofs.PhaseLemmas.{part_of, part_fresh, ready_after}
 use Rattle.lane_walks.proofs.ScriptLemmas.{phase_done}
 use Rattle.lane_seats.specs.Seats.{log_seen, IsLaneSeat}

@@ -1,5 +1,5 @@
 -- What all lanes have done once their seats are joined and the lock is closed.
-use Rattle.std.proofs.Common.{◌≡◌, ℕ, ◌+◌, ◌<◌, ◌≤◌, Bool, List, [], ◌∷◌, ◌++◌, refl, ap, ◌∙◌, sym, subst, arith, reverse, length, take, drop}
+use Rattle.std.proofs.Common.{◌≡◌, ℕ, ◌+◌, ◌<◌, ◌≤◌, Bool, List, [], ◌∷◌, ◌++◌, ◌∙◌, sym, subst, arith, reverse, length, take, drop}
 use Rattle.std.specs.Prelude.{slice_index_or, ◌-◌, Result, Ok, Err, OnOk}
 use Rattle.std.proofs.lemmas.List.{reverse-reverse, take_all, drop_all}
 use Rattle.std.proofs.Math.Seq.{take-append_seam}
@@ -12,7 +12,7 @@ use Rattle.history_entries.specs.declared.entry.History.{History}
 use Rattle.hist_lock.specs.declared.grows.Grows.{Ghosts}
 use Rattle.hist_lock.specs.declared.lock.HistLock.{HistLock}
 use Rattle.hist_lock.specs.declared.lock.LaneSeat.{LaneSeat}
-use Rattle.hist_lock.specs.History.{Each, HasJust, Continues, entries_by}
+use Rattle.hist_lock.specs.History.{Continues, entries_by}
 use Rattle.hist_lock.specs.Seats.{history_seen, number_of, own_entries, view_of}
 use Rattle.hist_lock.proofs.Histories.{prefix_trans}
 use Rattle.history_book.specs.declared.inner.Mark.{Mark}

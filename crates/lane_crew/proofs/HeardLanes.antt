@@ -1,7 +1,6 @@
 -- What lanes and the first seat hear of each other.
-use Rattle.std.proofs.Common.{◌≡◌, ◌≢◌, ℕ, ◌+◌, ◌<◌, ◌≤◌, Bool, true, false, List, [], ◌∷◌, ◌++◌, refl, ap, ◌∙◌, sym, subst, arith, append_assoc, reverse, length, set, inl, inr}
+use Rattle.std.proofs.Common.{◌≡◌, ◌≢◌, ℕ, ◌+◌, ◌<◌, ◌≤◌, Bool, List, [], ◌++◌, refl, ap, ◌∙◌, sym, subst, arith, reverse, length, set, inl, inr}
 use Rattle.std.specs.Prelude.{slice_index_or}
-use Rattle.std.specs.List.{AllByRecursion}
 use Rattle.std.proofs.lemmas.Bool.Decides.{eqb_tells}
 use Rattle.std.proofs.lemmas.List.{get_or_default, length-set, reverse-append}
 use mathlib.Core.List.{IsPrefix}
@@ -19,7 +18,7 @@ use Rattle.lane_walks.proofs.WalkLemmas.{includes_then, log_then}
 use Rattle.lane_seats.specs.Seats.{log_seen, IsLaneSeat}
 use Rattle.lane_seats.proofs.SeatLemmas.{all-append, told_apart, longer_faults}
 use Rattle.lane_crew.specs.declared.lane.Lane.{Lane}
-use Rattle.lane_crew.specs.Lanes.{EachLane, EachChange, IsIdleLane, HasHeard, IsFirstSeat, IsHubSeat, HubHears, HubTells, EachIncluded, EachIncludes, AllIncluded}
+use Rattle.lane_crew.specs.Lanes.{EachLane, EachChange, IsIdleLane, HasHeard, IsHubSeat, HubHears, HubTells, EachIncluded, EachIncludes, AllIncluded}
 use Rattle.lane_crew.proofs.Places.{by_place}
 
 included : (seen found : List Mark) → IsPrefix seen found → Includes (reverse seen) (reverse found)

@@ -1,13 +1,11 @@
 -- The seats of the lanes at the beginning and at the end.
-use Rattle.std.proofs.Common.{◌≡◌, ℕ, ◌+◌, ◌<◌, ◌≤◌, Bool, List, [], ◌∷◌, ◌++◌, refl, ap, ◌∙◌, sym, subst, arith, reverse, length, take, inl, inr}
+use Rattle.std.proofs.Common.{◌≡◌, ℕ, ◌+◌, ◌<◌, Bool, List, [], ◌∷◌, ◌++◌, refl, ap, ◌∙◌, sym, subst, arith, reverse, length, take, inl, inr}
 use Rattle.std.specs.Prelude.{slice_index_or}
 use Rattle.std.proofs.lemmas.Bool.Decides.{eqb_tells}
 use Rattle.std.proofs.lemmas.List.{length-append, take_all}
 use mathlib.Core.List.{IsPrefix}
-use Rattle.nrt_base.specs.declared.numbers.LaneNo.{LaneNo}
 use Rattle.script_serving.specs.declared.script.Phase.{Phase}
 use Rattle.hist_lock.specs.declared.grows.Grows.{Ghosts}
-use Rattle.hist_lock.specs.declared.view.JoinedSeat.{JoinedSeat}
 use Rattle.hist_lock.specs.declared.lock.HistLock.{HistLock}
 use Rattle.hist_lock.specs.declared.lock.LaneSeat.{LaneSeat}
 use Rattle.hist_lock.specs.History.{Each, HasJust, HasBoth}
@@ -18,9 +16,9 @@ use Rattle.history_book.specs.Log.{name_of}
 use Rattle.lane_walks.specs.Owes.{FaultsFit}
 use Rattle.lane_walks.specs.Phases.{LaneReady}
 use Rattle.lane_walks.proofs.PhaseLemmas.{ready_first}
-use Rattle.lane_seats.specs.Seats.{log_seen, IsLaneSeat}
+use Rattle.lane_seats.specs.Seats.{log_seen}
 use Rattle.lane_crew.specs.declared.lane.Lane.{Lane}
-use Rattle.lane_crew.specs.Lanes.{EachLane, AreCrew, IsIdleLane, IsFirstSeat, IsHubSeat, IsCrewMade, ArePhasesDone, IsJoined, AreJoined}
+use Rattle.lane_crew.specs.Lanes.{IsIdleLane, IsCrewMade, ArePhasesDone, IsJoined, AreJoined}
 use Rattle.lane_crew.proofs.Places.{at_snoc, take_last}
 
 -- before anything happened no fault is out of order

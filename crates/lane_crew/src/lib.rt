@@ -8,6 +8,8 @@ pub mod part;
 pub mod phase;
 pub mod script;
 pub mod seating;
+#[cfg(test)]
+mod tests;
 
 pub use halt::Halt;
 pub use lane::{Lane, RunsLines};

@@ -5,7 +5,7 @@ use Rattle.std.specs.List.{AllByRecursion}
 use Rattle.std.proofs.lemmas.List.{append-nil, append_cancel_left, reverse-append, reverse-reverse}
 use Rattle.std.proofs.lemmas.List.Elements.{filter-append}
 use Rattle.std.proofs.lemmas.Bool.{cases_lt}
-use Rattle.std.proofs.lemmas.Bool.Decides.{nat_tests, eqb_tells}
+use Rattle.std.proofs.lemmas.Bool.Decides.{eqb_tells}
 use mathlib.Core.List.{IsPrefix}
 use Rattle.nrt_base.specs.declared.numbers.At.{At}
 use Rattle.history_entries.specs.Lines.{is_answered}
@@ -22,9 +22,9 @@ use Rattle.history_book.specs.declared.inner.Mark.{Mark}
 use Rattle.history_book.specs.declared.inner.Mark.TheVariants.{Shown, TaskFault, Kept}
 use Rattle.history_book.specs.Log.{Log, printed, name_of, lane_name}
 use Rattle.lane_walks.specs.Owes.{AddsEntries, GoesByLine, FaultsFit, IsSettledLog}
-use Rattle.lane_walks.specs.Walks.{GrowsByOthers, LineGoes, LineRan}
+use Rattle.lane_walks.specs.Walks.{GrowsByOthers, LineGoes}
 use Rattle.lane_walks.specs.Phases.{AreOfLanes}
-use Rattle.lane_walks.proofs.WalkLemmas.{lane_self, adds_faults, apart_goes, call_goes, goes_then}
+use Rattle.lane_walks.proofs.WalkLemmas.{lane_self, apart_goes, call_goes, goes_then}
 use Rattle.lane_walks.proofs.StayLemmas.{line_stays}
 use Rattle.lane_seats.specs.Seats.{log_seen, IsLaneSeat, HasEntered, TakesLineOn, EndsItsLine}
 

@@ -1,5 +1,5 @@
 -- What a lane's seat has seen of the entries of a run, and what a section of one line did.
-use Rattle.std.specs.Prelude.{ℕ, ◌≡◌, ◌+◌, ◌≤◌, [], Bool, false, reverse}
+use Rattle.std.specs.Prelude.{ℕ, ◌≡◌, ◌+◌, ◌≤◌, [], Bool, reverse}
 use Rattle.nrt_base.specs.declared.numbers.At.{At}
 use Rattle.script_serving.specs.declared.script.LineCommand.{LineCommand}
 use Rattle.hist_lock.specs.declared.grows.Grows.{Ghosts}

@@ -93,14 +93,17 @@ module _ (at : At) (n : NodeNo) (v : Version) (old new : Run) where
   Survives = crashes n.0 (printed old.log) == crashes n.0 (before_start at (printed old.log))
 
   pub lost_ends : Survives ≡ false → LineRefused at Lost old new → CommitSteps at n v old new Done
-  lost_ends crashed now = subst (λ (b : Bool). IsNow old new (shown at (if not b then Refused Lost else Committed n v) ∷ old.log)) (sym crashed) now
+  lost_ends crashed now = (
+    subst (λ (b : Bool). IsNow old new (shown at (if not b then Refused Lost else Committed n v) ∷ old.log)) (sym crashed) now,
+    λ alive. absurd (true≢false (sym (ap not crashed) ∙ alive)),
+  )
 
   pub commit_done : Survives ≡ true → (b : Bool) → b ≡ true → StepsCommit at n v old new b → CommitSteps at n v old new Done
-  commit_done alive true is now = subst (λ (b : Bool). IsNow old new (shown at (if not b then Refused Lost else Committed n v) ∷ old.log)) (sym alive) now
+  commit_done alive true is now = (subst (λ (b : Bool). IsNow old new (shown at (if not b then Refused Lost else Committed n v) ∷ old.log)) (sym alive) now.0, λ here. now.1)
   commit_done alive false is now = absurd (true≢false (sym is))
 
   pub commit_goes_on : Survives ≡ true → (b : Bool) → b ≡ false → StepsCommit at n v old new b → CommitSteps at n v old new (Work tt)
-  commit_goes_on alive false is now = (now, ap not alive)
+  commit_goes_on alive false is now = (now.0, ap not alive, now.1)
   commit_goes_on alive true is now = absurd (true≢false is)
 
 -- ---- a reopening

@@ -14,8 +14,8 @@ use Rattle.history_book.specs.Laws.{may_find}
 use Rattle.history_book.specs.Log.{printed, shown}
 use Rattle.script_serving.specs.Refusals.{when, without_node}
 use Rattle.cluster_places.specs.declared.tasks.CommitTask.{CommitTask}
-use Rattle.cluster_state.specs.Run.{Run, IsNow}
-use Rattle.cluster_state.specs.Lives.{BeginsCommit}
+use Rattle.cluster_state.specs.Run.{Run, calls_at, IsNow}
+use Rattle.cluster_state.specs.Lives.{BeginsCommit, MakesCall}
 use Rattle.line_turns.specs.declared.turn.Turn.{Turn}
 use Rattle.line_turns.specs.declared.turn.Turn.TheVariants.{Work, Done, Busy}
 use Rattle.line_turns.specs.Calls.{by_refusal, IsRefusedFor}
@@ -30,10 +30,11 @@ CommitStarts at n old new Busy = (new ≡ old) × (is_running n.0 (printed old.l
 abbrev pub commit_end_event : At → NodeNo → Version → Past → Event
 commit_end_event at n v past = if is_lost past (before_start at past) (Committing n v) then Refused Lost else Committed n v
 
--- a disk call of a commit was made that is not its last, while its node has not crashed; or the commit has ended
+-- a disk call of a commit was made that is not its last, while its node has not crashed; or the commit has ended, acknowledged with its last call
 abbrev pub CommitSteps : At → NodeNo → Version → Run → Run → Turn (Unit {0}) → Type 0
-CommitSteps at n v old new (Work made) = IsNow old new old.log × (is_lost (printed old.log) (before_start at (printed old.log)) (Committing n v) ≡ false)
+CommitSteps at n v old new (Work made) = IsNow old new old.log × (is_lost (printed old.log) (before_start at (printed old.log)) (Committing n v) ≡ false) × MakesCall n.0 old new
 CommitSteps at n v old new Done = IsNow old new (shown at (commit_end_event at n v (printed old.log)) ∷ old.log)
+    × (is_lost (printed old.log) (before_start at (printed old.log)) (Committing n v) ≡ false → calls_at n.0 old ≡ 1)
 CommitSteps at n v old new Busy = ⊥
 
 -- what a line does that crashes a node

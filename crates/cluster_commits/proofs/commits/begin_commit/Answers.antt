@@ -2,6 +2,7 @@ use Rattle.std.proofs.Common.{refl}
 use Rattle.history_entries.specs.declared.entry.Event.TheVariants.{Committing}
 use Rattle.cluster_state.proofs.Frames.{slot_at, rule_at}
 use Rattle.cluster_commits.proofs.Committing.{version_at, uncommitting_there, may_begin_commit, begin_commit_path, entry_now}
+use Rattle.cluster_commits.proofs.CallsLeft.{begun_calls}
 use Rattle.cluster_commits.proofs.commits.begin_commit.Goals as goal
 
 pub begin_commit_in-requires-clause-slot : goal.begin_commit_in-requires-clause-slot
@@ -23,4 +24,5 @@ returns-clause-ok g c = record {
   node = refl;
   version = (version_at c.args.cluster.now _ c.cluster.inside.book c.args.n c.version.result c.cluster.view_is c.version.ensures);
   now = entry_now g.D.Dir.cells c.args.cluster.now _ c.cluster.inside.book _ c.args.at c.args.n c.cluster.view_is c.requires.running c.cluster.invariant c.requires.node c.requires.up (record { 0 = c.version.result }) c.files_last.ensures c.is_legal.ensures.legal c.is_legal.ensures.turns (Committing c.args.n (record { 0 = c.version.result })) c.reserve.new.self c.show.new.self c.in_ok-reserve.ensures.log c.in_ok-reserve.ensures.nodes c.show.ensures.log c.show.ensures.nodes;
+  calls = begun_calls g.D.Dir.cells c.args.n.0 _ _ _ refl c.in_ok-begin_commit_in.ensures;
 }

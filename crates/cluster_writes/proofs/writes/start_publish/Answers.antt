@@ -3,7 +3,6 @@ use Rattle.history_entries.specs.declared.entry.Event.TheVariants.{Publishing}
 use Rattle.index_primary.specs.declared.parts.PublishFault.TheVariants.{NamesSpent, TooManySegments}
 use Rattle.cluster_state.proofs.Frames.{slot_at, slot_kept, there_at, rule_at}
 use Rattle.cluster_writes.proofs.PublishPaths.{ok_at, err_at, on_err, primary_stands, none_flies, not_idle, not_spent, is_full_at, hands_out, asked_task, may_start, start_path, back_path}
-use Rattle.cluster_state.specs.Run.{IsNow}
 use Rattle.cluster_state.proofs.Turning.{log_is, nodes_is}
 use Rattle.cluster_writes.proofs.PublishFiles.{back_files, start_files}
 use Rattle.cluster_writes.proofs.writes.start_publish.Goals as goal
@@ -56,15 +55,14 @@ invariant_of-cluster-in-Err g c = λ running. (
 
 pub returns-in-Err-clause-ok : goal.returns-in-Err-clause-ok
 returns-in-Err-clause-ok g c =
-    let now : IsNow c.args.cluster.now (record { ended = false; nodes = c.reserve.new.self.nodes; log = c.reserve.new.self.log }) c.args.cluster.now.log = record {
-      running = refl;
-      nodes = c.in_ok-reserve.ensures.nodes ∙ nodes_is c.args.cluster.now _ c.cluster.inside.book c.cluster.view_is;
-      log = c.in_ok-reserve.ensures.log ∙ log_is c.args.cluster.now _ c.cluster.inside.book c.cluster.view_is;
-    } in
     let full = is_full_at g.D.Dir.cells c.args.cluster.now _ c.cluster.inside.book _ c.args.p c.take.result c.cluster.view_is c.requires.running (λ e. (c.cluster.invariant e).0) c.requires.node c.take.ensures.place
     c.primary_in-primary.result.0 c.primary_in-primary.result.1 c.primary_in-primary.ensures
     (c.publish_start-started.ensures.too_many.0 (err_at _ _ TooManySegments c.in-Err.is c.in_ok-is_for_segments-in-Err.ensures)) in
-    (now, full.0, full.1)
+    (record {
+      running = refl;
+      nodes = c.in_ok-reserve.ensures.nodes ∙ nodes_is c.args.cluster.now _ c.cluster.inside.book c.cluster.view_is;
+      log = c.in_ok-reserve.ensures.log ∙ log_is c.args.cluster.now _ c.cluster.inside.book c.cluster.view_is;
+    }, full.0, full.1)
 
 pub invariant_of-cluster-2 : goal.invariant_of-cluster-2
 invariant_of-cluster-2 g c = λ running.

@@ -1,4 +1,4 @@
-use Rattle.std.proofs.Common.{◌≡◌, ℕ, ◌+◌, List, ◌∷◌, ◌++◌, [], ◌∙◌, ap, arith}
+use Rattle.std.proofs.Common.{◌≡◌, ℕ, ◌+◌, ◌∷◌, ◌++◌, [], ◌∙◌, ap, arith}
 use Rattle.std.specs.Prelude.{option_to_list, Option, ◌-◌}
 use Rattle.history_book.specs.declared.inner.Mark.{Mark}
 use Rattle.lane_crew.specs.declared.lane.Lane.{Lane}
