@@ -1,5 +1,5 @@
 -- What ends with a node that crashes.
-use Rattle.std.proofs.Common.{◌≡◌, ◌≤◌, ◌+◌, ◌-◌, ◌==◌, ℕ, zero, suc, Bool, true, false, true≢false, nat_le, List, Some, None, Option, Vec, Global, Result, Ok, Err, length, set, get_or, refl, ap, ◌∙◌, sym, subst, arith, if◌then◌else◌}
+use Rattle.std.proofs.Common.{◌≡◌, ◌≤◌, ◌+◌, ◌-◌, ◌==◌, ℕ, zero, suc, Bool, true, false, true≢false, nat_le, List, [], ◌∷◌, Some, None, Option, Vec, Global, Result, Ok, Err, length, set, get_or, refl, ap, ◌∙◌, sym, subst, arith, if◌then◌else◌}
 use Rattle.std.specs.Prelude.{OnOk, IfSome, IsSomeAnd}
 use Rattle.std.specs.Option.{option_map}
 use Rattle.std.proofs.lemmas.Bool.{eqb-true, eq-eqb}
@@ -27,6 +27,11 @@ use Rattle.cluster_places.specs.Ends.{EndsJob, EndsNodeJob, EndsPlaceJob, TakesB
 use Rattle.cluster_places.proofs.Stepping.{alters_none, job_none}
 use Rattle.cluster_places.proofs.Slots.{place_set}
 use Rattle.cluster_places.proofs.Taking.{moved_one}
+
+-- no copy state was begun with
+pub no_state : (o : Option CopyState) (state : Option Out) → ((s : CopyState) → o ≡ Some s → ⊥) → option_map out_of o ≡ state → state ≡ None
+no_state None state none is = sym is
+no_state (Some s) state none is = absurd (none s refl)
 
 module _ {D : Type 0} (cells : D → Cells) where
   -- ---- one replica
@@ -97,14 +102,28 @@ module _ {D : Type 0} (cells : D → Cells) where
           let none : place_of old m ≡ None = past_last old m (omega (arith, up, is)) in
           subst (λ (o : Option (Place D)). EndsPlaceJob cells o (place_of new m)) (sym none) (was.still m up ∙ none)
 
+  -- the node is the primary
+  abbrev IsThePrimary : Node D → Type 0
+  IsThePrimary (Primary p) = Unit {0}
+  IsThePrimary (Replica r) = ⊥
+  IsThePrimary (Down d) = ⊥
+
+  is_primary : (x : Place D) (z : Node D) → x.node ≡ z → HasPrimary (Some x) → IsThePrimary z
+  is_primary x z is has = by z (subst (λ (y : Node D). HasPrimary (Some (record { node = y; held = x.held }))) is has)
+    where
+      by : (y : Node D) → HasPrimary (Some (record { node = y; held = x.held })) → IsThePrimary y
+      by (Primary p) has = tt
+      by (Replica r) has = absurd has
+      by (Down d) has = absurd has
+
   -- ---- the primary crashes
 
   primary_same : (o new : Option (Place D)) → HasPrimary o → EndsPlaceJob cells o new → new ≡ o
   primary_same None new has is = absurd has
   primary_same (Some x) None has is = absurd is
-  primary_same (Some x) (Some y) has is = node x.node refl has is.1
+  primary_same (Some x) (Some y) has is = node x.node refl (is_primary x x.node refl has) is.1
     where
-      node : (z : Node D) → x.node ≡ z → elim z [ Primary p ↦ Unit {0} | Replica r ↦ ⊥ | Down d ↦ ⊥ ] → EndsNodeJob cells z y.node → ◌≡◌ {A = Option (Place D)} (Some y) (Some x)
+      node : (z : Node D) → x.node ≡ z → IsThePrimary z → EndsNodeJob cells z y.node → ◌≡◌ {A = Option (Place D)} (Some y) (Some x)
       node (Primary p) at has same = λ i. Some (record { node = (same ∙ sym at) i; held = is.0 i })
       node (Replica r) at has same = absurd has
       node (Down d) at has same = absurd has
@@ -166,7 +185,7 @@ module _ {D : Type 0} (cells : D → Cells) where
   pub nothing_back : (p n : ℕ) (places : List (Option (Place D))) → CanTakeBack p n places → want_at (place_of places n) ≡ None → TakesBackIn cells p n places places
   nothing_back p n places can none = some (place_of places p) refl can.primary
     where
-      node : (x : Place D) (z : Node D) → x.node ≡ z → place_of places p ≡ Some x → elim z [ Primary q ↦ Unit {0} | Replica r ↦ ⊥ | Down d ↦ ⊥ ] → TakesBackIn cells p n places places
+      node : (x : Place D) (z : Node D) → x.node ≡ z → place_of places p ≡ Some x → IsThePrimary z → TakesBackIn cells p n places places
       node x (Primary q) is there has = record {
         at = record { slot = can.slot; parts = q; held = x.held; there = at };
         primary = q;
@@ -185,7 +204,7 @@ module _ {D : Type 0} (cells : D → Cells) where
 
       some : (o : Option (Place D)) → place_of places p ≡ o → HasPrimary o → TakesBackIn cells p n places places
       some None is has = absurd has
-      some (Some x) is has = node x x.node refl is has
+      some (Some x) is has = node x x.node refl is (is_primary x x.node refl has)
 
   pub state_back : (p n : ℕ) (old mid new : List (Option (Place D))) (q s : PrimaryParts D) (held : Vec Held Global) (state : CopyState) → IsSlot old p → place_of old p ≡ Some (record { node = Primary q; held = held })
       → length mid ≡ length old → ((m : ℕ) → place_of mid m ≡ (if p == m then None else place_of old m)) → length new ≡ length mid

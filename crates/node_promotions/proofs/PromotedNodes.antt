@@ -32,7 +32,7 @@ use Rattle.index_primary.specs.declared.states.Out.{Out}
 use Rattle.index_primary.specs.declared.states.Merging.{Merging}
 use Rattle.index_primary.specs.States.{state_names, merge_names}
 use Rattle.index_primary.specs.Primary.{IsPrimary, primary_names, rest_names}
-use Rattle.index_primary.specs.Held.{IsHeld, IsUndrawn, AreUndrawn}
+use Rattle.index_primary.specs.Held.{IsHeld, IsUndrawn, AreUndrawn, AreNumbered}
 use Rattle.index_primary.specs.Calls.{IsOpenedOn}
 use Rattle.replica_node.specs.declared.parts.Parts.{Parts as ReplicaParts}
 use Rattle.replica_node.specs.declared.taking.NodeParts.{NodeParts}
@@ -42,11 +42,11 @@ use Rattle.replica_opening.specs.Known.{IsLasting}
 use Rattle.node_promotions.specs.Promoting.{CanPromote, PromotesTo}
 
 -- the generation opens but for want of memory
-pub only_memory : (infos : Infos) (generation : Gen) (forced : Version) (fault : PromoteFault) → infos.generation.0 < generation.0 → forced.0 < 2 ^ 62
-    → ((last : Gen) → IsErrOf {T = Infos} (Err fault) (GenNotNewer last) ↔ IsNotNewer infos generation last) → IsErrOf {T = Infos} (Err fault) ForceHigh ↔ IsForceHigh infos generation forced → fault ≡ Memory
-only_memory infos generation forced Memory newer low first second = refl
-only_memory infos generation forced (GenNotNewer last) newer low first second = absurd (let not = (first last).0 refl in let old = not.1 in omega (arith, old, newer))
-only_memory infos generation forced ForceHigh newer low first second = absurd (let high = second.0 refl in let up = high.1 in omega (arith, up, low))
+pub only_memory : (result : Result Infos PromoteFault) (infos : Infos) (generation : Gen) (forced : Version) (fault : PromoteFault) → result ≡ Err fault → infos.generation.0 < generation.0 → forced.0 < 2 ^ 62
+    → ((last : Gen) → IsErrOf result (GenNotNewer last) ↔ IsNotNewer infos generation last) → IsErrOf result ForceHigh ↔ IsForceHigh infos generation forced → fault ≡ Memory
+only_memory result infos generation forced Memory is newer low first second = refl
+only_memory result infos generation forced (GenNotNewer last) is newer low first second = absurd (let not = (first last).0 is in let old = not.1 in omega (arith, old, newer))
+only_memory result infos generation forced ForceHigh is newer low first second = absurd (let high = second.0 is in let up = high.1 in omega (arith, up, low))
 
 -- infos of the same segments have the same files
 same_files : (infos other : Infos) (names : List Name) → infos.segs ≡ other.segs → AreFilesOf infos names → AreFilesOf other names
@@ -101,6 +101,9 @@ module _ {D : Type 0} (cells : D → Cells) (generation : Gen) (forced : Version
         let low = fewer q in
         omega (arith, none, low);
   }
+
+  pub numbered_apart : (infos : Infos) → infos ≡ next → AreNumbered infos []
+  numbered_apart infos is = subst (λ (i : Infos). AreNumbered i []) (sym (is ∙ sym next_is)) can.numbered
 
   -- ---- what the primary is
 
