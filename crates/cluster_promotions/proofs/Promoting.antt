@@ -123,6 +123,7 @@ module _ {D : Type 0} (cells : D → Cells) where
           let newer : r.infos.generation.0 < g.0 = (let old = point.generation in omega (arith, old, next)) in
           let infos : Infos = promoted_infos r.infos g forced in
           record {
+            whole = both.0.node_shows.whole;
             standing = both.0.node_shows.standing;
             newer = newer;
             above = (let known = point.known in omega (arith, known, high));

@@ -1,6 +1,6 @@
 -- A replica that became the primary.
 use Rattle.std.proofs.Common.{◌≡◌, ◌≤◌, ◌<◌, ◌+◌, ◌^◌, ◌↔◌, ◌++◌, ℕ, zero, suc, true, false, List, [], Some, None, Option, Vec, Global, Result, Ok, Err, length, refl, ap, ◌∙◌, sym, subst, arith}
-use Rattle.std.specs.Prelude.{IsErrOf, Contains}
+use Rattle.std.specs.Prelude.{IsErrOf, IfOk, Contains}
 use Rattle.std.specs.List.{flat_map}
 use Rattle.std.proofs.lemmas.Bool.{lt-ltb}
 use Rattle.nrt_base.specs.declared.numbers.Gen.{Gen}
@@ -36,7 +36,6 @@ use Rattle.index_primary.specs.Held.{IsHeld, IsUndrawn, AreUndrawn, AreNumbered}
 use Rattle.index_primary.specs.Calls.{IsOpenedOn}
 use Rattle.replica_node.specs.declared.parts.Parts.{Parts as ReplicaParts}
 use Rattle.replica_node.specs.declared.taking.NodeParts.{NodeParts}
-use Rattle.replica_node.specs.Replica.{IsWholeReplica}
 use Rattle.replica_node.specs.Sources.{HeldReadAs, IsSourced, IsTakenApart}
 use Rattle.replica_opening.specs.Known.{IsLasting}
 use Rattle.node_promotions.specs.Promoting.{CanPromote, PromotesTo}
@@ -149,9 +148,9 @@ module _ {D : Type 0} (cells : D → Cells) (generation : Gen) (forced : Version
             point_some (files_times p.infos parts.infos p.names parts.searchers.point.names q (ap (λ (i : Infos). i.segs) infos_are) whole.writer.files files (omega (arith, second)))
         tests zero zero first second = omega (arith, some, was, now, tickets, booked, no_rest, first, second)
 
-    pub promoted_to : IsWholeReplica cells r → ((source : Name → Content) → IsSourced source cells r → HeldReadAs source (cells parts.dir) parts.files) → NoneAppears (cells r.dir) (cells parts.dir)
+    promoted_to : ((source : Name → Content) → IsSourced source cells r → HeldReadAs source (cells parts.dir) parts.files) → NoneAppears (cells r.dir) (cells parts.dir)
         → PromotesTo cells generation forced r p
-    promoted_to replica sourced appears = record {
+    promoted_to sourced appears = record {
       whole = whole;
       infos = infos_are ∙ sym next_is;
       point_infos = opened.point_infos ∙ sym opened.infos_are;
@@ -173,4 +172,11 @@ module _ {D : Type 0} (cells : D → Cells) (generation : Gen) (forced : Version
     }
       where
         segs_were : parts.segs ≡ r.searchers.point.readers
-        segs_were = same.segs ∙ replica.segs
+        segs_were = same.segs ∙ can.whole.segs
+
+  -- in the terms of a call
+  pub becomes : {E : Type 0} (result : Result (PrimaryParts D) E) (infos : Infos) → infos ≡ next → IfOk result (IsPrimary cells) → IfOk result (IsOpenedOn parts.dir parts.searchers parts.commits infos parts.segs)
+      → IsWholeNode (cells parts.dir) parts.files (searcher_names parts.searchers) parts.commits → AreFilesOf parts.infos parts.searchers.point.names
+      → ((source : Name → Content) → IsSourced source cells r → HeldReadAs source (cells parts.dir) parts.files) → NoneAppears (cells r.dir) (cells parts.dir) → IfOk result (PromotesTo cells generation forced r)
+  becomes (Ok p) infos is whole opened node files sourced appears = promoted_to infos p is whole opened node files sourced appears
+  becomes (Err e) infos is whole opened node files sourced appears = tt

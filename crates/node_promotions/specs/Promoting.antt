@@ -9,7 +9,7 @@ use Rattle.index_primary.specs.declared.parts.Parts.{Parts as PrimaryParts}
 use Rattle.index_primary.specs.Primary.{IsPrimary}
 use Rattle.index_primary.specs.Held.{AreUndrawn, AreNumbered}
 use Rattle.replica_node.specs.declared.parts.Parts.{Parts as ReplicaParts}
-use Rattle.replica_node.specs.Replica.{AreStanding}
+use Rattle.replica_node.specs.Replica.{IsWholeReplica, AreStanding}
 use Rattle.replica_node.specs.Sources.{HeldReadAs, IsSourced}
 use Rattle.promotion.specs.Generations.{promoted_infos}
 use Rattle.cluster_places.specs.declared.held.Held.{Held}
@@ -20,9 +20,10 @@ use Rattle.cluster_places.specs.JobChanges.{HasReplica}
 use Rattle.cluster_places.specs.JobPlaces.{IsReplicaAt, MovesOne}
 
 module _ {D : Type 0} where
-  -- The replica can become the primary of this generation: its point and its commits are of documents, the generation is above that of its
-  -- point, no version that it searched is above the forced one, and it holds no file of a name that the generation may give.
+  -- The replica can become the primary of this generation: it is whole, its point and its commits are of documents, the generation is above
+  -- that of its point, no version that it searched is above the forced one, and it holds no file of a name that the generation may give.
   pub record CanPromote (cells : D → Cells) (generation : Gen) (forced : Version) (r : ReplicaParts D) : Type 0 where
+    pub whole : IsWholeReplica cells r
     pub standing : AreStanding cells r
     pub newer : r.infos.generation.0 < generation.0
     pub above : r.infos.version.0 ≤ forced.0

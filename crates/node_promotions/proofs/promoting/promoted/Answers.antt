@@ -1,5 +1,5 @@
 use Rattle.std.proofs.Common.{◌∙◌}
-use Rattle.node_promotions.proofs.PromotedNodes.{newer_apart, above_apart, held_next, undrawn_apart, numbered_apart, promoted_to}
+use Rattle.node_promotions.proofs.PromotedNodes.{newer_apart, above_apart, held_next, undrawn_apart, numbered_apart, becomes}
 use Rattle.node_promotions.proofs.promoting.promoted.Goals as goal
 
 pub opened-requires-clause-newer : goal.opened-requires-clause-newer
@@ -24,3 +24,7 @@ primary_of-requires-clause-undrawn g c = undrawn_apart g.D.Dir.cells c.args.gene
 
 pub primary_of-requires-clause-numbered : goal.primary_of-requires-clause-numbered
 primary_of-requires-clause-numbered g c = numbered_apart g.D.Dir.cells c.args.generation c.args.forced c.args.replica c.take_apart-parts.result c.requires c.take_apart-parts.ensures.same c.in-Ok.infos c.in-Ok.ensures
+
+pub returns-in-Ok : goal.returns-in-Ok
+returns-in-Ok g c = becomes g.D.Dir.cells c.args.generation c.args.forced c.args.replica c.take_apart-parts.result c.requires c.take_apart-parts.ensures.same c.primary_of.result c.in-Ok.infos c.in-Ok.ensures c.primary_of.ensures.whole c.primary_of.ensures.opened
+    c.take_apart-parts.ensures.node c.take_apart-parts.ensures.names c.take_apart-parts.ensures.sourced c.take_apart-parts.ensures.appears
