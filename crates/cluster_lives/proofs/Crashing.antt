@@ -462,8 +462,13 @@ module _ {D : Type 0} (cells : D → Cells) where
       node_left : (m : ℕ) (x y : Node D) → (n.0 == m) ≡ false → NodeOutlives cells (is_at primary n.0) (is_at primary m) state x y → NodeShows cells log m x → NodeFiles files.source cells log jobs m x → NodeFiles files.source cells now count m y
       node_left m x y apart out has was = tests (is_at primary n.0) (is_at primary m) refl refl x y out has was
         where
+          IsOfPrimary : Node D → Type 0
+          IsOfPrimary (Primary p) = Unit {0}
+          IsOfPrimary (Replica r) = ⊥
+          IsOfPrimary (Down d) = ⊥
+
           unlike : (r : ReplicaParts D) (q : PrimaryParts D) → ◌≡◌ {A = Node D} (Primary q) (Replica r) → ⊥
-          unlike r q is = subst (λ (z : Node D). elim z [ Primary p ↦ Unit {0} | Replica s ↦ ⊥ | Down d ↦ ⊥ ]) is tt
+          unlike r q is = subst IsOfPrimary is tt
 
           as_was : (u v : Node D) → v ≡ u → NodeFiles files.source cells now count m u → NodeFiles files.source cells now count m v
           as_was u v is had = subst (λ (z : Node D). NodeFiles files.source cells now count m z) (sym is) had
@@ -551,11 +556,11 @@ module _ {D : Type 0} (cells : D → Cells) where
   can_end r ended b places (Some p) n view running pair is reigns node =
       can_take_back r.log r.nodes places p n (was cells r ended b.nodes b.log places view running (λ e. (pair e).0)) (files_was cells r ended b.nodes b.log places view running (λ e. (pair e).1)) (sym is) reigns node
 
-  pub crash_path : (r : Run) (ended : Bool) (b0 b1 b2 : Pages) (old new : List (Option (Place D))) (at : At) (n : NodeNo) (primary : Option NodeNo) → {left : List ℕ} → record { ended = ended; nodes = b0.nodes; log = b0.log; calls_left = left } ≡ r → r.ended ≡ false
+  pub crash_path : (r : Run) (ended : Bool) (b0 b1 b2 : Pages) (old new : List (Option (Place D))) (at : At) (n : NodeNo) (reigning : Option NodeNo) → {left : List ℕ} → record { ended = ended; nodes = b0.nodes; log = b0.log; calls_left = left } ≡ r → r.ended ≡ false
       → (ended ≡ false → Shows cells b0.log b0.nodes old × FilesShow cells b0.log b0.nodes old) → b1.log ≡ b0.log → b1.nodes ≡ b0.nodes → b2.log ≡ shown at (Crashed n) ∷ b1.log → b2.nodes ≡ b1.nodes
       → IsLegalPast b1.nodes (printed b1.log) → AreInTurn (printed b1.log) → FilesLast → ((m : ℕ) → primary_of (printed b2.log) ≡ None → job_at m b2.log ≡ None) → IsFresh at (printed b0.log) → IsNode r.nodes n.0
-      → is_running n.0 (printed r.log) ≡ true → primary ≡ primary_of (printed r.log) → CrashesIn cells primary n.0 old new → Shows cells b2.log b2.nodes new × FilesShow cells b2.log b2.nodes new
-  crash_path r ended b0 b1 b2 old new at n primary view running pair e1 n1 e2 n2 legal turns lasting vacant fresh node up is crashed_so =
+      → is_running n.0 (printed r.log) ≡ true → reigning ≡ primary_of (printed r.log) → CrashesIn cells reigning n.0 old new → Shows cells b2.log b2.nodes new × FilesShow cells b2.log b2.nodes new
+  crash_path r ended b0 b1 b2 old new at n reigning view running pair e1 n1 e2 n2 legal turns lasting vacant fresh node up is crashed_so =
       let b = before cells r ended b0 b1 view e1 n1 legal turns in
       let log : b2.log ≡ shown at (Crashed n) ∷ r.log = e2 ∙ ap (λ (l : Log). shown at (Crashed n) ∷ l) b.log in
       let size : b2.nodes ≡ r.nodes = n2 ∙ b.size in
