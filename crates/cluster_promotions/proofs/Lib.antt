@@ -1,1 +1,1 @@
-mod Promoting
+mod Promotions

@@ -1,10 +1,10 @@
-use Rattle.std.proofs.Common.{◌∙◌, ap, refl, arith}
+use Rattle.std.proofs.Common.{◌∙◌, ◌+◌, ap, refl, arith}
 use Rattle.history_entries.specs.declared.entry.Event.TheVariants.{Promoted}
 use Rattle.history_entries.specs.Nodes.{generation_of}
 use Rattle.history_book.specs.Log.{printed}
 use Rattle.cluster_state.specs.Run.{Run}
 use Rattle.cluster_state.proofs.Frames.{rule_at}
-use Rattle.cluster_promotions.proofs.Promoting.{may_promote, can_path, promote_path}
+use Rattle.cluster_promotions.proofs.Promotions.{may_promote, can_path, promote_path}
 use Rattle.cluster_promotions.proofs.promoting.promote_node.Goals as goal
 
 pub promote_in-requires : goal.promote_in-requires
@@ -12,7 +12,8 @@ promote_in-requires g c = can_path g.D.Dir.cells c.args.cluster.now _ c.cluster.
     c.requires.node c.requires.up c.requires.vacant (c.generation-last.ensures ∙ ap (λ (x : Run). generation_of (printed x.log)) c.cluster.view_is) refl (let low = c.if-last.false in omega (arith, low)) c.requires.low c.requires.high
 
 pub show-requires-clause-rule : goal.show-requires-clause-rule
-show-requires-clause-rule g c = rule_at c.args.cluster.now _ c.cluster.inside.book c.reserve.new.self c.args.at _ c.cluster.view_is c.in_ok-reserve.ensures.log c.in_ok-reserve.ensures.nodes
+show-requires-clause-rule g c = rule_at c.args.cluster.now _ c.cluster.inside.book c.reserve.new.self c.args.at
+    (Promoted c.args.n (record { 0 = c.generation-last.result + 1 }) c.args.forced (record { 0 = c.args.forced.0 + 1 })) c.cluster.view_is c.in_ok-reserve.ensures.log c.in_ok-reserve.ensures.nodes
     (may_promote g.D.Dir.cells c.args.cluster.now c.args.n _ c.args.forced _ c.generation-last.result c.args.at c.requires.node c.requires.up c.requires.vacant c.requires.low c.requires.high
     (c.generation-last.ensures ∙ ap (λ (x : Run). generation_of (printed x.log)) c.cluster.view_is) refl refl)
 

@@ -1,5 +1,5 @@
 -- What a promotion makes of the node, and leaves of the others.
-use Rattle.std.proofs.Common.{◌≡◌, ◌≢◌, ◌≤◌, ◌<◌, ◌+◌, ◌^◌, ◌&&◌, ◌||◌, ◌==◌, inl, ℕ, zero, suc, Bool, true, false, true≢false, List, [], ◌∷◌, Some, None, Option, Vec, Global, length, refl, ap, ◌∙◌, sym, subst, arith, if◌then◌else◌}
+use Rattle.std.proofs.Common.{◌≡◌, ◌≢◌, ◌≤◌, ◌<◌, ◌+◌, ◌^◌, ◌&&◌, ◌||◌, ◌==◌, ◌++◌, inl, ℕ, zero, suc, Bool, true, false, true≢false, List, [], ◌∷◌, Some, None, Option, Vec, Global, length, refl, ap, ◌∙◌, sym, subst, arith, if◌then◌else◌}
 use Rattle.std.specs.Prelude.{IsSomeAnd, Contains, max}
 use Rattle.std.proofs.lemmas.Bool.{eq-eqb}
 use Rattle.nrt_base.specs.declared.numbers.At.{At}
@@ -284,7 +284,7 @@ module _ {D : Type 0} (cells : D → Cells) where
         -- ---- the node
 
         no_loose : loose_of b.primary ≡ []
-        no_loose = ap (λ (o : Option Publish). publish_loose o) b.becomes.publish ∙ ap (λ (ms : List Merging). merge_loose ms) b.becomes.merges
+        no_loose = λ i. publish_loose (b.becomes.publish i) ++ merge_loose (b.becomes.merges i)
 
         infos_now : b.primary.infos ≡ promoted_infos b.at.parts.infos g forced
         infos_now = b.becomes.infos
