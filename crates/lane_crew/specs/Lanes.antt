@@ -1,12 +1,8 @@
 -- A crew, eight lanes and then workers, and the first seat of their lock: what each has done and seen.
-use Rattle.std.specs.Prelude.{ℕ, ◌≡◌, ◌≤◌, ◌<◌, ◌+◌, List, [], Bool, false, IsTrue, length, take, drop, slice_index_or}
-use Rattle.std.specs.List.{list_all}
+use Rattle.std.specs.Prelude.{ℕ, ◌≡◌, ◌≤◌, ◌<◌, ◌+◌, List, [], Bool, length, take, drop, slice_index_or}
 use mathlib.Core.List.{IsPrefix}
-use Rattle.script_serving.specs.declared.script.Line.{Line}
-use Rattle.script_serving.specs.declared.script.LineCommand.{LineCommand}
 use Rattle.script_serving.specs.declared.script.Phase.{Phase}
 use Rattle.script_serving.specs.declared.script.Script.{Script}
-use Rattle.script_serving.specs.Lines.{lines_under}
 use Rattle.hist_lock.specs.declared.grows.Grows.{Ghosts}
 use Rattle.hist_lock.specs.declared.lock.HistLock.{HistLock}
 use Rattle.hist_lock.specs.declared.lock.LaneSeat.{LaneSeat}
@@ -14,12 +10,12 @@ use Rattle.hist_lock.specs.History.{Each, HasJust}
 use Rattle.hist_lock.specs.Seats.{history_seen, number_of, own_entries, joined_seats, split_count, room_of, IsFirst, IsFree, IsSeatOf}
 use Rattle.hist_lock.specs.Views.{all_room}
 use Rattle.history_book.specs.declared.inner.Mark.{Mark}
-use Rattle.history_book.specs.Log.{Log, printed, name_of}
+use Rattle.history_book.specs.Log.{Log, name_of}
 use Rattle.lane_walks.specs.Owes.{FaultsFit}
-use Rattle.lane_walks.specs.Walks.{GrowsByOthers, Includes, AreUnbegun, ArePart, LinesRan}
+use Rattle.lane_walks.specs.Walks.{GrowsByOthers, Includes}
 use Rattle.lane_walks.specs.Phases.{LaneReady, PhaseDone}
 use Rattle.lane_seats.specs.declared.run.Setup.{Setup}
-use Rattle.lane_seats.specs.Seats.{log_seen, IsLaneSeat}
+use Rattle.lane_seats.specs.Seats.{log_seen}
 use Rattle.lane_parts.specs.declared.lane.Lane.{Lane}
 use Rattle.lane_parts.specs.Parts.{IsIdleLane}
 

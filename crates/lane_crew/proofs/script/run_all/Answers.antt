@@ -1,4 +1,4 @@
-use Rattle.std.proofs.Common.{◌∙◌, sym, ap, subst, length, List}
+use Rattle.std.proofs.Common.{sym, ap, subst, length, List}
 use Rattle.std.specs.Prelude.{OnOk}
 use Rattle.script_serving.specs.declared.script.Phase.{Phase}
 use Rattle.lane_crew.specs.Lanes.{ArePhasesDone}

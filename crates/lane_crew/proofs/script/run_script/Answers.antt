@@ -1,4 +1,4 @@
-use Rattle.std.proofs.Common.{refl, ap, ◌∙◌, reverse, length, arith}
+use Rattle.std.proofs.Common.{◌+◌, refl, ap, ◌∙◌, reverse, length, arith}
 use Rattle.lane_crew.proofs.Seatings.{crew_first, crew_ready, joined_first}
 use Rattle.lane_crew.proofs.Endings.{script_left}
 use Rattle.lane_crew.proofs.script.run_script.Goals as goal
