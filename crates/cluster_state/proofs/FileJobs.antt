@@ -75,7 +75,7 @@ module _ {D : Type 0} (cells : D → Cells) where
   pub record PrimaryHere (source : Name → Content) (log : Log) (jobs : Out → ℕ) (p : ℕ) (places : List (Option (Place D))) : Type 0 where
     pub at : IsPrimaryAt places p
     pub shows : PlaceShows cells log p (record { node = Primary at.parts; held = at.held })
-    pub files : PrimaryFiles source cells jobs at.parts
+    pub files : PrimaryFiles source cells (printed log) jobs at.parts
 
   -- a replica in its place
   pub record ReplicaHere (source : Name → Content) (log : Log) (n : ℕ) (places : List (Option (Place D))) : Type 0 where
@@ -115,7 +115,7 @@ module _ {D : Type 0} (cells : D → Cells) where
 
   -- its copy state is out
   pub job_out : (log : Log) (size n : ℕ) (places : List (Option (Place D))) (p : PrimaryParts D) (r : ReplicaParts D) (held : Vec Held Global) (source : Name → Content) → IsNode size n → place_of places n ≡ Some (record { node = Replica r; held = held })
-      → PrimaryFiles source cells (λ s. jobs_like places s size) p → IfSome (want_of r.job) (λ s. is_out s p.states ≡ true)
+      → PrimaryFiles source cells (printed log) (λ s. jobs_like places s size) p → IfSome (want_of r.job) (λ s. is_out s p.states ≡ true)
   job_out log size n places p r held source node there files = found r.job refl
     where
       found : (o : Option PointJob) → r.job ≡ o → IfSome (want_of o) (λ s. is_out s p.states ≡ true)
@@ -148,4 +148,4 @@ module _ {D : Type 0} (cells : D → Cells) where
       found (Some job) None is shows_job newer = absurd shows_job
       found (Some job) (Some point) is shows_job newer =
           let version : r.searchers.point.version.0 ≡ version_of n (printed log) = shows.node_shows.point.version in
-          absurd (omega (arith, newer.above, shows_job.version, shows_job.known, version, reached))
+          absurd (omega (arith, newer.above, shows_job.point.known, version, reached))
