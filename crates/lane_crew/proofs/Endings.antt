@@ -1,6 +1,7 @@
 -- What all lanes have done once their seats are joined and the lock is closed.
-use Rattle.std.proofs.Common.{◌≡◌, ℕ, ◌+◌, ◌<◌, ◌≤◌, Bool, List, [], ◌∷◌, ◌++◌, ◌∙◌, sym, subst, arith, reverse, length, take, drop}
+use Rattle.std.proofs.Common.{◌≡◌, ℕ, ◌+◌, ◌<◌, ◌≤◌, Bool, List, [], ◌∷◌, ◌++◌, ◌∙◌, sym, subst, arith, reverse, length, take, drop, inl, inr}
 use Rattle.std.specs.Prelude.{slice_index_or, ◌-◌, Result, Ok, Err, OnOk}
+use Rattle.std.proofs.lemmas.Bool.{cases_lt}
 use Rattle.std.proofs.lemmas.List.{reverse-reverse, take_all, drop_all}
 use Rattle.std.proofs.Math.Seq.{take-append_seam}
 use mathlib.Core.List.{IsPrefix}
@@ -23,11 +24,12 @@ use Rattle.lane_walks.specs.Phases.{LaneReady, LaneEnds, LanesEnd, IsHistoryOf}
 use Rattle.lane_walks.proofs.ScriptLemmas.{form_of, script_served}
 use Rattle.lane_seats.specs.Seats.{log_seen}
 use Rattle.lane_seats.proofs.SeatLemmas.{apart_of, of_lanes}
-use Rattle.lane_crew.specs.declared.lane.Lane.{Lane}
-use Rattle.lane_crew.specs.Lanes.{IsIdleLane, IsJoined, AreJoined, ArePhasesDone}
+use Rattle.lane_parts.specs.declared.lane.Lane.{Lane}
+use Rattle.lane_parts.specs.Parts.{IsIdleLane}
+use Rattle.lane_crew.specs.Lanes.{IsJoined, AreJoined, ArePhasesDone}
 
-module _ {T : Type 0} {g : Ghosts T Mark} (named : g.names ≡ name_of) (lock : HistLock T Mark) (script : Script) (s t : LaneSeat T Mark g) (ls : List (Lane T Mark g)) (log : Log)
-    (done : ArePhasesDone script.log lock script.phases (length script.phases) s ls) (joined : AreJoined lock 0 t ls []) (history : List Mark) (is : history ≡ reverse log)
+module _ {T : Type 0} {g : Ghosts T Mark} (named : g.names ≡ name_of) (lock : HistLock T Mark) (script : Script) (n : ℕ) (s t : LaneSeat T Mark g) (ls : List (Lane T Mark g)) (log : Log)
+    (done : ArePhasesDone script.log lock n script.phases (length script.phases) s ls) (joined : AreJoined lock 0 t ls []) (history : List Mark) (is : history ≡ reverse log)
     (found : Continues g.names (view_of t) history) (settled : IsSettledLog script.log log) where
   goes : Continues name_of (view_of t) (reverse log)
   goes = subst (Continues name_of (view_of t)) is (subst (λ (f : Mark → ℕ). Continues f (view_of t) history) named found)
@@ -60,30 +62,45 @@ module _ {T : Type 0} {g : Ghosts T Mark} (named : g.names ≡ name_of) (lock : 
   each_ends : Lane T Mark g → (lane : ℕ) → 1 ≤ lane → lane ≤ 8 → LaneEnds script.log lane script.phases log
   each_ends d lane low high =
       let i : ℕ = lane - 1 in
-      let within : i < length ls = let e = done.crew.count in omega arith in
+      let within : i < length ls = let e = done.crew.lanes in omega arith in
       let number : (slice_index_or ls i d).number.0 ≡ lane = done.crew.places i d within ∙ (omega arith) in
       subst (λ (n : ℕ). LaneEnds script.log n script.phases log) number
       (lane_ends (slice_index_or ls i d) (done.idle i d within) (joined.joined i d (omega arith) within) (done.ready i d within))
+
+  -- a worker has appended no entries, and no entry names a number that was never given out
+  none_beyond : Lane T Mark g → (m : ℕ) → 8 < m → entries_by name_of m (reverse log) ≡ []
+  none_beyond d m beyond = elim (cases_lt (length ls) m) [ inl above ↦ goes.others joined.hub.first m (let e = joined.splits in omega arith) | inr within ↦ of_worker within ]
+    where
+      of_worker : m ≤ length ls → entries_by name_of m (reverse log) ≡ []
+      of_worker within =
+          let i : ℕ = m - 1 in
+          let lt : i < length ls = omega arith in
+          let l : Lane T Mark g = slice_index_or ls i d in
+          let number : number_of l.seat ≡ m = (done.idle i d lt).number ∙ (done.crew.places i d lt ∙ (omega arith)) in
+          let positive : 0 < number_of l.seat = omega arith in
+          subst (λ (k : ℕ). entries_by name_of k (reverse log) ≡ []) number
+          ((joined.joined i d (omega arith) lt).just (reverse log) goes.joined positive ∙ done.crew.none i d (omega arith) lt)
 
   ends_with : Lane T Mark g → LanesEnd script log
   ends_with d =
       record {
         each = each_ends d;
-        others = of_lanes log (λ n beyond. goes.others joined.hub.first n (let e = joined.hub.count in omega arith));
+        others = of_lanes log (none_beyond d);
         settled = settled;
       }
 
-  first_of : (ms : List (Lane T Mark g)) → length ms ≡ 8 → Lane T Mark g
+  first_of : (ms : List (Lane T Mark g)) → 8 ≤ length ms → Lane T Mark g
   first_of [] e = absurd (omega arith)
   first_of (l ∷ ms) e = l
 
   -- so the history serves the script
   pub script_left : IsInForm script → (h : History) → IsHistoryOf script.nodes log h → Serves script h
-  script_left form h of = script_served script log h (form_of script form) (ends_with (first_of ls done.crew.count)) of
+  script_left form h of = script_served script log h (form_of script form) (ends_with (first_of ls done.crew.lanes)) of
 
 -- what a slice of a vector leaves behind: the vector has it
-pub phases_back : {T X E : Type 0} {g : Ghosts T Mark} (r : Result X E) (logged : Bool) (lock : HistLock T Mark) (phases : List Phase) (k n : ℕ) (s : LaneSeat T Mark g) (ls rest : List (Lane T Mark g))
-    → n ≡ 8 → OnOk r (ArePhasesDone logged lock phases k s ls) → OnOk r (ArePhasesDone logged lock phases k s (take n (ls ++ rest)))
-phases_back (Ok x) logged lock phases k n s ls rest e h =
-    subst (ArePhasesDone logged lock phases k s) (sym (subst (λ (m : ℕ). take m (ls ++ rest) ≡ ls) (h.crew.count ∙ sym e) (take-append_seam ls rest))) h
-phases_back (Err x) logged lock phases k n s ls rest e h = tt
+pub phases_back : {T X E : Type 0} {g : Ghosts T Mark} (r : Result X E) (logged : Bool) (lock : HistLock T Mark) (phases : List Phase) (k m n w : ℕ) (s : LaneSeat T Mark g) (ls rest : List (Lane T Mark g))
+    → w ≡ m → m ≡ n → OnOk r (ArePhasesDone logged lock m phases k s ls) → OnOk r (ArePhasesDone logged lock n phases k s (take w (ls ++ rest)))
+phases_back (Ok x) logged lock phases k m n w s ls rest here there h =
+    let whole : ls ≡ take w (ls ++ rest) = sym (subst (λ (j : ℕ). take j (ls ++ rest) ≡ ls) (h.count ∙ sym here) (take-append_seam ls rest)) in
+    subst (λ (j : ℕ). ArePhasesDone logged lock j phases k s (take w (ls ++ rest))) there (subst (ArePhasesDone logged lock m phases k s) whole h)
+phases_back (Err x) logged lock phases k m n w s ls rest here there h = tt

@@ -9,7 +9,7 @@ use Rattle.hist_lock.specs.declared.grows.Grows.{Ghosts}
 use Rattle.hist_lock.specs.declared.lock.HistLock.{HistLock}
 use Rattle.hist_lock.specs.declared.lock.LaneSeat.{LaneSeat}
 use Rattle.hist_lock.specs.History.{HasBoth}
-use Rattle.hist_lock.specs.Seats.{history_seen, view_of, IsStillFree}
+use Rattle.hist_lock.specs.Seats.{history_seen, split_count, view_of, IsStillFree}
 use Rattle.history_book.specs.declared.inner.Mark.{Mark}
 use Rattle.history_book.specs.Log.{Log, name_of, lane_name}
 use Rattle.lane_walks.specs.Owes.{FaultsFit}
@@ -17,8 +17,9 @@ use Rattle.lane_walks.specs.Walks.{GrowsByOthers, Includes}
 use Rattle.lane_walks.proofs.WalkLemmas.{includes_then, log_then}
 use Rattle.lane_seats.specs.Seats.{log_seen, IsLaneSeat}
 use Rattle.lane_seats.proofs.SeatLemmas.{all-append, told_apart, longer_faults}
-use Rattle.lane_crew.specs.declared.lane.Lane.{Lane}
-use Rattle.lane_crew.specs.Lanes.{EachLane, EachChange, IsIdleLane, HasHeard, IsHubSeat, HubHears, HubTells, EachIncluded, EachIncludes, AllIncluded}
+use Rattle.lane_parts.specs.declared.lane.Lane.{Lane}
+use Rattle.lane_parts.specs.Parts.{IsIdleLane}
+use Rattle.lane_crew.specs.Lanes.{EachLane, EachChange, HasHeard, IsHubSeat, HubHears, HubTells, EachIncluded, EachIncludes, AllIncluded}
 use Rattle.lane_crew.proofs.Places.{by_place}
 
 included : (seen found : List Mark) → IsPrefix seen found → Includes (reverse seen) (reverse found)
@@ -38,7 +39,7 @@ both_faults logged a b c both f h = subst (λ (ms : List Mark). FaultsFit logged
 
 module _ {T : Type 0} {g : Ghosts T Mark} (logged : Bool) (lock : HistLock T Mark) where
   pub heard_first : (l : Lane T Mark g) → IsIdleLane logged lock l → HasHeard logged lock l l
-  heard_first l idle = record { number = refl; idle = idle; apart = record { more = []; log = refl; apart = tt; faults = idle.faults } }
+  heard_first l idle = record { number = refl; idle = idle; apart = record { more = []; log = refl; apart = tt; faults = idle.faults }; own = refl }
 
   pub heard_then : (a b c : Lane T Mark g) → HasHeard logged lock a b → HasHeard logged lock b c → HasHeard logged lock a c
   heard_then a b c h k =
@@ -47,6 +48,7 @@ module _ {T : Type 0} {g : Ghosts T Mark} (logged : Bool) (lock : HistLock T Mar
         idle = k.idle;
         apart = apart_then logged a.number.0 (log_seen a.seat) (log_seen b.seat) (log_seen c.seat) h.apart
             (subst (λ (n : LaneNo). GrowsByOthers logged n.0 (log_seen b.seat) (log_seen c.seat)) h.number k.apart);
+        own = k.own ∙ h.own;
       }
 
   heard_includes : (a b : Lane T Mark g) → HasHeard logged lock a b → Includes (log_seen a.seat) (log_seen b.seat)
@@ -61,7 +63,6 @@ module _ {T : Type 0} {g : Ghosts T Mark} (logged : Bool) (lock : HistLock T Mar
         free = still.free;
         number = still.same.number ∙ r.number;
         first = r.first;
-        last = r.last;
         alone = still.same.joined ∙ r.alone;
         room = still.room ∙ r.room;
         faults = faults;
@@ -75,9 +76,8 @@ module _ {T : Type 0} {g : Ghosts T Mark} (logged : Bool) (lock : HistLock T Mar
           first = still.same.is_first ∙ r.seat.first;
           free = still.free;
           number = still.same.number ∙ r.seat.number;
-          count = still.same.splits ∙ r.seat.count;
         };
-        room = ap (λ (n : ℕ). n + 8) still.room ∙ r.room;
+        room = (let a = still.room in let b = still.same.splits in let c = r.room in omega arith);
         alone = still.same.joined ∙ r.alone;
         faults = faults;
       }
@@ -87,6 +87,7 @@ module _ {T : Type 0} {g : Ghosts T Mark} (logged : Bool) (lock : HistLock T Mar
       → HubHears logged lock (log_seen l) s t
   hub_heard s t l r f still both =
       record {
+        splits = still.same.splits;
         hub = still_hub s t r still (both_faults logged (history_seen s) (history_seen l) (history_seen t) both r.faults f);
         goes = included (history_seen s) (history_seen t) both.begins_with_one;
         includes = included (history_seen l) (history_seen t) both.begins_with_two;
@@ -95,6 +96,7 @@ module _ {T : Type 0} {g : Ghosts T Mark} (logged : Bool) (lock : HistLock T Mar
   pub hub_told : (s t : LaneSeat T Mark g) → IsHubSeat logged lock s → IsStillFree s t → history_seen t ≡ history_seen s → HubTells logged lock s t
   hub_told s t r still same =
       record {
+        splits = still.same.splits;
         hub = still_hub s t r still (subst (λ (ms : List Mark). FaultsFit logged (reverse ms)) (sym same) r.faults);
         same = ap reverse same;
       }
@@ -107,6 +109,7 @@ module _ {T : Type 0} {g : Ghosts T Mark} (logged : Bool) (lock : HistLock T Mar
         idle = subst (λ (n : LaneNo). IsLaneSeat logged lock n.0 m.seat) (sym number)
             (still_lane l.number.0 l.seat m.seat r still (subst (λ (ms : List Mark). FaultsFit logged (reverse ms)) (sym same) r.faults));
         apart = record { more = []; log = ap reverse same; apart = tt; faults = subst (λ (ms : List Mark). FaultsFit logged (reverse ms)) (sym same) r.faults };
+        own = still.same.own;
       }
 
   -- a lane hears the first seat
@@ -121,6 +124,7 @@ module _ {T : Type 0} {g : Ghosts T Mark} (logged : Bool) (lock : HistLock T Mar
           number = number;
           idle = subst (λ (n : LaneNo). IsLaneSeat logged lock n.0 m.seat) (sym number) (still_lane l.number.0 l.seat m.seat r still faults);
           apart = subst (λ (n : ℕ). GrowsByOthers logged n (log_seen l.seat) (log_seen m.seat)) r.number apart;
+          own = still.same.own;
         },
         included (history_seen s) (history_seen m.seat) both.begins_with_two,
       )
@@ -128,12 +132,13 @@ module _ {T : Type 0} {g : Ghosts T Mark} (logged : Bool) (lock : HistLock T Mar
   -- ---- lane after lane
 
   -- the first seat has heard of the first k lanes
-  pub record Gathering (k : ℕ) (s : LaneSeat T Mark g) (ls ms : List (Lane T Mark g)) : Type 0 where
-    pub hub : IsHubSeat logged lock s
+  pub record Gathering (k : ℕ) (s t : LaneSeat T Mark g) (ls ms : List (Lane T Mark g)) : Type 0 where
+    pub hub : IsHubSeat logged lock t
+    pub splits : split_count t ≡ split_count s
     pub count : length ms ≡ length ls
     pub heard : EachChange (HasHeard logged lock) ls ms
     pub same : (i : ℕ) (d : Lane T Mark g) → i < length ls → log_seen (slice_index_or ms i d).seat ≡ log_seen (slice_index_or ls i d).seat
-    pub included : (i : ℕ) (d : Lane T Mark g) → i < k → i < length ls → Includes (log_seen (slice_index_or ls i d).seat) (log_seen s)
+    pub included : (i : ℕ) (d : Lane T Mark g) → i < k → i < length ls → Includes (log_seen (slice_index_or ls i d).seat) (log_seen t)
 
   -- the first k lanes have heard of the first seat
   pub record Spreading (k : ℕ) (s t : LaneSeat T Mark g) (ls ms : List (Lane T Mark g)) : Type 0 where
@@ -142,10 +147,11 @@ module _ {T : Type 0} {g : Ghosts T Mark} (logged : Bool) (lock : HistLock T Mar
     pub heard : EachChange (HasHeard logged lock) ls ms
     pub includes : (i : ℕ) (d : Lane T Mark g) → i < k → i < length ls → Includes (log_seen s) (log_seen (slice_index_or ms i d).seat)
 
-  pub gathering_first : (s : LaneSeat T Mark g) (ls : List (Lane T Mark g)) → IsHubSeat logged lock s → EachLane (IsIdleLane logged lock) ls → Gathering 0 s ls ls
+  pub gathering_first : (s : LaneSeat T Mark g) (ls : List (Lane T Mark g)) → IsHubSeat logged lock s → EachLane (IsIdleLane logged lock) ls → Gathering 0 s s ls ls
   gathering_first s ls hub idle =
       record {
         hub = hub;
+        splits = refl;
         count = refl;
         heard = λ i d lt. heard_first (slice_index_or ls i d) (idle i d lt);
         same = λ i d lt. refl;
@@ -155,7 +161,7 @@ module _ {T : Type 0} {g : Ghosts T Mark} (logged : Bool) (lock : HistLock T Mar
   pub spreading_first : (s : LaneSeat T Mark g) (ls : List (Lane T Mark g)) → IsHubSeat logged lock s → EachLane (IsIdleLane logged lock) ls → Spreading 0 s s ls ls
   spreading_first s ls hub idle =
       record {
-        hub = record { hub = hub; same = refl };
+        hub = record { hub = hub; splits = refl; same = refl };
         count = refl;
         heard = λ i d lt. heard_first (slice_index_or ls i d) (idle i d lt);
         includes = λ i d none lt. absurd (omega arith);
@@ -176,25 +182,26 @@ module _ {T : Type 0} {g : Ghosts T Mark} (logged : Bool) (lock : HistLock T Mar
         (λ e. heard_then (slice_index_or ls i d) (slice_index_or ms i d) moved (each i d lt) (subst (λ (x : Lane T Mark g). HasHeard logged lock x moved) (at_place ms k i item d inside e) here))
         (λ e. each i d lt)
 
-    pub gathering_on : (s t : LaneSeat T Mark g) → Gathering k s ls ms → log_seen moved.seat ≡ log_seen (slice_index_or ms k item).seat
-        → HubHears logged lock (log_seen (slice_index_or ms k item).seat) s t → Gathering (k + 1) t ls (set ms k moved)
-    gathering_on s t r same hears =
+    pub gathering_on : (s t u : LaneSeat T Mark g) → Gathering k s t ls ms → log_seen moved.seat ≡ log_seen (slice_index_or ms k item).seat
+        → HubHears logged lock (log_seen (slice_index_or ms k item).seat) t u → Gathering (k + 1) s u ls (set ms k moved)
+    gathering_on s t u r same hears =
         record {
           hub = hears.hub;
+          splits = hears.splits ∙ r.splits;
           count = length-set ms k moved ∙ count;
           heard = moved_heard;
           same = λ i d lt. by_place ms k i moved d (λ (x : Lane T Mark g). log_seen x.seat ≡ log_seen (slice_index_or ls i d).seat) inside
               (λ e. same ∙ (ap (λ (x : Lane T Mark g). log_seen x.seat) (at_place ms k i item d inside e) ∙ r.same i d lt)) (λ e. r.same i d lt);
           included = λ i d lt within. elim (eqb_tells i k) [
-            | inl e ↦ subst (λ (l : Log). Includes l (log_seen t)) (ap (λ (x : Lane T Mark g). log_seen x.seat) (at_place ms k i item d inside e.1) ∙ r.same i d within) hears.includes
-            | inr e ↦ includes_then (log_seen (slice_index_or ls i d).seat) (log_seen s) (log_seen t) (r.included i d (let n = e.1 in omega arith) within) hears.goes
+            | inl e ↦ subst (λ (l : Log). Includes l (log_seen u)) (ap (λ (x : Lane T Mark g). log_seen x.seat) (at_place ms k i item d inside e.1) ∙ r.same i d within) hears.includes
+            | inr e ↦ includes_then (log_seen (slice_index_or ls i d).seat) (log_seen t) (log_seen u) (r.included i d (let n = e.1 in omega arith) within) hears.goes
           ];
         }
 
     pub spreading_on : (s t u : LaneSeat T Mark g) → Spreading k s t ls ms → HubTells logged lock t u → Includes (log_seen t) (log_seen moved.seat) → Spreading (k + 1) s u ls (set ms k moved)
     spreading_on s t u r tells inc =
         record {
-          hub = record { hub = tells.hub; same = tells.same ∙ r.hub.same };
+          hub = record { hub = tells.hub; splits = tells.splits ∙ r.hub.splits; same = tells.same ∙ r.hub.same };
           count = length-set ms k moved ∙ count;
           heard = moved_heard;
           includes = λ i d lt within. by_place ms k i moved d (λ (x : Lane T Mark g). Includes (log_seen s) (log_seen x.seat)) inside

@@ -1,6 +1,5 @@
-pub mod Places
-pub mod Parts
-pub mod HeardLanes
-pub mod Crews
-pub mod Seatings
-pub mod Endings
+mod Places
+mod HeardLanes
+mod Crews
+mod Seatings
+mod Endings

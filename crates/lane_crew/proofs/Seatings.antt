@@ -1,5 +1,5 @@
 -- The seats of the lanes at the beginning and at the end.
-use Rattle.std.proofs.Common.{◌≡◌, ℕ, ◌+◌, ◌<◌, Bool, List, [], ◌∷◌, ◌++◌, refl, ap, ◌∙◌, sym, subst, arith, reverse, length, take, inl, inr}
+use Rattle.std.proofs.Common.{◌≡◌, ℕ, ◌+◌, ◌<◌, ◌≤◌, Bool, List, [], ◌∷◌, ◌++◌, refl, ap, ◌∙◌, sym, subst, arith, reverse, length, take, inl, inr}
 use Rattle.std.specs.Prelude.{slice_index_or}
 use Rattle.std.proofs.lemmas.Bool.Decides.{eqb_tells}
 use Rattle.std.proofs.lemmas.List.{length-append, take_all}
@@ -17,8 +17,9 @@ use Rattle.lane_walks.specs.Owes.{FaultsFit}
 use Rattle.lane_walks.specs.Phases.{LaneReady}
 use Rattle.lane_walks.proofs.PhaseLemmas.{ready_first}
 use Rattle.lane_seats.specs.Seats.{log_seen}
-use Rattle.lane_crew.specs.declared.lane.Lane.{Lane}
-use Rattle.lane_crew.specs.Lanes.{IsIdleLane, IsCrewMade, ArePhasesDone, IsJoined, AreJoined}
+use Rattle.lane_parts.specs.declared.lane.Lane.{Lane}
+use Rattle.lane_parts.specs.Parts.{IsIdleLane}
+use Rattle.lane_crew.specs.Lanes.{IsCrewMade, ArePhasesDone, IsJoined, AreJoined}
 use Rattle.lane_crew.proofs.Places.{at_snoc, take_last}
 
 -- before anything happened no fault is out of order
@@ -39,7 +40,8 @@ module _ {T : Type 0} {g : Ghosts T Mark} (lock : HistLock T Mark) where
   pub crew_first : (s : LaneSeat T Mark g) → IsOpeningSeat lock s → IsCrewMade lock 0 s []
   crew_first s r =
       record {
-        hub = record { table = r.table; first = r.is_first; free = r.is_last.0; number = r.number; count = r.splits };
+        hub = record { table = r.table; first = r.is_first; free = r.is_last.0; number = r.number };
+        splits = r.splits;
         room = (let e = r.is_last.1 in omega arith);
         alone = r.joined;
         unseen = r.seen;
@@ -47,9 +49,10 @@ module _ {T : Type 0} {g : Ghosts T Mark} (lock : HistLock T Mark) where
         places = λ i d lt. absurd (omega arith);
         idle = λ i d lt. absurd (omega arith);
         new = λ i d lt. absurd (omega arith);
+        none = λ i d lt. absurd (omega arith);
       }
 
-  module _ (k : ℕ) (s t : LaneSeat T Mark g) (ls : List (Lane T Mark g)) (x : Lane T Mark g) (r : IsCrewMade lock k s ls) (few : k < 8) (split : HasSplit lock s t) (seat : IsNewSeat lock t x.seat) (number : x.number.0 ≡ k + 1) where
+  module _ (k : ℕ) (s t : LaneSeat T Mark g) (ls : List (Lane T Mark g)) (x : Lane T Mark g) (r : IsCrewMade lock k s ls) (split : HasSplit lock s t) (seat : IsNewSeat lock t x.seat) (number : x.number.0 ≡ k + 1) where
     unseen : history_seen x.seat ≡ []
     unseen = seat.seen ∙ (split.seen ∙ r.unseen)
 
@@ -58,9 +61,8 @@ module _ {T : Type 0} {g : Ghosts T Mark} (lock : HistLock T Mark) where
         record {
           table = seat.table;
           free = seat.free;
-          number = seat.number ∙ (split.splits ∙ (ap (λ (n : ℕ). n + 1) r.hub.count ∙ sym number));
+          number = seat.number ∙ (split.splits ∙ (ap (λ (n : ℕ). n + 1) r.splits ∙ sym number));
           first = omega (arith, number);
-          last = omega (arith, number);
           alone = seat.joined;
           room = seat.room;
           faults = none_faulty logged (history_seen x.seat) unseen;
@@ -71,7 +73,8 @@ module _ {T : Type 0} {g : Ghosts T Mark} (lock : HistLock T Mark) where
         let count : length ls ≡ k = r.count in
         let len : length (ls ++ x ∷ []) ≡ length ls + 1 = length-append ls (x ∷ []) in
         record {
-          hub = record { table = split.table; first = split.is_first; free = split.free; number = split.number ∙ r.hub.number; count = split.splits ∙ ap (λ (n : ℕ). n + 1) r.hub.count };
+          hub = record { table = split.table; first = split.is_first; free = split.free; number = split.number ∙ r.hub.number };
+          splits = split.splits ∙ ap (λ (n : ℕ). n + 1) r.splits;
           room = (let a = r.room in let b = split.room in omega arith);
           alone = split.joined ∙ r.alone;
           unseen = split.seen ∙ r.unseen;
@@ -79,31 +82,34 @@ module _ {T : Type 0} {g : Ghosts T Mark} (lock : HistLock T Mark) where
           places = λ i d lt. at_snoc ls x i d (λ (l : Lane T Mark g). l.number.0 ≡ i + 1) (omega arith) (λ b. r.places i d b) (λ h. number ∙ (omega arith));
           idle = λ i d lt. at_snoc ls x i d (λ (l : Lane T Mark g). (logged : Bool) → IsIdleLane logged lock l) (omega arith) (λ b. r.idle i d b) (λ h. new_idle);
           new = λ i d lt. at_snoc ls x i d (λ (l : Lane T Mark g). log_seen l.seat ≡ []) (omega arith) (λ b. r.new i d b) (λ h. ap reverse unseen);
+          none = λ i d lt. at_snoc ls x i d (λ (l : Lane T Mark g). own_entries l.seat ≡ []) (omega arith) (λ b. r.none i d b) (λ h. seat.own);
         }
 
   -- the first seat may split off one more
-  pub crew_splits : (k : ℕ) (s : LaneSeat T Mark g) (ls : List (Lane T Mark g)) → IsCrewMade lock k s ls → k < 8 → IsFirst s × (1 < room_of s)
+  pub crew_splits : (k : ℕ) (s : LaneSeat T Mark g) (ls : List (Lane T Mark g)) → IsCrewMade lock k s ls → k < 16 → IsFirst s × (1 < room_of s)
   crew_splits k s ls r few = (r.hub.first, (let e = r.room in omega arith))
 
   -- each lane is ready for the first phase
-  pub crew_ready : (logged : Bool) (phases : List Phase) (s : LaneSeat T Mark g) (ls : List (Lane T Mark g)) → IsCrewMade lock 8 s ls → ArePhasesDone logged lock phases 0 s ls
-  crew_ready logged phases s ls r =
+  pub crew_ready : (logged : Bool) (n : ℕ) (phases : List Phase) (s : LaneSeat T Mark g) (ls : List (Lane T Mark g)) → IsCrewMade lock n s ls → 8 ≤ n → ArePhasesDone logged lock (length ls) phases 0 s ls
+  crew_ready logged n phases s ls r large =
       record {
-        hub = record { seat = r.hub; room = r.room; alone = r.alone; faults = none_faulty logged (history_seen s) r.unseen };
-        crew = record { count = r.count; places = r.places };
+        hub = record { seat = r.hub; room = (let a = r.room in let b = r.splits in omega arith); alone = r.alone; faults = none_faulty logged (history_seen s) r.unseen };
+        splits = r.splits ∙ sym r.count;
+        count = refl;
+        crew = record { lanes = (let c = r.count in omega arith); places = r.places; none = λ i d beyond lt. r.none i d lt };
         idle = λ i d lt. r.idle i d lt logged;
         ready = λ i d lt. subst (LaneReady logged (slice_index_or ls i d).number.0 phases [] phases) (sym (r.new i d lt)) (ready_first logged (slice_index_or ls i d).number.0 phases);
       }
 
   -- ---- the end
 
-  pub joined_first : (logged : Bool) (phases : List Phase) (k : ℕ) (s : LaneSeat T Mark g) (ls : List (Lane T Mark g)) → ArePhasesDone logged lock phases k s ls → AreJoined lock 8 s ls ls
-  joined_first logged phases k s ls r =
-      let count = r.crew.count in
+  pub joined_first : (logged : Bool) (n : ℕ) (phases : List Phase) (k : ℕ) (s : LaneSeat T Mark g) (ls : List (Lane T Mark g)) → ArePhasesDone logged lock n phases k s ls → AreJoined lock (length ls) s ls ls
+  joined_first logged n phases k s ls r =
       record {
         hub = r.hub.seat;
-        room = r.hub.room;
-        left = sym (take_all 8 ls (omega arith));
+        splits = r.splits ∙ sym r.count;
+        room = (let a = r.hub.room in let b = r.splits in let c = r.count in omega arith);
+        left = sym (take_all (length ls) ls (omega arith));
         within = omega arith;
         idle = λ i d lt. (logged, r.idle i d lt);
         joined = λ i d le lt. absurd (omega arith);
@@ -129,7 +135,8 @@ module _ {T : Type 0} {g : Ghosts T Mark} (lock : HistLock T Mark) where
     pub joined_on : HasTakenIn lock s x.seat t → HasBoth (history_seen s) (history_seen x.seat) (history_seen t) → AreJoined lock k t ls rest
     joined_on taken both =
         record {
-          hub = record { table = taken.table; first = taken.is_first r.hub.first; free = taken.free; number = taken.number ∙ r.hub.number; count = taken.splits ∙ r.hub.count };
+          hub = record { table = taken.table; first = taken.is_first r.hub.first; free = taken.free; number = taken.number ∙ r.hub.number };
+          splits = taken.splits ∙ r.splits;
           room = (let a = r.room in let b = taken.room in let c = last_idle.1.room in omega arith);
           left = last.0;
           within = (let w = r.within in omega arith);

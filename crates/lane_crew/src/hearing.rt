@@ -1,12 +1,14 @@
 //! What lanes hear of each other: the first seat hears of what each lane has seen, and then tells it to all.
 
 ghost use Rattle.std.specs.Prelude.{◌≡◌, ℕ, ◌<◌, length, false, slice_index_or};
+ghost use Rattle.hist_lock.specs.Seats.{split_count};
 ghost use Rattle.lane_walks.specs.Walks.{Includes};
 ghost use Rattle.lane_seats.specs.Seats.{log_seen};
-ghost use Rattle.lane_crew.specs.Lanes.{IsIdleLane, IsHubSeat, HasHeard, EachLane, EachChange, AllIncluded, EachIncluded, EachIncludes, HubHears, HubTells};
+ghost use Rattle.lane_parts.specs.Parts.{IsIdleLane};
+ghost use Rattle.lane_crew.specs.Lanes.{IsHubSeat, HasHeard, EachLane, EachChange, AllIncluded, EachIncluded, EachIncludes, HubHears, HubTells};
 
-use crate::lane::Lane;
 use hist_lock::{HistLock, LaneSeat};
+use lane_parts::Lane;
 use lane_seats::LaneRun;
 
 // The first seat hears of what a lane has seen.
@@ -54,6 +56,7 @@ fn gather<T: LaneRun>(
     ensures included { EachIncluded lanes.old (log_seen hub.new) }
     ensures heard { EachChange (HasHeard logged lock.now) lanes.old lanes.new }
     ensures length { length lanes.new ≡ length lanes.old }
+    ensures splits { split_count hub.new ≡ split_count hub.old }
 {
     for k in 0..lanes.len() {
         hear_lane(lock, logged, hub, &mut lanes[k]);
@@ -73,6 +76,7 @@ fn spread<T: LaneRun>(
     ensures includes { EachIncludes (log_seen hub.old) lanes.new }
     ensures heard { EachChange (HasHeard logged lock.now) lanes.old lanes.new }
     ensures length { length lanes.new ≡ length lanes.old }
+    ensures splits { split_count hub.new ≡ split_count hub.old }
 {
     for k in 0..lanes.len() {
         tell_lane(lock, logged, hub, &mut lanes[k]);
@@ -92,6 +96,7 @@ pub fn tell_all<T: LaneRun>(
     ensures all { AllIncluded lanes.old lanes.new }
     ensures heard { EachChange (HasHeard logged lock.now) lanes.old lanes.new }
     ensures length { length lanes.new ≡ length lanes.old }
+    ensures splits { split_count hub.new ≡ split_count hub.old }
 {
     gather(lock, logged, hub, lanes);
     spread(lock, logged, hub, lanes);

@@ -1,16 +1,13 @@
-//! Eight lanes as threads over one lock: the lines of a lane one after another, all lanes of a phase at once, phase after phase.
+//! Eight lanes and workers beside them, as threads over one lock: all lanes of a phase at once, phase after phase.
 #![tactic(auto)]
 
-pub mod halt;
 pub mod hearing;
-pub mod lane;
-pub mod part;
 pub mod phase;
 pub mod script;
 pub mod seating;
 #[cfg(test)]
 mod tests;
 
-pub use halt::Halt;
-pub use lane::{Lane, RunsLines};
+pub use lane_parts::{Lane, RunsLines};
+pub use lane_seats::Halt;
 pub use script::run_script;

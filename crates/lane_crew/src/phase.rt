@@ -1,4 +1,4 @@
-//! A phase: all lanes run their parts at once, and then each hears of what all did.
+//! A phase: all lanes run their parts at once, with the workers beside them, and then each hears of what all did.
 
 ghost use Rattle.std.specs.Prelude.{◌≡◌, ℕ, ◌<◌, false, IsTrue, OnOk, length};
 ghost use denote.Param.Send.{IsSync};
@@ -6,22 +6,24 @@ ghost use Rattle.nrt_base.specs.contracts.list.List as list;
 ghost use Rattle.script_serving.specs.contracts.script.Phase as script_phase;
 ghost use Rattle.script_serving.specs.declared.script.Phase.{Phase};
 ghost use Rattle.script_serving.specs.Form.{is_phase};
-ghost use Rattle.lane_crew.specs.Lanes.{AreCrew, IsHubSeat, EachLane, EachChange, MayRunPart, RunsPart, CrewDoesPhase};
+ghost use Rattle.lane_parts.specs.Parts.{MayRunPart, TakesTurn};
+ghost use Rattle.lane_crew.specs.Lanes.{AreCrew, IsHubSeat, EachLane, EachChange, CrewDoesPhase};
 
-use crate::halt::Halt;
 use crate::hearing::tell_all;
-use crate::lane::{Lane, RunsLines};
-use crate::part::run_part;
 use hist_lock::{HistLock, LaneSeat};
-use lane_seats::LaneRun;
+use lane_parts::{Lane, RunsLines, take_turn};
+use lane_seats::{Halt, LaneRun};
 use nrt_base::{LaneNo, List, NoMemory};
 use script_serving::{Line, Phase};
 use std::alloc::AllocError;
 use std::sync::Wait;
 use std::thread::{Threads, for_each_mut};
 
-/// How many threads the parts of a phase may have.
+/// How many seats a crew has without workers.
 const LANES: usize = 8;
+
+/// How many seats it has at most.
+const SEATS: usize = 16;
 
 // What stands for a phase. Where a type is a parameter, that threads may share it is a bound.
 trait AsPhase {
@@ -69,18 +71,18 @@ fn any_failed<T: LaneRun>(lanes: &[Lane<T>]) -> bool
     false
 }
 
-// How many threads a phase is worth: one where at most one lane has lines.
-fn threads_for(phase: &Phase) -> usize
+// How many threads a phase is worth: one where there are no workers and at most one lane has lines, else one for each seat.
+fn threads_for(phase: &Phase, seats: usize) -> usize
     ensures { 0 < result }
 {
-    if phase.lanes.as_slice().len() <= 1 {
+    if seats <= LANES && phase.lanes.as_slice().len() <= 1 {
         1
     } else {
-        LANES
+        SEATS
     }
 }
 
-// All lanes run their parts of a phase at once.
+// All take their turns in a phase at once. Lanes stand before workers, so that no lane waits for a thread that a worker has.
 fn run_parts<
     R: Threads + Wait + Sync,
     T: LaneRun + Send,
@@ -90,21 +92,22 @@ fn run_parts<
     requires phase { IsTrue (is_phase (P.phase phase.now)) }
     requires may { EachLane (MayRunPart (Q.set_up runner.now).log lock.now (Q.runs runner.now)
         (P.phase phase.now)) lanes.old }
-    ensures ran { EachChange (RunsPart (Q.set_up runner.now).log lock.now (P.phase phase.now))
+    ensures ran { EachChange (TakesTurn (Q.set_up runner.now).log lock.now (P.phase phase.now))
         lanes.old lanes.new }
     ensures length { length lanes.new ≡ length lanes.old }
 {
+    let threads = threads_for(phase.as_phase(), lanes.len());
     for_each_mut(
         rt,
         lanes,
-        threads_for(phase.as_phase()),
+        threads,
         &|_: usize, lane: &mut Lane<T>|
             requires { IsTrue (is_phase (P.phase phase.now))
                 × MayRunPart (Q.set_up runner.now).log lock.now (Q.runs runner.now)
                 (P.phase phase.now) lane.old }
-            ensures { RunsPart (Q.set_up runner.entry.now).log lock.entry.now
+            ensures { TakesTurn (Q.set_up runner.entry.now).log lock.entry.now
                 (P.phase phase.entry.now) lane.old lane.new }
-        { run_part(rt, lock, halt, runner, lane, phase.as_phase()) },
+        { take_turn(rt, lock, halt, runner, lane, phase.as_phase()) },
     );
 }
 
@@ -112,7 +115,6 @@ fn run_parts<
 pub fn run_phase<R: Threads + Wait + Sync, T: LaneRun + Send, Q: RunsLines<T> + Sync>(
     rt: &R,
     lock: &HistLock<T>,
-    halt: &Halt,
     runner: &Q,
     logged: bool,
     hub: &mut LaneSeat<T>,
@@ -124,10 +126,12 @@ pub fn run_phase<R: Threads + Wait + Sync, T: LaneRun + Send, Q: RunsLines<T> + 
     requires crew { AreCrew lanes.old }
     requires hub { IsHubSeat logged lock.now hub.old }
     requires may { EachLane (MayRunPart logged lock.now (Q.runs runner.now) phase.now) lanes.old }
-    ensures { OnOk result (CrewDoesPhase logged lock.now phase.now hub.new lanes.old lanes.new) }
+    ensures { OnOk result (CrewDoesPhase logged lock.now phase.now hub.old hub.new
+        lanes.old lanes.new) }
 {
     phase_is_shared();
-    run_parts(rt, lock, halt, runner, lanes, phase);
+    let halt = Halt::new();
+    run_parts(rt, lock, &halt, runner, lanes, phase);
     if any_failed(lanes) {
         return Err(AllocError);
     }

@@ -8,13 +8,13 @@ ghost use Rattle.script_serving.specs.Serves.{Serves};
 ghost use Rattle.history_book.specs.Log.{name_of};
 ghost use Rattle.lane_walks.specs.Owes.{IsSettledLog};
 ghost use Rattle.lane_walks.specs.Phases.{ArePhasesInForm, lines_in, IsHistoryOf};
-ghost use Rattle.lane_crew.specs.Lanes.{all_run, ArePhasesDone, setup_of};
+ghost use Rattle.lane_parts.specs.Parts.{all_run};
+ghost use Rattle.lane_crew.specs.Lanes.{ArePhasesDone, setup_of};
 
-use crate::halt::Halt;
-use crate::lane::{Lane, RunsLines};
 use crate::phase::run_phase;
 use crate::seating::{disband, make_crew};
 use hist_lock::{HistLock, LaneSeat};
+use lane_parts::{Lane, RunsLines};
 use lane_seats::{LaneRun, Setup, is_running};
 use nrt_base::NoMemory;
 use script_serving::{Phase, Script};
@@ -35,13 +35,13 @@ fn run_phases<R: Threads + Wait + Sync, T: LaneRun + Send, Q: RunsLines<T> + Syn
     requires form { ArePhasesInForm phases.now }
     requires logged { (Q.set_up runner.now).log ≡ logged }
     requires runs { IsTrue (all_run (Q.runs runner.now) (lines_in phases.now)) }
-    requires begun { ArePhasesDone logged lock.now phases.now 0 hub.old lanes.old }
-    ensures { OnOk result (ArePhasesDone logged lock.now phases.now (length phases.now)
-        hub.new lanes.new) }
+    requires begun { ArePhasesDone logged lock.now (length lanes.old) phases.now 0
+        hub.old lanes.old }
+    ensures { OnOk result (ArePhasesDone logged lock.now (length lanes.old) phases.now
+        (length phases.now) hub.new lanes.new) }
 {
-    let halt = Halt::new();
     for phase in phases {
-        run_phase(rt, lock, &halt, runner, logged, hub, lanes, phase)?;
+        run_phase(rt, lock, runner, logged, hub, lanes, phase)?;
     }
     Ok(())
 }
@@ -58,10 +58,10 @@ fn run_all<R: Threads + Wait + Sync, T: LaneRun + Send, Q: RunsLines<T> + Sync>(
     requires form { IsInForm script.now }
     requires setup { Q.set_up runner.now ≡ setup_of script.now }
     requires runs { IsTrue (all_run (Q.runs runner.now) (lines_of script.now)) }
-    requires begun { ArePhasesDone script.now.log lock.now script.now.phases 0
-        hub.old lanes.old.items }
-    ensures { OnOk result (ArePhasesDone script.now.log lock.now script.now.phases
-        (length script.now.phases) hub.new lanes.new.items) }
+    requires begun { ArePhasesDone script.now.log lock.now (length lanes.old.items)
+        script.now.phases 0 hub.old lanes.old.items }
+    ensures { OnOk result (ArePhasesDone script.now.log lock.now (length lanes.old.items)
+        script.now.phases (length script.now.phases) hub.new lanes.new.items) }
 {
     run_phases(
         rt,
@@ -97,9 +97,10 @@ fn is_whole<T: LaneRun>(run: &T, script: &Script) -> bool
     is_running(run, setup)
 }
 
-/// Runs a script on a new value, by eight lanes in threads of their own, and answers the value as the script leaves it.
+/// Runs a script on a new value, by eight lanes and the script's workers in threads of their own, and answers the value as the script
+/// leaves it.
 ///
-/// Whatever the lanes' threads do in between, the history that is left serves the script. `Err` is want of memory alone.
+/// Whatever the threads do in between, the history that is left serves the script. `Err` is want of memory alone.
 pub fn run_script<R: Threads + Wait + Sync, T: LaneRun + Send + Drop, Q: RunsLines<T> + Sync>(
     rt: &R,
     alloc: Global,
@@ -119,7 +120,7 @@ pub fn run_script<R: Threads + Wait + Sync, T: LaneRun + Send + Drop, Q: RunsLin
     names_are_seats::<T>();
     log_is_history(&run);
     let (lock, mut hub) = HistLock::new(alloc, run)?;
-    let mut lanes = make_crew(alloc, &lock, &mut hub)?;
+    let mut lanes = make_crew(alloc, &lock, &mut hub, script.workers)?;
     run_all(rt, &lock, runner, &mut hub, &mut lanes, script)?;
     disband(lanes, &lock, &mut hub);
     let left = lock.close(hub);

@@ -1,13 +1,14 @@
-//! Phases in which nothing is asked for, by eight lanes in threads.
+//! Phases in which nothing is asked for, by eight lanes and two workers in threads.
 
 ghost use Rattle.std.specs.Prelude.{◌≡◌, [], ◌∷◌, false, IfOk, refl};
 ghost use Rattle.history_book.specs.Log.{name_of};
 ghost use Rattle.script_serving.specs.Form.{IsInForm};
 
-use crate::{Halt, RunsLines, run_script};
+use crate::run_script;
 use hist_lock::{Grows, HistLock, LaneSeat};
 use history_book::Mark;
-use lane_seats::{LaneRun, Setup};
+use lane_parts::RunsLines;
+use lane_seats::{Halt, LaneRun, Setup};
 use nrt_base::{LaneNo, List, NoMemory};
 use script_serving::{Line, LineCommand, Phase, Script};
 use std::alloc::Global;
@@ -91,7 +92,7 @@ fn silent_script(alloc: Global) -> Result<Script, NoMemory>
     phases.push(silent_phase(alloc)?)?;
     Ok(Script {
         nodes: 2,
-        workers: 0,
+        workers: 2,
         log: false,
         phases,
     })

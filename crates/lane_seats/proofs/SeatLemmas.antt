@@ -173,7 +173,6 @@ has_entered {g = g} named logged lock at before after history log is r same insi
         inside = inside;
         number = same.number ∙ r.number;
         first = r.first;
-        last = r.last;
         alone = same.joined ∙ r.alone;
         room = room ∙ r.room;
       };

@@ -22,7 +22,6 @@ module _ {T : Type 0} {g : Ghosts T Mark} where
     pub free : IsFree s
     pub number : number_of s ≡ lane
     pub first : 1 ≤ lane
-    pub last : lane ≤ 8
     pub alone : joined_seats s ≡ []
     pub room : room_of s ≡ 1
     pub faults : FaultsFit logged (log_seen s)
@@ -33,7 +32,6 @@ module _ {T : Type 0} {g : Ghosts T Mark} where
     pub inside : IsInside s
     pub number : number_of s ≡ lane
     pub first : 1 ≤ lane
-    pub last : lane ≤ 8
     pub alone : joined_seats s ≡ []
     pub room : room_of s + 1 ≡ 1
 

@@ -11,4 +11,4 @@ pub loop-k-preserved : goal.loop-k-preserved
 loop-k-preserved g c =
     let r = c.loop-k.invariant in
     gathering_on c.args.logged c.args.lock.now c.loop-k.k c.args.lanes.now c.loop-k.lanes c.index-lanes-k.result c.hear_lane.new.lane c.loop-k-test.true r.count r.heard c.hear_lane.ensures.lane
-    c.loop-k.hub c.hear_lane.new.hub r c.hear_lane.ensures.same c.hear_lane.ensures.hub
+    c.args.hub.now c.loop-k.hub c.hear_lane.new.hub r c.hear_lane.ensures.same c.hear_lane.ensures.hub

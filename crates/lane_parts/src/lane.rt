@@ -1,4 +1,4 @@
-//! A lane, and what runs its lines.
+//! Lanes and workers, and what runs the lines of a lane.
 
 ghost use Rattle.std.specs.Prelude.{◌≡◌, Bool, [], IsTrue, OnOk};
 ghost use Rattle.history_entries.specs.Lines.{entries_of_line};
@@ -7,19 +7,19 @@ ghost use Rattle.history_book.specs.Log.{printed};
 ghost use Rattle.lane_seats.specs.declared.run.Setup.{Setup};
 ghost use Rattle.lane_seats.specs.Seats.{log_seen, IsLaneSeat, EndsItsLine};
 
-use crate::halt::Halt;
 use hist_lock::{Grows, HistLock, LaneSeat};
-use lane_seats::{LaneRun, Setup};
+use lane_seats::{Halt, LaneRun, Setup};
 use nrt_base::{LaneNo, NoMemory};
 use script_serving::{Line, LineCommand};
 use std::sync::Wait;
 
-/// What runs the lines of one lane.
+/// One of those that run beside each other over one lock: a lane, which runs its lines, or a worker, whose number is above those of the
+/// eight lanes.
 #[derive(Drop)]
 pub struct Lane<T: Grows> {
     pub seat: LaneSeat<T>,
     pub number: LaneNo,
-    /// Whether a line was out of memory.
+    /// Whether it was out of memory in the last phase.
     pub failed: bool,
 }
 

@@ -6,12 +6,11 @@ ghost use Rattle.script_serving.specs.Lines.{lines_under};
 ghost use Rattle.history_book.specs.Log.{printed};
 ghost use Rattle.lane_walks.specs.Walks.{AreUnbegun, ArePart};
 ghost use Rattle.lane_seats.specs.Seats.{log_seen, IsLaneSeat};
-ghost use Rattle.lane_crew.specs.Lanes.{all_run, EndsItsPart, MayRunPart, RunsPart};
+ghost use Rattle.lane_parts.specs.Parts.{all_run, EndsItsPart, MayRunPart, RunsPart};
 
-use crate::halt::Halt;
 use crate::lane::{Lane, RunsLines};
 use hist_lock::{HistLock, LaneSeat};
-use lane_seats::LaneRun;
+use lane_seats::{Halt, LaneRun};
 use nrt_base::{LaneNo, NoMemory};
 use script_serving::{Line, Phase};
 use std::alloc::AllocError;

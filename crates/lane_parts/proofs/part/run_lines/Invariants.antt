@@ -1,6 +1,6 @@
 use Rattle.lane_walks.specs.Walks.{Going}
 use Rattle.lane_seats.specs.Seats.{log_seen, IsLaneSeat}
-use Rattle.lane_crew.proofs.part.run_lines.Given as goal
+use Rattle.lane_parts.proofs.part.run_lines.Given as goal
 
 abbrev pub invariant-loop-line : goal.invariant-loop-line
 invariant-loop-line g l =

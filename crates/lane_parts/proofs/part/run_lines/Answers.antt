@@ -3,8 +3,8 @@ use Rattle.lane_walks.proofs.LineLemmas.{going_first, going_on, line_lane, line_
 use Rattle.history_book.specs.Log.{printed}
 use Rattle.lane_seats.specs.Seats.{log_seen, IsLaneSeat}
 use Rattle.script_serving.specs.declared.script.Line.{Line}
-use Rattle.lane_crew.proofs.Parts.{line_passes}
-use Rattle.lane_crew.proofs.part.run_lines.Goals as goal
+use Rattle.lane_parts.proofs.Parts.{line_passes}
+use Rattle.lane_parts.proofs.part.run_lines.Goals as goal
 
 pub loop-line-init : goal.loop-line-init
 loop-line-init g c =

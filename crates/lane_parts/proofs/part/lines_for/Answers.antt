@@ -1,7 +1,7 @@
 use Rattle.std.proofs.Common.{◌∙◌}
 use Rattle.script_serving.specs.Lines.{lines_under}
-use Rattle.lane_crew.proofs.Parts.{seeking_first, seeking_on, sought}
-use Rattle.lane_crew.proofs.part.lines_for.Goals as goal
+use Rattle.lane_parts.proofs.Parts.{seeking_first, seeking_on, sought}
+use Rattle.lane_parts.proofs.part.lines_for.Goals as goal
 
 pub loop-number-init : goal.loop-number-init
 loop-number-init c = seeking_first c.args.phase.now _ c.args.lane.0 c.requires c.as_slice-number-items.ensures
