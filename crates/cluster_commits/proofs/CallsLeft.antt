@@ -38,7 +38,7 @@ goes_on book (Some (Written s)) some last = record { one = refl; more = λ none.
 goes_on book (Some (Pending s)) some last = record { one = refl; more = λ none. absurd (omega (arith, none)) }
 goes_on book (Some (Named s)) some last = record { one = refl; more = λ none. absurd (omega (arith, none)) }
 goes_on book (Some (Renamed s)) some last = absurd (true≢false last)
-goes_on book None some last = absurd some
+goes_on book None some last = absurd (true≢false (sym some))
 
 ends_with : (s : Option Stage) → is_last_step s ≡ true → stage_calls s ≡ 1
 ends_with (Some (Renamed s)) last = refl
