@@ -1,10 +1,9 @@
 -- What entries, calls and a wider source leave of the nodes' commits, and of what crashes left.
-use Rattle.std.proofs.Common.{◌≡◌, ◌≢◌, ◌≤◌, ◌==◌, ℕ, Bool, true, false, true≢false, List, [], ◌∷◌, Some, None, Option, refl, ap, ◌∙◌, sym, subst, arith, if◌then◌else◌, max}
-use Rattle.std.specs.Prelude.{IsSomeAnd, IfSome, not, is_some, nat_lt, ◌||◌, ◌&&◌}
+use Rattle.std.proofs.Common.{◌≡◌, ◌≢◌, ◌==◌, ℕ, Bool, true, false, true≢false, List, [], ◌∷◌, Some, None, Option, refl, ap, ◌∙◌, sym, subst, if◌then◌else◌}
+use Rattle.std.specs.Prelude.{IsSomeAnd, IfSome, is_some, nat_lt, ◌||◌, ◌&&◌}
 use Rattle.std.specs.List.{list_any}
-use Rattle.std.proofs.lemmas.Bool.{eqb-true, eq-eqb, or_right}
+use Rattle.std.proofs.lemmas.Bool.{eqb-true, or_right}
 use Rattle.nrt_base.specs.declared.numbers.At.{At}
-use Rattle.nrt_base.specs.declared.numbers.NodeNo.{NodeNo}
 use Rattle.disk_model.specs.Disk.{Name, Content, Cells}
 use Rattle.segment_infos.specs.declared.infos.Infos.{Infos}
 use Rattle.commit_steps.specs.Book.{commit_of}
@@ -13,7 +12,7 @@ use Rattle.commit_steps.specs.declared.stage.Stage.{Stage}
 use Rattle.commit_steps.specs.declared.stage.CommitBook.{CommitBook}
 use Rattle.history_entries.specs.declared.entry.Event.{Event}
 use Rattle.history_entries.specs.declared.entry.Event.TheVariants.{Published, Switched, Committing, Committed, Crashed, Reopened, Promoted}
-use Rattle.history_entries.specs.Nodes.{Past, IsNode, is_at, primary_of}
+use Rattle.history_entries.specs.Nodes.{Past, is_at, primary_of}
 use Rattle.history_entries.specs.Lines.{same_at, is_start, is_reply, start_entry, without_at, commit_in_flight}
 use Rattle.history_entries.specs.Commits.{has_committed, late_commit, more_by, reopenable_versions}
 use Rattle.history_entries.specs.Legal.{KeepsRule, IsLegalPast}
@@ -29,7 +28,7 @@ use Rattle.cluster_places.specs.Places.{Disk, place_of, disk_of, disk_at}
 use Rattle.cluster_places.specs.KeptFiles.{KeepsNodeFiles}
 use Rattle.cluster_places.specs.JobPlaces.{MovesOne, MovesBoth}
 use Rattle.cluster_state.specs.Run.{Run}
-use Rattle.cluster_state.specs.Disks.{IsPastPoint, MayFindPoint, LastShows, CommitsPoint, StageShows, BookShows, DirShows, DiskShows, DisksShow, CommitsStay}
+use Rattle.cluster_state.specs.Disks.{MayFindPoint, LastShows, StageShows, BookShows, DirShows, DiskShows, DisksShow, CommitsStay}
 use Rattle.cluster_state.specs.FileChanges.{is_commit_line, keeps_commits}
 use Rattle.cluster_state.proofs.Points.{points_alone, points_then, points_shown, point_stays}
 use Rattle.cluster_state.proofs.Frames.{some_then}

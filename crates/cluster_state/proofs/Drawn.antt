@@ -1,5 +1,5 @@
 -- Names that files may have stay such: what a generation has drawn becomes no less.
-use Rattle.std.proofs.Common.{◌≡◌, ◌≤◌, ◌<◌, ◌+◌, ◌^◌, ◌==◌, inl, inr, nat_lt, ℕ, Bool, true, false, true≢false, List, [], ◌∷◌, refl, ap, ◌∙◌, sym, subst, arith, if◌then◌else◌}
+use Rattle.std.proofs.Common.{◌≡◌, ◌≤◌, ◌<◌, ◌+◌, ◌^◌, ◌==◌, inl, inr, nat_lt, ℕ, Bool, true, false, true≢false, [], ◌∷◌, refl, ap, ◌∙◌, sym, arith, if◌then◌else◌}
 use Rattle.std.proofs.lemmas.Bool.{eqb-true, eq-eqb}
 use Rattle.std.proofs.lemmas.Bool.Decides.{nat_tests}
 use Rattle.nrt_base.specs.SegNumbers.{segment_number, segment_place, segment_generation, segments_of_generation}

@@ -12,7 +12,6 @@ use Rattle.seg_reader.specs.Shown.{Shown}
 use Rattle.segment_infos.specs.declared.infos.Infos.{Infos}
 use Rattle.index_primary.specs.declared.parts.Parts.{Parts as PrimaryParts}
 use Rattle.index_primary.specs.declared.states.Out.{Out}
-use Rattle.commit_steps.specs.declared.stage.CommitBook.{CommitBook}
 use Rattle.index_primary.specs.Primary.{IsPrimary, primary_names}
 use Rattle.file_names.specs.Names.{live_name_of}
 use Rattle.segment_steps.specs.Next.{live_base}

@@ -1,6 +1,6 @@
 -- What the invariant of files says of the nodes of a call, and of the job that runs at one.
-use Rattle.std.proofs.Common.{◌≡◌, ◌≤◌, ◌&&◌, ◌==◌, ℕ, Bool, true, false, true≢false, List, [], ◌∷◌, Some, None, Option, Vec, Global, refl, ap, ◌∙◌, sym, subst, arith, if◌then◌else◌, nat_le}
-use Rattle.std.specs.Prelude.{IsSomeAnd, IfSome, not}
+use Rattle.std.proofs.Common.{◌≡◌, ◌≤◌, ℕ, true, true≢false, List, Some, None, Option, Vec, Global, refl, ap, ◌∙◌, sym, subst, arith, nat_le}
+use Rattle.std.specs.Prelude.{IsSomeAnd, IfSome}
 use Rattle.std.proofs.lemmas.Bool.{eq-eqb}
 use Rattle.std.proofs.lemmas.Bool.Decides.{nat_tests}
 use Rattle.nrt_base.specs.declared.numbers.At.{At}
@@ -15,15 +15,11 @@ use Rattle.history_entries.specs.Nodes.{IsNode, IsReplica, is_at, primary_of, ne
 use Rattle.history_entries.specs.Lines.{copy_in_flight, is_free_for}
 use Rattle.history_tables.specs.declared.jobs.Job.{Job}
 use Rattle.history_tables.specs.declared.jobs.JobRow.{JobRow}
-use Rattle.history_tables.specs.declared.jobs.JobStep.{JobStep}
-use Rattle.history_tables.specs.declared.jobs.JobStep.TheVariants.{Begins, Ends, Passes}
-use Rattle.history_tables.specs.JobRows.{new_job_row, is_going, row_by, row_if_some, last_job_by, while_going}
+use Rattle.history_tables.specs.JobRows.{is_going, while_going}
 use Rattle.history_tables.specs.NodeRows.{crashed_at}
 use Rattle.history_tables.specs.Numbering.{primary_crashed}
-use Rattle.history_book.specs.declared.inner.Mark.TheVariants.{Shown, TaskFault, Kept}
 use Rattle.history_book.specs.Log.{Log, printed}
-use Rattle.history_book.specs.Jobs.{job_step, last_job, job_at, job_of, IsOlder, LaneJobShows}
-use Rattle.history_book.proofs.LineLaws.{and_false}
+use Rattle.history_book.specs.Jobs.{job_at, IsOlder, LaneJobShows}
 use Rattle.history_book.proofs.JobLaws.{going_at}
 use Rattle.history_book.proofs.ReignLaws.{node_alive, source_alive}
 use Rattle.cluster_places.specs.declared.held.Held.{Held}

@@ -16,7 +16,7 @@ use Rattle.segment_infos.specs.declared.infos.SegRecord.{SegRecord}
 use Rattle.segment_infos.specs.declared.infos.Infos.{Infos}
 use Rattle.segment_infos.specs.Files.{files_of_segment, AreFilesOf}
 use Rattle.commit_steps.proofs.Safe.{among_of, contains_of}
-use Rattle.node_files.specs.Appearing.{NoneAppears, AppearsOnly}
+use Rattle.node_files.specs.Appearing.{AppearsOnly}
 use Rattle.node_files.proofs.Appearing.{stood_or, only_none}
 use Rattle.seg_reader.specs.Shown.{Shown}
 use Rattle.searcher_switch.specs.declared.open.Open.{Open}
@@ -24,8 +24,7 @@ use Rattle.searcher_switch.specs.Searching.{searcher_names}
 use Rattle.index_primary.specs.declared.parts.Parts.{Parts as PrimaryParts}
 use Rattle.index_primary.specs.Held.{IsOwnSegment, IsOwnFile, IsDrawnRecord}
 use Rattle.index_primary.specs.Primary.{IsPrimary, loose_of, primary_names, rest_names}
-use Rattle.copy_state.specs.declared.meta.FileMetaData.{FileMetaData}
-use Rattle.copy_state.specs.States.{meta_names, meta_in}
+use Rattle.copy_state.specs.States.{meta_names}
 use Rattle.copy_job.specs.declared.copying.Part.{Part}
 use Rattle.replica_opening.specs.Known.{IsLasting, HasMeta}
 use Rattle.replica_node.specs.declared.job.PointJob.{PointJob}

@@ -1,14 +1,13 @@
 -- What a primary of the next generation needs of a point of the history: its segments are numbered, and its files that are not written yet
 -- mean nothing and are held by nobody.
-use Rattle.std.proofs.Common.{◌≡◌, ◌⊎◌, ◌<◌, ◌≤◌, ◌+◌, ◌-◌, ◌*◌, ◌^◌, inl, inr, nat_lt, ℕ, Bool, true, List, [], Some, None, get_or, refl, ap, ◌∙◌, sym, subst, arith}
+use Rattle.std.proofs.Common.{◌≡◌, ◌<◌, ◌≤◌, ◌+◌, ◌-◌, ◌*◌, ◌^◌, inl, inr, nat_lt, ℕ, true, List, [], Some, None, get_or, refl, ap, ◌∙◌, sym, subst, arith}
 use Rattle.std.specs.List.{All, Contains}
 use Rattle.std.proofs.lemmas.Bool.{ltb-true}
 use Rattle.std.proofs.lemmas.Bool.Decides.{nat_tests}
 use Rattle.std.proofs.lemmas.List.Elements.{All-contains}
-use Rattle.nrt_base.specs.SegNumbers.{segments_of_generation, segment_number, segment_place, segment_generation}
+use Rattle.nrt_base.specs.SegNumbers.{segment_number, segment_place, segment_generation}
 use Rattle.disk_model.specs.Disk.{Name, Content, Cells}
-use Rattle.file_names.specs.Names.{part_name_of, live_name_of, IsFileOfSegment}
-use Rattle.file_names.specs.declared.composed.SegPart.{SegPart}
+use Rattle.file_names.specs.Names.{live_name_of, IsFileOfSegment}
 use Rattle.file_names.proofs.NameReading.{file_apart}
 use Rattle.file_deleter.specs.Holdings.{Holdings}
 use Rattle.segment_infos.specs.declared.infos.SegRecord.{SegRecord}
@@ -16,11 +15,11 @@ use Rattle.segment_infos.specs.declared.infos.Infos.{Infos}
 use Rattle.segment_steps.specs.Next.{record_generation, live_base}
 use Rattle.commit_steps.specs.declared.stage.CommitBook.{CommitBook}
 use Rattle.node_files.specs.Node.{IsWholeNode}
-use Rattle.index_primary.specs.Held.{drawn_to, IsUnused, IsNextLive, IsUndrawn, part, live, next_live, AreUndrawn, IsDrawnRecord, AreNumbered}
+use Rattle.index_primary.specs.Held.{IsUnused, IsNextLive, IsUndrawn, part, live, next_live, AreUndrawn, IsDrawnRecord, AreNumbered}
 use Rattle.replica_opening.specs.Known.{IsLasting}
 use Rattle.replica_node.specs.Sources.{HeldReadAs}
 use Rattle.history_entries.specs.Nodes.{Past, generation_of}
-use Rattle.history_entries.specs.Points.{names_drawn_in, is_drawn, IsDrawnFile}
+use Rattle.history_entries.specs.Points.{names_drawn_in, is_drawn}
 use Rattle.history_entries.specs.Legal.{IsLegalPast}
 use Rattle.history_tables.proofs.RowLemmas.{by_test}
 use Rattle.cluster_state.specs.Files.{MeansDrawn}
