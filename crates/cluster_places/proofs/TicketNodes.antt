@@ -3,10 +3,10 @@ use Rattle.std.proofs.Common.{◌≡◌, ◌∙◌, ℕ, List, refl, ap, sym, su
 use Rattle.disk_model.specs.Disk.{Cells}
 use Rattle.node_files.specs.Appearing.{NoneAppears}
 use Rattle.segment_infos.specs.declared.infos.Infos.{Infos}
-use Rattle.index_primary.specs.declared.parts.Parts.{Parts as PrimaryParts}
-use Rattle.index_primary.specs.Held.{IsUndrawn}
-use Rattle.index_primary.specs.Primary.{KeepsHeldBytes, loose_of}
-use Rattle.index_primary.specs.Calls.{HoldsNoNew}
+use Rattle.primary_parts.specs.declared.parts.Parts.{Parts as PrimaryParts}
+use Rattle.primary_parts.specs.Held.{IsUndrawn}
+use Rattle.primary_parts.specs.Primary.{KeepsHeldBytes, loose_of}
+use Rattle.primary_parts.specs.Calls.{HoldsNoNew}
 use Rattle.seg_reader.specs.Shown.{Shown}
 use Rattle.searcher_switch.specs.declared.open.Point.{Point}
 use Rattle.replica_node.specs.declared.parts.Parts.{Parts as ReplicaParts}

@@ -1,11 +1,11 @@
 -- What calls leave of the files of a node.
 use Rattle.std.specs.Prelude.{◌≡◌}
 use Rattle.disk_model.specs.Disk.{Cells}
-use Rattle.index_primary.specs.declared.parts.Parts.{Parts as PrimaryParts}
+use Rattle.primary_parts.specs.declared.parts.Parts.{Parts as PrimaryParts}
 use Rattle.node_files.specs.Appearing.{NoneAppears, AppearsOnly}
-use Rattle.index_primary.specs.Held.{IsOwnFile}
-use Rattle.index_primary.specs.Primary.{KeepsHeldBytes, loose_of}
-use Rattle.index_primary.specs.Calls.{FillsUndrawn, DrawsOnly, HoldsNoNew}
+use Rattle.primary_parts.specs.Held.{IsOwnFile}
+use Rattle.primary_parts.specs.Primary.{KeepsHeldBytes, loose_of}
+use Rattle.primary_parts.specs.Calls.{FillsUndrawn, DrawsOnly, HoldsNoNew}
 use Rattle.replica_node.specs.declared.parts.Parts.{Parts as ReplicaParts}
 use Rattle.replica_node.specs.Sources.{KeepsSource}
 use Rattle.cluster_places.specs.declared.nodes.Node.{Node}

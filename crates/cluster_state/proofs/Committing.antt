@@ -21,11 +21,11 @@ use Rattle.commit_steps.specs.Book.{commit_of, book_by, book_after, is_last_step
 use Rattle.node_files.specs.Appearing.{IsNameInFlight}
 use Rattle.searcher_switch.specs.declared.open.Open.{Open}
 use Rattle.searcher_switch.specs.declared.open.Point.{Point}
-use Rattle.index_primary.specs.declared.parts.Parts.{Parts as PrimaryParts}
-use Rattle.index_primary.specs.declared.parts.Publish.{Publish}
-use Rattle.index_primary.specs.declared.states.Out.{Out}
-use Rattle.index_primary.specs.Held.{IsUndrawn}
-use Rattle.index_primary.specs.Primary.{IsPrimary, loose_of}
+use Rattle.primary_parts.specs.declared.parts.Parts.{Parts as PrimaryParts}
+use Rattle.primary_parts.specs.declared.parts.Publish.{Publish}
+use Rattle.primary_parts.specs.declared.states.Out.{Out}
+use Rattle.primary_parts.specs.Held.{IsUndrawn}
+use Rattle.primary_parts.specs.Primary.{IsPrimary, loose_of}
 use Rattle.replica_opening.specs.Known.{IsLasting}
 use Rattle.replica_node.specs.declared.job.PointJob.{PointJob}
 use Rattle.replica_node.specs.declared.parts.Parts.{Parts as ReplicaParts}

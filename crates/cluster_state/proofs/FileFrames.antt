@@ -12,10 +12,10 @@ use Rattle.disk_model.specs.Disk.{Name, Content, Cells}
 use Rattle.seg_reader.specs.Shown.{Shown}
 use Rattle.seg_reader.specs.Stands.{StandsFor}
 use Rattle.segment_infos.specs.declared.infos.Infos.{Infos}
-use Rattle.index_primary.specs.declared.parts.Parts.{Parts as PrimaryParts}
-use Rattle.index_primary.specs.declared.states.Out.{Out}
+use Rattle.primary_parts.specs.declared.parts.Parts.{Parts as PrimaryParts}
+use Rattle.primary_parts.specs.declared.states.Out.{Out}
 use Rattle.commit_steps.specs.declared.stage.CommitBook.{CommitBook}
-use Rattle.index_primary.specs.Primary.{IsPrimary}
+use Rattle.primary_parts.specs.Primary.{IsPrimary}
 use Rattle.replica_node.specs.declared.job.PointJob.{PointJob}
 use Rattle.replica_node.specs.declared.parts.Parts.{Parts as ReplicaParts}
 use Rattle.history_entries.specs.declared.entry.Event.{Event}

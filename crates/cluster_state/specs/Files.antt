@@ -5,10 +5,10 @@ use Rattle.std.specs.List.{All}
 use Rattle.nrt_base.specs.declared.numbers.At.{At}
 use Rattle.disk_model.specs.Disk.{Name, Content, Cells}
 use Rattle.seg_reader.specs.Stands.{StandsFor}
-use Rattle.index_primary.specs.declared.parts.Parts.{Parts as PrimaryParts}
-use Rattle.index_primary.specs.declared.states.Out.{Out}
-use Rattle.index_primary.specs.Primary.{loose_of}
-use Rattle.index_primary.specs.Held.{IsUndrawn}
+use Rattle.primary_parts.specs.declared.parts.Parts.{Parts as PrimaryParts}
+use Rattle.primary_parts.specs.declared.states.Out.{Out}
+use Rattle.primary_parts.specs.Primary.{loose_of}
+use Rattle.primary_parts.specs.Held.{IsUndrawn}
 use Rattle.replica_opening.specs.Known.{HasMeta, IsLasting}
 use Rattle.replica_node.specs.declared.job.PointJob.{PointJob}
 use Rattle.replica_node.specs.declared.parts.Parts.{Parts as ReplicaParts}

@@ -1,24 +1,22 @@
 // The primary, whole by its type.
-ghost use Rattle.std.specs.Prelude.{◌≡◌, ◌+◌, drop, ◌<◌, ◌≤◌, ◌^◌, ℕ, List, [], ◌∷◌, ◌++◌, Some, None, true, false, is_some, length, OnOk, OnErr, IfOk, IfErr, IfSome, IsSome, IsErrOf, Ok, Err, ◌⊎◌, ◌↔◌};
+ghost use Rattle.std.specs.Prelude.{◌≡◌, ◌+◌, ◌<◌, ◌≤◌, ◌^◌, ℕ, List, [], ◌∷◌, ◌++◌, Some, None, true, false, is_some, OnOk, OnErr, IfOk, IfSome, IsSome, IsErrOf, Ok, Err, ◌⊎◌, ◌↔◌};
 ghost use Rattle.std.specs.Cmp.Lexicographic.{slice_cmp};
 ghost use Rattle.std.specs.List.Sorted.{IsStrictlySortedBy};
 ghost use Rattle.std.specs.Ordering.{nat_cmp};
 ghost use Rattle.nrt_base.specs.Causes.{Rose};
-ghost use Rattle.nrt_base.specs.SegNumbers.{segments_of_generation};
-ghost use Rattle.disk_model.specs.Disk.{Cells, is_among, reads_of};
-ghost use Rattle.disk_model.specs.Faults.{IsMemoryOrFailed};
+ghost use Rattle.disk_model.specs.Disk.{is_among, reads_of};
 ghost use Rattle.file_deleter.specs.Holdings.{times};
 ghost use Rattle.commit_steps.specs.Commits.{ImagesHave};
 ghost use Rattle.commit_steps.specs.Book.{commit_of, shown_by, book_after, is_last_step, HasBegun};
-ghost use Rattle.copy_state.specs.States.{AreShortNames, IsCopyState};
+ghost use Rattle.copy_state.specs.States.{IsCopyState};
 ghost use Rattle.searcher_switch.specs.Tickets.{ticket_at, tickets_without};
-ghost use Rattle.node_files.specs.Node.{IsWholeNode, KeepsCounts};
+ghost use Rattle.node_files.specs.Node.{IsWholeNode};
 ghost use Rattle.node_files.specs.Standing.{IsStanding, ImagesStand};
 ghost use Rattle.node_files.specs.Appearing.{NoneAppears, AppearsOnly, IsNameInFlight};
-ghost use Rattle.index_primary.specs.States.{state_names, is_out, out_of, states_without, IsStateOf};
-ghost use Rattle.index_primary.specs.Cut.{last_number, has_put, noted, after_cut, number_drawn, infos_drawn, IsIdle, AreSpent, AreTooMany};
+ghost use Rattle.primary_parts.specs.States.{state_names, is_out, out_of, states_without, IsStateOf};
+ghost use Rattle.primary_parts.specs.Cut.{last_number, IsIdle, AreSpent, AreTooMany};
 
-use crate::parts::{Parts, PrimaryFault, PublishFault};
+use primary_parts::{Parts, PrimaryFault, PublishFault};
 use bytes::Bytes;
 use commit_steps::{CommitBook, CommitFault};
 use copy_state::CopyState;
@@ -42,8 +40,8 @@ pub struct Primary<D: Dir> {
 }
 
 impl<D: Dir> Model for Primary<D> {
-    ghost use Rattle.index_primary.specs.declared.parts.Parts.{Parts};
-    ghost use Rattle.index_primary.specs.Primary.{IsPrimary};
+    ghost use Rattle.primary_parts.specs.declared.parts.Parts.{Parts};
+    ghost use Rattle.primary_parts.specs.Primary.{IsPrimary};
 
     ghost Value = { Parts D };
 
@@ -53,11 +51,10 @@ impl<D: Dir> Model for Primary<D> {
 }
 
 impl<D: Dir> Primary<D> {
-    ghost use Rattle.index_primary.specs.Primary.{IsPrimary, KeepsHeldBytes, rest_loose, loose_of};
-    ghost use Rattle.index_primary.specs.Held.{IsHeld, IsOwnFile, AreUndrawn, AreNumbered};
-    ghost use Rattle.index_primary.specs.Calls.{SearchesWriter, IsOpenedOn, IsTaskOf, after_start, MakesPoint, IsPublished, KeepsPoint, KeepsOthers, HasSameCounts, FillsUndrawn, DrawsOnly, HoldsNoNew};
-    ghost use Rattle.index_primary.specs.Publishing.{IsStep, IsReady, HasWritten, next_infos};
-    ghost use Rattle.index_primary.specs.Work.{IsWorkOf, AreOfCut};
+    ghost use Rattle.primary_parts.specs.Primary.{IsPrimary, KeepsHeldBytes, loose_of};
+    ghost use Rattle.primary_parts.specs.Held.{IsHeld, IsOwnFile, AreUndrawn, AreNumbered};
+    ghost use Rattle.primary_parts.specs.Calls.{IsOpenedOn, IsTaskOf, after_start, IsPublished, KeepsPoint, KeepsOthers, HasSameCounts, FillsUndrawn, DrawsOnly, HoldsNoNew};
+    ghost use Rattle.primary_parts.specs.Work.{IsWorkOf, AreOfCut};
     ghost use Rattle.searcher_switch.specs.Searching.{IsLeaseOf, searcher_names};
 
     /// The primary of a directory, whose deleter counts just the files of the searchers and of the commits, and whose
@@ -82,7 +79,7 @@ impl<D: Dir> Primary<D> {
         ensures whole { IfOk result (IsPrimary D.cells) }
         ensures opened { IfOk result (IsOpenedOn dir searchers commits infos segs) }
     {
-        let parts = Parts::from_parts(alloc, dir, files, searchers, commits, infos, segs)?;
+        let parts = primary_calls::from_parts(alloc, dir, files, searchers, commits, infos, segs)?;
         Ok(Primary { parts })
     }
 
@@ -97,7 +94,7 @@ impl<D: Dir> Primary<D> {
         ensures err { OnErr result (self.new ≡ self.old) }
         ensures whole { IsPrimary D.cells self.new }
     {
-        self.parts.accept(op)
+        primary_calls::accept(&mut self.parts, op)
     }
 
     /// Starts a publish, which takes every operation that was accepted and is not published. None comes exactly where there
@@ -115,7 +112,7 @@ impl<D: Dir> Primary<D> {
         ensures drawn { DrawsOnly self.old self.new }
         ensures whole { IsPrimary D.cells self.new }
     {
-        self.parts.publish_start(alloc)
+        primary_publish::publish_start(alloc, &mut self.parts)
     }
 
     /// Ends a publish with the work that was made for it: writes the new files, makes a point of the new segments, and gives
@@ -140,7 +137,7 @@ impl<D: Dir> Primary<D> {
         ensures later { D.faults self.old.dir ≤ D.faults self.new.dir }
         ensures whole { IsPrimary D.cells self.new }
     {
-        self.parts.publish_end(alloc, work)
+        primary_publish::publish_end(alloc, &mut self.parts, work)
     }
 
     /// The copy state of the point that is searched: one load for each of its files, ascending. It holds these files until
@@ -165,7 +162,7 @@ impl<D: Dir> Primary<D> {
         ensures later { D.faults self.old.dir ≤ D.faults self.new.dir }
         ensures whole { IsPrimary D.cells self.new }
     {
-        self.parts.take_state(alloc)
+        primary_calls::take_state(alloc, &mut self.parts)
     }
 
     /// The bytes of a file that a copy state which is out names.
@@ -180,7 +177,7 @@ impl<D: Dir> Primary<D> {
         ensures later { D.faults self.old.dir ≤ D.faults self.new.dir }
         ensures whole { IsPrimary D.cells self.new }
     {
-        self.parts.source(name)
+        primary_calls::source(&mut self.parts, name)
     }
 
     /// Takes a copy state back, and gives its files back. Takes no memory.
@@ -198,7 +195,7 @@ impl<D: Dir> Primary<D> {
         ensures later { D.faults self.old.dir ≤ D.faults self.new.dir }
         ensures whole { IsPrimary D.cells self.new }
     {
-        self.parts.give_back(state);
+        primary_calls::give_back(&mut self.parts, state);
     }
 
     /// Opens a ticket on the point that is searched.
@@ -216,7 +213,7 @@ impl<D: Dir> Primary<D> {
         ensures no_new { HoldsNoNew self.old self.new }
         ensures whole { IsPrimary D.cells self.new }
     {
-        self.parts.acquire(alloc)
+        primary_calls::acquire(alloc, &mut self.parts)
     }
 
     /// What a search under a ticket reads: the point on which the ticket was opened.
@@ -225,7 +222,7 @@ impl<D: Dir> Primary<D> {
         ensures { IfOk result (λ lease.
             IfSome (ticket_at ticket.now.number self.now.searchers.tickets) (IsLeaseOf lease)) }
     {
-        self.parts.lease(alloc, ticket)
+        primary_calls::lease(alloc, &self.parts, ticket)
     }
 
     /// Closes a ticket, and gives its files back. Takes no memory.
@@ -245,7 +242,7 @@ impl<D: Dir> Primary<D> {
         ensures later { D.faults self.old.dir ≤ D.faults self.new.dir }
         ensures whole { IsPrimary D.cells self.new }
     {
-        self.parts.release(ticket);
+        primary_calls::release(&mut self.parts, ticket);
     }
 
     /// The names of the directory's files, ascending. The directory is not called.
@@ -254,7 +251,7 @@ impl<D: Dir> Primary<D> {
             → is_among names.items q ≡ is_some (D.cells self.now.dir q).now) }
         ensures ascending { IfOk result (λ names. IsStrictlySortedBy (slice_cmp nat_cmp) names.items) }
     {
-        self.parts.names(alloc)
+        primary_calls::names(alloc, &self.parts)
     }
 
     /// The number that the next commit gets.
@@ -276,7 +273,7 @@ impl<D: Dir> Primary<D> {
         ensures stays { KeepsHeldBytes D.cells self.old self.new }
         ensures whole { IsPrimary D.cells self.new }
     {
-        self.parts.commit_begin(alloc)
+        primary_calls::commit_begin(alloc, &mut self.parts)
     }
 
     /// Makes the next call of the directory for the commit in flight, and answers whether the commit is done.
@@ -300,7 +297,7 @@ impl<D: Dir> Primary<D> {
         ensures later { D.faults self.old.dir ≤ D.faults self.new.dir }
         ensures whole { IsPrimary D.cells self.new }
     {
-        self.parts.commit_step(alloc)
+        primary_calls::commit_step(alloc, &mut self.parts)
     }
 
     /// The directory, as it stands.
@@ -308,7 +305,7 @@ impl<D: Dir> Primary<D> {
         ensures { result ≡ self.dir }
     {
         let Primary { parts } = self;
-        parts.into_dir()
+        primary_calls::into_dir(parts)
     }
 
     /// Each image of the directory shows the last commit or the one in flight, of the documents that the directory has of it
@@ -323,7 +320,7 @@ impl<D: Dir> Primary<D> {
 }
 
 impl<D: FaultDir> Primary<D> {
-    ghost use Rattle.index_primary.specs.Primary.{IsPrimary};
+    ghost use Rattle.primary_parts.specs.Primary.{IsPrimary};
 
     /// The k-th counted call of the directory from now fails once.
     pub fn plan(&mut self, k: u64)
@@ -334,7 +331,7 @@ impl<D: FaultDir> Primary<D> {
         ensures others { self.new ≡ record self.old { dir = self.new.dir } }
         ensures whole { IsPrimary D.cells self.new }
     {
-        self.parts.plan(k);
+        primary_calls::plan(&mut self.parts, k);
     }
 
     /// The k-th counted call of the directory from now and every later one fail.
@@ -346,7 +343,7 @@ impl<D: FaultDir> Primary<D> {
         ensures others { self.new ≡ record self.old { dir = self.new.dir } }
         ensures whole { IsPrimary D.cells self.new }
     {
-        self.parts.stop_at(k);
+        primary_calls::stop_at(&mut self.parts, k);
     }
 
     /// How many faults of the directory were met by `plan`, and how many by `stop_at`.

@@ -5,8 +5,8 @@ use Rattle.commit_steps.specs.Commits.{ImagesShowNothing}
 use Rattle.searcher_switch.specs.declared.open.Open.{Open}
 use Rattle.searcher_switch.specs.declared.searchers.Ticket.{Ticket}
 use Rattle.seg_reader.specs.Shown.{Shown}
-use Rattle.index_primary.specs.declared.parts.Parts.{Parts}
-use Rattle.index_primary.specs.States.{out_of}
+use Rattle.primary_parts.specs.declared.parts.Parts.{Parts}
+use Rattle.primary_parts.specs.States.{out_of}
 use Rattle.primary_tests.specs.declared.seen.Seen.{Seen}
 
 -- no name reads, and no image shows a commit

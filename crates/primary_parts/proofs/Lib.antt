@@ -1,0 +1,7 @@
+pub mod Holding
+pub mod Keeping
+pub mod Writing
+pub mod StateLemmas
+pub mod Framing
+pub mod NewFiles
+pub mod Callers

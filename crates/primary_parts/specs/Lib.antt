@@ -1,0 +1,7 @@
+pub mod Cut
+pub mod States
+pub mod Held
+pub mod Primary
+pub mod Calls
+pub mod Work
+pub mod Written
