@@ -74,7 +74,7 @@ impl<D: Dir> Primary<D> {
         requires node { IsWholeNode (D.cells dir) files (searcher_names searchers) commits }
         requires standing { IsStanding (reads_of (D.cells dir)) commits }
         requires held { IsHeld (reads_of (D.cells dir)) infos segs searchers.point.names }
-        requires undrawn { AreUndrawn files infos [] }
+        requires undrawn { AreUndrawn files infos [] [] }
         requires numbered { AreNumbered infos [] }
         ensures whole { IfOk result (IsPrimary D.cells) }
         ensures opened { IfOk result (IsOpenedOn dir searchers commits infos segs) }

@@ -1,6 +1,6 @@
 -- A primary that opens on its parts.
 use Rattle.std.proofs.Common.{◌≡◌, ◌<◌, ◌≤◌, ◌+◌, true, is_some, ℕ, List, [], ◌++◌, Option, None, sym, ap, subst, ◌∙◌, arith, length}
-use Rattle.std.specs.List.{Contains}
+use Rattle.std.specs.List.{Contains, AllByRecursion}
 use Rattle.std.specs.Prelude.{IfSome}
 use Rattle.disk_model.specs.Disk.{Name, Cells}
 use Rattle.segment_infos.specs.declared.infos.Infos.{Infos}
@@ -25,8 +25,9 @@ use Rattle.primary_parts.specs.declared.parts.Publish.{Publish}
 use Rattle.primary_parts.specs.declared.states.Out.{Out}
 use Rattle.primary_parts.specs.declared.states.Merging.{Merging}
 use Rattle.primary_parts.specs.Held.{IsHeld, AreUndrawn, AreNumbered}
-use Rattle.primary_parts.specs.States.{state_names, merge_names, merge_loose}
-use Rattle.primary_parts.specs.Primary.{rest_names, publish_loose, rest_loose, IsPrimary, loose_in}
+use Rattle.primary_parts.specs.States.{state_names}
+use Rattle.primary_parts.specs.Merges.{merge_names, merge_loose, merge_filled, IsMerging, AreApartMerges}
+use Rattle.primary_parts.specs.Primary.{rest_names, publish_loose, rest_loose, filled_of, IsPrimary, loose_in}
 use Rattle.primary_parts.proofs.Holding.{undrawn_kept}
 
 module _ {D : Type 0} (cells : D → Cells) (p : Parts D) (node : IsWholeNode (cells p.dir) p.files (searcher_names p.searchers) p.commits) (held : IsHeld (reads_of (cells p.dir)) p.infos p.segs p.searchers.point.names)
@@ -60,7 +61,7 @@ module _ {D : Type 0} (cells : D → Cells) (p : Parts D) (node : IsWholeNode (c
         (λ q. omega (arith, node.counts q, holds.counts q, new_split q))
         (record { each = λ q is. omega (arith, node.plain.each q is, new_split q, same_names q, old_split q) })
 
-    pub primary_opens : AreShortNames p.completed → IsStanding (reads_of (cells p.dir)) p.commits → AreUndrawn p.files p.infos [] → AreNumbered p.infos [] → IsPrimary cells (record p { files = files; searchers = searchers; point_infos = point_infos; names = names })
+    pub primary_opens : AreShortNames p.completed → IsStanding (reads_of (cells p.dir)) p.commits → AreUndrawn p.files p.infos [] [] → AreNumbered p.infos [] → IsPrimary cells (record p { files = files; searchers = searchers; point_infos = point_infos; names = names })
     primary_opens completed standing undrawn numbered = record {
       node = node_open;
       standing = standing;
@@ -71,7 +72,9 @@ module _ {D : Type 0} (cells : D → Cells) (p : Parts D) (node : IsWholeNode (c
           (subst (λ (ns : List Name). IsHeld (reads_of (cells p.dir)) p.infos p.segs ns) (sym n) (record { spelled = held.spelled; files = named; docs = held.docs; stands = held.stands }))));
       version = sym (ap (λ (x : Point Shown). x.version) point);
       versions = sym (ap (λ (x : Infos). x.version) i);
-      undrawn = subst (λ (o : Option Publish). AreUndrawn files p.infos (publish_loose o ++ rest_loose p)) (sym publish) (subst (λ (ms : List Merging). AreUndrawn files p.infos (merge_loose ms)) (sym merges) (undrawn_kept p.files files p.infos [] undrawn
+      merging = subst (λ (ms : List Merging). AllByRecursion (IsMerging (reads_of (cells p.dir)) p.infos.segs p.segs) ms) (sym merges) tt;
+      merges_apart = subst AreApartMerges (sym merges) tt;
+      undrawn = subst (λ (o : Option Publish). AreUndrawn files p.infos (publish_loose o ++ rest_loose p) (filled_of p)) (sym publish) (subst (λ (ms : List Merging). AreUndrawn files p.infos (merge_loose ms) (merge_filled ms)) (sym merges) (undrawn_kept p.files files p.infos [] [] undrawn
           (record { each = λ q plain not_pending none. omega (arith, none, node.counts q, node_open.counts q, new_split q, same_names q, old_split q) })));
       numbered = subst (λ (o : Option Publish). AreNumbered p.infos (publish_loose o ++ rest_loose p)) (sym publish) (subst (λ (ms : List Merging). AreNumbered p.infos (merge_loose ms)) (sym merges) numbered);
       few = subst (λ (o : Option Publish). IfSome o (λ f. is_some f.seg ≡ true → length p.segs < 256)) (sym publish) tt;

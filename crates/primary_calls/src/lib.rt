@@ -4,11 +4,11 @@
 mod beside;
 mod commits;
 mod copies;
-mod opening;
+mod opens;
 mod tickets;
 
 pub use beside::{accept, names, plan, stop_at};
 pub use commits::{commit_begin, commit_step};
 pub use copies::{give_back, source, take_state};
-pub use opening::{from_parts, into_dir};
+pub use opens::{from_parts, into_dir};
 pub use tickets::{acquire, lease, release};

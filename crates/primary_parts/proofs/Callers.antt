@@ -109,7 +109,7 @@ module _ (cells : Cells) (files : Holdings) (hs : List Name) (book : CommitBook)
     flight = subst (λ (o : Option Stage). IfSome o (λ s. StandsForSome reads (commit_of s).infos)) (sym stage) tt;
   }
 
-  pub empty_undrawn : (infos : Infos) → AreUndrawn files infos []
+  pub empty_undrawn : (infos : Infos) → AreUndrawn files infos [] []
   empty_undrawn infos = record { each = λ q is. uncounted q }
 
 -- infos without a segment

@@ -34,13 +34,13 @@ pub some_of_held : (reads : Name → Content) (infos : Infos) (segs : List Shown
 some_of_held reads infos segs names h = record { docs = h.docs; stands = record { segs = segs; stands = h.stands } }
 
 -- a file that is not written yet is no commit's
-pub undrawn_plain : (infos : Infos) (loose : List ℕ) (q : Name) → IsUndrawn infos loose q → (is_commit_name q ≡ false) × (is_pending_name q ≡ false)
-undrawn_plain infos loose q (part seg which unused e) = (ap is_commit_name e ∙ part_name_not_commit seg which, ap is_pending_name e ∙ part_name_not_pending seg which)
-undrawn_plain infos loose q (live seg live_gen unused small e) = (ap is_commit_name e ∙ live_name_not_commit seg live_gen, ap is_pending_name e ∙ live_name_not_pending seg live_gen)
-undrawn_plain infos loose q (next_live r live_gen is e) = (ap is_commit_name e ∙ live_name_not_commit r.seg.0 live_gen, ap is_pending_name e ∙ live_name_not_pending r.seg.0 live_gen)
+pub undrawn_plain : (infos : Infos) (loose filled : List ℕ) (q : Name) → IsUndrawn infos loose filled q → (is_commit_name q ≡ false) × (is_pending_name q ≡ false)
+undrawn_plain infos loose filled q (part seg which unused out e) = (ap is_commit_name e ∙ part_name_not_commit seg which, ap is_pending_name e ∙ part_name_not_pending seg which)
+undrawn_plain infos loose filled q (live seg live_gen unused small e) = (ap is_commit_name e ∙ live_name_not_commit seg live_gen, ap is_pending_name e ∙ live_name_not_pending seg live_gen)
+undrawn_plain infos loose filled q (next_live r live_gen is e) = (ap is_commit_name e ∙ live_name_not_commit r.seg.0 live_gen, ap is_pending_name e ∙ live_name_not_pending r.seg.0 live_gen)
 
-pub undrawn_kept : (old new : Holdings) (infos : Infos) (loose : List ℕ) → AreUndrawn old infos loose → HoldsNoMore old new → AreUndrawn new infos loose
-undrawn_kept old new infos loose h no_more = record { each = λ q is. let plain = undrawn_plain infos loose q is in no_more.each q plain.0 plain.1 (h.each q is) }
+pub undrawn_kept : (old new : Holdings) (infos : Infos) (loose filled : List ℕ) → AreUndrawn old infos loose filled → HoldsNoMore old new → AreUndrawn new infos loose filled
+undrawn_kept old new infos loose filled h no_more = record { each = λ q is. let plain = undrawn_plain infos loose filled q is in no_more.each q plain.0 plain.1 (h.each q is) }
 
 pub stays_of_moves : (w from to : List Name) (old new : Holdings) (before after : Cells) → MovesCounts w from to old new before after → KeepsBytes old new before after
 stays_of_moves w from to old new before after m = record { held = m.keeps.reads }

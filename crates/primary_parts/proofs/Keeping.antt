@@ -1,6 +1,6 @@
 -- A primary over calls of its parts.
 use Rattle.std.proofs.Common.{◌≡◌, ◌<◌, ◌+◌, true, List, [], ◌++◌, Option, Some, None, refl, sym, ap, subst, ◌∙◌, arith}
-use Rattle.std.specs.List.{Contains, flat_map}
+use Rattle.std.specs.List.{Contains, AllByRecursion, flat_map}
 use Rattle.disk_model.specs.Disk.{Name, Cells, is_among}
 use Rattle.segment_infos.specs.Files.{files_of_segment}
 use Rattle.seg_reader.specs.Shown.{Shown}
@@ -23,15 +23,23 @@ use Rattle.node_files.proofs.Standing.{standing_kept, standing_step, standing_be
 use Rattle.node_files.proofs.Fewer.{no_more_beside, no_more_step, no_more_begun}
 use Rattle.primary_parts.specs.declared.parts.Parts.{Parts}
 use Rattle.primary_parts.specs.Held.{IsHeld}
-use Rattle.primary_parts.specs.States.{state_names, merge_names}
+use Rattle.primary_parts.specs.States.{state_names}
+use Rattle.primary_parts.specs.Merges.{merge_names, IsMerging}
+use Rattle.primary_parts.specs.declared.states.Merging.{Merging}
+use Rattle.primary_parts.proofs.MergeLists.{merging_kept}
 use Rattle.primary_parts.specs.declared.states.Out.{Out}
-use Rattle.primary_parts.specs.Primary.{rest_names, primary_names, loose_of, IsPrimary}
+use Rattle.primary_parts.specs.Primary.{rest_names, primary_names, loose_of, filled_of, IsPrimary}
 use Rattle.primary_parts.specs.Calls.{KeepsPoint, HasSameCounts}
 use Rattle.primary_parts.proofs.Holding.{named_times, held_kept, some_of_held, undrawn_kept, only_front}
 
 -- ---- what a primary names is counted
 pub writer_counted : (cells : Cells) (files : Holdings) (searchers : Searchers Shown) (names rest : List Name) (book : CommitBook) → IsWholeNode cells files (searcher_names searchers ++ (names ++ rest)) book → (q : Name) → 0 < times names q → 0 < count_of files q
 writer_counted cells files searchers names rest book node q some = omega (arith, some, node.counts q, times-append (searcher_names searchers) (names ++ rest) q, times-append names rest q)
+
+pub merges_counted : (cells : Cells) (files : Holdings) (searchers : Searchers Shown) (names : List Name) (states : List Out) (merges : List Merging) (book : CommitBook) → IsWholeNode cells files (searcher_names searchers ++ (names ++ (state_names states ++ merge_names merges))) book
+    → (q : Name) → 0 < times (merge_names merges) q → 0 < count_of files q
+merges_counted cells files searchers names states merges book node q some =
+    omega (arith, some, node.counts q, times-append (searcher_names searchers) (names ++ (state_names states ++ merge_names merges)) q, times-append names (state_names states ++ merge_names merges) q, times-append (state_names states) (merge_names merges) q)
 
 pub point_counted : (cells : Cells) (files : Holdings) (searchers : Searchers Shown) (names : List Name) (book : CommitBook) → IsWholeNode cells files (searcher_names searchers ++ names) book → (q : Name) → 0 < times searchers.point.names q → 0 < count_of files q
 point_counted cells files searchers names book node q some = omega (arith, some, node.counts q, times-append (searcher_names searchers) names q, times-append searchers.point.names (ticket_names searchers.tickets) q)
@@ -83,9 +91,11 @@ module _ {D : Type 0} (cells : D → Cells) (p : Parts D) (is : IsPrimary cells 
         waits = is.waits;
         numbered = is.numbered;
         few = is.few;
+        merging = merging_kept (reads_of (cells p.dir)) (reads_of (cells dir)) p.infos.segs p.segs p.merges is.merging (λ q some. moves.keeps.reads q (merges_counted (cells p.dir) p.files p.searchers p.names p.states p.merges p.commits is.node q some) (merges_counted (cells dir) files searchers p.names p.states p.merges p.commits node q some));
+        merges_apart = is.merges_apart;
         alone = is.alone;
         completed = is.completed;
-        undrawn = undrawn_kept p.files files p.infos (loose_of p) is.undrawn
+        undrawn = undrawn_kept p.files files p.infos (loose_of p) (filled_of p) is.undrawn
             (no_more_beside (cells p.dir) (cells dir) p.files files (primary_names p) (searcher_names searchers ++ (p.names ++ rest_names p)) p.commits is.node node (only_front (searcher_names p.searchers) (searcher_names searchers) (p.names ++ rest_names p) only));
       }
 
@@ -111,9 +121,11 @@ module _ {D : Type 0} (cells : D → Cells) (p : Parts D) (is : IsPrimary cells 
         waits = is.waits;
         numbered = is.numbered;
         few = is.few;
+        merging = merging_kept (reads_of (cells p.dir)) (reads_of (cells dir)) p.infos.segs p.segs p.merges is.merging (λ q some. moves.keeps.reads q (merges_counted (cells p.dir) p.files p.searchers p.names p.states p.merges p.commits is.node q some) (merges_counted (cells dir) files p.searchers p.names states p.merges p.commits node q some));
+        merges_apart = is.merges_apart;
         alone = is.alone;
         completed = is.completed;
-        undrawn = undrawn_kept p.files files p.infos (loose_of p) is.undrawn
+        undrawn = undrawn_kept p.files files p.infos (loose_of p) (filled_of p) is.undrawn
             (no_more_beside (cells p.dir) (cells dir) p.files files (primary_names p) (searcher_names p.searchers ++ (p.names ++ (state_names states ++ merge_names p.merges))) p.commits is.node node all);
       }
 
@@ -138,6 +150,9 @@ module _ {D : Type 0} (cells : D → Cells) (p : Parts D) (is : IsPrimary cells 
     searched_kept = held_kept (reads_of (cells p.dir)) (reads_of (cells dir)) p.point_infos p.searchers.point.readers p.searchers.point.names is.searched
         (λ q some. reads q (point_counted (cells p.dir) p.files p.searchers (p.names ++ rest_names p) p.commits is.node q some) (point_counted (cells dir) files p.searchers (p.names ++ rest_names p) commits node q some))
 
+    merging_on : AllByRecursion (IsMerging (reads_of (cells dir)) p.infos.segs p.segs) p.merges
+    merging_on = merging_kept (reads_of (cells p.dir)) (reads_of (cells dir)) p.infos.segs p.segs p.merges is.merging (λ q some. reads q (merges_counted (cells p.dir) p.files p.searchers p.names p.states p.merges p.commits is.node q some) (merges_counted (cells dir) files p.searchers p.names p.states p.merges commits node q some))
+
   pub primary_steps : (dir : D) (files : Holdings) (commits : CommitBook) → Shifts (book_names p.commits) (book_names commits) p.files files (cells p.dir) (cells dir) → IsBookSound (cells dir) files commits
       → commits ≡ book_after p.commits → IsPrimary cells (record p { dir = dir; files = files; commits = commits })
   primary_steps dir files commits shifts sound e =
@@ -154,9 +169,11 @@ module _ {D : Type 0} (cells : D → Cells) (p : Parts D) (is : IsPrimary cells 
         waits = is.waits;
         numbered = is.numbered;
         few = is.few;
+        merging = merging_on dir files commits shifts.reads node;
+        merges_apart = is.merges_apart;
         alone = is.alone;
         completed = is.completed;
-        undrawn = undrawn_kept p.files files p.infos (loose_of p) is.undrawn (no_more_step (cells p.dir) (cells dir) p.files files (primary_names p) p.commits commits is.node node e);
+        undrawn = undrawn_kept p.files files p.infos (loose_of p) (filled_of p) is.undrawn (no_more_step (cells p.dir) (cells dir) p.files files (primary_names p) p.commits commits is.node node e);
       }
 
   pub primary_stopped : (dir : D) (files : Holdings) (commits : CommitBook) → Shifts (book_names p.commits) (book_names commits) p.files files (cells p.dir) (cells dir) → IsBookSound (cells dir) files commits
@@ -177,9 +194,11 @@ module _ {D : Type 0} (cells : D → Cells) (p : Parts D) (is : IsPrimary cells 
         waits = is.waits;
         numbered = is.numbered;
         few = is.few;
+        merging = merging_on dir files commits shifts.reads node;
+        merges_apart = is.merges_apart;
         alone = is.alone;
         completed = is.completed;
-        undrawn = undrawn_kept p.files files p.infos (loose_of p) is.undrawn
+        undrawn = undrawn_kept p.files files p.infos (loose_of p) (filled_of p) is.undrawn
             (record { each = λ q plain not_pending none. omega (arith, none, is.node.counts q, node.counts q, same_names q) });
       }
 
@@ -197,9 +216,11 @@ module _ {D : Type 0} (cells : D → Cells) (p : Parts D) (is : IsPrimary cells 
         waits = is.waits;
         numbered = is.numbered;
         few = is.few;
+        merging = is.merging;
+        merges_apart = is.merges_apart;
         alone = is.alone;
         completed = is.completed;
-        undrawn = undrawn_kept p.files files p.infos (loose_of p) is.undrawn
+        undrawn = undrawn_kept p.files files p.infos (loose_of p) (filled_of p) is.undrawn
             (no_more_begun (cells p.dir) p.files files (primary_names p) p.commits commits p.point_infos p.searchers.point.names is.node node begun is.searched.files
             (λ q none. omega (arith, none, times-append (searcher_names p.searchers) (p.names ++ rest_names p) q, times-append p.searchers.point.names (ticket_names p.searchers.tickets) q)));
       }
@@ -224,9 +245,11 @@ module _ {D : Type 0} (cells : D → Cells) (p : Parts D) (is : IsPrimary cells 
     waits = is.waits;
     numbered = is.numbered;
     few = is.few;
+    merging = merging_on dir files p.commits reads node;
+    merges_apart = is.merges_apart;
     alone = is.alone;
     completed = is.completed;
-    undrawn = undrawn_kept p.files files p.infos (loose_of p) is.undrawn (record { each = λ q plain not_pending none. omega (arith, none, same q) });
+    undrawn = undrawn_kept p.files files p.infos (loose_of p) (filled_of p) is.undrawn (record { each = λ q plain not_pending none. omega (arith, none, same q) });
   }
 
   -- ---- calls that only read
@@ -242,6 +265,8 @@ module _ {D : Type 0} (cells : D → Cells) (p : Parts D) (is : IsPrimary cells 
     waits = is.waits;
     numbered = is.numbered;
     few = is.few;
+    merging = subst (λ (k : Cells). AllByRecursion (IsMerging (reads_of k) p.infos.segs p.segs) p.merges) (sym e) is.merging;
+    merges_apart = is.merges_apart;
     alone = is.alone;
     completed = is.completed;
   }

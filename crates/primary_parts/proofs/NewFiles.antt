@@ -14,7 +14,7 @@ use Rattle.node_files.specs.Node.{AddsOnly}
 use Rattle.primary_parts.specs.declared.parts.Parts.{Parts}
 use Rattle.primary_parts.specs.declared.parts.Publish.{Publish}
 use Rattle.primary_parts.specs.Held.{IsUndrawn, IsUnused, IsNextLive, part, live, next_live}
-use Rattle.primary_parts.specs.Primary.{publish_loose, rest_loose, loose_of, primary_names, IsPrimary}
+use Rattle.primary_parts.specs.Primary.{publish_loose, rest_loose, loose_of, filled_of, IsUnwritten, primary_names, IsPrimary}
 use Rattle.primary_parts.specs.Calls.{KeepsPoint, FillsUndrawn, DrawsOnly, HoldsNoNew}
 use Rattle.primary_parts.proofs.Keeping.{counts_same}
 use Rattle.std.proofs.lemmas.List.Elements.{Contains-append_right}
@@ -25,14 +25,15 @@ where_ok r v e P is (inl refused) = absurd cc
 where_ok r v e P is (inr holds) = holds
 
 -- a name that a list has so often is in it
-named_of : (names : List Name) (q : Name) → 0 < times names q → Contains names q
+pub named_of : (names : List Name) (q : Name) → 0 < times names q → Contains names q
 named_of names q some = contains_of names q (among_is names q ∙ lt-ltb 0 (times names q) some)
 
-pub undrawn_of : (infos other : Infos) (loose still : List ℕ) → ((seg : ℕ) → IsUnused other still seg → IsUnused infos loose seg) → ((r : SegRecord) (live_gen : ℕ) → IsNextLive other r live_gen → IsNextLive infos r live_gen)
-    → (q : Name) → IsUndrawn other still q → IsUndrawn infos loose q
-undrawn_of infos other loose still unused lives q (part seg which u e) = part seg which (unused seg u) e
-undrawn_of infos other loose still unused lives q (live seg live_gen u small e) = live seg live_gen (unused seg u) small e
-undrawn_of infos other loose still unused lives q (next_live r live_gen is e) = next_live r live_gen (lives r live_gen is) e
+pub undrawn_of : (infos other : Infos) (loose still filled left : List ℕ) → ((seg : ℕ) → IsUnused other still seg → IsUnused infos loose seg) → ((seg : ℕ) → IsUnused other still seg → (Contains left seg → ⊥) → Contains filled seg → ⊥)
+    → ((r : SegRecord) (live_gen : ℕ) → IsNextLive other r live_gen → IsNextLive infos r live_gen)
+    → (q : Name) → IsUndrawn other still left q → IsUndrawn infos loose filled q
+undrawn_of infos other loose still filled left unused outs lives q (part seg which u out e) = part seg which (unused seg u) (outs seg u out) e
+undrawn_of infos other loose still filled left unused outs lives q (live seg live_gen u small e) = live seg live_gen (unused seg u) small e
+undrawn_of infos other loose still filled left unused outs lives q (next_live r live_gen is e) = next_live r live_gen (lives r live_gen is) e
 
 -- what is loose beside a publish
 pub behind_loose : (infos : Infos) (first rest : List ℕ) (seg : ℕ) → IsUnused infos rest seg → IsUnused infos (first ++ rest) seg
@@ -62,15 +63,18 @@ module _ {D : Type 0} (cells : D → Cells) (p n : Parts D) where
       infos : n.infos ≡ p.infos
       infos = ap (λ (x : Parts D). x.infos) kept
 
-      each : (q : Name) → IsUndrawn n.infos (loose_of n) q → IsUndrawn p.infos (loose_of p) q
+      filled : filled_of n ≡ filled_of p
+      filled = ap (λ (x : Parts D). filled_of x) kept
+
+      each : (q : Name) → IsUnwritten n q → IsUnwritten p q
       each q undrawn = elim ended [
         | inl none ↦
             let loose : loose_of n ≡ rest_loose p = ap (λ (o : Option Publish). publish_loose o ++ rest_loose n) none ∙ rest in
-            undrawn_of p.infos p.infos (loose_of p) (rest_loose p) (behind_loose p.infos (publish_loose p.publish) (rest_loose p)) (λ r live_gen h. h) q
-            (subst (λ (i : Infos). IsUndrawn i (rest_loose p) q) infos (subst (λ (ls : List ℕ). IsUndrawn n.infos ls q) loose undrawn))
+            undrawn_of p.infos p.infos (loose_of p) (rest_loose p) (filled_of p) (filled_of p) (behind_loose p.infos (publish_loose p.publish) (rest_loose p)) (λ seg u out. out) (λ r live_gen h. h) q
+            (subst (λ (fs : List ℕ). IsUndrawn p.infos (rest_loose p) fs q) filled (subst (λ (i : Infos). IsUndrawn i (rest_loose p) (filled_of n) q) infos (subst (λ (ls : List ℕ). IsUndrawn n.infos ls (filled_of n) q) loose undrawn)))
         | inr same ↦
             let loose : loose_of n ≡ loose_of p = ap (λ (o : Option Publish). publish_loose o ++ rest_loose n) same ∙ ap (λ (ls : List ℕ). publish_loose p.publish ++ ls) rest in
-            subst (λ (i : Infos). IsUndrawn i (loose_of p) q) infos (subst (λ (ls : List ℕ). IsUndrawn n.infos ls q) loose undrawn)
+            subst (λ (fs : List ℕ). IsUndrawn p.infos (loose_of p) fs q) filled (subst (λ (i : Infos). IsUndrawn i (loose_of p) (filled_of n) q) infos (subst (λ (ls : List ℕ). IsUndrawn n.infos ls (filled_of n) q) loose undrawn))
       ]
 
 -- where nothing changes

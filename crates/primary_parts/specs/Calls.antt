@@ -11,9 +11,8 @@ use Rattle.segment_steps.specs.declared.flushing.FlushWork.{FlushWork}
 use Rattle.segment_steps.specs.declared.next.NextSegments.{NextSegments}
 use Rattle.segment_steps.specs.Next.{IsNextOf}
 use Rattle.primary_parts.specs.declared.parts.Parts.{Parts}
-use Rattle.primary_parts.specs.States.{merge_inputs}
-use Rattle.primary_parts.specs.Held.{IsUndrawn}
-use Rattle.primary_parts.specs.Primary.{loose_of}
+use Rattle.primary_parts.specs.Merges.{merge_inputs}
+use Rattle.primary_parts.specs.Primary.{IsUnwritten}
 use Rattle.primary_parts.specs.Held.{next_infos}
 use Rattle.primary_parts.specs.Cut.{after_cut, has_put, noted, number_drawn, infos_drawn}
 
@@ -99,11 +98,11 @@ module _ {D : Type 0} where
 
   -- a file that is counted now and was not is one that was not written yet
   pub record FillsUndrawn (old new : Parts D) : Type 0 where
-    pub each : (q : Name) → count_of old.files q ≡ 0 → 0 < count_of new.files q → IsUndrawn old.infos (loose_of old) q
+    pub each : (q : Name) → count_of old.files q ≡ 0 → 0 < count_of new.files q → IsUnwritten old q
 
   -- a file that is not written yet was not written before
   pub record DrawsOnly (old new : Parts D) : Type 0 where
-    pub each : (q : Name) → IsUndrawn new.infos (loose_of new) q → IsUndrawn old.infos (loose_of old) q
+    pub each : (q : Name) → IsUnwritten new q → IsUnwritten old q
 
   -- no file is counted that was not counted before
   pub record HoldsNoNew (old new : Parts D) : Type 0 where

@@ -27,7 +27,7 @@ pub record IsHeld (reads : Name → Content) (infos : Infos) (segs : List Shown)
 abbrev pub drawn_to : Infos → ℕ
 drawn_to infos = segment_number infos.generation.0 infos.counter
 
--- a segment of this number has no file: it is not drawn, or is one of those whose files are not written yet
+-- a segment of this number is none of the infos': it is not drawn, or is one of those that are drawn and not there yet
 abbrev pub IsUnused : Infos → List ℕ → ℕ → Type 0
 IsUnused infos loose seg = (seg < 2 ^ 64) × ((drawn_to infos ≤ seg) ⊎ Contains loose seg)
 
@@ -38,13 +38,14 @@ pub record IsNextLive (infos : Infos) (r : SegRecord) (live_gen : ℕ) : Type 0 
   pub apart : live_base infos.generation.0 r < live_gen
   pub small : live_gen < 2 ^ 64
 
--- the name is that of a file that is not written yet: of a segment without a file, or the next live file of a segment
-pub data IsUndrawn (infos : Infos) (loose : List ℕ) (q : Name) : Type 0 where
-  part : (seg : ℕ) (which : SegPart) → IsUnused infos loose seg → q ≡ part_name_of seg which → IsUndrawn infos loose q
-  live : (seg live_gen : ℕ) → IsUnused infos loose seg → live_gen < 2 ^ 64 → q ≡ live_name_of seg live_gen → IsUndrawn infos loose q
-  next_live : (r : SegRecord) (live_gen : ℕ) → IsNextLive infos r live_gen → q ≡ live_name_of r.seg.0 live_gen → IsUndrawn infos loose q
+-- The name is that of a file that is not written yet: of a segment that is not there, where it is no part of one whose parts are written
+-- already, or the next live file of a segment.
+pub data IsUndrawn (infos : Infos) (loose filled : List ℕ) (q : Name) : Type 0 where
+  part : (seg : ℕ) (which : SegPart) → IsUnused infos loose seg → (Contains filled seg → ⊥) → q ≡ part_name_of seg which → IsUndrawn infos loose filled q
+  live : (seg live_gen : ℕ) → IsUnused infos loose seg → live_gen < 2 ^ 64 → q ≡ live_name_of seg live_gen → IsUndrawn infos loose filled q
+  next_live : (r : SegRecord) (live_gen : ℕ) → IsNextLive infos r live_gen → q ≡ live_name_of r.seg.0 live_gen → IsUndrawn infos loose filled q
 
--- the number is that of a segment whose files are not written yet, or of one of the infos
+-- the number is that of a segment that was drawn and is not there yet, or of one of the infos
 abbrev pub IsOwnSegment : Infos → List ℕ → ℕ → Type 0
 IsOwnSegment infos loose seg = Contains loose seg ⊎ ((r : SegRecord) × Contains infos.segs r × (seg ≡ r.seg.0))
 
@@ -53,8 +54,8 @@ abbrev pub IsOwnFile : Infos → List ℕ → Name → Type 0
 IsOwnFile infos loose q = (seg : ℕ) × IsOwnSegment infos loose seg × IsFileOfSegment seg q
 
 -- nobody holds a file that is not written yet
-pub record AreUndrawn (holdings : Holdings) (infos : Infos) (loose : List ℕ) : Type 0 where
-  pub each : (q : Name) → IsUndrawn infos loose q → count_of holdings q ≡ 0
+pub record AreUndrawn (holdings : Holdings) (infos : Infos) (loose filled : List ℕ) : Type 0 where
+  pub each : (q : Name) → IsUndrawn infos loose filled q → count_of holdings q ≡ 0
 
 -- the numbers of a segment's record: it is drawn, no later generation made it, and its live generations are as many as its dead rows allow
 pub record IsDrawnRecord (infos : Infos) (r : SegRecord) : Type 0 where
@@ -62,7 +63,7 @@ pub record IsDrawnRecord (infos : Infos) (r : SegRecord) : Type 0 where
   pub made : record_generation r ≤ infos.generation.0
   pub live_gen : r.live_gen + r.live ≤ live_base infos.generation.0 r + r.rows
 
--- the numbers of infos, and those that are drawn and have no file yet, which are the numbers of no segment
+-- the numbers of infos, and those that are drawn and not there yet, which are the numbers of no segment
 pub record AreNumbered (infos : Infos) (loose : List ℕ) : Type 0 where
   pub generation : infos.generation.0 < 2 ^ 31
   pub counter : infos.counter ≤ segments_of_generation

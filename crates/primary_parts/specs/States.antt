@@ -80,18 +80,3 @@ pub record IsStateOf (reads : Name → Content) (infos : Infos) (names : List Na
   pub names_are : meta_names s.files ≡ names
   pub metas : All (IsMetaIn reads) s.files
   pub completed_are : s.completed ≡ completed
-
--- ---- merges in flight
--- the names that they hold
-abbrev pub merge_names : List Merging → List Name
-merge_names [] = []
-merge_names (m ∷ ms) = m.names ++ m.written ++ merge_names ms
-
--- the numbers that they drew and whose files are not written yet
-abbrev pub merge_loose : List Merging → List ℕ
-merge_loose [] = []
-merge_loose (m ∷ ms) = if m.is_written then merge_loose ms else m.seg.0 ∷ merge_loose ms
-
--- the numbers of their inputs
-abbrev pub merge_inputs : List Merging → List SegNo
-merge_inputs ms = flat_map (λ m. m.inputs) ms

@@ -6,5 +6,5 @@ mod states;
 mod write;
 
 pub use parts::{Parts, PrimaryFault, Publish, PublishFault};
-pub use states::{Merging, Out, inputs_of, lend, metas_of, take_back};
+pub use states::{Merging, Out, inputs_of, lend, meta_told, metas_of, take_back};
 pub use write::{joined, names_in, write_all};

@@ -10,24 +10,28 @@ ghost use Rattle.disk_model.specs.Faults.{IsMemoryOrFailed};
 ghost use Rattle.node_files.specs.Node.{AddsOnly};
 ghost use Rattle.copy_state.specs.Meta.{IsMetaOf};
 ghost use Rattle.copy_state.specs.States.{meta_names};
-ghost use Rattle.primary_parts.specs.States.{IsFramedFile, IsFramedIn, IsMetaIn, out_of, state_place, states_without, is_out, state_names, merge_inputs, TakesOut};
+ghost use Rattle.primary_parts.specs.Merges.{merge_inputs};
+ghost use Rattle.primary_parts.specs.States.{IsFramedFile, IsFramedIn, IsMetaIn, out_of, state_place, states_without, is_out, state_names, TakesOut};
 
 use copy_state::{CopyState, FileMetaData, MetaFault, read_meta};
 use disk_model::{Dir, DirFault};
 use file_deleter::FileDeleter;
 use file_names::FileName;
 use nrt_base::{List, NoMemory, SegNo, Version};
+use seg_merge::{MergeTask, Merged};
 use std::alloc::{AllocError, Global};
 
-/// A merge in flight: the number that it drew, its inputs with the names of their files as they were noted, and those that
-/// it has written.
+/// A merge in flight.
 #[derive(Drop)]
 pub struct Merging {
-    pub seg: SegNo,
+    /// What it is made from: the number that it drew, its inputs as they were, and the rows that were noted.
+    pub task: MergeTask,
+    /// The numbers of its inputs.
     pub inputs: List<SegNo>,
+    /// The names that it holds: the files of its inputs as they were noted, and those that were written.
     pub names: List<FileName>,
-    pub written: List<FileName>,
-    pub is_written: bool,
+    /// What was made of it, where its files are written.
+    pub merged: Option<Merged>,
 }
 
 /// What is held for a copy state that is out: the names of its files.
@@ -37,8 +41,8 @@ pub struct Out {
     pub names: List<FileName>,
 }
 
-// The metadata of a framed file.
-fn meta_told(alloc: Global, bytes: &[u8]) -> Result<FileMetaData, NoMemory>
+/// The metadata of a framed file.
+pub fn meta_told(alloc: Global, bytes: &[u8]) -> Result<FileMetaData, NoMemory>
     requires { IsFramedFile bytes.now }
     ensures { IfOk result (IsMetaOf bytes.now) }
 {

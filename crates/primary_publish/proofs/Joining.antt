@@ -1,7 +1,7 @@
 -- The pure step of a publish is a step of the primary.
 use Rattle.std.proofs.Common.{◌≡◌, ◌≢◌, ◌==◌, not, ◌⊎◌, ◌<◌, ◌≤◌, ◌+◌, ◌-◌, ◌*◌, ◌/◌, ◌^◌, max, ◌++◌, ℕ, zero, suc, Bool, true, false, cond, List, [], ◌∷◌, Option, Some, None, refl, sym, ap, subst, ◌∙◌, arith, inl, inr, map, length, length-append}
 use Rattle.std.specs.Prelude.{IfSome, IsSomeAnd, is_some}
-use Rattle.std.specs.List.{AllByRecursion, AllZip, filter, Contains, flat_map}
+use Rattle.std.specs.List.{AllByRecursion, AllZip, filter, zip, Contains, flat_map}
 use Rattle.std.proofs.lemmas.List.{map-append, append-nil}
 use Rattle.std.proofs.lemmas.List.Elements.{recursion_from_All, All-from_recursion, All-contains, Contains-append_cases}
 use Rattle.std.proofs.lemmas.List.Sums.{count_by-le-length}
@@ -31,7 +31,9 @@ use Rattle.segment_steps.proofs.PublishLaws.{publish_stand, publish_stands}
 use Rattle.segment_steps.proofs.NextNames.{names_in, names_are_there}
 use Rattle.segment_steps.proofs.NextNames as steps_names
 use Rattle.segment_steps.proofs.NextSpelling.{next_few}
-use Rattle.segment_steps.proofs.AfterPublish.{flush_fits}
+use Rattle.segment_steps.specs.CutOver.{IsMergeOf}
+use Rattle.segment_steps.proofs.AfterPublish.{IsOther, flush_fits, publish_keeps_merge}
+use Rattle.primary_parts.proofs.MergeLists.{no_input}
 use Rattle.primary_parts.specs.Held.{drawn_to, IsDrawnRecord, AreNumbered}
 use Rattle.seg_reader.specs.Stands.{AreSegmentsOf}
 use Rattle.seg_build.specs.Built.{File}
@@ -122,7 +124,8 @@ module _ (reads : Name → Content) (infos : Infos) (segs : List Shown) (docs : 
     (spelled : CanSpell infos) (each : AllZip (IsSegmentIn reads) infos.segs segs) (stand : AreSegmentsOf docs segs) (numbered : AreNumbered infos loose)
     (same_segs : task.segs ≡ segs) (flushed : IsFlushOf task work) (is : IsNextOf infos.generation.0 infos.segs segs work held made)
     (drawn : IfSome task.seg (λ (seg : SegNo). Contains loose seg.0)) (few : is_some task.seg ≡ true → length segs < 256)
-    (still_loose : (n : ℕ) → Contains still n → Contains loose n × IfSome task.seg (λ (seg : SegNo). seg.0 ≢ n)) where
+    (still_loose : (n : ℕ) → Contains still n → Contains loose n × IfSome task.seg (λ (seg : SegNo). seg.0 ≢ n))
+    (filled : List ℕ) (unfilled : IfSome task.seg (λ (seg : SegNo). Contains filled seg.0 → ⊥)) where
   abbrev gone : Doc → Bool
   gone = removed_by task.ops
 
@@ -158,6 +161,19 @@ module _ (reads : Name → Content) (infos : Infos) (segs : List Shown) (docs : 
   still_new seg None m n d = tt
   still_new None (Some b) m n d = absurd n
   still_new (Some seg) (Some b) m n d = λ e. d (ap (λ (s : SegNo). s.0) (sym n.number) ∙ e)
+
+  unfilled_of : (seg : Option SegNo) (new : Option SegFiles) → IsNewOf seg task.ops new → IfSome seg (λ (s : SegNo). Contains filled s.0 → ⊥) → IfSome (new_of new) (λ n. Contains filled n.0 → ⊥)
+  unfilled_of seg None n d = tt
+  unfilled_of None (Some b) n d = absurd n
+  unfilled_of (Some seg) (Some b) n d = λ c. d (subst (λ (s : SegNo). Contains filled s.0) n.number c)
+
+  -- the new number is no input of a merge in flight
+  other_of : (seg : Option SegNo) (new : Option SegFiles) → IsNewOf seg task.ops new → IfSome seg (λ (s : SegNo). Contains loose s.0) → (inputs : List SegNo) (ds : List (List Doc)) (noted : List (List Bool))
+      → IsMergeOf (zip infos.segs segs) inputs ds noted → IsOther inputs new
+  other_of seg None n d inputs ds noted flight = tt
+  other_of None (Some b) n d inputs ds noted flight = absurd n
+  other_of (Some seg) (Some b) n d inputs ds noted flight = no_input b.seg.0 infos.segs segs inputs ds noted flight
+      (recursion_from_All (λ (r : SegRecord). r.seg.0 ≢ b.seg.0) infos.segs (numbered.loose_apart b.seg.0 (subst (λ (s : SegNo). Contains loose s.0) (sym n.number) d)))
 
   few_of : (seg : Option SegNo) (new : Option SegFiles) → IsNewOf seg task.ops new → (is_some seg ≡ true → length segs < 256) → length segs ≤ 256 → length segs + length (new_records new) ≤ 256
   few_of seg None n f le = omega (arith, le)
@@ -236,8 +252,11 @@ module _ (reads : Name → Content) (infos : Infos) (segs : List Shown) (docs : 
         | inr b ↦ inr (among_of (names_of made.files) q b)
       ]
 
+  unfilled_next : IfSome (new_of work.files) (λ n. Contains filled n.0 → ⊥)
+  unfilled_next = unfilled_of task.seg work.files flushed.files unfilled
+
   -- THE PURE STEP IS A STEP OF THE PRIMARY
-  pub step_of : IsStep infos segs loose still made.records made.segs made.files
+  pub step_of : IsStep infos segs loose still filled held made.records made.segs made.files
   step_of = record {
     spelled = next_spelled infos loose still kept (new_of work.files) made.records next_records_are spelled numbered;
     numbered = next_numbered infos loose still kept (new_of work.files) made.records next_records_are spelled numbered;
@@ -245,8 +264,9 @@ module _ (reads : Name → Content) (infos : Infos) (segs : List Shown) (docs : 
     stand = stand_next;
     stands = λ before after there same all. (publish_stands before after infos (next_infos infos made.records) segs docs task work held made (record { each = there; stand = stand }) same_segs flushed is refl same all).each;
     named = named_next;
-    once = written_once infos loose still kept (new_of work.files) made.records (names_of made.files) next_names_are;
-    undrawn = written_undrawn infos loose still kept (new_of work.files) made.records (names_of made.files) next_names_are;
-    own = written_own infos loose still kept (new_of work.files) made.records (names_of made.files) next_names_are;
-    rest = still_undrawn infos loose still kept (new_of work.files) made.records (names_of made.files) next_names_are;
+    once = written_once infos loose still kept (new_of work.files) made.records (names_of made.files) next_names_are filled unfilled_next;
+    undrawn = written_undrawn infos loose still kept (new_of work.files) made.records (names_of made.files) next_names_are filled unfilled_next;
+    own = written_own infos loose still kept (new_of work.files) made.records (names_of made.files) next_names_are filled unfilled_next;
+    rest = still_undrawn infos loose still kept (new_of work.files) made.records (names_of made.files) next_names_are filled unfilled_next;
+    flights = λ inputs ds noted needed flight. publish_keeps_merge infos.generation.0 infos.segs segs task work held inputs made ds noted flushed same_segs is (other_of task.seg work.files flushed.files drawn inputs ds noted flight) needed flight;
   }

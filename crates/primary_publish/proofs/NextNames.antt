@@ -133,7 +133,7 @@ new_once n small q = by n.1
         (once_cons (part_name_of n.0 Info) rest q (part_live b Info) (last b)))
 
 -- ---- all
-module _ (infos : Infos) (loose still : List ℕ) (kept : List Kept) (new : Option New) (records : List SegRecord) (written : List Name) (h : AreNextNames infos loose still kept new records written) where
+module _ (infos : Infos) (loose still : List ℕ) (kept : List Kept) (new : Option New) (records : List SegRecord) (written : List Name) (h : AreNextNames infos loose still kept new records written) (filled : List ℕ) (unfilled : IfSome new (λ n. Contains filled n.0 → ⊥)) where
   bounds : (k : Kept) → IsIn k kept → Bounded infos k
   bounds k i = all_in (Bounded infos) k kept h.bounded i
 
@@ -149,17 +149,20 @@ module _ (infos : Infos) (loose still : List ℕ) (kept : List Kept) (new : Opti
   cases_of : (q : Name) → is_among written q ≡ true → ((n : New) × (IsDrawn infos loose kept n × (new ≡ Some n) × IsNewName n q)) ⊎ IsRaised infos.generation.0 kept q
   cases_of q there = written_cases new h.drawn q (ap (λ (ns : List Name). is_among ns q) (sym h.written_are) ∙ there)
 
-  undrawn_new : (n : New) (q : Name) → IsDrawn infos loose kept n → IsNewName n q → IsUndrawn infos loose q
-  undrawn_new n q d (new_part which e) = part n.0 which (omega (arith, d.below, h.small), inr d.there) e
-  undrawn_new n q d (new_live marked e) = live n.0 1 (omega (arith, d.below, h.small), inr d.there) (omega arith) e
+  unfilled_new : (n : New) → new ≡ Some n → Contains filled n.0 → ⊥
+  unfilled_new n e = subst (λ (o : Option New). IfSome o (λ m. Contains filled m.0 → ⊥)) e unfilled
 
-  undrawn_raised : (q : Name) → IsRaised infos.generation.0 kept q → IsUndrawn infos loose q
+  undrawn_new : (n : New) (q : Name) → IsDrawn infos loose kept n → new ≡ Some n → IsNewName n q → IsUndrawn infos loose filled q
+  undrawn_new n q d f (new_part which e) = part n.0 which (omega (arith, d.below, h.small), inr d.there) (unfilled_new n f) e
+  undrawn_new n q d f (new_live marked e) = live n.0 1 (omega (arith, d.below, h.small), inr d.there) (omega arith) e
+
+  undrawn_raised : (q : Name) → IsRaised infos.generation.0 kept q → IsUndrawn infos loose filled q
   undrawn_raised q r = next_live r.k.0 (next_live_gen infos.generation.0 r.k.0)
       (record { of = all_in (λ (k : Kept). Contains infos.segs k.0) r.k kept h.of r.there; above = omega arith; apart = omega arith; small = (bounds r.k r.there).1 }) r.is
 
   -- WHAT IS WRITTEN WAS NOT WRITTEN YET
-  pub written_undrawn : (q : Name) → is_among written q ≡ true → IsUndrawn infos loose q
-  written_undrawn q there = elim (cases_of q there) [ inl (n, (d, e, is)) ↦ undrawn_new n q d is | inr r ↦ undrawn_raised q r ]
+  pub written_undrawn : (q : Name) → is_among written q ≡ true → IsUndrawn infos loose filled q
+  written_undrawn q there = elim (cases_of q there) [ inl (n, (d, e, is)) ↦ undrawn_new n q d e is | inr r ↦ undrawn_raised q r ]
 
   -- AND IS OF A SEGMENT that was drawn
   own_new : (n : New) (q : Name) → IsDrawn infos loose kept n → IsNewName n q → IsOwnFile infos loose q
@@ -234,7 +237,7 @@ module _ (infos : Infos) (loose still : List ℕ) (kept : List Kept) (new : Opti
   same_new n m a b = let e : Some n ≡ Some m = sym a ∙ b in cc
 
   next_of_kept : (r : SegRecord) (live_gen : ℕ) (q : Name) (k : Kept) → IsNextLive (next_infos infos records) r live_gen → q ≡ live_name_of r.seg.0 live_gen → IsIn k kept → r.seg.0 ≡ k.0.seg.0 → r.live_gen ≡ gen_after infos.generation.0 k
-      → IsUndrawn infos loose q × (is_among written q ≡ false)
+      → IsUndrawn infos loose filled q × (is_among written q ≡ false)
   next_of_kept r live_gen q k is e there same_seg gen = (
     next_live k.0 live_gen (record {
       of = all_in (λ (x : Kept). Contains infos.segs x.0) k kept h.of there;
@@ -259,7 +262,7 @@ module _ (infos : Infos) (loose still : List ℕ) (kept : List Kept) (new : Opti
       less_self m n e lt = omega (arith, e, lt)
 
   next_of_new : (r : SegRecord) (live_gen : ℕ) (q : Name) (n : New) → IsNextLive (next_infos infos records) r live_gen → q ≡ live_name_of r.seg.0 live_gen → IsDrawn infos loose kept n → new ≡ Some n → r.seg.0 ≡ n.0 → r.live_gen ≡ new_gen n
-      → IsUndrawn infos loose q × (is_among written q ≡ false)
+      → IsUndrawn infos loose filled q × (is_among written q ≡ false)
   next_of_new r live_gen q n is e d f same_seg gen = (
     live n.0 live_gen (omega (arith, d.below, h.small), inr d.there) is.small (e ∙ ap (λ m. live_name_of m live_gen) same_seg),
     not_among q (live_out r.seg.0 live_gen q (omega (arith, same_seg, d.below, h.small)) is.small e
@@ -276,9 +279,9 @@ module _ (infos : Infos) (loose still : List ℕ) (kept : List Kept) (new : Opti
   not_still seg c n f s = (subst (λ (o : Option New). IfSome o (λ m. m.0 ≢ seg)) f (h.still_apart seg c).1) (sym s)
 
   -- WHAT IS NOT WRITTEN YET AFTERWARDS WAS NOT BEFORE, AND IS NOT AMONG WHAT IS WRITTEN
-  pub still_undrawn : (q : Name) → IsUndrawn (next_infos infos records) still q → IsUndrawn infos loose q × (is_among written q ≡ false)
-  still_undrawn q (part seg which (small, inl le) e) = (part seg which (small, inl le) e, not_among q (part_out seg which q small (λ n d f s. omega (arith, s, le, d.below)) e))
-  still_undrawn q (part seg which (small, inr c) e) = (part seg which (small, inr (h.still_apart seg c).0) e, not_among q (part_out seg which q small (λ n d f s. not_still seg c n f s) e))
+  pub still_undrawn : (q : Name) → IsUndrawn (next_infos infos records) still filled q → IsUndrawn infos loose filled q × (is_among written q ≡ false)
+  still_undrawn q (part seg which (small, inl le) out e) = (part seg which (small, inl le) out e, not_among q (part_out seg which q small (λ n d f s. omega (arith, s, le, d.below)) e))
+  still_undrawn q (part seg which (small, inr c) out e) = (part seg which (small, inr (h.still_apart seg c).0) out e, not_among q (part_out seg which q small (λ n d f s. not_still seg c n f s) e))
   still_undrawn q (live seg live_gen (small, inl le) small_gen e) = (
     live seg live_gen (small, inl le) small_gen e,
     not_among q (live_out seg live_gen q small small_gen e (λ n d f marked s one. omega (arith, s, le, d.below)) (λ k in' marked s g. omega (arith, s, le, (bounds k in').0))),

@@ -1,8 +1,13 @@
 -- A publish, from its writes to its releases.
-use Rattle.std.proofs.Common.{◌≡◌, ◌<◌, ◌≤◌, ◌+◌, Bool, true, false, List, [], ◌++◌, Option, None, refl, sym, ap, subst, ◌∙◌, arith, inl, inr, true≢false, All}
+use Rattle.std.proofs.Common.{◌≡◌, ◌<◌, ◌≤◌, ◌+◌, ℕ, ◌∷◌, Bool, true, false, List, [], ◌++◌, Option, None, refl, sym, ap, subst, ◌∙◌, arith, inl, inr, true≢false, All}
 use Rattle.file_names.specs.Names.{is_commit_name, is_pending_name}
 use Rattle.nrt_base.specs.declared.numbers.Version.{Version}
-use Rattle.disk_model.specs.Disk.{Name, Cells, is_among}
+use Rattle.std.specs.Prelude.{◌==◌}
+use Rattle.std.specs.List.{AllByRecursion, list_any}
+use Rattle.seg_merge.specs.Merging.{docs_by_input}
+use Rattle.segment_infos.specs.declared.infos.SegRecord.{SegRecord}
+use Rattle.seg_build.specs.Built.{File}
+use Rattle.disk_model.specs.Disk.{Name, Content, Cells, is_among}
 use Rattle.segment_infos.specs.declared.infos.Infos.{Infos}
 use Rattle.segment_infos.specs.Infos.{CanSpell}
 use Rattle.seg_reader.specs.Shown.{Shown}
@@ -26,11 +31,25 @@ use Rattle.primary_publish.specs.declared.ready.Ready.{Ready}
 use Rattle.node_files.specs.Appearing.{AppearsOnly}
 use Rattle.node_files.proofs.Appearing.{keeps_only}
 use Rattle.primary_parts.specs.Held.{IsHeld, IsUndrawn, IsOwnFile, AreNumbered}
-use Rattle.primary_parts.specs.Primary.{rest_names, primary_names, rest_loose, loose_of, IsPrimary}
+use Rattle.primary_parts.specs.Primary.{rest_names, primary_names, rest_loose, loose_of, filled_of, IsPrimary}
+use Rattle.primary_parts.specs.declared.states.Merging.{Merging}
+use Rattle.primary_parts.specs.Merges.{merge_inputs, IsMerging}
+use Rattle.primary_parts.proofs.MergeLists.{merging_kept, inputs_within}
+use Rattle.nrt_base.specs.declared.numbers.SegNo.{SegNo}
 use Rattle.primary_parts.specs.Written.{names_of, ReadsSo}
-use Rattle.primary_publish.specs.Publishing.{IsReady, HasWritten}
+use Rattle.primary_publish.specs.Publishing.{IsStep, IsReady, HasWritten}
 use Rattle.primary_parts.proofs.Holding.{named_times, undrawn_plain}
-use Rattle.primary_parts.proofs.Keeping.{writer_counted, book_counted, primary_same}
+use Rattle.primary_parts.proofs.Keeping.{writer_counted, book_counted, merges_counted, primary_same}
+
+-- a step keeps each merge in flight whose inputs are held
+merging_step : (held : List SegNo) (infos : Infos) (segs : List Shown) (loose still filled : List ℕ) (records : List SegRecord) (fresh : List Shown) (files : List File) → IsStep infos segs loose still filled held records fresh files
+    → (reads : Name → Content) (ms : List Merging) → AllByRecursion (λ (m : Merging). (n : ℕ) → list_any (λ (seg : SegNo). seg.0 == n) m.inputs ≡ true → list_any (λ (seg : SegNo). seg.0 == n) held ≡ true) ms
+    → AllByRecursion (IsMerging reads infos.segs segs) ms → AllByRecursion (IsMerging reads records fresh) ms
+merging_step held infos segs loose still filled records fresh files step reads [] within all = tt
+merging_step held infos segs loose still filled records fresh files step reads (m ∷ ms) within all = (
+  record { flight = step.flights m.inputs (docs_by_input m.task.inputs) m.task.live within.0 all.0.flight; made = all.0.made },
+  merging_step held infos segs loose still filled records fresh files step reads ms within.1 all.1,
+)
 
 module _ {D : Type 0} (cells : D → Cells) (p : Parts D) (r : Ready) (is : IsPrimary cells p) (ready : IsReady p r) where
   -- ---- the names that are written
@@ -41,7 +60,7 @@ module _ {D : Type 0} (cells : D → Cells) (p : Parts D) (r : Ready) (is : IsPr
   once q = let e : times r.written q ≡ times (names_of r.files) q = ap (λ (ns : List Name). times ns q) ready.written in omega (arith, e, ready.step.once q)
 
   plain : (q : Name) → is_among r.written q ≡ true → (is_commit_name q ≡ false) × (is_pending_name q ≡ false)
-  plain q there = undrawn_plain p.infos (loose_of p) q (ready.step.undrawn q (ap (λ (ns : List Name). is_among ns q) (sym ready.written) ∙ there))
+  plain q there = undrawn_plain p.infos (loose_of p) (filled_of p) q (ready.step.undrawn q (ap (λ (ns : List Name). is_among ns q) (sym ready.written) ∙ there))
 
   apart : IsApart r.written p.commits
   apart = unheld_apart (cells p.dir) p.files (primary_names p) r.written p.commits is.node plain fresh
@@ -113,13 +132,17 @@ module _ {D : Type 0} (cells : D → Cells) (p : Parts D) (r : Ready) (is : IsPr
           (λ q named. reads_mid q (writer_counted (cells p.dir) p.files p.searchers p.names (rest_names p) p.commits is.node q (named_times p.infos p.segs p.names (reads_of (cells p.dir)) is.writer q named))) reads;
       undrawn = record {
         each = λ q undrawn.
-            let was = ready.step.rest q (subst (λ (i : Infos). IsUndrawn i (rest_loose p) q) ready.infos undrawn) in
+            let was = ready.step.rest q (subst (λ (i : Infos). IsUndrawn i (rest_loose p) (filled_of p) q) ready.infos undrawn) in
             let none : count_of p.files q ≡ 0 = is.undrawn.each q was.0 in
             let unwritten : times r.written q ≡ 0 = not_among_times r.written q (ap (λ (ns : List Name). is_among ns q) ready.written ∙ was.1) in
             let names : times (primary_names p) q ≡ times (searcher_names p.searchers) q + times (p.names ++ rest_names p) q = times-append (searcher_names p.searchers) (p.names ++ rest_names p) q in
             let more : times (p.names ++ rest_names p) q ≡ times p.names q + times (rest_names p) q = times-append p.names (rest_names p) q in
             omega (arith, none, unwritten, names, more, is.node.counts q, counts q, holds.counts q, twice_times q, names_zero q (omega (arith, none, names, more, is.node.counts q)) unwritten);
       };
+      merging = merging_step (merge_inputs p.merges) p.infos p.segs (loose_of p) (rest_loose p) (filled_of p) r.infos.segs r.segs r.files ready.step (reads_of (cells dir)) p.merges (inputs_within p.merges)
+          (merging_kept (reads_of (cells p.dir)) (reads_of (cells dir)) p.infos.segs p.segs p.merges is.merging
+          (λ q some. reads_mid q (merges_counted (cells p.dir) p.files p.searchers p.names p.states p.merges p.commits is.node q some)));
+      merges_apart = is.merges_apart;
       newer =
           let a : p.infos.version.0 ≡ p.searchers.point.version.0 = ap (λ (v : Version). v.0) (is.versions ∙ is.version) in
           let b : r.infos.version.0 ≡ p.infos.version.0 + 1 = ap (λ (i : Infos). i.version.0) ready.infos in
@@ -214,5 +237,7 @@ module _ {D : Type 0} (cells : D → Cells) (p : Parts D) (r : Ready) (h : HasWr
           waits = tt;
           few = tt;
           alone = tt;
+          merging = merging_kept (reads_of (cells p.dir)) (reads_of (cells dir)) r.infos.segs r.segs p.merges h.merging (λ q some. reads_end q (merges_counted (cells dir) files searchers r.names p.states p.merges p.commits node_end q some));
+          merges_apart = h.merges_apart;
           completed = h.completed;
         })

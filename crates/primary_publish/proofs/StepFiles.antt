@@ -16,24 +16,25 @@ use Rattle.searcher_switch.specs.Searching.{searcher_names}
 use Rattle.primary_parts.specs.declared.parts.Parts.{Parts}
 use Rattle.primary_parts.specs.declared.parts.Publish.{Publish}
 use Rattle.primary_parts.specs.Held.{IsUndrawn, drawn_to}
-use Rattle.primary_parts.specs.States.{state_names, merge_names}
-use Rattle.primary_parts.specs.Primary.{publish_loose, rest_loose, loose_of, rest_names, primary_names, IsPrimary}
+use Rattle.primary_parts.specs.States.{state_names}
+use Rattle.primary_parts.specs.Merges.{merge_names}
+use Rattle.primary_parts.specs.Primary.{publish_loose, rest_loose, loose_of, filled_of, IsUnwritten, rest_names, primary_names, IsPrimary}
 use Rattle.primary_parts.specs.Held.{next_infos}
-use Rattle.primary_publish.specs.Publishing.{IsStep}
+use Rattle.primary_publish.specs.Publishing.{IsStepOf}
 use Rattle.primary_parts.specs.Calls.{KeepsOthers, FillsUndrawn, DrawsOnly}
 use Rattle.primary_parts.proofs.Holding.{named_times}
 use Rattle.primary_parts.proofs.Keeping.{states_split, writer_counted}
 use Rattle.primary_parts.proofs.NewFiles.{undrawn_of}
-use Rattle.primary_publish.proofs.Starting.{drawn_now, counted_on}
+use Rattle.primary_parts.proofs.Drawing.{counted_on, drawn_now}
 use Rattle.primary_parts.proofs.NewFiles.{named_of}
 
 module _ {D : Type 0} (cells : D → Cells) (p n : Parts D) where
   -- A STEP counts files that were not written yet, beside those that were counted
-  pub step_fills : (records : List SegRecord) (fresh : List Shown) (files : List File) → IsPrimary cells p → IsPrimary cells n → IsStep p.infos p.segs (loose_of p) (rest_loose p) records fresh files
+  pub step_fills : (records : List SegRecord) (fresh : List Shown) (files : List File) → IsPrimary cells p → IsPrimary cells n → IsStepOf p records fresh files
       → n.infos ≡ next_infos p.infos records → n.point_infos ≡ next_infos p.infos records → n.searchers.tickets ≡ p.searchers.tickets → KeepsOthers p n → FillsUndrawn p n
   step_fills records fresh files is now step infos point tickets others = record { each = each }
     where
-      named : (q : Name) → count_of p.files q ≡ 0 → Contains (flat_map files_of_segment records) q → IsUndrawn p.infos (loose_of p) q
+      named : (q : Name) → count_of p.files q ≡ 0 → Contains (flat_map files_of_segment records) q → IsUnwritten p q
       named q none there = elim (step.named q there) [
         | inl old ↦
             let some : 0 < times p.names q = named_times p.infos p.segs p.names (reads_of (cells p.dir)) is.writer q old in
@@ -41,12 +42,12 @@ module _ {D : Type 0} (cells : D → Cells) (p n : Parts D) where
         | inr written ↦ step.undrawn q written
       ]
 
-      of_infos : (i : Infos) (names : List Name) (q : Name) → i ≡ next_infos p.infos records → AreFilesOf i names → count_of p.files q ≡ 0 → 0 < times names q → IsUndrawn p.infos (loose_of p) q
+      of_infos : (i : Infos) (names : List Name) (q : Name) → i ≡ next_infos p.infos records → AreFilesOf i names → count_of p.files q ≡ 0 → 0 < times names q → IsUnwritten p q
       of_infos i names q same are none some =
           let there : Contains (flat_map files_of_segment i.segs) q = (are.named q).0 (named_of names q some) in
           named q none (subst (λ (x : Infos). Contains (flat_map files_of_segment x.segs) q) same there)
 
-      each : (q : Name) → count_of p.files q ≡ 0 → 0 < count_of n.files q → IsUndrawn p.infos (loose_of p) q
+      each : (q : Name) → count_of p.files q ≡ 0 → 0 < count_of n.files q → IsUnwritten p q
       each q none some = elim (cases_lt 0 (times n.names q)) [
         | inl writer ↦ of_infos n.infos n.names q infos now.writer.files none writer
         | inr beside ↦
@@ -63,28 +64,29 @@ module _ {D : Type 0} (cells : D → Cells) (p n : Parts D) where
       ]
 
   -- after it no file is unwritten that was not before
-  pub step_draws : (records : List SegRecord) (fresh : List Shown) (files : List File) → IsStep p.infos p.segs (loose_of p) (rest_loose p) records fresh files
+  pub step_draws : (records : List SegRecord) (fresh : List Shown) (files : List File) → IsStepOf p records fresh files
       → n.infos ≡ next_infos p.infos records → n.publish ≡ None → KeepsOthers p n → DrawsOnly p n
   step_draws records fresh files step infos none others = record {
     each = λ q undrawn.
         let rest : rest_loose n ≡ rest_loose p = ap (λ (x : Parts D). rest_loose x) others in
+        let filled : filled_of n ≡ filled_of p = ap (λ (x : Parts D). filled_of x) others in
         let loose : loose_of n ≡ rest_loose p = ap (λ (o : Option Publish). publish_loose o ++ rest_loose n) none ∙ rest in
-        (step.rest q (subst (λ (i : Infos). IsUndrawn i (rest_loose p) q) infos (subst (λ (ls : List ℕ). IsUndrawn n.infos ls q) loose undrawn))).0;
+        (step.rest q (subst (λ (fs : List ℕ). IsUndrawn (next_infos p.infos records) (rest_loose p) fs q) filled (subst (λ (i : Infos). IsUndrawn i (rest_loose p) (filled_of n) q) infos (subst (λ (ls : List ℕ). IsUndrawn n.infos ls (filled_of n) q) loose undrawn)))).0;
   }
 
 -- a publish that starts draws its name, and no file is unwritten after it that was not before
 pub start_draws : {D : Type 0} (p : Parts D) (f : Publish) → p.publish ≡ None → publish_loose (Some f) ≡ drawn_to p.infos ∷ [] → DrawsOnly p (record p { infos = counted_on p.infos; publish = Some f })
 start_draws p f none drawn = record {
   each = λ q undrawn.
-      subst (λ (o : Option Publish). IsUndrawn p.infos (publish_loose o ++ rest_loose p) q) (sym none)
-      (undrawn_of p.infos (counted_on p.infos) (rest_loose p) (drawn_to p.infos ∷ rest_loose p) (drawn_now p.infos (rest_loose p)) (λ r live_gen h. record { of = h.of; above = h.above; apart = h.apart; small = h.small }) q
-      (subst (λ (ls : List ℕ). IsUndrawn (counted_on p.infos) (ls ++ rest_loose p) q) drawn undrawn));
+      subst (λ (o : Option Publish). IsUndrawn p.infos (publish_loose o ++ rest_loose p) (filled_of p) q) (sym none)
+      (undrawn_of p.infos (counted_on p.infos) (rest_loose p) (drawn_to p.infos ∷ rest_loose p) (filled_of p) (filled_of p) (drawn_now p.infos (rest_loose p)) (λ seg unused out. out) (λ r live_gen h. record { of = h.of; above = h.above; apart = h.apart; small = h.small }) q
+      (subst (λ (ls : List ℕ). IsUndrawn (counted_on p.infos) (ls ++ rest_loose p) (filled_of p) q) drawn undrawn));
 }
 
 -- a publish that draws none
 pub idle_draws : {D : Type 0} (p : Parts D) (f : Publish) → p.publish ≡ None → publish_loose (Some f) ≡ [] → DrawsOnly p (record p { publish = Some f })
 idle_draws p f none drawn = record {
   each = λ q undrawn.
-      subst (λ (o : Option Publish). IsUndrawn p.infos (publish_loose o ++ rest_loose p) q) (sym none)
-      (subst (λ (ls : List ℕ). IsUndrawn p.infos (ls ++ rest_loose p) q) drawn undrawn);
+      subst (λ (o : Option Publish). IsUndrawn p.infos (publish_loose o ++ rest_loose p) (filled_of p) q) (sym none)
+      (subst (λ (ls : List ℕ). IsUndrawn p.infos (ls ++ rest_loose p) (filled_of p) q) drawn undrawn);
 }

@@ -18,7 +18,8 @@ use Rattle.segment_steps.proofs.PublishLaws.{publish_stand}
 use Rattle.primary_parts.specs.declared.parts.Parts.{Parts}
 use Rattle.primary_parts.specs.declared.parts.Publish.{Publish}
 use Rattle.seg_reader.specs.Stands.{AreSegmentsOf}
-use Rattle.primary_parts.specs.Primary.{IsPrimary, loose_in, publish_loose, rest_loose, loose_of}
+use Rattle.primary_parts.specs.Primary.{IsPrimary, loose_in, publish_loose, rest_loose, loose_of, filled_of}
+use Rattle.primary_parts.proofs.MergeLists.{filled_loose}
 use Rattle.primary_publish.specs.Publishing.{IsStep}
 use Rattle.primary_parts.specs.Work.{IsWorkOf}
 use Rattle.primary_parts.specs.Cut.{cut_by}
@@ -48,13 +49,20 @@ module _ {D : Type 0} (cells : D → Cells) (p : Parts D) (work : FlushWork) (wh
   alone_for : (n : ℕ) → Contains (rest_loose p) n → Contains (loose_of p) n × IfSome w.task.seg (λ (s : SegNo). s.0 ≢ n)
   alone_for n c = (Contains-append_right (publish_loose p.publish) (rest_loose p) n c, number_apart n w.task.seg (λ in'. alone_too n (subst (λ (o : Option SegNo). Contains (loose_in o) n) w.seg in') c))
 
+  unfilled_for : IfSome w.task.seg (λ (s : SegNo). Contains (filled_of p) s.0 → ⊥)
+  unfilled_for = subst (λ (o : Option SegNo). IfSome o (λ (s : SegNo). Contains (filled_of p) s.0 → ⊥)) (sym w.seg) (by w.publish.seg alone_too)
+    where
+      by : (o : Option SegNo) → ((n : ℕ) → Contains (loose_in o) n → Contains (rest_loose p) n → ⊥) → IfSome o (λ (s : SegNo). Contains (filled_of p) s.0 → ⊥)
+      by None alone = tt
+      by (Some s) alone = λ c. alone s.0 (0, omega arith, refl) (filled_loose p.merges s.0 c)
+
   drawn_for : IfSome w.task.seg (λ (s : SegNo). Contains (loose_of p) s.0)
   drawn_for = subst (λ (o : Option Publish). IfSome w.task.seg (λ (s : SegNo). Contains (publish_loose o ++ rest_loose p) s.0)) (sym w.in_flight) (subst (λ (o : Option SegNo). IfSome w.task.seg (λ (s : SegNo). Contains (loose_in o ++ rest_loose p) s.0)) w.seg (number_there (rest_loose p) w.task.seg))
 
   -- THE STEP that publish_end asks for
-  pub primary_step : (held : List SegNo) (made : NextSegments) → IsNextOf p.infos.generation.0 p.infos.segs p.segs work held made → IsStep p.infos p.segs (loose_of p) (rest_loose p) made.records made.segs made.files
+  pub primary_step : (held : List SegNo) (made : NextSegments) → IsNextOf p.infos.generation.0 p.infos.segs p.segs work held made → IsStep p.infos p.segs (loose_of p) (rest_loose p) (filled_of p) held made.records made.segs made.files
   primary_step held made is = step_of (reads_of (cells p.dir)) p.infos p.segs whole.writer.docs (loose_of p) (rest_loose p) w.task work held made whole.writer.spelled whole.writer.stands.each whole.writer.stands.stand whole.numbered
-      w.segs w.flushed is drawn_for (λ some. few_for (ap (λ (o : Option SegNo). is_some o) (sym w.seg) ∙ some)) alone_for
+      w.segs w.flushed is drawn_for (λ some. few_for (ap (λ (o : Option SegNo). is_some o) (sym w.seg) ∙ some)) alone_for (filled_of p) unfilled_for
 
   -- AND ITS SEGMENTS are of the documents after the cut
   pub primary_documents : (held : List SegNo) (made : NextSegments) → IsNextOf p.infos.generation.0 p.infos.segs p.segs work held made → (docs : List Doc) → AreSegmentsOf docs p.segs → AreSegmentsOf (after_ops docs (cut_by p.publish p.waiting)) made.segs

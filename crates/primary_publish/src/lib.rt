@@ -2,10 +2,10 @@
 #![tactic(auto)]
 
 mod cut;
-mod ending;
+mod ends;
 mod ready;
-mod starting;
+mod starts;
 
-pub use ending::publish_end;
+pub use ends::publish_end;
 pub use ready::Ready;
-pub use starting::publish_start;
+pub use starts::publish_start;
