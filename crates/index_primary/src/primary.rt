@@ -1,5 +1,6 @@
 // The primary, whole by its type.
 ghost use Rattle.std.specs.Prelude.{◌≡◌, ◌+◌, ◌<◌, ◌≤◌, ◌^◌, ℕ, List, [], ◌∷◌, ◌++◌, Some, None, true, false, is_some, OnOk, OnErr, IfOk, IfSome, IsSome, IsErrOf, Ok, Err, ◌⊎◌, ◌↔◌};
+ghost use Rattle.std.specs.List.{All};
 ghost use Rattle.std.specs.Cmp.Lexicographic.{slice_cmp};
 ghost use Rattle.std.specs.List.Sorted.{IsStrictlySortedBy};
 ghost use Rattle.std.specs.Ordering.{nat_cmp};
@@ -24,7 +25,8 @@ use disk_model::{Dir, FaultDir};
 use documents::Op;
 use file_deleter::FileDeleter;
 use file_names::FileName;
-use nrt_base::{List, NoMemory, Version};
+use nrt_base::{List, NoMemory, SegNo, Version};
+use seg_merge::{MergeTask, Merged};
 use searcher_switch::{Lease, Searchers, Ticket};
 use seg_reader::Segment;
 use segment_infos::Infos;
@@ -51,6 +53,9 @@ impl<D: Dir> Model for Primary<D> {
 }
 
 impl<D: Dir> Primary<D> {
+    ghost use Rattle.primary_parts.specs.Merges.{merges_without};
+    ghost use Rattle.primary_parts.specs.Written.{names_of, ReadsSo};
+    ghost use Rattle.primary_merges.specs.MergeCalls.{IsFitTask, AnswersMerge, IsMadeFor, IsReadied, IsFilledMerge, IsCutOver, KeepsDocuments};
     ghost use Rattle.primary_parts.specs.Primary.{IsPrimary, KeepsHeldBytes, loose_of};
     ghost use Rattle.primary_parts.specs.Held.{IsHeld, IsOwnFile, AreUndrawn, AreNumbered};
     ghost use Rattle.primary_parts.specs.Calls.{IsOpenedOn, IsTaskOf, after_start, IsPublished, KeepsPoint, KeepsOthers, HasSameCounts, FillsUndrawn, DrawsOnly, HoldsNoNew};
@@ -138,6 +143,97 @@ impl<D: Dir> Primary<D> {
         ensures whole { IsPrimary D.cells self.new }
     {
         primary_publish::publish_end(alloc, &mut self.parts, work)
+    }
+
+    /// Starts a merge of the first neighbours that can be chosen, as many as the factor: draws its number, and holds the files of its
+    /// inputs. None comes exactly where there are none. The directory is not called.
+    pub fn merge_start(
+        &mut self,
+        alloc: Global,
+        factor: u32,
+    ) -> Result<Option<MergeTask>, PublishFault>
+        requires { 2 ≤ factor }
+        ensures answers { AnswersMerge factor self.old self.new result }
+        ensures fit { IfOk result (λ task. IfSome task IsFitTask) }
+        ensures stays { KeepsHeldBytes D.cells self.old self.new }
+        ensures no_new { HoldsNoNew self.old self.new }
+        ensures drawn { DrawsOnly self.old self.new }
+        ensures whole { IsPrimary D.cells self.new }
+    {
+        primary_merges::merge_start(alloc, &mut self.parts, factor)
+    }
+
+    /// Writes the files of a merge in flight, of which the merged segment was made, and holds them. Answers a copy state that
+    /// names them, which is out until it is given back. Where the directory fails, the merge has ended.
+    pub fn merge_ready(&mut self, alloc: Global, merged: Merged) -> Result<CopyState, PrimaryFault>
+        requires { IsMadeFor self.old merged }
+        ensures state { IfOk result (IsStateOf (reads_of (D.cells self.new.dir)) self.old.point_infos
+            (names_of merged.files.files) (last_number self.old.commits) self.old.completed) }
+        ensures copy { IfOk result IsCopyState }
+        ensures out { IfOk result (λ s. self.new.states ≡ self.old.states ++ out_of s ∷ []) }
+        ensures merges { OnOk result (IsReadied merged self.old self.new) }
+        ensures written { OnOk result (All (ReadsSo (D.cells self.new.dir)) merged.files.files) }
+        ensures failed { IsErrOf result PrimaryFault.Failed
+            → Rose (D.faults self.old.dir) (D.faults self.new.dir) }
+        ensures ended { IsErrOf result PrimaryFault.Failed
+            → self.new.merges ≡ merges_without merged.files.seg.0 self.old.merges }
+        ensures memory { IsErrOf result PrimaryFault.Memory → self.new.merges ≡ self.old.merges }
+        ensures err { OnErr result (self.new.states ≡ self.old.states) }
+        ensures given_back { OnErr result (HoldsNoNew self.old self.new) }
+        ensures others { self.new ≡ record self.old {
+          dir = self.new.dir;
+          files = self.new.files;
+          states = self.new.states;
+          merges = self.new.merges;
+        } }
+        ensures stays { KeepsHeldBytes D.cells self.old self.new }
+        ensures fresh { FillsUndrawn self.old self.new }
+        ensures drawn { DrawsOnly self.old self.new }
+        ensures appears { AppearsOnly (IsOwnFile self.old.infos (loose_of self.old))
+            (D.cells self.old.dir) (D.cells self.new.dir) }
+        ensures later { D.faults self.old.dir ≤ D.faults self.new.dir }
+        ensures whole { IsPrimary D.cells self.new }
+    {
+        primary_merges::merge_ready(alloc, &mut self.parts, merged)
+    }
+
+    /// Puts the merged segment of a merge whose files are written in the place of its inputs. Rows that died since the merge started
+    /// are dead in its first live file; without a live row it is not put in. Where the directory fails, the merge has ended.
+    pub fn merge_cut(&mut self, alloc: Global, seg: SegNo) -> Result<(), PrimaryFault>
+        requires ready { IsFilledMerge self.old seg }
+        requires calm { self.old.publish ≡ None }
+        ensures cut { OnOk result (IsCutOver seg self.old self.new) }
+        ensures documents { OnOk result (KeepsDocuments self.old self.new) }
+        ensures failed { IsErrOf result PrimaryFault.Failed
+            → Rose (D.faults self.old.dir) (D.faults self.new.dir) }
+        ensures ended { IsErrOf result PrimaryFault.Failed
+            → self.new.merges ≡ merges_without seg.0 self.old.merges }
+        ensures memory { IsErrOf result PrimaryFault.Memory → self.new.merges ≡ self.old.merges }
+        ensures err { OnErr result (self.new ≡ record self.old {
+          dir = self.new.dir;
+          files = self.new.files;
+          merges = self.new.merges;
+        }) }
+        ensures given_back { OnErr result (HoldsNoNew self.old self.new) }
+        ensures others { self.new ≡ record self.old {
+          dir = self.new.dir;
+          files = self.new.files;
+          infos = self.new.infos;
+          segs = self.new.segs;
+          names = self.new.names;
+          merges = self.new.merges;
+          has_cut_over = self.new.has_cut_over;
+          completed = self.new.completed;
+        } }
+        ensures stays { KeepsHeldBytes D.cells self.old self.new }
+        ensures fresh { FillsUndrawn self.old self.new }
+        ensures drawn { DrawsOnly self.old self.new }
+        ensures appears { AppearsOnly (IsOwnFile self.old.infos (loose_of self.old))
+            (D.cells self.old.dir) (D.cells self.new.dir) }
+        ensures later { D.faults self.old.dir ≤ D.faults self.new.dir }
+        ensures whole { IsPrimary D.cells self.new }
+    {
+        primary_merges::merge_cut(alloc, &mut self.parts, seg)
     }
 
     /// The copy state of the point that is searched: one load for each of its files, ascending. It holds these files until

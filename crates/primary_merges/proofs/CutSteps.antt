@@ -316,7 +316,7 @@ module _ {D : Type 0} (cells : D → Cells) (p : Parts D) (is : IsPrimary cells 
       has = ap (λ (k : ℕ). list_any (λ (s : SegNo). s.0 == k) inputs) (new_number (record_after g t) refl) ∙ none
 
       by : (b : Bool) → inputs_in inputs (map (part_after g) (cond b (t ∷ []) [])) ≡ []
-      by true = rw has refl
+      by true = ap (λ (b : Bool). cond b (part_after g t ∷ []) []) has
       by false = refl
 
   kept : (x : Merging) → AreOtherMerges x m → IsMerging (reads_of (cells p.dir)) rs p.segs x → IsMerging (reads_of (cells p.dir)) made.records made.segs x

@@ -43,6 +43,13 @@ merging_kept before after records segs (m ∷ ms) all same = (
   merging_kept before after records segs ms all.1 (λ q some. same q (omega (arith, some, times-append m.names (merge_names ms) q))),
 )
 
+-- ---- what is filled with one merge in front
+filled_put : (m : Merging) (ms : List Merging) (k : ℕ) (b : Bool) → is_some m.merged ≡ b → Contains (if b then m.task.seg.0 ∷ merge_filled ms else merge_filled ms) k → Contains (merge_filled (m ∷ ms)) k
+filled_put m ms k b e c = subst (λ (x : Bool). Contains (if x then m.task.seg.0 ∷ merge_filled ms else merge_filled ms) k) (sym e) c
+
+filled_get : (m : Merging) (ms : List Merging) (k : ℕ) (b : Bool) → is_some m.merged ≡ b → Contains (merge_filled (m ∷ ms)) k → Contains (if b then m.task.seg.0 ∷ merge_filled ms else merge_filled ms) k
+filled_get m ms k b e c = subst (λ (x : Bool). Contains (if x then m.task.seg.0 ∷ merge_filled ms else merge_filled ms) k) e c
+
 -- ---- a filled number is loose
 pub filled_loose : (ms : List Merging) (k : ℕ) → Contains (merge_filled ms) k → Contains (merge_loose ms) k
 filled_loose [] k c = c
@@ -64,6 +71,10 @@ pub merge_at : (n : ℕ) (ms : List Merging) → is_some (merge_of n ms) ≡ tru
 merge_at n [] there = absurd (true≢false (sym there))
 merge_at n (m ∷ ms) there = let all = by (m.task.seg.0 == n) refl (merge_at n ms) there in record { within = all.0; rest = all.1; item = all.2; set = all.3 }
   where
+    chosen : (merged : Merged) (names : List Name) (b : Bool) → merged.files.seg.0 ≡ n → (m.task.seg.0 == n) ≡ b
+        → (if b then record m { merged = Some merged; names = names } ∷ ms else m ∷ merges_with merged names ms) ≡ merges_with merged names (m ∷ ms)
+    chosen merged names b number e = ap (λ (c : Bool). if c then record m { merged = Some merged; names = names } ∷ ms else m ∷ merges_with merged names ms) (sym e ∙ ap (λ (k : ℕ). m.task.seg.0 == k) (sym number))
+
     by : (b : Bool) → (m.task.seg.0 == n) ≡ b → (is_some (merge_of n ms) ≡ true → MergeAt n ms) → is_some (if b then Some m else merge_of n ms) ≡ true
         → ((if b then 0 else suc (merge_place n ms)) < length (m ∷ ms)) × (remove (m ∷ ms) (if b then 0 else suc (merge_place n ms)) ≡ (if b then ms else m ∷ merges_without n ms))
         × (slice_get (m ∷ ms) (if b then 0 else suc (merge_place n ms)) ≡ (if b then Some m else merge_of n ms))
@@ -73,13 +84,13 @@ merge_at n (m ∷ ms) there = let all = by (m.task.seg.0 == n) refl (merge_at n 
       omega arith,
       refl,
       refl,
-      λ merged names x number is. let same : m ≡ x = cc in rw (number, e) (ap (λ (y : Merging). record y { merged = Some merged; names = names } ∷ ms) (sym same)),
+      λ merged names x number is. let same : m ≡ x = cc in ap (λ (y : Merging). record y { merged = Some merged; names = names } ∷ ms) (sym same) ∙ chosen merged names true number e,
     )
     by false e more h = let at = more h in (
       omega (arith, at.within),
       ap (λ (l : List Merging). m ∷ l) at.rest,
       at.item,
-      λ merged names x number is. rw (number, e) (ap (λ (l : List Merging). m ∷ l) (at.set merged names x number is)),
+      λ merged names x number is. ap (λ (l : List Merging). m ∷ l) (at.set merged names x number is) ∙ chosen merged names false number e,
     )
 
 -- it has the number
@@ -191,10 +202,10 @@ filled_or n (m ∷ ms) k c = by (m.task.seg.0 == n) (is_some m.merged) refl refl
     by true true e f d = elim (first_or m.task.seg.0 k (merge_filled ms) d) [ inl is ↦ inl (sym (eqb-true m.task.seg.0 n e) ∙ is) | inr rest ↦ inr rest ]
     by true false e f d = inr d
     by false true e f d = elim (first_or m.task.seg.0 k (merge_filled ms) d) [
-      | inl is ↦ inr (rw f (0, omega arith, is))
-      | inr rest ↦ (elim (filled_or n ms k rest) [ inl own ↦ inl own | inr more ↦ inr (rw f (further m.task.seg.0 k (merge_filled (merges_without n ms)) more)) ])
+      | inl is ↦ inr (filled_put m (merges_without n ms) k true f (0, omega arith, is))
+      | inr rest ↦ (elim (filled_or n ms k rest) [ inl own ↦ inl own | inr more ↦ inr (filled_put m (merges_without n ms) k true f (further m.task.seg.0 k (merge_filled (merges_without n ms)) more)) ])
     ]
-    by false false e f d = elim (filled_or n ms k d) [ inl own ↦ inl own | inr more ↦ inr (rw f more) ]
+    by false false e f d = elim (filled_or n ms k d) [ inl own ↦ inl own | inr more ↦ inr (filled_put m (merges_without n ms) k false f more) ]
 
 pub filled_without : (n : ℕ) (ms : List Merging) (k : ℕ) → Contains (merge_filled (merges_without n ms)) k → Contains (merge_filled ms) k
 filled_without n [] k c = c
@@ -203,8 +214,8 @@ filled_without n (m ∷ ms) k c = by (m.task.seg.0 == n) (is_some m.merged) refl
     by : (b f : Bool) → is_some m.merged ≡ f → Contains (merge_filled (if b then ms else m ∷ merges_without n ms)) k → Contains (if f then m.task.seg.0 ∷ merge_filled ms else merge_filled ms) k
     by true true f d = further m.task.seg.0 k (merge_filled ms) d
     by true false f d = d
-    by false true f d = elim (first_or m.task.seg.0 k (merge_filled (merges_without n ms)) (rw f at d)) [ inl is ↦ (0, omega arith, is) | inr rest ↦ further m.task.seg.0 k (merge_filled ms) (filled_without n ms k rest) ]
-    by false false f d = filled_without n ms k (rw f at d)
+    by false true f d = elim (first_or m.task.seg.0 k (merge_filled (merges_without n ms)) (filled_get m (merges_without n ms) k true f d)) [ inl is ↦ (0, omega arith, is) | inr rest ↦ further m.task.seg.0 k (merge_filled ms) (filled_without n ms k rest) ]
+    by false false f d = filled_without n ms k (filled_get m (merges_without n ms) k false f d)
 
 -- ---- what was made of it
 module _ (merged : Merged) (names : List Name) where
@@ -236,11 +247,11 @@ module _ (merged : Merged) (names : List Name) where
       by : (b f : Bool) → is_some m.merged ≡ f → Contains (if f then m.task.seg.0 ∷ merge_filled ms else merge_filled ms) k → Contains (merge_filled (if b then made_of m ∷ ms else m ∷ merges_with merged names ms)) k
       by true true f d = d
       by true false f d = further m.task.seg.0 k (merge_filled ms) d
-      by false true f d = rw f (elim (first_or m.task.seg.0 k (merge_filled ms) d) [
+      by false true f d = filled_put m (merges_with merged names ms) k true f (elim (first_or m.task.seg.0 k (merge_filled ms) d) [
         | inl is ↦ (0, omega arith, is)
         | inr rest ↦ further m.task.seg.0 k (merge_filled (merges_with merged names ms)) (filled_with ms k rest)
       ])
-      by false false f d = rw f (filled_with ms k d)
+      by false false f d = filled_put m (merges_with merged names ms) k false f (filled_with ms k d)
 
   pub filled_own : (ms : List Merging) (m : Merging) → merge_of merged.files.seg.0 ms ≡ Some m → Contains (merge_filled (merges_with merged names ms)) merged.files.seg.0
   filled_own [] m is = absurd cc
@@ -249,8 +260,8 @@ module _ (merged : Merged) (names : List Name) where
       by : (b f : Bool) → (x.task.seg.0 == merged.files.seg.0) ≡ b → is_some x.merged ≡ f → (if b then Some x else merge_of merged.files.seg.0 ms) ≡ Some m
           → Contains (merge_filled (if b then made_of x ∷ ms else x ∷ merges_with merged names ms)) merged.files.seg.0
       by true f e g found = (0, omega arith, eqb-true x.task.seg.0 merged.files.seg.0 e)
-      by false true e g found = rw g (further x.task.seg.0 merged.files.seg.0 (merge_filled (merges_with merged names ms)) (filled_own ms m found))
-      by false false e g found = rw g (filled_own ms m found)
+      by false true e g found = filled_put x (merges_with merged names ms) merged.files.seg.0 true g (further x.task.seg.0 merged.files.seg.0 (merge_filled (merges_with merged names ms)) (filled_own ms m found))
+      by false false e g found = filled_put x (merges_with merged names ms) merged.files.seg.0 false g (filled_own ms m found)
 
   -- where it is one more, it was not filled before
   pub filled_new : (ms : List Merging) (k : ℕ) → Contains (merge_filled (merges_with merged names ms)) k → (merged.files.seg.0 ≡ k) ⊎ Contains (merge_filled ms) k
@@ -261,11 +272,11 @@ module _ (merged : Merged) (names : List Name) where
           → (merged.files.seg.0 ≡ k) ⊎ Contains (if f then m.task.seg.0 ∷ merge_filled ms else merge_filled ms) k
       by true true e f d = inr d
       by true false e f d = elim (first_or m.task.seg.0 k (merge_filled ms) d) [ inl is ↦ inl (sym (eqb-true m.task.seg.0 merged.files.seg.0 e) ∙ is) | inr rest ↦ inr rest ]
-      by false true e f d = elim (first_or m.task.seg.0 k (merge_filled (merges_with merged names ms)) (rw f at d)) [
+      by false true e f d = elim (first_or m.task.seg.0 k (merge_filled (merges_with merged names ms)) (filled_get m (merges_with merged names ms) k true f d)) [
         | inl is ↦ inr (0, omega arith, is)
         | inr rest ↦ (elim (filled_new ms k rest) [ inl own ↦ inl own | inr more ↦ inr (further m.task.seg.0 k (merge_filled ms) more) ])
       ]
-      by false false e f d = filled_new ms k (rw f at d)
+      by false false e f d = filled_new ms k (filled_get m (merges_with merged names ms) k false f d)
 
   pub all_with : (P : Merging → Type 0) (ms : List Merging) (m : Merging) → AllByRecursion P ms → merge_of merged.files.seg.0 ms ≡ Some m → P (made_of m) → AllByRecursion P (merges_with merged names ms)
   all_with P [] m all is one = tt
@@ -309,7 +320,7 @@ loose_behind (x ∷ ms) m k c = elim (first_or x.task.seg.0 k (merge_loose (ms +
 ]
 
 pub filled_behind : (ms : List Merging) (m : Merging) → m.merged ≡ None → merge_filled (ms ++ m ∷ []) ≡ merge_filled ms
-filled_behind [] m none = rw none refl
+filled_behind [] m none = ap (λ (o : Option Merged). if is_some o then m.task.seg.0 ∷ [] else []) none
 filled_behind (x ∷ ms) m none = by (is_some x.merged)
   where
     by : (b : Bool) → (if b then x.task.seg.0 ∷ merge_filled (ms ++ m ∷ []) else merge_filled (ms ++ m ∷ [])) ≡ (if b then x.task.seg.0 ∷ merge_filled ms else merge_filled ms)
@@ -360,7 +371,7 @@ none_here n inputs [] all = refl
 none_here n inputs (p ∷ ps) all = by (is_one_of inputs p)
   where
     by : (b : Bool) → list_any (λ (seg : SegNo). seg.0 == n) (map (λ (q : Part). q.0.seg) (if b then p ∷ inputs_in inputs ps else inputs_in inputs ps)) ≡ false
-    by true = rw (ne_eqb p.0.seg.0 n all.0) (none_here n inputs ps all.1)
+    by true = ap (λ (b : Bool). b || list_any (λ (seg : SegNo). seg.0 == n) (map (λ (q : Part). q.0.seg) (inputs_in inputs ps))) (ne_eqb p.0.seg.0 n all.0) ∙ none_here n inputs ps all.1
     by false = none_here n inputs ps all.1
 
 pub no_input : (n : ℕ) (rs : List SegRecord) (ss : List Shown) (inputs : List SegNo) (docs : List (List Doc)) (noted : List (List Bool)) → IsMergeOf (zip rs ss) inputs docs noted → AllByRecursion (λ (r : SegRecord). r.seg.0 ≢ n) rs
