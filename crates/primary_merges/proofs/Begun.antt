@@ -36,14 +36,14 @@ use Rattle.primary_merges.specs.MergeCalls.{records_in, infos_of}
 -- ---- the names of the inputs' files are names of the infos' files
 chosen_in : (test : SegRecord → Bool) (rs : List SegRecord) (q : Name) → Contains (flat_map files_of_segment (filter test rs)) q → Contains (flat_map files_of_segment rs) q
 chosen_in test [] q c = c
-chosen_in test (r ∷ rs) q c = by (test r) c
+chosen_in test (r ∷ rs) q c = by (test r) (chosen_in test rs q) c
   where
-    by : (b : Bool) → Contains (flat_map files_of_segment (if b then r ∷ filter test rs else filter test rs)) q → Contains (files_of_segment r ++ flat_map files_of_segment rs) q
-    by true d = elim (Contains-append_cases (files_of_segment r) (flat_map files_of_segment (filter test rs)) q d) [
+    by : (b : Bool) → (Contains (flat_map files_of_segment (filter test rs)) q → Contains (flat_map files_of_segment rs) q) → Contains (flat_map files_of_segment (if b then r ∷ filter test rs else filter test rs)) q → Contains (files_of_segment r ++ flat_map files_of_segment rs) q
+    by true more d = elim (Contains-append_cases (files_of_segment r) (flat_map files_of_segment (filter test rs)) q d) [
       | inl here ↦ Contains-append_left (files_of_segment r) (flat_map files_of_segment rs) q here
-      | inr there ↦ Contains-append_right (files_of_segment r) (flat_map files_of_segment rs) q (chosen_in test rs q there)
+      | inr there ↦ Contains-append_right (files_of_segment r) (flat_map files_of_segment rs) q (more there)
     ]
-    by false d = Contains-append_right (files_of_segment r) (flat_map files_of_segment rs) q (chosen_in test rs q d)
+    by false more d = Contains-append_right (files_of_segment r) (flat_map files_of_segment rs) q (more d)
 
 pub inputs_named : {D : Type 0} (cells : D → Cells) (p : Parts D) → IsPrimary cells p → (inputs : List SegNo) (names : List Name) → AreFilesOf (infos_of p.infos (records_in inputs p.infos.segs)) names
     → (q : Name) → 0 < times names q → 0 < times p.names q

@@ -53,11 +53,11 @@ filled_get m ms k b e c = subst (λ (x : Bool). Contains (if x then m.task.seg.0
 -- ---- a filled number is loose
 pub filled_loose : (ms : List Merging) (k : ℕ) → Contains (merge_filled ms) k → Contains (merge_loose ms) k
 filled_loose [] k c = c
-filled_loose (m ∷ ms) k c = by (is_some m.merged) c
+filled_loose (m ∷ ms) k c = by (is_some m.merged) (filled_loose ms k) c
   where
-    by : (b : Bool) → Contains (if b then m.task.seg.0 ∷ merge_filled ms else merge_filled ms) k → Contains (merge_loose (m ∷ ms)) k
-    by true d = elim (first_or m.task.seg.0 k (merge_filled ms) d) [ inl e ↦ (0, omega arith, e) | inr rest ↦ further m.task.seg.0 k (merge_loose ms) (filled_loose ms k rest) ]
-    by false d = further m.task.seg.0 k (merge_loose ms) (filled_loose ms k d)
+    by : (b : Bool) → (Contains (merge_filled ms) k → Contains (merge_loose ms) k) → Contains (if b then m.task.seg.0 ∷ merge_filled ms else merge_filled ms) k → Contains (merge_loose (m ∷ ms)) k
+    by true more d = elim (first_or m.task.seg.0 k (merge_filled ms) d) [ inl e ↦ (0, omega arith, e) | inr rest ↦ further m.task.seg.0 k (merge_loose ms) (more rest) ]
+    by false more d = further m.task.seg.0 k (merge_loose ms) (more d)
 
 -- ---- the merge of a number
 pub record MergeAt (n : ℕ) (ms : List Merging) : Type 0 where
@@ -96,45 +96,45 @@ merge_at n (m ∷ ms) there = let all = by (m.task.seg.0 == n) refl (merge_at n 
 -- it has the number
 pub number_of : (n : ℕ) (ms : List Merging) (m : Merging) → merge_of n ms ≡ Some m → m.task.seg.0 ≡ n
 number_of n [] m is = absurd cc
-number_of n (x ∷ ms) m is = by (x.task.seg.0 == n) refl is
+number_of n (x ∷ ms) m is = by (x.task.seg.0 == n) refl (number_of n ms m) is
   where
-    by : (b : Bool) → (x.task.seg.0 == n) ≡ b → (if b then Some x else merge_of n ms) ≡ Some m → m.task.seg.0 ≡ n
-    by true e found = let same : x ≡ m = cc in ap (λ (y : Merging). y.task.seg.0) (sym same) ∙ eqb-true x.task.seg.0 n e
-    by false e found = number_of n ms m found
+    by : (b : Bool) → (x.task.seg.0 == n) ≡ b → (merge_of n ms ≡ Some m → m.task.seg.0 ≡ n) → (if b then Some x else merge_of n ms) ≡ Some m → m.task.seg.0 ≡ n
+    by true e more found = let same : x ≡ m = cc in ap (λ (y : Merging). y.task.seg.0) (sym same) ∙ eqb-true x.task.seg.0 n e
+    by false e more found = more found
 
 -- what is true of all is true of it, and of those without it
 pub all_at : (P : Merging → Type 0) (n : ℕ) (ms : List Merging) (m : Merging) → AllByRecursion P ms → merge_of n ms ≡ Some m → P m
 all_at P n [] m all is = absurd cc
-all_at P n (x ∷ ms) m all is = by (x.task.seg.0 == n) is
+all_at P n (x ∷ ms) m all is = by (x.task.seg.0 == n) (all_at P n ms m all.1) is
   where
-    by : (b : Bool) → (if b then Some x else merge_of n ms) ≡ Some m → P m
-    by true found = let same : x ≡ m = cc in subst P same all.0
-    by false found = all_at P n ms m all.1 found
+    by : (b : Bool) → (merge_of n ms ≡ Some m → P m) → (if b then Some x else merge_of n ms) ≡ Some m → P m
+    by true more found = let same : x ≡ m = cc in subst P same all.0
+    by false more found = more found
 
 pub all_without : (P : Merging → Type 0) (n : ℕ) (ms : List Merging) → AllByRecursion P ms → AllByRecursion P (merges_without n ms)
 all_without P n [] all = tt
-all_without P n (m ∷ ms) all = by (m.task.seg.0 == n)
+all_without P n (m ∷ ms) all = by (m.task.seg.0 == n) (all_without P n ms all.1)
   where
-    by : (b : Bool) → AllByRecursion P (if b then ms else m ∷ merges_without n ms)
-    by true = all.1
-    by false = (all.0, all_without P n ms all.1)
+    by : (b : Bool) → AllByRecursion P (merges_without n ms) → AllByRecursion P (if b then ms else m ∷ merges_without n ms)
+    by true more = all.1
+    by false more = (all.0, more)
 
 pub apart_without : (n : ℕ) (ms : List Merging) → AreApartMerges ms → AreApartMerges (merges_without n ms)
 apart_without n [] apart = tt
-apart_without n (m ∷ ms) apart = by (m.task.seg.0 == n)
+apart_without n (m ∷ ms) apart = by (m.task.seg.0 == n) (apart_without n ms apart.1)
   where
-    by : (b : Bool) → AreApartMerges (if b then ms else m ∷ merges_without n ms)
-    by true = apart.1
-    by false = (all_without (AreOtherMerges m) n ms apart.0, apart_without n ms apart.1)
+    by : (b : Bool) → AreApartMerges (merges_without n ms) → AreApartMerges (if b then ms else m ∷ merges_without n ms)
+    by true more = apart.1
+    by false more = (all_without (AreOtherMerges m) n ms apart.0, more)
 
 -- the names that it holds, and those that the others do
 pub names_split : (n : ℕ) (ms : List Merging) (m : Merging) (q : Name) → merge_of n ms ≡ Some m → times (merge_names ms) q ≡ times m.names q + times (merge_names (merges_without n ms)) q
 names_split n [] m q is = absurd cc
-names_split n (x ∷ ms) m q is = by (x.task.seg.0 == n) is
+names_split n (x ∷ ms) m q is = by (x.task.seg.0 == n) (names_split n ms m q) is
   where
-    by : (b : Bool) → (if b then Some x else merge_of n ms) ≡ Some m → times (x.names ++ merge_names ms) q ≡ times m.names q + times (merge_names (if b then ms else x ∷ merges_without n ms)) q
-    by true found = let same : x ≡ m = cc in let e : times x.names q ≡ times m.names q = ap (λ (y : Merging). times y.names q) same in omega (arith, e, times-append x.names (merge_names ms) q)
-    by false found = omega (arith, names_split n ms m q found, times-append x.names (merge_names ms) q, times-append x.names (merge_names (merges_without n ms)) q)
+    by : (b : Bool) → (merge_of n ms ≡ Some m → times (merge_names ms) q ≡ times m.names q + times (merge_names (merges_without n ms)) q) → (if b then Some x else merge_of n ms) ≡ Some m → times (x.names ++ merge_names ms) q ≡ times m.names q + times (merge_names (if b then ms else x ∷ merges_without n ms)) q
+    by true more found = let same : x ≡ m = cc in let e : times x.names q ≡ times m.names q = ap (λ (y : Merging). times y.names q) same in omega (arith, e, times-append x.names (merge_names ms) q)
+    by false more found = omega (arith, more found, times-append x.names (merge_names ms) q, times-append x.names (merge_names (merges_without n ms)) q)
 
 -- ---- the others
 reversed : (m x : Merging) → AreOtherMerges m x → AreOtherMerges x m
@@ -150,28 +150,28 @@ all_reversed m (x ∷ ms) all = (reversed m x all.0, all_reversed m ms all.1)
 
 pub others_at : (n : ℕ) (ms : List Merging) (m : Merging) → AreApartMerges ms → merge_of n ms ≡ Some m → AllByRecursion (λ x. AreOtherMerges x m) (merges_without n ms)
 others_at n [] m apart is = absurd cc
-others_at n (x ∷ ms) m apart is = by (x.task.seg.0 == n) is
+others_at n (x ∷ ms) m apart is = by (x.task.seg.0 == n) (others_at n ms m apart.1) is
   where
-    by : (b : Bool) → (if b then Some x else merge_of n ms) ≡ Some m → AllByRecursion (λ y. AreOtherMerges y m) (if b then ms else x ∷ merges_without n ms)
-    by true found = let same : x ≡ m = cc in subst (λ (y : Merging). AllByRecursion (λ z. AreOtherMerges z y) ms) same (all_reversed x ms apart.0)
-    by false found = (all_at (AreOtherMerges x) n ms m apart.0 found, others_at n ms m apart.1 found)
+    by : (b : Bool) → (merge_of n ms ≡ Some m → AllByRecursion (λ y. AreOtherMerges y m) (merges_without n ms)) → (if b then Some x else merge_of n ms) ≡ Some m → AllByRecursion (λ y. AreOtherMerges y m) (if b then ms else x ∷ merges_without n ms)
+    by true more found = let same : x ≡ m = cc in subst (λ (y : Merging). AllByRecursion (λ z. AreOtherMerges z y) ms) same (all_reversed x ms apart.0)
+    by false more found = (all_at (AreOtherMerges x) n ms m apart.0 found, more found)
 
 -- ---- its number
 pub loose_at : (n : ℕ) (ms : List Merging) (m : Merging) → merge_of n ms ≡ Some m → Contains (merge_loose ms) n
 loose_at n [] m is = absurd cc
-loose_at n (x ∷ ms) m is = by (x.task.seg.0 == n) refl is
+loose_at n (x ∷ ms) m is = by (x.task.seg.0 == n) refl (loose_at n ms m) is
   where
-    by : (b : Bool) → (x.task.seg.0 == n) ≡ b → (if b then Some x else merge_of n ms) ≡ Some m → Contains (x.task.seg.0 ∷ merge_loose ms) n
-    by true e found = (0, omega arith, eqb-true x.task.seg.0 n e)
-    by false e found = further x.task.seg.0 n (merge_loose ms) (loose_at n ms m found)
+    by : (b : Bool) → (x.task.seg.0 == n) ≡ b → (merge_of n ms ≡ Some m → Contains (merge_loose ms) n) → (if b then Some x else merge_of n ms) ≡ Some m → Contains (x.task.seg.0 ∷ merge_loose ms) n
+    by true e more found = (0, omega arith, eqb-true x.task.seg.0 n e)
+    by false e more found = further x.task.seg.0 n (merge_loose ms) (more found)
 
 pub loose_without : (n : ℕ) (ms : List Merging) (k : ℕ) → Contains (merge_loose (merges_without n ms)) k → Contains (merge_loose ms) k
 loose_without n [] k c = c
-loose_without n (m ∷ ms) k c = by (m.task.seg.0 == n) c
+loose_without n (m ∷ ms) k c = by (m.task.seg.0 == n) (loose_without n ms k) c
   where
-    by : (b : Bool) → Contains (merge_loose (if b then ms else m ∷ merges_without n ms)) k → Contains (m.task.seg.0 ∷ merge_loose ms) k
-    by true d = further m.task.seg.0 k (merge_loose ms) d
-    by false d = elim (first_or m.task.seg.0 k (merge_loose (merges_without n ms)) d) [ inl e ↦ (0, omega arith, e) | inr rest ↦ further m.task.seg.0 k (merge_loose ms) (loose_without n ms k rest) ]
+    by : (b : Bool) → (Contains (merge_loose (merges_without n ms)) k → Contains (merge_loose ms) k) → Contains (merge_loose (if b then ms else m ∷ merges_without n ms)) k → Contains (m.task.seg.0 ∷ merge_loose ms) k
+    by true more d = further m.task.seg.0 k (merge_loose ms) d
+    by false more d = elim (first_or m.task.seg.0 k (merge_loose (merges_without n ms)) d) [ inl e ↦ (0, omega arith, e) | inr rest ↦ further m.task.seg.0 k (merge_loose ms) (more rest) ]
 
 -- no other merge has it
 none_has : (m : Merging) (ms : List Merging) (k : ℕ) → AllByRecursion (λ x. AreOtherMerges x m) ms → m.task.seg.0 ≡ k → Contains (merge_loose ms) k → ⊥
@@ -184,38 +184,38 @@ loose_gone n ms m apart is = none_has m (merges_without n ms) n (others_at n ms 
 -- where nothing was made of it, its number is not filled
 pub unfilled_at : (n : ℕ) (ms : List Merging) (m : Merging) → AreApartMerges ms → merge_of n ms ≡ Some m → m.merged ≡ None → Contains (merge_filled ms) n → ⊥
 unfilled_at n [] m apart is none c = absurd (omega (arith, c.1))
-unfilled_at n (x ∷ ms) m apart is none c = by (x.task.seg.0 == n) (is_some x.merged) refl refl is c
+unfilled_at n (x ∷ ms) m apart is none c = by (x.task.seg.0 == n) (is_some x.merged) refl refl (λ found d. unfilled_at n ms m apart.1 found none d) is c
   where
-    by : (b f : Bool) → (x.task.seg.0 == n) ≡ b → is_some x.merged ≡ f → (if b then Some x else merge_of n ms) ≡ Some m → Contains (if f then x.task.seg.0 ∷ merge_filled ms else merge_filled ms) n → ⊥
-    by true true e f found d = let same : x ≡ m = cc in let no : is_some x.merged ≡ false = ap (λ (y : Merging). is_some y.merged) same ∙ ap is_some none in absurd (true≢false (sym f ∙ no))
-    by true false e f found d = none_has x ms n (all_reversed x ms apart.0) (eqb-true x.task.seg.0 n e) (filled_loose ms n d)
-    by false true e f found d = elim (first_or x.task.seg.0 n (merge_filled ms) d) [ inl is ↦ eqb-false x.task.seg.0 n e is | inr rest ↦ unfilled_at n ms m apart.1 found none rest ]
-    by false false e f found d = unfilled_at n ms m apart.1 found none d
+    by : (b f : Bool) → (x.task.seg.0 == n) ≡ b → is_some x.merged ≡ f → (merge_of n ms ≡ Some m → Contains (merge_filled ms) n → ⊥) → (if b then Some x else merge_of n ms) ≡ Some m → Contains (if f then x.task.seg.0 ∷ merge_filled ms else merge_filled ms) n → ⊥
+    by true true e f more found d = let same : x ≡ m = cc in let no : is_some x.merged ≡ false = ap (λ (y : Merging). is_some y.merged) same ∙ ap is_some none in absurd (true≢false (sym f ∙ no))
+    by true false e f more found d = none_has x ms n (all_reversed x ms apart.0) (eqb-true x.task.seg.0 n e) (filled_loose ms n d)
+    by false true e f more found d = elim (first_or x.task.seg.0 n (merge_filled ms) d) [ inl is ↦ eqb-false x.task.seg.0 n e is | inr rest ↦ more found rest ]
+    by false false e f more found d = more found d
 
 -- the filled ones are its own number and those of the others
 pub filled_or : (n : ℕ) (ms : List Merging) (k : ℕ) → Contains (merge_filled ms) k → (n ≡ k) ⊎ Contains (merge_filled (merges_without n ms)) k
 filled_or n [] k c = inr c
-filled_or n (m ∷ ms) k c = by (m.task.seg.0 == n) (is_some m.merged) refl refl c
+filled_or n (m ∷ ms) k c = by (m.task.seg.0 == n) (is_some m.merged) refl refl (filled_or n ms k) c
   where
-    by : (b f : Bool) → (m.task.seg.0 == n) ≡ b → is_some m.merged ≡ f → Contains (if f then m.task.seg.0 ∷ merge_filled ms else merge_filled ms) k
+    by : (b f : Bool) → (m.task.seg.0 == n) ≡ b → is_some m.merged ≡ f → (Contains (merge_filled ms) k → (n ≡ k) ⊎ Contains (merge_filled (merges_without n ms)) k) → Contains (if f then m.task.seg.0 ∷ merge_filled ms else merge_filled ms) k
         → (n ≡ k) ⊎ Contains (merge_filled (if b then ms else m ∷ merges_without n ms)) k
-    by true true e f d = elim (first_or m.task.seg.0 k (merge_filled ms) d) [ inl is ↦ inl (sym (eqb-true m.task.seg.0 n e) ∙ is) | inr rest ↦ inr rest ]
-    by true false e f d = inr d
-    by false true e f d = elim (first_or m.task.seg.0 k (merge_filled ms) d) [
+    by true true e f more d = elim (first_or m.task.seg.0 k (merge_filled ms) d) [ inl is ↦ inl (sym (eqb-true m.task.seg.0 n e) ∙ is) | inr rest ↦ inr rest ]
+    by true false e f more d = inr d
+    by false true e f more d = elim (first_or m.task.seg.0 k (merge_filled ms) d) [
       | inl is ↦ inr (filled_put m (merges_without n ms) k true f (0, omega arith, is))
-      | inr rest ↦ (elim (filled_or n ms k rest) [ inl own ↦ inl own | inr more ↦ inr (filled_put m (merges_without n ms) k true f (further m.task.seg.0 k (merge_filled (merges_without n ms)) more)) ])
+      | inr rest ↦ (elim (more rest) [ inl own ↦ inl own | inr left ↦ inr (filled_put m (merges_without n ms) k true f (further m.task.seg.0 k (merge_filled (merges_without n ms)) left)) ])
     ]
-    by false false e f d = elim (filled_or n ms k d) [ inl own ↦ inl own | inr more ↦ inr (filled_put m (merges_without n ms) k false f more) ]
+    by false false e f more d = elim (more d) [ inl own ↦ inl own | inr left ↦ inr (filled_put m (merges_without n ms) k false f left) ]
 
 pub filled_without : (n : ℕ) (ms : List Merging) (k : ℕ) → Contains (merge_filled (merges_without n ms)) k → Contains (merge_filled ms) k
 filled_without n [] k c = c
-filled_without n (m ∷ ms) k c = by (m.task.seg.0 == n) (is_some m.merged) refl c
+filled_without n (m ∷ ms) k c = by (m.task.seg.0 == n) (is_some m.merged) refl (filled_without n ms k) c
   where
-    by : (b f : Bool) → is_some m.merged ≡ f → Contains (merge_filled (if b then ms else m ∷ merges_without n ms)) k → Contains (if f then m.task.seg.0 ∷ merge_filled ms else merge_filled ms) k
-    by true true f d = further m.task.seg.0 k (merge_filled ms) d
-    by true false f d = d
-    by false true f d = elim (first_or m.task.seg.0 k (merge_filled (merges_without n ms)) (filled_get m (merges_without n ms) k true f d)) [ inl is ↦ (0, omega arith, is) | inr rest ↦ further m.task.seg.0 k (merge_filled ms) (filled_without n ms k rest) ]
-    by false false f d = filled_without n ms k (filled_get m (merges_without n ms) k false f d)
+    by : (b f : Bool) → is_some m.merged ≡ f → (Contains (merge_filled (merges_without n ms)) k → Contains (merge_filled ms) k) → Contains (merge_filled (if b then ms else m ∷ merges_without n ms)) k → Contains (if f then m.task.seg.0 ∷ merge_filled ms else merge_filled ms) k
+    by true true f more d = further m.task.seg.0 k (merge_filled ms) d
+    by true false f more d = d
+    by false true f more d = elim (first_or m.task.seg.0 k (merge_filled (merges_without n ms)) (filled_get m (merges_without n ms) k true f d)) [ inl is ↦ (0, omega arith, is) | inr rest ↦ further m.task.seg.0 k (merge_filled ms) (more rest) ]
+    by false false f more d = more (filled_get m (merges_without n ms) k false f d)
 
 -- ---- what was made of it
 module _ (merged : Merged) (names : List Name) where
@@ -224,76 +224,76 @@ module _ (merged : Merged) (names : List Name) where
 
   pub names_with : (ms : List Merging) (m : Merging) (q : Name) → merge_of merged.files.seg.0 ms ≡ Some m → times (merge_names (merges_with merged names ms)) q + times m.names q ≡ times (merge_names ms) q + times names q
   names_with [] m q is = absurd cc
-  names_with (x ∷ ms) m q is = by (x.task.seg.0 == merged.files.seg.0) is
+  names_with (x ∷ ms) m q is = by (x.task.seg.0 == merged.files.seg.0) (names_with ms m q) is
     where
-      by : (b : Bool) → (if b then Some x else merge_of merged.files.seg.0 ms) ≡ Some m
+      by : (b : Bool) → (merge_of merged.files.seg.0 ms ≡ Some m → times (merge_names (merges_with merged names ms)) q + times m.names q ≡ times (merge_names ms) q + times names q) → (if b then Some x else merge_of merged.files.seg.0 ms) ≡ Some m
           → times (merge_names (if b then made_of x ∷ ms else x ∷ merges_with merged names ms)) q + times m.names q ≡ times (x.names ++ merge_names ms) q + times names q
-      by true found = let same : x ≡ m = cc in let e : times x.names q ≡ times m.names q = ap (λ (y : Merging). times y.names q) same in
+      by true more found = let same : x ≡ m = cc in let e : times x.names q ≡ times m.names q = ap (λ (y : Merging). times y.names q) same in
           omega (arith, e, times-append names (merge_names ms) q, times-append x.names (merge_names ms) q)
-      by false found = omega (arith, names_with ms m q found, times-append x.names (merge_names (merges_with merged names ms)) q, times-append x.names (merge_names ms) q)
+      by false more found = omega (arith, more found, times-append x.names (merge_names (merges_with merged names ms)) q, times-append x.names (merge_names ms) q)
 
   pub loose_with : (ms : List Merging) → merge_loose (merges_with merged names ms) ≡ merge_loose ms
   loose_with [] = refl
-  loose_with (m ∷ ms) = by (m.task.seg.0 == merged.files.seg.0)
+  loose_with (m ∷ ms) = by (m.task.seg.0 == merged.files.seg.0) (loose_with ms)
     where
-      by : (b : Bool) → merge_loose (if b then made_of m ∷ ms else m ∷ merges_with merged names ms) ≡ m.task.seg.0 ∷ merge_loose ms
-      by true = refl
-      by false = ap (λ (l : List ℕ). m.task.seg.0 ∷ l) (loose_with ms)
+      by : (b : Bool) → merge_loose (merges_with merged names ms) ≡ merge_loose ms → merge_loose (if b then made_of m ∷ ms else m ∷ merges_with merged names ms) ≡ m.task.seg.0 ∷ merge_loose ms
+      by true more = refl
+      by false more = ap (λ (l : List ℕ). m.task.seg.0 ∷ l) more
 
   pub filled_with : (ms : List Merging) (k : ℕ) → Contains (merge_filled ms) k → Contains (merge_filled (merges_with merged names ms)) k
   filled_with [] k c = c
-  filled_with (m ∷ ms) k c = by (m.task.seg.0 == merged.files.seg.0) (is_some m.merged) refl c
+  filled_with (m ∷ ms) k c = by (m.task.seg.0 == merged.files.seg.0) (is_some m.merged) refl (filled_with ms k) c
     where
-      by : (b f : Bool) → is_some m.merged ≡ f → Contains (if f then m.task.seg.0 ∷ merge_filled ms else merge_filled ms) k → Contains (merge_filled (if b then made_of m ∷ ms else m ∷ merges_with merged names ms)) k
-      by true true f d = d
-      by true false f d = further m.task.seg.0 k (merge_filled ms) d
-      by false true f d = filled_put m (merges_with merged names ms) k true f (elim (first_or m.task.seg.0 k (merge_filled ms) d) [
+      by : (b f : Bool) → is_some m.merged ≡ f → (Contains (merge_filled ms) k → Contains (merge_filled (merges_with merged names ms)) k) → Contains (if f then m.task.seg.0 ∷ merge_filled ms else merge_filled ms) k → Contains (merge_filled (if b then made_of m ∷ ms else m ∷ merges_with merged names ms)) k
+      by true true f more d = d
+      by true false f more d = further m.task.seg.0 k (merge_filled ms) d
+      by false true f more d = filled_put m (merges_with merged names ms) k true f (elim (first_or m.task.seg.0 k (merge_filled ms) d) [
         | inl is ↦ (0, omega arith, is)
-        | inr rest ↦ further m.task.seg.0 k (merge_filled (merges_with merged names ms)) (filled_with ms k rest)
+        | inr rest ↦ further m.task.seg.0 k (merge_filled (merges_with merged names ms)) (more rest)
       ])
-      by false false f d = filled_put m (merges_with merged names ms) k false f (filled_with ms k d)
+      by false false f more d = filled_put m (merges_with merged names ms) k false f (more d)
 
   pub filled_own : (ms : List Merging) (m : Merging) → merge_of merged.files.seg.0 ms ≡ Some m → Contains (merge_filled (merges_with merged names ms)) merged.files.seg.0
   filled_own [] m is = absurd cc
-  filled_own (x ∷ ms) m is = by (x.task.seg.0 == merged.files.seg.0) (is_some x.merged) refl refl is
+  filled_own (x ∷ ms) m is = by (x.task.seg.0 == merged.files.seg.0) (is_some x.merged) refl refl (filled_own ms m) is
     where
-      by : (b f : Bool) → (x.task.seg.0 == merged.files.seg.0) ≡ b → is_some x.merged ≡ f → (if b then Some x else merge_of merged.files.seg.0 ms) ≡ Some m
+      by : (b f : Bool) → (x.task.seg.0 == merged.files.seg.0) ≡ b → is_some x.merged ≡ f → (merge_of merged.files.seg.0 ms ≡ Some m → Contains (merge_filled (merges_with merged names ms)) merged.files.seg.0) → (if b then Some x else merge_of merged.files.seg.0 ms) ≡ Some m
           → Contains (merge_filled (if b then made_of x ∷ ms else x ∷ merges_with merged names ms)) merged.files.seg.0
-      by true f e g found = (0, omega arith, eqb-true x.task.seg.0 merged.files.seg.0 e)
-      by false true e g found = filled_put x (merges_with merged names ms) merged.files.seg.0 true g (further x.task.seg.0 merged.files.seg.0 (merge_filled (merges_with merged names ms)) (filled_own ms m found))
-      by false false e g found = filled_put x (merges_with merged names ms) merged.files.seg.0 false g (filled_own ms m found)
+      by true f e g more found = (0, omega arith, eqb-true x.task.seg.0 merged.files.seg.0 e)
+      by false true e g more found = filled_put x (merges_with merged names ms) merged.files.seg.0 true g (further x.task.seg.0 merged.files.seg.0 (merge_filled (merges_with merged names ms)) (more found))
+      by false false e g more found = filled_put x (merges_with merged names ms) merged.files.seg.0 false g (more found)
 
   -- where it is one more, it was not filled before
   pub filled_new : (ms : List Merging) (k : ℕ) → Contains (merge_filled (merges_with merged names ms)) k → (merged.files.seg.0 ≡ k) ⊎ Contains (merge_filled ms) k
   filled_new [] k c = inr c
-  filled_new (m ∷ ms) k c = by (m.task.seg.0 == merged.files.seg.0) (is_some m.merged) refl refl c
+  filled_new (m ∷ ms) k c = by (m.task.seg.0 == merged.files.seg.0) (is_some m.merged) refl refl (filled_new ms k) c
     where
-      by : (b f : Bool) → (m.task.seg.0 == merged.files.seg.0) ≡ b → is_some m.merged ≡ f → Contains (merge_filled (if b then made_of m ∷ ms else m ∷ merges_with merged names ms)) k
+      by : (b f : Bool) → (m.task.seg.0 == merged.files.seg.0) ≡ b → is_some m.merged ≡ f → (Contains (merge_filled (merges_with merged names ms)) k → (merged.files.seg.0 ≡ k) ⊎ Contains (merge_filled ms) k) → Contains (merge_filled (if b then made_of m ∷ ms else m ∷ merges_with merged names ms)) k
           → (merged.files.seg.0 ≡ k) ⊎ Contains (if f then m.task.seg.0 ∷ merge_filled ms else merge_filled ms) k
-      by true true e f d = inr d
-      by true false e f d = elim (first_or m.task.seg.0 k (merge_filled ms) d) [ inl is ↦ inl (sym (eqb-true m.task.seg.0 merged.files.seg.0 e) ∙ is) | inr rest ↦ inr rest ]
-      by false true e f d = elim (first_or m.task.seg.0 k (merge_filled (merges_with merged names ms)) (filled_get m (merges_with merged names ms) k true f d)) [
+      by true true e f more d = inr d
+      by true false e f more d = elim (first_or m.task.seg.0 k (merge_filled ms) d) [ inl is ↦ inl (sym (eqb-true m.task.seg.0 merged.files.seg.0 e) ∙ is) | inr rest ↦ inr rest ]
+      by false true e f more d = elim (first_or m.task.seg.0 k (merge_filled (merges_with merged names ms)) (filled_get m (merges_with merged names ms) k true f d)) [
         | inl is ↦ inr (0, omega arith, is)
-        | inr rest ↦ (elim (filled_new ms k rest) [ inl own ↦ inl own | inr more ↦ inr (further m.task.seg.0 k (merge_filled ms) more) ])
+        | inr rest ↦ (elim (more rest) [ inl own ↦ inl own | inr left ↦ inr (further m.task.seg.0 k (merge_filled ms) left) ])
       ]
-      by false false e f d = filled_new ms k (filled_get m (merges_with merged names ms) k false f d)
+      by false false e f more d = more (filled_get m (merges_with merged names ms) k false f d)
 
   pub all_with : (P : Merging → Type 0) (ms : List Merging) (m : Merging) → AllByRecursion P ms → merge_of merged.files.seg.0 ms ≡ Some m → P (made_of m) → AllByRecursion P (merges_with merged names ms)
   all_with P [] m all is one = tt
-  all_with P (x ∷ ms) m all is one = by (x.task.seg.0 == merged.files.seg.0) is
+  all_with P (x ∷ ms) m all is one = by (x.task.seg.0 == merged.files.seg.0) (λ found. all_with P ms m all.1 found one) is
     where
-      by : (b : Bool) → (if b then Some x else merge_of merged.files.seg.0 ms) ≡ Some m → AllByRecursion P (if b then made_of x ∷ ms else x ∷ merges_with merged names ms)
-      by true found = let same : x ≡ m = cc in (subst (λ (y : Merging). P (made_of y)) (sym same) one, all.1)
-      by false found = (all.0, all_with P ms m all.1 found one)
+      by : (b : Bool) → (merge_of merged.files.seg.0 ms ≡ Some m → AllByRecursion P (merges_with merged names ms)) → (if b then Some x else merge_of merged.files.seg.0 ms) ≡ Some m → AllByRecursion P (if b then made_of x ∷ ms else x ∷ merges_with merged names ms)
+      by true more found = let same : x ≡ m = cc in (subst (λ (y : Merging). P (made_of y)) (sym same) one, all.1)
+      by false more found = (all.0, more found)
 
   -- the numbers and the inputs stay, so they stay apart
   others_with : (m : Merging) (ms : List Merging) → AllByRecursion (AreOtherMerges m) ms → AllByRecursion (AreOtherMerges m) (merges_with merged names ms)
   others_with m [] all = tt
-  others_with m (x ∷ ms) all = by (x.task.seg.0 == merged.files.seg.0)
+  others_with m (x ∷ ms) all = by (x.task.seg.0 == merged.files.seg.0) (others_with m ms all.1)
     where
-      by : (b : Bool) → AllByRecursion (AreOtherMerges m) (if b then made_of x ∷ ms else x ∷ merges_with merged names ms)
-      by true = (record { number = all.0.number; inputs = all.0.inputs }, all.1)
-      by false = (all.0, others_with m ms all.1)
+      by : (b : Bool) → AllByRecursion (AreOtherMerges m) (merges_with merged names ms) → AllByRecursion (AreOtherMerges m) (if b then made_of x ∷ ms else x ∷ merges_with merged names ms)
+      by true more = (record { number = all.0.number; inputs = all.0.inputs }, all.1)
+      by false more = (all.0, more)
 
   made_others : (m : Merging) (ms : List Merging) → AllByRecursion (AreOtherMerges m) ms → AllByRecursion (AreOtherMerges (made_of m)) ms
   made_others m [] all = tt
@@ -301,11 +301,11 @@ module _ (merged : Merged) (names : List Name) where
 
   pub apart_with : (ms : List Merging) → AreApartMerges ms → AreApartMerges (merges_with merged names ms)
   apart_with [] apart = tt
-  apart_with (m ∷ ms) apart = by (m.task.seg.0 == merged.files.seg.0)
+  apart_with (m ∷ ms) apart = by (m.task.seg.0 == merged.files.seg.0) (apart_with ms apart.1)
     where
-      by : (b : Bool) → AreApartMerges (if b then made_of m ∷ ms else m ∷ merges_with merged names ms)
-      by true = (made_others m ms apart.0, apart.1)
-      by false = (others_with m ms apart.0, apart_with ms apart.1)
+      by : (b : Bool) → AreApartMerges (merges_with merged names ms) → AreApartMerges (if b then made_of m ∷ ms else m ∷ merges_with merged names ms)
+      by true more = (made_others m ms apart.0, apart.1)
+      by false more = (others_with m ms apart.0, more)
 
 -- ---- one more behind
 pub names_behind : (ms : List Merging) (m : Merging) (q : Name) → times (merge_names (ms ++ m ∷ [])) q ≡ times (merge_names ms) q + times m.names q
@@ -321,11 +321,11 @@ loose_behind (x ∷ ms) m k c = elim (first_or x.task.seg.0 k (merge_loose (ms +
 
 pub filled_behind : (ms : List Merging) (m : Merging) → m.merged ≡ None → merge_filled (ms ++ m ∷ []) ≡ merge_filled ms
 filled_behind [] m none = ap (λ (o : Option Merged). if is_some o then m.task.seg.0 ∷ [] else []) none
-filled_behind (x ∷ ms) m none = by (is_some x.merged)
+filled_behind (x ∷ ms) m none = by (is_some x.merged) (filled_behind ms m none)
   where
-    by : (b : Bool) → (if b then x.task.seg.0 ∷ merge_filled (ms ++ m ∷ []) else merge_filled (ms ++ m ∷ [])) ≡ (if b then x.task.seg.0 ∷ merge_filled ms else merge_filled ms)
-    by true = ap (λ (l : List ℕ). x.task.seg.0 ∷ l) (filled_behind ms m none)
-    by false = filled_behind ms m none
+    by : (b : Bool) → merge_filled (ms ++ m ∷ []) ≡ merge_filled ms → (if b then x.task.seg.0 ∷ merge_filled (ms ++ m ∷ []) else merge_filled (ms ++ m ∷ [])) ≡ (if b then x.task.seg.0 ∷ merge_filled ms else merge_filled ms)
+    by true more = ap (λ (l : List ℕ). x.task.seg.0 ∷ l) more
+    by false more = more
 
 pub all_behind : (P : Merging → Type 0) (ms : List Merging) (m : Merging) → AllByRecursion P ms → P m → AllByRecursion P (ms ++ m ∷ [])
 all_behind P [] m all one = (one, tt)
@@ -368,11 +368,11 @@ parts_of P (r ∷ rs) (s ∷ ss) all = (all.0, parts_of P rs ss all.1)
 -- a number that no segment has is no input of a merge in flight
 none_here : (n : ℕ) (inputs : List SegNo) (ps : List Part) → AllByRecursion (λ (p : Part). p.0.seg.0 ≢ n) ps → list_any (λ (seg : SegNo). seg.0 == n) (map (λ (p : Part). p.0.seg) (inputs_in inputs ps)) ≡ false
 none_here n inputs [] all = refl
-none_here n inputs (p ∷ ps) all = by (is_one_of inputs p)
+none_here n inputs (p ∷ ps) all = by (is_one_of inputs p) (none_here n inputs ps all.1)
   where
-    by : (b : Bool) → list_any (λ (seg : SegNo). seg.0 == n) (map (λ (q : Part). q.0.seg) (if b then p ∷ inputs_in inputs ps else inputs_in inputs ps)) ≡ false
-    by true = ap (λ (b : Bool). b || list_any (λ (seg : SegNo). seg.0 == n) (map (λ (q : Part). q.0.seg) (inputs_in inputs ps))) (ne_eqb p.0.seg.0 n all.0) ∙ none_here n inputs ps all.1
-    by false = none_here n inputs ps all.1
+    by : (b : Bool) → list_any (λ (seg : SegNo). seg.0 == n) (map (λ (q : Part). q.0.seg) (inputs_in inputs ps)) ≡ false → list_any (λ (seg : SegNo). seg.0 == n) (map (λ (q : Part). q.0.seg) (if b then p ∷ inputs_in inputs ps else inputs_in inputs ps)) ≡ false
+    by true more = ap (λ (b : Bool). b || list_any (λ (seg : SegNo). seg.0 == n) (map (λ (q : Part). q.0.seg) (inputs_in inputs ps))) (ne_eqb p.0.seg.0 n all.0) ∙ more
+    by false more = more
 
 pub no_input : (n : ℕ) (rs : List SegRecord) (ss : List Shown) (inputs : List SegNo) (docs : List (List Doc)) (noted : List (List Bool)) → IsMergeOf (zip rs ss) inputs docs noted → AllByRecursion (λ (r : SegRecord). r.seg.0 ≢ n) rs
     → list_any (λ (seg : SegNo). seg.0 == n) inputs ≡ false

@@ -1,5 +1,5 @@
 use Rattle.std.proofs.Common.{◌≡◌, take}
-use Rattle.primary_parts.specs.States.{merge_inputs}
+use Rattle.primary_parts.specs.Merges.{merge_inputs}
 use Rattle.primary_parts.proofs.states.inputs_of.Given as goal
 
 abbrev pub invariant-loop-merge : goal.invariant-loop-merge

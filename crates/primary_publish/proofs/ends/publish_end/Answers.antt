@@ -20,7 +20,7 @@ pub next_segments-requires-clause-rows : goal.next_segments-requires-clause-rows
 next_segments-requires-clause-rows g c = rw c.as_slice-3.ensures (work_fits g.D.Dir.cells c.args.parts.now c.args.work c.requires.whole c.requires.work).1
 
 pub make_point-requires-clause-step : goal.make_point-requires-clause-step
-make_point-requires-clause-step g c = primary_step g.D.Dir.cells c.args.parts.now c.args.work c.requires.whole c.requires.work _ c.in-Ok-next_segments.made (rw (c.as_slice-2.ensures, c.as_slice-3.ensures) at c.in-Ok-next_segments.ensures)
+make_point-requires-clause-step g c = primary_step g.D.Dir.cells c.args.parts.now c.args.work c.requires.whole c.requires.work _ c.in-Ok-next_segments.made (rw (c.as_slice-2.ensures, c.as_slice-3.ensures, c.deref.ensures.value, c.in-Ok.ensures, c.as_slice.ensures) at c.in-Ok-next_segments.ensures)
 
 pub returns-in-Ok-make_point-clause-documents : goal.returns-in-Ok-make_point-clause-documents
 returns-in-Ok-make_point-clause-documents g c docs stand =
@@ -32,7 +32,7 @@ pub returns-in-Ok-make_point-clause-fresh : goal.returns-in-Ok-make_point-clause
 returns-in-Ok-make_point-clause-fresh g c =
     let p = c.args.parts.now in
     let made = c.in-Ok-next_segments.made in
-    let step = primary_step g.D.Dir.cells p c.args.work c.requires.whole c.requires.work _ made (rw (c.as_slice-2.ensures, c.as_slice-3.ensures) at c.in-Ok-next_segments.ensures) in
+    let step = primary_step g.D.Dir.cells p c.args.work c.requires.whole c.requires.work _ made (rw (c.as_slice-2.ensures, c.as_slice-3.ensures, c.deref.ensures.value, c.in-Ok.ensures, c.as_slice.ensures) at c.in-Ok-next_segments.ensures) in
     step_fills g.D.Dir.cells p c.make_point.new.parts made.records made.segs made.files c.requires.whole c.in-Ok-make_point.ensures.whole step c.in-Ok-make_point.ensures.infos.0 c.in-Ok-make_point.ensures.infos.1
     c.in-Ok-make_point.ensures.tickets c.in-Ok-make_point.ensures.others
 
@@ -40,7 +40,7 @@ pub returns-in-Ok-make_point-clause-drawn : goal.returns-in-Ok-make_point-clause
 returns-in-Ok-make_point-clause-drawn g c =
     let p = c.args.parts.now in
     let made = c.in-Ok-next_segments.made in
-    let step = primary_step g.D.Dir.cells p c.args.work c.requires.whole c.requires.work _ made (rw (c.as_slice-2.ensures, c.as_slice-3.ensures) at c.in-Ok-next_segments.ensures) in
+    let step = primary_step g.D.Dir.cells p c.args.work c.requires.whole c.requires.work _ made (rw (c.as_slice-2.ensures, c.as_slice-3.ensures, c.deref.ensures.value, c.in-Ok.ensures, c.as_slice.ensures) at c.in-Ok-next_segments.ensures) in
     step_draws g.D.Dir.cells p c.make_point.new.parts made.records made.segs made.files step c.in-Ok-make_point.ensures.infos.0 (where_ok c.make_point.result c.in-Ok-make_point.version _ _ c.in-Ok-make_point.is c.make_point.ensures.none)
     c.in-Ok-make_point.ensures.others
 
