@@ -1,3 +1,4 @@
+mod OtherCuts
 mod Carrying
 mod Begun
 mod MergedFiles
