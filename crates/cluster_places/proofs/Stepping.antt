@@ -14,7 +14,7 @@ use Rattle.copy_job.specs.declared.copying.Part.{Part}
 use Rattle.copy_job.specs.Jobs.{Job, reads_under, with_part}
 use Rattle.primary_parts.specs.declared.parts.Parts.{Parts as PrimaryParts}
 use Rattle.primary_parts.specs.declared.states.Out.{Out}
-use Rattle.primary_parts.specs.Primary.{IsPrimary, KeepsHeldBytes, loose_of}
+use Rattle.primary_parts.specs.Primary.{IsPrimary, KeepsHeldBytes, loose_of, IsUnwritten}
 use Rattle.primary_parts.specs.Held.{IsUndrawn}
 use Rattle.primary_parts.specs.Calls.{HoldsNoNew}
 use Rattle.primary_parts.specs.States.{out_of, states_without, is_out, same_out, IsStateOf}
@@ -52,7 +52,7 @@ module _ {D : Type 0} (cells : D → Cells) where
     files = record {
       stays = stays;
       no_new = no_new;
-      drawn = record { each = λ name undrawn. subst (λ (x : PrimaryParts D). IsUndrawn x.infos (loose_of x) name) is undrawn };
+      drawn = record { each = λ name undrawn. subst (λ (x : PrimaryParts D). IsUnwritten x name) is undrawn };
       appears = appears;
       commits = ap (λ (x : PrimaryParts D). x.commits) is;
       point = ap (λ (x : PrimaryParts D). x.point_infos.generation) is;

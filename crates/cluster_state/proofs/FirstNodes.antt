@@ -56,7 +56,8 @@ use Rattle.cluster_state.specs.Files.{JobShows, PrimaryFiles, ReplicaFiles, Node
 use Rattle.cluster_places.specs.Outs.{want_of, one_like, want_at, jobs_like}
 use Rattle.primary_parts.specs.declared.states.Out.{Out}
 use Rattle.primary_parts.specs.Primary.{primary_names}
-use Rattle.primary_parts.specs.States.{state_names, merge_names, merge_loose}
+use Rattle.primary_parts.specs.States.{state_names}
+use Rattle.primary_parts.specs.Merges.{merge_names, merge_loose}
 use Rattle.file_deleter.specs.Holdings.{count_of}
 use Rattle.nrt_base.specs.declared.numbers.At.{At}
 use Rattle.replica_node.specs.declared.job.PointJob.{PointJob}
@@ -193,7 +194,7 @@ module _ {D : Type 0} (cells : D → Cells) where
     parts_held spelled files stands = record { spelled = spelled; files = files; docs = []; stands = stands [] is.stands }
 
     -- no file is counted
-    pub parts_undrawn : IsWholeNode (cells p.dir) p.files (searcher_names p.searchers) p.commits → AreFilesOf p.infos p.searchers.point.names → AreUndrawn p.files p.infos []
+    pub parts_undrawn : IsWholeNode (cells p.dir) p.files (searcher_names p.searchers) p.commits → AreFilesOf p.infos p.searchers.point.names → AreUndrawn p.files p.infos [] []
     parts_undrawn node files = record { each = λ q undrawn. node.counts q ∙ λ i. times (named i) q + times (booked i) q }
       where
         named : searcher_names p.searchers ≡ []

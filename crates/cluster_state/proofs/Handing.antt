@@ -24,7 +24,8 @@ use Rattle.searcher_switch.specs.Searching.{searcher_names}
 use Rattle.primary_parts.specs.declared.parts.Parts.{Parts as PrimaryParts}
 use Rattle.primary_parts.specs.declared.states.Out.{Out}
 use Rattle.primary_parts.specs.Primary.{IsPrimary, primary_names, rest_names}
-use Rattle.primary_parts.specs.States.{out_of, is_out, state_names, merge_names}
+use Rattle.primary_parts.specs.States.{out_of, is_out, state_names}
+use Rattle.primary_parts.specs.Merges.{merge_names}
 use Rattle.replica_opening.specs.Known.{HasMeta}
 use Rattle.replica_node.specs.declared.job.PointJob.{PointJob}
 use Rattle.replica_node.specs.declared.parts.Parts.{Parts as ReplicaParts}

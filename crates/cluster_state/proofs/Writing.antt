@@ -32,7 +32,7 @@ use Rattle.primary_parts.specs.declared.parts.Publish.{Publish}
 use Rattle.primary_parts.specs.Primary.{IsPrimary}
 use Rattle.segment_steps.specs.declared.flushing.FlushWork.{FlushWork}
 use Rattle.primary_parts.specs.Calls.{IsPublished}
-use Rattle.primary_parts.specs.States.{merge_inputs}
+use Rattle.primary_parts.specs.Merges.{merge_inputs}
 use Rattle.primary_parts.specs.declared.states.Merging.{Merging}
 use Rattle.script_serving.specs.Refusals.{put_publishes}
 use Rattle.primary_parts.specs.Work.{AreOfCut}

@@ -7,7 +7,7 @@ use Rattle.disk_model.specs.Disk.{Name, Content, Cells}
 use Rattle.seg_reader.specs.Stands.{StandsFor}
 use Rattle.primary_parts.specs.declared.parts.Parts.{Parts as PrimaryParts}
 use Rattle.primary_parts.specs.declared.states.Out.{Out}
-use Rattle.primary_parts.specs.Primary.{loose_of}
+use Rattle.primary_parts.specs.Primary.{loose_of, IsUnwritten}
 use Rattle.primary_parts.specs.Held.{IsUndrawn}
 use Rattle.replica_opening.specs.Known.{HasMeta, IsLasting}
 use Rattle.replica_node.specs.declared.job.PointJob.{PointJob}
@@ -71,7 +71,7 @@ module _ {D : Type 0} where
   -- generation, and of each state as many are out as there are jobs that began with one like it.
   pub record PrimaryFiles (source : Name → Content) (cells : D → Cells) (jobs : Out → ℕ) (p : PrimaryParts D) : Type 0 where
     pub held : HeldReadAs source (cells p.dir) p.files
-    pub unwritten : (q : Name) → IsUndrawn p.infos (loose_of p) q → source q ≡ None
+    pub unwritten : (q : Name) → IsUnwritten p q → source q ≡ None
     pub generation : p.point_infos.generation ≡ p.infos.generation
     pub outs : (s : Out) → jobs s ≤ states_like s p.states
 
