@@ -32,7 +32,9 @@ use Rattle.primary_parts.specs.Primary.{loose_of, IsPrimary}
 use Rattle.primary_parts.specs.Written.{names_of}
 use Rattle.primary_parts.proofs.Drawing.{drawn_small}
 use Rattle.primary_parts.proofs.MergeLists.{number_of, all_at}
-use Rattle.primary_merges.specs.MergeCalls.{AreInBoth}
+use Rattle.segment_infos.specs.Files.{AreFilesOf}
+use Rattle.segment_steps.specs.declared.next.NextSegments.{NextSegments}
+use Rattle.primary_merges.specs.MergeCalls.{infos_of, AreInBoth, AreWrittenOf, IsCutMade, IsCutReady}
 use Rattle.primary_merges.proofs.Abandoned.{is_loose}
 use Rattle.primary_merges.proofs.MergedFiles.{merged_short}
 
@@ -44,6 +46,14 @@ some_there P (Some x) h = refl
 pub so_at : {X : Type 0} (P : X → Type 0) (o : Option X) (x : X) → Some x ≡ o → IsSomeAnd o P → P x
 so_at P None x e h = absurd h
 so_at P (Some y) x e h = let same : y ≡ x = cc in subst P same h
+
+-- one merge of a number
+pub same_merging : (m x : Merging) (merged : Merged) → Some m ≡ Some x → x.merged ≡ Some merged → m.merged ≡ Some merged
+same_merging m x merged e is = let same : m ≡ x = cc in ap (λ (y : Merging). y.merged) same ∙ is
+
+-- the names of what was written of it
+pub written_is : (o : Option Merged) (merged : Merged) (names : List Name) → o ≡ Some merged → AreWrittenOf o names → names ≡ names_of merged.files.files
+written_is o merged names e h = subst (λ (x : Option Merged). AreWrittenOf x names) e h
 
 -- ---- names of two lists, sorted and each once
 pub both_are : (a b all sorted left : List Name) → all ≡ a ++ b → IsPermutation all sorted → IsSorted (slice_cmp nat_cmp) sorted → left ≡ dedup (pointwise nat_eq) sorted → AreInBoth a b left
@@ -107,3 +117,30 @@ module _ {D : Type 0} (cells : D → Cells) (p : Parts D) (is : IsPrimary cells 
 
   pub cut_short : AreShortNames (names_of merged.files.files)
   cut_short = merged_short m.task merged made.of (subst (λ (k : ℕ). k < 2 ^ 64) (sym number) (drawn_small p.infos (loose_of p) seg.0 is.numbered below))
+
+  -- ---- all that a cut-over needs memory for
+  pub cut_ready_of : (made : NextSegments) → IsCutMade p seg made → (own : List Name) → own ≡ names_of merged.files.files → (completed : List Name) → AreInBoth p.completed own completed
+      → (names : List Name) → AreFilesOf (infos_of p.infos made.records) names → (written held gone : List Name) → written ≡ names_of made.files → held ≡ p.names ++ m.names → gone ≡ held ++ written
+      → IsCutReady p seg (record { infos = infos_of p.infos made.records; segs = made.segs; names = names; files = made.files; written = written; gone = gone; completed = completed })
+  cut_ready_of made h own own_is completed both names named written held gone w e f =
+      let same : h.m ≡ m = same_some h.m m (sym h.found ∙ found) in
+      let same_merged : h.merged ≡ merged = same_some h.merged merged (sym h.is_merged ∙ ap (λ (x : Merging). x.merged) same ∙ is_merged) in
+      let all : AreInBoth p.completed (names_of h.merged.files.files) completed = subst (λ (x : Merged). AreInBoth p.completed (names_of x.files.files) completed) (sym same_merged) (subst (λ (ns : List Name). AreInBoth p.completed ns completed) own_is both) in
+      record {
+        m = h.m;
+        found = h.found;
+        merged = h.merged;
+        is_merged = h.is_merged;
+        shown = h.shown;
+        back = h.back;
+        cut = record { records_are = h.cut.records_are; segs_are = h.cut.segs_are; changes = h.cut.changes };
+        infos = refl;
+        names = named;
+        written = w;
+        gone = f ∙ ap (λ (ns : List Name). ns ++ written) (e ∙ ap (λ (x : Merging). p.names ++ x.names) (sym same));
+        completed = all;
+        short = both_short p.completed (names_of merged.files.files) completed (subst (λ (ns : List Name). AreInBoth p.completed ns completed) own_is both) is.completed cut_short;
+      }
+    where
+      same_some : {X : Type 0} (x y : X) → Some x ≡ Some y → x ≡ y
+      same_some x y e = cc

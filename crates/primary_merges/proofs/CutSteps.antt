@@ -8,7 +8,7 @@ use Rattle.std.proofs.lemmas.Slice.Zip.{AllZip-long}
 use Rattle.nrt_base.specs.declared.doc.Doc.{Doc}
 use Rattle.nrt_base.specs.declared.numbers.SegNo.{SegNo}
 use Rattle.disk_model.specs.Disk.{Name, Content, Cells, is_among, same, reads_of}
-use Rattle.disk_model.proofs.CellLemmas.{same_true, same_self}
+use Rattle.disk_model.proofs.CellLemmas.{same_true}
 use Rattle.file_names.specs.Names.{part_name_of, live_name_of}
 use Rattle.file_names.specs.declared.composed.SegPart.{SegPart}
 use Rattle.file_names.proofs.NameLaws.{live_name_apart, part_name_not_live}
@@ -80,17 +80,17 @@ written_gen : (g : ℕ) (b : Bool) (r : SegRecord) (s : Shown) (c : Option (List
 written_gen g b r s c [] zip f at = absurd (omega (arith, at.1))
 written_gen g false r s c (x ∷ files) zip f at = absurd zip
 written_gen g true r s None (x ∷ files) zip f at = absurd zip
-written_gen g true r s (Some live) (x ∷ files) zip f at = refl
+written_gen g true r s (Some rows) (x ∷ files) zip f at = refl
 
 same_number : (g : ℕ) (r : SegRecord) (c : Option (List Bool)) → (record_by g r c).seg ≡ r.seg
 same_number g r None = refl
-same_number g r (Some live) = refl
+same_number g r (Some rows) = refl
 
 not_among : (names : List Name) (q : Name) → (is_among names q ≡ true → ⊥) → is_among names q ≡ false
-not_among names q no = by (is_among names q) refl
+not_among names q never = by (is_among names q) refl
   where
     by : (b : Bool) → is_among names q ≡ b → is_among names q ≡ false
-    by true e = absurd (no e)
+    by true e = absurd (never e)
     by false e = e
 
 -- ---- all
@@ -248,8 +248,12 @@ module _ {D : Type 0} (cells : D → Cells) (p : Parts D) (is : IsPrimary cells 
   pub cut_own : (q : Name) → is_among (names_of made.files) q ≡ true → IsOwnFile p.infos (loose_of p) q
   cut_own q there = let w = writes q there in (seg.0, inl (is_loose cells p is seg m found), (small, inr (next_live_gen g r0, gen_small, w.name)))
 
+  -- each name is one of the infos' or of the merged segment's files, or is written
+  abbrev IsNamed : Name → Type 0
+  IsNamed n = Contains (flat_map files_of_segment rs ++ names_of merged.files.files) n ⊎ Contains (names_of made.files) n
+
   pub cut_names : (q : Name) → Contains (flat_map files_of_segment made.records) q → (Contains (flat_map files_of_segment rs) q ⊎ (is_among (names_of merged.files.files) q ≡ true)) ⊎ (is_among (names_of made.files) q ≡ true)
-  cut_names q c = elim (All-contains _ (flat_map files_of_segment made.records) q (All-from_recursion _ (flat_map files_of_segment made.records) (cut_named g rs p.segs m.inputs m.task merged shown made is_made.of cut)) c) [
+  cut_names q c = elim (All-contains IsNamed (flat_map files_of_segment made.records) q (All-from_recursion IsNamed (flat_map files_of_segment made.records) (cut_named g rs p.segs m.inputs m.task merged shown made is_made.of cut)) c) [
     | inl old ↦ (elim (Contains-append_cases (flat_map files_of_segment rs) (names_of merged.files.files) q old) [ inl a ↦ inl (inl a) | inr b ↦ inl (inr (among_of (names_of merged.files.files) q b)) ])
     | inr written ↦ inr (among_of (names_of made.files) q written)
   ]

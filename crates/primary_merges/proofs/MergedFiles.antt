@@ -57,14 +57,23 @@ parts_once n small q = by (same (part_name_of n Docs) q) (same (part_name_of n P
     apart : (a b : SegPart) → same (part_name_of n a) q ≡ true → same (part_name_of n b) q ≡ true → a ≡ b
     apart a b e f = (part_name_apart n n a b small small (same_true (part_name_of n a) q e ∙ sym (same_true (part_name_of n b) q f))).1
 
+    one : (which : SegPart) (b : Bool) → same (part_name_of n which) q ≡ b → cond (same (part_name_of n which) q) 1 0 ≡ cond b 1 0
+    one which b e = ap (λ (x : Bool). cond x 1 0) e
+
+    none : (which : SegPart) → same (part_name_of n which) q ≡ false → cond (same (part_name_of n which) q) 1 0 ≡ 0
+    none which e = one which false e
+
+    most : (which : SegPart) (b : Bool) → same (part_name_of n which) q ≡ b → cond (same (part_name_of n which) q) 1 0 ≤ 1
+    most which true e = let f : cond (same (part_name_of n which) q) 1 0 ≡ 1 = one which true e in omega (arith, f)
+    most which false e = omega (arith, none which e)
+
     by : (a b c : Bool) → same (part_name_of n Docs) q ≡ a → same (part_name_of n Post) q ≡ b → same (part_name_of n Info) q ≡ c → times (part_names n) q ≤ 1
-    by true true c e f g = let no : Docs ≡ Post = apart Docs Post e f in absurd cc
-    by true false true e f g = let no : Docs ≡ Info = apart Docs Info e g in absurd cc
-    by true false false e f g = omega (arith, all, ap (λ (x : Bool). cond x 1 0) e, ap (λ (x : Bool). cond x 1 0) f, ap (λ (x : Bool). cond x 1 0) g)
-    by false true true e f g = let no : Post ≡ Info = apart Post Info f g in absurd cc
-    by false true false e f g = omega (arith, all, ap (λ (x : Bool). cond x 1 0) e, ap (λ (x : Bool). cond x 1 0) f, ap (λ (x : Bool). cond x 1 0) g)
-    by false false true e f g = omega (arith, all, ap (λ (x : Bool). cond x 1 0) e, ap (λ (x : Bool). cond x 1 0) f, ap (λ (x : Bool). cond x 1 0) g)
-    by false false false e f g = omega (arith, all, ap (λ (x : Bool). cond x 1 0) e, ap (λ (x : Bool). cond x 1 0) f, ap (λ (x : Bool). cond x 1 0) g)
+    by true true c e f g = let two : Docs ≡ Post = apart Docs Post e f in absurd cc
+    by true false true e f g = let two : Docs ≡ Info = apart Docs Info e g in absurd cc
+    by true false false e f g = omega (arith, all, most Docs true e, none Post f, none Info g)
+    by false true true e f g = let two : Post ≡ Info = apart Post Info f g in absurd cc
+    by false true false e f g = omega (arith, all, none Docs e, most Post true f, none Info g)
+    by false false c e f g = omega (arith, all, none Docs e, none Post f, most Info c g)
 
 framed_file : {X : Type 0} (Spells : List ℕ → X → Type 0) (want : Wanted) (id : List ℕ) (x : X) (bytes : List ℕ) → IsFile Spells want id x bytes
     → want.max < 2 ^ 32 → length want.name < 128 → length want.suffix < 256 → IsFramedFile bytes

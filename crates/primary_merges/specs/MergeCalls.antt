@@ -70,10 +70,14 @@ module _ {D : Type 0} where
   abbrev pub merge_sizes : Parts D → List (Option ℕ)
   merge_sizes p = map (size_by (merge_inputs p.merges)) p.infos.segs
 
+  -- the merge that was chosen, under the next number
+  abbrev pub IsChosen : ℕ → Parts D → MergeStart → Type 0
+  IsChosen factor p start = IsStart (record { 0 = drawn_to p.infos }) factor (merge_inputs p.merges) p.infos.segs p.segs start
+
   -- A merge that starts: its inputs are the first neighbours that are chosen; its number is drawn, and the files of its inputs are held.
   pub record StartsMerge (factor : ℕ) (old : Parts D) (task : MergeTask) (new : Parts D) : Type 0 where
     pub merging : Merging
-    pub start : IsStart (record { 0 = drawn_to old.infos }) factor (merge_inputs old.merges) old.infos.segs old.segs (record { task = task; inputs = merging.inputs })
+    pub start : IsChosen factor old (record { task = task; inputs = merging.inputs })
     pub more : old.infos.counter < segments_of_generation
     pub task_is : merging.task ≡ task
     pub unmade : merging.merged ≡ None

@@ -44,8 +44,7 @@ fn ascending(
 ) -> Result<List<FileName>, NoMemory>
     ensures { IfOk result (AreInBoth a.now b.now) }
 {
-    let mut names = Vec::from_slice(alloc, a)?;
-    names.extend_from_slice(b)?;
+    let mut names = joined(alloc, a, b)?.into_vec();
     names.sort_unstable();
     names.dedup();
     Ok(List::from_vec(names))
@@ -65,7 +64,7 @@ fn segments_after<D: Dir>(
     let Some(merged) = &merging.merged else {
         unreachable!()
     };
-    cut_over(
+    match cut_over(
         alloc,
         parts.infos.generation,
         merging.inputs.as_slice(),
@@ -73,7 +72,10 @@ fn segments_after<D: Dir>(
         merged,
         parts.infos.segs.as_slice(),
         parts.segs.as_slice(),
-    )
+    ) {
+        Ok(made) => Ok(made),
+        Err(fault) => Err(fault),
+    }
 }
 
 // The names of the files that a merge wrote.
@@ -93,11 +95,12 @@ fn prepare<D: Dir>(alloc: Global, parts: &Parts<D>, seg: SegNo) -> Result<CutRea
     requires ready { IsFilledMerge parts.now seg }
     ensures { IfOk result (IsCutReady parts.now seg) }
 {
+    let made = segments_after(alloc, parts, seg)?;
     let NextSegments {
         records,
         segs,
         files,
-    } = segments_after(alloc, parts, seg)?;
+    } = made;
     let merging = merge_in(parts.merges.as_slice(), seg);
     let own = names_written(alloc, merging)?;
     let completed = ascending(alloc, parts.completed.as_slice(), own.as_slice())?;

@@ -24,6 +24,7 @@ pub(crate) fn place_of(merges: &[Merging], seg: SegNo) -> usize
 }
 
 /// The merge of a number.
+#[tactic(auto, using(primary_parts::proofs::MergeLists::merge_at))]
 pub(crate) fn merge_in(merges: &[Merging], seg: SegNo) -> &Merging
     requires { is_some (merge_of seg.0 merges.now) ≡ true }
     ensures { Some result.now ≡ merge_of seg.0 merges.now }
@@ -33,6 +34,7 @@ pub(crate) fn merge_in(merges: &[Merging], seg: SegNo) -> &Merging
 }
 
 /// Takes the merge of a number out.
+#[tactic(auto, using(primary_parts::proofs::MergeLists::merge_at))]
 pub(crate) fn take_merge(merges: &mut List<Merging>, seg: SegNo) -> Merging
     requires { is_some (merge_of seg.0 merges.old) ≡ true }
     ensures rest { merges.new ≡ merges_without seg.0 merges.old }

@@ -1,16 +1,14 @@
 // A merge that starts.
-ghost use Rattle.std.specs.Prelude.{◌≡◌, ◌≤◌, ◌<◌, ◌++◌, ◌∷◌, [], ◌==◌, None, length, OnOk, OnErr, IfOk, IfSome};
+ghost use Rattle.std.specs.Prelude.{◌≡◌, ◌≤◌, ◌<◌, ◌++◌, ◌∷◌, [], ◌==◌, OnOk, OnErr, IfOk, IfSome, MatchOption};
 ghost use Rattle.std.specs.List.{list_any};
 ghost use Rattle.nrt_base.specs.SegNumbers.{segments_of_generation};
 ghost use Rattle.file_deleter.specs.Holdings.{AreThere};
 ghost use Rattle.file_deleter.specs.Moves.{HoldsFiles};
 ghost use Rattle.segment_infos.specs.Files.{AreFilesOf};
-ghost use Rattle.segment_steps.specs.Starting.{IsStart};
-ghost use Rattle.primary_parts.specs.Held.{drawn_to};
-ghost use Rattle.primary_parts.specs.Merges.{merge_inputs};
+ghost use Rattle.merge_choice.specs.Choice.{HasNoRange};
 ghost use Rattle.primary_parts.specs.Primary.{IsPrimary, KeepsHeldBytes};
 ghost use Rattle.primary_parts.specs.Calls.{DrawsOnly, HoldsNoNew};
-ghost use Rattle.primary_merges.specs.MergeCalls.{records_in, infos_of, IsFitTask, StartsMerge, AnswersMerge};
+ghost use Rattle.primary_merges.specs.MergeCalls.{records_in, infos_of, merge_sizes, IsChosen, IsFitTask, StartsMerge, AnswersMerge};
 
 use disk_model::Dir;
 use file_deleter::FileDeleter;
@@ -108,8 +106,7 @@ fn begin<D: Dir>(
 ) -> Result<MergeTask, NoMemory>
     requires whole { IsPrimary D.cells parts.old }
     requires factor { 2 ≤ factor }
-    requires start { IsStart (record { 0 = drawn_to parts.old.infos }) factor
-        (merge_inputs parts.old.merges) parts.old.infos.segs parts.old.segs start }
+    requires start { IsChosen factor parts.old start }
     requires more { parts.old.infos.counter < segments_of_generation }
     ensures starts { IfOk result (λ task. StartsMerge factor parts.old task parts.new) }
     ensures fit { IfOk result IsFitTask }
@@ -143,6 +140,32 @@ fn begin<D: Dir>(
     }
 }
 
+// The merge of the first neighbours that can be chosen, under the next number.
+fn choose<D: Dir>(
+    alloc: Global,
+    parts: &Parts<D>,
+    factor: u32,
+) -> Result<Option<MergeStart>, NoMemory>
+    requires whole { IsPrimary D.cells parts.now }
+    requires factor { 2 ≤ factor }
+    ensures { IfOk result (λ start. MatchOption start
+        (HasNoRange factor (merge_sizes parts.now)) (IsChosen factor parts.now)) }
+{
+    let held = inputs_of(alloc, parts.merges.as_slice())?;
+    let seg = SegNo(parts.infos.generation.0 * SegNo::OF_GENERATION + parts.infos.counter as u64);
+    match start_merge(
+        alloc,
+        seg,
+        factor,
+        parts.infos.segs.as_slice(),
+        parts.segs.as_slice(),
+        &held,
+    ) {
+        Ok(start) => Ok(start),
+        Err(fault) => Err(fault),
+    }
+}
+
 /// Starts a merge of the first neighbours that are chosen, and holds their files. The directory is not called.
 pub fn merge_start<D: Dir>(
     alloc: Global,
@@ -158,18 +181,7 @@ pub fn merge_start<D: Dir>(
     ensures drawn { DrawsOnly parts.old parts.new }
     ensures whole { IsPrimary D.cells parts.new }
 {
-    let Ok(held) = inputs_of(alloc, parts.merges.as_slice()) else {
-        return Err(PublishFault::Memory);
-    };
-    let seg = SegNo(parts.infos.generation.0 * SegNo::OF_GENERATION + parts.infos.counter as u64);
-    let start = match start_merge(
-        alloc,
-        seg,
-        factor,
-        parts.infos.segs.as_slice(),
-        parts.segs.as_slice(),
-        &held,
-    ) {
+    let start = match choose(alloc, parts, factor) {
         Ok(Some(start)) => start,
         Ok(None) => return Ok(None),
         Err(_) => return Err(PublishFault::Memory),
