@@ -9,7 +9,8 @@ use Rattle.disk_model.specs.Disk.{Name, Cells, is_among, reads_of}
 use Rattle.segment_infos.specs.declared.infos.Infos.{Infos}
 use Rattle.segment_infos.specs.Infos.{CanSpell}
 use Rattle.segment_infos.specs.Files.{files_of_segment}
-use Rattle.seg_reader.specs.Stands.{StandsWith}
+use Rattle.nrt_base.specs.declared.doc.Doc.{Doc}
+use Rattle.seg_reader.specs.Stands.{AreSegmentsOf, StandsWith}
 use Rattle.seg_build.specs.Built.{File}
 use Rattle.copy_state.specs.States.{AreShortNames}
 use Rattle.file_deleter.specs.Holdings.{Holdings, count_of, times, AreThere, AreCounted}
@@ -43,7 +44,7 @@ use Rattle.primary_parts.proofs.Writing.{among_at}
 use Rattle.primary_parts.proofs.MergeLists.{merging_kept, names_split, apart_without}
 use Rattle.primary_merges.specs.declared.cutting.CutReady.{CutReady}
 use Rattle.primary_merges.specs.MergeCalls.{infos_of, loose_left, filled_left, IsCutReady, HasWrittenCut}
-use Rattle.primary_merges.proofs.CutSteps.{is_made, cut_spelled, cut_numbered, cut_once, cut_unwritten, cut_own, cut_names, cut_rest, cut_stands, cut_keeps}
+use Rattle.primary_merges.proofs.CutSteps.{is_made, cut_spelled, cut_numbered, cut_once, cut_unwritten, cut_own, cut_names, cut_rest, cut_stands, cut_documents, cut_keeps}
 use Rattle.segment_steps.specs.declared.next.NextSegments.{NextSegments}
 
 module _ {D : Type 0} (cells : D → Cells) (p : Parts D) (is : IsPrimary cells p) (seg : SegNo) (r : CutReady) (ready : IsCutReady p seg r) where
@@ -87,6 +88,10 @@ module _ {D : Type 0} (cells : D → Cells) (p : Parts D) (is : IsPrimary cells 
   -- the write is refused
   pub cut_refused : (dir : D) (files : Holdings) → ((q : Name) → count_of files q ≡ count_of p.files q) → KeepsFiles r.written p.files files (cells p.dir) (cells dir) → IsPrimary cells (record p { dir = dir; files = files })
   cut_refused dir files same keeps = primary_same cells p is dir files (node_same_counts (cells p.dir) (cells dir) p.files files (primary_names p) r.written p.commits is.node apart keeps same) keeps.reads same
+
+  -- the documents stay
+  pub ready_documents : (docs : List Doc) → AreSegmentsOf docs p.segs → AreSegmentsOf docs r.segs
+  ready_documents docs stand = cut_documents cells p is seg ready.m ready.found ready.merged ready.is_merged ready.shown ready.back made ready.cut docs stand
 
   -- ---- the names of the new infos: the writer's, those that the merge holds, and what is written
   merged_held : (q : Name) → is_among (names_of ready.merged.files.files) q ≡ true → 0 < times ready.m.names q
