@@ -17,7 +17,6 @@ ghost use Rattle.node_files.specs.Appearing.{NoneAppears, AppearsOnly, IsNameInF
 ghost use Rattle.primary_parts.specs.States.{state_names, is_out, out_of, states_without, IsStateOf};
 ghost use Rattle.primary_parts.specs.Cut.{last_number, IsIdle, AreSpent, AreTooMany};
 
-use primary_parts::{Parts, PrimaryFault, PublishFault};
 use bytes::Bytes;
 use commit_steps::{CommitBook, CommitFault};
 use copy_state::CopyState;
@@ -26,8 +25,9 @@ use documents::Op;
 use file_deleter::FileDeleter;
 use file_names::FileName;
 use nrt_base::{List, NoMemory, SegNo, Version};
-use seg_merge::{MergeTask, Merged};
+use primary_parts::{Parts, PrimaryFault, PublishFault};
 use searcher_switch::{Lease, Searchers, Ticket};
+use seg_merge::{MergeTask, Merged};
 use seg_reader::Segment;
 use segment_infos::Infos;
 use segment_steps::{FlushTask, FlushWork};

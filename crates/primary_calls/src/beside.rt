@@ -6,11 +6,11 @@ ghost use Rattle.std.specs.Ordering.{nat_cmp};
 ghost use Rattle.disk_model.specs.Disk.{is_among};
 ghost use Rattle.primary_parts.specs.Primary.{IsPrimary};
 
-use primary_parts::Parts;
 use disk_model::{Dir, FaultDir};
 use documents::Op;
 use file_names::FileName;
 use nrt_base::{List, NoMemory};
+use primary_parts::Parts;
 use std::alloc::Global;
 
 /// The names of the directory's files, ascending.

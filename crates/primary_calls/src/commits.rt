@@ -6,10 +6,10 @@ ghost use Rattle.commit_steps.specs.Book.{commit_of, book_after, is_last_step, H
 ghost use Rattle.node_files.specs.Appearing.{AppearsOnly, IsNameInFlight};
 ghost use Rattle.primary_parts.specs.Primary.{IsPrimary, KeepsHeldBytes};
 
-use primary_parts::Parts;
 use commit_steps::CommitFault;
 use disk_model::Dir;
 use nrt_base::NoMemory;
+use primary_parts::Parts;
 use std::alloc::Global;
 
 /// Begins a commit of the point that is searched.

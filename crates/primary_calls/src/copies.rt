@@ -10,12 +10,12 @@ ghost use Rattle.primary_parts.specs.Cut.{last_number};
 ghost use Rattle.primary_parts.specs.Primary.{IsPrimary, KeepsHeldBytes};
 ghost use Rattle.primary_parts.specs.Calls.{HoldsNoNew};
 
-use primary_parts::{Parts, PrimaryFault, Out, lend, metas_of, take_back};
 use bytes::Bytes;
 use copy_state::CopyState;
 use disk_model::{Dir, DirFault};
 use file_names::FileName;
 use nrt_base::Share;
+use primary_parts::{Out, Parts, PrimaryFault, lend, metas_of, take_back};
 use segment_infos::encode;
 use std::alloc::Global;
 

@@ -9,11 +9,11 @@ ghost use Rattle.primary_parts.specs.Held.{IsHeld, AreUndrawn, AreNumbered};
 ghost use Rattle.primary_parts.specs.Calls.{SearchesWriter, IsOpenedOn};
 ghost use Rattle.searcher_switch.specs.Searching.{searcher_names};
 
-use primary_parts::Parts;
 use commit_steps::CommitBook;
 use disk_model::Dir;
 use file_deleter::FileDeleter;
 use nrt_base::{List, NoMemory, Share};
+use primary_parts::Parts;
 use searcher_switch::Searchers;
 use seg_reader::Segment;
 use segment_infos::{Infos, files_of};

@@ -6,9 +6,9 @@ ghost use Rattle.primary_parts.specs.Primary.{IsPrimary, KeepsHeldBytes};
 ghost use Rattle.primary_parts.specs.Calls.{HoldsNoNew};
 ghost use Rattle.searcher_switch.specs.Searching.{IsLeaseOf};
 
-use primary_parts::Parts;
 use disk_model::Dir;
 use nrt_base::NoMemory;
+use primary_parts::Parts;
 use searcher_switch::{Lease, Ticket};
 use seg_reader::Segment;
 use std::alloc::Global;
@@ -50,12 +50,17 @@ pub fn release<D: Dir>(parts: &mut Parts<D>, ticket: Ticket)
     ensures later { D.faults parts.old.dir ≤ D.faults parts.new.dir }
     ensures whole { IsPrimary D.cells parts.new }
 {
-    parts.searchers
+    parts
+        .searchers
         .release(ticket, &mut parts.files, &mut parts.dir);
 }
 
 /// What a search under a ticket reads.
-pub fn lease<D: Dir>(alloc: Global, parts: &Parts<D>, ticket: &Ticket) -> Result<Lease<Segment>, NoMemory>
+pub fn lease<D: Dir>(
+    alloc: Global,
+    parts: &Parts<D>,
+    ticket: &Ticket,
+) -> Result<Lease<Segment>, NoMemory>
     requires { is_some (ticket_at ticket.now.number parts.now.searchers.tickets) ≡ true }
     ensures { IfOk result (λ lease.
         IfSome (ticket_at ticket.now.number parts.now.searchers.tickets) (IsLeaseOf lease)) }

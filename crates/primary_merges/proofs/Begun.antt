@@ -121,9 +121,9 @@ module _ {D : Type 0} (cells : D → Cells) (p : Parts D) (is : IsPrimary cells 
   loose_now seg c = elim (Contains-append_cases (publish_loose p.publish) (merge_loose all) seg c) [
     | inl a ↦ further (drawn_to p.infos) seg (loose_of p) (Contains-append_left (publish_loose p.publish) (rest_loose p) seg a)
     | inr b ↦ (elim (loose_behind p.merges m seg b) [
-        | inl own ↦ (0, omega arith, sym number ∙ own)
-        | inr old ↦ further (drawn_to p.infos) seg (loose_of p) (Contains-append_right (publish_loose p.publish) (rest_loose p) seg old)
-      ])
+      | inl own ↦ (0, omega arith, sym number ∙ own)
+      | inr old ↦ further (drawn_to p.infos) seg (loose_of p) (Contains-append_right (publish_loose p.publish) (rest_loose p) seg old)
+    ])
   ]
 
   unused_now : (seg : ℕ) → IsUnused (counted_on p.infos) (publish_loose p.publish ++ merge_loose all) seg → IsUnused p.infos (loose_of p) seg

@@ -103,9 +103,9 @@ module _ {D : Type 0} (cells : D → Cells) (p : Parts D) (is : IsPrimary cells 
       by : (b : Bool) → is_among r.names q ≡ b → times r.names q ≡ 0
       by true e = elim (cut_names cells p is seg ready.m ready.found ready.merged ready.is_merged ready.shown ready.back made ready.cut q ((ready.names.named q).0 (contains_of r.names q e))) [
         | inl before ↦ (elim before [
-            | inl of ↦ (let some : 0 < times p.names q = named_times p.infos p.segs p.names (reads_of (cells p.dir)) is.writer q of in absurd (omega (arith, some, old)))
-            | inr there ↦ absurd (omega (arith, merged_held q there, held, names_split seg.0 p.merges ready.m q ready.found))
-          ])
+          | inl of ↦ (let some : 0 < times p.names q = named_times p.infos p.segs p.names (reads_of (cells p.dir)) is.writer q of in absurd (omega (arith, some, old)))
+          | inr there ↦ absurd (omega (arith, merged_held q there, held, names_split seg.0 p.merges ready.m q ready.found))
+        ])
         | inr there ↦ (let some : 0 < times r.written q = among_times r.written q (ap (λ (ns : List Name). is_among ns q) ready.written ∙ there) in absurd (omega (arith, some, new)))
       ]
       by false e = not_among_times r.names q e

@@ -39,9 +39,9 @@ pub part_among : (n : ℕ) (q : Name) → is_among (part_names n) q ≡ true →
 part_among n q h = elim (or_cases (same (part_name_of n Docs) q) (same (part_name_of n Post) q || (same (part_name_of n Info) q || false)) h) [
   | inl docs ↦ (Docs, sym (same_true (part_name_of n Docs) q docs))
   | inr more ↦ (elim (or_cases (same (part_name_of n Post) q) (same (part_name_of n Info) q || false) more) [
-      | inl post ↦ (Post, sym (same_true (part_name_of n Post) q post))
-      | inr rest ↦ (elim (or_cases (same (part_name_of n Info) q) false rest) [ inl info ↦ (Info, sym (same_true (part_name_of n Info) q info)) | inr none ↦ absurd (true≢false (sym none)) ])
-    ])
+    | inl post ↦ (Post, sym (same_true (part_name_of n Post) q post))
+    | inr rest ↦ (elim (or_cases (same (part_name_of n Info) q) false rest) [ inl info ↦ (Info, sym (same_true (part_name_of n Info) q info)) | inr none ↦ absurd (true≢false (sym none)) ])
+  ])
 ]
 
 pub parts_once : (n : ℕ) → n < 2 ^ 64 → (q : Name) → times (part_names n) q ≤ 1

@@ -37,11 +37,7 @@ pub struct CutReady {
 }
 
 // The names of both lists, ascending and each once.
-fn ascending(
-    alloc: Global,
-    a: &[FileName],
-    b: &[FileName],
-) -> Result<List<FileName>, NoMemory>
+fn ascending(alloc: Global, a: &[FileName], b: &[FileName]) -> Result<List<FileName>, NoMemory>
     ensures { IfOk result (AreInBoth a.now b.now) }
 {
     let mut names = joined(alloc, a, b)?.into_vec();

@@ -51,12 +51,7 @@ fn metas_told(
 }
 
 // What was made of the merge in this place is noted, with the names that it holds from now on.
-fn set_made(
-    alloc: Global,
-    merges: &mut List<Merging>,
-    merged: Merged,
-    names: List<FileName>,
-)
+fn set_made(alloc: Global, merges: &mut List<Merging>, merged: Merged, names: List<FileName>)
     requires { is_some (merge_of merged.files.seg.0 merges.old) ≡ true }
     ensures { merges.new ≡ merges_with merged names merges.old }
 {
@@ -79,11 +74,7 @@ pub struct StateReady {
 }
 
 // All that memory is needed for.
-fn prepare<D: Dir>(
-    alloc: Global,
-    parts: &Parts<D>,
-    merged: &Merged,
-) -> Result<StateReady, NoMemory>
+fn prepare<D: Dir>(alloc: Global, parts: &Parts<D>, merged: &Merged) -> Result<StateReady, NoMemory>
     requires whole { IsPrimary D.cells parts.now }
     requires made { IsMadeFor parts.now merged.now }
     ensures { IfOk result (IsStateReady parts.now merged.now) }

@@ -22,21 +22,14 @@ fn collected(alloc: Global, files: &[(FileName, Bytes)]) -> Result<Vec<FileName>
 }
 
 /// The names of files.
-pub fn names_in(
-    alloc: Global,
-    files: &[(FileName, Bytes)],
-) -> Result<List<FileName>, NoMemory>
+pub fn names_in(alloc: Global, files: &[(FileName, Bytes)]) -> Result<List<FileName>, NoMemory>
     ensures { IfOk result (λ names. names ≡ names_of files.now) }
 {
     Ok(List::from_vec(collected(alloc, files)?))
 }
 
 /// The names of both lists.
-pub fn joined(
-    alloc: Global,
-    a: &[FileName],
-    b: &[FileName],
-) -> Result<List<FileName>, NoMemory>
+pub fn joined(alloc: Global, a: &[FileName], b: &[FileName]) -> Result<List<FileName>, NoMemory>
     ensures { IfOk result (λ names. names ≡ a.now ++ b.now) }
 {
     let mut names = Vec::from_slice(alloc, a)?;

@@ -3,9 +3,9 @@ ghost use Rattle.std.specs.Prelude.{◌≡◌, ◌≤◌, None, length, IfSome};
 ghost use Rattle.documents.specs.Documents.{is_put};
 ghost use Rattle.primary_parts.specs.Cut.{has_put, after_cut};
 
-use primary_parts::Publish;
 use documents::Op;
 use nrt_base::List;
+use primary_parts::Publish;
 
 // Whether an operation is a put.
 fn is_put(op: &Op) -> bool

@@ -13,9 +13,9 @@ ghost use Rattle.primary_parts.specs.Work.{IsWorkOf, AreOfCut};
 
 use crate::cut::end_cut;
 use crate::ready::Ready;
-use primary_parts::{Parts, PrimaryFault, inputs_of, joined, names_in, write_all};
 use disk_model::{Dir, DirFault};
 use nrt_base::{List, NoMemory, Share, Version};
+use primary_parts::{Parts, PrimaryFault, inputs_of, joined, names_in, write_all};
 use segment_infos::{Infos, files_of};
 use segment_steps::{FlushWork, NextSegments, next_segments};
 use std::alloc::Global;
@@ -94,7 +94,9 @@ fn write<D: Dir>(alloc: Global, parts: &mut Parts<D>, ready: &Ready) -> Result<(
     match parts.files.hold_there(ready.twice.as_slice(), &parts.dir) {
         Ok(()) => Ok(()),
         Err(_) => {
-            parts.files.release(ready.written.as_slice(), &mut parts.dir);
+            parts
+                .files
+                .release(ready.written.as_slice(), &mut parts.dir);
             Err(DirFault::Memory)
         }
     }
@@ -142,7 +144,11 @@ fn end_publish<D: Dir>(parts: &mut Parts<D>)
 }
 
 // Writes the new files, makes a point of the new segments, and gives back what is named no more.
-fn make_point<D: Dir>(alloc: Global, parts: &mut Parts<D>, made: NextSegments) -> Result<Version, PrimaryFault>
+fn make_point<D: Dir>(
+    alloc: Global,
+    parts: &mut Parts<D>,
+    made: NextSegments,
+) -> Result<Version, PrimaryFault>
     requires whole { IsPrimary D.cells parts.old }
     requires step { IsStepOf parts.old made.records made.segs made.files }
     requires below { parts.old.infos.version.0 + 1 < 2 ^ 63 }

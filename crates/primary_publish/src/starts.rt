@@ -6,9 +6,9 @@ ghost use Rattle.primary_parts.specs.Primary.{IsPrimary};
 ghost use Rattle.primary_parts.specs.Calls.{IsTaskOf, after_start, DrawsOnly};
 
 use crate::cut::is_put_among;
-use primary_parts::{Parts, PublishFault, Publish};
 use disk_model::Dir;
 use nrt_base::{SegNo, Share};
+use primary_parts::{Parts, Publish, PublishFault};
 use segment_steps::FlushTask;
 use std::alloc::Global;
 
@@ -45,7 +45,10 @@ fn judge<D: Dir>(parts: &Parts<D>) -> Result<Option<bool>, PublishFault>
 }
 
 /// Starts a publish.
-pub fn publish_start<D: Dir>(alloc: Global, parts: &mut Parts<D>) -> Result<Option<FlushTask>, PublishFault>
+pub fn publish_start<D: Dir>(
+    alloc: Global,
+    parts: &mut Parts<D>,
+) -> Result<Option<FlushTask>, PublishFault>
     requires whole { IsPrimary D.cells parts.old }
     requires none { parts.old.publish ≡ None }
     ensures idle { (result ≡ Ok None) ↔ IsIdle parts.old.waiting parts.old.has_cut_over }
