@@ -1,7 +1,7 @@
 -- A merge that is given up.
-use Rattle.std.proofs.Common.{◌≡◌, ◌<◌, ◌≤◌, ◌+◌, ℕ, List, [], ◌∷◌, ◌++◌, ◌⊎◌, inl, inr, Option, Some, None, refl, sym, subst, ◌∙◌, arith}
+use Rattle.std.proofs.Common.{◌≡◌, ◌<◌, ◌+◌, ℕ, List, ◌++◌, inl, inr, Option, Some, None, sym, subst, arith}
 use Rattle.std.specs.Prelude.{IfSome}
-use Rattle.std.specs.List.{AllByRecursion, Contains}
+use Rattle.std.specs.List.{Contains}
 use Rattle.std.proofs.lemmas.List.Elements.{Contains-append_cases, Contains-append_left, Contains-append_right}
 use Rattle.nrt_base.specs.declared.numbers.SegNo.{SegNo}
 use Rattle.disk_model.specs.Disk.{Name, Cells, reads_of}
@@ -14,9 +14,9 @@ use Rattle.node_files.proofs.Carry.{node_lets_go, node_same_names, front_counted
 use Rattle.primary_parts.specs.declared.parts.Parts.{Parts}
 use Rattle.primary_parts.specs.declared.parts.Publish.{Publish}
 use Rattle.primary_parts.specs.declared.states.Merging.{Merging}
-use Rattle.primary_parts.specs.Held.{IsUnused, drawn_to}
+use Rattle.primary_parts.specs.Held.{IsUnused}
 use Rattle.primary_parts.specs.States.{state_names}
-use Rattle.primary_parts.specs.Merges.{merge_names, merge_loose, merge_filled, merge_of, merges_without, IsMerging}
+use Rattle.primary_parts.specs.Merges.{merge_names, merge_loose, merge_of, merges_without, IsMerging}
 use Rattle.primary_parts.specs.Primary.{loose_in, publish_loose, rest_loose, loose_of, filled_of, rest_names, primary_names, IsUnwritten, IsPrimary}
 use Rattle.primary_parts.specs.Calls.{DrawsOnly, HoldsNoNew}
 use Rattle.primary_parts.proofs.Drawing.{numbered_within}

@@ -1,8 +1,7 @@
 -- The segments after a cut-over of the primary, and the names of completed merges.
-use Rattle.std.proofs.Common.{◌≡◌, ◌≢◌, ◌<◌, ◌≤◌, ◌+◌, ◌*◌, ◌/◌, ◌^◌, ◌⊎◌, inl, inr, ℕ, Bool, true, List, [], ◌∷◌, ◌++◌, Option, Some, None, length, map, replicate, is_some, refl, sym, ap, subst, ◌∙◌, arith, All, true≢false, nat_eq, get_or}
-use Rattle.std.specs.Prelude.{IsSome}
+use Rattle.std.proofs.Common.{◌≡◌, ◌<◌, ◌≤◌, ◌+◌, ◌*◌, ◌/◌, ◌^◌, inl, inr, ℕ, true, List, ◌++◌, Option, Some, None, length, map, replicate, is_some, refl, sym, ap, subst, ◌∙◌, arith, All, nat_eq, get_or}
 use Rattle.std.specs.Option.{IsSomeAnd}
-use Rattle.std.specs.List.{AllByRecursion, AllZip, Contains, dedup, zip}
+use Rattle.std.specs.List.{AllZip, Contains, dedup, zip}
 use Rattle.std.specs.List.Sorted.{IsStrictlySortedBy, IsSorted, IsPermutation}
 use Rattle.std.specs.Ordering.{nat_cmp}
 use Rattle.std.specs.Cmp.Lexicographic.{slice_cmp, pointwise, nat_list_eq_equiv, texts_ties}
@@ -15,13 +14,12 @@ use Rattle.std.proofs.lemmas.Slice.Eq.{bytes_eq-Decides}
 use Rattle.std.proofs.lemmas.Slice.Zip.{AllZip-long}
 use Rattle.nrt_base.specs.declared.numbers.SegNo.{SegNo}
 use Rattle.disk_model.specs.Disk.{Name, Cells, reads_of}
-use Rattle.segment_infos.specs.declared.infos.SegRecord.{SegRecord}
 use Rattle.seg_reader.specs.Stands.{IsSegmentIn}
 use Rattle.seg_build.specs.Built.{record_of}
 use Rattle.seg_merge.specs.declared.task.Merged.{Merged}
-use Rattle.seg_merge.specs.Merging.{docs_by_input, all_live_docs, origins, IsWithin, IsMergedOf}
-use Rattle.segment_steps.specs.Next.{IsBounded, IsBuiltWork, record_generation}
-use Rattle.segment_steps.specs.CutOver.{Part, inputs_in, lives_of, IsMergeOf}
+use Rattle.seg_merge.specs.Merging.{docs_by_input, all_live_docs, origins, IsWithin}
+use Rattle.segment_steps.specs.Next.{IsBounded, IsBuiltWork}
+use Rattle.segment_steps.specs.CutOver.{Part, inputs_in, lives_of}
 use Rattle.segment_steps.proofs.AfterPublish.{new_fine}
 use Rattle.copy_state.specs.States.{AreShortNames}
 use Rattle.primary_parts.specs.declared.parts.Parts.{Parts}

@@ -1,18 +1,15 @@
 -- A cut-over, from its write to its releases.
-use Rattle.std.proofs.Common.{◌≡◌, ◌≢◌, ◌<◌, ◌≤◌, ◌+◌, ℕ, Bool, true, false, List, [], ◌∷◌, ◌++◌, ◌⊎◌, inl, inr, Option, Some, None, refl, sym, ap, subst, ◌∙◌, arith, true≢false, All}
+use Rattle.std.proofs.Common.{◌≡◌, ◌≢◌, ◌<◌, ◌≤◌, ◌+◌, ℕ, Bool, true, false, List, [], ◌++◌, inl, inr, Option, None, refl, sym, ap, subst, ◌∙◌, arith, true≢false, All}
 use Rattle.std.proofs.Common.{length, is_some, get_or}
 use Rattle.std.specs.Prelude.{IfSome}
-use Rattle.std.specs.List.{AllByRecursion, Contains}
+use Rattle.std.specs.List.{Contains}
 use Rattle.nrt_base.specs.declared.numbers.SegNo.{SegNo}
 use Rattle.file_names.specs.Names.{is_commit_name, is_pending_name}
 use Rattle.disk_model.specs.Disk.{Name, Cells, is_among, reads_of}
 use Rattle.segment_infos.specs.declared.infos.Infos.{Infos}
 use Rattle.segment_infos.specs.Infos.{CanSpell}
-use Rattle.segment_infos.specs.Files.{files_of_segment}
 use Rattle.nrt_base.specs.declared.doc.Doc.{Doc}
 use Rattle.seg_reader.specs.Stands.{AreSegmentsOf, StandsWith}
-use Rattle.seg_build.specs.Built.{File}
-use Rattle.copy_state.specs.States.{AreShortNames}
 use Rattle.file_deleter.specs.Holdings.{Holdings, count_of, times, AreThere, AreCounted}
 use Rattle.file_deleter.specs.Moves.{KeepsFiles, HoldsFiles, LetsGo}
 use Rattle.file_deleter.proofs.NameLemmas.{times-append, among_times, not_among_times}
@@ -22,7 +19,7 @@ use Rattle.commit_steps.specs.declared.stage.CommitBook.{CommitBook}
 use Rattle.seg_reader.specs.Shown.{Shown}
 use Rattle.searcher_switch.specs.declared.searchers.Searchers.{Searchers}
 use Rattle.searcher_switch.specs.Searching.{searcher_names}
-use Rattle.node_files.specs.Node.{IsWholeNode, IsApart, HasNoPending, KeepsBytes}
+use Rattle.node_files.specs.Node.{IsWholeNode, IsApart, HasNoPending}
 use Rattle.node_files.specs.Appearing.{AppearsOnly}
 use Rattle.node_files.proofs.Appearing.{keeps_only}
 use Rattle.node_files.proofs.Carry.{node_gathers, node_lets_go, node_same_names, node_same_counts, node_there, nothing_written, unheld_apart, front_counted}
@@ -33,13 +30,12 @@ use Rattle.primary_parts.specs.declared.states.Merging.{Merging}
 use Rattle.primary_parts.specs.declared.states.Out.{Out}
 use Rattle.primary_parts.specs.Held.{IsHeld, IsUndrawn, IsOwnFile, AreUndrawn, AreNumbered}
 use Rattle.primary_parts.specs.States.{state_names}
-use Rattle.primary_parts.specs.Merges.{merge_names, merge_loose, merge_filled, merge_of, merges_without, IsMerging}
+use Rattle.primary_parts.specs.Merges.{merge_names, merge_loose, merge_filled, merges_without}
 use Rattle.primary_parts.specs.Primary.{loose_in, publish_loose, loose_of, filled_of, rest_names, primary_names, IsUnwritten, IsPrimary}
 use Rattle.primary_parts.specs.Written.{names_of, ReadsSo}
 use Rattle.primary_parts.specs.Calls.{FillsUndrawn, DrawsOnly}
 use Rattle.primary_parts.proofs.Holding.{named_times, undrawn_plain, held_kept}
 use Rattle.primary_parts.proofs.Keeping.{writer_counted, point_counted, book_counted, merges_counted, primary_same}
-use Rattle.primary_parts.proofs.NewFiles.{named_of}
 use Rattle.primary_parts.proofs.Writing.{among_at}
 use Rattle.primary_parts.proofs.MergeLists.{merging_kept, names_split, apart_without}
 use Rattle.primary_merges.specs.declared.cutting.CutReady.{CutReady}

@@ -1,9 +1,8 @@
 -- A cut-over in the words of the primary: its records, the name that it writes, and what is not written yet afterwards.
-use Rattle.std.proofs.Common.{◌≡◌, ◌≢◌, ◌<◌, ◌≤◌, ◌+◌, ◌-◌, ◌*◌, ◌/◌, ◌^◌, max, ◌==◌, ◌||◌, cond, ℕ, zero, suc, Bool, true, false, List, [], ◌∷◌, ◌++◌, ◌⊎◌, inl, inr, Option, Some, None, length, map, refl, sym, ap, subst, ◌∙◌, arith, All, true≢false}
-use Rattle.std.specs.List.{AllByRecursion, AllPairs, AllZip, Contains, filter, flat_map, list_any, zip}
+use Rattle.std.proofs.Common.{◌≡◌, ◌≢◌, ◌<◌, ◌≤◌, ◌+◌, ◌-◌, ◌*◌, ◌/◌, ◌^◌, max, ◌==◌, cond, ℕ, suc, Bool, true, false, List, [], ◌∷◌, ◌++◌, ◌⊎◌, inl, inr, Option, Some, None, length, map, refl, sym, ap, subst, ◌∙◌, arith, All, true≢false}
+use Rattle.std.specs.List.{AllByRecursion, AllZip, Contains, filter, flat_map, list_any, zip}
 use Rattle.std.proofs.lemmas.Bool.{or_cases}
-use Rattle.std.proofs.lemmas.List.Elements.{All-contains, All-contains_itself, All-from_recursion, recursion_from_All, Contains-append_cases, Contains-append_left}
-use Rattle.std.proofs.lemmas.List.{length-map}
+use Rattle.std.proofs.lemmas.List.Elements.{All-contains, All-contains_itself, All-from_recursion, recursion_from_All, Contains-append_cases}
 use Rattle.std.proofs.lemmas.Slice.Zip.{AllZip-long}
 use Rattle.nrt_base.specs.declared.doc.Doc.{Doc}
 use Rattle.nrt_base.specs.declared.numbers.SegNo.{SegNo}
@@ -26,7 +25,7 @@ use Rattle.file_deleter.specs.Holdings.{times}
 use Rattle.file_deleter.proofs.NameLemmas.{times-cons}
 use Rattle.commit_steps.proofs.Safe.{among_of}
 use Rattle.segment_steps.specs.declared.next.NextSegments.{NextSegments}
-use Rattle.segment_steps.specs.Next.{Turn, record_by, record_after, stays, staying, is_changed, next_live_gen, live_base, record_generation, IsLiveFileAfter, IsReadBack}
+use Rattle.segment_steps.specs.Next.{Turn, record_by, record_after, stays, is_changed, next_live_gen, live_base, record_generation, IsLiveFileAfter, IsReadBack}
 use Rattle.segment_steps.specs.CutOver.{Part, is_one_of, inputs_in, in_place, part_after, merged_turn, merged_turns, IsMergeOf, IsCutOf}
 use Rattle.primary_merges.proofs.OtherCuts.{cut_over_keeps}
 use Rattle.segment_steps.proofs.CuttingOver.{Each, each_in_place, now_in, cut_over_stands, cut_over_stand}
@@ -35,10 +34,10 @@ use Rattle.segment_steps.proofs.AfterCutOver.{cut_fine, cut_named}
 use Rattle.segment_steps.proofs.CutNumbers.{cut_apart, cut_few, IsOneLiveFile, cut_written}
 use Rattle.primary_parts.specs.declared.parts.Parts.{Parts}
 use Rattle.primary_parts.specs.declared.states.Merging.{Merging}
-use Rattle.primary_parts.specs.Held.{IsUndrawn, IsUnused, part, live, next_live, IsNextLive, IsDrawnRecord, IsOwnFile, AreNumbered, drawn_to}
+use Rattle.primary_parts.specs.Held.{IsUndrawn, IsUnused, part, live, next_live, IsDrawnRecord, IsOwnFile, AreNumbered, drawn_to}
 use Rattle.primary_parts.specs.Merges.{merge_of, merges_without, IsMade, IsMadeBy, IsMerging, AreOtherMerges}
-use Rattle.primary_parts.specs.Primary.{loose_of, filled_of, IsUnwritten, IsPrimary}
-use Rattle.primary_parts.specs.Written.{names_of, ReadsSo}
+use Rattle.primary_parts.specs.Primary.{loose_of, IsUnwritten, IsPrimary}
+use Rattle.primary_parts.specs.Written.{names_of}
 use Rattle.primary_parts.proofs.Drawing.{drawn_small}
 use Rattle.primary_parts.proofs.MergeLists.{number_of, all_at, all_without, others_at, parts_of, no_input}
 use Rattle.primary_merges.specs.MergeCalls.{infos_of, loose_left, filled_left}

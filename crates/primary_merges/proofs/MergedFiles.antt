@@ -1,5 +1,5 @@
 -- The files of a merged segment: its three parts, each once, framed, under short names that ascend.
-use Rattle.std.proofs.Common.{◌≡◌, ◌<◌, ◌≤◌, ◌+◌, ◌^◌, ◌||◌, ◌==◌, if◌then◌else◌, cond, ℕ, Bool, true, false, List, [], ◌∷◌, ◌++◌, Option, Some, None, length, codes, refl, sym, ap, subst, ◌∙◌, arith, inl, inr, All, true≢false}
+use Rattle.std.proofs.Common.{◌≡◌, ◌<◌, ◌≤◌, ◌+◌, ◌^◌, ◌||◌, ◌==◌, if◌then◌else◌, cond, ℕ, Bool, true, false, List, [], ◌∷◌, Option, Some, None, length, codes, refl, sym, ap, subst, ◌∙◌, arith, inl, inr, All, true≢false}
 use Rattle.std.specs.Prelude.{IsSome}
 use Rattle.std.specs.List.Sorted.{IsStrictlySortedBy}
 use Rattle.std.specs.Ordering.{nat_cmp}
@@ -21,7 +21,7 @@ use Rattle.live_bits.specs.LiveRows.{live_rows}
 use Rattle.live_bits.proofs.Editing.{all_live}
 use Rattle.segment_infos.specs.declared.infos.SegRecord.{SegRecord}
 use Rattle.segment_infos.specs.Files.{files_of_segment}
-use Rattle.seg_build.specs.Built.{File, record_of, first_live_gen, files_of, live_file_of}
+use Rattle.seg_build.specs.Built.{File, record_of, first_live_gen, live_file_of}
 use Rattle.seg_build.proofs.NameOrder.{names_ascend}
 use Rattle.seg_merge.specs.declared.task.MergeTask.{MergeTask}
 use Rattle.seg_merge.specs.declared.task.Merged.{Merged}

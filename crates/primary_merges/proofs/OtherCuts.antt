@@ -1,6 +1,6 @@
 -- A merge in flight over the cut-over of another. The text is that of `segment_steps/proofs/Merges`, which is no `pub mod` yet: cite that
 -- and take this file away once segment_steps is open.
-use Rattle.std.proofs.Common.{◌≡◌, Bool, true, false, not, cond, List, [], ◌∷◌, ◌++◌, map, refl, sym, ap, subst, ◌∙◌}
+use Rattle.std.proofs.Common.{◌≡◌, Bool, true, false, List, [], ◌∷◌, ◌++◌, map, refl, sym, ap, subst, ◌∙◌}
 use Rattle.std.specs.List.{AllZip, filter}
 use Rattle.std.proofs.lemmas.List.Elements.{filter-append}
 use Rattle.nrt_base.specs.declared.doc.Doc.{Doc}

@@ -1,30 +1,26 @@
 -- A merge whose files are written.
-use Rattle.std.proofs.Common.{◌≡◌, ◌<◌, ◌≤◌, ◌+◌, ◌^◌, ℕ, Bool, true, false, List, [], ◌∷◌, ◌++◌, ◌⊎◌, inl, inr, Option, Some, None, refl, sym, ap, subst, ◌∙◌, arith, true≢false, All}
+use Rattle.std.proofs.Common.{◌≡◌, ◌<◌, ◌≤◌, ◌+◌, ◌^◌, ℕ, Bool, true, false, List, [], ◌++◌, inl, inr, Some, None, refl, sym, ap, subst, ◌∙◌, arith, true≢false, All}
 use Rattle.std.specs.Prelude.{IfSome}
-use Rattle.std.specs.List.{AllByRecursion, Contains}
-use Rattle.std.proofs.lemmas.Bool.{cases_lt}
+use Rattle.std.specs.List.{Contains}
 use Rattle.std.proofs.lemmas.List.Elements.{Contains-append_right, All-contains}
 use Rattle.disk_model.specs.Disk.{Name, Cells, is_among, reads_of}
 use Rattle.file_names.specs.Names.{part_name_of, is_commit_name, is_pending_name}
 use Rattle.file_names.specs.declared.composed.SegPart.{SegPart}
 use Rattle.file_names.proofs.NameLaws.{part_name_apart, part_name_not_live, part_name_not_commit, part_name_not_pending}
-use Rattle.segment_infos.specs.declared.infos.SegRecord.{SegRecord}
-use Rattle.segment_infos.specs.declared.infos.Infos.{Infos}
-use Rattle.seg_build.specs.Built.{File}
 use Rattle.seg_merge.specs.declared.task.Merged.{Merged}
 use Rattle.seg_merge.specs.Merging.{IsMergedOf}
 use Rattle.file_deleter.specs.Holdings.{Holdings, count_of, times, AreThere}
 use Rattle.file_deleter.specs.Moves.{KeepsFiles, LetsGo, MovesCounts}
-use Rattle.file_deleter.proofs.NameLemmas.{times-append, among_times, not_among_times, among_is}
+use Rattle.file_deleter.proofs.NameLemmas.{times-append, among_times, not_among_times}
 use Rattle.searcher_switch.specs.Searching.{searcher_names}
 use Rattle.node_files.specs.Node.{IsWholeNode, IsApart, HasNoPending, AddsOnly, KeepsBytes}
 use Rattle.node_files.specs.Appearing.{AppearsOnly}
 use Rattle.node_files.proofs.Appearing.{keeps_only}
-use Rattle.node_files.proofs.Carry.{node_kept, node_gathers, node_lets_go, node_same_counts, node_there, nothing_written, unheld_apart, front_counted}
+use Rattle.node_files.proofs.Carry.{node_kept, node_gathers, node_lets_go, node_same_counts, node_there, nothing_written, unheld_apart}
 use Rattle.primary_parts.specs.declared.parts.Parts.{Parts}
 use Rattle.primary_parts.specs.declared.states.Out.{Out}
 use Rattle.primary_parts.specs.declared.states.Merging.{Merging}
-use Rattle.primary_parts.specs.Held.{IsUndrawn, IsUnused, part, live, next_live, IsOwnFile, IsDrawnRecord, drawn_to}
+use Rattle.primary_parts.specs.Held.{IsUnused, part, live, next_live, IsOwnFile, IsDrawnRecord, drawn_to}
 use Rattle.primary_parts.specs.States.{state_names}
 use Rattle.primary_parts.specs.Merges.{merge_names, merge_loose, merge_filled, merge_of, merges_with, IsMerging}
 use Rattle.primary_parts.specs.Primary.{loose_in, publish_loose, rest_loose, loose_of, filled_of, rest_names, primary_names, IsUnwritten, IsPrimary}
@@ -33,7 +29,7 @@ use Rattle.primary_parts.specs.Calls.{FillsUndrawn, DrawsOnly}
 use Rattle.primary_parts.proofs.Drawing.{drawn_small, numbered_within}
 use Rattle.primary_parts.proofs.NewFiles.{undrawn_of}
 use Rattle.primary_parts.proofs.Keeping.{primary_same}
-use Rattle.primary_parts.proofs.MergeLists.{number_of, all_at, loose_at, unfilled_at, filled_with, filled_own, loose_with, names_with, all_with, apart_with, filled_loose}
+use Rattle.primary_parts.proofs.MergeLists.{all_at, loose_at, unfilled_at, filled_with, filled_own, loose_with, names_with, all_with, apart_with}
 use Rattle.primary_merges.proofs.MergedFiles.{part_names, part_among, parts_once, merged_names}
 use Rattle.primary_merges.proofs.Carrying.{standing_carried, writer_carried, searched_carried, merging_carried}
 

@@ -1,13 +1,11 @@
 // The cut-over of a merge.
-ghost use Rattle.std.specs.Prelude.{◌≡◌, ◌≤◌, ◌⊎◌, ◌↔◌, List, ℕ, Some, None, true, is_some, length, OnOk, OnErr, IfOk, IfErr, IsErrOf, IsSome};
-ghost use Rattle.std.specs.List.{Contains, zip};
+ghost use Rattle.std.specs.Prelude.{◌≡◌, ◌≤◌, List, Some, None, true, OnOk, OnErr, IfOk, IfErr, IsErrOf, IsSome};
 ghost use Rattle.nrt_base.specs.Causes.{Rose};
-ghost use Rattle.disk_model.specs.Disk.{Cells, reads_of};
 ghost use Rattle.disk_model.specs.Faults.{IsMemoryOrFailed};
 ghost use Rattle.node_files.specs.Appearing.{AppearsOnly, NoneAppears};
 ghost use Rattle.node_files.specs.Node.{KeepsCounts};
 ghost use Rattle.primary_parts.specs.Held.{IsOwnFile};
-ghost use Rattle.primary_parts.specs.Merges.{merge_of, merges_without};
+ghost use Rattle.primary_parts.specs.Merges.{merges_without};
 ghost use Rattle.primary_parts.specs.Primary.{IsPrimary, KeepsHeldBytes, loose_of};
 ghost use Rattle.primary_parts.specs.Calls.{DrawsOnly, FillsUndrawn, HoldsNoNew};
 ghost use Rattle.primary_merges.specs.MergeCalls.{AreInBoth, AreWrittenOf, IsFilledMerge, IsCutMade, IsCutReady, HasWrittenCut, IsCutOver, KeepsDocuments};

@@ -1,5 +1,5 @@
 // A merge in flight, by its number; and the end of one that is given up.
-ghost use Rattle.std.specs.Prelude.{◌≡◌, ◌≤◌, Some, true, is_some, slice_get};
+ghost use Rattle.std.specs.Prelude.{◌≡◌, ◌≤◌, Some, true, is_some};
 ghost use Rattle.node_files.specs.Appearing.{NoneAppears};
 ghost use Rattle.primary_parts.specs.Merges.{merge_of, merge_place, merges_without};
 ghost use Rattle.primary_parts.specs.Primary.{IsPrimary, KeepsHeldBytes};

@@ -1,14 +1,10 @@
 // A merge whose files are written.
-ghost use Rattle.std.specs.Prelude.{◌≡◌, ◌+◌, ◌≤◌, ◌++◌, ◌∷◌, [], ℕ, List, Some, None, true, is_some, OnOk, OnErr, IfOk, IfErr, IsErrOf, IsSome};
+ghost use Rattle.std.specs.Prelude.{◌≡◌, ◌+◌, ◌≤◌, ◌++◌, ◌∷◌, [], List, Some, true, is_some, OnOk, OnErr, IfOk, IsErrOf};
 ghost use Rattle.std.specs.List.{All};
 ghost use Rattle.nrt_base.specs.Causes.{Rose};
 ghost use Rattle.disk_model.specs.Disk.{Name, Content, reads_of};
-ghost use Rattle.disk_model.specs.Faults.{IsMemoryOrFailed};
-ghost use Rattle.file_deleter.specs.Holdings.{count_of, times};
-ghost use Rattle.file_deleter.specs.Moves.{KeepsFiles};
 ghost use Rattle.copy_state.specs.States.{IsCopyState, meta_names};
 ghost use Rattle.node_files.specs.Appearing.{AppearsOnly};
-ghost use Rattle.seg_merge.specs.Merging.{IsMergedOf};
 ghost use Rattle.primary_parts.specs.Cut.{last_number};
 ghost use Rattle.primary_parts.specs.Held.{IsOwnFile};
 ghost use Rattle.primary_parts.specs.States.{IsFramedFile, IsMetaIn, IsStateOf, out_of};

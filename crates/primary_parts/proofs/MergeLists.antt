@@ -1,6 +1,6 @@
 -- Lists of merges in flight: the one of a number, those without it, and those where it was made.
-use Rattle.std.proofs.Common.{◌≡◌, ◌≢◌, ◌<◌, ◌+◌, ◌⊎◌, inl, inr, ◌==◌, if◌then◌else◌, ◌++◌, cond, ℕ, zero, suc, Bool, true, false, is_some, List, [], ◌∷◌, length, map, ◌||◌, Option, Some, None, slice_get, slice_set, get_or, refl, sym, ap, subst, ◌∙◌, arith, true≢false}
-use Rattle.std.specs.List.{All, AllByRecursion, Contains, list_any, remove, zip}
+use Rattle.std.proofs.Common.{◌≡◌, ◌≢◌, ◌<◌, ◌+◌, ◌⊎◌, inl, inr, ◌==◌, if◌then◌else◌, ◌++◌, ℕ, zero, suc, Bool, true, false, is_some, List, [], ◌∷◌, length, map, ◌||◌, Option, Some, None, slice_get, slice_set, get_or, refl, sym, ap, subst, ◌∙◌, arith, true≢false}
+use Rattle.std.specs.List.{AllByRecursion, Contains, list_any, remove, zip}
 use Rattle.std.proofs.lemmas.Bool.{eqb-true, eqb-false, ne_eqb, or_right}
 use Rattle.std.proofs.lemmas.List.Folds.{list_any-append}
 use Rattle.nrt_base.specs.declared.doc.Doc.{Doc}
@@ -10,11 +10,10 @@ use Rattle.file_deleter.specs.Holdings.{times}
 use Rattle.file_deleter.proofs.NameLemmas.{times-append}
 use Rattle.segment_infos.specs.declared.infos.SegRecord.{SegRecord}
 use Rattle.seg_reader.specs.Shown.{Shown}
-use Rattle.seg_build.specs.Built.{File}
 use Rattle.seg_merge.specs.declared.task.Merged.{Merged}
 use Rattle.segment_steps.specs.CutOver.{Part, is_one_of, inputs_in, IsMergeOf}
 use Rattle.primary_parts.specs.declared.states.Merging.{Merging}
-use Rattle.primary_parts.specs.Merges.{merge_names, merge_loose, merge_filled, merge_inputs, merge_of, merge_place, merges_without, merges_with, IsMade, IsMadeBy, IsMerging, AreOtherMerges, AreApartMerges}
+use Rattle.primary_parts.specs.Merges.{merge_names, merge_loose, merge_filled, merge_inputs, merge_of, merge_place, merges_without, merges_with, IsMadeBy, IsMerging, AreOtherMerges, AreApartMerges}
 use Rattle.primary_parts.proofs.Writing.{among_at}
 
 -- ---- one more in front

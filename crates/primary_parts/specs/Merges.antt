@@ -1,5 +1,5 @@
 -- Merges in flight, and what is true of them.
-use Rattle.std.specs.Prelude.{ℕ, suc, ◌≡◌, ◌≢◌, ◌<◌, ◌==◌, if◌then◌else◌, true, false, is_some, List, [], ◌∷◌, ◌++◌, map, Option, Some, None}
+use Rattle.std.specs.Prelude.{ℕ, suc, ◌≡◌, ◌≢◌, ◌<◌, ◌==◌, if◌then◌else◌, true, false, is_some, List, [], ◌∷◌, ◌++◌, Option, Some, None}
 use Rattle.std.specs.List.{All, AllByRecursion, flat_map, list_any, zip}
 use Rattle.disk_model.specs.Disk.{Name, Content, is_among}
 use Rattle.file_deleter.specs.Holdings.{times}

@@ -1,8 +1,7 @@
 -- Copy states that are out.
 use Rattle.std.specs.Prelude.{◌≡◌, ◌+◌, ◌==◌, ◌<◌, ◌^◌, ℕ, suc, Bool, true, false, ◌&&◌, if◌then◌else◌, List, [], ◌∷◌, ◌++◌, length, Some}
 use Rattle.std.specs.Cmp.Lexicographic.{pointwise}
-use Rattle.std.specs.List.{All, flat_map}
-use Rattle.nrt_base.specs.declared.numbers.SegNo.{SegNo}
+use Rattle.std.specs.List.{All}
 use Rattle.codec_frame.specs.Frame.{Wanted, IsFramed}
 use Rattle.copy_state.specs.Meta.{IsMetaOf}
 use Rattle.copy_state.specs.States.{meta_names}
@@ -13,7 +12,6 @@ use Rattle.file_deleter.specs.Holdings.{times}
 use Rattle.segment_infos.specs.declared.infos.Infos.{Infos}
 use Rattle.segment_infos.specs.Infos.{IsInfosFile}
 use Rattle.primary_parts.specs.declared.states.Out.{Out}
-use Rattle.primary_parts.specs.declared.states.Merging.{Merging}
 
 -- what is held for a copy state
 abbrev pub out_of : CopyState → Out

@@ -1,15 +1,12 @@
 -- A publish that starts, and one that has ended.
-use Rattle.std.proofs.Common.{◌≡◌, ◌≢◌, ◌<◌, All, ◌≤◌, ◌+◌, ℕ, zero, suc, List, [], ◌∷◌, ◌++◌, length, Option, Some, None, sym, subst, arith, inl, inr}
+use Rattle.std.proofs.Common.{◌≡◌, ◌<◌, ◌≤◌, ◌+◌, ℕ, ◌∷◌, ◌++◌, length, Option, Some, None, sym, subst}
 use Rattle.std.specs.List.{Contains}
-use Rattle.std.proofs.lemmas.List.Elements.{Contains-append_right, All-weaker}
-use Rattle.disk_model.specs.Disk.{Name, Content, Cells}
-use Rattle.segment_infos.specs.declared.infos.SegRecord.{SegRecord}
-use Rattle.segment_infos.specs.declared.infos.Infos.{Infos}
-use Rattle.seg_reader.specs.Shown.{Shown}
+use Rattle.std.proofs.lemmas.List.Elements.{Contains-append_right}
+use Rattle.disk_model.specs.Disk.{Cells}
 use Rattle.disk_model.specs.Disk.{reads_of}
 use Rattle.primary_parts.specs.declared.parts.Parts.{Parts}
 use Rattle.primary_parts.specs.declared.parts.Publish.{Publish}
-use Rattle.primary_parts.specs.Held.{IsHeld, IsUnused, drawn_to, IsUndrawn, IsDrawnRecord, AreNumbered}
+use Rattle.primary_parts.specs.Held.{drawn_to, IsUndrawn, AreNumbered}
 use Rattle.primary_parts.proofs.NewFiles.{undrawn_of, behind_loose}
 use Rattle.primary_parts.proofs.Drawing.{counted_on, counted_held, drawn_now, numbered_on, drawn_alone}
 use Rattle.primary_parts.specs.Primary.{publish_loose, rest_loose, loose_of, filled_of, IsPrimary}

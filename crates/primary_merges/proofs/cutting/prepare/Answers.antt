@@ -1,7 +1,5 @@
-use Rattle.std.proofs.Common.{◌≡◌, ◌∙◌, sym, ap, subst, List, Some, ◌++◌}
-use Rattle.disk_model.specs.Disk.{Name}
+use Rattle.std.proofs.Common.{◌∙◌, sym, subst}
 use Rattle.segment_infos.specs.Files.{AreFilesOf}
-use Rattle.primary_parts.specs.Written.{names_of}
 use Rattle.primary_merges.specs.MergeCalls.{infos_of}
 use Rattle.primary_merges.proofs.CutMaking.{same_merging, written_is, cut_ready_of}
 use Rattle.primary_merges.proofs.cutting.prepare.Goals as goal

@@ -1,5 +1,4 @@
 use Rattle.std.proofs.Common.{rules, ◌≡◌, None, sym}
-use Rattle.primary_parts.specs.Written.{names_of}
 use Rattle.primary_parts.specs.declared.states.Merging.{Merging}
 use Rattle.seg_merge.specs.Merging.{IsMergedOf}
 use Rattle.primary_merges.proofs.CutMaking.{so_at}

@@ -1,4 +1,4 @@
-use Rattle.std.proofs.Common.{refl, subst, Option}
+use Rattle.std.proofs.Common.{subst, Option}
 use Rattle.std.specs.Prelude.{MatchOption}
 use Rattle.merge_choice.specs.Choice.{HasNoRange}
 use Rattle.segment_steps.specs.declared.starting.MergeStart.{MergeStart}
