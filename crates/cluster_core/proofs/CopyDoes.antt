@@ -1,15 +1,15 @@
 -- What each row of copies and settles does for its line, from the entries that it adds.
-use Rattle.std.proofs.Common.{◌≡◌, ◌≢◌, ◌&&◌, ◌||◌, ◌==◌, ◌<◌, ℕ, Bool, true, false, [], ◌∷◌, Some, None, Option, refl, ap, ◌∙◌, sym, subst, if◌then◌else◌, inl, inr}
-use Rattle.std.specs.Prelude.{not, ⊤, IfOk, OnOk, Result, Ok, Err}
+use Rattle.std.proofs.Common.{◌≡◌, ◌≢◌, ◌<◌, ℕ, Bool, true, false, [], ◌∷◌, Some, None, Option, refl, ap, ◌∙◌, sym, subst, if◌then◌else◌, inl, inr}
+use Rattle.std.specs.Prelude.{⊤, IfOk, OnOk, Result, Ok, Err}
 use Rattle.std.specs.declared.alloc.AllocError.{AllocError}
 use Rattle.nrt_base.specs.declared.numbers.At.{At}
 use Rattle.nrt_base.specs.declared.numbers.NodeNo.{NodeNo}
 use Rattle.nrt_base.specs.declared.numbers.Version.{Version}
 use Rattle.history_entries.specs.declared.cause.Cause.{Cause}
-use Rattle.history_entries.specs.declared.cause.Cause.TheVariants.{Lost, Cancelled}
+use Rattle.history_entries.specs.declared.cause.Cause.TheVariants.{Lost}
 use Rattle.history_entries.specs.declared.entry.Event.{Event}
 use Rattle.history_entries.specs.declared.entry.Event.TheVariants.{Copying, Switched, Copied, Settling, Settled, Refused}
-use Rattle.history_entries.specs.Nodes.{Past, newest_version, version_of}
+use Rattle.history_entries.specs.Nodes.{Past}
 use Rattle.history_entries.specs.Lines.{same_at, is_reply, is_answered, last_of_line, start_entry, before_start, highest_switched}
 use Rattle.history_entries.specs.Legal.{IsLegalPast}
 use Rattle.history_entries.specs.Rules.{is_lost}
@@ -33,16 +33,15 @@ use Rattle.cluster_places.specs.declared.tasks.SettleTask.{SettleTask}
 use Rattle.cluster_state.specs.Run.{Run, IsNow}
 use Rattle.cluster_state.specs.Copies.{newest_of, GoesOn, ended_log}
 use Rattle.cluster_state.specs.Settles.{IsSettling}
-use Rattle.cluster_core.specs.declared.standing.Standing.{Standing}
-use Rattle.cluster_core.specs.declared.standing.Standing.TheVariants.{Runs, Passed, Ends}
-use Rattle.cluster_core.specs.declared.turn.Turn.{Turn}
-use Rattle.cluster_core.specs.declared.turn.Turn.TheVariants.{Work, Done, Busy}
+use Rattle.line_turns.specs.declared.standing.Standing.{Standing}
+use Rattle.line_turns.specs.declared.standing.Standing.TheVariants.{Runs, Passed, Ends}
+use Rattle.line_turns.specs.declared.turn.Turn.{Turn}
+use Rattle.line_turns.specs.declared.turn.Turn.TheVariants.{Work, Done, Busy}
 use Rattle.lane_walks.specs.Owes.{SuitsOrFault}
-use Rattle.cluster_core.specs.Doing.{Does, IsReplied, IsBegunBy, IsRepliedAtDone, IsBegunAtWork}
-use Rattle.cluster_core.specs.Calls.{LineRefused, IsRefusedFor}
-use Rattle.cluster_core.specs.CopyCalls.{CopiesFor, CopyAnswered, CopyStarts, CopyStartsWhen, is_node_lost, overtaken, standing_of, log_after, IsOpenJob, stopped_log, JobGoesOn, JobSteps, PartArrives, SettleStarts, settle_end_event, SettleGoesOn}
+use Rattle.cluster_core.specs.Doing.{Does, IsReplied, IsRepliedAtDone, IsBegunAtWork}
+use Rattle.line_turns.specs.CopyCalls.{CopiesFor, CopyAnswered, CopyStarts, CopyStartsWhen, is_node_lost, overtaken, standing_of, log_after, IsOpenJob, stopped_log, JobSteps, PartArrives, SettleStarts, settle_end_event, SettleGoesOn}
 use Rattle.cluster_core.proofs.Does.{does_was, runs_in, one_does, none_does, first_suits, refused_does, replied_by, one_replied, lost_reply, refused_for_does, refused_for_replied, begun_by}
-use Rattle.cluster_core.proofs.CopyRows.{copy_newest, started_newest}
+use Rattle.line_copies.proofs.CopyRows.{copy_newest, started_newest}
 
 -- ---- copy starts
 

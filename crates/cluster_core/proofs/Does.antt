@@ -1,6 +1,6 @@
 -- What each row of calls does for its line, from the entries that it adds.
-use Rattle.std.proofs.Common.{◌≡◌, ◌≢◌, ◌&&◌, ◌||◌, ◌==◌, ◌+◌, ℕ, Bool, true, false, true≢false, List, [], ◌∷◌, Some, None, Option, refl, ap, ◌∙◌, sym, subst, if◌then◌else◌, length, inr, arith}
-use Rattle.std.specs.Prelude.{not, is_some, ⊤}
+use Rattle.std.proofs.Common.{◌≡◌, ◌≢◌, ◌&&◌, ◌||◌, ◌==◌, ◌+◌, ℕ, Bool, true, false, List, [], ◌∷◌, Some, None, Option, refl, ap, ◌∙◌, sym, subst, if◌then◌else◌, length, inr, arith}
+use Rattle.std.specs.Prelude.{not, is_some}
 use Rattle.std.specs.List.{list_any}
 use Rattle.std.proofs.lemmas.Bool.{and_from}
 use Rattle.std.proofs.lemmas.Bool.Decides.{nat_tests}
@@ -14,16 +14,14 @@ use Rattle.documents.specs.declared.operation.Op.TheVariants.{Put as PutOp, Dele
 use Rattle.documents.specs.declared.query.Query.{Query}
 use Rattle.documents.specs.declared.answer.Answer.{Answer}
 use Rattle.documents.specs.Documents.{is_put}
-use Rattle.disk_model.specs.Disk.{Name}
 use Rattle.seg_reader.specs.Shown.{Shown}
 use Rattle.searcher_switch.specs.declared.searchers.Lease.{Lease}
 use Rattle.segment_steps.specs.declared.flushing.FlushTask.{FlushTask}
 use Rattle.history_entries.specs.declared.cause.Cause.{Cause}
-use Rattle.history_entries.specs.declared.cause.Cause.TheVariants.{Down, NoTicket, Nothing, NamesSpent, TooManySegments, Lost}
-use Rattle.history_entries.specs.declared.entry.Entry.{Entry}
+use Rattle.history_entries.specs.declared.cause.Cause.TheVariants.{NoTicket, Nothing, NamesSpent, TooManySegments, Lost}
 use Rattle.history_entries.specs.declared.entry.Event.{Event}
 use Rattle.history_entries.specs.declared.entry.Event.TheVariants.{Accepted, Publishing, Published, Opened, Asking, Answered, Closed, Files, Refused}
-use Rattle.history_entries.specs.Nodes.{Past, is_running, generation_of, newest_version, version_of}
+use Rattle.history_entries.specs.Nodes.{Past, generation_of, newest_version, version_of}
 use Rattle.history_entries.specs.Lines.{same_at, is_start, is_reply, is_answered, last_of_line, before_start}
 use Rattle.history_entries.specs.Points.{cut_of, cut_has_put}
 use Rattle.history_entries.specs.Tickets.{Ticket, has_ticket, open_ticket}
@@ -40,11 +38,12 @@ use Rattle.script_serving.specs.declared.script.LineCommand.TheVariants.{Publish
 use Rattle.script_serving.specs.Refusals.{when, without_primary, without_node, names_are_spent, may_be_full, refusal}
 use Rattle.script_serving.specs.Serves.{First, Follows, Suits}
 use Rattle.cluster_state.specs.Run.{Run, IsNow}
-use Rattle.cluster_core.specs.declared.turn.Turn.{Turn}
-use Rattle.cluster_core.specs.declared.turn.Turn.TheVariants.{Work, Done, Busy}
+use Rattle.line_turns.specs.declared.turn.Turn.{Turn}
+use Rattle.line_turns.specs.declared.turn.Turn.TheVariants.{Work, Done, Busy}
 use Rattle.lane_walks.specs.Owes.{SuitsOrFault}
 use Rattle.cluster_core.specs.Doing.{Does, IsReplied, IsBegunBy, IsRepliedAtDone, IsBegunAtWork, writing_command, AsksFor}
-use Rattle.cluster_core.specs.Calls.{by_refusal, LineRefused, IsRefusedFor, cut_refusal, publish_refusal, PublishRefused, PublishStarts, publish_end_event, open_event, ListsFiles, SearchStarts, AsksTicket, AskStarts, asked_event, close_by, ScansAt, answer_event, AnswerEnds}
+use Rattle.line_turns.specs.Calls.{by_refusal, LineRefused, IsRefusedFor, publish_refusal, PublishRefused, PublishStarts, publish_end_event, open_event, ListsFiles, SearchStarts, AsksTicket, AskStarts, asked_event, close_by, ScansAt, answer_event, AnswerEnds}
+use Rattle.line_turns.proofs.Rows.{up_unrefused}
 
 -- ---- entries
 
@@ -146,27 +145,11 @@ close_replied at t old new (Some ticket) now = one_replied at old new (Closed (r
 
 -- ---- files
 
-pub up_unrefused : (n : ℕ) (past : Past) → is_running n past ≡ true → without_node n past ≡ None
-up_unrefused n past up = ap (λ (b : Bool). when (not b) Down) up
-
 pub files_does : (at : At) (n : NodeNo) (old new : Run) → IsFresh at (printed old.log) → ListsFiles at n old new → Does (ListOf n) at old new
 files_does at n old new fresh lists = row_does (ListOf n) at old new (without_node n.0 (printed old.log)) (Files n lists.names) (λ suits. suits) fresh refl lists.now refl
 
 pub files_replied : (at : At) (n : NodeNo) (old new : Run) → ListsFiles at n old new → IsReplied at new
 files_replied at n old new lists = row_replied at old new (without_node n.0 (printed old.log)) (Files n lists.names) refl lists.now
-
--- a node that runs, or that is down
-pub listed : (at : At) (n : NodeNo) (old new : Run) (names : List Name) → is_running n.0 (printed old.log) ≡ true → IsNow old new (shown at (Files n names) ∷ old.log) → ListsFiles at n old new
-listed at n old new names up now = record {
-  names = names;
-  now = subst (λ (o : Option Cause). IsNow old new (shown at (by_refusal o (Files n names)) ∷ old.log)) (sym (up_unrefused n.0 (printed old.log) up)) now;
-}
-
-pub unlisted : (at : At) (n : NodeNo) (old new : Run) → is_running n.0 (printed old.log) ≡ false → LineRefused at Down old new → ListsFiles at n old new
-unlisted at n old new down now = record {
-  names = [];
-  now = subst (λ (o : Option Cause). IsNow old new (shown at (by_refusal o (Files n [])) ∷ old.log)) (sym (ap (λ (b : Bool). when (not b) Down) down)) now;
-}
 
 -- ---- search and ask
 

@@ -1,7 +1,5 @@
 pub mod Does
-mod Rows
-mod CopyRows
 mod CopyDoes
 mod SettleStays
-mod LifeRows
 mod LifeDoes
+mod PromoteDoes

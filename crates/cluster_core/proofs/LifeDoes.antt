@@ -1,6 +1,5 @@
 -- What each row of commits, crashes and reopenings does for its line, from the entries that it adds.
 use Rattle.std.proofs.Common.{◌≡◌, ℕ, ◌∷◌, false, Some, None, refl, ap, sym, subst}
-use Rattle.std.specs.Prelude.{⊤}
 use Rattle.nrt_base.specs.declared.numbers.At.{At}
 use Rattle.nrt_base.specs.declared.numbers.NodeNo.{NodeNo}
 use Rattle.nrt_base.specs.declared.numbers.Version.{Version}
@@ -15,11 +14,12 @@ use Rattle.script_serving.specs.declared.script.LineCommand.TheVariants.{Commit,
 use Rattle.script_serving.specs.Refusals.{without_node}
 use Rattle.cluster_places.specs.declared.tasks.CommitTask.{CommitTask}
 use Rattle.cluster_state.specs.Run.{Run, IsNow}
-use Rattle.cluster_core.specs.declared.turn.Turn.{Turn}
-use Rattle.cluster_core.specs.declared.turn.Turn.TheVariants.{Work, Done, Busy}
+use Rattle.line_turns.specs.declared.turn.Turn.{Turn}
+use Rattle.line_turns.specs.declared.turn.Turn.TheVariants.{Work, Done, Busy}
 use Rattle.cluster_core.specs.Doing.{Does, IsReplied, IsRepliedAtDone, IsBegunAtWork}
-use Rattle.cluster_core.specs.LifeCalls.{CommitStarts, commit_end_event, CommitSteps, crash_event, with_node, ReopensNode}
-use Rattle.cluster_core.proofs.Does.{row_does, row_replied, none_does, up_unrefused, refused_for_does, refused_for_replied, begun_by, answered_does, started_unanswered, one_replied, lost_reply}
+use Rattle.line_turns.specs.LifeCalls.{CommitStarts, commit_end_event, CommitSteps, crash_event, with_node, ReopensNode}
+use Rattle.cluster_core.proofs.Does.{row_does, row_replied, none_does, refused_for_does, refused_for_replied, begun_by, answered_does, started_unanswered, one_replied, lost_reply}
+use Rattle.line_turns.proofs.Rows.{up_unrefused}
 
 -- ---- commits
 
@@ -46,13 +46,13 @@ pub step_does : (at : At) (n : NodeNo) (v : Version) (old new : Run) (turn : Tur
 step_does at n v old new (Work made) last turns steps = none_does (Commit n) at old new steps.0
 step_does at n v old new Done last turns steps =
     answered_does (Commit n) at old new (is_lost (printed old.log) (before_start at (printed old.log)) (Committing n v)) (Committing n v) (Committed n v) last
-    (started_unanswered at (printed old.log) (Committing n v) turns refl last) (λ suits. suits) refl refl steps
+    (started_unanswered at (printed old.log) (Committing n v) turns refl last) (λ suits. suits) refl refl steps.0
 step_does at n v old new Busy last turns steps = absurd steps
 
 pub step_replied : (at : At) (n : NodeNo) (v : Version) (old new : Run) (turn : Turn (Unit {0})) → CommitSteps at n v old new turn → IsRepliedAtDone at new turn
 step_replied at n v old new (Work made) steps = tt
 step_replied at n v old new Done steps =
-    one_replied at old new (commit_end_event at n v (printed old.log)) (lost_reply (is_lost (printed old.log) (before_start at (printed old.log)) (Committing n v)) (Committed n v) refl) steps
+    one_replied at old new (commit_end_event at n v (printed old.log)) (lost_reply (is_lost (printed old.log) (before_start at (printed old.log)) (Committing n v)) (Committed n v) refl) steps.0
 step_replied at n v old new Busy steps = absurd steps
 
 -- ---- crashes and reopenings

@@ -1,5 +1,5 @@
 -- A settle goes on with what was left, behind each step of the job of its first replica.
-use Rattle.std.proofs.Common.{◌≡◌, ◌≢◌, ◌≤◌, ◌<◌, ◌==◌, ◌&&◌, ◌⊎◌, ℕ, Bool, true, false, List, [], ◌∷◌, Some, None, Option, max, refl, ap, ◌∙◌, sym, subst, if◌then◌else◌, inl, inr, arith}
+use Rattle.std.proofs.Common.{◌≡◌, ◌≢◌, ◌≤◌, ◌<◌, ◌==◌, ◌⊎◌, ℕ, Bool, true, false, List, ◌∷◌, Some, None, Option, max, refl, ap, ◌∙◌, sym, subst, if◌then◌else◌, inl, inr, arith}
 use Rattle.std.specs.List.{All, Contains}
 use Rattle.std.specs.Prelude.{Result, Ok, Err, IfOk, OnOk}
 use Rattle.std.specs.declared.alloc.AllocError.{AllocError}
@@ -12,9 +12,8 @@ use Rattle.history_entries.specs.declared.cause.Cause.{Cause}
 use Rattle.history_entries.specs.declared.entry.Event.{Event}
 use Rattle.history_entries.specs.declared.entry.Event.TheVariants.{Switched, Settling, Refused}
 use Rattle.history_entries.specs.Nodes.{Past, newest_version, version_of}
-use Rattle.history_entries.specs.Lines.{same_at, start_entry, before_start, highest_switched, NodeSurvives}
+use Rattle.history_entries.specs.Lines.{start_entry, before_start, highest_switched}
 use Rattle.history_entries.specs.Legal.{IsLegalPast}
-use Rattle.history_tables.specs.declared.jobs.Job.{Job}
 use Rattle.history_tables.specs.declared.jobs.JobRow.{JobRow}
 use Rattle.history_tables.specs.Begins.{open_line}
 use Rattle.history_tables.proofs.RowLemmas.{same_at_self}
@@ -25,11 +24,11 @@ use Rattle.cluster_places.specs.declared.tasks.SettleTask.{SettleTask}
 use Rattle.cluster_state.specs.Run.{Run, IsNow}
 use Rattle.cluster_state.specs.Copies.{ended_log}
 use Rattle.cluster_state.specs.Settles.{IsLeft, IsSettling}
-use Rattle.cluster_core.specs.declared.standing.Standing.{Standing}
-use Rattle.cluster_core.specs.declared.standing.Standing.TheVariants.{Runs, Passed, Ends}
-use Rattle.cluster_core.specs.declared.turn.Turn.{Turn}
-use Rattle.cluster_core.specs.declared.turn.Turn.TheVariants.{Work, Done, Busy}
-use Rattle.cluster_core.specs.CopyCalls.{standing_of, log_after, stopped_log, JobSteps, AreFrom, SettlesOn}
+use Rattle.line_turns.specs.declared.standing.Standing.{Standing}
+use Rattle.line_turns.specs.declared.standing.Standing.TheVariants.{Runs, Passed, Ends}
+use Rattle.line_turns.specs.declared.turn.Turn.{Turn}
+use Rattle.line_turns.specs.declared.turn.Turn.TheVariants.{Work, Done, Busy}
+use Rattle.line_turns.specs.CopyCalls.{standing_of, log_after, stopped_log, JobSteps, AreFrom, SettlesOn}
 
 all_step : (P R Q : NodeNo → Type 0) (xs : List NodeNo) → ((n : NodeNo) → P n → R n → Q n) → All P xs → All R xs → All Q xs
 all_step P R Q xs step p r =

@@ -1,5 +1,5 @@
 -- What a call does for its line, as the line's lane is owed it.
-use Rattle.std.specs.Prelude.{◌≡◌, true, false, Option, Some, None, ⊤}
+use Rattle.std.specs.Prelude.{◌≡◌, true, false, Option, Some, ⊤}
 use Rattle.nrt_base.specs.declared.numbers.At.{At}
 use Rattle.documents.specs.declared.operation.Op.{Op}
 use Rattle.documents.specs.declared.operation.Op.TheVariants.{Put as PutOp, Delete as DeleteOp, Drop as DropOp}
@@ -11,8 +11,8 @@ use Rattle.history_book.specs.Log.{printed}
 use Rattle.script_serving.specs.declared.script.LineCommand.{LineCommand}
 use Rattle.script_serving.specs.declared.script.LineCommand.TheVariants.{Put, Delete, Drop, Search, Ask}
 use Rattle.cluster_state.specs.Run.{Run}
-use Rattle.cluster_core.specs.declared.turn.Turn.{Turn}
-use Rattle.cluster_core.specs.declared.turn.Turn.TheVariants.{Work, Done, Busy}
+use Rattle.line_turns.specs.declared.turn.Turn.{Turn}
+use Rattle.line_turns.specs.declared.turn.Turn.TheVariants.{Work, Done, Busy}
 use Rattle.lane_walks.specs.Owes.{GoesByLine}
 
 -- a call of a line did some of what its command asks for, in a cluster without a log of operations

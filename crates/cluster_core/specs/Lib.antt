@@ -1,4 +1,1 @@
 pub mod Doing
-pub mod Calls
-pub mod CopyCalls
-pub mod LifeCalls

@@ -1,13 +1,11 @@
 //! The calls of lines that search, of those that open and close tickets, and of those that list files.
 
 use crate::cluster::Cluster;
-use crate::lists::files;
-use crate::searches::{answer_end, ask_start, search_start};
-use crate::tickets::{ticket_close, ticket_open};
-use crate::turn::Turn;
 use disk_model::FaultDir;
 use documents::{Answer, Query};
 use history_entries::Event;
+use line_reads::{answer_end, ask_start, files, search_start, ticket_close, ticket_open};
+use line_turns::Turn;
 use nrt_base::{At, NoMemory, NodeNo, TicketNo};
 use searcher_switch::Lease;
 use seg_reader::Segment;
@@ -24,7 +22,7 @@ impl<D: FaultDir + Drop> Cluster<D> {
     ghost use Rattle.script_serving.specs.declared.script.LineCommand.TheVariants.{Open, Close, Search, Ask, Files};
     ghost use Rattle.cluster_state.specs.Run.{IsNow, IsEnded};
     ghost use Rattle.cluster_core.specs.Doing.{Does, IsReplied, IsRepliedAtDone, IsBegunAtWork, AsksFor};
-    ghost use Rattle.cluster_core.specs.Calls.{open_event, ListsFiles, SearchStarts, AskStarts, asked_event, close_by, ScansAt, AnswerEnds};
+    ghost use Rattle.line_turns.specs.Calls.{open_event, ListsFiles, SearchStarts, AskStarts, asked_event, close_by, ScansAt, AnswerEnds};
 
     /// Opens a ticket of the lane.
     pub fn ticket_open(

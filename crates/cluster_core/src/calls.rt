@@ -1,11 +1,11 @@
 //! The calls of lines that write and publish.
 
 use crate::cluster::Cluster;
-use crate::publishes::{accept, publish_end, publish_start};
-use crate::turn::Turn;
 use disk_model::FaultDir;
 use documents::Op;
 use history_entries::Event;
+use line_turns::Turn;
+use line_writes::{accept, publish_end, publish_start};
 use nrt_base::{At, NoMemory};
 use segment_steps::{FlushTask, FlushWork};
 use std::alloc::Global;
@@ -20,7 +20,7 @@ impl<D: FaultDir + Drop> Cluster<D> {
     ghost use Rattle.cluster_state.specs.Run.{IsNow, IsEnded};
     ghost use Rattle.cluster_state.specs.Writes.{IsFlushed};
     ghost use Rattle.cluster_core.specs.Doing.{Does, IsReplied, IsRepliedAtDone, IsBegunAtWork, writing_command};
-    ghost use Rattle.cluster_core.specs.Calls.{by_refusal, PublishStarts, publish_end_event};
+    ghost use Rattle.line_turns.specs.Calls.{by_refusal, PublishStarts, publish_end_event};
 
     /// Accepts an operation: a put, a delete or a drop.
     pub fn accept(&mut self, alloc: Global, at: At, op: Op) -> Result<(), NoMemory>

@@ -1,5 +1,6 @@
 //! The cluster.
 
+use cluster_starts::start_cluster;
 use cluster_state::ClusterState;
 use disk_model::FaultDir;
 use history_entries::{Entry, History};
@@ -45,7 +46,7 @@ impl<D: FaultDir + Drop> Cluster<D> {
         ensures nodes { IfOk result (λ c. c.nodes ≡ length dirs.items) }
         ensures log { IfOk result (λ c. c.log ≡ []) }
     {
-        let state = ClusterState::start(alloc, dirs)?;
+        let state = start_cluster(alloc, dirs)?;
         Ok(Cluster { state })
     }
 

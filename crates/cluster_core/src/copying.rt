@@ -1,13 +1,12 @@
 //! The calls of lines that copy and settle.
 
 use crate::cluster::Cluster;
-use crate::copies::{copy_arrived, copy_next, copy_start};
-use crate::settles::{settle_next, settle_start};
-use crate::turn::Turn;
 use cluster_places::{CopyTask, FileTask, SettleTask};
 use copy_job::Part;
 use disk_model::FaultDir;
 use history_entries::Event;
+use line_copies::{copy_arrived, copy_next, copy_start, settle_next, settle_start};
+use line_turns::Turn;
 use nrt_base::{At, NoMemory, NodeNo};
 use std::alloc::Global;
 
@@ -28,9 +27,9 @@ impl<D: FaultDir + Drop> Cluster<D> {
     ghost use Rattle.cluster_state.specs.FilesOut.{file_out};
     ghost use Rattle.cluster_state.specs.Copies.{newest_of, IsCopying, JobRuns};
     ghost use Rattle.cluster_state.specs.Settles.{IsSettling};
-    ghost use Rattle.cluster_core.specs.declared.turn.Turn.TheVariants.{Done};
+    ghost use Rattle.line_turns.specs.declared.turn.Turn.TheVariants.{Done};
     ghost use Rattle.cluster_core.specs.Doing.{Does, IsReplied, IsRepliedAtDone, IsBegunAtWork};
-    ghost use Rattle.cluster_core.specs.CopyCalls.{CopiesFor, CopyStarts, CopyStartsWhen, stopped_log, StopsTurn, JobGoesOn, JobHasPart, AreFrom, SettlesOn, SettleStarts, SettleGoesOn};
+    ghost use Rattle.line_turns.specs.CopyCalls.{CopiesFor, CopyStarts, CopyStartsWhen, stopped_log, StopsTurn, JobGoesOn, JobHasPart, AreFrom, SettlesOn, SettleStarts, SettleGoesOn};
 
     /// Starts a copy of the newest point to a node. Busy comes exactly where the line is not refused and a job for the newest version
     /// runs at the node, which is behind that version.

@@ -1,12 +1,11 @@
 //! The calls of lines that commit nodes, crash them and reopen them.
 
 use crate::cluster::Cluster;
-use crate::commits::{commit_start, commit_step};
-use crate::lives::{crash, reopen};
-use crate::turn::Turn;
 use cluster_places::CommitTask;
 use disk_model::FaultDir;
 use history_entries::Event;
+use line_lives::{commit_start, commit_step, crash, reopen};
+use line_turns::Turn;
 use nrt_base::{At, NoMemory, NodeNo};
 use std::alloc::Global;
 
@@ -18,7 +17,7 @@ impl<D: FaultDir + Drop> Cluster<D> {
     ghost use Rattle.script_serving.specs.declared.script.LineCommand.TheVariants.{Commit, Crash, Reopen};
     ghost use Rattle.cluster_state.specs.Run.{IsNow, IsEnded};
     ghost use Rattle.cluster_core.specs.Doing.{Does, IsReplied, IsRepliedAtDone, IsBegunAtWork};
-    ghost use Rattle.cluster_core.specs.LifeCalls.{CommitStarts, CommitSteps, crash_event, ReopensNode};
+    ghost use Rattle.line_turns.specs.LifeCalls.{CommitStarts, CommitSteps, crash_event, ReopensNode};
 
     /// Starts a commit of the point that a node searches. Busy comes exactly where the node runs and another line's commit is in flight
     /// there.

@@ -5,19 +5,9 @@
 mod asks;
 mod calls;
 mod cluster;
-mod commits;
-mod copies;
 mod copying;
 mod lasting;
-mod lists;
-mod lives;
-mod publishes;
-mod refusals;
-mod searches;
-mod settles;
-mod standing;
-mod tickets;
-mod turn;
+mod promoting;
 
 pub use cluster::Cluster;
-pub use turn::Turn;
+pub use line_turns::Turn;

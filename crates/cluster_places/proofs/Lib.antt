@@ -1,10 +1,7 @@
 mod HeldRows
-mod JobFiles
 pub mod Keys
-mod CommitPlaces
-mod CrashedPlaces
 pub mod OutCounts
-mod Slots
+pub mod Slots
 pub mod Stepping
 pub mod Taking
 pub mod TicketNodes

@@ -113,6 +113,14 @@ module _ {D : Type 0} where
           let one : one_like s (want_at (place_of new (suc k))) ≡ one_like s (want_at (place_of old (suc k))) = ap (one_like s) (others (suc k) here) in
           omega (arith, rest, one)
 
+  -- places without a job
+  pub jobs_none : (places : List (Option (Place D))) (s : Out) (k : ℕ) → ((m : ℕ) → 1 ≤ m → m ≤ k → want_at (place_of places m) ≡ None) → jobs_like places s k ≡ 0
+  jobs_none places s zero none = refl
+  jobs_none places s (suc k) none =
+      let rest = jobs_none places s k (λ m first last. none m first (omega (arith, last))) in
+      let one : one_like s (want_at (place_of places (suc k))) ≡ 0 = ap (one_like s) (none (suc k) (omega arith) (omega arith)) in
+      omega (arith, rest, one)
+
   -- a job of one of the places is counted
   pub job_counted : (places : List (Option (Place D))) (s : Out) (n k : ℕ) → 1 ≤ n → n ≤ k → want_at (place_of places n) ≡ Some s → 1 ≤ jobs_like places s k
   job_counted places s n zero some low is = absurd (omega (arith, some, low))

@@ -55,7 +55,7 @@ module _ {D : Type 0} (cells : D → Cells) where
       drawn = record { each = λ name undrawn. subst (λ (x : PrimaryParts D). IsUnwritten x name) is undrawn };
       appears = appears;
       commits = ap (λ (x : PrimaryParts D). x.commits) is;
-      point = ap (λ (x : PrimaryParts D). x.point_infos.generation) is;
+      point = ap (λ (x : PrimaryParts D). x.point_infos) is;
       generation = ap (λ (x : PrimaryParts D). x.infos.generation) is;
     };
   }

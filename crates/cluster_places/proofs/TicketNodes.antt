@@ -25,7 +25,7 @@ module _ {D : Type 0} (cells : D → Cells) where
       drawn = record { each = λ name is. subst (λ (x : Infos × (List ℕ × List ℕ)). IsUndrawn x.0 x.1.0 x.1.1 name) (λ i. (ap (λ (z : PrimaryParts D). z.infos) others i, (ap (λ (z : PrimaryParts D). loose_of z) others i, ap (λ (z : PrimaryParts D). filled_of z) others i))) is };
       appears = appears;
       commits = ap (λ (z : PrimaryParts D). z.commits) others;
-      point = ap (λ (z : PrimaryParts D). z.point_infos.generation) others;
+      point = ap (λ (z : PrimaryParts D). z.point_infos) others;
       generation = ap (λ (z : PrimaryParts D). z.infos.generation) others;
     },
     ap (λ (z : PrimaryParts D). z.states) others,
@@ -40,7 +40,7 @@ module _ {D : Type 0} (cells : D → Cells) where
       drawn = record { each = λ name is. subst (λ (x : Infos × (List ℕ × List ℕ)). IsUndrawn x.0 x.1.0 x.1.1 name) (λ i. (ap (λ (z : PrimaryParts D). z.infos) others i, (ap (λ (z : PrimaryParts D). loose_of z) others i, ap (λ (z : PrimaryParts D). filled_of z) others i))) is };
       appears = record { each = λ name none. ap (λ (z : PrimaryParts D). (cells z.dir name).now) others ∙ none };
       commits = ap (λ (z : PrimaryParts D). z.commits) others;
-      point = ap (λ (z : PrimaryParts D). z.point_infos.generation) others;
+      point = ap (λ (z : PrimaryParts D). z.point_infos) others;
       generation = ap (λ (z : PrimaryParts D). z.infos.generation) others;
     },
     ap (λ (z : PrimaryParts D). z.states) others,

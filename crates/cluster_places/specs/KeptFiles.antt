@@ -1,6 +1,9 @@
 -- What calls leave of the files of a node.
-use Rattle.std.specs.Prelude.{◌≡◌}
-use Rattle.disk_model.specs.Disk.{Cells}
+use Rattle.std.specs.Prelude.{◌≡◌, ◌<◌}
+use Rattle.std.specs.List.{Contains, flat_map}
+use Rattle.disk_model.specs.Disk.{Name, Cells}
+use Rattle.file_deleter.specs.Holdings.{count_of}
+use Rattle.segment_infos.specs.Files.{files_of_segment}
 use Rattle.primary_parts.specs.declared.parts.Parts.{Parts as PrimaryParts}
 use Rattle.node_files.specs.Appearing.{NoneAppears, AppearsOnly}
 use Rattle.primary_parts.specs.Held.{IsOwnFile}
@@ -19,17 +22,19 @@ module _ {D : Type 0} where
     pub drawn : DrawsOnly old new
     pub appears : NoneAppears (cells old.dir) (cells new.dir)
     pub commits : new.commits ≡ old.commits
-    pub point : new.point_infos.generation ≡ old.point_infos.generation
+    pub point : new.point_infos ≡ old.point_infos
     pub generation : new.infos.generation ≡ old.infos.generation
 
-  -- the primary's files are those from before and such as were not written yet; what it wrote has names of its own segments
+  -- the primary's files are those from before and such as were not written yet, which its point names; what it wrote has names of its own
+  -- segments
   pub record FillsPrimaryFiles (cells : D → Cells) (old new : PrimaryParts D) : Type 0 where
     pub stays : KeepsHeldBytes cells old new
     pub fresh : FillsUndrawn old new
     pub drawn : DrawsOnly old new
     pub appears : AppearsOnly (IsOwnFile old.infos (loose_of old)) (cells old.dir) (cells new.dir)
     pub commits : new.commits ≡ old.commits
-    pub point : new.point_infos.generation ≡ new.infos.generation
+    pub named : (name : Name) → count_of old.files name ≡ 0 → 0 < count_of new.files name → Contains (flat_map files_of_segment new.infos.segs) name
+    pub point : new.point_infos ≡ new.infos
     pub states : new.states ≡ old.states
 
   -- the replica wrote no name, its files read as at the source where they did, and its job and its point's version are those from before

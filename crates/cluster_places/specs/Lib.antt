@@ -6,5 +6,6 @@ pub mod Outs
 pub mod JobChanges
 pub mod JobPlaces
 pub mod Listed
+pub mod Ends
 pub mod Lives
 pub mod Commits

@@ -1,8 +1,9 @@
 -- What a crash, and a reopening, make of a node in its place.
-use Rattle.std.specs.Prelude.{ℕ, ◌≡◌, [], List, Option, Some, Vec, Contains}
+use Rattle.std.specs.Prelude.{ℕ, ◌≡◌, [], List, Option, Some, Vec, Contains, length}
 use Rattle.std.specs.Global.{Global}
 use Rattle.std.specs.List.{flat_map}
 use Rattle.nrt_base.specs.declared.doc.Doc.{Doc}
+use Rattle.nrt_base.specs.declared.numbers.NodeNo.{NodeNo}
 use Rattle.nrt_base.specs.declared.numbers.Version.{Version}
 use Rattle.disk_model.specs.Disk.{Name, Content, Cells, HasCrashed, reads_of}
 use Rattle.segment_infos.specs.Files.{files_of_segment}
@@ -18,17 +19,21 @@ use Rattle.cluster_places.specs.declared.nodes.Node.TheVariants.{Replica, Down}
 use Rattle.cluster_places.specs.declared.nodes.Place.{Place}
 use Rattle.cluster_places.specs.Places.{place_of, dir_of}
 use Rattle.cluster_places.specs.JobPlaces.{MovesOne}
+use Rattle.cluster_places.specs.Ends.{OthersOutlive}
 
 module _ {D : Type 0} where
-  -- the node crashed: its directory is what a crash leaves of it, and nothing is held of it any more
-  pub record CrashesIn (cells : D → Cells) (n : ℕ) (old new : List (Option (Place D))) : Type 0 where
+  -- The node crashed: its directory is what a crash leaves of it, nothing is held of it any more, and what ends with it has ended at the
+  -- others.
+  pub record CrashesIn (cells : D → Cells) (primary : Option NodeNo) (n : ℕ) (old new : List (Option (Place D))) : Type 0 where
     pub place : Place D
     pub there : place_of old n ≡ Some place
     pub dir : D
     pub held : Vec Held Global
     pub none : held.items ≡ []
-    pub moves : MovesOne n (record { node = Down dir; held = held }) old new
     pub crashed : HasCrashed (cells (dir_of place.node)) (cells dir)
+    pub count : length new ≡ length old
+    pub here : place_of new n ≡ Some (record { node = Down dir; held = held })
+    pub others : OthersOutlive cells primary n old new
 
   -- a replica opened on a directory: it stands at the point that this shows, and nothing was done with it
   pub record OpensOn (cells : D → Cells) (dir : D) (r : ReplicaParts D) : Type 0 where

@@ -1,5 +1,5 @@
 -- A commit, where none is in flight, from its start to its reply.
-use Rattle.std.proofs.Common.{◌≡◌, ◌≢◌, ◌∷◌, ℕ, false, Some, None, Option, refl, ap, ◌∙◌, sym, subst}
+use Rattle.std.proofs.Common.{◌≡◌, ◌≢◌, ◌≤◌, ◌+◌, ◌∷◌, ℕ, false, Some, None, Option, refl, ap, ◌∙◌, sym, subst, arith}
 use Rattle.std.specs.Prelude.{Result, Ok, Err, OnOk}
 use Rattle.nrt_base.specs.declared.numbers.At.{At}
 use Rattle.nrt_base.specs.declared.numbers.NodeNo.{NodeNo}
@@ -17,11 +17,11 @@ use Rattle.script_serving.specs.declared.script.LineCommand.{LineCommand}
 use Rattle.script_serving.specs.declared.script.LineCommand.TheVariants.{Commit}
 use Rattle.script_serving.specs.Refusals.{without_node}
 use Rattle.cluster_places.specs.declared.tasks.CommitTask.{CommitTask}
-use Rattle.cluster_state.specs.Run.{Run, IsNow}
-use Rattle.cluster_core.specs.declared.turn.Turn.{Turn}
-use Rattle.cluster_core.specs.declared.turn.Turn.TheVariants.{Work, Done, Busy}
-use Rattle.cluster_core.specs.Calls.{by_refusal}
-use Rattle.cluster_core.specs.LifeCalls.{CommitStarts, CommitSteps, commit_end_event, with_node, ReopensNode}
+use Rattle.cluster_state.specs.Run.{Run, calls_at, IsNow}
+use Rattle.line_turns.specs.declared.turn.Turn.{Turn}
+use Rattle.line_turns.specs.declared.turn.Turn.TheVariants.{Work, Done, Busy}
+use Rattle.line_turns.specs.Calls.{by_refusal}
+use Rattle.line_turns.specs.LifeCalls.{CommitStarts, CommitSteps, commit_end_event, with_node, ReopensNode}
 use Rattle.cluster_core.specs.Doing.{Does, IsReplied, IsBegunBy}
 use Rattle.cluster_core.proofs.Does.{none_does}
 use Rattle.cluster_run.specs.Going.{HaveJobsEnded}
@@ -47,13 +47,36 @@ pub commit_started : (at : At) (n : NodeNo) (old new : Run) (task : CommitTask) 
     → last_of_line at (printed new.log) ≡ Some (Committing task.node task.version)
 commit_started at n old new task starts begun = begun.last ∙ ap (λ (m : NodeNo). Some (Committing m task.version)) (sym starts.0.node)
 
--- disk calls were made, and nothing is seen of them
-pub commit_goes_on : (at : At) (n : NodeNo) (v : Version) (initial old new : Run) → IsNow initial old initial.log → CommitSteps at n v old new (Work tt) → IsNow initial new initial.log
-commit_goes_on at n v initial old new was steps = record {
-  running = steps.0.running;
-  nodes = steps.0.nodes ∙ was.nodes;
-  log = steps.0.log ∙ was.log;
+-- its six disk calls are still to be made
+pub commit_calls : (at : At) (n : NodeNo) (old new : Run) (task : CommitTask) → CommitStarts at n old new (Work task) → calls_at task.node.0 new ≡ 6
+commit_calls at n old new task starts = ap (λ (m : NodeNo). calls_at m.0 new) starts.0.node ∙ starts.0.calls
+
+-- so many disk calls of six were made, and nothing is seen of them
+pub record HasCalled (n count : ℕ) (initial r : Run) : Type 0 where
+  pub now : IsNow initial r initial.log
+  pub left : calls_at n r + count ≡ 6
+  pub more : calls_at n r ≢ 0
+
+pub none_called : (n : ℕ) (r : Run) → r.ended ≡ false → calls_at n r ≡ 6 → HasCalled n 0 r r
+none_called n r running six = record {
+  now = record { running = running; nodes = refl; log = refl };
+  left = omega (arith, six);
+  more = λ none. absurd (omega (arith, six, none));
 }
+
+pub commit_goes_on : (at : At) (n : NodeNo) (v : Version) (count : ℕ) (initial old new : Run) → HasCalled n.0 count initial old → CommitSteps at n v old new (Work tt) → HasCalled n.0 (count + 1) initial new
+commit_goes_on at n v count initial old new was steps =
+    let one = steps.2.one in
+    let left = was.left in
+    record {
+      now = record { running = steps.0.running; nodes = steps.0.nodes ∙ was.now.nodes; log = steps.0.log ∙ was.now.log };
+      left = omega (arith, one, left);
+      more = steps.2.more;
+    }
+
+-- the sixth is the last
+pub all_called : (n count : ℕ) (initial r : Run) → 6 ≤ count → HasCalled n count initial r → ⊥
+all_called n count initial r all called = let left = called.left in called.more (omega (arith, all, left))
 
 -- the line has its reply
 pub commit_ends : (at : At) (n : NodeNo) (v : Version) (initial old new : Run) → IsNow initial old initial.log → HaveJobsEnded initial.log → CommitSteps at n v old new Done
@@ -61,7 +84,7 @@ pub commit_ends : (at : At) (n : NodeNo) (v : Version) (initial old new : Run) �
 commit_ends at n v initial old new was jobs steps does replied = record {
   does = does_then (Commit n) at initial old new (none_does (Commit n) at initial old was) does;
   replied = replied;
-  jobs = jobs_now old new at (commit_end_event at n v (printed old.log)) steps (subst HaveJobsEnded (sym was.log) jobs);
+  jobs = jobs_now old new at (commit_end_event at n v (printed old.log)) steps.0 (subst HaveJobsEnded (sym was.log) jobs);
 }
 
 -- a reopening answers its line with one entry

@@ -31,10 +31,10 @@ use Rattle.cluster_state.specs.Run.{Run, IsNow}
 use Rattle.cluster_state.specs.FilesOut.{is_by, is_job, file_out}
 use Rattle.cluster_state.specs.Copies.{newest_of, IsCopying, JobRuns, BeginsJob, HandsFile, ended_log, GoesOn}
 use Rattle.cluster_state.specs.Settles.{IsSettling}
-use Rattle.cluster_core.specs.declared.turn.Turn.{Turn}
-use Rattle.cluster_core.specs.declared.turn.Turn.TheVariants.{Work, Done, Busy}
+use Rattle.line_turns.specs.declared.turn.Turn.{Turn}
+use Rattle.line_turns.specs.declared.turn.Turn.TheVariants.{Work, Done, Busy}
 use Rattle.cluster_core.specs.Doing.{Does, IsReplied}
-use Rattle.cluster_core.specs.CopyCalls.{CopiesFor, CopyAnswered, IsUpToDate, CopyStarts, JobGoesOn, AreFrom, SettleStarts, SettleGoesOn, SettlesOn}
+use Rattle.line_turns.specs.CopyCalls.{CopiesFor, CopyAnswered, IsUpToDate, CopyStarts, JobGoesOn, AreFrom, SettleStarts, SettleGoesOn, SettlesOn}
 use Rattle.cluster_core.proofs.Does.{none_does}
 use Rattle.cluster_run.specs.Going.{HasEnded, HaveJobsEnded}
 use Rattle.cluster_run.specs.Copies.{HasEndedOrIs, HaveOthersEnded, Copies, IsCopyStart, EndsCopy}

@@ -21,9 +21,9 @@ use Rattle.history_book.specs.Log.{Log, printed, shown, kept}
 use Rattle.history_book.specs.Jobs.{last_job}
 use Rattle.script_serving.specs.Refusals.{without_node}
 use Rattle.cluster_state.specs.Run.{Run, IsNow}
-use Rattle.cluster_core.specs.declared.turn.Turn.{Turn}
-use Rattle.cluster_core.specs.declared.turn.Turn.TheVariants.{Work, Done, Busy}
-use Rattle.cluster_core.specs.Calls.{IsRefusedFor, PublishRefused, publish_refusal, PublishStarts, SearchStarts, AsksTicket, AskStarts, AnswerEnds}
+use Rattle.line_turns.specs.declared.turn.Turn.{Turn}
+use Rattle.line_turns.specs.declared.turn.Turn.TheVariants.{Work, Done, Busy}
+use Rattle.line_turns.specs.Calls.{IsRefusedFor, PublishRefused, publish_refusal, PublishStarts, SearchStarts, AsksTicket, AskStarts, AnswerEnds}
 use Rattle.cluster_run.specs.Going.{HasEnded, HaveJobsEnded}
 
 -- an inner entry of no job

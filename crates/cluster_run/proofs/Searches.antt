@@ -22,9 +22,9 @@ use Rattle.history_book.specs.Log.{Log, printed}
 use Rattle.script_serving.specs.declared.script.LineCommand.TheVariants.{Search, Ask}
 use Rattle.cluster_state.specs.Run.{Run}
 use Rattle.cluster_state.specs.State.{ReadsAt}
-use Rattle.cluster_core.specs.declared.turn.Turn.TheVariants.{Work}
+use Rattle.line_turns.specs.declared.turn.Turn.TheVariants.{Work}
 use Rattle.cluster_core.specs.Doing.{IsBegunBy, AsksFor}
-use Rattle.cluster_core.specs.Calls.{SearchStarts, AsksTicket, AskStarts, asked_event, ScansAt}
+use Rattle.line_turns.specs.Calls.{SearchStarts, AsksTicket, AskStarts, asked_event, ScansAt}
 
 -- the answer is the scan of whatever documents the live rows are
 abbrev pub AnswersOver : Lease Segment → Query → Answer → Type 0

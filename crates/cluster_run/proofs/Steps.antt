@@ -25,7 +25,7 @@ use Rattle.lane_walks.proofs.WalkLemmas.{log_then, call_goes, adds_faults, fault
 use Rattle.cluster_state.specs.Run.{Run, IsNow}
 use Rattle.cluster_core.specs.Doing.{Does, IsReplied}
 use Rattle.script_serving.specs.Refusals.{without_node}
-use Rattle.cluster_core.specs.Calls.{by_refusal, ListsFiles, AnswerEnds}
+use Rattle.line_turns.specs.Calls.{by_refusal, ListsFiles, AnswerEnds}
 use Rattle.cluster_run.specs.Going.{AreOfLane, GoesByLane, HaveJobsEnded, IsQuiet}
 use Rattle.cluster_run.specs.Running.{EndsLine, IsAtRest, RunsLine}
 use Rattle.cluster_run.proofs.Jobs.{jobs_now, answer_jobs}

@@ -13,7 +13,7 @@ use Rattle.cluster_places.specs.declared.tasks.SettleTask.{SettleTask}
 use Rattle.cluster_state.specs.Run.{Run}
 use Rattle.cluster_state.specs.Copies.{IsCopying, JobRuns}
 use Rattle.cluster_state.specs.Settles.{IsSettling}
-use Rattle.cluster_core.specs.CopyCalls.{CopiesFor, AreFrom}
+use Rattle.line_turns.specs.CopyCalls.{CopiesFor, AreFrom}
 use Rattle.cluster_core.specs.Doing.{Does, IsReplied}
 use Rattle.cluster_run.specs.Going.{HaveJobsEnded}
 

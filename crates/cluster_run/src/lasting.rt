@@ -4,6 +4,7 @@ ghost use Rattle.std.specs.Prelude.{◌≡◌, [], false, Some, OnOk};
 ghost use Rattle.history_entries.specs.Nodes.{IsNode};
 ghost use Rattle.history_entries.specs.Lines.{entries_of_line, last_of_line};
 ghost use Rattle.history_book.specs.Log.{printed};
+ghost use Rattle.cluster_state.specs.Run.{calls_at};
 ghost use Rattle.script_serving.specs.declared.script.LineCommand.TheVariants.{Commit, Crash, Reopen};
 ghost use Rattle.cluster_run.specs.Going.{HaveJobsEnded, IsQuiet};
 ghost use Rattle.cluster_run.specs.Running.{EndsLine};
@@ -13,9 +14,9 @@ use cluster_places::CommitTask;
 use disk_model::FaultDir;
 use history_entries::Event;
 use nrt_base::{At, NoMemory, NodeNo};
-use std::alloc::{AllocError, Global};
+use std::alloc::Global;
 
-// Makes the disk calls of a commit, until the line has its reply.
+// Makes the six disk calls of a commit, until the line has its reply.
 fn finish<D: FaultDir + Drop>(
     cluster: &mut Cluster<D>,
     alloc: Global,
@@ -26,16 +27,17 @@ fn finish<D: FaultDir + Drop>(
     requires jobs { HaveJobsEnded cluster.old.log }
     requires started { last_of_line at (printed cluster.old.log)
         ≡ Some (Event.Committing task.now.node task.now.version) }
+    requires calls { calls_at task.now.node.0 cluster.old ≡ 6 }
     ensures { OnOk result (EndsLine (Commit task.now.node) at cluster.old cluster.new) }
 {
-    for _ in 0..usize::MAX {
+    for _ in 0..6 {
         match cluster.commit_step(alloc, at, task)? {
             Turn::Busy => unreachable!(),
             Turn::Done => return Ok(()),
             Turn::Work(()) => {}
         }
     }
-    Err(AllocError)
+    unreachable!()
 }
 
 /// Commits what a node searches.

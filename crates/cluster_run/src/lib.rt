@@ -7,6 +7,7 @@ mod lasting;
 mod line;
 mod part;
 mod phase;
+mod promoting;
 mod publishing;
 mod script;
 mod searching;

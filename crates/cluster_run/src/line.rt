@@ -11,6 +11,7 @@ ghost use Rattle.cluster_run.specs.Running.{EndsLine, IsAtRest, RunsLine};
 
 use crate::copying::{copy, settle};
 use crate::lasting::{commit, crash, reopen};
+use crate::promoting::promote;
 use crate::publishing::{accept, publish};
 use crate::searching::{ask, close, list_files, open, search};
 use cluster_core::Cluster;
@@ -49,7 +50,7 @@ fn do_line<D: FaultDir + Drop>(
         LineCommand::Commit(n) => commit(cluster, alloc, at, *n),
         LineCommand::Crash(n, pick) => crash(cluster, alloc, at, *n, *pick),
         LineCommand::Reopen(n) => reopen(cluster, alloc, at, *n),
-        LineCommand::Promote(..) => unreachable!(),
+        LineCommand::Promote(n, force) => promote(cluster, alloc, at, *n, *force),
         LineCommand::Merge(_) => unreachable!(),
         LineCommand::Drain(_) => unreachable!(),
         LineCommand::Fault(..) => unreachable!(),

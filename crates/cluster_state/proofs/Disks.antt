@@ -1,26 +1,21 @@
 -- What entries, calls and a wider source leave of the nodes' commits, and of what crashes left.
-use Rattle.std.proofs.Common.{◌≡◌, ◌≢◌, ◌≤◌, ◌==◌, ℕ, Bool, true, false, true≢false, List, [], ◌∷◌, Some, None, Option, refl, ap, ◌∙◌, sym, subst, arith, if◌then◌else◌, max}
-use Rattle.std.specs.Prelude.{IsSomeAnd, IfSome, not, is_some, nat_lt, ◌||◌, ◌&&◌}
+use Rattle.std.proofs.Common.{◌≡◌, ◌≢◌, ◌==◌, ℕ, Bool, true, false, true≢false, List, [], ◌∷◌, Some, None, Option, refl, ap, ◌∙◌, sym, subst, if◌then◌else◌}
+use Rattle.std.specs.Prelude.{IsSomeAnd, IfSome, is_some, nat_lt, ◌||◌, ◌&&◌}
 use Rattle.std.specs.List.{list_any}
-use Rattle.std.proofs.lemmas.Bool.{eqb-true, eq-eqb, or_right}
-use Rattle.nrt_base.specs.declared.doc.Doc.{Doc}
+use Rattle.std.proofs.lemmas.Bool.{eqb-true, or_right}
 use Rattle.nrt_base.specs.declared.numbers.At.{At}
-use Rattle.nrt_base.specs.declared.numbers.NodeNo.{NodeNo}
 use Rattle.disk_model.specs.Disk.{Name, Content, Cells}
 use Rattle.segment_infos.specs.declared.infos.Infos.{Infos}
-use Rattle.seg_reader.specs.Stands.{StandsFor}
 use Rattle.commit_steps.specs.Book.{commit_of}
 use Rattle.commit_steps.specs.declared.states.Commit.{Commit}
 use Rattle.commit_steps.specs.declared.stage.Stage.{Stage}
 use Rattle.commit_steps.specs.declared.stage.CommitBook.{CommitBook}
 use Rattle.history_entries.specs.declared.entry.Event.{Event}
 use Rattle.history_entries.specs.declared.entry.Event.TheVariants.{Published, Switched, Committing, Committed, Crashed, Reopened, Promoted}
-use Rattle.history_entries.specs.Nodes.{Past, IsNode, is_at, primary_of, newest_version, generation_of}
+use Rattle.history_entries.specs.Nodes.{Past, is_at, primary_of}
 use Rattle.history_entries.specs.Lines.{same_at, is_start, is_reply, start_entry, without_at, commit_in_flight}
 use Rattle.history_entries.specs.Commits.{has_committed, late_commit, more_by, reopenable_versions}
-use Rattle.history_entries.specs.Points.{documents_at}
 use Rattle.history_entries.specs.Legal.{KeepsRule, IsLegalPast}
-use Rattle.history_laws.proofs.PointLemmas.{documents_stay_lem}
 use Rattle.history_tables.proofs.RowLemmas.{by_test, same_at_is}
 use Rattle.history_book.specs.Laws.{may_find}
 use Rattle.history_book.specs.Log.{Log, Pages, printed}
@@ -33,12 +28,12 @@ use Rattle.cluster_places.specs.Places.{Disk, place_of, disk_of, disk_at}
 use Rattle.cluster_places.specs.KeptFiles.{KeepsNodeFiles}
 use Rattle.cluster_places.specs.JobPlaces.{MovesOne, MovesBoth}
 use Rattle.cluster_state.specs.Run.{Run}
-use Rattle.cluster_state.specs.Disks.{IsPastPoint, MayFindPoint, LastShows, CommitsPoint, StageShows, BookShows, DirShows, DiskShows, DisksShow, CommitsStay}
+use Rattle.cluster_state.specs.Disks.{MayFindPoint, LastShows, StageShows, BookShows, DirShows, DiskShows, DisksShow, CommitsStay}
 use Rattle.cluster_state.specs.FileChanges.{is_commit_line, keeps_commits}
-use Rattle.cluster_state.proofs.Growing.{lasts}
+use Rattle.cluster_state.proofs.Points.{points_alone, points_then, points_shown, point_stays}
 use Rattle.cluster_state.proofs.Frames.{some_then}
 use Rattle.cluster_state.proofs.JobFrames.{not_false}
-use Rattle.cluster_state.proofs.Wider.{Extends, some_wider, stands_wider}
+use Rattle.cluster_state.proofs.Wider.{Extends, some_wider, point_wider}
 
 -- ---- one entry more
 
@@ -90,11 +85,6 @@ module _ (past : Past) (at : At) (n : ℕ) where
       reply true = without_other at (commit_in_flight n past) other
       reply false = refl
 
-  newest_more : (e : Event) → newest_version past ≤ newest_version (after e)
-  newest_more (Published g w) = omega arith
-  newest_more (Promoted m g f w) = omega arith
-  newest_more e = omega arith
-
   start_kept : (e : Event) (a : At) (s : Event) → InTurn past at e → start_entry a past ≡ Some s → start_entry a (after e) ≡ start_entry a past
   start_kept e a s turn begun = tests (is_start e) (same_at at a) refl turn.once
     where
@@ -106,9 +96,7 @@ module _ (past : Past) (at : At) (n : ℕ) where
   -- an entry that is about no commit of the node, of a line whose commit is not in flight there
   pub commits_shown : (size : ℕ) (e : Event) → IsLegalPast size past → AreInTurn past → KeepsRule size past at e → InTurn past at e → keeps_commits e n ≡ true → commit_in_flight n past ≢ Some at → CommitsStay past (after e) n
   commits_shown size e legal turns rule turn keeps other = record {
-    newest = newest_more e;
-    generation = (lasts size past at e legal rule).generation;
-    documents = λ v low. documents_stay_lem size (record { at = at; event = e } ∷ []) past v (rule, legal) low;
+    points = points_shown size past at e legal rule;
     found = λ v found. found_more e v keeps found;
     committed = committed_same e keeps;
     flight = flight_kept e keeps other;
@@ -116,16 +104,14 @@ module _ (past : Past) (at : At) (n : ℕ) where
   }
 
 -- in the terms of a call
-pub none_flying : (r : Run) (ended : Bool) (b : Pages) (at : At) → record { ended = ended; nodes = b.nodes; log = b.log } ≡ r → IsLegalPast b.nodes (printed b.log) → AreInTurn (printed b.log) → is_commit_line (start_entry at (printed r.log)) ≡ false
+pub none_flying : (r : Run) (ended : Bool) (b : Pages) (at : At) → {left : List ℕ} → record { ended = ended; nodes = b.nodes; log = b.log; calls_left = left } ≡ r → IsLegalPast b.nodes (printed b.log) → AreInTurn (printed b.log) → is_commit_line (start_entry at (printed r.log)) ≡ false
     → (m : ℕ) → commit_in_flight m (printed r.log) ≢ Some at
 none_flying r ended b at view legal turns line = no_commit r.nodes (printed r.log) at (subst (λ (x : Run). IsLegalPast x.nodes (printed x.log)) view legal) (subst (λ (x : Run). AreInTurn (printed x.log)) view turns) line
 
 -- nothing happened
 pub commits_alone : (past : Past) (n : ℕ) → CommitsStay past past n
 commits_alone past n = record {
-  newest = omega arith;
-  generation = omega arith;
-  documents = λ v low. refl;
+  points = points_alone past;
   found = λ v found. found;
   committed = refl;
   flight = refl;
@@ -135,9 +121,7 @@ commits_alone past n = record {
 -- two steps in a row
 pub commits_then : (past mid now : Past) (n : ℕ) → CommitsStay past mid n → CommitsStay mid now n → CommitsStay past now n
 commits_then past mid now n a b = record {
-  newest = omega (arith, a.newest, b.newest);
-  generation = omega (arith, a.generation, b.generation);
-  documents = λ v low. b.documents v (omega (arith, low, a.newest)) ∙ a.documents v low;
+  points = points_then past mid now a.points b.points;
   found = λ v found. b.found v (a.found v found);
   committed = b.committed ∙ a.committed;
   flight = b.flight ∙ a.flight;
@@ -147,17 +131,9 @@ commits_then past mid now n a b = record {
 -- ---- a node
 
 module _ (source wider : Name → Content) (more : Extends source wider) (past now : Past) where
-  pub point_stays : (infos : Infos) → newest_version past ≤ newest_version now → generation_of past ≤ generation_of now
-      → ((v : ℕ) → v ≤ newest_version past → documents_at now v ≡ documents_at past v) → IsPastPoint source past infos → IsPastPoint wider now infos
-  point_stays infos newest generation documents was = record {
-    known = omega (arith, was.known, newest);
-    generation = omega (arith, was.generation, generation);
-    stands = subst (λ (docs : List Doc). StandsFor wider infos docs) (sym (documents infos.version.0 was.known)) (stands_wider source wider infos (documents_at past infos.version.0) more was.stands);
-  }
-
   module _ (n : ℕ) (stay : CommitsStay past now n) where
     found_stays : (infos : Infos) → MayFindPoint source past n infos → MayFindPoint wider now n infos
-    found_stays infos was = record { point = point_stays infos stay.newest stay.generation stay.documents was.point; found = stay.found infos.version.0 was.found }
+    found_stays infos was = record { point = point_wider source wider now infos more (point_stays source past now infos stay.points was.point); found = stay.found infos.version.0 was.found }
 
     last_stays : (o : Option Commit) → LastShows source past n o → LastShows wider now n o
     last_stays None was = stay.found 1 was

@@ -1,5 +1,5 @@
 -- Names that files may have stay such: what a generation has drawn becomes no less.
-use Rattle.std.proofs.Common.{◌≡◌, ◌≤◌, ◌<◌, ◌+◌, ◌^◌, ◌==◌, inl, inr, nat_lt, ℕ, Bool, true, false, true≢false, List, [], ◌∷◌, refl, ap, ◌∙◌, sym, subst, arith, if◌then◌else◌}
+use Rattle.std.proofs.Common.{◌≡◌, ◌≤◌, ◌<◌, ◌+◌, ◌^◌, ◌==◌, inl, inr, nat_lt, ℕ, Bool, true, false, true≢false, [], ◌∷◌, refl, ap, ◌∙◌, sym, arith, if◌then◌else◌}
 use Rattle.std.proofs.lemmas.Bool.{eqb-true, eq-eqb}
 use Rattle.std.proofs.lemmas.Bool.Decides.{nat_tests}
 use Rattle.nrt_base.specs.SegNumbers.{segment_number, segment_place, segment_generation, segments_of_generation}
@@ -17,7 +17,7 @@ use Rattle.history_tables.proofs.RowLemmas.{by_test}
 use Rattle.cluster_state.proofs.Growing.{generation_more}
 
 -- a generation that is not there yet has drawn nothing
-none_drawn : (size : ℕ) (g : ℕ) (past : Past) → IsLegalPast size past → generation_of past < g → names_drawn_in g past ≡ 0
+pub none_drawn : (size : ℕ) (g : ℕ) (past : Past) → IsLegalPast size past → generation_of past < g → names_drawn_in g past ≡ 0
 none_drawn size g [] legal above = refl
 none_drawn size g (e ∷ past) legal above =
     let low = generation_more size past e.at e.event legal.0 in
@@ -38,7 +38,7 @@ same_generation g past more low =
     by_test (generation_of past == g) (λ b. names_drawn_in g past ≤ (if b then more else names_drawn_in g past))
     (λ here. let is : generation_of past ≡ g = eqb-true (generation_of past) g here in let present = present_drawn g past is in omega arith) (λ apart. omega arith)
 
-put_more : (b : Bool) (k : ℕ) → k ≤ (if b then k + 1 else k)
+pub put_more : (b : Bool) (k : ℕ) → k ≤ (if b then k + 1 else k)
 put_more true k = omega arith
 put_more false k = omega arith
 
@@ -75,18 +75,19 @@ just_drawn past at put low =
 
 -- ---- what grows
 
--- from one past to a later one numbers that were drawn stay so
+-- from one past to a later one numbers that were drawn stay so, and the generation becomes no less
 pub record Grows (past now : Past) : Type 0 where
   pub drawn : (seg : ℕ) → is_drawn seg past ≡ true → is_drawn seg now ≡ true
+  pub generation : generation_of past ≤ generation_of now
 
 pub grows_none : (past : Past) → Grows past past
-grows_none past = record { drawn = λ seg is. is }
+grows_none past = record { drawn = λ seg is. is; generation = omega arith }
 
 pub grows_then : (past mid now : Past) → Grows past mid → Grows mid now → Grows past now
-grows_then past mid now a b = record { drawn = λ seg is. b.drawn seg (a.drawn seg is) }
+grows_then past mid now a b = record { drawn = λ seg is. b.drawn seg (a.drawn seg is); generation = omega (arith, a.generation, b.generation) }
 
 pub grows_shown : (size : ℕ) (past : Past) (at : At) (e : Event) → IsLegalPast size past → KeepsRule size past at e → Grows past (record { at = at; event = e } ∷ past)
-grows_shown size past at e legal rule = record { drawn = λ seg is. is_drawn_more size seg past at e legal rule is }
+grows_shown size past at e legal rule = record { drawn = λ seg is. is_drawn_more size seg past at e legal rule is; generation = generation_more size past at e rule }
 
 -- a name of a drawn file stays one
 pub file_more : (past now : Past) (q : Name) → Grows past now → IsDrawnFile past q → IsDrawnFile now q

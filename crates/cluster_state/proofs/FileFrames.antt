@@ -1,5 +1,5 @@
 -- What calls and entries leave of the files of all nodes: what moves no file and no job, and publishes.
-use Rattle.std.proofs.Common.{inl, inr, ◌≡◌, ◌≢◌, ◌≤◌, ◌<◌, ◌==◌, ℕ, Bool, true, false, true≢false, List, ◌∷◌, Some, None, Option, Vec, Global, refl, ap, ◌∙◌, sym, subst, arith, if◌then◌else◌}
+use Rattle.std.proofs.Common.{inl, inr, ◌≡◌, ◌≢◌, ◌≤◌, ◌<◌, ◌+◌, ◌==◌, ℕ, Bool, true, false, true≢false, List, ◌∷◌, Some, None, Option, Vec, Global, refl, ap, ◌∙◌, sym, subst, arith, if◌then◌else◌}
 use Rattle.std.specs.Prelude.{IsSomeAnd}
 use Rattle.std.proofs.lemmas.Bool.{eqb-true, eq-eqb}
 use Rattle.nrt_base.specs.declared.numbers.At.{At}
@@ -7,20 +7,20 @@ use Rattle.nrt_base.specs.declared.numbers.NodeNo.{NodeNo}
 use Rattle.nrt_base.specs.declared.numbers.SegNo.{SegNo}
 use Rattle.nrt_base.specs.declared.numbers.Gen.{Gen}
 use Rattle.nrt_base.specs.declared.numbers.Version.{Version}
-use Rattle.nrt_base.specs.declared.doc.Doc.{Doc}
-use Rattle.disk_model.specs.Disk.{Name, Content, Cells}
+use Rattle.disk_model.specs.Disk.{Name, Content, Cells, reads_of}
 use Rattle.seg_reader.specs.Shown.{Shown}
-use Rattle.seg_reader.specs.Stands.{StandsFor}
 use Rattle.segment_infos.specs.declared.infos.Infos.{Infos}
 use Rattle.primary_parts.specs.declared.parts.Parts.{Parts as PrimaryParts}
 use Rattle.primary_parts.specs.declared.states.Out.{Out}
-use Rattle.commit_steps.specs.declared.stage.CommitBook.{CommitBook}
-use Rattle.primary_parts.specs.Primary.{IsPrimary}
+use Rattle.primary_parts.specs.Primary.{IsPrimary, primary_names}
+use Rattle.file_names.specs.Names.{live_name_of}
+use Rattle.segment_steps.specs.Next.{live_base}
+use Rattle.replica_node.specs.Sources.{HeldReadAs}
 use Rattle.replica_node.specs.declared.job.PointJob.{PointJob}
 use Rattle.replica_node.specs.declared.parts.Parts.{Parts as ReplicaParts}
 use Rattle.history_entries.specs.declared.entry.Event.{Event}
 use Rattle.history_entries.specs.declared.entry.Event.TheVariants.{Publishing, Published}
-use Rattle.history_entries.specs.Nodes.{Past, IsNode, is_at, primary_of, newest_version}
+use Rattle.history_entries.specs.Nodes.{Past, IsNode, is_at, primary_of, newest_version, generation_of}
 use Rattle.history_entries.specs.Lines.{start_entry, before_start, commit_in_flight}
 use Rattle.history_entries.specs.Legal.{KeepsRule, IsLegalPast}
 use Rattle.history_tables.proofs.RowLemmas.{by_test}
@@ -36,7 +36,7 @@ use Rattle.cluster_places.specs.declared.nodes.Node.TheVariants.{Primary, Replic
 use Rattle.cluster_places.specs.declared.nodes.Place.{Place}
 use Rattle.cluster_places.specs.Places.{place_of}
 use Rattle.cluster_state.specs.Run.{Run}
-use Rattle.cluster_state.specs.State.{NodeShows, PlaceShows, Shows}
+use Rattle.cluster_state.specs.State.{PrimaryShows, NodeShows, PlaceShows, Shows}
 use Rattle.cluster_places.specs.Outs.{want_of, want_at, jobs_like, states_like}
 use Rattle.cluster_state.specs.Files.{CopyShows, JobShows, IsJobFor, ReplicaFiles, NodeFiles, FilesShow}
 use Rattle.cluster_places.specs.KeptFiles.{FillsPrimaryFiles, KeepsReplicaFiles, KeepsNodeFiles}
@@ -45,13 +45,17 @@ use Rattle.cluster_places.specs.JobPlaces.{MovesOne, MovesBoth}
 use Rattle.cluster_state.proofs.Frames.{some_then, some_at, was, PutsBack}
 use Rattle.cluster_state.specs.Names.{NamesShow}
 use Rattle.cluster_state.proofs.Drawn.{Grows, grows_shown, file_more}
-use Rattle.cluster_state.proofs.Naming.{FilesLast, NodeSteps, node_steps, node_grows, HoldsFrom, kept_steps, means_more, means_wider, own_drawn}
+use Rattle.cluster_state.proofs.Naming.{FilesLast, NodeSteps, node_steps, node_grows, HoldsFrom, kept_steps, means_more, HoldsLow, means_wider, own_drawn}
 use Rattle.cluster_state.proofs.JobFrames.{same_shown, same_inner, same_then, job_stays}
 use Rattle.cluster_places.proofs.OutCounts.{jobs_same}
-use Rattle.cluster_state.specs.Disks.{IsPastPoint, CommitsStay}
-use Rattle.cluster_state.proofs.Disks.{no_commit, fresh_flights, point_stays, commits_shown, disk_moved, disk_same, disk_kept, disks_kept, disks_still}
+use Rattle.cluster_state.specs.Disks.{IsPastPoint, PointsStay, CommitsStay}
+use Rattle.cluster_state.proofs.Points.{points_alone, point_stays}
+use Rattle.cluster_state.proofs.Lasting.{live_lasts, unheld}
+use Rattle.cluster_state.proofs.Living.{live_low}
+use Rattle.cluster_state.proofs.PointStands.{primary_point}
+use Rattle.cluster_state.proofs.Disks.{no_commit, fresh_flights, commits_shown, disk_moved, disk_same, disk_kept, disks_kept, disks_still}
 use Rattle.cluster_places.proofs.Taking.{moved_one}
-use Rattle.cluster_state.proofs.Wider.{widened, widened_more, shows_wider, sourced_wider, primary_kept, primary_filled}
+use Rattle.cluster_state.proofs.Wider.{widened, widened_more, shows_wider, point_wider, sourced_wider, primary_stays, primary_kept, primary_filled}
 
 -- ---- places
 
@@ -141,13 +145,11 @@ module _ {D : Type 0} (cells : D → Cells) where
       record {
         number = was.number;
         version = was.version;
-        known = omega (arith, was.known, s.newest);
+        point = point_stays source (printed log) (printed now) j.infos s.points was.point;
         latest = omega (arith, was.latest, s.latest);
         begun = start.0;
         behind = omega (arith, was.behind, newest, s.version);
-        generation = omega (arith, was.generation, s.generation);
         metas = was.metas;
-        stands = subst (λ (docs : List Doc). StandsFor source j.infos docs) (sym (s.documents job.version.0 was.known)) was.stands;
         handed = λ q bytes out. was.handed q bytes (sym (s.handed job q is) ∙ out);
       }
 
@@ -161,7 +163,7 @@ module _ {D : Type 0} (cells : D → Cells) where
   replica_same source log now n r s was = record {
     sourced = was.sourced;
     job = subst (λ (o : Option Job). JobShows source now n o r.job) (sym s.job) (job_shows_same source log now n (job_at n log) r.job refl s was.job);
-    point = point_stays source source (λ q bytes is. is) (printed log) (printed now) r.infos s.newest s.generation s.documents was.point;
+    point = point_stays source (printed log) (printed now) r.infos s.points was.point;
     flight = λ at is.
         let f = s.flight at is in
         subst (λ (o : Option Job). IsSomeAnd o (IsJobFor at (newest_version (printed now)))) (sym s.job)
@@ -177,30 +179,25 @@ module _ {D : Type 0} (cells : D → Cells) where
   }
 
   -- a node that the entry does not touch, while jobs are counted anew
-  pub node_files : (source : Name → Content) (log now : Log) (jobs count : Out → ℕ) (n : ℕ) (x : Node D) → ((r : ReplicaParts D) → x ≡ Replica r → SameJob log now n) → ((s : Out) → count s ≤ jobs s)
+  pub node_files : (source : Name → Content) (log now : Log) (jobs count : Out → ℕ) (n : ℕ) (x : Node D) → PointsStay (printed log) (printed now) → ((r : ReplicaParts D) → x ≡ Replica r → SameJob log now n) → ((s : Out) → count s ≤ jobs s)
       → NodeFiles source cells log jobs n x → NodeFiles source cells now count n x
-  node_files source log now jobs count n (Primary p) same fewer was = record {
-    held = was.held;
-    unwritten = was.unwritten;
-    generation = was.generation;
-    outs = λ s. omega (arith, fewer s, was.outs s);
-  }
-  node_files source log now jobs count n (Replica r) same fewer was = replica_same source log now n r (same r refl) was
-  node_files source log now jobs count n (Down d) same fewer was = was
+  node_files source log now jobs count n (Primary p) points same fewer was = primary_stays cells source (printed log) (printed now) jobs count p points fewer was
+  node_files source log now jobs count n (Replica r) points same fewer was = replica_same source log now n r (same r refl) was
+  node_files source log now jobs count n (Down d) points same fewer was = was
 
   -- a node whose files and job a call left as they were
-  pub node_kept : (source : Name → Content) (log now : Log) (jobs count : Out → ℕ) (n : ℕ) (x y : Node D) → KeepsNodeFiles cells x y → ((r : ReplicaParts D) → x ≡ Replica r → SameJob log now n) → ((s : Out) → count s ≤ jobs s)
+  pub node_kept : (source : Name → Content) (log now : Log) (jobs count : Out → ℕ) (n : ℕ) (x y : Node D) → KeepsNodeFiles cells x y → PointsStay (printed log) (printed now) → ((r : ReplicaParts D) → x ≡ Replica r → SameJob log now n) → ((s : Out) → count s ≤ jobs s)
       → NodeFiles source cells log jobs n x → NodeFiles source cells now count n y
-  node_kept source log now jobs count n (Primary p) (Primary q) keeps same fewer was =
-      primary_kept cells source jobs count p q keeps.0 (λ s. let low : jobs s ≤ states_like s q.states = subst (λ (ts : List Out). jobs s ≤ states_like s ts) (sym keeps.1) (was.outs s) in omega (arith, fewer s, low)) was
-  node_kept source log now jobs count n (Replica r) (Replica t) keeps same fewer was = replica_same source log now n t (same r refl) (replica_kept source log n r t keeps was)
-  node_kept source log now jobs count n (Down d) (Down e) keeps same fewer was = tt
-  node_kept source log now jobs count n (Primary p) (Replica t) keeps same fewer was = absurd keeps
-  node_kept source log now jobs count n (Primary p) (Down e) keeps same fewer was = absurd keeps
-  node_kept source log now jobs count n (Replica r) (Primary q) keeps same fewer was = absurd keeps
-  node_kept source log now jobs count n (Replica r) (Down e) keeps same fewer was = absurd keeps
-  node_kept source log now jobs count n (Down d) (Primary q) keeps same fewer was = absurd keeps
-  node_kept source log now jobs count n (Down d) (Replica t) keeps same fewer was = absurd keeps
+  node_kept source log now jobs count n (Primary p) (Primary q) keeps points same fewer was =
+      primary_stays cells source (printed log) (printed now) jobs count q points fewer (primary_kept cells source (printed log) jobs jobs p q keeps.0 (λ s. subst (λ (ts : List Out). jobs s ≤ states_like s ts) (sym keeps.1) (was.outs s)) was)
+  node_kept source log now jobs count n (Replica r) (Replica t) keeps points same fewer was = replica_same source log now n t (same r refl) (replica_kept source log n r t keeps was)
+  node_kept source log now jobs count n (Down d) (Down e) keeps points same fewer was = tt
+  node_kept source log now jobs count n (Primary p) (Replica t) keeps points same fewer was = absurd keeps
+  node_kept source log now jobs count n (Primary p) (Down e) keeps points same fewer was = absurd keeps
+  node_kept source log now jobs count n (Replica r) (Primary q) keeps points same fewer was = absurd keeps
+  node_kept source log now jobs count n (Replica r) (Down e) keeps points same fewer was = absurd keeps
+  node_kept source log now jobs count n (Down d) (Primary q) keeps points same fewer was = absurd keeps
+  node_kept source log now jobs count n (Down d) (Replica t) keeps points same fewer was = absurd keeps
 
   want_kept : (x y : Place D) → KeepsNodeFiles cells x.node y.node → want_at (Some y) ≡ want_at (Some x)
   want_kept x y keeps = wants x.node y.node keeps
@@ -241,7 +238,7 @@ module _ {D : Type 0} (cells : D → Cells) where
     drawn = means_more files.source (printed log) (printed now) grows files.drawn;
     names = names_still cells size (printed log) (printed now) places grows files.names;
     each = λ m node. some_then (place_of places m) (both_of log size places shows files m node)
-        (λ z both. node_files files.source log now (λ s. jobs_like places s size) (λ s. jobs_like places s size) m z.node (λ r is. same m (replica_apart log m z.node r both.0.node_shows is)) (λ s. omega arith) both.1);
+        (λ z both. node_files files.source log now (λ s. jobs_like places s size) (λ s. jobs_like places s size) m z.node (stay m).points (λ r is. same m (replica_apart log m z.node r both.0.node_shows is)) (λ s. omega arith) both.1);
     disks = disks_still cells files.source log now size places stay files.disks;
   }
 
@@ -258,8 +255,8 @@ module _ {D : Type 0} (cells : D → Cells) where
         drawn = means_more files.source (printed log) (printed now) grows files.drawn;
         names = names_one cells size (printed log) (printed now) old new n x y grows moves node there (kept_steps cells (printed now) y.node x.node keeps holds) files.names;
         each = one_each {P = Both files.source log (λ s. jobs_like old s size)} {Q = λ m z. NodeFiles files.source cells now (λ s. jobs_like new s size) m z.node} size n x old new moves (both_of log size old shows files)
-            (λ m z node apart both. node_files files.source log now (λ s. jobs_like old s size) (λ s. jobs_like new s size) m z.node (λ r is. same m (replica_apart log m z.node r both.0.node_shows is)) fewer both.1)
-            (node_kept files.source log now (λ s. jobs_like old s size) (λ s. jobs_like new s size) n y.node x.node keeps (λ r is. same n (replica_apart log n y.node r mine.0.node_shows is)) fewer mine.1);
+            (λ m z node apart both. node_files files.source log now (λ s. jobs_like old s size) (λ s. jobs_like new s size) m z.node (stay m).points (λ r is. same m (replica_apart log m z.node r both.0.node_shows is)) fewer both.1)
+            (node_kept files.source log now (λ s. jobs_like old s size) (λ s. jobs_like new s size) n y.node x.node keeps (stay n).points (λ r is. same n (replica_apart log n y.node r mine.0.node_shows is)) fewer mine.1);
         disks = disks_kept cells files.source files.source log now size old new (λ q bytes is. is) (disk_moved n x y old new moves there (disk_kept cells y.node x.node keeps)) stay files.disks;
       }
 
@@ -272,23 +269,31 @@ module _ {D : Type 0} (cells : D → Cells) where
       (record {
         sourced = sourced_wider cells source wider more r shows.whole was.sourced;
         job = shows_wider source wider log n (job_at n log) r.job more was.job;
-        point = point_stays source wider more (printed log) (printed log) r.infos (omega arith) (omega arith) (λ v low. refl) was.point;
+        point = point_wider source wider (printed log) r.infos more was.point;
         flight = was.flight;
       })
   node_wider source wider log now jobs n (Down d) more other same shows was = tt
 
+  -- a live file that the primary filled has a live generation that no later generation gives
+  filled_low : (source : Name → Content) (now : Past) (p q : PrimaryParts D) → IsPrimary cells p → HeldReadAs source (cells p.dir) p.files → FillsPrimaryFiles cells p q → IsPrimary cells q → q.infos.generation.0 ≡ generation_of now → HoldsLow source q.files now
+  filled_low source now p q was held fills whole generation r live_gen small fits none some =
+      let name : Name = live_name_of r.seg.0 live_gen in
+      let uncounted = unheld source (cells p.dir) p.files (primary_names p) p.commits was.node held name (live_lasts r.seg.0 live_gen) none in
+      subst (λ (g : ℕ). live_gen < live_base (g + 1) r) generation
+      (live_low q.infos whole.numbered.generation whole.numbered.counter r live_gen small fits name refl (reads_of (cells q.dir)) q.infos.segs q.segs whole.numbered.segs whole.writer.stands.each (fills.named name uncounted some))
+
   -- the primary filled files which were not written yet
   pub files_filled : (size : ℕ) (log now : Log) (old new : List (Option (Place D))) (n : ℕ) (p q : PrimaryParts D) (held : Vec Held Global) → FilesLast → Grows (printed log) (printed now) → HoldsFrom cells (printed now) (Primary p) (Primary q) → ((m : ℕ) → is_at (primary_of (printed log)) m ≡ false → SameJob log now m)
       → ((m : ℕ) → CommitsStay (printed log) (printed now) m) → ((m : ℕ) → (n == m) ≡ false → is_at (primary_of (printed log)) m ≡ false)
-      → MovesOne n (record { node = Primary q; held = held }) old new → IsNode size n → place_of old n ≡ Some (record { node = Primary p; held = held }) → FillsPrimaryFiles cells p q → IsPrimary cells q
+      → MovesOne n (record { node = Primary q; held = held }) old new → IsNode size n → place_of old n ≡ Some (record { node = Primary p; held = held }) → FillsPrimaryFiles cells p q → PrimaryShows cells now n q
       → Shows cells log size old → FilesShow cells log size old → FilesShow cells now size new
-  files_filled size log now old new n p q held lasting grows holds same stay others moves node there fills whole shows files =
+  files_filled size log now old new n p q held lasting grows holds same stay others moves node there fills next shows files =
       let x : Place D = record { node = Primary q; held = held } in
       let y : Place D = record { node = Primary p; held = held } in
       let jobs : (s : Out) → jobs_like new s size ≡ jobs_like old s size = λ s. jobs_same old new s size (λ m low. wants_same n x y old new moves there refl m) in
       let mine = some_at (Both files.source log (λ s. jobs_like old s size) n) (place_of old n) y there (both_of log size old shows files n node) in
-      let full = primary_filled cells files.source (λ s. jobs_like old s size) p q fills whole mine.1 in
       let wider = widened files.source (cells q.dir) q.files in
+      let full = primary_filled cells files.source (printed log) (printed now) (λ s. jobs_like old s size) p q fills next.whole (λ held. primary_point cells wider now n q lasting next fills.point held) mine.1 in
       let named = some_at (λ z. NamesShow cells (printed log) z.node) (place_of old n) y there (files.names n node) in
       let own = own_drawn cells (printed log) p lasting mine.0.node_shows.whole named in
       let steps : NodeSteps cells (printed now) (Primary p) (Primary q) = record {
@@ -298,19 +303,20 @@ module _ {D : Type 0} (cells : D → Cells) where
       } in
       record {
         source = wider;
-        drawn = means_wider files.source (cells q.dir) q.files (printed now) (means_more files.source (printed log) (printed now) grows files.drawn) (node_steps cells (printed log) (printed now) (Primary p) (Primary q) grows steps named).kinds;
+        drawn = means_wider files.source (cells q.dir) q.files (printed now) (means_more files.source (printed log) (printed now) grows files.drawn) (node_steps cells (printed log) (printed now) (Primary p) (Primary q) grows steps named).kinds
+            (filled_low files.source (printed now) p q mine.0.node_shows.whole mine.1.held fills next.whole next.writer.generation);
         names = names_one cells size (printed log) (printed now) old new n x y grows moves node there steps files.names;
         each = one_each {P = Both files.source log (λ s. jobs_like old s size)} {Q = λ m z. NodeFiles wider cells now (λ s. jobs_like new s size) m z.node} size n x old new moves (both_of log size old shows files)
-            (λ m z node apart both. node_files wider now now (λ s. jobs_like old s size) (λ s. jobs_like new s size) m z.node (λ r is. job_stays now m) (λ s. (let is = jobs s in omega (arith, is)))
+            (λ m z node apart both. node_files wider now now (λ s. jobs_like old s size) (λ s. jobs_like new s size) m z.node (points_alone (printed now)) (λ r is. job_stays now m) (λ s. (let is = jobs s in omega (arith, is)))
             (node_wider files.source wider log now (λ s. jobs_like old s size) m z.node (widened_more files.source (cells q.dir) q.files) (others m apart) same both.0.node_shows both.1))
-            (record { held = full.held; unwritten = full.unwritten; generation = full.generation; outs = λ s. (let is = jobs s in omega (arith, is, full.outs s)) });
+            (record { held = full.held; unwritten = full.unwritten; point = full.point; generation = full.generation; outs = λ s. (let is = jobs s in omega (arith, is, full.outs s)) });
         disks = disks_kept cells files.source wider log now size old new (widened_more files.source (cells q.dir) q.files) (disk_moved n x y old new moves there (disk_same p.commits q.commits fills.commits)) stay files.disks;
       }
 
   -- ---- in the terms of a call
 
   pub files_was : (r : Run) (ended : Bool) (size : ℕ) (log : Log) (places : List (Option (Place D)))
-      → record { ended = ended; nodes = size; log = log } ≡ r → r.ended ≡ false → (ended ≡ false → FilesShow cells log size places) → FilesShow cells r.log r.nodes places
+      → {left : List ℕ} → record { ended = ended; nodes = size; log = log; calls_left = left } ≡ r → r.ended ≡ false → (ended ≡ false → FilesShow cells log size places) → FilesShow cells r.log r.nodes places
   files_was r ended size log places e f g = subst (λ (x : Run). x.ended ≡ false → FilesShow cells x.log x.nodes places) e g f
 
   pub files_is : (log now : Log) (size size' : ℕ) (places : List (Option (Place D))) → now ≡ log → size' ≡ size → FilesShow cells log size places → FilesShow cells now size' places
@@ -323,7 +329,7 @@ module _ {D : Type 0} (cells : D → Cells) where
     pub legal : IsLegalPast r.nodes (printed r.log)
     pub turns : AreInTurn (printed r.log)
 
-  pub before : (r : Run) (ended : Bool) (b0 b1 : Pages) → record { ended = ended; nodes = b0.nodes; log = b0.log } ≡ r → b1.log ≡ b0.log → b1.nodes ≡ b0.nodes → IsLegalPast b1.nodes (printed b1.log) → AreInTurn (printed b1.log) → Before r b1
+  pub before : (r : Run) (ended : Bool) (b0 b1 : Pages) → {left : List ℕ} → record { ended = ended; nodes = b0.nodes; log = b0.log; calls_left = left } ≡ r → b1.log ≡ b0.log → b1.nodes ≡ b0.nodes → IsLegalPast b1.nodes (printed b1.log) → AreInTurn (printed b1.log) → Before r b1
   before r ended b0 b1 view e1 n1 legal turns =
       let log : b1.log ≡ r.log = e1 ∙ ap (λ (x : Run). x.log) view in
       let size : b1.nodes ≡ r.nodes = n1 ∙ ap (λ (x : Run). x.nodes) view in
@@ -335,13 +341,13 @@ module _ {D : Type 0} (cells : D → Cells) where
       }
 
   -- a line that has not started has no commit in flight
-  pub flights_of : (r : Run) (ended : Bool) (b0 b1 : Pages) (at : At) → record { ended = ended; nodes = b0.nodes; log = b0.log } ≡ r → b1.log ≡ b0.log → b1.nodes ≡ b0.nodes → IsLegalPast b1.nodes (printed b1.log) → AreInTurn (printed b1.log)
+  pub flights_of : (r : Run) (ended : Bool) (b0 b1 : Pages) (at : At) → {left : List ℕ} → record { ended = ended; nodes = b0.nodes; log = b0.log; calls_left = left } ≡ r → b1.log ≡ b0.log → b1.nodes ≡ b0.nodes → IsLegalPast b1.nodes (printed b1.log) → AreInTurn (printed b1.log)
       → start_entry at (printed r.log) ≡ None → (m : ℕ) → commit_in_flight m (printed r.log) ≢ Some at
   flights_of r ended b0 b1 at view e1 n1 legal turns none = let b = before r ended b0 b1 view e1 n1 legal turns in fresh_flights r.nodes (printed r.log) at b.legal b.turns none
 
   -- the entry that a call appended moved no place
   pub files_noted : (r : Run) (ended : Bool) (b0 b1 b2 : Pages) (places : List (Option (Place D))) (at : At) (e : Event)
-      → record { ended = ended; nodes = b0.nodes; log = b0.log } ≡ r → r.ended ≡ false → (ended ≡ false → Shows cells b0.log b0.nodes places) → (ended ≡ false → FilesShow cells b0.log b0.nodes places)
+      → {left : List ℕ} → record { ended = ended; nodes = b0.nodes; log = b0.log; calls_left = left } ≡ r → r.ended ≡ false → (ended ≡ false → Shows cells b0.log b0.nodes places) → (ended ≡ false → FilesShow cells b0.log b0.nodes places)
       → b1.log ≡ b0.log → b1.nodes ≡ b0.nodes → b2.log ≡ shown at e ∷ b1.log → b2.nodes ≡ b1.nodes → IsLegalPast b1.nodes (printed b1.log) → AreInTurn (printed b1.log)
       → KeepsRule r.nodes (printed r.log) at e → InTurn (printed r.log) at e → ((m : ℕ) → keeps_jobs e m ≡ true)
       → ((m : ℕ) → keeps_commits e m ≡ true) → ((m : ℕ) → commit_in_flight m (printed r.log) ≢ Some at) → FilesShow cells b2.log b2.nodes places
@@ -354,7 +360,7 @@ module _ {D : Type 0} (cells : D → Cells) where
 
   -- it moved one, of which the node's call left the files and the job
   pub files_moved : (r : Run) (ended : Bool) (b0 b1 b2 : Pages) (old mid new : List (Option (Place D))) (at : At) (e : Event) (n : ℕ) (x y : Place D)
-      → record { ended = ended; nodes = b0.nodes; log = b0.log } ≡ r → r.ended ≡ false → (ended ≡ false → Shows cells b0.log b0.nodes old) → (ended ≡ false → FilesShow cells b0.log b0.nodes old)
+      → {left : List ℕ} → record { ended = ended; nodes = b0.nodes; log = b0.log; calls_left = left } ≡ r → r.ended ≡ false → (ended ≡ false → Shows cells b0.log b0.nodes old) → (ended ≡ false → FilesShow cells b0.log b0.nodes old)
       → b1.log ≡ b0.log → b1.nodes ≡ b0.nodes → b2.log ≡ shown at e ∷ b1.log → b2.nodes ≡ b1.nodes → IsLegalPast b1.nodes (printed b1.log) → AreInTurn (printed b1.log)
       → KeepsRule r.nodes (printed r.log) at e → InTurn (printed r.log) at e → ((m : ℕ) → keeps_jobs e m ≡ true)
       → ((m : ℕ) → keeps_commits e m ≡ true) → ((m : ℕ) → commit_in_flight m (printed r.log) ≢ Some at) → PutsBack cells old mid new n x → IsNode r.nodes n → place_of old n ≡ Some y → KeepsNodeFiles cells y.node x.node → HoldsFrom cells (printed (shown at e ∷ r.log)) y.node x.node → FilesShow cells b2.log b2.nodes new
@@ -367,7 +373,7 @@ module _ {D : Type 0} (cells : D → Cells) where
 
   -- the start of a publish, which is handed out
   pub files_started : (r : Run) (ended : Bool) (b0 b1 b2 b3 : Pages) (old mid new : List (Option (Place D))) (at : At) (seg : Option SegNo) (segs : List Shown) (n : ℕ) (x y : Place D)
-      → record { ended = ended; nodes = b0.nodes; log = b0.log } ≡ r → r.ended ≡ false → (ended ≡ false → Shows cells b0.log b0.nodes old) → (ended ≡ false → FilesShow cells b0.log b0.nodes old)
+      → {left : List ℕ} → record { ended = ended; nodes = b0.nodes; log = b0.log; calls_left = left } ≡ r → r.ended ≡ false → (ended ≡ false → Shows cells b0.log b0.nodes old) → (ended ≡ false → FilesShow cells b0.log b0.nodes old)
       → b1.log ≡ b0.log → b1.nodes ≡ b0.nodes → b2.log ≡ shown at Publishing ∷ b1.log → b2.nodes ≡ b1.nodes → IsLegalPast b1.nodes (printed b1.log) → AreInTurn (printed b1.log)
       → b3.log ≡ kept (FlushOut at seg segs) ∷ b2.log → b3.nodes ≡ b2.nodes
       → KeepsRule r.nodes (printed r.log) at Publishing → InTurn (printed r.log) at Publishing
@@ -385,15 +391,15 @@ module _ {D : Type 0} (cells : D → Cells) where
 
   -- the end of a publish, which wrote files
   pub files_published : (r : Run) (ended : Bool) (b0 b1 b2 : Pages) (old mid new : List (Option (Place D))) (at : At) (g : Gen) (v : Version) (n : NodeNo) (p q : PrimaryParts D) (held : Vec Held Global)
-      → record { ended = ended; nodes = b0.nodes; log = b0.log } ≡ r → r.ended ≡ false → (ended ≡ false → Shows cells b0.log b0.nodes old) → (ended ≡ false → FilesShow cells b0.log b0.nodes old)
+      → {left : List ℕ} → record { ended = ended; nodes = b0.nodes; log = b0.log; calls_left = left } ≡ r → r.ended ≡ false → (ended ≡ false → Shows cells b0.log b0.nodes old) → (ended ≡ false → FilesShow cells b0.log b0.nodes old)
       → b1.log ≡ b0.log → b1.nodes ≡ b0.nodes → b2.log ≡ shown at (Published g v) ∷ b1.log → b2.nodes ≡ b1.nodes → IsLegalPast b1.nodes (printed b1.log) → AreInTurn (printed b1.log)
       → KeepsRule r.nodes (printed r.log) at (Published g v) → InTurn (printed r.log) at (Published g v) → primary_of (printed r.log) ≡ Some n
       → PutsBack cells old mid new n.0 (record { node = Primary q; held = held }) → IsNode r.nodes n.0 → place_of old n.0 ≡ Some (record { node = Primary p; held = held })
-      → FillsPrimaryFiles cells p q → IsPrimary cells q → FilesLast → HoldsFrom cells (printed (shown at (Published g v) ∷ r.log)) (Primary p) (Primary q) → FilesShow cells b2.log b2.nodes new
-  files_published r ended b0 b1 b2 old mid new at g v n p q held view running shows files e1 n1 e2 n2 legal turns rule turn primary put node there fills whole lasting holds =
+      → FillsPrimaryFiles cells p q → PrimaryShows cells (shown at (Published g v) ∷ r.log) n.0 q → FilesLast → HoldsFrom cells (printed (shown at (Published g v) ∷ r.log)) (Primary p) (Primary q) → FilesShow cells b2.log b2.nodes new
+  files_published r ended b0 b1 b2 old mid new at g v n p q held view running shows files e1 n1 e2 n2 legal turns rule turn primary put node there fills next lasting holds =
       let b = before r ended b0 b1 view e1 n1 legal turns in
       files_is (shown at (Published g v) ∷ r.log) b2.log r.nodes b2.nodes new (e2 ∙ ap (λ (l : Log). shown at (Published g v) ∷ l) b.log) (n2 ∙ b.size)
       (files_filled r.nodes r.log (shown at (Published g v) ∷ r.log) old new n.0 p q held lasting (grows_shown r.nodes (printed r.log) at (Published g v) b.legal rule) holds (λ m other. same_shown r.nodes r.log at m b.legal b.turns other (Published g v) rule turn refl)
       (λ m. commits_shown (printed r.log) at m r.nodes (Published g v) b.legal b.turns rule turn refl (no_commit r.nodes (printed r.log) at b.legal b.turns (ap is_commit_line rule.started) m))
-      (λ m apart. ap (λ (o : Option NodeNo). is_at o m) primary ∙ apart) (put_one cells n.0 (record { node = Primary q; held = held }) old mid new put) node there fills whole
+      (λ m apart. ap (λ (o : Option NodeNo). is_at o m) primary ∙ apart) (put_one cells n.0 (record { node = Primary q; held = held }) old mid new put) node there fills next
       (was cells r ended b0.nodes b0.log old view running shows) (files_was r ended b0.nodes b0.log old view running files))

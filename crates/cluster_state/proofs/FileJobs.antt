@@ -1,6 +1,6 @@
 -- What the invariant of files says of the nodes of a call, and of the job that runs at one.
-use Rattle.std.proofs.Common.{◌≡◌, ◌≤◌, ◌&&◌, ◌==◌, ℕ, Bool, true, false, true≢false, List, [], ◌∷◌, Some, None, Option, Vec, Global, refl, ap, ◌∙◌, sym, subst, arith, if◌then◌else◌, nat_le}
-use Rattle.std.specs.Prelude.{IsSomeAnd, IfSome, not}
+use Rattle.std.proofs.Common.{◌≡◌, ◌≤◌, ℕ, true, true≢false, List, Some, None, Option, Vec, Global, refl, ap, ◌∙◌, sym, subst, arith, nat_le}
+use Rattle.std.specs.Prelude.{IsSomeAnd, IfSome}
 use Rattle.std.proofs.lemmas.Bool.{eq-eqb}
 use Rattle.std.proofs.lemmas.Bool.Decides.{nat_tests}
 use Rattle.nrt_base.specs.declared.numbers.At.{At}
@@ -15,15 +15,11 @@ use Rattle.history_entries.specs.Nodes.{IsNode, IsReplica, is_at, primary_of, ne
 use Rattle.history_entries.specs.Lines.{copy_in_flight, is_free_for}
 use Rattle.history_tables.specs.declared.jobs.Job.{Job}
 use Rattle.history_tables.specs.declared.jobs.JobRow.{JobRow}
-use Rattle.history_tables.specs.declared.jobs.JobStep.{JobStep}
-use Rattle.history_tables.specs.declared.jobs.JobStep.TheVariants.{Begins, Ends, Passes}
-use Rattle.history_tables.specs.JobRows.{new_job_row, is_going, row_by, row_if_some, last_job_by, while_going}
+use Rattle.history_tables.specs.JobRows.{is_going, while_going}
 use Rattle.history_tables.specs.NodeRows.{crashed_at}
 use Rattle.history_tables.specs.Numbering.{primary_crashed}
-use Rattle.history_book.specs.declared.inner.Mark.TheVariants.{Shown, TaskFault, Kept}
 use Rattle.history_book.specs.Log.{Log, printed}
-use Rattle.history_book.specs.Jobs.{job_step, last_job, job_at, job_of, IsOlder, LaneJobShows}
-use Rattle.history_book.proofs.LineLaws.{and_false}
+use Rattle.history_book.specs.Jobs.{job_at, IsOlder, LaneJobShows}
 use Rattle.history_book.proofs.JobLaws.{going_at}
 use Rattle.history_book.proofs.ReignLaws.{node_alive, source_alive}
 use Rattle.cluster_places.specs.declared.held.Held.{Held}
@@ -75,7 +71,7 @@ module _ {D : Type 0} (cells : D → Cells) where
   pub record PrimaryHere (source : Name → Content) (log : Log) (jobs : Out → ℕ) (p : ℕ) (places : List (Option (Place D))) : Type 0 where
     pub at : IsPrimaryAt places p
     pub shows : PlaceShows cells log p (record { node = Primary at.parts; held = at.held })
-    pub files : PrimaryFiles source cells jobs at.parts
+    pub files : PrimaryFiles source cells (printed log) jobs at.parts
 
   -- a replica in its place
   pub record ReplicaHere (source : Name → Content) (log : Log) (n : ℕ) (places : List (Option (Place D))) : Type 0 where
@@ -115,7 +111,7 @@ module _ {D : Type 0} (cells : D → Cells) where
 
   -- its copy state is out
   pub job_out : (log : Log) (size n : ℕ) (places : List (Option (Place D))) (p : PrimaryParts D) (r : ReplicaParts D) (held : Vec Held Global) (source : Name → Content) → IsNode size n → place_of places n ≡ Some (record { node = Replica r; held = held })
-      → PrimaryFiles source cells (λ s. jobs_like places s size) p → IfSome (want_of r.job) (λ s. is_out s p.states ≡ true)
+      → PrimaryFiles source cells (printed log) (λ s. jobs_like places s size) p → IfSome (want_of r.job) (λ s. is_out s p.states ≡ true)
   job_out log size n places p r held source node there files = found r.job refl
     where
       found : (o : Option PointJob) → r.job ≡ o → IfSome (want_of o) (λ s. is_out s p.states ≡ true)
@@ -148,4 +144,4 @@ module _ {D : Type 0} (cells : D → Cells) where
       found (Some job) None is shows_job newer = absurd shows_job
       found (Some job) (Some point) is shows_job newer =
           let version : r.searchers.point.version.0 ≡ version_of n (printed log) = shows.node_shows.point.version in
-          absurd (omega (arith, newer.above, shows_job.version, shows_job.known, version, reached))
+          absurd (omega (arith, newer.above, shows_job.point.known, version, reached))

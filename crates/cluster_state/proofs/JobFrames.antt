@@ -14,7 +14,6 @@ use Rattle.history_entries.specs.declared.entry.Event.TheVariants.{Published, Co
 use Rattle.history_entries.specs.Nodes.{Past, is_at, primary_of, version_of, newest_version}
 use Rattle.history_entries.specs.Lines.{same_at, is_start, is_reply, start_entry, before_start, without_at, copy_in_flight, highest_copy}
 use Rattle.history_entries.specs.Legal.{KeepsRule, IsLegalPast}
-use Rattle.history_laws.proofs.PointLemmas.{documents_stay_lem}
 use Rattle.history_tables.specs.declared.jobs.Job.{Job}
 use Rattle.history_tables.specs.declared.jobs.JobRow.{JobRow}
 use Rattle.history_tables.specs.declared.jobs.JobStep.{JobStep}
@@ -28,7 +27,7 @@ use Rattle.history_book.specs.Jobs.{job_step, last_job}
 use Rattle.history_book.specs.Turns.{StartsOnce, InTurn, AreInTurn}
 use Rattle.history_book.proofs.LineLaws.{without_some}
 use Rattle.cluster_state.specs.FilesOut.{is_by, is_job, file_out}
-use Rattle.cluster_state.proofs.Growing.{lasts}
+use Rattle.cluster_state.proofs.Points.{points_alone, points_then, points_shown}
 use Rattle.cluster_state.specs.FileChanges.{keeps_jobs, leaves_job, SameJob}
 
 -- ---- copies in flight
@@ -125,11 +124,6 @@ module _ (size : ℕ) (log : Log) (at : At) (n : ℕ) (legal : IsLegalPast size 
   job_same (Crashed m) (Some row) keeps = absurd (true≢false (sym keeps))
   job_same e (Some row) keeps = refl
 
-  newest_rise : (e : Event) → newest_version (printed log) ≤ newest_version (after e)
-  newest_rise (Published g w) = omega arith
-  newest_rise (Promoted m g f w) = omega arith
-  newest_rise e = omega arith
-
   latest_same : (e : Event) → keeps_jobs e n ≡ true → highest_copy n (after e) ≤ highest_copy n (printed log)
   latest_same (Copying m w) keeps =
       let is : (if m.0 == n then max (highest_copy n (printed log)) w.0 else highest_copy n (printed log)) ≡ highest_copy n (printed log)
@@ -169,9 +163,7 @@ module _ (size : ℕ) (log : Log) (at : At) (n : ℕ) (legal : IsLegalPast size 
   pub same_shown : (e : Event) → KeepsRule size (printed log) at e → InTurn (printed log) at e → keeps_jobs e n ≡ true → SameJob log (shown at e ∷ log) n
   same_shown e rule turn keeps = record {
     job = job_same e (last_job false n log) keeps;
-    newest = newest_rise e;
-    generation = (lasts size (printed log) at e legal rule).generation;
-    documents = λ v low. documents_stay_lem size (record { at = at; event = e } ∷ []) (printed log) v (rule, legal) low;
+    points = points_shown size (printed log) at e legal rule;
     latest = latest_same e keeps;
     version = version_same e keeps;
     start = λ job is begun. begun_still (printed log) at e job.at turn begun;
@@ -262,9 +254,7 @@ out_kept n log i a number q leaves = step i leaves
 pub same_inner : (log : Log) (i : Inner) (n : ℕ) → leaves_job i n ≡ true → SameJob log (kept i ∷ log) n
 same_inner log i n leaves = record {
   job = ap (while_going n (printed log)) (row_kept n log i leaves);
-  newest = omega arith;
-  generation = omega arith;
-  documents = λ v low. refl;
+  points = points_alone (printed log);
   latest = omega arith;
   version = refl;
   start = λ job is begun. (begun, refl);
@@ -276,9 +266,7 @@ same_inner log i n leaves = record {
 pub same_then : (log mid now : Log) (n : ℕ) → SameJob log mid n → SameJob mid now n → SameJob log now n
 same_then log mid now n a b = record {
   job = b.job ∙ a.job;
-  newest = omega (arith, a.newest, b.newest);
-  generation = omega (arith, a.generation, b.generation);
-  documents = λ v low. b.documents v (omega (arith, low, a.newest)) ∙ a.documents v low;
+  points = points_then (printed log) (printed mid) (printed now) a.points b.points;
   latest = omega (arith, a.latest, b.latest);
   version = b.version ∙ a.version;
   start = λ job is begun. let x = a.start job is begun in let y = b.start job (a.job ∙ is) x.0 in (y.0, y.1 ∙ x.1);
@@ -290,9 +278,7 @@ same_then log mid now n a b = record {
 pub job_stays : (log : Log) (n : ℕ) → SameJob log log n
 job_stays log n = record {
   job = refl;
-  newest = omega arith;
-  generation = omega arith;
-  documents = λ v low. refl;
+  points = points_alone (printed log);
   latest = omega arith;
   version = refl;
   start = λ job is begun. (begun, refl);

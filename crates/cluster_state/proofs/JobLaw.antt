@@ -1,5 +1,5 @@
 -- The job at a replica is for no version above the newest.
-use Rattle.std.proofs.Common.{◌≡◌, ◌≤◌, ℕ, Bool, false, List, Some, None, Option, refl, subst}
+use Rattle.std.proofs.Common.{◌≡◌, ◌≤◌, ℕ, Bool, false, List, Some, None, Option, refl, subst, arith}
 use Rattle.std.specs.Prelude.{IfSome}
 use Rattle.disk_model.specs.Disk.{Cells}
 use Rattle.history_entries.specs.Nodes.{IsNode, IsReplica, newest_version}
@@ -19,9 +19,13 @@ module _ {D : Type 0} (cells : D → Cells) where
     where
       of : (o : Option Job) → job_at n log ≡ o → IfSome o (λ job. job.version.0 ≤ newest_version (printed log))
       of None is = tt
-      of (Some job) is = let r = replica_here cells log size n places both.0 both.1 node replica in (job_here cells both.1.source log n job r.at.parts is r.files).shows.known
+      of (Some job) is =
+          let r = replica_here cells log size n places both.0 both.1 node replica in
+          let shows = (job_here cells both.1.source log n job r.at.parts is r.files).shows in
+          let known = shows.point.known in
+          omega (arith, known, shows.version)
 
-  pub job_below : (r : Run) (ended : Bool) (b : Pages) (places : List (Option (Place D))) (n : ℕ) → record { ended = ended; nodes = b.nodes; log = b.log } ≡ r
+  pub job_below : (r : Run) (ended : Bool) (b : Pages) (places : List (Option (Place D))) (n : ℕ) → {left : List ℕ} → record { ended = ended; nodes = b.nodes; log = b.log; calls_left = left } ≡ r
       → (ended ≡ false → Shows cells b.log b.nodes places × FilesShow cells b.log b.nodes places) → r.ended ≡ false → IsNode r.nodes n → IsReplica (printed r.log) n
       → IfSome (job_at n r.log) (λ job. job.version.0 ≤ newest_version (printed r.log))
   job_below r ended b places n view both =

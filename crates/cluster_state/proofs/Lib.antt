@@ -1,44 +1,19 @@
-mod Growing
-mod Frames
-mod Holding
-mod Opened
-mod Opening
-mod Closing
-pub mod Leasing
+pub mod Growing
+pub mod Frames
 mod Ended
-mod Cuts
-mod Paid
-mod Filling
-mod Writing
-mod Written
-mod Primaries
 pub mod Turning
-mod TicketPaths
-mod PublishPaths
-mod PointNames
-mod Listing
-mod TicketFiles
-mod CopiedNow
-mod PublishFiles
-mod FirstNodes
-mod JobFrames
-mod Drawn
-mod Naming
-mod Wider
-mod Disks
-mod FileFrames
-mod FileJobs
-mod JobMoves
-mod Beginning
-mod CopyPaths
-mod Handing
-mod Ending
-mod HandPaths
-mod PartPaths
-mod Settling
-mod JobEnds
-mod FirstPlaces
-mod Crashing
-mod Reopening
-mod Committing
+pub mod JobFrames
+pub mod Drawn
+pub mod Naming
+pub mod Wider
+pub mod Disks
+pub mod FileFrames
+pub mod FileJobs
+pub mod JobMoves
 mod JobLaw
+mod BookLaws
+pub mod PointStands
+mod Lasting
+mod Living
+pub mod Points
+pub mod Reigning

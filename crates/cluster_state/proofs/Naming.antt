@@ -1,13 +1,12 @@
 -- What calls leave of the names that stand at a node, and of what names mean.
-use Rattle.std.proofs.Common.{◌≡◌, ◌⊎◌, ◌<◌, ◌≤◌, ◌+◌, ◌*◌, ◌^◌, inl, inr, nat_lt, ℕ, zero, suc, get_or, Bool, true, false, List, [], ◌∷◌, ◌++◌, Some, None, Option, is_some, length, refl, ap, ◌∙◌, sym, subst, arith, if◌then◌else◌}
+use Rattle.std.proofs.Common.{◌≡◌, ◌⊎◌, ◌<◌, ◌≤◌, ◌+◌, ◌-◌, ◌*◌, ◌^◌, inl, inr, nat_lt, ℕ, zero, suc, get_or, Bool, true, false, List, [], ◌∷◌, ◌++◌, Some, None, Option, is_some, length, refl, ap, ◌∙◌, sym, subst, arith, if◌then◌else◌}
 use Rattle.std.specs.Prelude.{IfSome, ⊤}
-use Rattle.std.proofs.lemmas.Bool.{lt-ltb}
+use Rattle.std.proofs.lemmas.Bool.{lt-ltb, ltb-true}
 use Rattle.std.specs.List.{All, Contains, flat_map}
 use Rattle.std.specs.Option.{option_or}
 use Rattle.std.proofs.lemmas.List.Elements.{All-contains, Contains-append_left, Contains-append_right}
-use Rattle.nrt_base.specs.SegNumbers.{segments_of_generation}
 use Rattle.disk_model.specs.Disk.{Name, Content, Cells}
-use Rattle.file_names.specs.Names.{part_name_of, IsFileOfSegment}
+use Rattle.file_names.specs.Names.{part_name_of, live_name_of, IsFileOfSegment}
 use Rattle.file_names.specs.declared.composed.SegPart.TheVariants.{Docs}
 use Rattle.file_names.proofs.NameReading.{file_apart}
 use Rattle.file_deleter.specs.Holdings.{Holdings, IsThere, count_of, times}
@@ -17,7 +16,7 @@ use Rattle.segment_infos.specs.declared.infos.SegRecord.{SegRecord}
 use Rattle.segment_infos.specs.declared.infos.Infos.{Infos}
 use Rattle.segment_infos.specs.Files.{files_of_segment, AreFilesOf}
 use Rattle.commit_steps.proofs.Safe.{among_of, contains_of}
-use Rattle.node_files.specs.Appearing.{NoneAppears, AppearsOnly}
+use Rattle.node_files.specs.Appearing.{AppearsOnly}
 use Rattle.node_files.proofs.Appearing.{stood_or, only_none}
 use Rattle.seg_reader.specs.Shown.{Shown}
 use Rattle.searcher_switch.specs.declared.open.Open.{Open}
@@ -25,15 +24,15 @@ use Rattle.searcher_switch.specs.Searching.{searcher_names}
 use Rattle.primary_parts.specs.declared.parts.Parts.{Parts as PrimaryParts}
 use Rattle.primary_parts.specs.Held.{IsOwnSegment, IsOwnFile, IsDrawnRecord}
 use Rattle.primary_parts.specs.Primary.{IsPrimary, loose_of, primary_names, rest_names}
-use Rattle.copy_state.specs.declared.meta.FileMetaData.{FileMetaData}
-use Rattle.copy_state.specs.States.{meta_names, meta_in}
+use Rattle.copy_state.specs.States.{meta_names}
 use Rattle.copy_job.specs.declared.copying.Part.{Part}
 use Rattle.replica_opening.specs.Known.{IsLasting, HasMeta}
 use Rattle.replica_node.specs.declared.job.PointJob.{PointJob}
 use Rattle.replica_node.specs.Replica.{IsJobAbove}
 use Rattle.replica_node.proofs.Metas.{some_meta}
 use Rattle.replica_node.specs.declared.parts.Parts.{Parts as ReplicaParts}
-use Rattle.history_entries.specs.Nodes.{Past}
+use Rattle.history_entries.specs.Nodes.{Past, generation_of}
+use Rattle.segment_steps.specs.Next.{record_generation, live_base}
 use Rattle.history_entries.specs.Points.{is_drawn, IsDrawnFile}
 use Rattle.history_entries.specs.Rules.{MayHaveName}
 use Rattle.cluster_places.specs.declared.nodes.Node.{Node}
@@ -44,6 +43,7 @@ use Rattle.cluster_places.specs.JobChanges.{AltersStates, AltersJob, FinishesAt,
 use Rattle.cluster_state.specs.Names.{NamesDocuments, AreNamesShown, NamesShow, loose_at}
 use Rattle.cluster_state.specs.Files.{MeansDrawn}
 use Rattle.cluster_state.proofs.Wider.{meta_at_source}
+use Rattle.cluster_state.proofs.Living.{drawn_small}
 use Rattle.cluster_state.proofs.Drawn.{Grows, file_more, may_have_more, lasting_drawn, temporary_drawn}
 
 -- what is known of the files of infos
@@ -157,7 +157,7 @@ module _ {D : Type 0} (cells : D → Cells) where
       let meta = some_meta j.copy.want.files q wanted in
       let has = meta_at_source source j.copy.want.files q meta.0 metas meta.1 in
       let listed : Contains (flat_map files_of_segment j.infos.segs) q = (above.state.files.named q).0 (named_in (meta_names j.copy.want.files) q wanted) in
-      drawn q has.bytes (lasting j.infos (meta_names j.copy.want.files) above.state.files q listed) has.there
+      drawn.drawn q has.bytes (lasting j.infos (meta_names j.copy.want.files) above.state.files q listed) has.there
 
   -- a replica that switched to the point of its job
   pub finished_steps : (source : Name → Content) (now : Past) (j : PointJob) (p q : PrimaryParts D) (r s : ReplicaParts D) (version : ℕ) → FilesLast → MeansDrawn source now → All (λ f. HasMeta source f.0 f.1) j.copy.want.files → IsJobAbove version j
@@ -188,20 +188,39 @@ module _ {D : Type 0} (cells : D → Cells) where
 -- ---- what names mean
 
 pub means_more : (source : Name → Content) (past now : Past) → Grows past now → MeansDrawn source past → MeansDrawn source now
-means_more source past now g was q bytes lasting is = file_more past now q g (was q bytes lasting is)
+means_more source past now g was = record {
+  drawn = λ q bytes lasting is. file_more past now q g (was.drawn q bytes lasting is);
+  live = λ r live_gen bytes small fits is. base_more (generation_of past) (generation_of now) (record_generation r) live_gen g.generation (was.live r live_gen bytes small fits is);
+}
+  where
+    base_more : (g h made live_gen : ℕ) → g ≤ h → live_gen < (g + 1 - made) * 4294967296 → live_gen < (h + 1 - made) * 4294967296
+    base_more g h made live_gen low below = fits (g + 1 - made) (h + 1 - made) (omega (arith, low)) below
+      where
+        fits : (d e : ℕ) → d ≤ e → live_gen < d * 4294967296 → live_gen < e * 4294967296
+        fits d e low below = omega (arith, low, below)
+
+-- a live file that is held and meant nothing has a live generation that no later generation gives
+abbrev pub HoldsLow : (Name → Content) → Holdings → Past → Type 0
+HoldsLow source holdings now = (r : SegRecord) (live_gen : ℕ) → r.seg.0 < 2 ^ 64 → live_gen < 2 ^ 64 → source (live_name_of r.seg.0 live_gen) ≡ None → 0 < count_of holdings (live_name_of r.seg.0 live_gen)
+    → live_gen < live_base (generation_of now + 1) r
 
 -- names that get a meaning where a file of them is held, all of which may stand there
-pub means_wider : (source : Name → Content) (cells : Cells) (holdings : Holdings) (now : Past) → MeansDrawn source now → ((q : Name) → IsThere cells q → MayHaveName now q)
+pub means_wider : (source : Name → Content) (cells : Cells) (holdings : Holdings) (now : Past) → MeansDrawn source now → ((q : Name) → IsThere cells q → MayHaveName now q) → HoldsLow source holdings now
     → MeansDrawn (λ q. option_or (source q) (if nat_lt 0 (count_of holdings q) then (cells q).now else None)) now
-means_wider source cells holdings now was kinds q bytes lasting is = by (source q) refl is
+means_wider source cells holdings now was kinds low = record {
+  drawn = λ q bytes lasting is. by q (source q) refl (λ b e. was.drawn q b lasting e) (λ none some there. lasting_drawn now q lasting (kinds q there)) is;
+  live = λ r live_gen bytes small fits is. by (live_name_of r.seg.0 live_gen) (source (live_name_of r.seg.0 live_gen)) refl (λ b e. was.live r live_gen b small fits e) (λ none some there. low r live_gen small fits none some) is;
+}
   where
-    counted : (t : Bool) → (if t then (cells q).now else None) ≡ Some bytes → IsDrawnFile now q
-    counted true got = lasting_drawn now q lasting (kinds q (ap is_some got))
-    counted false got = absurd (cc)
-
-    by : (o : Content) → source q ≡ o → option_or o (if nat_lt 0 (count_of holdings q) then (cells q).now else None) ≡ Some bytes → IsDrawnFile now q
-    by (Some b) e got = was q b lasting e
-    by None e got = counted (nat_lt 0 (count_of holdings q)) got
+    -- it meant something, or is held and stands
+    by : {P : Type 0} {bytes : List ℕ} (q : Name) (o : Content) → source q ≡ o → ((b : List ℕ) → source q ≡ Some b → P) → (source q ≡ None → 0 < count_of holdings q → IsThere cells q → P)
+        → option_or o (if nat_lt 0 (count_of holdings q) then (cells q).now else None) ≡ Some bytes → P
+    by q (Some b) e meant held got = meant b e
+    by {P = P} {bytes = bytes} q None e meant held got = counted (nat_lt 0 (count_of holdings q)) refl got
+      where
+        counted : (t : Bool) → nat_lt 0 (count_of holdings q) ≡ t → (if t then (cells q).now else None) ≡ Some bytes → P
+        counted true some got = held e (ltb-true 0 (count_of holdings q) some) (ap is_some got)
+        counted false none got = absurd (cc)
 
 -- ---- the primary's own segments
 
@@ -213,10 +232,6 @@ in_segments (x ∷ xs) r q (i, lt, e) named = at i lt e (λ k lt' e'. in_segment
     at : (i : ℕ) → i < length (x ∷ xs) → get_or (x ∷ xs) i r ≡ r → ((k : ℕ) → k < length xs → get_or xs k r ≡ r → Contains (flat_map files_of_segment xs) q) → Contains (flat_map files_of_segment (x ∷ xs)) q
     at zero lt e rest = Contains-append_left (files_of_segment x) (flat_map files_of_segment xs) q (subst (λ (s : SegRecord). Contains (files_of_segment s) q) (sym e) named)
     at (suc k) lt e rest = Contains-append_right (files_of_segment x) (flat_map files_of_segment xs) q (rest k (omega (arith, lt)) e)
-
--- each segment of a number below these is one that a file can name
-small_number : (seg generation counter : ℕ) → generation < 2 ^ 31 → counter ≤ segments_of_generation → seg < generation * segments_of_generation + counter → seg < 2 ^ 64
-small_number seg generation counter low few below = omega (arith, low, few, below)
 
 module _ {D : Type 0} (cells : D → Cells) (past : Past) (p : PrimaryParts D) (lasting : FilesLast) (whole : IsPrimary cells p) (shown : AreNamesShown past (cells p.dir) p.searchers.tickets (loose_of p)) where
   -- a name of the writer's infos stands
@@ -234,7 +249,7 @@ module _ {D : Type 0} (cells : D → Cells) (past : Past) (p : PrimaryParts D) (
       let listed : Contains (flat_map files_of_segment p.infos.segs) q = in_segments p.infos.segs r q held (0, omega arith, refl) in
       let file = lasting_drawn past q (lasting p.infos p.names whole.writer.files q listed) (shown.kinds q (written_there q ((whole.writer.files.named q).1 listed))) in
       let below = (All-contains (IsDrawnRecord p.infos) p.infos.segs r whole.numbered.segs held).below in
-      let mine : IsFileOfSegment r.seg.0 q = (small_number r.seg.0 p.infos.generation.0 p.infos.counter whole.numbered.generation whole.numbered.counter below, inl (Docs, refl)) in
+      let mine : IsFileOfSegment r.seg.0 q = (drawn_small p.infos r.seg.0 whole.numbered.generation whole.numbered.counter below, inl (Docs, refl)) in
       subst (λ (s : ℕ). is_drawn s past ≡ true) (file_apart file.0 r.seg.0 q file.2 mine) file.1
 
   -- the files of its own segments are drawn

@@ -24,12 +24,15 @@ use Rattle.replica_node.specs.declared.parts.Parts.{Parts as ReplicaParts}
 use Rattle.replica_node.specs.Replica.{IsWholeReplica, HasMetas}
 use Rattle.replica_node.specs.Sources.{CopiesFrom, HeldReadAs, IsSourced}
 use Rattle.replica_node.proofs.Metas.{listed_meta, some_meta}
+use Rattle.history_entries.specs.Nodes.{Past}
 use Rattle.history_entries.specs.Points.{documents_at}
 use Rattle.history_tables.specs.declared.jobs.Job.{Job}
 use Rattle.history_book.specs.Log.{Log, printed}
 use Rattle.cluster_places.specs.Outs.{states_like}
 use Rattle.cluster_state.specs.Files.{CopyShows, JobShows, PrimaryFiles}
+use Rattle.cluster_state.specs.Disks.{IsPastPoint, PointsStay}
 use Rattle.cluster_places.specs.KeptFiles.{KeepsPrimaryFiles, FillsPrimaryFiles}
+use Rattle.cluster_state.proofs.Points.{point_stays}
 
 -- what stands there stands there still
 abbrev pub Extends : (Name → Content) → (Name → Content) → Type 0
@@ -74,6 +77,15 @@ stands_wider source wider infos docs more was = record {
   stands = record { each = segments_wider source wider infos.segs was.segs more was.stands.each; stand = was.stands.stand };
 }
 
+-- a point of the history
+pub point_wider : (source wider : Name → Content) (past : Past) (infos : Infos) → Extends source wider → IsPastPoint source past infos → IsPastPoint wider past infos
+point_wider source wider past infos more was = record {
+  known = was.known;
+  generation = was.generation;
+  stands = stands_wider source wider infos (documents_at past infos.version.0) more was.stands;
+  writable = was.writable;
+}
+
 -- ---- metadata
 
 pub metas_wider : (source wider : Name → Content) (files : List (Name × FileMetaData)) → Extends source wider → All (λ f. HasMeta source f.0 f.1) files → All (λ f. HasMeta wider f.0 f.1) files
@@ -114,13 +126,11 @@ copy_wider : (source wider : Name → Content) (log : Log) (n : ℕ) (job : Job)
 copy_wider source wider log n job j more was = record {
   number = was.number;
   version = was.version;
-  known = was.known;
+  point = point_wider source wider (printed log) j.infos more was.point;
   latest = was.latest;
   begun = was.begun;
   behind = was.behind;
-  generation = was.generation;
   metas = metas_wider source wider j.copy.want.files more was.metas;
-  stands = stands_wider source wider j.infos (documents_at (printed log) job.version.0) more was.stands;
   handed = λ q bytes out. more q bytes (was.handed q bytes out);
 }
 
@@ -143,12 +153,23 @@ test_none : (k : ℕ) → k ≡ 0 → nat_lt 0 k ≡ false
 test_none k none = ap (nat_lt 0) none
 
 module _ {D : Type 0} (cells : D → Cells) (source : Name → Content) where
+  -- an entry that it does not move, while jobs are counted anew
+  pub primary_stays : (past now : Past) (jobs count : Out → ℕ) (p : PrimaryParts D) → PointsStay past now → ((s : Out) → count s ≤ jobs s) → PrimaryFiles source cells past jobs p → PrimaryFiles source cells now count p
+  primary_stays past now jobs count p stay fewer was = record {
+    held = was.held;
+    unwritten = was.unwritten;
+    point = point_stays source past now p.point_infos stay was.point;
+    generation = was.generation;
+    outs = λ s. omega (arith, fewer s, was.outs s);
+  }
+
   -- calls that hold no new file
-  pub primary_kept : (jobs now : Out → ℕ) (p q : PrimaryParts D) → KeepsPrimaryFiles cells p q → ((s : Out) → now s ≤ states_like s q.states) → PrimaryFiles source cells jobs p → PrimaryFiles source cells now q
-  primary_kept jobs now p q keeps outs was = record {
+  pub primary_kept : (past : Past) (jobs now : Out → ℕ) (p q : PrimaryParts D) → KeepsPrimaryFiles cells p q → ((s : Out) → now s ≤ states_like s q.states) → PrimaryFiles source cells past jobs p → PrimaryFiles source cells past now q
+  primary_kept past jobs now p q keeps outs was = record {
     held = record { each = λ name lasting counted. held name lasting counted (count_of p.files name) refl };
     unwritten = λ name undrawn. was.unwritten name (keeps.drawn.each name undrawn);
-    generation = keeps.point ∙ (was.generation ∙ sym keeps.generation);
+    point = subst (λ (i : Infos). IsPastPoint source past i) (sym keeps.point) was.point;
+    generation = ap (λ (i : Infos). i.generation) keeps.point ∙ (was.generation ∙ sym keeps.generation);
     outs = outs;
   }
     where
@@ -159,16 +180,18 @@ module _ {D : Type 0} (cells : D → Cells) (source : Name → Content) where
           keeps.stays.held name before counted ∙ was.held.each name lasting before
 
   -- a call that fills files which were not written yet
-  pub primary_filled : (jobs : Out → ℕ) (p q : PrimaryParts D) → FillsPrimaryFiles cells p q → IsPrimary cells q → PrimaryFiles source cells jobs p
-      → PrimaryFiles (widened source (cells q.dir) q.files) cells jobs q
-  primary_filled jobs p q fills whole was = record {
-    held = record { each = λ name lasting counted. held name lasting counted (count_of p.files name) refl };
+  pub primary_filled : (past now : Past) (jobs : Out → ℕ) (p q : PrimaryParts D) → FillsPrimaryFiles cells p q → IsPrimary cells q
+      → (HeldReadAs (widened source (cells q.dir) q.files) (cells q.dir) q.files → IsPastPoint (widened source (cells q.dir) q.files) now q.point_infos) → PrimaryFiles source cells past jobs p
+      → PrimaryFiles (widened source (cells q.dir) q.files) cells now jobs q
+  primary_filled past now jobs p q fills whole point was = record {
+    held = held_now;
+    point = point held_now;
     unwritten = λ name undrawn.
         let none : source name ≡ None = was.unwritten name (fills.drawn.each name undrawn) in
         let free : count_of q.files name ≡ 0 = whole.undrawn.each name undrawn in
         ap (λ (o : Content). option_or o (if nat_lt 0 (count_of q.files name) then (cells q.dir name).now else None)) none
         ∙ ap (λ (b : Bool). if b then (cells q.dir name).now else None) (test_none (count_of q.files name) free);
-    generation = fills.point;
+    generation = ap (λ (i : Infos). i.generation) fills.point;
     outs = λ s. subst (λ (ts : List Out). jobs s ≤ states_like s ts) (sym fills.states) (was.outs s);
   }
     where
@@ -182,3 +205,6 @@ module _ {D : Type 0} (cells : D → Cells) (source : Name → Content) where
           let now : (cells q.dir name).now ≡ source name = fills.stays.held name before counted ∙ was.held.each name lasting before in
           let there : is_some (source name) ≡ true = ap is_some (sym now) ∙ (whole.node.whole.names name ∙ known_counted q.files name counted) in
           now ∙ sym (some_wider source (widened source (cells q.dir) q.files) name (widened_more source (cells q.dir) q.files) there)
+
+      held_now : HeldReadAs (widened source (cells q.dir) q.files) (cells q.dir) q.files
+      held_now = record { each = λ name lasting counted. held name lasting counted (count_of p.files name) refl }

@@ -1,6 +1,6 @@
 -- What the disks of a cluster's nodes have to do with its log: which versions their commits are of, and what a crash left.
-use Rattle.std.specs.Prelude.{ℕ, ◌≡◌, ◌≤◌, List, Option, Some, None, IfSome, IsSomeAnd, is_some, true, Contains, ⊤}
-use Rattle.std.specs.List.{flat_map}
+use Rattle.std.specs.Prelude.{ℕ, ◌≡◌, ◌≤◌, ◌<◌, List, [], length, Option, Some, None, IfSome, IsSomeAnd, is_some, true, Contains, ⊤}
+use Rattle.std.specs.List.{All, flat_map}
 use Rattle.nrt_base.specs.declared.numbers.At.{At}
 use Rattle.nrt_base.specs.declared.numbers.NodeNo.{NodeNo}
 use Rattle.nrt_base.specs.declared.numbers.Version.{Version}
@@ -8,6 +8,8 @@ use Rattle.disk_model.specs.Disk.{Name, Content, Cells, reads_of}
 use Rattle.segment_infos.specs.declared.infos.Infos.{Infos}
 use Rattle.segment_infos.specs.Files.{files_of_segment}
 use Rattle.seg_reader.specs.Stands.{StandsFor}
+use Rattle.script_serving.specs.Refusals.{put_publishes}
+use Rattle.primary_parts.specs.Held.{AreNumbered}
 use Rattle.commit_steps.specs.Book.{commit_of}
 use Rattle.commit_steps.specs.declared.states.Commit.{Commit}
 use Rattle.commit_steps.specs.declared.stage.Stage.{Stage}
@@ -24,11 +26,20 @@ use Rattle.history_book.specs.Log.{Log, printed}
 use Rattle.cluster_places.specs.declared.nodes.Place.{Place}
 use Rattle.cluster_places.specs.Places.{Disk, place_of, disk_at}
 
--- a point of the history: no newer than the newest, of no later generation, and of the documents of its version
+-- what a writer needs of a point to go on from it: no more segments than publishes had puts, each with a live row, and numbers that
+-- are drawn
+pub record IsWritable (past : Past) (infos : Infos) : Type 0 where
+  pub few : length infos.segs ≤ put_publishes past
+  pub live : All (λ r. 0 < r.live) infos.segs
+  pub numbered : AreNumbered infos []
+
+-- a point of the history: no newer than the newest, of no later generation, of the documents of its version, and one that a writer may
+-- go on from
 pub record IsPastPoint (source : Name → Content) (past : Past) (infos : Infos) : Type 0 where
   pub known : infos.version.0 ≤ newest_version past
   pub generation : infos.generation.0 ≤ generation_of past
   pub stands : StandsFor source infos (documents_at past infos.version.0)
+  pub writable : IsWritable past infos
 
 -- such a point, of a version that a reopening of the node may find
 pub record MayFindPoint (source : Name → Content) (past : Past) (n : ℕ) (infos : Infos) : Type 0 where
@@ -82,12 +93,17 @@ module _ {D : Type 0} where
   abbrev pub DisksShow : (Name → Content) → (D → Cells) → Log → ℕ → List (Option (Place D)) → Type 0
   DisksShow source cells log size places = (n : ℕ) → IsNode size n → IsSomeAnd (disk_at (place_of places n)) (DiskShows source cells (printed log) n)
 
+-- what points rest on: versions, generations and publishes with puts become no less, and the documents of a version are what they were
+pub record PointsStay (past now : Past) : Type 0 where
+  pub newest : newest_version past ≤ newest_version now
+  pub generation : generation_of past ≤ generation_of now
+  pub puts : put_publishes past ≤ put_publishes now
+  pub documents : (v : ℕ) → v ≤ newest_version past → documents_at now v ≡ documents_at past v
+
 -- what the commits of a node rest on: points are what they were, versions that a reopening may find are more, and the commit in flight
 -- is the one that was
 pub record CommitsStay (past now : Past) (n : ℕ) : Type 0 where
-  pub newest : newest_version past ≤ newest_version now
-  pub generation : generation_of past ≤ generation_of now
-  pub documents : (v : ℕ) → v ≤ newest_version past → documents_at now v ≡ documents_at past v
+  pub points : PointsStay past now
   pub found : (v : ℕ) → may_find n v past ≡ true → may_find n v now ≡ true
   pub committed : has_committed n now ≡ has_committed n past
   pub flight : commit_in_flight n now ≡ commit_in_flight n past

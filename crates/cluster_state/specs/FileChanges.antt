@@ -4,15 +4,15 @@ use Rattle.nrt_base.specs.declared.numbers.At.{At}
 use Rattle.disk_model.specs.Disk.{Name}
 use Rattle.history_entries.specs.declared.entry.Event.{Event}
 use Rattle.history_entries.specs.declared.entry.Event.TheVariants.{Copying, Switched, Committing, Committed, Crashed, Reopened, Promoted}
-use Rattle.history_entries.specs.Nodes.{newest_version, generation_of, version_of}
+use Rattle.history_entries.specs.Nodes.{newest_version, version_of}
 use Rattle.history_entries.specs.Lines.{start_entry, before_start, copy_in_flight, highest_copy}
-use Rattle.history_entries.specs.Points.{documents_at}
 use Rattle.history_tables.specs.declared.jobs.Job.{Job}
 use Rattle.history_book.specs.Log.{Log, printed}
 use Rattle.history_book.specs.declared.inner.Inner.{Inner}
 use Rattle.history_book.specs.declared.inner.Inner.TheVariants.{JobBegun, FileOut, JobEnd}
 use Rattle.history_book.specs.Jobs.{job_at}
 use Rattle.cluster_state.specs.FilesOut.{file_out}
+use Rattle.cluster_state.specs.Disks.{PointsStay}
 
 -- the entry leaves what the log shows of the job at a replica: it starts no copy to it and does not switch it, and nothing crashes or
 -- is promoted
@@ -47,9 +47,7 @@ leaves_job i n = true
 -- what the log shows of the job at a node is what it showed: no copy to the node came, and of the newest version none that was not in flight
 pub record SameJob (log now : Log) (n : ℕ) : Type 0 where
   pub job : job_at n now ≡ job_at n log
-  pub newest : newest_version (printed log) ≤ newest_version (printed now)
-  pub generation : generation_of (printed log) ≤ generation_of (printed now)
-  pub documents : (v : ℕ) → v ≤ newest_version (printed log) → documents_at (printed now) v ≡ documents_at (printed log) v
+  pub points : PointsStay (printed log) (printed now)
   pub latest : highest_copy n (printed now) ≤ highest_copy n (printed log)
   pub version : version_of n (printed now) ≡ version_of n (printed log)
   pub start : (job : Job) → job_at n log ≡ Some job → start_entry job.at (printed log) ≢ None

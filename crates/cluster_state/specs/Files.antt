@@ -1,10 +1,12 @@
 -- What the files of a cluster's nodes have to do with each other and with the log: each name of a segment's file means the same
 -- bytes at every node, and each running job copies what the log shows of it.
-use Rattle.std.specs.Prelude.{ℕ, ◌≡◌, ◌≢◌, ◌≤◌, ◌<◌, List, Option, Some, None, IsSomeAnd, ⊤}
+use Rattle.std.specs.Prelude.{ℕ, ◌≡◌, ◌≢◌, ◌≤◌, ◌<◌, ◌+◌, ◌^◌, List, Option, Some, None, IsSomeAnd, ⊤}
 use Rattle.std.specs.List.{All}
 use Rattle.nrt_base.specs.declared.numbers.At.{At}
 use Rattle.disk_model.specs.Disk.{Name, Content, Cells}
-use Rattle.seg_reader.specs.Stands.{StandsFor}
+use Rattle.file_names.specs.Names.{live_name_of}
+use Rattle.segment_infos.specs.declared.infos.SegRecord.{SegRecord}
+use Rattle.segment_steps.specs.Next.{live_base}
 use Rattle.primary_parts.specs.declared.parts.Parts.{Parts as PrimaryParts}
 use Rattle.primary_parts.specs.declared.states.Out.{Out}
 use Rattle.primary_parts.specs.Primary.{loose_of, IsUnwritten}
@@ -15,7 +17,7 @@ use Rattle.replica_node.specs.declared.parts.Parts.{Parts as ReplicaParts}
 use Rattle.replica_node.specs.Sources.{HeldReadAs, IsSourced}
 use Rattle.history_entries.specs.Nodes.{Past, IsNode, newest_version, generation_of, version_of}
 use Rattle.history_entries.specs.Lines.{start_entry, before_start, copy_in_flight, highest_copy}
-use Rattle.history_entries.specs.Points.{documents_at, IsDrawnFile}
+use Rattle.history_entries.specs.Points.{IsDrawnFile}
 use Rattle.history_tables.specs.declared.jobs.Job.{Job}
 use Rattle.history_book.specs.Log.{Log, printed}
 use Rattle.history_book.specs.Jobs.{job_at}
@@ -29,33 +31,34 @@ use Rattle.cluster_state.specs.Disks.{IsPastPoint, DisksShow}
 use Rattle.cluster_places.specs.Outs.{states_like, jobs_like}
 
 -- The job of a replica is the one that the log shows to run there: of its number and version, which no copy to the node passed;
--- the node was behind what its line noted, and is. The files that it wants have their metadata at the source, its point is of no later
--- generation and of the documents of the version, and each file that was handed out to it is as at the source.
+-- the node was behind what its line noted, and is. Its point is one of the history, the files that it wants have their metadata at the
+-- source, and each file that was handed out to it is as at the source.
 pub record CopyShows (source : Name → Content) (log : Log) (n : ℕ) (job : Job) (j : PointJob) : Type 0 where
   pub number : j.copy.number ≡ job.number
   pub version : j.infos.version.0 ≡ job.version.0
-  pub known : job.version.0 ≤ newest_version (printed log)
+  pub point : IsPastPoint source (printed log) j.infos
   pub latest : highest_copy n (printed log) ≤ job.version.0
   pub begun : start_entry job.at (printed log) ≢ None
   pub behind : version_of n (printed log) < newest_version (before_start job.at (printed log))
   pub metas : All (λ f. HasMeta source f.0 f.1) j.copy.want.files
-  pub generation : j.infos.generation.0 ≤ generation_of (printed log)
-  pub stands : StandsFor source j.infos (documents_at (printed log) job.version.0)
   pub handed : (q : Name) (bytes : List ℕ) → file_out job.at n job.number q log ≡ Some bytes → source q ≡ Some bytes
 
--- a replica has the job that the log shows to run there; where none runs it may have one that the crash of the primary left
+-- a replica has the job that the log shows to run there, and none where none runs
 abbrev pub JobShows : (Name → Content) → Log → ℕ → Option Job → Option PointJob → Type 0
-JobShows source log n None j = ⊤
+JobShows source log n None None = ⊤
 JobShows source log n (Some job) (Some j) = CopyShows source log n job j
-JobShows source log n (Some job) None = ⊥
+JobShows source log n job j = ⊥
 
 -- the job is of this line and for this version
 abbrev pub IsJobFor : At → ℕ → Job → Type 0
 IsJobFor at v job = (job.at ≡ at) × (job.version.0 ≡ v)
 
--- each name of a segment's file that means something is that of a segment which was drawn
-abbrev pub MeansDrawn : (Name → Content) → Past → Type 0
-MeansDrawn source past = (q : Name) (bytes : List ℕ) → IsLasting q → source q ≡ Some bytes → IsDrawnFile past q
+-- Each name of a segment's file that means something is that of a segment which was drawn, and the live generation of a live file that
+-- means something is none that a later generation may give.
+pub record MeansDrawn (source : Name → Content) (past : Past) : Type 0 where
+  pub drawn : (q : Name) (bytes : List ℕ) → IsLasting q → source q ≡ Some bytes → IsDrawnFile past q
+  pub live : (r : SegRecord) (live_gen : ℕ) (bytes : List ℕ) → r.seg.0 < 2 ^ 64 → live_gen < 2 ^ 64 → source (live_name_of r.seg.0 live_gen) ≡ Some bytes
+      → live_gen < live_base (generation_of past + 1) r
 
 module _ {D : Type 0} where
   -- The replica's files read as at the source, its job is what the log shows, and what it searches is a point of the history; a copy of
@@ -67,16 +70,17 @@ module _ {D : Type 0} where
     pub flight : (at : At) → copy_in_flight n (newest_version (printed log)) (printed log) ≡ Some at
         → IsSomeAnd (job_at n log) (IsJobFor at (newest_version (printed log)))
 
-  -- The primary's files read as at the source, where nothing stands under a name that is not written yet; its point is of its
-  -- generation, and of each state as many are out as there are jobs that began with one like it.
-  pub record PrimaryFiles (source : Name → Content) (cells : D → Cells) (jobs : Out → ℕ) (p : PrimaryParts D) : Type 0 where
+  -- The primary's files read as at the source, where nothing stands under a name that is not written yet; its point is one of the history
+  -- and of its generation, and of each state as many are out as there are jobs that began with one like it.
+  pub record PrimaryFiles (source : Name → Content) (cells : D → Cells) (past : Past) (jobs : Out → ℕ) (p : PrimaryParts D) : Type 0 where
     pub held : HeldReadAs source (cells p.dir) p.files
     pub unwritten : (q : Name) → IsUnwritten p q → source q ≡ None
+    pub point : IsPastPoint source past p.point_infos
     pub generation : p.point_infos.generation ≡ p.infos.generation
     pub outs : (s : Out) → jobs s ≤ states_like s p.states
 
   abbrev pub NodeFiles : (Name → Content) → (D → Cells) → Log → (Out → ℕ) → ℕ → Node D → Type 0
-  NodeFiles source cells log jobs n (Primary p) = PrimaryFiles source cells jobs p
+  NodeFiles source cells log jobs n (Primary p) = PrimaryFiles source cells (printed log) jobs p
   NodeFiles source cells log jobs n (Replica r) = ReplicaFiles source cells log n r
   NodeFiles source cells log jobs n (Down d) = ⊤
 

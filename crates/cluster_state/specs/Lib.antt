@@ -1,4 +1,5 @@
 pub mod Run
+pub mod CallsLeft
 pub mod Lives
 pub mod Lookups
 pub mod State

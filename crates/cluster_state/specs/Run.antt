@@ -1,12 +1,20 @@
 -- What callers see of a cluster.
-use Rattle.std.specs.Prelude.{ℕ, ◌≡◌, List, Bool, true, false}
+use Rattle.std.specs.Prelude.{ℕ, zero, suc, ◌≡◌, List, Bool, true, false, unwrap_or}
+use Rattle.std.specs.List.{slice_get}
 use Rattle.history_book.specs.declared.inner.Mark.{Mark}
 
--- whether it has ended, how many nodes it has, and all that happened, newest first
+-- whether it has ended, how many nodes it has, all that happened, newest first, and how many calls of its directory the commit in flight at
+-- each node still needs, 0 where none is in flight
 pub record Run : Type 0 where
   pub ended : Bool
   pub nodes : ℕ
   pub log : List Mark
+  pub calls_left : List ℕ
+
+-- how many calls of its directory the commit in flight at a node still needs
+abbrev pub calls_at : ℕ → Run → ℕ
+calls_at zero r = 0
+calls_at (suc k) r = unwrap_or (slice_get r.calls_left k) 0
 
 -- the call has ended well, and this is the log now
 pub record IsNow (old new : Run) (now : List Mark) : Type 0 where

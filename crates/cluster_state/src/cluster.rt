@@ -10,9 +10,9 @@ use std::marker::Model;
 /// All nodes of a cluster and what happened in it. A call that finds no memory ends it: no other has a condition to rest on.
 #[derive(Drop)]
 pub struct ClusterState<D: FaultDir> {
-    pub(crate) book: Book,
-    pub(crate) places: Vec<Option<Place<D>>>,
-    pub(crate) ended: bool,
+    pub book: Book,
+    pub places: Vec<Option<Place<D>>>,
+    pub ended: bool,
 }
 
 impl<D: FaultDir> Model for ClusterState<D> {
@@ -27,8 +27,14 @@ impl<D: FaultDir> Model for ClusterState<D> {
 
     ghost use Rattle.cluster_state.specs.State.{Shows};
     ghost use Rattle.cluster_state.specs.Files.{FilesShow};
+    ghost use Rattle.cluster_state.specs.CallsLeft.{calls_in};
 
-    ghost view = { λ c. record { ended = c.ended; nodes = c.book.nodes; log = c.book.log } };
+    ghost view = { λ c. record {
+      ended = c.ended;
+      nodes = c.book.nodes;
+      log = c.book.log;
+      calls_left = calls_in c.places.items;
+    } };
 
     ghost invariant = { λ c. c.ended ≡ false → Shows D.cells c.book.log c.book.nodes c.places.items
         × FilesShow D.cells c.book.log c.book.nodes c.places.items };

@@ -2,13 +2,6 @@
 #![tactic(auto)]
 
 mod cluster;
-mod copies;
 mod laws;
-mod lists;
-mod lives;
-mod reads;
-mod settles;
-mod starting;
-mod writes;
 
 pub use cluster::ClusterState;

@@ -9,7 +9,7 @@ use Rattle.std.proofs.lemmas.List.Folds.{list_all-append}
 use Rattle.nrt_base.specs.declared.numbers.LaneNo.{LaneNo}
 use Rattle.script_serving.specs.declared.script.Line.{Line}
 use Rattle.script_serving.specs.declared.script.LineCommand.{LineCommand}
-use Rattle.script_serving.specs.declared.script.LineCommand.TheVariants.{Promote, Merge, Drain, Fault}
+use Rattle.script_serving.specs.declared.script.LineCommand.TheVariants.{Merge, Drain, Fault}
 use Rattle.script_serving.specs.declared.script.Phase.{Phase}
 use Rattle.script_serving.specs.declared.script.Script.{Script}
 use Rattle.script_serving.specs.Lines.{lines_of, lines_of_phase}
@@ -39,7 +39,6 @@ module _ (line : List ℕ) (lane : ℕ) (narrow : lane < 2 ^ 64) (built : is_bui
   not_command words e = sym (by_command (decimal lane) words (digits_of-decimal lane narrow)) ∙ (ap is_built (sym e) ∙ built)
 
   built_command : (c : LineCommand) → Ends c line lane → is_run c ≡ true
-  built_command (Promote n force) ends = absurd (false≢true (not_command (command_words (Promote n force)) ends))
   built_command (Merge factor) ends = absurd (false≢true (not_command (command_words (Merge factor)) ends))
   built_command (Drain most) ends = absurd (false≢true (not_command (command_words (Drain most)) ends))
   built_command (Fault n plan) ends = absurd (false≢true (not_command (command_words (Fault n plan)) ends))

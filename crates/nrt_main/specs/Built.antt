@@ -8,7 +8,7 @@ is_built_command name =
     bytes_eq (codes "put") name || bytes_eq (codes "delete") name || bytes_eq (codes "drop") name || bytes_eq (codes "publish") name
     || bytes_eq (codes "copy") name || bytes_eq (codes "settle") name || bytes_eq (codes "search") name || bytes_eq (codes "open") name
     || bytes_eq (codes "ask") name || bytes_eq (codes "close") name || bytes_eq (codes "files") name || bytes_eq (codes "commit") name
-    || bytes_eq (codes "crash") name || bytes_eq (codes "reopen") name
+    || bytes_eq (codes "crash") name || bytes_eq (codes "reopen") name || bytes_eq (codes "promote") name
 
 -- the program runs a statement of these words: it asks for no workers, says how many nodes there are, ends a phase, or is a line
 -- of such a command

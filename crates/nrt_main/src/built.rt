@@ -26,6 +26,7 @@ fn is_built_command(name: &[u8]) -> bool
         || is_word(b"commit", name)
         || is_word(b"crash", name)
         || is_word(b"reopen", name)
+        || is_word(b"promote", name)
 }
 
 /// Whether the program runs this statement so far.

@@ -181,7 +181,7 @@ fn lines_not_built(rt: HostRuntime) -> Result<(), Fail> {
     let rows: &[(&[u8], u32)] = &[
         (b"nodes 2\nworkers 1", 2),
         (b"nodes 2\nlog", 2),
-        (b"nodes 2\n1 crash 1 0\n1 promote 2 auto", 3),
+        (b"nodes 2\n1 crash 1 0\n1 promote 2 auto\n1 merge 2", 4),
         (b"nodes 3\n8 commit 3\njoin\n2 fault stop 1 1", 4),
         (b"nodes 2\n1 merge 2", 2),
         (b"nodes 2\n# x\n2 drain 1", 3),
@@ -223,6 +223,58 @@ fn crashes(rt: HostRuntime) -> Result<(), Fail> {
         (
             TICKET,
             b"\n5 opened 2 3 2\n6 crashed 2\n7 refused no-ticket\n8 reopened 2 1\n9 refused no-ticket\n",
+        ),
+    ];
+    for (script, wanted) in rows {
+        let (status, text) = run(rt.alloc(), &[b"run"], script, &[], &[])?;
+        assert_eq!(rt; status, Status::Done);
+        assert!(rt; text.ends_with(wanted));
+    }
+    Ok(())
+}
+
+// A published version that no replica has.
+const UNCOPIED: &[u8] =
+    b"nodes 2\n1 put a x\n1 publish\n1 put b x\n1 publish\n1 put c x\n1 publish\n1 put d x\n1 publish\n1 put e x\n1 publish\n1 copy 2\n1 put f x\n1 publish\n1 crash 1 0\n1 promote 2 6\n1 promote 2 7\n1 search 2 x\n";
+
+// The old primary comes back as a replica.
+const BACK: &[u8] =
+    b"nodes 2\n1 put a x\n1 publish\n1 copy 2\n1 put b x\n1 publish\n1 commit 1\n1 crash 1 0\n1 promote 2 auto\n1 put c x\n1 publish\n1 reopen 1\n1 search 1 x\n1 copy 1\n1 search 1 x\n1 files 1\n";
+
+// Forced versions that are too high, and the highest.
+const HIGH: &[u8] =
+    b"nodes 2\n1 crash 1 0\n1 promote 2 4611686018427387904\n1 promote 2 4611686018427387903\n1 crash 2 0\n1 promote 1 auto\n1 reopen 1\n1 promote 1 auto\n";
+
+// Two live files of one segment, of two generations.
+const LIVE: &[u8] =
+    b"nodes 3\n1 put a x\n1 put c x\n1 publish\n1 copy 2\n1 delete a\n1 publish\n1 copy 3\n1 crash 1 0\n1 promote 2 auto\n1 delete c\n1 publish\n1 copy 3\n1 search 3 x\n1 files 3\n";
+
+// Each refusal of a promotion.
+const REFUSED: &[u8] =
+    b"nodes 3\n1 promote 2 auto\n1 crash 1 0\n1 promote 1 0\n1 promote 2 0\n1 promote 2 4611686018427387904\n";
+
+#[test]
+fn promotions(rt: HostRuntime) -> Result<(), Fail> {
+    let rows: &[(&[u8], &[u8])] = &[
+        (
+            UNCOPIED,
+            b"\n15 crashed 1\n16 refused force-low 7\n17 promoted 2 2 7 8\n18 opened 2 0 8\n18 answer 2 0 8 5 1:a 1:b 1:c 1:d 1:e\n",
+        ),
+        (
+            BACK,
+            b"\n7 committing 1 3\n7 committed 1 3\n8 crashed 1\n9 promoted 2 2 3 4\n10 accepted 3\n11 publishing\n11 published 2 5\n12 reopened 1 3\n13 opened 1 0 3\n13 answer 1 0 3 2 1:a 1:b\n14 copying 1 5\n14 switched 1 5\n14 copied 1 5\n15 opened 1 0 5\n15 answer 1 0 5 2 1:a 1:c\n16 files 1 _10000.docs _10000.post _10000.si _10001.docs _10001.post _10001.si _20000.docs _20000.post _20000.si segments_1\n",
+        ),
+        (
+            HIGH,
+            b"2 crashed 1\n3 refused force-high\n4 promoted 2 2 4611686018427387903 4611686018427387904\n5 crashed 2\n6 refused down\n7 reopened 1 1\n8 refused force-high\n",
+        ),
+        (
+            LIVE,
+            b"\n8 copying 3 3\n8 switched 3 3\n8 copied 3 3\n9 crashed 1\n10 promoted 2 2 3 4\n11 accepted 4\n12 publishing\n12 published 2 5\n13 copying 3 5\n13 switched 3 5\n13 copied 3 5\n14 opened 3 0 5\n14 answer 3 0 5 1 1:a\n15 files 3 _10000.docs _10000.post _10000.si _10000_1z141z5.liv\n",
+        ),
+        (
+            REFUSED,
+            b"2 refused primary-up\n3 crashed 1\n4 refused down\n5 refused force-low 1\n6 refused force-high\n",
         ),
     ];
     for (script, wanted) in rows {

@@ -3,9 +3,9 @@ use Rattle.disk_model.specs.Disk.{Name}
 use Rattle.cluster_places.specs.declared.tasks.FileTask.{FileTask}
 use Rattle.cluster_state.specs.FilesOut.{file_out}
 use Rattle.cluster_state.specs.Copies.{HandsFile, GoesOn}
-use Rattle.cluster_core.specs.declared.turn.Turn.{Turn}
-use Rattle.cluster_core.specs.declared.turn.Turn.TheVariants.{Work, Done}
-use Rattle.cluster_core.specs.CopyCalls.{JobGoesOn}
+use Rattle.line_turns.specs.declared.turn.Turn.{Turn}
+use Rattle.line_turns.specs.declared.turn.Turn.TheVariants.{Work, Done}
+use Rattle.line_turns.specs.CopyCalls.{JobGoesOn}
 use Rattle.cluster_run.proofs.CopyLemmas.{CopyGoes, copy_goes_on, copy_stays, copy_ends, handed_out}
 use Rattle.cluster_run.proofs.copying.bring_over.Goals as goal
 

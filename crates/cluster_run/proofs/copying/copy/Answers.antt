@@ -3,9 +3,9 @@ use Rattle.history_entries.specs.declared.entry.Event.TheVariants.{Copying}
 use Rattle.history_book.specs.Log.{printed, shown}
 use Rattle.cluster_places.specs.declared.tasks.CopyTask.{CopyTask}
 use Rattle.cluster_state.specs.Copies.{newest_of}
-use Rattle.cluster_core.specs.declared.turn.Turn.{Turn}
-use Rattle.cluster_core.specs.declared.turn.Turn.TheVariants.{Work}
-use Rattle.cluster_core.specs.CopyCalls.{CopyStarts}
+use Rattle.line_turns.specs.declared.turn.Turn.{Turn}
+use Rattle.line_turns.specs.declared.turn.Turn.TheVariants.{Work}
+use Rattle.line_turns.specs.CopyCalls.{CopyStarts}
 use Rattle.cluster_run.proofs.CopyLemmas.{copy_begins, on_copy}
 use Rattle.cluster_run.proofs.copying.copy.Goals as goal
 

@@ -1,9 +1,9 @@
 use Rattle.std.proofs.Common.{subst}
 use Rattle.cluster_places.specs.declared.tasks.CopyTask.{CopyTask}
-use Rattle.cluster_core.specs.declared.turn.Turn.{Turn}
-use Rattle.cluster_core.specs.declared.turn.Turn.TheVariants.{Work, Done}
+use Rattle.line_turns.specs.declared.turn.Turn.{Turn}
+use Rattle.line_turns.specs.declared.turn.Turn.TheVariants.{Work, Done}
 use Rattle.cluster_core.specs.Doing.{IsReplied, IsRepliedAtDone}
-use Rattle.cluster_core.specs.CopyCalls.{SettleGoesOn}
+use Rattle.line_turns.specs.CopyCalls.{SettleGoesOn}
 use Rattle.cluster_run.proofs.CopyLemmas.{settle_begins, settle_goes_on, settle_ends}
 use Rattle.cluster_run.proofs.copying.settle.Goals as goal
 

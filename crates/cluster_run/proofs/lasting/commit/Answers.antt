@@ -3,12 +3,12 @@ use Rattle.history_book.specs.Log.{printed}
 use Rattle.history_entries.specs.declared.entry.Event.TheVariants.{Committing}
 use Rattle.script_serving.specs.declared.script.LineCommand.TheVariants.{Commit}
 use Rattle.cluster_places.specs.declared.tasks.CommitTask.{CommitTask}
-use Rattle.cluster_core.specs.declared.turn.Turn.{Turn}
-use Rattle.cluster_core.specs.declared.turn.Turn.TheVariants.{Work, Busy}
+use Rattle.line_turns.specs.declared.turn.Turn.{Turn}
+use Rattle.line_turns.specs.declared.turn.Turn.TheVariants.{Work, Busy}
 use Rattle.cluster_core.specs.Doing.{IsBegunBy, IsBegunAtWork}
-use Rattle.cluster_core.specs.LifeCalls.{CommitStarts}
+use Rattle.line_turns.specs.LifeCalls.{CommitStarts}
 use Rattle.cluster_run.specs.Running.{EndsLine}
-use Rattle.cluster_run.proofs.Commits.{none_commits, commit_jobs, commit_started, on_node}
+use Rattle.cluster_run.proofs.Commits.{none_commits, commit_jobs, commit_started, commit_calls, on_node}
 use Rattle.cluster_run.proofs.Steps.{on_rest}
 use Rattle.cluster_run.proofs.lasting.commit.Goals as goal
 
@@ -26,6 +26,13 @@ finish-requires-clause-started g c =
     let begun : IsBegunBy c.args.at (Committing c.args.n c.in-Work.task.version) mid =
     subst (λ (turn : Turn CommitTask). IsBegunAtWork c.args.at (λ task. Committing c.args.n task.version) mid turn) c.in-Work.is c.in_ok-commit_start.ensures.begun in
     commit_started c.args.at c.args.n c.args.cluster.now mid c.in-Work.task starts begun
+
+pub finish-requires-clause-calls : goal.finish-requires-clause-calls
+finish-requires-clause-calls g c =
+    let mid = c.commit_start.new.self in
+    let starts : CommitStarts c.args.at c.args.n c.args.cluster.now mid (Work c.in-Work.task) =
+    subst (λ (turn : Turn CommitTask). CommitStarts c.args.at c.args.n c.args.cluster.now mid turn) c.in-Work.is c.in_ok-commit_start.ensures.ok in
+    commit_calls c.args.at c.args.n c.args.cluster.now mid c.in-Work.task starts
 
 pub returns-in-Work : goal.returns-in-Work
 returns-in-Work g c =

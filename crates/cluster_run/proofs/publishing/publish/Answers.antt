@@ -2,9 +2,9 @@ use Rattle.std.proofs.Common.{subst}
 use Rattle.segment_steps.specs.declared.flushing.FlushTask.{FlushTask}
 use Rattle.history_book.specs.Log.{printed}
 use Rattle.script_serving.specs.declared.script.LineCommand.TheVariants.{Publish}
-use Rattle.cluster_core.specs.declared.turn.Turn.{Turn}
-use Rattle.cluster_core.specs.declared.turn.Turn.TheVariants.{Busy}
-use Rattle.cluster_core.specs.Calls.{PublishStarts}
+use Rattle.line_turns.specs.declared.turn.Turn.{Turn}
+use Rattle.line_turns.specs.declared.turn.Turn.TheVariants.{Busy}
+use Rattle.line_turns.specs.Calls.{PublishStarts}
 use Rattle.cluster_run.proofs.Jobs.{publish_jobs}
 use Rattle.cluster_run.proofs.Publishes.{none_flies}
 use Rattle.cluster_run.proofs.Steps.{on_reply, on_rest}

@@ -5,10 +5,10 @@ use Rattle.history_entries.specs.Lines.{last_of_line}
 use Rattle.history_entries.specs.Tickets.{open_ticket}
 use Rattle.history_book.specs.Log.{printed}
 use Rattle.script_serving.specs.declared.script.LineCommand.TheVariants.{Ask}
-use Rattle.cluster_core.specs.declared.turn.Turn.{Turn}
-use Rattle.cluster_core.specs.declared.turn.Turn.TheVariants.{Work}
+use Rattle.line_turns.specs.declared.turn.Turn.{Turn}
+use Rattle.line_turns.specs.declared.turn.Turn.TheVariants.{Work}
 use Rattle.cluster_core.specs.Doing.{IsBegunBy, IsBegunAtWork}
-use Rattle.cluster_core.specs.Calls.{AskStarts, asked_event}
+use Rattle.line_turns.specs.Calls.{AskStarts, asked_event}
 use Rattle.cluster_run.proofs.Jobs.{ask_jobs}
 use Rattle.cluster_run.proofs.Searches.{ask_asks, asks_sound}
 use Rattle.cluster_run.proofs.Steps.{on_answer, on_rest}

@@ -6,8 +6,8 @@ use Rattle.history_entries.specs.declared.entry.Event.TheVariants.{Opened}
 use Rattle.history_entries.specs.Lines.{last_of_line}
 use Rattle.history_book.specs.Log.{printed}
 use Rattle.script_serving.specs.declared.script.LineCommand.TheVariants.{Search}
-use Rattle.cluster_core.specs.declared.turn.Turn.{Turn}
-use Rattle.cluster_core.specs.declared.turn.Turn.TheVariants.{Work}
+use Rattle.line_turns.specs.declared.turn.Turn.{Turn}
+use Rattle.line_turns.specs.declared.turn.Turn.TheVariants.{Work}
 use Rattle.cluster_core.specs.Doing.{IsBegunBy, IsBegunAtWork}
 use Rattle.cluster_run.proofs.Jobs.{search_jobs}
 use Rattle.cluster_run.proofs.Searches.{search_asks}

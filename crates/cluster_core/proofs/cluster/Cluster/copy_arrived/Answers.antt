@@ -1,6 +1,6 @@
 use Rattle.std.proofs.Common.{refl}
-use Rattle.cluster_core.proofs.Rows.{legal_at, turns_at}
-use Rattle.cluster_core.proofs.CopyRows.{job_found}
+use Rattle.line_turns.proofs.Rows.{legal_at, turns_at}
+use Rattle.line_copies.proofs.CopyRows.{job_found}
 use Rattle.cluster_core.proofs.CopyDoes.{arrived_done}
 use Rattle.cluster_core.proofs.cluster.Cluster.copy_arrived.Goals as goal
 

@@ -5,8 +5,8 @@ use Rattle.history_book.specs.Log.{printed}
 use Rattle.cluster_state.specs.Run.{Run}
 use Rattle.cluster_state.specs.Copies.{newest_of}
 use Rattle.cluster_core.specs.Doing.{IsBegunAtWork}
-use Rattle.cluster_core.proofs.Rows.{fresh_in}
-use Rattle.cluster_core.proofs.Does.{does_was, runs_in}
+use Rattle.line_turns.proofs.Rows.{fresh_in}
+use Rattle.cluster_core.proofs.Does.{runs_in}
 use Rattle.cluster_core.proofs.CopyDoes.{copy_done, copy_begun}
 use Rattle.cluster_core.proofs.cluster.Cluster.copy_start.Goals as goal
 

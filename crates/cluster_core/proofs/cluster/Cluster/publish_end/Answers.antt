@@ -3,7 +3,7 @@ use Rattle.std.proofs.lemmas.Result.{on_ok_weaker}
 use Rattle.history_entries.specs.Nodes.{Past}
 use Rattle.history_entries.specs.Lines.{last_of_line}
 use Rattle.history_entries.specs.declared.entry.Event.TheVariants.{Publishing}
-use Rattle.cluster_core.proofs.Rows.{turns_at}
+use Rattle.line_turns.proofs.Rows.{turns_at}
 use Rattle.cluster_core.proofs.Does.{published_does, does_was, past_in}
 use Rattle.cluster_core.proofs.cluster.Cluster.publish_end.Goals as goal
 

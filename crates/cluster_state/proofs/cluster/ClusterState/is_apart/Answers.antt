@@ -1,4 +1,4 @@
-use Rattle.cluster_state.proofs.PublishPaths.{apart_of}
+use Rattle.cluster_state.proofs.BookLaws.{apart_of}
 use Rattle.cluster_state.proofs.cluster.ClusterState.is_apart.Goals as goal
 
 pub returns : goal.returns

@@ -1,4 +1,4 @@
-use Rattle.cluster_state.proofs.PublishPaths.{primary_is_node}
+use Rattle.cluster_state.proofs.BookLaws.{primary_is_node}
 use Rattle.cluster_state.proofs.cluster.ClusterState.primary.Goals as goal
 
 pub returns-clause-node : goal.returns-clause-node

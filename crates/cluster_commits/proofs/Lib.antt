@@ -1,0 +1,2 @@
+mod Committing
+mod CallsLeft

@@ -1,0 +1,4 @@
+mod CopiedNow
+mod Beginning
+mod CopyPaths
+mod Settling

@@ -1,0 +1,8 @@
+//! The paths that begin copies of the primary's newest point to replicas, and settles.
+#![tactic(auto)]
+
+mod copies;
+mod settles;
+
+pub use copies::{begin_copy, begin_settling, note_copied};
+pub use settles::{begin_settle, next_left};

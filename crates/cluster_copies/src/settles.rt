@@ -1,0 +1,101 @@
+//! Settles: the replicas that are copied to, in ascending order.
+
+ghost use Rattle.std.specs.Prelude.{◌≡◌, ◌≢◌, ◌≤◌, ◌∷◌, [], false, None, IfOk, OnOk, OnErr, IfSome};
+ghost use Rattle.std.specs.List.{All};
+ghost use Rattle.history_entries.specs.Nodes.{is_at, primary_of};
+ghost use Rattle.history_entries.specs.Lines.{entries_of_line, SourceSurvives};
+ghost use Rattle.history_entries.specs.Rules.{MaySettle};
+ghost use Rattle.history_book.specs.Log.{printed, shown};
+ghost use Rattle.cluster_state.specs.Settles.{AreReplicas, IsSettling, WaitsFor};
+ghost use Rattle.cluster_state.specs.Run.{IsNow, IsEnded};
+ghost use Rattle.cluster_state.specs.Copies.{newest_of};
+
+use cluster_places::SettleTask;
+use cluster_state::ClusterState;
+use disk_model::FaultDir;
+use history_book::Book;
+use history_entries::Event;
+use nrt_base::{At, NoMemory, NodeNo, Version};
+use std::alloc::Global;
+
+// Whether the node is the one.
+fn is_node(primary: Option<NodeNo>, n: NodeNo) -> bool
+    ensures { result ≡ is_at primary n.0 }
+{
+    match primary {
+        Some(p) => p.0 == n.0,
+        None => false,
+    }
+}
+
+// The replicas that run, ascending.
+fn replicas(alloc: Global, book: &Book) -> Result<Vec<NodeNo>, NoMemory>
+    ensures { IfOk result (λ left. AreReplicas book.now.nodes (printed book.now.log) left.items) }
+{
+    let primary = book.primary();
+    let mut left = Vec::new(alloc);
+    for k in 0..book.node_count() {
+        let n = NodeNo(k + 1);
+        if book.runs(n) && !is_node(primary, n) {
+            left.push(n)?;
+        }
+    }
+    Ok(left)
+}
+
+/// Starts a settle at the newest version, of all replicas that run.
+pub fn begin_settle<D: FaultDir + Drop>(
+    alloc: Global,
+    cluster: &mut ClusterState<D>,
+    at: At,
+) -> Result<SettleTask, NoMemory>
+    requires running { cluster.old.ended ≡ false }
+    requires fresh { entries_of_line at (printed cluster.old.log) ≡ [] }
+    requires source { primary_of (printed cluster.old.log) ≢ None }
+    ensures ok { OnOk result (IsNow cluster.old cluster.new
+        (shown at (Event.Settling (newest_of (printed cluster.old.log))) ∷ cluster.old.log)) }
+    ensures settling { IfOk result (IsSettling cluster.new.nodes (printed cluster.new.log) at) }
+    ensures err { OnErr result (IsEnded cluster.old cluster.new) }
+{
+    cluster.book.is_fresh(at);
+    cluster.is_apart(at);
+    cluster.has_no_commit(at);
+    let version = Version(cluster.book.newest());
+    let left = match replicas(alloc, &cluster.book) {
+        Ok(left) => left,
+        Err(fault) => {
+            cluster.ended = true;
+            return Err(fault);
+        }
+    };
+    cluster.note(at, Event::Settling { v: version })?;
+    Ok(SettleTask { version, left })
+}
+
+/// Passes what has reached the settle's version or has crashed since its start, and answers the first replica that is left.
+pub fn next_left<D: FaultDir + Drop>(
+    cluster: &ClusterState<D>,
+    at: At,
+    task: &mut SettleTask,
+) -> Option<NodeNo>
+    requires running { cluster.now.ended ≡ false }
+    requires settling { IsSettling cluster.now.nodes (printed cluster.now.log) at task.old }
+    requires survives { SourceSurvives (printed cluster.now.log) at }
+    ensures settling { IsSettling cluster.now.nodes (printed cluster.now.log) at task.new }
+    ensures version { task.new.version ≡ task.old.version }
+    ensures first { IfSome result (λ n. All (λ m. n.0 ≤ m.0) task.new.left.items) }
+    ensures waits { IfSome result
+        (WaitsFor cluster.now.nodes (printed cluster.now.log) at task.new.version.0) }
+    ensures done { result ≡ None
+        → MaySettle cluster.now.nodes (printed cluster.now.log) at task.new.version }
+{
+    cluster.book.is_legal();
+    while let Some(n) = task.left.first() {
+        let n = *n;
+        if cluster.book.node_survives(at, n) && cluster.book.version(n) < task.version.0 {
+            return Some(n);
+        }
+        task.left.remove(0);
+    }
+    None
+}

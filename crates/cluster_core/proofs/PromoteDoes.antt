@@ -1,0 +1,29 @@
+-- What a line that promotes a node does for it, from the entry that it adds.
+use Rattle.std.proofs.Common.{◌+◌, ◌∷◌, refl}
+use Rattle.nrt_base.specs.declared.numbers.At.{At}
+use Rattle.nrt_base.specs.declared.numbers.NodeNo.{NodeNo}
+use Rattle.history_entries.specs.declared.entry.Event.{Event}
+use Rattle.history_entries.specs.declared.entry.Event.TheVariants.{Promoted}
+use Rattle.history_entries.specs.Nodes.{generation_of}
+use Rattle.history_book.specs.Laws.{IsFresh}
+use Rattle.history_book.specs.Log.{printed, shown}
+use Rattle.script_serving.specs.declared.script.Force.{Force}
+use Rattle.script_serving.specs.declared.script.LineCommand.TheVariants.{Promote}
+use Rattle.script_serving.specs.Refusals.{forced_version, refusal}
+use Rattle.cluster_state.specs.Run.{Run, IsNow}
+use Rattle.line_promotions.specs.PromoteCalls.{promote_event}
+use Rattle.cluster_core.specs.Doing.{Does, IsReplied}
+use Rattle.cluster_core.proofs.Does.{row_does, row_replied}
+
+module _ (at : At) (n : NodeNo) (force : Force) (old new : Run) where
+  -- what the line does where it is not refused
+  abbrev promotion : Event
+  promotion =
+      let forced = forced_version force (printed old.log) in
+      Promoted n (record { 0 = generation_of (printed old.log) + 1 }) (record { 0 = forced }) (record { 0 = forced + 1 })
+
+  pub promote_does : IsFresh at (printed old.log) → IsNow old new (shown at (promote_event at.lane.0 n force (printed old.log)) ∷ old.log) → Does (Promote n force) at old new
+  promote_does fresh now = row_does (Promote n force) at old new (refusal (Promote n force) at.lane.0 (printed old.log)) promotion (λ suits. suits) fresh refl now (refl, refl)
+
+  pub promote_replied : IsNow old new (shown at (promote_event at.lane.0 n force (printed old.log)) ∷ old.log) → IsReplied at new
+  promote_replied now = row_replied at old new (refusal (Promote n force) at.lane.0 (printed old.log)) promotion refl now

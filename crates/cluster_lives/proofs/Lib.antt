@@ -1,0 +1,3 @@
+mod Crashing
+mod Outliving
+mod Reopening

@@ -1,0 +1,72 @@
+//! Crashes and reopenings of nodes.
+
+ghost use Rattle.std.specs.Prelude.{◌≡◌, ◌∷◌, [], false, true, OnOk, OnErr};
+ghost use Rattle.history_entries.specs.Nodes.{IsNode, is_running};
+ghost use Rattle.history_entries.specs.Lines.{entries_of_line};
+ghost use Rattle.history_book.specs.Log.{printed, shown};
+ghost use Rattle.cluster_state.specs.Run.{IsNow, IsEnded};
+ghost use Rattle.cluster_state.specs.Lives.{Reopens};
+
+use cluster_state::ClusterState;
+use disk_model::FaultDir;
+use history_entries::Event;
+use node_lives::{crash_in, reopen_in};
+use nrt_base::{At, NoMemory, NodeNo};
+use replica_node::laws::files_last;
+use std::alloc::Global;
+
+/// Crashes a running node. Its tickets and searches are gone with it, and its directory is one that a crash may leave: the
+/// number picks among these. `Err` is want of memory: the cluster has ended, and the history is as before.
+pub fn crash_node<D: FaultDir + Drop>(
+    alloc: Global,
+    cluster: &mut ClusterState<D>,
+    at: At,
+    n: NodeNo,
+    pick: u64,
+) -> Result<(), NoMemory>
+    requires running { cluster.old.ended ≡ false }
+    requires fresh { entries_of_line at (printed cluster.old.log) ≡ [] }
+    requires node { IsNode cluster.old.nodes n.0 }
+    requires up { is_running n.0 (printed cluster.old.log) ≡ true }
+    ensures ok { OnOk result (IsNow cluster.old cluster.new
+        (shown at (Event.Crashed n) ∷ cluster.old.log)) }
+    ensures err { OnErr result (IsEnded cluster.old cluster.new) }
+{
+    let primary = cluster.primary();
+    cluster.book.is_fresh(at);
+    files_last();
+    cluster.ended = true;
+    cluster.book.reserve(1)?;
+    crash_in(alloc, &mut cluster.places, primary, n, pick)?;
+    cluster.book.show(at, Event::Crashed { n });
+    cluster.book.is_idle();
+    cluster.ended = false;
+    Ok(())
+}
+
+/// Reopens a node that is down as a replica, at a version of its commits. `Err` is want of memory, or a disk that failed: the
+/// cluster has ended, and the history is as before.
+pub fn reopen_node<D: FaultDir + Drop>(
+    alloc: Global,
+    cluster: &mut ClusterState<D>,
+    at: At,
+    n: NodeNo,
+) -> Result<(), NoMemory>
+    requires running { cluster.old.ended ≡ false }
+    requires fresh { entries_of_line at (printed cluster.old.log) ≡ [] }
+    requires node { IsNode cluster.old.nodes n.0 }
+    requires down { is_running n.0 (printed cluster.old.log) ≡ false }
+    ensures ok { OnOk result (Reopens at n cluster.old cluster.new) }
+    ensures err { OnErr result (IsEnded cluster.old cluster.new) }
+{
+    cluster.book.is_fresh(at);
+    cluster.book.is_legal();
+    cluster.book.is_idle();
+    files_last();
+    cluster.ended = true;
+    cluster.book.reserve(1)?;
+    let v = reopen_in(alloc, &mut cluster.places, n)?;
+    cluster.book.show(at, Event::Reopened { n, v });
+    cluster.ended = false;
+    Ok(())
+}

@@ -1,0 +1,6 @@
+//! Promotions of nodes.
+#![tactic(auto)]
+
+mod promoting;
+
+pub use promoting::promote_node;

@@ -1,0 +1,2 @@
+mod FirstNodes
+mod FirstPlaces

@@ -1,6 +1,0 @@
-use Rattle.std.proofs.Common.{◌∙◌, sym}
-use Rattle.cluster_state.proofs.JobEnds.{source_ends}
-use Rattle.cluster_state.proofs.cluster.ClusterState.source_of.Goals as goal
-
-pub unreachable-requires : goal.unreachable-requires
-unreachable-requires g c = source_ends c.args.self.now _ c.self.inside.book c.args.row c.self.view_is c.is_legal.ensures.legal c.job_shows.ensures c.requires.runs.source (sym c.primary.ensures.is ∙ c.in-None.is)

@@ -1,7 +1,0 @@
-use Rattle.std.proofs.Common.{arith}
-use Rattle.cluster_state.proofs.FirstPlaces.{first_state}
-use Rattle.cluster_state.proofs.cluster.ClusterState.start.Goals as goal
-
-pub invariant_of-result : goal.invariant_of-result
-invariant_of-result g c = λ running.
-    first_state g.D.Dir.cells _ _ _ _ c.in_ok-book.ensures.log (omega (arith, c.in_ok-book.ensures.nodes, c.len.ensures, c.args.dirs.ok.0)) c.requires.some c.in_ok-places.ensures.count c.in_ok-places.ensures.each

@@ -1,0 +1,5 @@
+mod Handing
+mod HandPaths
+mod PartPaths
+mod JobEnds
+mod Ending

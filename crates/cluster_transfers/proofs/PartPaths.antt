@@ -1,0 +1,220 @@
+-- A part that a job takes, in the terms of a call.
+use Rattle.std.proofs.Common.{◌≡◌, ◌≤◌, ◌<◌, ℕ, Bool, false, List, Some, None, Option, Vec, Global, refl, ap, ◌∙◌, sym, subst, arith}
+use Rattle.std.specs.Prelude.{IsSome, IsSomeAnd, IfSome}
+use Rattle.std.specs.List.{All}
+use Rattle.disk_model.specs.Disk.{Name, Content, Cells, same}
+use Rattle.copy_state.specs.declared.meta.FileMetaData.{FileMetaData}
+use Rattle.copy_state.specs.declared.state.CopyState.{CopyState}
+use Rattle.copy_state.specs.States.{meta_in}
+use Rattle.copy_state.specs.Meta.{IsMetaOf}
+use Rattle.copy_state.proofs.MetaLaws.{one_meta}
+use Rattle.copy_job.specs.declared.copying.Part.{Part}
+use Rattle.primary_parts.specs.declared.states.Out.{Out}
+use Rattle.primary_parts.specs.States.{out_of}
+use Rattle.segment_infos.specs.declared.infos.Infos.{Infos}
+use Rattle.replica_opening.specs.Known.{HasMeta}
+use Rattle.replica_node.specs.declared.job.PointJob.{PointJob}
+use Rattle.replica_node.specs.declared.parts.Parts.{Parts as ReplicaParts}
+use Rattle.history_entries.specs.Nodes.{IsNode, IsReplica, version_of, generation_of}
+use Rattle.history_tables.specs.declared.jobs.Job.{Job}
+use Rattle.history_tables.specs.declared.jobs.JobRow.{JobRow}
+use Rattle.history_book.specs.Log.{Log, printed}
+use Rattle.history_book.specs.Jobs.{job_at, LaneJobShows}
+use Rattle.cluster_places.specs.declared.held.Held.{Held}
+use Rattle.cluster_places.specs.declared.nodes.Node.TheVariants.{Replica}
+use Rattle.cluster_places.specs.declared.nodes.Place.{Place}
+use Rattle.cluster_state.specs.Run.{Run}
+use Rattle.cluster_places.specs.Places.{place_of}
+use Rattle.cluster_state.specs.State.{IsPointAt, HoldsTickets, PlaceShows, Shows}
+use Rattle.cluster_places.specs.Outs.{want_of, jobs_like}
+use Rattle.cluster_state.specs.Files.{CopyShows, JobShows, ReplicaFiles, NodeFiles, FilesShow}
+use Rattle.cluster_state.specs.FilesOut.{file_out}
+use Rattle.cluster_state.specs.Copies.{JobRuns}
+use Rattle.cluster_places.specs.JobChanges.{HasReplica, TakesPart}
+use Rattle.cluster_places.specs.JobPlaces.{CanTake, TakesIn}
+use Rattle.cluster_state.specs.Disks.{IsPastPoint}
+use Rattle.cluster_state.proofs.Points.{points_alone}
+use Rattle.cluster_state.proofs.Disks.{commits_alone, disk_moved, disk_same, disks_kept}
+use Rattle.cluster_state.proofs.Frames.{some_at, slot_of, was}
+use Rattle.cluster_places.proofs.OutCounts.{jobs_same}
+use Rattle.replica_node.specs.Replica.{IsJobAbove}
+use Rattle.cluster_state.proofs.Drawn.{grows_none}
+use Rattle.cluster_state.proofs.Naming.{FilesLast, took_steps}
+use Rattle.cluster_state.proofs.FileFrames.{names_one, Both, both_of, node_files, one_each, wants_same, files_was}
+use Rattle.cluster_state.proofs.FileJobs.{JobHere, ReplicaHere, job_here, replica_here, runs_at}
+use Rattle.cluster_state.proofs.JobMoves.{shows_put}
+use Rattle.cluster_state.proofs.Wider.{meta_at_source}
+use Rattle.cluster_state.proofs.JobFrames.{job_stays}
+
+pub some_job : (o : Option PointJob) (j : PointJob) → o ≡ Some j → IsSome o
+some_job None j is = absurd (cc)
+some_job (Some k) j is = refl
+
+module _ {D : Type 0} (cells : D → Cells) where
+  -- a replica with its files
+  pub there_both : (log : Log) (size n : ℕ) (places : List (Option (Place D))) (shows : Shows cells log size places) (files : FilesShow cells log size places) (r : ReplicaParts D) (held : Vec Held Global) → IsNode size n
+      → place_of places n ≡ Some (record { node = Replica r; held = held }) → PlaceShows cells log n (record { node = Replica r; held = held }) × ReplicaFiles files.source cells log n r
+  there_both log size n places shows files r held node there =
+      some_at (Both cells files.source log (λ s. jobs_like places s size) n) (place_of places n) (record { node = Replica r; held = held }) there (both_of cells log size places shows files n node)
+
+  -- the part was handed out to the job that runs, so its metadata is what is wanted
+  part_meta : (source : Name → Content) (log : Log) (n : ℕ) (job : Job) (r : ReplicaParts D) (part : Part) → job_at n log ≡ Some job → file_out job.at n job.number part.name log ≡ Some part.bytes → IsMetaOf part.bytes part.meta
+      → ReplicaFiles source cells log n r → IfSome r.job (λ j. (meta : FileMetaData) → meta_in j.copy.want.files part.name ≡ Some meta → meta ≡ part.meta)
+  part_meta source log n job r part is out meta_is files =
+      subst (λ (o : Option PointJob). IfSome o (λ j. (meta : FileMetaData) → meta_in j.copy.want.files part.name ≡ Some meta → meta ≡ part.meta)) (sym here.runs) wanted
+    where
+      here : JobHere cells source log n job r
+      here = job_here cells source log n job r is files
+
+      same_bytes : (h : List ℕ) → source part.name ≡ Some h → h ≡ part.bytes
+      same_bytes h there = let both : Some h ≡ Some part.bytes = sym there ∙ here.shows.handed part.name part.bytes out in cc
+
+      wanted : (meta : FileMetaData) → meta_in here.point.copy.want.files part.name ≡ Some meta → meta ≡ part.meta
+      wanted meta named =
+          let h = meta_at_source source here.point.copy.want.files part.name meta here.shows.metas named in
+          one_meta part.bytes meta part.meta (subst (λ (b : List ℕ). IsMetaOf b meta) (same_bytes h.bytes h.there) h.meta_is) meta_is
+
+  can_take_of : (log : Log) (size : ℕ) (places : List (Option (Place D))) (job : Job) (part : Part) (shows : Shows cells log size places) (files : FilesShow cells log size places) → IsNode size job.node.0 → IsReplica (printed log) job.node.0
+      → job_at job.node.0 log ≡ Some job → file_out job.at job.node.0 job.number part.name log ≡ Some part.bytes → IsMetaOf part.bytes part.meta → CanTake job.node.0 part places
+  can_take_of log size places job part shows files node replica is out meta_is = record {
+    slot = slot_of cells log size job.node.0 places node shows;
+    replica = subst HasReplica (sym here.at.there) tt;
+    some = λ r held there. let h = job_here cells files.source log job.node.0 job r is (there_both log size job.node.0 places shows files r held node there).1 in some_job r.job h.point h.runs;
+    wanted = λ r held there. part_meta files.source log job.node.0 job r part is out meta_is (there_both log size job.node.0 places shows files r held node there).1;
+  }
+    where
+      here : ReplicaHere cells files.source log job.node.0 places
+      here = replica_here cells log size job.node.0 places shows files node replica
+
+  -- ---- it was taken
+
+  place_took : (log : Log) (n : ℕ) (part : Part) (r s : ReplicaParts D) (held : Vec Held Global) → TakesPart cells part r s → PlaceShows cells log n (record { node = Replica r; held = held }) → PlaceShows cells log n (record { node = Replica s; held = held })
+  place_took log n part r s held takes shows = record {
+    node_shows = record {
+      running = shows.node_shows.running;
+      other = shows.node_shows.other;
+      whole = takes.whole shows.node_shows.whole;
+      standing = takes.standing shows.node_shows.standing;
+      point = subst (λ (x : ReplicaParts D). IsPointAt (printed log) (version_of n (printed log)) x.searchers.point) (sym takes.others) shows.node_shows.point;
+      seen = subst (λ (x : ReplicaParts D). x.seen.0 ≤ generation_of (printed log)) (sym takes.others) shows.node_shows.seen;
+    };
+    tickets = subst (λ (x : ReplicaParts D). HoldsTickets (printed log) n x.searchers.tickets held.items) (sym takes.others) shows.tickets;
+  }
+
+  -- the same job
+  record Goes (j k : PointJob) : Type 0 where
+    number : k.copy.number ≡ j.copy.number
+    want : k.copy.want ≡ j.copy.want
+    infos : k.infos ≡ j.infos
+
+  copy_took : (source : Name → Content) (log : Log) (n : ℕ) (job : Job) (j k : PointJob) → Goes j k → CopyShows source log n job j → CopyShows source log n job k
+  copy_took source log n job j k goes shows = record {
+    number = goes.number ∙ shows.number;
+    version = ap (λ (i : Infos). i.version.0) goes.infos ∙ shows.version;
+    point = subst (λ (i : Infos). IsPastPoint source (printed log) i) (sym goes.infos) shows.point;
+    latest = shows.latest;
+    begun = shows.begun;
+    behind = shows.behind;
+    metas = subst (λ (w : CopyState). All (λ f. HasMeta source f.0 f.1) w.files) (sym goes.want) shows.metas;
+    handed = shows.handed;
+  }
+
+  record NextJob (s : ReplicaParts D) (j : PointJob) : Type 0 where
+    point : PointJob
+    there : s.job ≡ Some point
+    goes : Goes j point
+
+  next_job : (part : Part) (r s : ReplicaParts D) (j : PointJob) → TakesPart cells part r s → r.job ≡ Some j → NextJob s j
+  next_job part r s j takes is = found s.job refl (subst (λ (o : Option PointJob). IfSome o (λ i. IsSomeAnd s.job (λ k. (k.copy.number ≡ i.copy.number) × (k.copy.want ≡ i.copy.want) × (k.infos ≡ i.infos)))) is takes.job)
+    where
+      found : (o : Option PointJob) → s.job ≡ o → IsSomeAnd o (λ k. (k.copy.number ≡ j.copy.number) × (k.copy.want ≡ j.copy.want) × (k.infos ≡ j.infos)) → NextJob s j
+      found None there none = absurd none
+      found (Some k) there goes = record { point = k; there = there; goes = record { number = goes.0; want = goes.1; infos = goes.2 } }
+
+  pub files_took : (size : ℕ) (log : Log) (old new : List (Option (Place D))) (job : Job) (part : Part) → FilesLast → Shows cells log size old → FilesShow cells log size old → IsNode size job.node.0
+      → job_at job.node.0 log ≡ Some job → file_out job.at job.node.0 job.number part.name log ≡ Some part.bytes → TakesIn cells job.node.0 part old new → Shows cells log size new × FilesShow cells log size new
+  files_took size log old new job part lasting shows files node is out b = (
+    shows_put cells size log old new n x b.moves (place_took log n part r s b.at.held b.takes both.0) shows,
+    record {
+      source = files.source;
+      drawn = files.drawn;
+      names = names_one cells size (printed log) (printed log) old new n x y (grows_none (printed log)) b.moves node b.at.there
+          (took_steps cells files.source (printed log) here.point part r s r.searchers.point.version.0 lasting files.drawn here.shows.metas above here.runs b.takes) files.names;
+      each = one_each {P = Both cells files.source log jobs} {Q = λ m z. NodeFiles files.source cells log count m z.node} size n x old new b.moves (both_of cells log size old shows files)
+          (λ m z other apart has. node_files cells files.source log log jobs count m z.node (points_alone (printed log)) (λ t rep. job_stays log m) fewer has.1)
+          mine;
+      disks = disks_kept cells files.source files.source log log size old new (λ name bytes is. is) (disk_moved n x y old new b.moves b.at.there (disk_same r.commits s.commits (ap (λ (t : ReplicaParts D). t.commits) b.takes.others)))
+          (λ m. commits_alone (printed log) m) files.disks;
+    },
+  )
+    where
+      n : ℕ
+      n = job.node.0
+
+      r : ReplicaParts D
+      r = b.at.parts
+
+      s : ReplicaParts D
+      s = b.replica
+
+      x : Place D
+      x = record { node = Replica s; held = b.at.held }
+
+      y : Place D
+      y = record { node = Replica r; held = b.at.held }
+
+      jobs : Out → ℕ
+      jobs o = jobs_like old o size
+
+      count : Out → ℕ
+      count o = jobs_like new o size
+
+      both : PlaceShows cells log n y × ReplicaFiles files.source cells log n r
+      both = there_both log size n old shows files r b.at.held node b.at.there
+
+      here : JobHere cells files.source log n job r
+      here = job_here cells files.source log n job r is both.1
+
+      above : IsJobAbove r.searchers.point.version.0 here.point
+      above = subst (λ (o : Option PointJob). IfSome o (IsJobAbove r.searchers.point.version.0)) here.runs both.0.node_shows.whole.newer
+
+      next : NextJob s here.point
+      next = next_job part r s here.point b.takes here.runs
+
+      want : want_of s.job ≡ want_of r.job
+      want = ap want_of next.there ∙ (ap (λ (w : CopyState). Some (out_of w)) next.goes.want ∙ sym (ap want_of here.runs))
+
+      fewer : (o : Out) → count o ≤ jobs o
+      fewer o = let same : jobs_like new o size ≡ jobs_like old o size = jobs_same old new o size (λ m low. wants_same n x y old new b.moves b.at.there want m) in omega (arith, same)
+
+      mine : ReplicaFiles files.source cells log n s
+      mine = record {
+        sourced = b.takes.sourced files.source (here.shows.handed part.name part.bytes out) both.1.sourced;
+        job = subst (λ (o : Option Job). JobShows files.source log n o s.job) (sym is)
+            (subst (λ (o : Option PointJob). JobShows files.source log n (Some job) o) (sym next.there) (copy_took files.source log n job here.point next.point next.goes here.shows));
+        point = subst (λ (i : Infos). IsPastPoint files.source (printed log) i) (sym (ap (λ (t : ReplicaParts D). t.infos) b.takes.others)) both.1.point;
+        flight = both.1.flight;
+      }
+
+  -- ---- in the terms of a call
+
+  pub can_take : (r : Run) (ended : Bool) (size : ℕ) (log : Log) (places : List (Option (Place D))) (row : JobRow) (part : Part) → {left : List ℕ} → record { ended = ended; nodes = size; log = log; calls_left = left } ≡ r → r.ended ≡ false
+      → (ended ≡ false → Shows cells log size places × FilesShow cells log size places) → JobRuns r.log row → LaneJobShows size (printed log) row → IsReplica (printed log) row.job.node.0
+      → file_out row.job.at row.job.node.0 row.job.number part.name r.log ≡ Some part.bytes → IsMetaOf part.bytes part.meta → CanTake row.job.node.0 part places
+  can_take r ended size log places row part view running pair runs lane replica out meta_is =
+      let same_log : log ≡ r.log = ap (λ (x : Run). x.log) view in
+      let same_size : size ≡ r.nodes = ap (λ (x : Run). x.nodes) view in
+      let lane_now : LaneJobShows r.nodes (printed r.log) row = subst (λ (x : Log × ℕ). LaneJobShows x.1 (printed x.0) row) (λ i. (same_log i, same_size i)) lane in
+      can_take_of r.log r.nodes places row.job part (was cells r ended size log places view running (λ e. (pair e).0)) (files_was cells r ended size log places view running (λ e. (pair e).1))
+      lane_now.node (subst (λ (l : Log). IsReplica (printed l) row.job.node.0) same_log replica) (runs_at r.nodes r.log row runs lane_now) out meta_is
+
+  pub part_path : (r : Run) (ended : Bool) (size : ℕ) (log : Log) (old new : List (Option (Place D))) (row : JobRow) (part : Part) → {left : List ℕ} → record { ended = ended; nodes = size; log = log; calls_left = left } ≡ r → r.ended ≡ false
+      → (ended ≡ false → Shows cells log size old × FilesShow cells log size old) → FilesLast → JobRuns r.log row → LaneJobShows size (printed log) row
+      → file_out row.job.at row.job.node.0 row.job.number part.name r.log ≡ Some part.bytes → TakesIn cells row.job.node.0 part old new → Shows cells log size new × FilesShow cells log size new
+  part_path r ended size log old new row part view running pair lasting runs lane out b =
+      let same_log : log ≡ r.log = ap (λ (x : Run). x.log) view in
+      let same_size : size ≡ r.nodes = ap (λ (x : Run). x.nodes) view in
+      let lane_now : LaneJobShows r.nodes (printed r.log) row = subst (λ (x : Log × ℕ). LaneJobShows x.1 (printed x.0) row) (λ i. (same_log i, same_size i)) lane in
+      let now = files_took r.nodes r.log old new row.job part lasting (was cells r ended size log old view running (λ e. (pair e).0)) (files_was cells r ended size log old view running (λ e. (pair e).1))
+      lane_now.node (runs_at r.nodes r.log row runs lane_now) out b in
+      subst (λ (x : Log × ℕ). Shows cells x.0 x.1 new × FilesShow cells x.0 x.1 new) (λ i. (sym same_log i, sym same_size i)) now

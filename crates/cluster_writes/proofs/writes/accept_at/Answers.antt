@@ -1,0 +1,42 @@
+use Rattle.std.proofs.Common.{ℕ, ◌+◌, ◌∙◌, ap}
+use Rattle.history_entries.specs.declared.entry.Event.TheVariants.{Accepted}
+use Rattle.cluster_state.proofs.Frames.{slot_at, slot_kept, there_at, rule_at}
+use Rattle.cluster_writes.proofs.PublishPaths.{primary_stands, may_accept, accept_path}
+use Rattle.cluster_writes.proofs.PublishFiles.{accept_files}
+use Rattle.cluster_writes.proofs.writes.accept_at.Goals as goal
+
+pub take-requires-clause-slot : goal.take-requires-clause-slot
+take-requires-clause-slot g c = slot_at g.D.Dir.cells c.args.cluster.now _ _ c.args.p.0 _ _ c.cluster.view_is c.requires.running (λ e. (c.cluster.invariant e).0) c.requires.node
+
+pub take-requires-clause-there : goal.take-requires-clause-there
+take-requires-clause-there g c = there_at g.D.Dir.cells c.args.cluster.now _ _ c.args.p.0 _ _ c.cluster.view_is c.requires.running (λ e. (c.cluster.invariant e).0) c.requires.node
+
+pub primary_in-primary-requires : goal.primary_in-primary-requires
+primary_in-primary-requires g c = primary_stands g.D.Dir.cells c.args.cluster.now _ c.cluster.inside.book _ c.args.p _ c.cluster.view_is c.requires.running (λ e. (c.cluster.invariant e).0) c.requires.node c.take.ensures.place c.requires.primary
+
+pub put-requires : goal.put-requires
+put-requires g c = record { slot = slot_kept g.D.Dir.cells _ _ c.args.p.0 c.take.ensures.count (slot_at g.D.Dir.cells c.args.cluster.now _ _ c.args.p.0 _ _ c.cluster.view_is c.requires.running (λ e. (c.cluster.invariant e).0) c.requires.node) }
+
+pub show-requires-clause-rule : goal.show-requires-clause-rule
+show-requires-clause-rule g c = rule_at c.args.cluster.now _ c.cluster.inside.book c.reserve.new.self c.args.at (Accepted c.in-Some.seq c.args.op) c.cluster.view_is c.in_ok-reserve.ensures.log c.in_ok-reserve.ensures.nodes
+    (may_accept c.args.cluster.now _ c.cluster.inside.book c.args.at c.args.p c.in-Some.seq c.args.op c.cluster.view_is c.is_fresh.ensures c.requires.primary (c.in-Some.ensures.0 ∙ ap (λ (k : ℕ). k + 1) c.accepted.ensures))
+
+pub invariant_of-cluster-2 : goal.invariant_of-cluster-2
+invariant_of-cluster-2 g c = λ running. (
+  accept_path g.D.Dir.cells c.args.cluster.now _ c.cluster.inside.book c.reserve.new.self c.show.new.self _ c.take.new.places.items _ c.args.at c.args.p c.in-Some.seq c.args.op c.in_ok-copy.copy
+      c.take.result c.primary_in-primary.result.0 c.accept-place.new.self c.primary_in-primary.result.1
+      c.cluster.view_is c.requires.running (λ e. (c.cluster.invariant e).0) c.in_ok-reserve.ensures.log c.in_ok-reserve.ensures.nodes c.show.ensures.log c.show.ensures.nodes c.show.ensures.legal c.show.ensures.turns
+      c.is_fresh.ensures
+      (may_accept c.args.cluster.now _ c.cluster.inside.book c.args.at c.args.p c.in-Some.seq c.args.op c.cluster.view_is c.is_fresh.ensures c.requires.primary (c.in-Some.ensures.0 ∙ ap (λ (k : ℕ). k + 1) c.accepted.ensures))
+      c.requires.node c.requires.primary
+      (record { count = c.take.ensures.count; taken = c.take.ensures.places; again = c.put.ensures.count; there = c.put.ensures.places })
+      c.take.ensures.place c.primary_in-primary.ensures
+      c.in_ok-copy.ensures c.in_ok-place.ensures.waits c.accept-place.ensures.whole,
+  accept_files g.D.Dir.cells c.args.cluster.now _ c.cluster.inside.book c.reserve.new.self _ c.take.new.places.items _ c.args.p c.take.result c.primary_in-primary.result.0 c.accept-place.new.self c.primary_in-primary.result.1
+      c.cluster.view_is c.requires.running (λ e. (c.cluster.invariant e).0) (λ e. (c.cluster.invariant e).1) c.in_ok-reserve.ensures.log c.in_ok-reserve.ensures.nodes c.requires.node
+      (record { count = c.take.ensures.count; taken = c.take.ensures.places; again = c.put.ensures.count; there = c.put.ensures.places })
+      c.take.ensures.place c.primary_in-primary.ensures
+      c.show.new.self c.args.at c.show.ensures.legal c.show.ensures.turns c.in-Some.seq c.args.op c.in_ok-copy.copy c.show.ensures.log c.show.ensures.nodes c.is_fresh.ensures
+      (may_accept c.args.cluster.now _ c.cluster.inside.book c.args.at c.args.p c.in-Some.seq c.args.op c.cluster.view_is c.is_fresh.ensures c.requires.primary (c.in-Some.ensures.0 ∙ ap (λ (k : ℕ). k + 1) c.accepted.ensures))
+      c.in_ok-place.ensures.waits,
+)

@@ -1,0 +1,5 @@
+mod Places
+mod HeardLanes
+mod Crews
+mod Seatings
+mod Endings

@@ -1,0 +1,52 @@
+//! Lanes and workers, and what runs the lines of a lane.
+
+ghost use Rattle.std.specs.Prelude.{◌≡◌, Bool, [], IsTrue, OnOk};
+ghost use Rattle.history_entries.specs.Lines.{entries_of_line};
+ghost use Rattle.script_serving.specs.declared.script.LineCommand.{LineCommand};
+ghost use Rattle.history_book.specs.Log.{printed};
+ghost use Rattle.lane_seats.specs.declared.run.Setup.{Setup};
+ghost use Rattle.lane_seats.specs.Seats.{log_seen, IsLaneSeat, EndsItsLine};
+
+use hist_lock::{Grows, HistLock, LaneSeat};
+use lane_seats::{Halt, LaneRun, Setup};
+use nrt_base::{LaneNo, NoMemory};
+use script_serving::{Line, LineCommand};
+use std::sync::Wait;
+
+/// One of those that run beside each other over one lock: a lane, which runs its lines, or a worker, whose number is above those of the
+/// eight lanes.
+#[derive(Drop)]
+pub struct Lane<T: Grows> {
+    pub seat: LaneSeat<T>,
+    pub number: LaneNo,
+    /// Whether it was out of memory in the last phase.
+    pub failed: bool,
+}
+
+/// What runs a line: it takes the lock as often as the line has steps, and works between them.
+///
+/// It is shared by all lanes.
+pub trait RunsLines<T: LaneRun> {
+    /// How the runs were set up whose lines it runs.
+    ghost set_up: { Self → Setup };
+
+    /// Whether it runs lines of this command.
+    ghost runs: { Self → LineCommand → Bool };
+
+    /// Runs a line of which no entry stands there, from its start to its reply. `Err` is want of memory alone.
+    ///
+    /// A line that waits for another lane's ends too once a lane has failed.
+    fn run_line<R: Wait>(
+        &self,
+        rt: &R,
+        lock: &HistLock<T>,
+        halt: &Halt,
+        seat: &mut LaneSeat<T>,
+        line: &Line,
+    ) -> Result<(), NoMemory>
+        requires seat { IsLaneSeat (set_up self.now).log lock.now line.now.at.lane.0 seat.old }
+        requires runs { IsTrue (runs self.now line.now.command) }
+        requires fresh { entries_of_line line.now.at (printed (log_seen seat.old)) ≡ [] }
+        ensures { OnOk result (EndsItsLine (set_up self.now).log lock.now
+            line.now.command line.now.at seat.old seat.new) };
+}

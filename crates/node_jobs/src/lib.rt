@@ -1,0 +1,9 @@
+//! Jobs that copy the primary's point to a replica, in the terms of nodes and of their places.
+#![tactic(auto)]
+
+mod jobs;
+mod states;
+mod transfers;
+
+pub use states::share_state;
+pub use transfers::{begin_in, finish_in, next_in, read_in, take_in, take_replica};

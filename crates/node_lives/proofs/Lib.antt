@@ -1,0 +1,2 @@
+mod CrashedPlaces
+mod EndedJobs
