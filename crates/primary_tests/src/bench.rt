@@ -45,6 +45,14 @@ pub enum Call {
     Publish,
     /// A publish that leads to this.
     PublishTo(Outcome),
+    /// The start of a merge of so many neighbours, which leads to this.
+    MergeStart(u32, Outcome),
+    /// The oldest merge is made, which leads to this.
+    MergeReady(Outcome),
+    /// The cut-over, which leads to this.
+    MergeCut(Outcome),
+    /// Any of these three, or nothing where it has no merge.
+    Merge(u32),
     Acquire,
     Release,
     TakeState,
@@ -121,6 +129,7 @@ impl Shelf {
     fn names(&self, alloc: Global) -> Result<Vec<FileName>, NoMemory> {
         let PlainPoint { names, .. } = self.plain.point(alloc, 0)?;
         let mut names = names;
+        self.plain.add_held(&mut names)?;
         for point in self.tickets.iter().chain(self.states.iter()) {
             names.extend_from_slice(point.names.as_slice())?;
         }
@@ -201,6 +210,53 @@ impl<D: Dir> Bench<D> {
             }
             Outcome::Failed => self.shelf.plain.draw(),
             _ => {}
+        }
+        Ok(outcome)
+    }
+
+    /// Starts a merge, where some neighbours can be merged.
+    pub fn merge_start(&mut self, alloc: Global, factor: u32) -> Result<Outcome, Fail>
+        requires seen { IsSeen self.old.primary self.old.seen }
+        requires factor { 2 ≤ factor }
+        ensures { OnOk result (IsSeen self.new.primary self.new.seen) }
+    {
+        let can_merge = self.shelf.plain.can_merge(alloc, factor)?;
+        let outcome = calls::merge_start(alloc, &mut self.primary, &mut self.seen, factor)?;
+        check(
+            can_merge == (outcome != Outcome::Nothing),
+            "what can be merged is merged",
+        )?;
+        if outcome == Outcome::Started {
+            self.shelf.plain.merge_start(alloc, factor)?;
+        }
+        Ok(outcome)
+    }
+
+    /// Makes the oldest merge, and writes its files.
+    pub fn merge_ready(&mut self, alloc: Global) -> Result<Outcome, Fail>
+        requires { IsSeen self.old.primary self.old.seen }
+        ensures { OnOk result (IsSeen self.new.primary self.new.seen) }
+    {
+        let outcome = calls::merge_ready(alloc, &mut self.primary, &mut self.seen)?;
+        if outcome == Outcome::Ready {
+            let point = self.shelf.plain.merge_ready(alloc, self.seen.version)?;
+            self.shelf.states.push(point)?;
+        } else {
+            self.shelf.plain.merge_fails();
+        }
+        Ok(outcome)
+    }
+
+    /// Cuts over to the merge whose files are written.
+    pub fn merge_cut(&mut self, alloc: Global) -> Result<Outcome, Fail>
+        requires { IsSeen self.old.primary self.old.seen }
+        ensures { OnOk result (IsSeen self.new.primary self.new.seen) }
+    {
+        let outcome = calls::merge_cut(alloc, &mut self.primary, &mut self.seen)?;
+        if outcome == Outcome::CutOver {
+            self.shelf.plain.cut_over(alloc)?;
+        } else {
+            self.shelf.plain.cut_fails();
         }
         Ok(outcome)
     }
@@ -296,6 +352,28 @@ impl<D: FaultDir> Bench<D> {
         Ok(())
     }
 
+    // The next call of merges: the cut-over of the one whose files are written, or the making of the oldest, where two are in flight, or a
+    // start.
+    fn merge(&mut self, alloc: Global, factor: u32) -> Result<(), Fail>
+        requires { IsSeen self.old.primary self.old.seen }
+        ensures { OnOk result (IsSeen self.new.primary self.new.seen) }
+    {
+        if self.seen.ready.is_some() {
+            return self.merge_cut(alloc).map(|_| ());
+        }
+        if self.seen.merges.as_slice().len() > 1 {
+            return self.merge_ready(alloc).map(|_| ());
+        }
+        if factor < 2 {
+            return Err(Fail::new("one is not merged"));
+        }
+        let outcome = self.merge_start(alloc, factor)?;
+        if outcome == Outcome::Nothing && !self.seen.merges.as_slice().is_empty() {
+            return self.merge_ready(alloc).map(|_| ());
+        }
+        Ok(())
+    }
+
     fn play_one(&mut self, alloc: Global, call: Call) -> Result<(), Fail>
         requires { IsSeen self.old.primary self.old.seen }
         ensures { OnOk result (IsSeen self.new.primary self.new.seen) }
@@ -307,6 +385,22 @@ impl<D: FaultDir> Bench<D> {
                 let outcome = self.publish(alloc)?;
                 check(outcome == due, "a publish leads elsewhere")
             }
+            Call::MergeStart(factor, due) => {
+                if factor < 2 {
+                    return Err(Fail::new("one is not merged"));
+                }
+                let outcome = self.merge_start(alloc, factor)?;
+                check(outcome == due, "the start of a merge leads elsewhere")
+            }
+            Call::MergeReady(due) => {
+                let outcome = self.merge_ready(alloc)?;
+                check(outcome == due, "a merge leads elsewhere")
+            }
+            Call::MergeCut(due) => {
+                let outcome = self.merge_cut(alloc)?;
+                check(outcome == due, "a cut-over leads elsewhere")
+            }
+            Call::Merge(factor) => self.merge(alloc, factor),
             Call::Acquire => self.acquire(alloc),
             Call::Release => self.release(alloc),
             Call::TakeState => self.take_state(alloc),
