@@ -37,6 +37,17 @@ pub struct Shelf {
     pub flight: Option<PlainCommit>,
 }
 
+/// A call of a merge.
+#[derive(Clone, Copy)]
+pub enum MergeStep {
+    /// A merge of so many neighbours starts.
+    Start(u32),
+    /// The oldest merge is made.
+    Ready,
+    /// The cut-over.
+    Cut,
+}
+
 /// A call of a bench.
 #[derive(Clone, Copy)]
 pub enum Call {
@@ -45,13 +56,9 @@ pub enum Call {
     Publish,
     /// A publish that leads to this.
     PublishTo(Outcome),
-    /// The start of a merge of so many neighbours, which leads to this.
-    MergeStart(u32, Outcome),
-    /// The oldest merge is made, which leads to this.
-    MergeReady(Outcome),
-    /// The cut-over, which leads to this.
-    MergeCut(Outcome),
-    /// Any of these three, or nothing where it has no merge.
+    /// A call of a merge that leads to this.
+    MergeTo(MergeStep, Outcome),
+    /// The next call of merges of so many neighbours, whatever it leads to.
     Merge(u32),
     Acquire,
     Release,
@@ -352,6 +359,22 @@ impl<D: FaultDir> Bench<D> {
         Ok(())
     }
 
+    fn merge_to(&mut self, alloc: Global, step: MergeStep) -> Result<Outcome, Fail>
+        requires { IsSeen self.old.primary self.old.seen }
+        ensures { OnOk result (IsSeen self.new.primary self.new.seen) }
+    {
+        match step {
+            MergeStep::Start(factor) => {
+                if factor < 2 {
+                    return Err(Fail::new("one is not merged"));
+                }
+                self.merge_start(alloc, factor)
+            }
+            MergeStep::Ready => self.merge_ready(alloc),
+            MergeStep::Cut => self.merge_cut(alloc),
+        }
+    }
+
     // The next call of merges: the cut-over of the one whose files are written, or the making of the oldest, where two are in flight, or a
     // start.
     fn merge(&mut self, alloc: Global, factor: u32) -> Result<(), Fail>
@@ -364,10 +387,7 @@ impl<D: FaultDir> Bench<D> {
         if self.seen.merges.as_slice().len() > 1 {
             return self.merge_ready(alloc).map(|_| ());
         }
-        if factor < 2 {
-            return Err(Fail::new("one is not merged"));
-        }
-        let outcome = self.merge_start(alloc, factor)?;
+        let outcome = self.merge_to(alloc, MergeStep::Start(factor))?;
         if outcome == Outcome::Nothing && !self.seen.merges.as_slice().is_empty() {
             return self.merge_ready(alloc).map(|_| ());
         }
@@ -385,20 +405,9 @@ impl<D: FaultDir> Bench<D> {
                 let outcome = self.publish(alloc)?;
                 check(outcome == due, "a publish leads elsewhere")
             }
-            Call::MergeStart(factor, due) => {
-                if factor < 2 {
-                    return Err(Fail::new("one is not merged"));
-                }
-                let outcome = self.merge_start(alloc, factor)?;
-                check(outcome == due, "the start of a merge leads elsewhere")
-            }
-            Call::MergeReady(due) => {
-                let outcome = self.merge_ready(alloc)?;
+            Call::MergeTo(step, due) => {
+                let outcome = self.merge_to(alloc, step)?;
                 check(outcome == due, "a merge leads elsewhere")
-            }
-            Call::MergeCut(due) => {
-                let outcome = self.merge_cut(alloc)?;
-                check(outcome == due, "a cut-over leads elsewhere")
             }
             Call::Merge(factor) => self.merge(alloc, factor),
             Call::Acquire => self.acquire(alloc),

@@ -1,9 +1,10 @@
 //! Merges of a primary on a directory in memory.
 
 use crate::bench::Call::{
-    self, Accept, Acquire, Commit, GiveBack, HasDueNames, HasMet, Merge, MergeCut, MergeReady,
-    MergeStart, Plan, Publish, PublishTo, Release, StopAt, TakeState,
+    self, Accept, Acquire, Commit, GiveBack, HasDueNames, HasMet, Merge, MergeTo, Plan, Publish,
+    PublishTo, Release, StopAt, TakeState,
 };
+use crate::bench::MergeStep::{Cut, Ready, Start};
 use crate::bench::run;
 use crate::calls::Outcome;
 use crate::plain::Step::{Delete, Drop, Put};
@@ -45,10 +46,10 @@ const AFTER_A_CUT: [Call; 19] = [
 // What is found after a merge, where these calls are made between its start and its end.
 fn merged_beside(alloc: Global, beside: &[Call]) -> Result<Option<u64>, Fail> {
     let mut calls = Vec::from_slice(alloc, &TWO)?;
-    calls.push(MergeStart(2, Outcome::Started))?;
+    calls.push(MergeTo(Start(2), Outcome::Started))?;
     calls.extend_from_slice(beside)?;
-    calls.extend_from_slice(&[HasDueNames(true), MergeReady(Outcome::Ready)])?;
-    calls.extend_from_slice(&[HasDueNames(true), MergeCut(Outcome::CutOver)])?;
+    calls.extend_from_slice(&[HasDueNames(true), MergeTo(Ready, Outcome::Ready)])?;
+    calls.extend_from_slice(&[HasDueNames(true), MergeTo(Cut, Outcome::CutOver)])?;
     calls.extend_from_slice(&AFTER_A_CUT)?;
     run(alloc, empty_dir(alloc)?, 0, calls.as_slice(), 0)
 }
@@ -86,25 +87,25 @@ fn a_merge_takes_no_inputs_of_another(rt: HostRuntime) -> Result<(), Fail> {
     let alloc = rt.alloc();
     let mut calls = Vec::from_slice(alloc, &TWO)?;
     calls.extend_from_slice(&[
-        MergeStart(3, Outcome::Nothing),
-        MergeStart(2, Outcome::Started),
-        MergeStart(2, Outcome::Nothing),
+        MergeTo(Start(3), Outcome::Nothing),
+        MergeTo(Start(2), Outcome::Started),
+        MergeTo(Start(2), Outcome::Nothing),
         Accept(Put(2, 0)),
         Publish,
-        MergeStart(2, Outcome::Nothing),
+        MergeTo(Start(2), Outcome::Nothing),
         Accept(Put(3, 1)),
         Publish,
-        MergeStart(2, Outcome::Started),
-        MergeStart(2, Outcome::Nothing),
+        MergeTo(Start(2), Outcome::Started),
+        MergeTo(Start(2), Outcome::Nothing),
         HasDueNames(true),
-        MergeReady(Outcome::Ready),
-        MergeCut(Outcome::CutOver),
-        MergeStart(2, Outcome::Nothing),
-        MergeReady(Outcome::Ready),
-        MergeCut(Outcome::CutOver),
-        MergeStart(2, Outcome::Started),
-        MergeReady(Outcome::Ready),
-        MergeCut(Outcome::CutOver),
+        MergeTo(Ready, Outcome::Ready),
+        MergeTo(Cut, Outcome::CutOver),
+        MergeTo(Start(2), Outcome::Nothing),
+        MergeTo(Ready, Outcome::Ready),
+        MergeTo(Cut, Outcome::CutOver),
+        MergeTo(Start(2), Outcome::Started),
+        MergeTo(Ready, Outcome::Ready),
+        MergeTo(Cut, Outcome::CutOver),
         HasDueNames(true),
         PublishTo(Outcome::Point),
         GiveBack,
@@ -123,10 +124,10 @@ const AGAIN: [Call; 11] = [
     StopAt(FAR),
     Acquire,
     Release,
-    MergeStart(2, Outcome::Started),
-    MergeReady(Outcome::Ready),
+    MergeTo(Start(2), Outcome::Started),
+    MergeTo(Ready, Outcome::Ready),
     GiveBack,
-    MergeCut(Outcome::CutOver),
+    MergeTo(Cut, Outcome::CutOver),
     PublishTo(Outcome::Point),
     HasDueNames(true),
     Acquire,
@@ -145,8 +146,8 @@ fn a_stopped_merge_is_made_again(rt: HostRuntime) -> Result<(), Fail> {
         (StopAt(3), false, 0, 3),
     ] {
         let mut calls = Vec::from_slice(alloc, &TWO)?;
-        calls.extend_from_slice(&[MergeStart(2, Outcome::Started), call])?;
-        calls.extend_from_slice(&[MergeReady(Outcome::Failed), HasMet(once, stop)])?;
+        calls.extend_from_slice(&[MergeTo(Start(2), Outcome::Started), call])?;
+        calls.extend_from_slice(&[MergeTo(Ready, Outcome::Failed), HasMet(once, stop)])?;
         calls.push(HasDueNames(has_due_names))?;
         calls.extend_from_slice(&AGAIN)?;
         run(alloc, empty_dir(alloc)?, 0, calls.as_slice(), 0)?;
@@ -164,8 +165,8 @@ const BEFORE_A_CUT: [Call; 12] = [
     Accept(Put(4, 1)),
     Accept(Delete(0)),
     PublishTo(Outcome::Point),
-    MergeStart(2, Outcome::Started),
-    MergeReady(Outcome::Ready),
+    MergeTo(Start(2), Outcome::Started),
+    MergeTo(Ready, Outcome::Ready),
     GiveBack,
     Accept(Delete(1)),
 ];
@@ -176,7 +177,7 @@ fn a_stopped_cut_over_ends_the_merge(rt: HostRuntime) -> Result<(), Fail> {
     for (call, has_due_names, once, stop) in [(Plan(1), true, 1, 0), (StopAt(1), false, 0, 5)] {
         let mut calls = Vec::from_slice(alloc, &BEFORE_A_CUT)?;
         calls.extend_from_slice(&[PublishTo(Outcome::Point), Acquire, call])?;
-        calls.extend_from_slice(&[MergeCut(Outcome::Failed), HasMet(once, stop)])?;
+        calls.extend_from_slice(&[MergeTo(Cut, Outcome::Failed), HasMet(once, stop)])?;
         calls.extend_from_slice(&[HasDueNames(has_due_names), PublishTo(Outcome::Nothing)])?;
         calls.extend_from_slice(&[Plan(FAR), StopAt(FAR), Release, Acquire])?;
         run(alloc, empty_dir(alloc)?, 0, calls.as_slice(), 0)?;
@@ -189,7 +190,7 @@ fn a_stopped_cut_over_ends_the_merge(rt: HostRuntime) -> Result<(), Fail> {
     ] {
         let mut calls = Vec::from_slice(alloc, &BEFORE_A_CUT)?;
         calls.extend_from_slice(&[PublishTo(Outcome::Point), Acquire, call])?;
-        calls.extend_from_slice(&[MergeCut(Outcome::CutOver), HasMet(once, stop)])?;
+        calls.extend_from_slice(&[MergeTo(Cut, Outcome::CutOver), HasMet(once, stop)])?;
         calls.extend_from_slice(&[HasDueNames(has_due_names), Plan(FAR), StopAt(FAR)])?;
         calls.extend_from_slice(&[PublishTo(Outcome::Point), Release, HasDueNames(true)])?;
         run(alloc, empty_dir(alloc)?, 0, calls.as_slice(), 0)?;
@@ -203,19 +204,19 @@ fn names_are_spent_for_merges(rt: HostRuntime) -> Result<(), Fail> {
     let alloc = rt.alloc();
     let mut calls = Vec::from_slice(alloc, &TWO)?;
     calls.extend_from_slice(&[
-        MergeStart(3, Outcome::Nothing),
-        MergeStart(2, Outcome::NamesSpent),
+        MergeTo(Start(3), Outcome::Nothing),
+        MergeTo(Start(2), Outcome::NamesSpent),
         HasDueNames(true),
         Accept(Delete(0)),
         Publish,
-        MergeStart(2, Outcome::Nothing),
+        MergeTo(Start(2), Outcome::Nothing),
     ])?;
     run(alloc, empty_dir(alloc)?, 1_679_614, calls.as_slice(), 0)?;
     let mut last = Vec::from_slice(alloc, &TWO)?;
     last.extend_from_slice(&[
-        MergeStart(2, Outcome::Started),
-        MergeReady(Outcome::Ready),
-        MergeCut(Outcome::CutOver),
+        MergeTo(Start(2), Outcome::Started),
+        MergeTo(Ready, Outcome::Ready),
+        MergeTo(Cut, Outcome::CutOver),
         PublishTo(Outcome::Point),
         HasDueNames(true),
         Accept(Put(2, 2)),
@@ -236,10 +237,10 @@ fn a_merge_makes_room_among_256_segments(rt: HostRuntime) -> Result<(), Fail> {
     calls.extend_from_slice(&[
         Accept(Put(9, 0)),
         PublishTo(Outcome::TooManySegments),
-        MergeStart(2, Outcome::Started),
-        MergeReady(Outcome::Ready),
+        MergeTo(Start(2), Outcome::Started),
+        MergeTo(Ready, Outcome::Ready),
         PublishTo(Outcome::TooManySegments),
-        MergeCut(Outcome::CutOver),
+        MergeTo(Cut, Outcome::CutOver),
         PublishTo(Outcome::Point),
         HasDueNames(true),
         Acquire,
