@@ -18,11 +18,11 @@ use Rattle.commit_steps.specs.Book.{commit_of, book_by, book_after, is_last_step
 use Rattle.node_files.specs.Appearing.{IsNameInFlight}
 use Rattle.searcher_switch.specs.declared.open.Open.{Open}
 use Rattle.searcher_switch.specs.declared.open.Point.{Point}
-use Rattle.index_primary.specs.declared.parts.Parts.{Parts as PrimaryParts}
-use Rattle.index_primary.specs.declared.parts.Publish.{Publish}
-use Rattle.index_primary.specs.declared.states.Out.{Out}
-use Rattle.index_primary.specs.Held.{IsUndrawn}
-use Rattle.index_primary.specs.Primary.{IsPrimary, loose_of}
+use Rattle.primary_parts.specs.declared.parts.Parts.{Parts as PrimaryParts}
+use Rattle.primary_parts.specs.declared.parts.Publish.{Publish}
+use Rattle.primary_parts.specs.declared.states.Out.{Out}
+use Rattle.primary_parts.specs.Held.{IsUndrawn}
+use Rattle.primary_parts.specs.Primary.{IsPrimary, loose_of, filled_of}
 use Rattle.replica_opening.specs.Known.{IsLasting}
 use Rattle.replica_node.specs.declared.job.PointJob.{PointJob}
 use Rattle.replica_node.specs.declared.parts.Parts.{Parts as ReplicaParts}
@@ -127,7 +127,7 @@ module _ {D : Type 0} (cells : D → Cells) (Step : Infos → CommitBook → Com
   files_alter source log jobs n (Primary p) (Primary q) a shows was =
       let o = a.0.others in record {
         held = record { each = λ name lasting counted. held name lasting counted (count_of p.files name) refl };
-        unwritten = λ name undrawn. was.unwritten name (subst (λ (z : Infos × List ℕ). IsUndrawn z.0 z.1 name) (λ i. (ap (λ (z : PrimaryParts D). z.infos) o i, ap (λ (z : PrimaryParts D). loose_of z) o i)) undrawn);
+        unwritten = λ name undrawn. was.unwritten name (subst (λ (z : Infos × (List ℕ × List ℕ)). IsUndrawn z.0 z.1.0 z.1.1 name) (λ i. (ap (λ (z : PrimaryParts D). z.infos) o i, (ap (λ (z : PrimaryParts D). loose_of z) o i, ap (λ (z : PrimaryParts D). filled_of z) o i))) undrawn);
         point = subst (λ (i : Infos). IsPastPoint source (printed log) i) (sym (ap (λ (z : PrimaryParts D). z.point_infos) o)) was.point;
         generation = ap (λ (z : PrimaryParts D). z.point_infos.generation) o ∙ (was.generation ∙ sym (ap (λ (z : PrimaryParts D). z.infos.generation) o));
         outs = λ s. subst (λ (ts : List Out). jobs s ≤ states_like s ts) (sym (ap (λ (z : PrimaryParts D). z.states) o)) (was.outs s);

@@ -10,7 +10,7 @@ use Rattle.nrt_base.specs.declared.numbers.Gen.{Gen}
 use Rattle.disk_model.specs.Disk.{Name, Content, Cells}
 use Rattle.segment_infos.specs.declared.infos.Infos.{Infos}
 use Rattle.segment_infos.specs.Files.{files_of_segment, AreFilesOf}
-use Rattle.index_primary.specs.declared.states.Out.{Out}
+use Rattle.primary_parts.specs.declared.states.Out.{Out}
 use Rattle.replica_opening.specs.Known.{IsLasting}
 use Rattle.replica_node.specs.declared.job.PointJob.{PointJob}
 use Rattle.replica_node.specs.declared.parts.Parts.{Parts as ReplicaParts}

@@ -24,10 +24,10 @@ use Rattle.commit_steps.specs.Book.{commit_of, shown_in, shown_by, stage_names, 
 use Rattle.commit_steps.proofs.Beside.{sound_images}
 use Rattle.commit_steps.proofs.Safe.{among_of}
 use Rattle.node_files.specs.Node.{IsWholeNode}
-use Rattle.index_primary.specs.declared.parts.Parts.{Parts as PrimaryParts}
-use Rattle.index_primary.specs.declared.states.Out.{Out}
-use Rattle.index_primary.specs.Primary.{primary_names}
-use Rattle.index_primary.specs.States.{is_out}
+use Rattle.primary_parts.specs.declared.parts.Parts.{Parts as PrimaryParts}
+use Rattle.primary_parts.specs.declared.states.Out.{Out}
+use Rattle.primary_parts.specs.Primary.{primary_names}
+use Rattle.primary_parts.specs.States.{is_out}
 use Rattle.replica_opening.specs.Opening.{FindsPoint, opening_infos}
 use Rattle.replica_opening.specs.Opened.{IsSettledOn}
 use Rattle.replica_opening.proofs.Settled.{restarted_settled}

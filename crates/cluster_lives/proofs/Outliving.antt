@@ -5,8 +5,8 @@ use Rattle.std.proofs.lemmas.Bool.{eqb-true}
 use Rattle.nrt_base.specs.declared.numbers.Gen.{Gen}
 use Rattle.nrt_base.specs.declared.numbers.NodeNo.{NodeNo}
 use Rattle.disk_model.specs.Disk.{Cells}
-use Rattle.index_primary.specs.declared.parts.Parts.{Parts as PrimaryParts}
-use Rattle.index_primary.specs.declared.states.Out.{Out}
+use Rattle.primary_parts.specs.declared.parts.Parts.{Parts as PrimaryParts}
+use Rattle.primary_parts.specs.declared.states.Out.{Out}
 use Rattle.replica_node.specs.declared.parts.Parts.{Parts as ReplicaParts}
 use Rattle.history_entries.specs.Nodes.{Past, IsNode, is_at}
 use Rattle.history_tables.proofs.RowLemmas.{by_test}

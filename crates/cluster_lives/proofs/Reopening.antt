@@ -25,7 +25,7 @@ use Rattle.commit_steps.specs.Found.{ShowsNothing}
 use Rattle.commit_steps.proofs.Beside.{sound_images}
 use Rattle.node_files.proofs.Standing.{stands_along}
 use Rattle.searcher_switch.specs.declared.open.Open.{Open}
-use Rattle.index_primary.specs.declared.states.Out.{Out}
+use Rattle.primary_parts.specs.declared.states.Out.{Out}
 use Rattle.replica_opening.specs.Opening.{FindsPoint, number_of_last, opening_infos}
 use Rattle.replica_opening.specs.Opened.{IsSettledOn}
 use Rattle.replica_opening.proofs.Clearings.{one_found}

@@ -8,9 +8,9 @@ use Rattle.disk_model.specs.Disk.{Name, same}
 use Rattle.disk_model.proofs.CellLemmas.{same_true}
 use Rattle.file_deleter.specs.Holdings.{times}
 use Rattle.file_deleter.proofs.NameLemmas.{times-append}
-use Rattle.index_primary.specs.declared.states.Out.{Out}
-use Rattle.index_primary.specs.States.{same_out, is_out, states_without, state_names}
-use Rattle.index_primary.proofs.StateLemmas.{same_out_self}
+use Rattle.primary_parts.specs.declared.states.Out.{Out}
+use Rattle.primary_parts.specs.States.{same_out, is_out, states_without, state_names}
+use Rattle.primary_parts.proofs.StateLemmas.{same_out_self}
 use Rattle.cluster_places.specs.declared.nodes.Place.{Place}
 use Rattle.cluster_places.specs.Places.{place_of}
 use Rattle.cluster_places.specs.Outs.{one_like, states_like, want_at, jobs_like}

@@ -12,12 +12,12 @@ use Rattle.seg_reader.specs.Stands.{StandsFor}
 use Rattle.copy_state.specs.declared.state.CopyState.{CopyState}
 use Rattle.copy_job.specs.declared.copying.Part.{Part}
 use Rattle.copy_job.specs.Jobs.{Job, reads_under, with_part}
-use Rattle.index_primary.specs.declared.parts.Parts.{Parts as PrimaryParts}
-use Rattle.index_primary.specs.declared.states.Out.{Out}
-use Rattle.index_primary.specs.Primary.{IsPrimary, KeepsHeldBytes, loose_of}
-use Rattle.index_primary.specs.Held.{IsUndrawn}
-use Rattle.index_primary.specs.Calls.{HoldsNoNew}
-use Rattle.index_primary.specs.States.{out_of, states_without, is_out, same_out, IsStateOf}
+use Rattle.primary_parts.specs.declared.parts.Parts.{Parts as PrimaryParts}
+use Rattle.primary_parts.specs.declared.states.Out.{Out}
+use Rattle.primary_parts.specs.Primary.{IsPrimary, KeepsHeldBytes, loose_of, IsUnwritten}
+use Rattle.primary_parts.specs.Held.{IsUndrawn}
+use Rattle.primary_parts.specs.Calls.{HoldsNoNew}
+use Rattle.primary_parts.specs.States.{out_of, states_without, is_out, same_out, IsStateOf}
 use Rattle.replica_node.specs.declared.job.PointJob.{PointJob}
 use Rattle.replica_node.specs.declared.parts.Parts.{Parts as ReplicaParts}
 use Rattle.replica_node.specs.Replica.{IsWholeReplica, AreStanding}
@@ -52,7 +52,7 @@ module _ {D : Type 0} (cells : D → Cells) where
     files = record {
       stays = stays;
       no_new = no_new;
-      drawn = record { each = λ name undrawn. subst (λ (x : PrimaryParts D). IsUndrawn x.infos (loose_of x) name) is undrawn };
+      drawn = record { each = λ name undrawn. subst (λ (x : PrimaryParts D). IsUnwritten x name) is undrawn };
       appears = appears;
       commits = ap (λ (x : PrimaryParts D). x.commits) is;
       point = ap (λ (x : PrimaryParts D). x.point_infos) is;

@@ -4,11 +4,11 @@ use Rattle.std.specs.Prelude.{IfSome, IfOk, OnOk}
 use Rattle.std.proofs.Common.{Result, Ok, Err}
 use Rattle.std.specs.declared.alloc.AllocError.{AllocError}
 use Rattle.copy_job.specs.declared.copying.Part.{Part}
-use Rattle.index_primary.specs.Primary.{IsPrimary}
-use Rattle.index_primary.specs.Calls.{HoldsNoNew}
+use Rattle.primary_parts.specs.Primary.{IsPrimary}
+use Rattle.primary_parts.specs.Calls.{HoldsNoNew}
 use Rattle.cluster_places.proofs.Stepping.{alters_by, none_by}
 use Rattle.disk_model.specs.Disk.{Name, Cells}
-use Rattle.index_primary.specs.declared.parts.Parts.{Parts as PrimaryParts}
+use Rattle.primary_parts.specs.declared.parts.Parts.{Parts as PrimaryParts}
 use Rattle.replica_node.specs.declared.parts.Parts.{Parts as ReplicaParts}
 use Rattle.cluster_places.specs.declared.held.Held.{Held}
 use Rattle.cluster_places.specs.declared.nodes.Node.TheVariants.{Primary, Replica}

@@ -3,10 +3,10 @@ use Rattle.std.proofs.Common.{◌≡◌, ◌∙◌, ℕ, List, refl, ap, sym, su
 use Rattle.disk_model.specs.Disk.{Cells}
 use Rattle.node_files.specs.Appearing.{NoneAppears}
 use Rattle.segment_infos.specs.declared.infos.Infos.{Infos}
-use Rattle.index_primary.specs.declared.parts.Parts.{Parts as PrimaryParts}
-use Rattle.index_primary.specs.Held.{IsUndrawn}
-use Rattle.index_primary.specs.Primary.{KeepsHeldBytes, loose_of}
-use Rattle.index_primary.specs.Calls.{HoldsNoNew}
+use Rattle.primary_parts.specs.declared.parts.Parts.{Parts as PrimaryParts}
+use Rattle.primary_parts.specs.Held.{IsUndrawn}
+use Rattle.primary_parts.specs.Primary.{KeepsHeldBytes, loose_of, filled_of}
+use Rattle.primary_parts.specs.Calls.{HoldsNoNew}
 use Rattle.seg_reader.specs.Shown.{Shown}
 use Rattle.searcher_switch.specs.declared.open.Point.{Point}
 use Rattle.replica_node.specs.declared.parts.Parts.{Parts as ReplicaParts}
@@ -22,7 +22,7 @@ module _ {D : Type 0} (cells : D → Cells) where
     record {
       stays = stays;
       no_new = no_new;
-      drawn = record { each = λ name is. subst (λ (x : Infos × List ℕ). IsUndrawn x.0 x.1 name) (λ i. (ap (λ (z : PrimaryParts D). z.infos) others i, ap (λ (z : PrimaryParts D). loose_of z) others i)) is };
+      drawn = record { each = λ name is. subst (λ (x : Infos × (List ℕ × List ℕ)). IsUndrawn x.0 x.1.0 x.1.1 name) (λ i. (ap (λ (z : PrimaryParts D). z.infos) others i, (ap (λ (z : PrimaryParts D). loose_of z) others i, ap (λ (z : PrimaryParts D). filled_of z) others i))) is };
       appears = appears;
       commits = ap (λ (z : PrimaryParts D). z.commits) others;
       point = ap (λ (z : PrimaryParts D). z.point_infos) others;
@@ -37,7 +37,7 @@ module _ {D : Type 0} (cells : D → Cells) where
     record {
       stays = stays;
       no_new = no_new;
-      drawn = record { each = λ name is. subst (λ (x : Infos × List ℕ). IsUndrawn x.0 x.1 name) (λ i. (ap (λ (z : PrimaryParts D). z.infos) others i, ap (λ (z : PrimaryParts D). loose_of z) others i)) is };
+      drawn = record { each = λ name is. subst (λ (x : Infos × (List ℕ × List ℕ)). IsUndrawn x.0 x.1.0 x.1.1 name) (λ i. (ap (λ (z : PrimaryParts D). z.infos) others i, (ap (λ (z : PrimaryParts D). loose_of z) others i, ap (λ (z : PrimaryParts D). filled_of z) others i))) is };
       appears = record { each = λ name none. ap (λ (z : PrimaryParts D). (cells z.dir name).now) others ∙ none };
       commits = ap (λ (z : PrimaryParts D). z.commits) others;
       point = ap (λ (z : PrimaryParts D). z.point_infos) others;

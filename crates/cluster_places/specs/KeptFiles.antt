@@ -4,11 +4,11 @@ use Rattle.std.specs.List.{Contains, flat_map}
 use Rattle.disk_model.specs.Disk.{Name, Cells}
 use Rattle.file_deleter.specs.Holdings.{count_of}
 use Rattle.segment_infos.specs.Files.{files_of_segment}
-use Rattle.index_primary.specs.declared.parts.Parts.{Parts as PrimaryParts}
+use Rattle.primary_parts.specs.declared.parts.Parts.{Parts as PrimaryParts}
 use Rattle.node_files.specs.Appearing.{NoneAppears, AppearsOnly}
-use Rattle.index_primary.specs.Held.{IsOwnFile}
-use Rattle.index_primary.specs.Primary.{KeepsHeldBytes, loose_of}
-use Rattle.index_primary.specs.Calls.{FillsUndrawn, DrawsOnly, HoldsNoNew}
+use Rattle.primary_parts.specs.Held.{IsOwnFile}
+use Rattle.primary_parts.specs.Primary.{KeepsHeldBytes, loose_of}
+use Rattle.primary_parts.specs.Calls.{FillsUndrawn, DrawsOnly, HoldsNoNew}
 use Rattle.replica_node.specs.declared.parts.Parts.{Parts as ReplicaParts}
 use Rattle.replica_node.specs.Sources.{KeepsSource}
 use Rattle.cluster_places.specs.declared.nodes.Node.{Node}

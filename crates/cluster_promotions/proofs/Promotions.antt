@@ -18,13 +18,13 @@ use Rattle.searcher_switch.specs.declared.open.Point.{Point}
 use Rattle.searcher_switch.specs.declared.searchers.Searchers.{Searchers}
 use Rattle.commit_steps.specs.declared.stage.CommitBook.{CommitBook}
 use Rattle.node_files.proofs.Appearing.{only_none}
-use Rattle.index_primary.specs.declared.parts.Parts.{Parts as PrimaryParts}
-use Rattle.index_primary.specs.declared.parts.Publish.{Publish}
-use Rattle.index_primary.specs.declared.states.Out.{Out}
-use Rattle.index_primary.specs.declared.states.Merging.{Merging}
-use Rattle.index_primary.specs.States.{merge_loose}
-use Rattle.index_primary.specs.Primary.{loose_of, publish_loose}
-use Rattle.index_primary.specs.Held.{IsUndrawn}
+use Rattle.primary_parts.specs.declared.parts.Parts.{Parts as PrimaryParts}
+use Rattle.primary_parts.specs.declared.parts.Publish.{Publish}
+use Rattle.primary_parts.specs.declared.states.Out.{Out}
+use Rattle.primary_parts.specs.declared.states.Merging.{Merging}
+use Rattle.primary_parts.specs.Merges.{merge_loose, merge_filled}
+use Rattle.primary_parts.specs.Primary.{loose_of, publish_loose, filled_of}
+use Rattle.primary_parts.specs.Held.{IsUndrawn}
 use Rattle.replica_node.specs.declared.job.PointJob.{PointJob}
 use Rattle.replica_node.specs.declared.parts.Parts.{Parts as ReplicaParts}
 use Rattle.replica_node.specs.Replica.{replica_names}
@@ -286,6 +286,9 @@ module _ {D : Type 0} (cells : D → Cells) where
         no_loose : loose_of b.primary ≡ []
         no_loose = λ i. publish_loose (b.becomes.publish i) ++ merge_loose (b.becomes.merges i)
 
+        no_filled : filled_of b.primary ≡ []
+        no_filled = λ i. merge_filled (b.becomes.merges i)
+
         infos_now : b.primary.infos ≡ promoted_infos b.at.parts.infos g forced
         infos_now = b.becomes.infos
 
@@ -313,7 +316,7 @@ module _ {D : Type 0} (cells : D → Cells) where
         files_here = record {
           held = b.becomes.held files.source both.1.sourced;
           unwritten = λ q undrawn. unwritten_next b.at.parts.infos (promoted_infos b.at.parts.infos g forced) refl refl both.1.point.writable.numbered files.source size past legal files.drawn rule.next q
-              (subst (λ (x : Infos × List ℕ). IsUndrawn x.0 x.1 q) (λ i. (infos_now i, no_loose i)) undrawn);
+              (subst (λ (x : Infos × (List ℕ × List ℕ)). IsUndrawn x.0 x.1.0 x.1.1 q) (λ i. (infos_now i, (no_loose i, no_filled i))) undrawn);
           point = point_now;
           generation = ap (λ (i : Infos). i.generation) b.becomes.point_infos;
           outs = λ s. let gone = no_jobs s in omega (arith, gone);

@@ -15,8 +15,8 @@ use Rattle.history_entries.specs.Lines.{publish_in_flight}
 use Rattle.history_entries.specs.Tickets.{open_ticket, IsTicketOf}
 use Rattle.history_tables.proofs.RowLemmas.{by_test}
 use Rattle.history_book.specs.Log.{Log, printed}
-use Rattle.index_primary.specs.declared.parts.Parts.{Parts as PrimaryParts}
-use Rattle.index_primary.specs.declared.parts.Publish.{Publish}
+use Rattle.primary_parts.specs.declared.parts.Parts.{Parts as PrimaryParts}
+use Rattle.primary_parts.specs.declared.parts.Publish.{Publish}
 use Rattle.replica_node.specs.declared.parts.Parts.{Parts as ReplicaParts}
 use Rattle.cluster_places.specs.declared.held.Held.{Held}
 use Rattle.cluster_places.specs.declared.held.Key.{Key}

@@ -38,12 +38,12 @@ use Rattle.replica_node.specs.declared.taking.NodeParts.{NodeParts}
 use Rattle.replica_node.specs.Replica.{IsWholeReplica}
 use Rattle.replica_node.specs.Sources.{IsSourced, IsTakenApart}
 use Rattle.replica_node.specs.Starting.{IsJustOpened, SearchesJust}
-use Rattle.index_primary.specs.declared.parts.Parts.{Parts as PrimaryParts}
-use Rattle.index_primary.specs.Primary.{IsPrimary, loose_of, publish_loose}
+use Rattle.primary_parts.specs.declared.parts.Parts.{Parts as PrimaryParts}
+use Rattle.primary_parts.specs.Primary.{IsPrimary, loose_of, publish_loose}
 use Rattle.node_files.specs.Appearing.{NoneAppears}
-use Rattle.index_primary.specs.Held.{IsHeld, AreUndrawn, AreNumbered}
-use Rattle.index_primary.specs.Calls.{IsOpenedOn}
-use Rattle.index_primary.proofs.Callers.{empty_numbered}
+use Rattle.primary_parts.specs.Held.{IsHeld, AreUndrawn, AreNumbered}
+use Rattle.primary_parts.specs.Calls.{IsOpenedOn}
+use Rattle.primary_parts.proofs.Callers.{empty_numbered}
 use Rattle.cluster_places.specs.declared.held.Held.{Held}
 use Rattle.cluster_places.specs.declared.nodes.Node.TheVariants.{Primary, Replica, Down}
 use Rattle.cluster_places.specs.declared.nodes.Place.{Place}
@@ -54,9 +54,10 @@ use Rattle.cluster_state.specs.Starting.{IsEmptyDir, IsUncommitted, IsOpening, O
 use Rattle.cluster_state.specs.Disks.{IsPastPoint, LastShows, StageShows, DiskShows}
 use Rattle.cluster_state.specs.Files.{JobShows, PrimaryFiles, ReplicaFiles, NodeFiles, FilesShow}
 use Rattle.cluster_places.specs.Outs.{want_of, one_like, want_at, jobs_like}
-use Rattle.index_primary.specs.declared.states.Out.{Out}
-use Rattle.index_primary.specs.Primary.{primary_names}
-use Rattle.index_primary.specs.States.{state_names, merge_names, merge_loose}
+use Rattle.primary_parts.specs.declared.states.Out.{Out}
+use Rattle.primary_parts.specs.Primary.{primary_names}
+use Rattle.primary_parts.specs.States.{state_names}
+use Rattle.primary_parts.specs.Merges.{merge_names, merge_loose}
 use Rattle.file_deleter.specs.Holdings.{count_of}
 use Rattle.nrt_base.specs.declared.numbers.At.{At}
 use Rattle.replica_node.specs.declared.job.PointJob.{PointJob}
@@ -196,7 +197,7 @@ module _ {D : Type 0} (cells : D → Cells) where
     parts_held spelled files stands = record { spelled = spelled; files = files; docs = []; stands = stands [] is.stands }
 
     -- no file is counted
-    pub parts_undrawn : IsWholeNode (cells p.dir) p.files (searcher_names p.searchers) p.commits → AreFilesOf p.infos p.searchers.point.names → AreUndrawn p.files p.infos []
+    pub parts_undrawn : IsWholeNode (cells p.dir) p.files (searcher_names p.searchers) p.commits → AreFilesOf p.infos p.searchers.point.names → AreUndrawn p.files p.infos [] []
     parts_undrawn node files = record { each = λ q undrawn. node.counts q ∙ λ i. times (named i) q + times (booked i) q }
       where
         named : searcher_names p.searchers ≡ []

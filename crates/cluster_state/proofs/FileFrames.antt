@@ -10,9 +10,9 @@ use Rattle.nrt_base.specs.declared.numbers.Version.{Version}
 use Rattle.disk_model.specs.Disk.{Name, Content, Cells, reads_of}
 use Rattle.seg_reader.specs.Shown.{Shown}
 use Rattle.segment_infos.specs.declared.infos.Infos.{Infos}
-use Rattle.index_primary.specs.declared.parts.Parts.{Parts as PrimaryParts}
-use Rattle.index_primary.specs.declared.states.Out.{Out}
-use Rattle.index_primary.specs.Primary.{IsPrimary, primary_names}
+use Rattle.primary_parts.specs.declared.parts.Parts.{Parts as PrimaryParts}
+use Rattle.primary_parts.specs.declared.states.Out.{Out}
+use Rattle.primary_parts.specs.Primary.{IsPrimary, primary_names}
 use Rattle.file_names.specs.Names.{live_name_of}
 use Rattle.segment_steps.specs.Next.{live_base}
 use Rattle.replica_node.specs.Sources.{HeldReadAs}

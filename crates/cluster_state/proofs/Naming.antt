@@ -21,9 +21,9 @@ use Rattle.node_files.proofs.Appearing.{stood_or, only_none}
 use Rattle.seg_reader.specs.Shown.{Shown}
 use Rattle.searcher_switch.specs.declared.open.Open.{Open}
 use Rattle.searcher_switch.specs.Searching.{searcher_names}
-use Rattle.index_primary.specs.declared.parts.Parts.{Parts as PrimaryParts}
-use Rattle.index_primary.specs.Held.{IsOwnSegment, IsOwnFile, IsDrawnRecord}
-use Rattle.index_primary.specs.Primary.{IsPrimary, loose_of, primary_names, rest_names}
+use Rattle.primary_parts.specs.declared.parts.Parts.{Parts as PrimaryParts}
+use Rattle.primary_parts.specs.Held.{IsOwnSegment, IsOwnFile, IsDrawnRecord}
+use Rattle.primary_parts.specs.Primary.{IsPrimary, loose_of, primary_names, rest_names}
 use Rattle.copy_state.specs.States.{meta_names}
 use Rattle.copy_job.specs.declared.copying.Part.{Part}
 use Rattle.replica_opening.specs.Known.{IsLasting, HasMeta}

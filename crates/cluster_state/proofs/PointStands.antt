@@ -9,16 +9,16 @@ use Rattle.file_deleter.proofs.NameLemmas.{times-append, among_times}
 use Rattle.commit_steps.proofs.Safe.{among_of}
 use Rattle.segment_infos.specs.declared.infos.Infos.{Infos}
 use Rattle.segment_infos.specs.declared.infos.SegRecord.{SegRecord}
-use Rattle.index_primary.proofs.Callers.{empty_numbered}
+use Rattle.primary_parts.proofs.Callers.{empty_numbered}
 use Rattle.seg_reader.specs.Stands.{StandsFor, AreSegmentsOf}
 use Rattle.node_files.proofs.Standing.{stands_along}
 use Rattle.copy_state.specs.declared.state.CopyState.{CopyState}
 use Rattle.copy_state.specs.declared.meta.FileMetaData.{FileMetaData}
 use Rattle.copy_state.specs.States.{meta_names}
-use Rattle.index_primary.specs.declared.parts.Parts.{Parts as PrimaryParts}
+use Rattle.primary_parts.specs.declared.parts.Parts.{Parts as PrimaryParts}
 use Rattle.searcher_switch.specs.Tickets.{ticket_names}
 use Rattle.searcher_switch.specs.Searching.{searcher_names}
-use Rattle.index_primary.specs.Primary.{IsPrimary, primary_names, rest_names, loose_of}
+use Rattle.primary_parts.specs.Primary.{IsPrimary, primary_names, rest_names, loose_of}
 use Rattle.replica_opening.specs.Known.{HasMeta}
 use Rattle.replica_node.specs.Sources.{HeldReadAs}
 use Rattle.nrt_base.specs.declared.numbers.Version.{Version}

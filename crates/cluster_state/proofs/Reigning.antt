@@ -15,7 +15,7 @@ use Rattle.segment_infos.specs.declared.infos.Infos.{Infos}
 use Rattle.segment_steps.specs.Next.{record_generation, live_base}
 use Rattle.commit_steps.specs.declared.stage.CommitBook.{CommitBook}
 use Rattle.node_files.specs.Node.{IsWholeNode}
-use Rattle.index_primary.specs.Held.{IsUnused, IsNextLive, IsUndrawn, part, live, next_live, AreUndrawn, IsDrawnRecord, AreNumbered}
+use Rattle.primary_parts.specs.Held.{IsUnused, IsNextLive, IsUndrawn, part, live, next_live, AreUndrawn, IsDrawnRecord, AreNumbered}
 use Rattle.replica_opening.specs.Known.{IsLasting}
 use Rattle.replica_node.specs.Sources.{HeldReadAs}
 use Rattle.history_entries.specs.Nodes.{Past, generation_of}
@@ -40,10 +40,10 @@ drawn_below size seg past legal drawn = let made : segment_generation seg ≤ ge
         (λ low. grind (arith, nat_tests, low))
 
 -- what is not written yet has a lasting name
-undrawn_lasts : (infos : Infos) (loose : List ℕ) (q : Name) → IsUndrawn infos loose q → IsLasting q
-undrawn_lasts infos loose q (part seg which unused is) = subst IsLasting (sym is) (part_lasts seg which)
-undrawn_lasts infos loose q (live seg live_gen unused small is) = subst IsLasting (sym is) (live_lasts seg live_gen)
-undrawn_lasts infos loose q (next_live r live_gen of is) = subst IsLasting (sym is) (live_lasts r.seg.0 live_gen)
+undrawn_lasts : (infos : Infos) (loose filled : List ℕ) (q : Name) → IsUndrawn infos loose filled q → IsLasting q
+undrawn_lasts infos loose filled q (part seg which unused out is) = subst IsLasting (sym is) (part_lasts seg which)
+undrawn_lasts infos loose filled q (live seg live_gen unused small is) = subst IsLasting (sym is) (live_lasts seg live_gen)
+undrawn_lasts infos loose filled q (next_live r live_gen of is) = subst IsLasting (sym is) (live_lasts r.seg.0 live_gen)
 
 module _ (infos next : Infos) (segs : next.segs ≡ infos.segs) (counter : next.counter ≡ 0) (numbered : AreNumbered infos []) where
   -- a segment has its number and its live generation in a later generation too
@@ -86,15 +86,15 @@ module _ (infos next : Infos) (segs : next.segs ≡ infos.segs) (counter : next.
         absurd (omega (arith, below, above))
 
     -- what is not written yet means nothing
-    pub unwritten_next : (q : Name) → IsUndrawn next [] q → source q ≡ None
+    pub unwritten_next : (q : Name) → IsUndrawn next [] [] q → source q ≡ None
     unwritten_next q undrawn = by (source q) refl undrawn
       where
-        by : (o : Content) → source q ≡ o → IsUndrawn next [] q → source q ≡ None
+        by : (o : Content) → source q ≡ o → IsUndrawn next [] [] q → source q ≡ None
         by None none undrawn = none
-        by (Some bytes) is (part seg which unused named) = absurd (no_file seg q bytes unused (unused.0, inl (which, named)) (subst IsLasting (sym named) (part_lasts seg which)) is)
+        by (Some bytes) is (part seg which unused out named) = absurd (no_file seg q bytes unused (unused.0, inl (which, named)) (subst IsLasting (sym named) (part_lasts seg which)) is)
         by (Some bytes) is (live seg live_gen unused small named) = absurd (no_file seg q bytes unused (unused.0, inr (live_gen, small, named)) (subst IsLasting (sym named) (live_lasts seg live_gen)) is)
         by (Some bytes) is (next_live r live_gen of named) = absurd (no_live r live_gen q bytes of named is)
 
     -- and is held by nobody
-    pub undrawn_next : (cells : Cells) (holdings : Holdings) (others : List Name) (book : CommitBook) → IsWholeNode cells holdings others book → HeldReadAs source cells holdings → AreUndrawn holdings next []
-    undrawn_next cells holdings others book whole held = record { each = λ q undrawn. unheld source cells holdings others book whole held q (undrawn_lasts next [] q undrawn) (unwritten_next q undrawn) }
+    pub undrawn_next : (cells : Cells) (holdings : Holdings) (others : List Name) (book : CommitBook) → IsWholeNode cells holdings others book → HeldReadAs source cells holdings → AreUndrawn holdings next [] []
+    undrawn_next cells holdings others book whole held = record { each = λ q undrawn. unheld source cells holdings others book whole held q (undrawn_lasts next [] [] q undrawn) (unwritten_next q undrawn) }

@@ -9,7 +9,7 @@ use Rattle.segment_infos.specs.declared.infos.Infos.{Infos}
 use Rattle.segment_infos.specs.Files.{files_of_segment}
 use Rattle.seg_reader.specs.Stands.{StandsFor}
 use Rattle.script_serving.specs.Refusals.{put_publishes}
-use Rattle.index_primary.specs.Held.{AreNumbered}
+use Rattle.primary_parts.specs.Held.{AreNumbered}
 use Rattle.commit_steps.specs.Book.{commit_of}
 use Rattle.commit_steps.specs.declared.states.Commit.{Commit}
 use Rattle.commit_steps.specs.declared.stage.Stage.{Stage}

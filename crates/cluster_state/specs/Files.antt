@@ -7,10 +7,10 @@ use Rattle.disk_model.specs.Disk.{Name, Content, Cells}
 use Rattle.file_names.specs.Names.{live_name_of}
 use Rattle.segment_infos.specs.declared.infos.SegRecord.{SegRecord}
 use Rattle.segment_steps.specs.Next.{live_base}
-use Rattle.index_primary.specs.declared.parts.Parts.{Parts as PrimaryParts}
-use Rattle.index_primary.specs.declared.states.Out.{Out}
-use Rattle.index_primary.specs.Primary.{loose_of}
-use Rattle.index_primary.specs.Held.{IsUndrawn}
+use Rattle.primary_parts.specs.declared.parts.Parts.{Parts as PrimaryParts}
+use Rattle.primary_parts.specs.declared.states.Out.{Out}
+use Rattle.primary_parts.specs.Primary.{loose_of, IsUnwritten}
+use Rattle.primary_parts.specs.Held.{IsUndrawn}
 use Rattle.replica_opening.specs.Known.{HasMeta, IsLasting}
 use Rattle.replica_node.specs.declared.job.PointJob.{PointJob}
 use Rattle.replica_node.specs.declared.parts.Parts.{Parts as ReplicaParts}
@@ -74,7 +74,7 @@ module _ {D : Type 0} where
   -- and of its generation, and of each state as many are out as there are jobs that began with one like it.
   pub record PrimaryFiles (source : Name → Content) (cells : D → Cells) (past : Past) (jobs : Out → ℕ) (p : PrimaryParts D) : Type 0 where
     pub held : HeldReadAs source (cells p.dir) p.files
-    pub unwritten : (q : Name) → IsUndrawn p.infos (loose_of p) q → source q ≡ None
+    pub unwritten : (q : Name) → IsUnwritten p q → source q ≡ None
     pub point : IsPastPoint source past p.point_infos
     pub generation : p.point_infos.generation ≡ p.infos.generation
     pub outs : (s : Out) → jobs s ≤ states_like s p.states

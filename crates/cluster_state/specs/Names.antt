@@ -7,7 +7,7 @@ use Rattle.file_deleter.specs.Holdings.{IsThere}
 use Rattle.seg_reader.specs.Shown.{Shown}
 use Rattle.searcher_switch.specs.declared.open.Open.{Open}
 use Rattle.searcher_switch.specs.declared.open.Point.{Point}
-use Rattle.index_primary.specs.Primary.{loose_of}
+use Rattle.primary_parts.specs.Primary.{loose_of}
 use Rattle.history_entries.specs.Nodes.{Past}
 use Rattle.history_entries.specs.Points.{is_drawn}
 use Rattle.history_entries.specs.Rules.{MayHaveName}

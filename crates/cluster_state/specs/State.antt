@@ -16,9 +16,9 @@ use Rattle.history_entries.specs.Lines.{start_entry, before_start, publish_in_fl
 use Rattle.history_entries.specs.Points.{documents_at, operations_of_generation, cut_of, names_drawn}
 use Rattle.history_entries.specs.Tickets.{open_ticket, IsTicketOf}
 use Rattle.history_book.specs.Log.{Log, printed}
-use Rattle.index_primary.specs.declared.parts.Parts.{Parts as PrimaryParts}
-use Rattle.index_primary.specs.declared.parts.Publish.{Publish}
-use Rattle.index_primary.specs.Primary.{IsPrimary}
+use Rattle.primary_parts.specs.declared.parts.Parts.{Parts as PrimaryParts}
+use Rattle.primary_parts.specs.declared.parts.Publish.{Publish}
+use Rattle.primary_parts.specs.Primary.{IsPrimary}
 use Rattle.replica_node.specs.declared.parts.Parts.{Parts as ReplicaParts}
 use Rattle.replica_node.specs.Replica.{IsWholeReplica, AreStanding}
 use Rattle.cluster_places.specs.declared.held.Held.{Held}

@@ -14,17 +14,18 @@ use Rattle.copy_state.specs.declared.meta.FileMetaData.{FileMetaData}
 use Rattle.codec_frame.specs.Bytes.{AreBytes}
 use Rattle.codec_frame.specs.Checking.{HasFooter}
 use Rattle.codec_frame.proofs.FrameLaws.{framed_footer}
-use Rattle.index_primary.specs.Held.{IsHeld}
-use Rattle.index_primary.specs.States.{IsFramedIn}
-use Rattle.index_primary.proofs.Framing.{held_framed}
+use Rattle.primary_parts.specs.Held.{IsHeld}
+use Rattle.primary_parts.specs.States.{IsFramedIn}
+use Rattle.primary_parts.proofs.Framing.{held_framed}
 use Rattle.history_entries.specs.Points.{documents_at}
 use Rattle.copy_state.specs.States.{meta_names}
 use Rattle.commit_steps.proofs.Safe.{contains_of}
 use Rattle.searcher_switch.specs.Searching.{searcher_names}
-use Rattle.index_primary.specs.declared.parts.Parts.{Parts as PrimaryParts}
-use Rattle.index_primary.specs.declared.states.Out.{Out}
-use Rattle.index_primary.specs.Primary.{IsPrimary, primary_names, rest_names}
-use Rattle.index_primary.specs.States.{out_of, is_out, state_names, merge_names}
+use Rattle.primary_parts.specs.declared.parts.Parts.{Parts as PrimaryParts}
+use Rattle.primary_parts.specs.declared.states.Out.{Out}
+use Rattle.primary_parts.specs.Primary.{IsPrimary, primary_names, rest_names}
+use Rattle.primary_parts.specs.States.{out_of, is_out, state_names}
+use Rattle.primary_parts.specs.Merges.{merge_names}
 use Rattle.replica_opening.specs.Known.{HasMeta}
 use Rattle.replica_node.specs.declared.job.PointJob.{PointJob}
 use Rattle.replica_node.specs.declared.parts.Parts.{Parts as ReplicaParts}

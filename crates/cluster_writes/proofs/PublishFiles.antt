@@ -23,11 +23,11 @@ use Rattle.history_book.specs.Log.{Log, Pages, printed, shown, kept}
 use Rattle.history_book.specs.declared.inner.Inner.TheVariants.{FlushOut}
 use Rattle.history_book.specs.Laws.{IsFresh}
 use Rattle.history_book.specs.Turns.{AreInTurn}
-use Rattle.index_primary.specs.declared.parts.Parts.{Parts as PrimaryParts}
+use Rattle.primary_parts.specs.declared.parts.Parts.{Parts as PrimaryParts}
 use Rattle.node_files.specs.Appearing.{AppearsOnly}
 use Rattle.searcher_switch.specs.declared.open.Open.{Open}
-use Rattle.index_primary.specs.Primary.{IsPrimary, KeepsHeldBytes, primary_names, rest_names, loose_of, loose_in, rest_loose, publish_loose}
-use Rattle.index_primary.specs.Work.{AreOfCut}
+use Rattle.primary_parts.specs.Primary.{IsPrimary, KeepsHeldBytes, primary_names, rest_names, loose_of, loose_in, rest_loose, publish_loose}
+use Rattle.primary_parts.specs.Work.{AreOfCut}
 use Rattle.searcher_switch.specs.Tickets.{ticket_names}
 use Rattle.searcher_switch.specs.Searching.{searcher_names}
 use Rattle.commit_steps.specs.Book.{book_names}
@@ -36,10 +36,10 @@ use Rattle.file_deleter.proofs.NameLemmas.{times-append}
 use Rattle.segment_infos.specs.Files.{files_of_segment}
 use Rattle.cluster_state.specs.Writes.{IsFlushed}
 use Rattle.cluster_writes.proofs.Writing.{published_primary}
-use Rattle.index_primary.specs.Calls.{IsPublished, FillsUndrawn, DrawsOnly, KeepsOthers}
-use Rattle.index_primary.specs.declared.parts.Publish.{Publish}
-use Rattle.index_primary.specs.Held.{IsOwnFile, drawn_to}
-use Rattle.index_primary.specs.Cut.{infos_drawn, noted, has_put, number_drawn}
+use Rattle.primary_parts.specs.Calls.{IsPublished, FillsUndrawn, DrawsOnly, KeepsOthers}
+use Rattle.primary_parts.specs.declared.parts.Publish.{Publish}
+use Rattle.primary_parts.specs.Held.{IsOwnFile, drawn_to}
+use Rattle.primary_parts.specs.Cut.{infos_drawn, noted, has_put, number_drawn}
 use Rattle.cluster_places.specs.declared.held.Held.{Held}
 use Rattle.cluster_places.specs.declared.nodes.Node.TheVariants.{Primary}
 use Rattle.cluster_places.specs.declared.nodes.Place.{Place}

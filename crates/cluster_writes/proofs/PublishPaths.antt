@@ -22,12 +22,12 @@ use Rattle.history_book.specs.Log.{Log, Pages, printed, shown, kept}
 use Rattle.history_book.specs.declared.inner.Inner.TheVariants.{FlushOut}
 use Rattle.history_book.specs.Laws.{IsFresh, Flying}
 use Rattle.history_book.specs.Turns.{AreInTurn}
-use Rattle.index_primary.specs.declared.parts.Parts.{Parts as PrimaryParts}
-use Rattle.index_primary.specs.Primary.{IsPrimary}
-use Rattle.index_primary.specs.Calls.{IsTaskOf, after_start, IsPublished}
-use Rattle.index_primary.specs.Work.{IsWorkOf, AreOfCut}
-use Rattle.index_primary.specs.Cut.{infos_drawn, noted, has_put, IsIdle, AreSpent, AreTooMany}
-use Rattle.index_primary.proofs.Callers.{task_seg, task_sound}
+use Rattle.primary_parts.specs.declared.parts.Parts.{Parts as PrimaryParts}
+use Rattle.primary_parts.specs.Primary.{IsPrimary}
+use Rattle.primary_parts.specs.Calls.{IsTaskOf, after_start, IsPublished}
+use Rattle.primary_parts.specs.Work.{IsWorkOf, AreOfCut}
+use Rattle.primary_parts.specs.Cut.{infos_drawn, noted, has_put, IsIdle, AreSpent, AreTooMany}
+use Rattle.primary_parts.proofs.Callers.{task_seg, task_sound}
 use Rattle.segment_steps.specs.declared.flushing.FlushTask.{FlushTask}
 use Rattle.segment_steps.specs.declared.flushing.FlushWork.{FlushWork}
 use Rattle.cluster_places.specs.declared.held.Held.{Held}

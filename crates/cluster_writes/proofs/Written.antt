@@ -16,11 +16,11 @@ use Rattle.history_entries.specs.Legal.{KeepsRule, IsLegalPast}
 use Rattle.history_book.specs.Log.{Log, printed, shown, kept}
 use Rattle.history_book.specs.declared.inner.Inner.TheVariants.{FlushOut}
 use Rattle.history_book.specs.Turns.{AreInTurn}
-use Rattle.index_primary.specs.declared.parts.Parts.{Parts as PrimaryParts}
-use Rattle.index_primary.specs.Primary.{IsPrimary}
-use Rattle.index_primary.specs.Calls.{IsPublished}
-use Rattle.index_primary.specs.Work.{AreOfCut}
-use Rattle.index_primary.specs.Cut.{infos_drawn, noted, has_put}
+use Rattle.primary_parts.specs.declared.parts.Parts.{Parts as PrimaryParts}
+use Rattle.primary_parts.specs.Primary.{IsPrimary}
+use Rattle.primary_parts.specs.Calls.{IsPublished}
+use Rattle.primary_parts.specs.Work.{AreOfCut}
+use Rattle.primary_parts.specs.Cut.{infos_drawn, noted, has_put}
 use Rattle.segment_steps.specs.declared.flushing.FlushWork.{FlushWork}
 use Rattle.cluster_places.specs.declared.held.Held.{Held}
 use Rattle.cluster_places.specs.declared.nodes.Node.TheVariants.{Primary}

@@ -1,24 +1,22 @@
 // The primary, whole by its type.
-ghost use Rattle.std.specs.Prelude.{◌≡◌, ◌+◌, drop, ◌<◌, ◌≤◌, ◌^◌, ℕ, List, [], ◌∷◌, ◌++◌, Some, None, true, false, is_some, length, OnOk, OnErr, IfOk, IfErr, IfSome, IsSome, IsErrOf, Ok, Err, ◌⊎◌, ◌↔◌};
+ghost use Rattle.std.specs.Prelude.{◌≡◌, ◌+◌, ◌<◌, ◌≤◌, ◌^◌, ℕ, List, [], ◌∷◌, ◌++◌, Some, None, true, false, is_some, OnOk, OnErr, IfOk, IfSome, IsSome, IsErrOf, Ok, Err, ◌⊎◌, ◌↔◌};
+ghost use Rattle.std.specs.List.{All};
 ghost use Rattle.std.specs.Cmp.Lexicographic.{slice_cmp};
 ghost use Rattle.std.specs.List.Sorted.{IsStrictlySortedBy};
 ghost use Rattle.std.specs.Ordering.{nat_cmp};
 ghost use Rattle.nrt_base.specs.Causes.{Rose};
-ghost use Rattle.nrt_base.specs.SegNumbers.{segments_of_generation};
-ghost use Rattle.disk_model.specs.Disk.{Cells, is_among, reads_of};
-ghost use Rattle.disk_model.specs.Faults.{IsMemoryOrFailed};
+ghost use Rattle.disk_model.specs.Disk.{is_among, reads_of};
 ghost use Rattle.file_deleter.specs.Holdings.{times};
 ghost use Rattle.commit_steps.specs.Commits.{ImagesHave};
 ghost use Rattle.commit_steps.specs.Book.{commit_of, shown_by, book_after, is_last_step, HasBegun};
-ghost use Rattle.copy_state.specs.States.{AreShortNames, IsCopyState};
+ghost use Rattle.copy_state.specs.States.{IsCopyState};
 ghost use Rattle.searcher_switch.specs.Tickets.{ticket_at, tickets_without};
-ghost use Rattle.node_files.specs.Node.{IsWholeNode, KeepsCounts};
+ghost use Rattle.node_files.specs.Node.{IsWholeNode};
 ghost use Rattle.node_files.specs.Standing.{IsStanding, ImagesStand};
 ghost use Rattle.node_files.specs.Appearing.{NoneAppears, AppearsOnly, IsNameInFlight};
-ghost use Rattle.index_primary.specs.States.{state_names, is_out, out_of, states_without, IsStateOf};
-ghost use Rattle.index_primary.specs.Cut.{last_number, has_put, noted, after_cut, number_drawn, infos_drawn, IsIdle, AreSpent, AreTooMany};
+ghost use Rattle.primary_parts.specs.States.{state_names, is_out, out_of, states_without, IsStateOf};
+ghost use Rattle.primary_parts.specs.Cut.{last_number, IsIdle, AreSpent, AreTooMany};
 
-use crate::parts::{Parts, PrimaryFault, PublishFault};
 use bytes::Bytes;
 use commit_steps::{CommitBook, CommitFault};
 use copy_state::CopyState;
@@ -26,8 +24,10 @@ use disk_model::{Dir, FaultDir};
 use documents::Op;
 use file_deleter::FileDeleter;
 use file_names::FileName;
-use nrt_base::{List, NoMemory, Version};
+use nrt_base::{List, NoMemory, SegNo, Version};
+use primary_parts::{Parts, PrimaryFault, PublishFault};
 use searcher_switch::{Lease, Searchers, Ticket};
+use seg_merge::{MergeTask, Merged};
 use seg_reader::Segment;
 use segment_infos::Infos;
 use segment_steps::{FlushTask, FlushWork};
@@ -42,8 +42,8 @@ pub struct Primary<D: Dir> {
 }
 
 impl<D: Dir> Model for Primary<D> {
-    ghost use Rattle.index_primary.specs.declared.parts.Parts.{Parts};
-    ghost use Rattle.index_primary.specs.Primary.{IsPrimary};
+    ghost use Rattle.primary_parts.specs.declared.parts.Parts.{Parts};
+    ghost use Rattle.primary_parts.specs.Primary.{IsPrimary};
 
     ghost Value = { Parts D };
 
@@ -53,11 +53,13 @@ impl<D: Dir> Model for Primary<D> {
 }
 
 impl<D: Dir> Primary<D> {
-    ghost use Rattle.index_primary.specs.Primary.{IsPrimary, KeepsHeldBytes, rest_loose, loose_of};
-    ghost use Rattle.index_primary.specs.Held.{IsHeld, IsOwnFile, AreUndrawn, AreNumbered};
-    ghost use Rattle.index_primary.specs.Calls.{SearchesWriter, IsOpenedOn, IsTaskOf, after_start, MakesPoint, IsPublished, KeepsPoint, KeepsOthers, HasSameCounts, FillsUndrawn, DrawsOnly, HoldsNoNew};
-    ghost use Rattle.index_primary.specs.Publishing.{IsStep, IsReady, HasWritten, next_infos};
-    ghost use Rattle.index_primary.specs.Work.{IsWorkOf, AreOfCut};
+    ghost use Rattle.primary_parts.specs.Merges.{merges_without};
+    ghost use Rattle.primary_parts.specs.Written.{names_of, ReadsSo};
+    ghost use Rattle.primary_merges.specs.MergeCalls.{IsFitTask, AnswersMerge, IsMadeFor, IsReadied, IsFilledMerge, IsCutOver, KeepsDocuments};
+    ghost use Rattle.primary_parts.specs.Primary.{IsPrimary, KeepsHeldBytes, loose_of};
+    ghost use Rattle.primary_parts.specs.Held.{IsHeld, IsOwnFile, AreUndrawn, AreNumbered};
+    ghost use Rattle.primary_parts.specs.Calls.{IsOpenedOn, IsTaskOf, after_start, IsPublished, KeepsPoint, KeepsOthers, HasSameCounts, FillsUndrawn, DrawsOnly, HoldsNoNew};
+    ghost use Rattle.primary_parts.specs.Work.{IsWorkOf, AreOfCut};
     ghost use Rattle.searcher_switch.specs.Searching.{IsLeaseOf, searcher_names};
 
     /// The primary of a directory, whose deleter counts just the files of the searchers and of the commits, and whose
@@ -77,12 +79,12 @@ impl<D: Dir> Primary<D> {
         requires node { IsWholeNode (D.cells dir) files (searcher_names searchers) commits }
         requires standing { IsStanding (reads_of (D.cells dir)) commits }
         requires held { IsHeld (reads_of (D.cells dir)) infos segs searchers.point.names }
-        requires undrawn { AreUndrawn files infos [] }
+        requires undrawn { AreUndrawn files infos [] [] }
         requires numbered { AreNumbered infos [] }
         ensures whole { IfOk result (IsPrimary D.cells) }
         ensures opened { IfOk result (IsOpenedOn dir searchers commits infos segs) }
     {
-        let parts = Parts::from_parts(alloc, dir, files, searchers, commits, infos, segs)?;
+        let parts = primary_calls::from_parts(alloc, dir, files, searchers, commits, infos, segs)?;
         Ok(Primary { parts })
     }
 
@@ -97,7 +99,7 @@ impl<D: Dir> Primary<D> {
         ensures err { OnErr result (self.new ≡ self.old) }
         ensures whole { IsPrimary D.cells self.new }
     {
-        self.parts.accept(op)
+        primary_calls::accept(&mut self.parts, op)
     }
 
     /// Starts a publish, which takes every operation that was accepted and is not published. None comes exactly where there
@@ -115,7 +117,7 @@ impl<D: Dir> Primary<D> {
         ensures drawn { DrawsOnly self.old self.new }
         ensures whole { IsPrimary D.cells self.new }
     {
-        self.parts.publish_start(alloc)
+        primary_publish::publish_start(alloc, &mut self.parts)
     }
 
     /// Ends a publish with the work that was made for it: writes the new files, makes a point of the new segments, and gives
@@ -140,7 +142,98 @@ impl<D: Dir> Primary<D> {
         ensures later { D.faults self.old.dir ≤ D.faults self.new.dir }
         ensures whole { IsPrimary D.cells self.new }
     {
-        self.parts.publish_end(alloc, work)
+        primary_publish::publish_end(alloc, &mut self.parts, work)
+    }
+
+    /// Starts a merge of the first neighbours that can be chosen, as many as the factor: draws its number, and holds the files of its
+    /// inputs. None comes exactly where there are none. The directory is not called.
+    pub fn merge_start(
+        &mut self,
+        alloc: Global,
+        factor: u32,
+    ) -> Result<Option<MergeTask>, PublishFault>
+        requires { 2 ≤ factor }
+        ensures answers { AnswersMerge factor self.old self.new result }
+        ensures fit { IfOk result (λ task. IfSome task IsFitTask) }
+        ensures stays { KeepsHeldBytes D.cells self.old self.new }
+        ensures no_new { HoldsNoNew self.old self.new }
+        ensures drawn { DrawsOnly self.old self.new }
+        ensures whole { IsPrimary D.cells self.new }
+    {
+        primary_merges::merge_start(alloc, &mut self.parts, factor)
+    }
+
+    /// Writes the files of a merge in flight, of which the merged segment was made, and holds them. Answers a copy state that
+    /// names them, which is out until it is given back. Where the directory fails, the merge has ended.
+    pub fn merge_ready(&mut self, alloc: Global, merged: Merged) -> Result<CopyState, PrimaryFault>
+        requires { IsMadeFor self.old merged }
+        ensures state { IfOk result (IsStateOf (reads_of (D.cells self.new.dir)) self.old.point_infos
+            (names_of merged.files.files) (last_number self.old.commits) self.old.completed) }
+        ensures copy { IfOk result IsCopyState }
+        ensures out { IfOk result (λ s. self.new.states ≡ self.old.states ++ out_of s ∷ []) }
+        ensures merges { OnOk result (IsReadied merged self.old self.new) }
+        ensures written { OnOk result (All (ReadsSo (D.cells self.new.dir)) merged.files.files) }
+        ensures failed { IsErrOf result PrimaryFault.Failed
+            → Rose (D.faults self.old.dir) (D.faults self.new.dir) }
+        ensures ended { IsErrOf result PrimaryFault.Failed
+            → self.new.merges ≡ merges_without merged.files.seg.0 self.old.merges }
+        ensures memory { IsErrOf result PrimaryFault.Memory → self.new.merges ≡ self.old.merges }
+        ensures err { OnErr result (self.new.states ≡ self.old.states) }
+        ensures given_back { OnErr result (HoldsNoNew self.old self.new) }
+        ensures others { self.new ≡ record self.old {
+          dir = self.new.dir;
+          files = self.new.files;
+          states = self.new.states;
+          merges = self.new.merges;
+        } }
+        ensures stays { KeepsHeldBytes D.cells self.old self.new }
+        ensures fresh { FillsUndrawn self.old self.new }
+        ensures drawn { DrawsOnly self.old self.new }
+        ensures appears { AppearsOnly (IsOwnFile self.old.infos (loose_of self.old))
+            (D.cells self.old.dir) (D.cells self.new.dir) }
+        ensures later { D.faults self.old.dir ≤ D.faults self.new.dir }
+        ensures whole { IsPrimary D.cells self.new }
+    {
+        primary_merges::merge_ready(alloc, &mut self.parts, merged)
+    }
+
+    /// Puts the merged segment of a merge whose files are written in the place of its inputs. Rows that died since the merge started
+    /// are dead in its first live file; without a live row it is not put in. Where the directory fails, the merge has ended.
+    pub fn merge_cut(&mut self, alloc: Global, seg: SegNo) -> Result<(), PrimaryFault>
+        requires ready { IsFilledMerge self.old seg }
+        requires calm { self.old.publish ≡ None }
+        ensures cut { OnOk result (IsCutOver seg self.old self.new) }
+        ensures documents { OnOk result (KeepsDocuments self.old self.new) }
+        ensures failed { IsErrOf result PrimaryFault.Failed
+            → Rose (D.faults self.old.dir) (D.faults self.new.dir) }
+        ensures ended { IsErrOf result PrimaryFault.Failed
+            → self.new.merges ≡ merges_without seg.0 self.old.merges }
+        ensures memory { IsErrOf result PrimaryFault.Memory → self.new.merges ≡ self.old.merges }
+        ensures err { OnErr result (self.new ≡ record self.old {
+          dir = self.new.dir;
+          files = self.new.files;
+          merges = self.new.merges;
+        }) }
+        ensures given_back { OnErr result (HoldsNoNew self.old self.new) }
+        ensures others { self.new ≡ record self.old {
+          dir = self.new.dir;
+          files = self.new.files;
+          infos = self.new.infos;
+          segs = self.new.segs;
+          names = self.new.names;
+          merges = self.new.merges;
+          has_cut_over = self.new.has_cut_over;
+          completed = self.new.completed;
+        } }
+        ensures stays { KeepsHeldBytes D.cells self.old self.new }
+        ensures fresh { FillsUndrawn self.old self.new }
+        ensures drawn { DrawsOnly self.old self.new }
+        ensures appears { AppearsOnly (IsOwnFile self.old.infos (loose_of self.old))
+            (D.cells self.old.dir) (D.cells self.new.dir) }
+        ensures later { D.faults self.old.dir ≤ D.faults self.new.dir }
+        ensures whole { IsPrimary D.cells self.new }
+    {
+        primary_merges::merge_cut(alloc, &mut self.parts, seg)
     }
 
     /// The copy state of the point that is searched: one load for each of its files, ascending. It holds these files until
@@ -165,7 +258,7 @@ impl<D: Dir> Primary<D> {
         ensures later { D.faults self.old.dir ≤ D.faults self.new.dir }
         ensures whole { IsPrimary D.cells self.new }
     {
-        self.parts.take_state(alloc)
+        primary_calls::take_state(alloc, &mut self.parts)
     }
 
     /// The bytes of a file that a copy state which is out names.
@@ -180,7 +273,7 @@ impl<D: Dir> Primary<D> {
         ensures later { D.faults self.old.dir ≤ D.faults self.new.dir }
         ensures whole { IsPrimary D.cells self.new }
     {
-        self.parts.source(name)
+        primary_calls::source(&mut self.parts, name)
     }
 
     /// Takes a copy state back, and gives its files back. Takes no memory.
@@ -198,7 +291,7 @@ impl<D: Dir> Primary<D> {
         ensures later { D.faults self.old.dir ≤ D.faults self.new.dir }
         ensures whole { IsPrimary D.cells self.new }
     {
-        self.parts.give_back(state);
+        primary_calls::give_back(&mut self.parts, state);
     }
 
     /// Opens a ticket on the point that is searched.
@@ -216,7 +309,7 @@ impl<D: Dir> Primary<D> {
         ensures no_new { HoldsNoNew self.old self.new }
         ensures whole { IsPrimary D.cells self.new }
     {
-        self.parts.acquire(alloc)
+        primary_calls::acquire(alloc, &mut self.parts)
     }
 
     /// What a search under a ticket reads: the point on which the ticket was opened.
@@ -225,7 +318,7 @@ impl<D: Dir> Primary<D> {
         ensures { IfOk result (λ lease.
             IfSome (ticket_at ticket.now.number self.now.searchers.tickets) (IsLeaseOf lease)) }
     {
-        self.parts.lease(alloc, ticket)
+        primary_calls::lease(alloc, &self.parts, ticket)
     }
 
     /// Closes a ticket, and gives its files back. Takes no memory.
@@ -245,7 +338,7 @@ impl<D: Dir> Primary<D> {
         ensures later { D.faults self.old.dir ≤ D.faults self.new.dir }
         ensures whole { IsPrimary D.cells self.new }
     {
-        self.parts.release(ticket);
+        primary_calls::release(&mut self.parts, ticket);
     }
 
     /// The names of the directory's files, ascending. The directory is not called.
@@ -254,7 +347,7 @@ impl<D: Dir> Primary<D> {
             → is_among names.items q ≡ is_some (D.cells self.now.dir q).now) }
         ensures ascending { IfOk result (λ names. IsStrictlySortedBy (slice_cmp nat_cmp) names.items) }
     {
-        self.parts.names(alloc)
+        primary_calls::names(alloc, &self.parts)
     }
 
     /// The number that the next commit gets.
@@ -276,7 +369,7 @@ impl<D: Dir> Primary<D> {
         ensures stays { KeepsHeldBytes D.cells self.old self.new }
         ensures whole { IsPrimary D.cells self.new }
     {
-        self.parts.commit_begin(alloc)
+        primary_calls::commit_begin(alloc, &mut self.parts)
     }
 
     /// Makes the next call of the directory for the commit in flight, and answers whether the commit is done.
@@ -300,7 +393,7 @@ impl<D: Dir> Primary<D> {
         ensures later { D.faults self.old.dir ≤ D.faults self.new.dir }
         ensures whole { IsPrimary D.cells self.new }
     {
-        self.parts.commit_step(alloc)
+        primary_calls::commit_step(alloc, &mut self.parts)
     }
 
     /// The directory, as it stands.
@@ -308,7 +401,7 @@ impl<D: Dir> Primary<D> {
         ensures { result ≡ self.dir }
     {
         let Primary { parts } = self;
-        parts.into_dir()
+        primary_calls::into_dir(parts)
     }
 
     /// Each image of the directory shows the last commit or the one in flight, of the documents that the directory has of it
@@ -323,7 +416,7 @@ impl<D: Dir> Primary<D> {
 }
 
 impl<D: FaultDir> Primary<D> {
-    ghost use Rattle.index_primary.specs.Primary.{IsPrimary};
+    ghost use Rattle.primary_parts.specs.Primary.{IsPrimary};
 
     /// The k-th counted call of the directory from now fails once.
     pub fn plan(&mut self, k: u64)
@@ -334,7 +427,7 @@ impl<D: FaultDir> Primary<D> {
         ensures others { self.new ≡ record self.old { dir = self.new.dir } }
         ensures whole { IsPrimary D.cells self.new }
     {
-        self.parts.plan(k);
+        primary_calls::plan(&mut self.parts, k);
     }
 
     /// The k-th counted call of the directory from now and every later one fail.
@@ -346,7 +439,7 @@ impl<D: FaultDir> Primary<D> {
         ensures others { self.new ≡ record self.old { dir = self.new.dir } }
         ensures whole { IsPrimary D.cells self.new }
     {
-        self.parts.stop_at(k);
+        primary_calls::stop_at(&mut self.parts, k);
     }
 
     /// How many faults of the directory were met by `plan`, and how many by `stop_at`.

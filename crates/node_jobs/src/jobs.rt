@@ -7,7 +7,7 @@ ghost use Rattle.copy_state.specs.States.{meta_in};
 ghost use Rattle.copy_state.specs.Meta.{IsMetaOf};
 ghost use Rattle.copy_job.specs.Jobs.{reads_under};
 ghost use Rattle.node_files.specs.Standing.{StandsForSome};
-ghost use Rattle.index_primary.specs.States.{is_out};
+ghost use Rattle.primary_parts.specs.States.{is_out};
 ghost use Rattle.cluster_places.specs.Outs.{want_of};
 ghost use Rattle.cluster_places.specs.JobChanges.{given_back, AltersStates, AltersJob, BeginsAt, FinishesAt, TakesPart};
 

@@ -8,9 +8,9 @@ use Rattle.nrt_base.specs.declared.numbers.NodeNo.{NodeNo}
 use Rattle.disk_model.specs.Disk.{Cells}
 use Rattle.history_entries.specs.Nodes.{is_at}
 use Rattle.copy_state.specs.declared.state.CopyState.{CopyState}
-use Rattle.index_primary.specs.declared.parts.Parts.{Parts as PrimaryParts}
-use Rattle.index_primary.specs.declared.states.Out.{Out}
-use Rattle.index_primary.specs.States.{is_out, out_of, states_without}
+use Rattle.primary_parts.specs.declared.parts.Parts.{Parts as PrimaryParts}
+use Rattle.primary_parts.specs.declared.states.Out.{Out}
+use Rattle.primary_parts.specs.States.{is_out, out_of, states_without}
 use Rattle.replica_node.specs.declared.parts.Parts.{Parts as ReplicaParts}
 use Rattle.replica_node.specs.Replica.{IsWholeReplica, AreStanding}
 use Rattle.replica_node.specs.Sources.{KeepsSource}

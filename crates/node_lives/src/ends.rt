@@ -2,7 +2,7 @@
 
 ghost use Rattle.std.specs.Prelude.{ℕ, ◌≡◌, ◌==◌, false, Some, length, IfOk, OnOk};
 ghost use Rattle.std.specs.Option.{option_map};
-ghost use Rattle.index_primary.specs.States.{out_of};
+ghost use Rattle.primary_parts.specs.States.{out_of};
 ghost use Rattle.cluster_places.specs.Outs.{want_of, want_at};
 ghost use Rattle.cluster_places.specs.Places.{place_of, IsSlot};
 ghost use Rattle.cluster_places.specs.Ends.{EndsJob, EndsNodeJob, EndsPlaceJob, CanTakeBack, TakesBackIn, CanEnd, EndsWith};

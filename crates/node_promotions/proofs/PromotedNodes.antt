@@ -27,13 +27,14 @@ use Rattle.nrt_base.specs.declared.doc.Doc.{Doc}
 use Rattle.promotion.specs.declared.fault.PromoteFault.{PromoteFault}
 use Rattle.promotion.specs.declared.fault.PromoteFault.TheVariants.{Memory, GenNotNewer, ForceHigh}
 use Rattle.promotion.specs.Generations.{promoted_infos, IsNotNewer, IsForceHigh}
-use Rattle.index_primary.specs.declared.parts.Parts.{Parts as PrimaryParts}
-use Rattle.index_primary.specs.declared.states.Out.{Out}
-use Rattle.index_primary.specs.declared.states.Merging.{Merging}
-use Rattle.index_primary.specs.States.{state_names, merge_names}
-use Rattle.index_primary.specs.Primary.{IsPrimary, primary_names, rest_names}
-use Rattle.index_primary.specs.Held.{IsHeld, IsUndrawn, AreUndrawn, AreNumbered}
-use Rattle.index_primary.specs.Calls.{IsOpenedOn}
+use Rattle.primary_parts.specs.declared.parts.Parts.{Parts as PrimaryParts}
+use Rattle.primary_parts.specs.declared.states.Out.{Out}
+use Rattle.primary_parts.specs.declared.states.Merging.{Merging}
+use Rattle.primary_parts.specs.States.{state_names}
+use Rattle.primary_parts.specs.Merges.{merge_names}
+use Rattle.primary_parts.specs.Primary.{IsPrimary, primary_names, rest_names}
+use Rattle.primary_parts.specs.Held.{IsHeld, IsUndrawn, AreUndrawn, AreNumbered}
+use Rattle.primary_parts.specs.Calls.{IsOpenedOn}
 use Rattle.replica_node.specs.declared.parts.Parts.{Parts as ReplicaParts}
 use Rattle.replica_node.specs.declared.taking.NodeParts.{NodeParts}
 use Rattle.replica_node.specs.Sources.{HeldReadAs, IsSourced, IsTakenApart}
@@ -93,10 +94,10 @@ module _ {D : Type 0} (cells : D → Cells) (generation : Gen) (forced : Version
         stands = record { each = with.each; stand = with.stand };
       })
 
-  pub undrawn_apart : (infos : Infos) → infos ≡ next → ((q : Name) → count_of parts.files q ≤ count_of r.files q) → AreUndrawn parts.files infos []
+  pub undrawn_apart : (infos : Infos) → infos ≡ next → ((q : Name) → count_of parts.files q ≤ count_of r.files q) → AreUndrawn parts.files infos [] []
   undrawn_apart infos is fewer = record {
     each = λ q undrawn.
-        let none = can.undrawn.each q (subst (λ (i : Infos). IsUndrawn i [] q) (is ∙ sym next_is) undrawn) in
+        let none = can.undrawn.each q (subst (λ (i : Infos). IsUndrawn i [] [] q) (is ∙ sym next_is) undrawn) in
         let low = fewer q in
         omega (arith, none, low);
   }

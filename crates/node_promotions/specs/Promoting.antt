@@ -5,9 +5,9 @@ use Rattle.nrt_base.specs.declared.numbers.Gen.{Gen}
 use Rattle.nrt_base.specs.declared.numbers.Version.{Version}
 use Rattle.disk_model.specs.Disk.{Name, Content, Cells}
 use Rattle.node_files.specs.Appearing.{NoneAppears}
-use Rattle.index_primary.specs.declared.parts.Parts.{Parts as PrimaryParts}
-use Rattle.index_primary.specs.Primary.{IsPrimary}
-use Rattle.index_primary.specs.Held.{AreUndrawn, AreNumbered}
+use Rattle.primary_parts.specs.declared.parts.Parts.{Parts as PrimaryParts}
+use Rattle.primary_parts.specs.Primary.{IsPrimary}
+use Rattle.primary_parts.specs.Held.{AreUndrawn, AreNumbered}
 use Rattle.replica_node.specs.declared.parts.Parts.{Parts as ReplicaParts}
 use Rattle.replica_node.specs.Replica.{IsWholeReplica, AreStanding}
 use Rattle.replica_node.specs.Sources.{HeldReadAs, IsSourced}
@@ -29,7 +29,7 @@ module _ {D : Type 0} where
     pub above : r.infos.version.0 ≤ forced.0
     pub low : forced.0 < 2 ^ 62
     pub numbered : AreNumbered (promoted_infos r.infos generation forced) []
-    pub undrawn : AreUndrawn r.files (promoted_infos r.infos generation forced) []
+    pub undrawn : AreUndrawn r.files (promoted_infos r.infos generation forced) [] []
 
   -- The primary that the replica became: it searches the segments and writes from them on, at one version above the forced one, has the open
   -- tickets and the commits of the replica, and did nothing yet. What it holds reads as at the source where the replica's files did.

@@ -5,9 +5,9 @@ ghost use Rattle.disk_model.specs.Disk.{reads_of};
 ghost use Rattle.searcher_switch.specs.Searching.{searcher_names};
 ghost use Rattle.node_files.specs.Node.{IsWholeNode};
 ghost use Rattle.node_files.specs.Standing.{IsStanding};
-ghost use Rattle.index_primary.specs.Held.{IsHeld, AreUndrawn, AreNumbered};
-ghost use Rattle.index_primary.specs.Primary.{IsPrimary};
-ghost use Rattle.index_primary.specs.Calls.{IsOpenedOn};
+ghost use Rattle.primary_parts.specs.Held.{IsHeld, AreUndrawn, AreNumbered};
+ghost use Rattle.primary_parts.specs.Primary.{IsPrimary};
+ghost use Rattle.primary_parts.specs.Calls.{IsOpenedOn};
 ghost use Rattle.promotion.specs.declared.fault.PromoteFault.TheVariants.{Memory};
 ghost use Rattle.promotion.specs.Generations.{promoted_infos};
 ghost use Rattle.node_promotions.specs.Promoting.{CanPromote, PromotesTo, CanPromoteIn, PromotesIn};
@@ -57,7 +57,7 @@ fn primary_of<D: Dir + Drop>(
     requires standing { IsStanding (reads_of (D.cells parts.dir)) parts.commits }
     requires held { IsHeld (reads_of (D.cells parts.dir)) infos parts.segs
         parts.searchers.point.names }
-    requires undrawn { AreUndrawn parts.files infos [] }
+    requires undrawn { AreUndrawn parts.files infos [] [] }
     requires numbered { AreNumbered infos [] }
     ensures whole { IfOk result (IsPrimary D.cells) }
     ensures opened { IfOk result (IsOpenedOn parts.dir parts.searchers parts.commits infos parts.segs) }

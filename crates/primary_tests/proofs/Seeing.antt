@@ -18,14 +18,14 @@ use Rattle.searcher_switch.specs.declared.searchers.Ticket.{Ticket}
 use Rattle.searcher_switch.specs.Searching.{searcher_names}
 use Rattle.searcher_switch.specs.Tickets.{ticket_at, tickets_without, ticket_names}
 use Rattle.segment_steps.specs.declared.flushing.FlushTask.{FlushTask}
-use Rattle.index_primary.specs.declared.parts.Parts.{Parts}
-use Rattle.index_primary.specs.declared.states.Out.{Out}
-use Rattle.index_primary.specs.States.{out_of, same_out, is_out, states_without}
-use Rattle.index_primary.specs.Calls.{IsTaskOf, after_start}
-use Rattle.index_primary.specs.Primary.{IsPrimary}
-use Rattle.index_primary.proofs.StateLemmas.{same_out_self}
+use Rattle.primary_parts.specs.declared.parts.Parts.{Parts}
+use Rattle.primary_parts.specs.declared.states.Out.{Out}
+use Rattle.primary_parts.specs.States.{out_of, same_out, is_out, states_without}
+use Rattle.primary_parts.specs.Calls.{IsTaskOf, after_start}
+use Rattle.primary_parts.specs.Primary.{IsPrimary}
+use Rattle.primary_parts.proofs.StateLemmas.{same_out_self}
 use Rattle.primary_tests.specs.declared.seen.Seen.{Seen}
-use Rattle.primary_tests.specs.Seeing.{IsEmpty, IsSeen, open_numbers, ticket_numbers}
+use Rattle.primary_tests.specs.Seeing.{IsEmpty, IsSeen, open_numbers, ticket_numbers, tasks_of}
 
 -- ---- a directory in memory
 -- a name under which nothing was leaves nothing
@@ -114,6 +114,8 @@ module _ {D : Type 0} (old new : Parts D) (seen : Seen) (is : IsSeen old seen) w
     in_flight = ap (λ (p : Parts D). is_some p.commits.stage) e ∙ is.in_flight;
     tickets = ap (λ (ts : List (Open Shown)). open_numbers ts) closed ∙ (first_closed old.searchers.tickets seen.tickets ticket is.tickets first).1 ∙ ap (λ (ts : List Ticket). ticket_numbers ts) (sym rest);
     states = ap (λ (p : Parts D). p.states) e ∙ is.states;
+    merges = ap (λ (p : Parts D). tasks_of p.merges) e ∙ is.merges;
+    fit = is.fit;
   }
 
   pub seen_states : (given : List CopyState) → new ≡ record old { dir = new.dir; files = new.files; states = new.states } → new.states ≡ map out_of given → IsSeen new (record seen { states = given })
@@ -125,4 +127,6 @@ module _ {D : Type 0} (old new : Parts D) (seen : Seen) (is : IsSeen old seen) w
     in_flight = ap (λ (p : Parts D). is_some p.commits.stage) e ∙ is.in_flight;
     tickets = ap (λ (p : Parts D). open_numbers p.searchers.tickets) e ∙ is.tickets;
     states = out;
+    merges = ap (λ (p : Parts D). tasks_of p.merges) e ∙ is.merges;
+    fit = is.fit;
   }

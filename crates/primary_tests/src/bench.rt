@@ -37,6 +37,17 @@ pub struct Shelf {
     pub flight: Option<PlainCommit>,
 }
 
+/// A call of a merge.
+#[derive(Clone, Copy)]
+pub enum MergeStep {
+    /// A merge of so many neighbours starts.
+    Start(u32),
+    /// The oldest merge is made.
+    Ready,
+    /// The cut-over.
+    Cut,
+}
+
 /// A call of a bench.
 #[derive(Clone, Copy)]
 pub enum Call {
@@ -45,6 +56,10 @@ pub enum Call {
     Publish,
     /// A publish that leads to this.
     PublishTo(Outcome),
+    /// A call of a merge that leads to this.
+    MergeTo(MergeStep, Outcome),
+    /// The next call of merges of so many neighbours, whatever it leads to.
+    Merge(u32),
     Acquire,
     Release,
     TakeState,
@@ -121,6 +136,7 @@ impl Shelf {
     fn names(&self, alloc: Global) -> Result<Vec<FileName>, NoMemory> {
         let PlainPoint { names, .. } = self.plain.point(alloc, 0)?;
         let mut names = names;
+        self.plain.add_held(&mut names)?;
         for point in self.tickets.iter().chain(self.states.iter()) {
             names.extend_from_slice(point.names.as_slice())?;
         }
@@ -201,6 +217,53 @@ impl<D: Dir> Bench<D> {
             }
             Outcome::Failed => self.shelf.plain.draw(),
             _ => {}
+        }
+        Ok(outcome)
+    }
+
+    /// Starts a merge, where some neighbours can be merged.
+    pub fn merge_start(&mut self, alloc: Global, factor: u32) -> Result<Outcome, Fail>
+        requires seen { IsSeen self.old.primary self.old.seen }
+        requires factor { 2 ≤ factor }
+        ensures { OnOk result (IsSeen self.new.primary self.new.seen) }
+    {
+        let can_merge = self.shelf.plain.can_merge(alloc, factor)?;
+        let outcome = calls::merge_start(alloc, &mut self.primary, &mut self.seen, factor)?;
+        check(
+            can_merge == (outcome != Outcome::Nothing),
+            "what can be merged is merged",
+        )?;
+        if outcome == Outcome::Started {
+            self.shelf.plain.merge_start(alloc, factor)?;
+        }
+        Ok(outcome)
+    }
+
+    /// Makes the oldest merge, and writes its files.
+    pub fn merge_ready(&mut self, alloc: Global) -> Result<Outcome, Fail>
+        requires { IsSeen self.old.primary self.old.seen }
+        ensures { OnOk result (IsSeen self.new.primary self.new.seen) }
+    {
+        let outcome = calls::merge_ready(alloc, &mut self.primary, &mut self.seen)?;
+        if outcome == Outcome::Ready {
+            let point = self.shelf.plain.merge_ready(alloc, self.seen.version)?;
+            self.shelf.states.push(point)?;
+        } else {
+            self.shelf.plain.merge_fails();
+        }
+        Ok(outcome)
+    }
+
+    /// Cuts over to the merge whose files are written.
+    pub fn merge_cut(&mut self, alloc: Global) -> Result<Outcome, Fail>
+        requires { IsSeen self.old.primary self.old.seen }
+        ensures { OnOk result (IsSeen self.new.primary self.new.seen) }
+    {
+        let outcome = calls::merge_cut(alloc, &mut self.primary, &mut self.seen)?;
+        if outcome == Outcome::CutOver {
+            self.shelf.plain.cut_over(alloc)?;
+        } else {
+            self.shelf.plain.cut_fails();
         }
         Ok(outcome)
     }
@@ -296,6 +359,41 @@ impl<D: FaultDir> Bench<D> {
         Ok(())
     }
 
+    fn merge_to(&mut self, alloc: Global, step: MergeStep) -> Result<Outcome, Fail>
+        requires { IsSeen self.old.primary self.old.seen }
+        ensures { OnOk result (IsSeen self.new.primary self.new.seen) }
+    {
+        match step {
+            MergeStep::Start(factor) => {
+                if factor < 2 {
+                    return Err(Fail::new("one is not merged"));
+                }
+                self.merge_start(alloc, factor)
+            }
+            MergeStep::Ready => self.merge_ready(alloc),
+            MergeStep::Cut => self.merge_cut(alloc),
+        }
+    }
+
+    // The next call of merges: the cut-over of the one whose files are written, or the making of the oldest, where two are in flight, or a
+    // start.
+    fn merge(&mut self, alloc: Global, factor: u32) -> Result<(), Fail>
+        requires { IsSeen self.old.primary self.old.seen }
+        ensures { OnOk result (IsSeen self.new.primary self.new.seen) }
+    {
+        if self.seen.ready.is_some() {
+            return self.merge_cut(alloc).map(|_| ());
+        }
+        if self.seen.merges.as_slice().len() > 1 {
+            return self.merge_ready(alloc).map(|_| ());
+        }
+        let outcome = self.merge_to(alloc, MergeStep::Start(factor))?;
+        if outcome == Outcome::Nothing && !self.seen.merges.as_slice().is_empty() {
+            return self.merge_ready(alloc).map(|_| ());
+        }
+        Ok(())
+    }
+
     fn play_one(&mut self, alloc: Global, call: Call) -> Result<(), Fail>
         requires { IsSeen self.old.primary self.old.seen }
         ensures { OnOk result (IsSeen self.new.primary self.new.seen) }
@@ -307,6 +405,11 @@ impl<D: FaultDir> Bench<D> {
                 let outcome = self.publish(alloc)?;
                 check(outcome == due, "a publish leads elsewhere")
             }
+            Call::MergeTo(step, due) => {
+                let outcome = self.merge_to(alloc, step)?;
+                check(outcome == due, "a merge leads elsewhere")
+            }
+            Call::Merge(factor) => self.merge(alloc, factor),
             Call::Acquire => self.acquire(alloc),
             Call::Release => self.release(alloc),
             Call::TakeState => self.take_state(alloc),

@@ -12,6 +12,7 @@ use file_deleter::FileDeleter;
 use index_primary::{Primary, PrimaryFault, PublishFault};
 use nrt_base::{Gen, List, Version};
 use searcher_switch::{Lease, Searchers};
+use seg_merge::merge;
 use seg_reader::Segment;
 use segment_infos::Infos;
 use segment_steps::flush;
@@ -21,7 +22,7 @@ use std::test::Fail;
 /// Far more calls than a test makes.
 const MANY: u64 = 1_000_000;
 
-/// What a publish leads to.
+/// What a publish, or a call of a merge, leads to.
 #[derive(Clone, Copy, PartialEq, Eq)]
 pub enum Outcome {
     Nothing,
@@ -29,6 +30,9 @@ pub enum Outcome {
     TooManySegments,
     Failed,
     Point,
+    Started,
+    Ready,
+    CutOver,
 }
 
 /// What a call of a commit leads to.
@@ -67,6 +71,8 @@ pub fn start<D: Dir + Drop>(alloc: Global, dir: D, drawn: u32) -> Result<(Primar
         in_flight: false,
         tickets: List::new(alloc),
         states: List::new(alloc),
+        ready: None,
+        merges: List::new(alloc),
     };
     Ok((primary, seen))
 }
@@ -176,6 +182,73 @@ pub fn give_back<D: Dir>(primary: &mut Primary<D>, seen: &mut Seen) -> Result<()
     let state = seen.states.remove(0);
     primary.give_back(state);
     Ok(())
+}
+
+/// Starts a merge, where some neighbours can be chosen.
+pub fn merge_start<D: Dir>(
+    alloc: Global,
+    primary: &mut Primary<D>,
+    seen: &mut Seen,
+    factor: u32,
+) -> Result<Outcome, Fail>
+    requires seen { IsSeen primary.old seen.old }
+    requires factor { 2 ≤ factor }
+    ensures { OnOk result (IsSeen primary.new seen.new) }
+{
+    match primary.merge_start(alloc, factor) {
+        Ok(Some(task)) => {
+            seen.merges.push(task)?;
+            Ok(Outcome::Started)
+        }
+        Ok(None) => Ok(Outcome::Nothing),
+        Err(PublishFault::NamesSpent) => Ok(Outcome::NamesSpent),
+        Err(PublishFault::TooManySegments) => Ok(Outcome::TooManySegments),
+        Err(PublishFault::Memory) => Err(Fail::new("out of memory")),
+    }
+}
+
+/// Makes the oldest merge, and writes its files.
+pub fn merge_ready<D: Dir>(
+    alloc: Global,
+    primary: &mut Primary<D>,
+    seen: &mut Seen,
+) -> Result<Outcome, Fail>
+    requires { IsSeen primary.old seen.old }
+    ensures { OnOk result (IsSeen primary.new seen.new) }
+{
+    if seen.ready.is_some() || seen.merges.as_slice().is_empty() {
+        return Err(Fail::new("no merge is to be made"));
+    }
+    let task = seen.merges.remove(0);
+    let merged = merge(alloc, &task)?;
+    match primary.merge_ready(alloc, merged) {
+        Ok(state) => {
+            seen.states.push(state)?;
+            seen.ready = Some(task);
+            Ok(Outcome::Ready)
+        }
+        Err(PrimaryFault::Failed) => Ok(Outcome::Failed),
+        Err(PrimaryFault::Memory) => Err(Fail::new("out of memory")),
+    }
+}
+
+/// Cuts over to the merge whose files are written.
+pub fn merge_cut<D: Dir>(
+    alloc: Global,
+    primary: &mut Primary<D>,
+    seen: &mut Seen,
+) -> Result<Outcome, Fail>
+    requires { IsSeen primary.old seen.old }
+    ensures { OnOk result (IsSeen primary.new seen.new) }
+{
+    let Some(task) = seen.ready.take() else {
+        return Err(Fail::new("no merge is ready"));
+    };
+    match primary.merge_cut(alloc, task.seg) {
+        Ok(()) => Ok(Outcome::CutOver),
+        Err(PrimaryFault::Failed) => Ok(Outcome::Failed),
+        Err(PrimaryFault::Memory) => Err(Fail::new("out of memory")),
+    }
 }
 
 /// Begins a commit, where none is in flight, or else makes its next call.

@@ -6,6 +6,8 @@ mod bench;
 #[cfg(test)]
 mod calls;
 #[cfg(test)]
+mod merges;
+#[cfg(test)]
 mod plain;
 #[cfg(test)]
 mod reading;

@@ -17,10 +17,10 @@ use std::alloc::Global;
 use std::test::Fail;
 
 /// No call of the directory is so far away.
-const FAR: u64 = 1_000_000;
+pub const FAR: u64 = 1_000_000;
 
-// A directory in memory without a file.
-fn empty_dir(alloc: Global) -> Result<MemDir, NoMemory>
+/// A directory in memory without a file.
+pub fn empty_dir(alloc: Global) -> Result<MemDir, NoMemory>
     ensures { IfOk result (λ dir. IsEmpty (cells_in dir)) }
 {
     let dir = MemDir::new(alloc)?;
@@ -213,7 +213,8 @@ fn a_put_wants_a_place_among_256_segments(rt: HostRuntime) -> Result<(), Fail> {
     Ok(())
 }
 
-fn next(seed: &mut u64) -> u64 {
+/// The next number of a random row.
+pub fn next(seed: &mut u64) -> u64 {
     *seed = seed
         .wrapping_mul(6364136223846793005)
         .wrapping_add(1442695040888963407);

@@ -1,6 +1,6 @@
 use Rattle.std.proofs.Common.{ap, arith}
 use Rattle.history_entries.specs.declared.entry.Event.TheVariants.{Published}
-use Rattle.index_primary.specs.declared.parts.Parts.{Parts as PrimaryParts}
+use Rattle.primary_parts.specs.declared.parts.Parts.{Parts as PrimaryParts}
 use Rattle.cluster_state.proofs.Frames.{slot_at, slot_kept, there_at, rule_at}
 use Rattle.cluster_writes.proofs.PublishPaths.{primary_stands, work_at, next_fits, next_is, may_publish, end_path, ends_now}
 use Rattle.cluster_writes.proofs.PublishFiles.{end_files}

@@ -1,6 +1,6 @@
 use Rattle.std.proofs.Common.{false, ◌∙◌, refl}
 use Rattle.history_entries.specs.declared.entry.Event.TheVariants.{Publishing}
-use Rattle.index_primary.specs.declared.parts.PublishFault.TheVariants.{NamesSpent, TooManySegments}
+use Rattle.primary_parts.specs.declared.parts.PublishFault.TheVariants.{NamesSpent, TooManySegments}
 use Rattle.cluster_state.proofs.Frames.{slot_at, slot_kept, there_at, rule_at}
 use Rattle.cluster_writes.proofs.PublishPaths.{ok_at, err_at, on_err, primary_stands, none_flies, not_idle, not_spent, is_full_at, hands_out, asked_task, may_start, start_path, back_path}
 use Rattle.cluster_state.proofs.Turning.{log_is, nodes_is}

@@ -1,6 +1,6 @@
 use Rattle.std.proofs.Common.{◌≡◌, ◌∙◌, sym, subst, IfOk}
 use Rattle.std.specs.Option.{option_map}
-use Rattle.index_primary.specs.States.{out_of}
+use Rattle.primary_parts.specs.States.{out_of}
 use Rattle.cluster_places.specs.Outs.{want_at}
 use Rattle.cluster_places.proofs.Slots.{place_read}
 use Rattle.node_lives.proofs.ends.state_in.Goals as goal

@@ -1,6 +1,6 @@
 use Rattle.std.proofs.Common.{◌∙◌, ap, sym, Some}
 use Rattle.std.specs.Option.{option_map}
-use Rattle.index_primary.specs.States.{out_of}
+use Rattle.primary_parts.specs.States.{out_of}
 use Rattle.cluster_places.proofs.Stepping.{alters_by}
 use Rattle.node_lives.proofs.EndedJobs.{no_state, nothing_back, state_out, state_back}
 use Rattle.node_lives.proofs.ends.take_back.Goals as goal

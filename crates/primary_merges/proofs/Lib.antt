@@ -1,0 +1,11 @@
+mod OtherCuts
+mod Carrying
+mod Begun
+mod MergedFiles
+mod Readied
+mod Abandoned
+mod CutSteps
+mod CutPlaced
+mod Begins
+mod CutMaking
+mod Making

@@ -1,0 +1,77 @@
+-- The state of a merge whose files are to be written, and the metadata of these; the records of its inputs, one after another.
+use Rattle.std.proofs.Common.{◌≡◌, ◌<◌, ◌+◌, ◌==◌, cond, ℕ, Bool, List, [], ◌∷◌, ◌++◌, Some, None, length, take, get_or, refl, sym, ap, subst, ◌∙◌, All}
+use Rattle.std.proofs.lemmas.List.{take_more, map-append}
+use Rattle.std.specs.List.{list_any}
+use Rattle.std.proofs.lemmas.List.Elements.{All-push, filter_more}
+use Rattle.nrt_base.specs.declared.numbers.SegNo.{SegNo}
+use Rattle.disk_model.specs.Disk.{Name, Content}
+use Rattle.segment_infos.specs.declared.infos.SegRecord.{SegRecord}
+use Rattle.segment_infos.specs.Infos.{IsInfosFile}
+use Rattle.seg_build.specs.Built.{File}
+use Rattle.copy_state.specs.declared.meta.FileMetaData.{FileMetaData}
+use Rattle.copy_state.specs.Meta.{IsMetaOf}
+use Rattle.copy_state.specs.States.{meta_names, AreShortNames}
+use Rattle.seg_merge.specs.declared.task.Merged.{Merged}
+use Rattle.seg_merge.specs.Merging.{IsMergedOf}
+use Rattle.primary_parts.specs.declared.parts.Parts.{Parts}
+use Rattle.primary_parts.specs.declared.states.Merging.{Merging}
+use Rattle.primary_parts.specs.Cut.{last_number}
+use Rattle.primary_parts.specs.Merges.{merge_of}
+use Rattle.primary_parts.specs.States.{IsMetaIn}
+use Rattle.primary_parts.specs.Written.{names_of}
+use Rattle.primary_merges.specs.MergeCalls.{records_in, IsStateReady}
+
+abbrev Meta : Type 0
+Meta = Name × FileMetaData
+
+pub told_names : (files : List File) (i : ℕ) (file : File) (metas more : List Meta) (meta : FileMetaData) → i < length files → file ≡ get_or files i file → meta_names metas ≡ names_of (take i files) → more ≡ metas ++ (file.0, meta) ∷ []
+    → meta_names more ≡ names_of (take (i + 1) files)
+told_names files i file metas more meta lt is sofar e =
+    ap meta_names e ∙ map-append (λ (y : Meta). y.0) metas ((file.0, meta) ∷ []) ∙ ap (λ (ns : List Name). ns ++ file.0 ∷ []) sofar ∙ ap (λ (f : File). names_of (take i files) ++ f.0 ∷ []) is
+    ∙ sym (map-append (λ (f : File). f.0) (take i files) (get_or files i file ∷ [])) ∙ ap names_of (sym (take_more files i file lt))
+
+pub told_metas : (files : List File) (i : ℕ) (file : File) (metas more : List Meta) (meta : FileMetaData) → i < length files → file ≡ get_or files i file → more ≡ metas ++ (file.0, meta) ∷ [] → IsMetaOf file.1 meta
+    → ((reads : Name → Content) → All (λ (f : File). reads f.0 ≡ Some f.1) files → All (IsMetaIn reads) metas) → (reads : Name → Content) → All (λ (f : File). reads f.0 ≡ Some f.1) files → All (IsMetaIn reads) more
+told_metas files i file metas more meta lt is e of sofar reads all = subst (All (IsMetaIn reads)) (sym e)
+    (All-push (IsMetaIn reads) metas (file.0, meta) (sofar reads all) (record { bytes = file.1; there = subst (λ (f : File). reads f.0 ≡ Some f.1) (sym is) (all i file lt); meta = of }))
+
+-- ---- records that are chosen
+-- where the next record is chosen it is put at the end, and else nothing is
+pub chosen_more : (inputs : List SegNo) (rs : List SegRecord) (i : ℕ) (r : SegRecord) (found more : List SegRecord) (b : Bool) → i < length rs → r ≡ get_or rs i r → list_any (λ (seg : SegNo). seg.0 == r.seg.0) inputs ≡ b
+    → found ≡ records_in inputs (take i rs) → more ≡ found ++ cond b (r ∷ []) [] → more ≡ records_in inputs (take (i + 1) rs)
+chosen_more inputs rs i r found more b lt is test sofar e =
+    e ∙ ap (λ (l : List SegRecord). l ++ cond b (r ∷ []) []) sofar
+    ∙ ap (λ (x : Bool). records_in inputs (take i rs) ++ cond x (r ∷ []) []) (sym test)
+    ∙ ap (λ (x : SegRecord). records_in inputs (take i rs) ++ cond (list_any (λ (seg : SegNo). seg.0 == x.seg.0) inputs) (x ∷ []) []) is
+    ∙ sym (filter_more (λ (x : SegRecord). list_any (λ (seg : SegNo). seg.0 == x.seg.0) inputs) rs i r lt)
+
+-- ---- all that is made before the first write
+pub state_ready_of : {D : Type 0} (p : Parts D) (merged : Merged) (m : Merging) → merge_of merged.files.seg.0 p.merges ≡ Some m → m.merged ≡ None → IsMergedOf m.task merged → AreShortNames p.completed → (written names held : List Name)
+    → written ≡ names_of merged.files.files → names ≡ m.names ++ written → held ≡ written → (completed : List Name) → completed ≡ p.completed → (infos : List ℕ) → IsInfosFile p.point_infos infos
+    → (metas : List Meta) → meta_names metas ≡ names_of merged.files.files → ((reads : Name → Content) → All (λ (f : File). reads f.0 ≡ Some f.1) merged.files.files → All (IsMetaIn reads) metas)
+    → AreShortNames (names_of merged.files.files) → (generation : ℕ) → generation ≡ last_number p.commits
+    → IsStateReady p merged (record {
+      written = written;
+      names = names;
+      state = record { version = p.point_infos.version; generation = generation; primary_gen = p.point_infos.generation; infos = infos; files = metas; completed = completed };
+      out = record { version = p.point_infos.version; names = held };
+    })
+state_ready_of p merged m found unmade of short_completed written names held w n h completed same infos spelled metas named told short generation gen = record {
+  m = m;
+  found = found;
+  unmade = unmade;
+  of = of;
+  written = w;
+  names = n ∙ ap (λ (ns : List Name). m.names ++ ns) w;
+  state = λ reads all. record {
+    version = refl;
+    primary_gen = refl;
+    generation = gen;
+    infos_file = spelled;
+    names_are = named;
+    metas = told reads all;
+    completed_are = same;
+  };
+  copy = record { infos = p.point_infos; spelled = spelled; files = subst AreShortNames (sym named) short; completed = subst AreShortNames (sym same) short_completed };
+  out = ap (λ (ns : List Name). record { version = p.point_infos.version; names = ns }) (h ∙ w ∙ sym named);
+}

@@ -1,0 +1,9 @@
+pub mod Holding
+pub mod Keeping
+pub mod Writing
+pub mod MergeLists
+pub mod StateLemmas
+pub mod Framing
+pub mod NewFiles
+pub mod Drawing
+pub mod Callers

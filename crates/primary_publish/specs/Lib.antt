@@ -1,0 +1,4 @@
+pub mod Publishing
+pub mod NextNames
+pub mod NextRecords
+pub mod Turns
