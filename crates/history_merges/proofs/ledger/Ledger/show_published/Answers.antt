@@ -4,6 +4,9 @@ use Rattle.history_entries.specs.Lines.{publish_in_flight}
 use Rattle.history_book.specs.Log.{Log, printed}
 use Rattle.history_merges.specs.Merging.{MergesShow, Sheet, MergeTable}
 use Rattle.history_merges.proofs.MergeFrames.{merges_published, publish_paid}
+use Rattle.history_entries.specs.Legal.{IsLegalPast, KeepsRule}
+use Rattle.history_book.specs.Turns.{AreInTurn}
+use Rattle.history_entries.specs.declared.entry.Event.TheVariants.{Published}
 use Rattle.history_merges.proofs.ledger.Ledger.show_published.Goals as goal
 
 pub show-requires-clause-rule : goal.show-requires-clause-rule
@@ -23,3 +26,12 @@ invariant_of-self c =
     subst (λ (l : Log). MergesShow l c.publish.new.self) (sym c.show.ensures.log)
     (merges_published _ c.self.inside.merges c.publish.new.self c.args.at c.args.generation c.args.v flight
     (ap (λ (t : MergeTable). t.rows) c.publish.ensures) (ap (λ (t : MergeTable). t.cut) c.publish.ensures) c.self.invariant)
+
+pub returns-clause-legal : goal.returns-clause-legal
+returns-clause-legal c = subst (λ (s : Sheet). IsLegalPast s.nodes (printed s.log)) c.self.view_is c.show.ensures.legal
+
+pub returns-clause-turns : goal.returns-clause-turns
+returns-clause-turns c = subst (λ (s : Sheet). AreInTurn (printed s.log)) c.self.view_is c.show.ensures.turns
+
+pub returns-clause-rule : goal.returns-clause-rule
+returns-clause-rule c = subst (λ (s : Sheet). KeepsRule s.nodes (printed s.log) c.args.at (Published c.args.generation c.args.v)) c.self.view_is (show-requires-clause-rule c)
