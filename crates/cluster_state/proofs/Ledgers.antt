@@ -60,8 +60,8 @@ module _ {k m : ℕ} {a b : Log} (nodes : k ≡ m) (log : a ≡ b) where
   commit_of {at = at} {n = n} {v = v} is = subst (λ (x : ℕ × Log). MayCommit x.0 (printed x.1) at n v) (λ i. (nodes i, log i)) is
 
 -- what a call asks of the book, from what is asked of the cluster
-pub asked_of : {r : Run} {ended : Bool} {s : Sheet} {left : List ℕ} {a : Log} (P : Log → Type 0) → record { ended = ended; nodes = s.nodes; log = s.log; calls_left = left } ≡ r → a ≡ s.log → P r.log → P a
-asked_of P view log has = subst P (sym (log ∙ ap (λ (x : Run). x.log) view)) has
+pub asked_of : {r : Run} {ended : Bool} {nodes : ℕ} {left : List ℕ} {a log : Log} (P : Log → Type 0) → record { ended = ended; nodes = nodes; log = log; calls_left = left } ≡ r → a ≡ log → P r.log → P a
+asked_of P view same has = subst P (sym (same ∙ ap (λ (x : Run). x.log) view)) has
 
 -- ---- what a ledger shows by itself
 
