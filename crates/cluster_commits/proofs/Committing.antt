@@ -80,8 +80,8 @@ module _ {D : Type 0} (cells : D → Cells) (Step : Infos → CommitBook → Com
         writer = subst (λ (z : Infos × List Shown). WritesAt (printed log) z.0 z.1) (λ i. (sym (ap (λ (z : PrimaryParts D). z.infos) o) i, sym (ap (λ (z : PrimaryParts D). z.segs) o) i)) was.writer;
         waiting = ap (λ (z : PrimaryParts D). z.waiting) o ∙ was.waiting;
         accepted = ap (λ (z : PrimaryParts D). z.accepted) o ∙ was.accepted;
-        uncut = ap (λ (z : PrimaryParts D). z.has_cut_over) o ∙ was.uncut;
-        calm = ap (λ (z : PrimaryParts D). z.merges) o ∙ was.calm;
+        uncut = λ none. ap (λ (z : PrimaryParts D). z.has_cut_over) o ∙ was.uncut none;
+        calm = λ none. ap (λ (z : PrimaryParts D). z.merges) o ∙ was.calm none;
         flight = subst (λ (z : Option Publish × List Shown). FlightShows log (publish_in_flight (printed log)) z.0 z.1) (λ i. (sym (ap (λ (z : PrimaryParts D). z.publish) o) i, sym (ap (λ (z : PrimaryParts D). z.segs) o) i)) was.flight;
       }
   shows_alter log n (Replica r) (Replica s) a was =

@@ -112,7 +112,7 @@ module _ {D : Type 0} (cells : D → Cells) where
     sourced = files.sourced;
     job = subst (λ (o : Option Job). JobShows source (copied_log at n v log) n.0 o r.job) (sym (job_stays at n v n.0 log ∙ none))
         (quiet r.job (subst (λ (o : Option Job). JobShows source log n.0 o r.job) none files.job));
-    point = record { known = files.point.known; generation = files.point.generation; stands = files.point.stands; writable = writable_stays (printed log) (printed (copied_log at n v log)) r.infos (omega arith) files.point.writable };
+    point = record { known = files.point.known; generation = files.point.generation; stands = files.point.stands; writable = writable_stays (printed log) (printed (copied_log at n v log)) r.infos (omega arith) (omega arith) files.point.writable };
     flight = λ a is. absurd (nowhere a (sym (none_flies at n v log newest) ∙ is));
   }
     where

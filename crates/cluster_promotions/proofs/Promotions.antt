@@ -212,8 +212,8 @@ module _ {D : Type 0} (cells : D → Cells) where
           writer = writes_now;
           waiting = b.becomes.waiting;
           accepted = b.becomes.accepted;
-          uncut = b.becomes.has_cut_over;
-          calm = b.becomes.merges;
+          uncut = λ none. b.becomes.has_cut_over;
+          calm = λ none. b.becomes.merges;
           flight = subst (λ (o : Option At). FlightShows now o b.primary.publish b.primary.segs) (sym flight_now) b.becomes.publish;
         };
         tickets = subst (λ (ts : List (Open Shown)). HoldsTickets (printed now) n.0 ts b.at.held.items) (sym b.becomes.tickets)

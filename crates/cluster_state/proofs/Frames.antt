@@ -83,7 +83,7 @@ writes_more past now infos segs g s was =
       version = was.version ∙ sym s.newest;
       counter = was.counter ∙ sym s.names;
       few = subst (λ (k : ℕ). length infos.segs ≤ k) (sym s.puts) was.few;
-      live = was.live;
+      live = λ none. was.live (sym s.merges ∙ none);
     }
 
 -- what was handed out stays so
@@ -128,8 +128,8 @@ module _ {D : Type 0} (cells : D → Cells) where
         writer = writes_more (printed log) (printed now) p.infos p.segs s.lasts writer was.writer;
         waiting = was.waiting ∙ sym (cut_same (printed log) (printed now) writer);
         accepted = was.accepted ∙ ap (λ (ops : List Op). length ops) (sym writer.operations);
-        uncut = was.uncut;
-        calm = was.calm;
+        uncut = λ none. was.uncut (sym writer.merges ∙ none);
+        calm = λ none. was.calm (sym writer.merges ∙ none);
         flight = flight_same log now p.publish p.segs (s.flight was.primary) out was.flight;
       }
 
