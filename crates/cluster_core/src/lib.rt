@@ -8,6 +8,7 @@ mod cluster;
 mod copying;
 mod lasting;
 mod promoting;
+mod shared;
 
 pub use cluster::Cluster;
 pub use line_turns::Turn;

@@ -388,7 +388,7 @@ module _ {D : Type 0} (cells : D → Cells) where
       fewer_jobs : is_at primary n.0 ≡ false → (s : Out) → count s + one_like s state ≡ jobs s
       fewer_jobs far s =
           let moved = jobs_moved old new s n.0 size node.0 node.1
-              (λ m apart. wants_stay cells (is_at primary m) state (place_of old m) (place_of new m) (subst (λ (c : Bool). PlaceOutlives cells c (is_at primary m) state (place_of old m) (place_of new m)) far (b.others m apart))) in
+          (λ m apart. wants_stay cells (is_at primary m) state (place_of old m) (place_of new m) (subst (λ (c : Bool). PlaceOutlives cells c (is_at primary m) state (place_of old m) (place_of new m)) far (b.others m apart))) in
           let gone : one_like s (want_at (place_of new n.0)) ≡ 0 = ap (λ (o : Option (Place D)). one_like s (want_at o)) b.here in
           omega (arith, moved, gone)
 
@@ -506,7 +506,7 @@ module _ {D : Type 0} (cells : D → Cells) where
           (each_outlives cells {P = λ k z. DiskShows files.source cells (printed log) k (disk_of z.node)} {Q = λ k z. DiskShows files.source cells (printed now) k (disk_of z.node)} size primary n.0 left old new b.here b.others
           (λ k here. disk_some (DiskShows files.source cells (printed log) k) (place_of old k) (files.disks k here))
           (λ k x y here apart out disk. subst (λ (d : Disk D). DiskShows files.source cells (printed now) k d) (sym (disk_outlives cells (is_at primary n.0) (is_at primary k) state x.node y.node out.node))
-              (disk_stays files.source files.source (λ q bytes is. is) (printed log) (printed now) k (stay k apart) cells (disk_of x.node) disk))
+          (disk_stays files.source files.source (λ q bytes is. is) (printed log) (printed now) k (stay k apart) cells (disk_of x.node) disk))
           (record { book = tt; dir = dir_here }) m slot)
         where
           both : Both cells files.source log jobs n.0 b.place

@@ -34,12 +34,7 @@ fn memory(fault: PromoteFault) -> NoMemory
 }
 
 // The infos of a generation that may open.
-fn opened(
-    alloc: Global,
-    infos: &Infos,
-    generation: Gen,
-    forced: Version,
-) -> Result<Infos, NoMemory>
+fn opened(alloc: Global, infos: &Infos, generation: Gen, forced: Version) -> Result<Infos, NoMemory>
     requires newer { infos.now.generation.0 < generation.0 }
     requires above { infos.now.version.0 ≤ forced.0 }
     requires low { forced.0 < 2 ^ 62 }

@@ -71,12 +71,15 @@ pub returns-in-Err-clause-ok : goal.returns-in-Err-clause-ok
 returns-in-Err-clause-ok g c =
     let full = is_full_at g.D.Dir.cells c.args.cluster.now _ c.cluster.inside.ledger _ c.args.p c.take.result c.cluster.view_is c.requires.running (λ e. (c.cluster.invariant e).0) c.requires.node c.take.ensures.place
     c.primary_in-primary.result.0 c.primary_in-primary.result.1 c.primary_in-primary.ensures
-    (c.publish_start-started.ensures.too_many.0 (err_at _ _ TooManySegments c.in-Err.is c.in_ok-is_for_segments-in-Err.ensures)) in
-    (record {
-      running = refl;
-      nodes = c.in_ok-reserve.ensures.nodes ∙ nodes_is c.args.cluster.now _ c.cluster.inside.ledger c.cluster.view_is;
-      log = c.in_ok-reserve.ensures.log ∙ log_is c.args.cluster.now _ c.cluster.inside.ledger c.cluster.view_is;
-    }, full.0, full.1)
+    (c.publish_start-started.ensures.too_many.0 (err_at _ _ TooManySegments c.in-Err.is c.in_ok-is_for_segments-in-Err.ensures)) in (
+      record {
+        running = refl;
+        nodes = c.in_ok-reserve.ensures.nodes ∙ nodes_is c.args.cluster.now _ c.cluster.inside.ledger c.cluster.view_is;
+        log = c.in_ok-reserve.ensures.log ∙ log_is c.args.cluster.now _ c.cluster.inside.ledger c.cluster.view_is;
+      },
+      full.0,
+      full.1,
+    )
 
 pub invariant_of-cluster-2 : goal.invariant_of-cluster-2
 invariant_of-cluster-2 g c = λ running.
