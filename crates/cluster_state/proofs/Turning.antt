@@ -47,3 +47,7 @@ past_has P r ended b view has = subst (λ (l : Log). P (printed l)) (log_is r en
 pub turn_at : (r : Run) (ended : Bool) (b0 b1 : Sheet) (at : At) (e : Event) → {left : List ℕ} → record { ended = ended; nodes = b0.nodes; log = b0.log; calls_left = left } ≡ r
     → b1.log ≡ b0.log → InTurn (printed r.log) at e → InTurn (printed b1.log) at e
 turn_at r ended b0 b1 at e view same turn = subst (λ (l : Log). InTurn (printed l) at e) (sym (same ∙ log_is r ended b0 view)) turn
+
+-- such a turn of a line of which nothing stands there
+pub fresh_turn_at : (b0 b1 : Sheet) (at : At) (e : Event) → b1.log ≡ b0.log → IsFresh at (printed b0.log) → EndsFlight at (printed b0.log) e → InTurn (printed b1.log) at e
+fresh_turn_at b0 b1 at e same fresh ends = subst (λ (l : Log). InTurn (printed l) at e) (sym same) (fresh_turn (printed b0.log) at e fresh ends)

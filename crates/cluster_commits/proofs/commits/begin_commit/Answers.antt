@@ -7,6 +7,7 @@ use Rattle.cluster_state.proofs.Ledgers.{asked_of, fresh_of, legal_of, told_of, 
 use Rattle.history_entries.specs.Nodes.{version_of}
 use Rattle.history_entries.specs.Lines.{entries_of_line}
 use Rattle.history_book.specs.Log.{Log, printed}
+use Rattle.cluster_state.proofs.Turning.{fresh_turn_at}
 use Rattle.cluster_commits.proofs.commits.begin_commit.Goals as goal
 
 pub begin_commit_in-requires-clause-slot : goal.begin_commit_in-requires-clause-slot
@@ -33,3 +34,6 @@ returns-clause-ok g c = record {
 
 pub is_fresh-requires : goal.is_fresh-requires
 is_fresh-requires g c = asked_of (λ (l : Log). entries_of_line c.args.at (printed l) ≡ []) c.cluster.view_is c.book-book.ensures.log c.requires.fresh
+
+pub show-requires-clause-turn : goal.show-requires-clause-turn
+show-requires-clause-turn g c = fresh_turn_at c.cluster.inside.ledger c.reserve.new.self c.args.at (Committing c.args.n (record { 0 = c.version.result })) c.in_ok-reserve.ensures.log (fresh_of c.book-book.ensures.log c.is_fresh.ensures) tt

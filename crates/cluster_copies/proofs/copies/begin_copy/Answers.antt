@@ -7,7 +7,7 @@ use Rattle.history_book.specs.declared.inner.Inner.TheVariants.{JobBegun}
 use Rattle.history_book.specs.Laws.{IsFresh}
 use Rattle.cluster_state.specs.Run.{Run}
 use Rattle.cluster_state.proofs.Frames.{rule_at}
-use Rattle.cluster_state.proofs.Turning.{past_has}
+use Rattle.cluster_state.proofs.Turning.{past_has, fresh_turn_at}
 use Rattle.cluster_copies.proofs.CopyPaths.{can_begin, may_copy, copy_path, copy_turn, copy_begun}
 use Rattle.cluster_state.proofs.Ledgers.{asked_of, fresh_of, told_of}
 use Rattle.history_entries.specs.Lines.{entries_of_line}
@@ -44,3 +44,6 @@ returns-clause-ok g c = copy_begun c.args.cluster.now _ c.args.at c.args.n (reco
 
 pub is_fresh-requires : goal.is_fresh-requires
 is_fresh-requires g c = asked_of (λ (l : Log). entries_of_line c.args.at (printed l) ≡ []) c.cluster.view_is c.book-book.ensures.log c.requires.fresh
+
+pub show-requires-clause-turn : goal.show-requires-clause-turn
+show-requires-clause-turn g c = fresh_turn_at c.cluster.inside.ledger c.reserve.new.self c.args.at (Copying c.args.n (record { 0 = c.newest-newest.result })) c.in_ok-reserve.ensures.log (fresh_of c.book-book.ensures.log c.is_fresh.ensures) tt

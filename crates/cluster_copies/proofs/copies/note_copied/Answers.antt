@@ -4,6 +4,8 @@ use Rattle.history_entries.specs.Nodes.{newest_version}
 use Rattle.history_entries.specs.Lines.{entries_of_line}
 use Rattle.history_book.specs.Log.{Log, printed}
 use Rattle.std.proofs.Common.{◌≡◌, []}
+use Rattle.cluster_state.proofs.Turning.{fresh_turn_at}
+use Rattle.history_entries.specs.declared.entry.Event.TheVariants.{Copying}
 use Rattle.cluster_copies.proofs.copies.note_copied.Goals as goal
 
 pub show-requires-clause-rule : goal.show-requires-clause-rule
@@ -32,3 +34,6 @@ invariant_of-cluster-2 g c = λ running. (
 
 pub is_fresh-requires : goal.is_fresh-requires
 is_fresh-requires g c = asked_of (λ (l : Log). entries_of_line c.args.at (printed l) ≡ []) c.cluster.view_is c.book-book.ensures.log c.requires.fresh
+
+pub show-requires-clause-turn : goal.show-requires-clause-turn
+show-requires-clause-turn g c = fresh_turn_at c.cluster.inside.ledger c.reserve.new.self c.args.at (Copying c.args.n (record { 0 = c.newest.result })) c.in_ok-reserve.ensures.log (fresh_of c.book-book.ensures.log c.is_fresh.ensures) tt

@@ -2,11 +2,12 @@ use Rattle.std.proofs.Common.{◌≡◌, refl, ap, []}
 use Rattle.history_entries.specs.Nodes.{newest_version}
 use Rattle.history_book.specs.Laws.{IsFresh}
 use Rattle.cluster_state.specs.FileChanges.{is_commit_line}
-use Rattle.cluster_state.proofs.Turning.{past_has}
+use Rattle.cluster_state.proofs.Turning.{past_has, fresh_turn}
 use Rattle.cluster_copies.proofs.Settling.{settle_begun}
 use Rattle.cluster_state.proofs.Ledgers.{asked_of, fresh_of, told_of}
 use Rattle.history_entries.specs.Lines.{entries_of_line}
 use Rattle.history_book.specs.Log.{Log, printed}
+use Rattle.history_entries.specs.declared.entry.Event.TheVariants.{Settling}
 use Rattle.cluster_copies.proofs.settles.begin_settle.Goals as goal
 
 pub has_no_commit-requires : goal.has_no_commit-requires
@@ -25,3 +26,6 @@ returns-clause-settling g c =
 
 pub is_fresh-requires : goal.is_fresh-requires
 is_fresh-requires g c = asked_of (λ (l : Log). entries_of_line c.args.at (printed l) ≡ []) c.cluster.view_is c.book-book.ensures.log c.requires.fresh
+
+pub note-requires-clause-turn : goal.note-requires-clause-turn
+note-requires-clause-turn g c = fresh_turn (printed c.args.cluster.now.log) c.args.at (Settling (record { 0 = c.newest.result })) (past_has (IsFresh c.args.at) c.args.cluster.now _ c.cluster.inside.ledger c.cluster.view_is (fresh_of c.book-book.ensures.log c.is_fresh.ensures)) tt

@@ -23,3 +23,9 @@ invariant_of-cluster-2 g c = λ running. crash_path g.D.Dir.cells c.args.cluster
 
 pub is_fresh-requires : goal.is_fresh-requires
 is_fresh-requires g c = asked_of (λ (l : Log). entries_of_line c.args.at (printed l) ≡ []) c.cluster.view_is c.book-book.ensures.log c.requires.fresh
+
+pub show_crashed-requires-clause-node : goal.show_crashed-requires-clause-node
+show_crashed-requires-clause-node g c = (rule_at c.args.cluster.now _ c.cluster.inside.ledger c.reserve.new.self c.args.at (Crashed c.args.n) c.cluster.view_is c.in_ok-reserve.ensures.log c.in_ok-reserve.ensures.nodes (record { node = c.requires.node; running = c.requires.up })).node
+
+pub show_crashed-requires-clause-runs : goal.show_crashed-requires-clause-runs
+show_crashed-requires-clause-runs g c = (rule_at c.args.cluster.now _ c.cluster.inside.ledger c.reserve.new.self c.args.at (Crashed c.args.n) c.cluster.view_is c.in_ok-reserve.ensures.log c.in_ok-reserve.ensures.nodes (record { node = c.requires.node; running = c.requires.up })).running

@@ -1,12 +1,13 @@
-use Rattle.std.proofs.Common.{◌∙◌, ◌+◌, ap, refl, arith, ◌≡◌, []}
+use Rattle.std.proofs.Common.{◌∙◌, ◌+◌, ap, refl, arith, ◌≡◌, [], ◌∷◌, ℕ}
 use Rattle.history_entries.specs.declared.entry.Event.TheVariants.{Promoted}
 use Rattle.history_entries.specs.Nodes.{generation_of}
-use Rattle.history_book.specs.Log.{printed, Log}
+use Rattle.history_book.specs.Log.{printed, Log, shown}
 use Rattle.cluster_state.specs.Run.{Run}
 use Rattle.cluster_state.proofs.Frames.{rule_at}
 use Rattle.cluster_promotions.proofs.Promotions.{may_promote, can_path, promote_path}
 use Rattle.cluster_state.proofs.Ledgers.{asked_of, fresh_of, legal_of, told_of, vacant_of}
 use Rattle.history_entries.specs.Lines.{entries_of_line}
+use Rattle.cluster_state.proofs.Turning.{log_is, nodes_is}
 use Rattle.cluster_promotions.proofs.promoting.promote_node.Goals as goal
 
 pub promote_in-requires : goal.promote_in-requires
@@ -29,3 +30,12 @@ invariant_of-cluster-2 g c = λ running. promote_path g.D.Dir.cells c.args.clust
 
 pub is_fresh-requires : goal.is_fresh-requires
 is_fresh-requires g c = asked_of (λ (l : Log). entries_of_line c.args.at (printed l) ≡ []) c.cluster.view_is c.book-book.ensures.log c.requires.fresh
+
+pub returns-clause-ok : goal.returns-clause-ok
+returns-clause-ok g c =
+    let last = told_of c.book-book.ensures.log generation_of c.generation-last.ensures ∙ ap (λ (r : Run). generation_of (printed r.log)) c.cluster.view_is in
+    record {
+      running = refl;
+      nodes = c.show_promoted.ensures.nodes ∙ (c.in_ok-reserve.ensures.nodes ∙ nodes_is c.args.cluster.now _ c.cluster.inside.ledger c.cluster.view_is);
+      log = c.show_promoted.ensures.log ∙ λ i. shown c.args.at (Promoted c.args.n (record { 0 = last i + 1 }) c.args.forced (record { 0 = c.args.forced.0 + 1 })) ∷ (c.in_ok-reserve.ensures.log ∙ log_is c.args.cluster.now _ c.cluster.inside.ledger c.cluster.view_is) i;
+    }

@@ -5,6 +5,8 @@ use Rattle.cluster_state.proofs.Ledgers.{asked_of, fresh_of, legal_of, turns_of}
 use Rattle.history_entries.specs.Lines.{entries_of_line}
 use Rattle.history_book.specs.Log.{Log, printed}
 use Rattle.std.proofs.Common.{◌≡◌, []}
+use Rattle.cluster_state.proofs.Turning.{fresh_turn_at}
+use Rattle.history_entries.specs.declared.entry.Event.TheVariants.{Asking}
 use Rattle.cluster_reads.proofs.reads.ask_ticket.Goals as goal
 
 pub lease_in-requires-clause-slot : goal.lease_in-requires-clause-slot
@@ -36,3 +38,6 @@ returns-clause-lease g c =
 
 pub is_fresh-requires : goal.is_fresh-requires
 is_fresh-requires g c = asked_of (λ (l : Log). entries_of_line c.args.at (printed l) ≡ []) c.cluster.view_is c.book-book.ensures.log c.requires.fresh
+
+pub show-requires-clause-turn : goal.show-requires-clause-turn
+show-requires-clause-turn g c = fresh_turn_at c.cluster.inside.ledger c.reserve.new.self c.args.at (Asking c.args.opening.node c.args.t c.args.opening.version) c.in_ok-reserve.ensures.log (fresh_of c.book-book.ensures.log c.is_fresh.ensures) tt

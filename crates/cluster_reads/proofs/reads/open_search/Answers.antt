@@ -1,4 +1,4 @@
-use Rattle.std.proofs.Common.{◌∙◌, refl, ◌≡◌, []}
+use Rattle.std.proofs.Common.{◌∙◌, refl, ◌≡◌, [], ap, ◌∷◌, ◌+◌, ℕ}
 use Rattle.cluster_places.specs.declared.held.Key.TheVariants.{Search}
 use Rattle.cluster_state.proofs.Frames.{slot_at, there_at, slot_kept}
 use Rattle.cluster_reads.proofs.TicketPaths.{may_open, search_path, running_at, search_held, search_reads}
@@ -6,7 +6,10 @@ use Rattle.cluster_reads.proofs.TicketFiles.{opened_files}
 use Rattle.cluster_state.proofs.Ledgers.{asked_of, fresh_of, told_of}
 use Rattle.history_entries.specs.Nodes.{version_of}
 use Rattle.history_entries.specs.Lines.{entries_of_line}
-use Rattle.history_book.specs.Log.{Log, printed}
+use Rattle.history_book.specs.Log.{Log, printed, shown}
+use Rattle.cluster_state.proofs.Turning.{fresh_turn_at, log_is, nodes_is}
+use Rattle.history_entries.specs.declared.entry.Event.TheVariants.{Opened}
+use Rattle.cluster_state.specs.Run.{Run}
 use Rattle.cluster_reads.proofs.reads.open_search.Goals as goal
 
 pub take-place-requires-clause-slot : goal.take-place-requires-clause-slot
@@ -61,3 +64,15 @@ returns-clause-lease g c =
 
 pub is_fresh-requires : goal.is_fresh-requires
 is_fresh-requires g c = asked_of (λ (l : Log). entries_of_line c.args.at (printed l) ≡ []) c.cluster.view_is c.book-book.ensures.log c.requires.fresh
+
+pub show-requires-clause-turn : goal.show-requires-clause-turn
+show-requires-clause-turn g c = fresh_turn_at c.cluster.inside.ledger c.reserve.new.self c.args.at (Opened c.args.n (record { 0 = 0 }) (record { 0 = c.version.result })) c.in_ok-reserve.ensures.log (fresh_of c.book-book.ensures.log c.is_fresh.ensures) tt
+
+pub returns-clause-ok : goal.returns-clause-ok
+returns-clause-ok g c =
+    let v = told_of c.book-book.ensures.log (version_of c.args.n.0) c.version.ensures ∙ ap (λ (r : Run). version_of c.args.n.0 (printed r.log)) c.cluster.view_is in
+    record {
+      running = refl;
+      nodes = c.show.ensures.nodes ∙ (c.in_ok-reserve.ensures.nodes ∙ nodes_is c.args.cluster.now _ c.cluster.inside.ledger c.cluster.view_is);
+      log = c.show.ensures.log ∙ λ i. shown c.args.at (Opened c.args.n (record { 0 = 0 }) (record { 0 = v i })) ∷ (c.in_ok-reserve.ensures.log ∙ log_is c.args.cluster.now _ c.cluster.inside.ledger c.cluster.view_is) i;
+    }

@@ -1,4 +1,4 @@
-use Rattle.std.proofs.Common.{ℕ, ◌+◌, ◌∙◌, ap, ◌≡◌, []}
+use Rattle.std.proofs.Common.{ℕ, ◌+◌, ◌∙◌, ap, ◌≡◌, [], refl, ◌∷◌}
 use Rattle.history_entries.specs.declared.entry.Event.TheVariants.{Accepted}
 use Rattle.cluster_state.proofs.Frames.{slot_at, slot_kept, there_at, rule_at}
 use Rattle.cluster_writes.proofs.PublishPaths.{primary_stands, may_accept, accept_path}
@@ -6,7 +6,9 @@ use Rattle.cluster_writes.proofs.PublishFiles.{accept_files}
 use Rattle.cluster_state.proofs.Ledgers.{asked_of, fresh_of, told_of}
 use Rattle.history_entries.specs.Nodes.{accepted_count}
 use Rattle.history_entries.specs.Lines.{entries_of_line}
-use Rattle.history_book.specs.Log.{Log, printed}
+use Rattle.history_book.specs.Log.{Log, printed, shown}
+use Rattle.cluster_state.proofs.Turning.{log_is, nodes_is}
+use Rattle.cluster_state.specs.Run.{Run}
 use Rattle.cluster_writes.proofs.writes.accept_at.Goals as goal
 
 pub take-requires-clause-slot : goal.take-requires-clause-slot
@@ -47,3 +49,12 @@ invariant_of-cluster-2 g c = λ running. (
 
 pub is_fresh-requires : goal.is_fresh-requires
 is_fresh-requires g c = asked_of (λ (l : Log). entries_of_line c.args.at (printed l) ≡ []) c.cluster.view_is c.book-book.ensures.log c.requires.fresh
+
+pub returns-clause-ok : goal.returns-clause-ok
+returns-clause-ok g c =
+    let seq = c.in-Some.ensures.0 ∙ ap (λ (k : ℕ). k + 1) (told_of c.book-book.ensures.log accepted_count c.accepted.ensures ∙ ap (λ (r : Run). accepted_count (printed r.log)) c.cluster.view_is) in
+    record {
+      running = refl;
+      nodes = c.show.ensures.nodes ∙ (c.in_ok-reserve.ensures.nodes ∙ nodes_is c.args.cluster.now _ c.cluster.inside.ledger c.cluster.view_is);
+      log = c.show.ensures.log ∙ λ i. shown c.args.at (Accepted (seq i) c.args.op) ∷ (c.in_ok-reserve.ensures.log ∙ log_is c.args.cluster.now _ c.cluster.inside.ledger c.cluster.view_is) i;
+    }
