@@ -63,6 +63,10 @@ module _ {k m : ℕ} {a b : Log} (nodes : k ≡ m) (log : a ≡ b) where
 pub asked_of : {r : Run} {ended : Bool} {nodes : ℕ} {left : List ℕ} {a log : Log} (P : Log → Type 0) → record { ended = ended; nodes = nodes; log = log; calls_left = left } ≡ r → a ≡ log → P r.log → P a
 asked_of P view same has = subst P (sym (same ∙ ap (λ (x : Run). x.log) view)) has
 
+-- the same of how many nodes there are
+pub asked_size : {r : Run} {ended : Bool} {nodes k : ℕ} {left : List ℕ} {log : Log} (P : ℕ → Type 0) → record { ended = ended; nodes = nodes; log = log; calls_left = left } ≡ r → k ≡ nodes → P r.nodes → P k
+asked_size P view same has = subst P (sym (same ∙ ap (λ (x : Run). x.nodes) view)) has
+
 -- ---- what a ledger shows by itself
 
 -- an entry that moves no node starts and ends no publish and no merge, and begins no generation

@@ -152,7 +152,6 @@ pub fn end_publish<D: FaultDir + Drop>(
     ensures err { OnErr result (IsEnded cluster.old cluster.new) }
 {
     let book = cluster.ledger.book();
-    book.flies(at);
     book.is_flushed(at);
     book.is_legal();
     files_last();

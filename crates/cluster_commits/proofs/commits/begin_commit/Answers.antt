@@ -1,10 +1,10 @@
-use Rattle.std.proofs.Common.{refl, ◌≡◌, []}
+use Rattle.std.proofs.Common.{refl, ◌≡◌, [], ℕ}
 use Rattle.history_entries.specs.declared.entry.Event.TheVariants.{Committing}
 use Rattle.cluster_state.proofs.Frames.{slot_at, rule_at}
 use Rattle.cluster_commits.proofs.Committing.{version_at, uncommitting_there, may_begin_commit, begin_commit_path, entry_now}
 use Rattle.cluster_commits.proofs.CallsLeft.{begun_calls}
-use Rattle.cluster_state.proofs.Ledgers.{asked_of, fresh_of, legal_of, told_of, turns_of}
-use Rattle.history_entries.specs.Nodes.{version_of}
+use Rattle.cluster_state.proofs.Ledgers.{asked_of, fresh_of, legal_of, told_of, turns_of, asked_size}
+use Rattle.history_entries.specs.Nodes.{version_of, IsNode}
 use Rattle.history_entries.specs.Lines.{entries_of_line}
 use Rattle.history_book.specs.Log.{Log, printed}
 use Rattle.cluster_state.proofs.Turning.{fresh_turn_at}
@@ -37,3 +37,6 @@ is_fresh-requires g c = asked_of (λ (l : Log). entries_of_line c.args.at (print
 
 pub show-requires-clause-turn : goal.show-requires-clause-turn
 show-requires-clause-turn g c = fresh_turn_at c.cluster.inside.ledger c.reserve.new.self c.args.at (Committing c.args.n (record { 0 = c.version.result })) c.in_ok-reserve.ensures.log (fresh_of c.book-book.ensures.log c.is_fresh.ensures) tt
+
+pub version-requires : goal.version-requires
+version-requires g c = asked_size (λ (k : ℕ). IsNode k c.args.n.0) c.cluster.view_is c.book-book.ensures.nodes c.requires.node

@@ -1,11 +1,12 @@
-use Rattle.std.proofs.Common.{◌∷◌, refl, ap, ◌∙◌}
-use Rattle.history_entries.specs.declared.entry.Event.TheVariants.{Committed}
-use Rattle.history_book.specs.Log.{Log, shown}
+use Rattle.std.proofs.Common.{◌∷◌, refl, ap, ◌∙◌, ◌≡◌, Some}
+use Rattle.history_entries.specs.declared.entry.Event.TheVariants.{Committed, Committing}
+use Rattle.history_book.specs.Log.{Log, shown, printed}
 use Rattle.cluster_state.specs.Run.{Run}
 use Rattle.cluster_state.proofs.Frames.{slot_at, rule_at}
 use Rattle.cluster_commits.proofs.Committing.{committing_there, go_commit_path, end_commit_path, may_at, turn_at}
 use Rattle.cluster_commits.proofs.CallsLeft.{made_call, made_last, calls_was}
-use Rattle.cluster_state.proofs.Ledgers.{commit_of, legal_of, turns_of}
+use Rattle.cluster_state.proofs.Ledgers.{commit_of, legal_of, turns_of, asked_of}
+use Rattle.history_entries.specs.Lines.{start_entry, commit_in_flight}
 use Rattle.cluster_commits.proofs.commits.step_commit.Goals as goal
 
 pub step_commit_in-requires-clause-slot : goal.step_commit_in-requires-clause-slot
@@ -48,3 +49,9 @@ returns-clause-ok g c = (
   },
   made_last g.D.Dir.cells c.args.n.0 c.args.cluster.now _ _ c.in_ok-step_commit_in.field-0 (calls_was c.args.cluster.now _ c.cluster.view_is) c.in_ok-step_commit_in.ensures c.if-not-branch.false,
 )
+
+pub commit_may_end-requires-clause-flight : goal.commit_may_end-requires-clause-flight
+commit_may_end-requires-clause-flight g c = asked_of (λ (l : Log). commit_in_flight c.args.n.0 (printed l) ≡ Some c.args.at) c.cluster.view_is c.book-book.ensures.log c.requires.flight
+
+pub commit_may_end-requires-clause-started : goal.commit_may_end-requires-clause-started
+commit_may_end-requires-clause-started g c = asked_of (λ (l : Log). start_entry c.args.at (printed l) ≡ Some (Committing c.args.n c.args.v)) c.cluster.view_is c.book-book.ensures.log c.requires.started

@@ -2,8 +2,8 @@ use Rattle.cluster_places.specs.declared.held.Key.TheVariants.{Ticket}
 use Rattle.cluster_state.proofs.Frames.{slot_at, there_at, slot_kept}
 use Rattle.cluster_reads.proofs.TicketPaths.{may_open, ticket_path, running_at}
 use Rattle.cluster_reads.proofs.TicketFiles.{opened_files}
-use Rattle.cluster_state.proofs.Ledgers.{asked_of, fresh_of, told_of}
-use Rattle.history_entries.specs.Nodes.{version_of}
+use Rattle.cluster_state.proofs.Ledgers.{asked_of, fresh_of, told_of, asked_size}
+use Rattle.history_entries.specs.Nodes.{version_of, IsNode}
 use Rattle.history_entries.specs.Lines.{entries_of_line}
 use Rattle.history_book.specs.Log.{Log, printed, shown}
 use Rattle.std.proofs.Common.{◌≡◌, [], refl, ◌∙◌, ap, ◌∷◌, ◌+◌, ℕ}
@@ -60,3 +60,6 @@ returns-clause-ok g c =
       nodes = c.show.ensures.nodes ∙ (c.in_ok-reserve.ensures.nodes ∙ nodes_is c.args.cluster.now _ c.cluster.inside.ledger c.cluster.view_is);
       log = c.show.ensures.log ∙ λ i. shown c.args.at (Opened c.args.n c.args.t (record { 0 = v i })) ∷ (c.in_ok-reserve.ensures.log ∙ log_is c.args.cluster.now _ c.cluster.inside.ledger c.cluster.view_is) i;
     }
+
+pub version-requires : goal.version-requires
+version-requires g c = asked_size (λ (k : ℕ). IsNode k c.args.n.0) c.cluster.view_is c.book-book.ensures.nodes c.requires.node

@@ -1,13 +1,15 @@
-use Rattle.std.proofs.Common.{◌∙◌, ap, refl, subst, Some, None, ◌∷◌}
+use Rattle.std.proofs.Common.{◌∙◌, ap, refl, subst, Some, None, ◌∷◌, ◌≡◌}
 use Rattle.codec_frame.specs.Bytes.{AreBytes}
-use Rattle.history_book.specs.Log.{Log, kept}
+use Rattle.history_book.specs.Log.{Log, kept, printed}
 use Rattle.history_book.specs.declared.inner.Inner.TheVariants.{FileOut}
 use Rattle.cluster_state.specs.Run.{Run}
 use Rattle.cluster_places.specs.JobChanges.{HasNextFile}
 use Rattle.cluster_places.specs.Places.{place_of}
 use Rattle.cluster_transfers.proofs.HandPaths.{next_slot, next_job, can_read, hand_path, hand_meta, hand_footer}
 use Rattle.cluster_transfers.proofs.Ending.{can_finish, copy_here, finish_path}
-use Rattle.cluster_state.proofs.Ledgers.{lane_of, legal_of, replica_of, turns_of}
+use Rattle.cluster_state.proofs.Ledgers.{lane_of, legal_of, replica_of, turns_of, asked_of}
+use Rattle.history_book.specs.Jobs.{job_of}
+use Rattle.history_entries.specs.Lines.{NodeSurvives, SourceSurvives}
 use Rattle.cluster_transfers.proofs.transfers.go_on.Goals as goal
 
 pub next_in-requires-clause-slot : goal.next_in-requires-clause-slot
@@ -56,3 +58,15 @@ pub invariant_of-cluster-in-None : goal.invariant_of-cluster-in-None
 invariant_of-cluster-in-None g c = λ running. finish_path g.D.Dir.cells c.args.cluster.now _ c.cluster.inside.ledger c.reserve.new.self c.show_end.new.ledger _ _ c.source_of-p.result c.args.row c.cluster.view_is c.requires.running c.cluster.invariant c.in_ok-reserve.ensures.log c.in_ok-reserve.ensures.nodes
     c.show_end.ensures.log c.show_end.ensures.nodes (legal_of c.book-in-None.ensures.nodes c.book-in-None.ensures.log c.is_legal-in-None.ensures.legal) (turns_of c.book-in-None.ensures.log c.is_legal-in-None.ensures.turns) c.sourced_stands.ensures c.files_last.ensures c.source_of-p.ensures.node c.source_of-p.ensures.is c.requires.runs (lane_of c.book-book.ensures.nodes c.book-book.ensures.log c.job_shows.ensures) (replica_of c.book-book.ensures.log c.job_replica.ensures)
     (subst (HasNextFile (place_of c.cluster.inside.places.items c.args.row.job.node.0)) c.in-None.is c.in_ok-next_in.ensures) c.in_ok-finish_in-in-None.ensures
+
+pub job_shows-requires : goal.job_shows-requires
+job_shows-requires g c = asked_of (λ (l : Log). job_of c.args.row.job.at.lane.0 l ≡ Some c.args.row) c.cluster.view_is c.book-book.ensures.log c.requires.runs.last
+
+pub job_replica-requires-clause-job : goal.job_replica-requires-clause-job
+job_replica-requires-clause-job g c = asked_of (λ (l : Log). job_of c.args.row.job.at.lane.0 l ≡ Some c.args.row) c.cluster.view_is c.book-book.ensures.log c.requires.runs.last
+
+pub job_replica-requires-clause-node : goal.job_replica-requires-clause-node
+job_replica-requires-clause-node g c = asked_of (λ (l : Log). NodeSurvives (printed l) c.args.row.job.at c.args.row.job.node.0) c.cluster.view_is c.book-book.ensures.log c.requires.runs.survives
+
+pub job_replica-requires-clause-source : goal.job_replica-requires-clause-source
+job_replica-requires-clause-source g c = asked_of (λ (l : Log). SourceSurvives (printed l) c.args.row.job.at) c.cluster.view_is c.book-book.ensures.log c.requires.runs.source

@@ -1,7 +1,10 @@
-use Rattle.std.proofs.Common.{refl, ap}
+use Rattle.std.proofs.Common.{refl, ap, ◌≡◌, Some}
 use Rattle.cluster_state.specs.Run.{Run}
 use Rattle.cluster_transfers.proofs.PartPaths.{can_take, part_path}
-use Rattle.cluster_state.proofs.Ledgers.{lane_of, replica_of}
+use Rattle.cluster_state.proofs.Ledgers.{lane_of, replica_of, asked_of}
+use Rattle.history_book.specs.Log.{Log, printed}
+use Rattle.history_book.specs.Jobs.{job_of}
+use Rattle.history_entries.specs.Lines.{NodeSurvives, SourceSurvives}
 use Rattle.cluster_transfers.proofs.transfers.take_part.Goals as goal
 
 pub take_in-requires-clause-can : goal.take_in-requires-clause-can
@@ -18,3 +21,15 @@ returns-clause-ok g c = record {
   nodes = ap (λ (x : Run). x.nodes) c.cluster.view_is;
   log = ap (λ (x : Run). x.log) c.cluster.view_is;
 }
+
+pub job_shows-requires : goal.job_shows-requires
+job_shows-requires g c = asked_of (λ (l : Log). job_of c.args.row.job.at.lane.0 l ≡ Some c.args.row) c.cluster.view_is c.book-book.ensures.log c.requires.runs.last
+
+pub job_replica-requires-clause-job : goal.job_replica-requires-clause-job
+job_replica-requires-clause-job g c = asked_of (λ (l : Log). job_of c.args.row.job.at.lane.0 l ≡ Some c.args.row) c.cluster.view_is c.book-book.ensures.log c.requires.runs.last
+
+pub job_replica-requires-clause-node : goal.job_replica-requires-clause-node
+job_replica-requires-clause-node g c = asked_of (λ (l : Log). NodeSurvives (printed l) c.args.row.job.at c.args.row.job.node.0) c.cluster.view_is c.book-book.ensures.log c.requires.runs.survives
+
+pub job_replica-requires-clause-source : goal.job_replica-requires-clause-source
+job_replica-requires-clause-source g c = asked_of (λ (l : Log). SourceSurvives (printed l) c.args.row.job.at) c.cluster.view_is c.book-book.ensures.log c.requires.runs.source

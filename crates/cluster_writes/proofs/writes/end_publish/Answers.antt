@@ -68,3 +68,6 @@ returns-clause-ok g c = ends_now c.args.cluster.now _ c.cluster.inside.ledger c.
     c.in_ok-reserve.ensures.log c.in_ok-reserve.ensures.nodes c.show_published.ensures.log c.show_published.ensures.nodes (told_of c.book-book.ensures.log generation_of c.generation.ensures)
     (next_is g.D.Dir.cells c.args.cluster.now _ c.cluster.inside.ledger _ c.args.p c.take.result c.cluster.view_is c.requires.running (λ e. (c.cluster.invariant e).0) c.requires.node c.take.ensures.place
     c.primary_in-primary.result.0 c.primary_in-primary.result.1 c.primary_in-primary.ensures c.in-Ok.v c.in-Ok.ensures.version)
+
+pub is_flushed-requires : goal.is_flushed-requires
+is_flushed-requires g c = asked_of (λ (l : Log). publish_in_flight (printed l) ≡ Some c.args.at) c.cluster.view_is c.book-book.ensures.log c.requires.flight
