@@ -36,7 +36,8 @@ use Rattle.history_entries.specs.Legal.{KeepsRule, IsLegalPast}
 use Rattle.history_tables.specs.declared.jobs.Job.{Job}
 use Rattle.history_tables.proofs.RowLemmas.{same_at_self}
 use Rattle.history_book.specs.Laws.{IsFresh, may_find}
-use Rattle.history_book.specs.Log.{Log, Pages, printed, shown}
+use Rattle.history_book.specs.Log.{Log, printed, shown}
+use Rattle.history_merges.specs.Merging.{Sheet}
 use Rattle.history_book.specs.Jobs.{job_at}
 use Rattle.history_book.specs.Turns.{InTurn, AreInTurn}
 use Rattle.history_book.proofs.FoundLaws.{commit_found}
@@ -79,8 +80,8 @@ module _ {D : Type 0} (cells : D → Cells) (Step : Infos → CommitBook → Com
         writer = subst (λ (z : Infos × List Shown). WritesAt (printed log) z.0 z.1) (λ i. (sym (ap (λ (z : PrimaryParts D). z.infos) o) i, sym (ap (λ (z : PrimaryParts D). z.segs) o) i)) was.writer;
         waiting = ap (λ (z : PrimaryParts D). z.waiting) o ∙ was.waiting;
         accepted = ap (λ (z : PrimaryParts D). z.accepted) o ∙ was.accepted;
-        uncut = ap (λ (z : PrimaryParts D). z.has_cut_over) o ∙ was.uncut;
-        calm = ap (λ (z : PrimaryParts D). z.merges) o ∙ was.calm;
+        uncut = λ none. ap (λ (z : PrimaryParts D). z.has_cut_over) o ∙ was.uncut none;
+        calm = λ none. ap (λ (z : PrimaryParts D). z.merges) o ∙ was.calm none;
         flight = subst (λ (z : Option Publish × List Shown). FlightShows log (publish_in_flight (printed log)) z.0 z.1) (λ i. (sym (ap (λ (z : PrimaryParts D). z.publish) o) i, sym (ap (λ (z : PrimaryParts D). z.segs) o) i)) was.flight;
       }
   shows_alter log n (Replica r) (Replica s) a was =
@@ -393,17 +394,17 @@ module _ {D : Type 0} (cells : D → Cells) where
 -- ---- in the terms of a call
 
 -- what the book tells of what a node searches
-pub version_at : (r : Run) (ended : Bool) (b0 : Pages) (n : NodeNo) (v : ℕ) → {left : List ℕ} → record { ended = ended; nodes = b0.nodes; log = b0.log; calls_left = left } ≡ r → v ≡ version_of n.0 (printed b0.log) → v ≡ version_of n.0 (printed r.log)
+pub version_at : (r : Run) (ended : Bool) (b0 : Sheet) (n : NodeNo) (v : ℕ) → {left : List ℕ} → record { ended = ended; nodes = b0.nodes; log = b0.log; calls_left = left } ≡ r → v ≡ version_of n.0 (printed b0.log) → v ≡ version_of n.0 (printed r.log)
 version_at r ended b0 n v view is = is ∙ ap (λ (x : Run). version_of n.0 (printed x.log)) view
 
 -- and of a commit that ends
-pub may_at : (r : Run) (ended : Bool) (b0 : Pages) (at : At) (n : NodeNo) (v : Version) → {left : List ℕ} → record { ended = ended; nodes = b0.nodes; log = b0.log; calls_left = left } ≡ r → MayCommit b0.nodes (printed b0.log) at n v → KeepsRule r.nodes (printed r.log) at (Committed n v)
+pub may_at : (r : Run) (ended : Bool) (b0 : Sheet) (at : At) (n : NodeNo) (v : Version) → {left : List ℕ} → record { ended = ended; nodes = b0.nodes; log = b0.log; calls_left = left } ≡ r → MayCommit b0.nodes (printed b0.log) at n v → KeepsRule r.nodes (printed r.log) at (Committed n v)
 may_at r ended b0 at n v view may = subst (λ (x : Run). MayCommit x.nodes (printed x.log) at n v) view may
 
-pub turn_at : (r : Run) (ended : Bool) (b0 b1 : Pages) (at : At) (n : NodeNo) (v : Version) → {left : List ℕ} → record { ended = ended; nodes = b0.nodes; log = b0.log; calls_left = left } ≡ r → b1.log ≡ b0.log → commit_in_flight n.0 (printed r.log) ≡ Some at → InTurn (printed b1.log) at (Committed n v)
+pub turn_at : (r : Run) (ended : Bool) (b0 b1 : Sheet) (at : At) (n : NodeNo) (v : Version) → {left : List ℕ} → record { ended = ended; nodes = b0.nodes; log = b0.log; calls_left = left } ≡ r → b1.log ≡ b0.log → commit_in_flight n.0 (printed r.log) ≡ Some at → InTurn (printed b1.log) at (Committed n v)
 turn_at r ended b0 b1 at n v view e1 flight = record { once = tt; flight = ap (λ (l : Log). commit_in_flight n.0 (printed l)) (e1 ∙ ap (λ (x : Run). x.log) view) ∙ flight }
 
-module _ {D : Type 0} (cells : D → Cells) (r : Run) (ended : Bool) (b0 : Pages) (old : List (Option (Place D))) (at : At) (n : NodeNo)
+module _ {D : Type 0} (cells : D → Cells) (r : Run) (ended : Bool) (b0 : Sheet) (old : List (Option (Place D))) (at : At) (n : NodeNo)
     {left : List ℕ} (view : record { ended = ended; nodes = b0.nodes; log = b0.log; calls_left = left } ≡ r) (running : r.ended ≡ false) (pair : ended ≡ false → Shows cells b0.log b0.nodes old × FilesShow cells b0.log b0.nodes old)
     (node : IsNode r.nodes n.0) (up : is_running n.0 (printed r.log) ≡ true) where
   shows : Shows cells r.log r.nodes old
@@ -425,17 +426,17 @@ module _ {D : Type 0} (cells : D → Cells) (r : Run) (ended : Bool) (b0 : Pages
     turns_now : AreInTurn (printed r.log)
     turns_now = subst (λ (x : Run). AreInTurn (printed x.log)) view turns
 
-    log_is : (b1 b2 : Pages) (e : Event) → b1.log ≡ b0.log → b2.log ≡ shown at e ∷ b1.log → b2.log ≡ shown at e ∷ r.log
+    log_is : (b1 b2 : Sheet) (e : Event) → b1.log ≡ b0.log → b2.log ≡ shown at e ∷ b1.log → b2.log ≡ shown at e ∷ r.log
     log_is b1 b2 e e1 e2 = e2 ∙ ap (λ (l : Log). shown at e ∷ l) (e1 ∙ ap (λ (x : Run). x.log) view)
 
-    size_is : (b1 b2 : Pages) → b1.nodes ≡ b0.nodes → b2.nodes ≡ b1.nodes → b2.nodes ≡ r.nodes
+    size_is : (b1 b2 : Sheet) → b1.nodes ≡ b0.nodes → b2.nodes ≡ b1.nodes → b2.nodes ≡ r.nodes
     size_is b1 b2 n1 n2 = n2 ∙ (n1 ∙ ap (λ (x : Run). x.nodes) view)
 
     -- a commit begins
     pub may_begin_commit : v.0 ≡ version_of n.0 (printed r.log) → commit_in_flight n.0 (printed r.log) ≡ None → KeepsRule r.nodes (printed r.log) at (Committing n v)
     may_begin_commit version none = record { node = node; running = up; searched = version; alone = rw none refl }
 
-    pub begin_commit_path : (new : List (Option (Place D))) → CommitsIn HasBegun cells n.0 old new → (b1 b2 : Pages) → b1.log ≡ b0.log → b1.nodes ≡ b0.nodes → b2.log ≡ shown at (Committing n v) ∷ b1.log → b2.nodes ≡ b1.nodes
+    pub begin_commit_path : (new : List (Option (Place D))) → CommitsIn HasBegun cells n.0 old new → (b1 b2 : Sheet) → b1.log ≡ b0.log → b1.nodes ≡ b0.nodes → b2.log ≡ shown at (Committing n v) ∷ b1.log → b2.nodes ≡ b1.nodes
         → IsFresh at (printed b0.log) → v.0 ≡ version_of n.0 (printed r.log) → commit_in_flight n.0 (printed r.log) ≡ None → Shows cells b2.log b2.nodes new × FilesShow cells b2.log b2.nodes new
     begin_commit_path new b b1 b2 e1 n1 e2 n2 fresh version none =
         let rule = may_begin_commit version none in
@@ -461,7 +462,7 @@ module _ {D : Type 0} (cells : D → Cells) (r : Run) (ended : Bool) (b0 : Pages
         unstarted fresh is = absurd (let both : None ≡ Some Publishing = sym fresh.begun ∙ is in cc)
 
     -- a call that is not the last
-    go_path : (new : List (Option (Place D))) → CommitsIn (StepsBook false) cells n.0 old new → (b1 : Pages) → b1.log ≡ b0.log → b1.nodes ≡ b0.nodes → Shows cells b1.log b1.nodes new × FilesShow cells b1.log b1.nodes new
+    go_path : (new : List (Option (Place D))) → CommitsIn (StepsBook false) cells n.0 old new → (b1 : Sheet) → b1.log ≡ b0.log → b1.nodes ≡ b0.nodes → Shows cells b1.log b1.nodes new × FilesShow cells b1.log b1.nodes new
     go_path new b b1 e1 n1 =
         let log : b1.log ≡ r.log = e1 ∙ ap (λ (x : Run). x.log) view in
         let size : b1.nodes ≡ r.nodes = n1 ∙ ap (λ (x : Run). x.nodes) view in
@@ -476,12 +477,12 @@ module _ {D : Type 0} (cells : D → Cells) (r : Run) (ended : Bool) (b0 : Pages
               (commit_files cells (StepsBook false) r.nodes r.log r.log old new n.0 b lasting node shows files (grows_none (printed r.log)) jobs (points_alone (printed r.log)) stay places (λ a none. shows.handed a none) book),
         )
 
-    pub go_commit_path : (done : Bool) → done ≡ false → (new : List (Option (Place D))) → CommitsIn (StepsBook done) cells n.0 old new → (b1 : Pages) → b1.log ≡ b0.log → b1.nodes ≡ b0.nodes → Shows cells b1.log b1.nodes new × FilesShow cells b1.log b1.nodes new
+    pub go_commit_path : (done : Bool) → done ≡ false → (new : List (Option (Place D))) → CommitsIn (StepsBook done) cells n.0 old new → (b1 : Sheet) → b1.log ≡ b0.log → b1.nodes ≡ b0.nodes → Shows cells b1.log b1.nodes new × FilesShow cells b1.log b1.nodes new
     go_commit_path true is new b b1 e1 n1 = absurd (true≢false is)
     go_commit_path false is new b b1 e1 n1 = go_path new b b1 e1 n1
 
     -- the last call
-    end_path : (new : List (Option (Place D))) → CommitsIn (StepsBook true) cells n.0 old new → (b1 b2 : Pages) → b1.log ≡ b0.log → b1.nodes ≡ b0.nodes → b2.log ≡ shown at (Committed n v) ∷ b1.log → b2.nodes ≡ b1.nodes
+    end_path : (new : List (Option (Place D))) → CommitsIn (StepsBook true) cells n.0 old new → (b1 b2 : Sheet) → b1.log ≡ b0.log → b1.nodes ≡ b0.nodes → b2.log ≡ shown at (Committed n v) ∷ b1.log → b2.nodes ≡ b1.nodes
         → MayCommit b0.nodes (printed b0.log) at n v → commit_in_flight n.0 (printed r.log) ≡ Some at → start_entry at (printed r.log) ≡ Some (Committing n v) → Shows cells b2.log b2.nodes new × FilesShow cells b2.log b2.nodes new
     end_path new b b1 b2 e1 n1 e2 n2 may flight started =
         let rule : KeepsRule r.nodes (printed r.log) at (Committed n v) = subst (λ (x : Run). MayCommit x.nodes (printed x.log) at n v) view may in
@@ -513,12 +514,12 @@ module _ {D : Type 0} (cells : D → Cells) (r : Run) (ended : Bool) (b0 : Pages
             let both : Some (Committing n v) ≡ Some (Committing (record { 0 = m }) found.version) = sym started ∙ found.entry in
             absurd (true≢false (sym (eq-eqb n.0 m (at_node m found.version both)) ∙ apart))
 
-    pub end_commit_path : (done : Bool) → done ≡ true → (new : List (Option (Place D))) → CommitsIn (StepsBook done) cells n.0 old new → (b1 b2 : Pages) → b1.log ≡ b0.log → b1.nodes ≡ b0.nodes → b2.log ≡ shown at (Committed n v) ∷ b1.log → b2.nodes ≡ b1.nodes
+    pub end_commit_path : (done : Bool) → done ≡ true → (new : List (Option (Place D))) → CommitsIn (StepsBook done) cells n.0 old new → (b1 b2 : Sheet) → b1.log ≡ b0.log → b1.nodes ≡ b0.nodes → b2.log ≡ shown at (Committed n v) ∷ b1.log → b2.nodes ≡ b1.nodes
         → MayCommit b0.nodes (printed b0.log) at n v → commit_in_flight n.0 (printed r.log) ≡ Some at → start_entry at (printed r.log) ≡ Some (Committing n v) → Shows cells b2.log b2.nodes new × FilesShow cells b2.log b2.nodes new
     end_commit_path true is new b b1 b2 e1 n1 e2 n2 may flight started = end_path new b b1 b2 e1 n1 e2 n2 may flight started
     end_commit_path false is new b b1 b2 e1 n1 e2 n2 may flight started = absurd (true≢false (sym is))
 
     -- ---- what is now
 
-    pub entry_now : {now : List ℕ} (e : Event) (b1 b2 : Pages) → b1.log ≡ b0.log → b1.nodes ≡ b0.nodes → b2.log ≡ shown at e ∷ b1.log → b2.nodes ≡ b1.nodes → IsNow r (record { ended = false; nodes = b2.nodes; log = b2.log; calls_left = now }) (shown at e ∷ r.log)
+    pub entry_now : {now : List ℕ} (e : Event) (b1 b2 : Sheet) → b1.log ≡ b0.log → b1.nodes ≡ b0.nodes → b2.log ≡ shown at e ∷ b1.log → b2.nodes ≡ b1.nodes → IsNow r (record { ended = false; nodes = b2.nodes; log = b2.log; calls_left = now }) (shown at e ∷ r.log)
     entry_now e b1 b2 e1 n1 e2 n2 = record { running = refl; nodes = size_is b1 b2 n1 n2; log = log_is b1 b2 e e1 e2 }

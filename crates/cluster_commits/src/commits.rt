@@ -32,14 +32,15 @@ pub fn begin_commit<D: FaultDir + Drop>(
     ensures ok { IfOk result (BeginsCommit at n cluster.old cluster.new) }
     ensures err { OnErr result (IsEnded cluster.old cluster.new) }
 {
-    cluster.book.is_fresh(at);
-    cluster.book.is_legal();
+    let book = cluster.ledger.book();
+    book.is_fresh(at);
+    book.is_legal();
     files_last();
-    let version = Version(cluster.book.version(n));
+    let version = Version(book.version(n));
     cluster.ended = true;
-    cluster.book.reserve(1)?;
+    cluster.ledger.reserve(1)?;
     begin_commit_in(alloc, &mut cluster.places, n)?;
-    cluster.book.show(at, Event::Committing { n, v: version });
+    cluster.ledger.show(at, Event::Committing { n, v: version });
     cluster.ended = false;
     Ok(CommitTask { node: n, version })
 }
@@ -61,16 +62,17 @@ pub fn step_commit<D: FaultDir + Drop>(
     ensures ok { IfOk result (StepsCommit at n v cluster.old cluster.new) }
     ensures err { OnErr result (IsEnded cluster.old cluster.new) }
 {
-    cluster.book.is_legal();
-    cluster.book.commit_may_end(at, n, v);
+    let book = cluster.ledger.book();
+    book.is_legal();
+    book.commit_may_end(at, n, v);
     files_last();
     cluster.ended = true;
-    cluster.book.reserve(1)?;
+    cluster.ledger.reserve(1)?;
     if !step_commit_in(alloc, &mut cluster.places, n)? {
         cluster.ended = false;
         return Ok(false);
     }
-    cluster.book.show(at, Event::Committed { n, v });
+    cluster.ledger.show(at, Event::Committed { n, v });
     cluster.ended = false;
     Ok(true)
 }

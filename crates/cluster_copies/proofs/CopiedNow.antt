@@ -18,7 +18,8 @@ use Rattle.history_tables.specs.declared.jobs.Job.{Job}
 use Rattle.history_tables.specs.declared.jobs.JobRow.{JobRow}
 use Rattle.history_tables.specs.JobRows.{while_going}
 use Rattle.history_tables.proofs.RowLemmas.{by_test, same_at_self}
-use Rattle.history_book.specs.Log.{Log, Pages, printed, shown}
+use Rattle.history_book.specs.Log.{Log, printed, shown}
+use Rattle.history_merges.specs.Merging.{Sheet}
 use Rattle.history_book.specs.Laws.{IsFresh}
 use Rattle.history_book.specs.Turns.{InTurn, AreInTurn}
 use Rattle.history_book.specs.Jobs.{last_job, job_at}
@@ -67,7 +68,7 @@ none_flies at n v log newest = tests (n.0 == n.0) (v.0 == newest_version (printe
 
 -- ---- rules
 
-pub copying_turn : (b0 b1 : Pages) (at : At) (n : NodeNo) (v : Version) → b1.log ≡ b0.log → IsFresh at (printed b0.log) → InTurn (printed b1.log) at (Copying n v)
+pub copying_turn : (b0 b1 : Sheet) (at : At) (n : NodeNo) (v : Version) → b1.log ≡ b0.log → IsFresh at (printed b0.log) → InTurn (printed b1.log) at (Copying n v)
 copying_turn b0 b1 at n v same fresh = subst (λ (l : Log). InTurn (printed l) at (Copying n v)) (sym same) (fresh_turn (printed b0.log) at (Copying n v) fresh tt)
 
 -- the reply keeps its rule behind the start
@@ -111,7 +112,7 @@ module _ {D : Type 0} (cells : D → Cells) where
     sourced = files.sourced;
     job = subst (λ (o : Option Job). JobShows source (copied_log at n v log) n.0 o r.job) (sym (job_stays at n v n.0 log ∙ none))
         (quiet r.job (subst (λ (o : Option Job). JobShows source log n.0 o r.job) none files.job));
-    point = record { known = files.point.known; generation = files.point.generation; stands = files.point.stands; writable = writable_stays (printed log) (printed (copied_log at n v log)) r.infos (omega arith) files.point.writable };
+    point = record { known = files.point.known; generation = files.point.generation; stands = files.point.stands; writable = writable_stays (printed log) (printed (copied_log at n v log)) r.infos (omega arith) (omega arith) files.point.writable };
     flight = λ a is. absurd (nowhere a (sym (none_flies at n v log newest) ∙ is));
   }
     where
@@ -194,7 +195,7 @@ module _ {D : Type 0} (cells : D → Cells) where
 
   -- ---- in the terms of a call
 
-  module _ (r : Run) (ended : Bool) (b0 b1 : Pages) (places : List (Option (Place D))) (at : At) (n : NodeNo) (v : Version)
+  module _ (r : Run) (ended : Bool) (b0 b1 : Sheet) (places : List (Option (Place D))) (at : At) (n : NodeNo) (v : Version)
       {left : List ℕ} (view : record { ended = ended; nodes = b0.nodes; log = b0.log; calls_left = left } ≡ r) (running : r.ended ≡ false) (shows : ended ≡ false → Shows cells b0.log b0.nodes places) (files : ended ≡ false → FilesShow cells b0.log b0.nodes places)
       (e1 : b1.log ≡ b0.log) (n1 : b1.nodes ≡ b0.nodes) (fresh : IsFresh at (printed b0.log)) (node : IsNode r.nodes n.0) (replica : IsReplica (printed r.log) n.0) (source : primary_of (printed r.log) ≢ None)
       (reached : version_of n.0 (printed r.log) ≡ newest_version (printed r.log)) (newest : v.0 ≡ newest_version (printed b0.log)) where
@@ -214,7 +215,7 @@ module _ {D : Type 0} (cells : D → Cells) where
     pub copying_rule : KeepsRule b1.nodes (printed b1.log) at (Copying n v)
     copying_rule = subst (λ (x : ℕ × Log). KeepsRule x.0 (printed x.1) at (Copying n v)) (λ i. (sym size_same i, sym log_same i)) rule_now
 
-    module _ (b2 : Pages) (e2 : b2.log ≡ shown at (Copying n v) ∷ b1.log) (n2 : b2.nodes ≡ b1.nodes) where
+    module _ (b2 : Sheet) (e2 : b2.log ≡ shown at (Copying n v) ∷ b1.log) (n2 : b2.nodes ≡ b1.nodes) where
       log_then : b2.log ≡ shown at (Copying n v) ∷ r.log
       log_then = e2 ∙ ap (λ (l : Log). shown at (Copying n v) ∷ l) log_same
 
@@ -222,7 +223,7 @@ module _ {D : Type 0} (cells : D → Cells) where
       pub copied_rule : KeepsRule b2.nodes (printed b2.log) at (Copied n v)
       copied_rule = subst (λ (x : ℕ × Log). KeepsRule x.0 (printed x.1) at (Copied n v)) (λ i. (sym (n2 ∙ size_same) i, sym log_then i)) (may_reply r.nodes (printed r.log) at n v node reached newest_now)
 
-      module _ (b3 : Pages) (e3 : b3.log ≡ shown at (Copied n v) ∷ b2.log) (n3 : b3.nodes ≡ b2.nodes) (legal : IsLegalPast b1.nodes (printed b1.log)) (turns : AreInTurn (printed b1.log))
+      module _ (b3 : Sheet) (e3 : b3.log ≡ shown at (Copied n v) ∷ b2.log) (n3 : b3.nodes ≡ b2.nodes) (legal : IsLegalPast b1.nodes (printed b1.log)) (turns : AreInTurn (printed b1.log))
           (later_legal : IsLegalPast b2.nodes (printed b2.log)) (later_turns : AreInTurn (printed b2.log)) where
         legal_now : IsLegalPast r.nodes (printed r.log)
         legal_now = subst (λ (x : ℕ × Log). IsLegalPast x.0 (printed x.1)) (λ i. (size_same i, log_same i)) legal

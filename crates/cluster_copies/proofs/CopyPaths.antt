@@ -26,7 +26,8 @@ use Rattle.history_tables.specs.Begins.{begun_by, open_line}
 use Rattle.history_entries.specs.Points.{operations_of_generation}
 use Rattle.history_tables.specs.declared.jobs.JobStep.TheVariants.{Begins}
 use Rattle.history_tables.proofs.RowLemmas.{same_at_self}
-use Rattle.history_book.specs.Log.{Log, Pages, printed, shown, kept}
+use Rattle.history_book.specs.Log.{Log, printed, shown, kept}
+use Rattle.history_merges.specs.Merging.{Sheet}
 use Rattle.history_book.specs.declared.inner.Inner.{Inner}
 use Rattle.history_book.specs.declared.inner.Inner.TheVariants.{JobBegun}
 use Rattle.history_book.specs.Jobs.{last_job, job_at, job_of, IsOlder, StartsJob, MayBeginJob}
@@ -218,7 +219,7 @@ module _ {D : Type 0} (cells : D → Cells) where
       some_none e = absurd (cc)
 
   -- a copy started, and its job began
-  pub copy_path : (r : Run) (ended : Bool) (b0 b1 b2 b3 : Pages) (old new : List (Option (Place D))) (at : At) (p n : NodeNo) (v : Version) (number : ℕ)
+  pub copy_path : (r : Run) (ended : Bool) (b0 b1 b2 b3 : Sheet) (old new : List (Option (Place D))) (at : At) (p n : NodeNo) (v : Version) (number : ℕ)
       → {left : List ℕ} → record { ended = ended; nodes = b0.nodes; log = b0.log; calls_left = left } ≡ r → r.ended ≡ false → (ended ≡ false → Shows cells b0.log b0.nodes old × FilesShow cells b0.log b0.nodes old)
       → b1.log ≡ b0.log → b1.nodes ≡ b0.nodes → b2.log ≡ shown at (Copying n v) ∷ b1.log → b2.nodes ≡ b1.nodes → IsLegalPast b1.nodes (printed b1.log) → AreInTurn (printed b1.log)
       → b3.log ≡ kept (JobBegun at.line n number (Some v) (Some at)) ∷ b2.log → b3.nodes ≡ b2.nodes
@@ -247,7 +248,7 @@ module _ {D : Type 0} (cells : D → Cells) where
       )
 
   -- the job of a settle began
-  pub settle_path : (r : Run) (ended : Bool) (b0 b1 b2 : Pages) (old new : List (Option (Place D))) (at : At) (p n : NodeNo) (v w : Version) (number : ℕ)
+  pub settle_path : (r : Run) (ended : Bool) (b0 b1 b2 : Sheet) (old new : List (Option (Place D))) (at : At) (p n : NodeNo) (v w : Version) (number : ℕ)
       → {left : List ℕ} → record { ended = ended; nodes = b0.nodes; log = b0.log; calls_left = left } ≡ r → r.ended ≡ false → (ended ≡ false → Shows cells b0.log b0.nodes old × FilesShow cells b0.log b0.nodes old)
       → b1.log ≡ b0.log → b1.nodes ≡ b0.nodes → b2.log ≡ kept (JobBegun at.line n number (Some v) (Some at)) ∷ b1.log → b2.nodes ≡ b1.nodes → IsLegalPast b0.nodes (printed b0.log)
       → FilesLast → v.0 ≡ newest_version (printed b0.log) → start_entry at (printed r.log) ≡ Some (Settling w) → WaitsFor r.nodes (printed r.log) at w.0 n → IsNode r.nodes p.0 → primary_of (printed r.log) ≡ Some p
@@ -281,7 +282,7 @@ module _ {D : Type 0} (cells : D → Cells) where
 -- ---- turns
 
 -- the job of a copy begins in its turn
-pub copy_turn : (r : Run) (b0 b1 b2 : Pages) (at : At) (n : NodeNo) (v : Version) → b1.log ≡ r.log → b1.nodes ≡ r.nodes → b2.log ≡ shown at (Copying n v) ∷ b1.log → b2.nodes ≡ b1.nodes
+pub copy_turn : (r : Run) (b0 b1 b2 : Sheet) (at : At) (n : NodeNo) (v : Version) → b1.log ≡ r.log → b1.nodes ≡ r.nodes → b2.log ≡ shown at (Copying n v) ∷ b1.log → b2.nodes ≡ b1.nodes
     → IsNode r.nodes n.0 → v.0 ≡ newest_version (printed r.log) → IsOlder (newest_version (printed r.log)) (job_at n.0 r.log) → MayBeginJob b2.nodes b2.log at n.0 v.0
 copy_turn r b0 b1 b2 at n v log size e2 n2 node newest older =
     subst (λ (x : Log × ℕ). MayBeginJob x.1 x.0 at n.0 v.0) (λ i. (sym (e2 ∙ ap (λ (l : Log). shown at (Copying n v) ∷ l) log) i, sym (n2 ∙ size) i)) (record {
@@ -298,7 +299,7 @@ copy_turn r b0 b1 b2 at n v log size e2 n2 node newest older =
     mid = record { at = at; event = Copying n v } ∷ printed r.log
 
 -- that of a settle
-pub settle_turn : (r : Run) (b : Pages) (at : At) (n : NodeNo) (v w : Version) → b.log ≡ r.log → b.nodes ≡ r.nodes → open_line at (printed r.log) ≢ None → start_entry at (printed r.log) ≡ Some (Settling w) → SourceSurvives (printed r.log) at
+pub settle_turn : (r : Run) (b : Sheet) (at : At) (n : NodeNo) (v w : Version) → b.log ≡ r.log → b.nodes ≡ r.nodes → open_line at (printed r.log) ≢ None → start_entry at (printed r.log) ≡ Some (Settling w) → SourceSurvives (printed r.log) at
     → WaitsFor r.nodes (printed r.log) at w.0 n → v.0 ≡ newest_version (printed r.log) → IsOlder (newest_version (printed r.log)) (job_at n.0 r.log) → MayBeginJob b.nodes b.log at n.0 v.0
 settle_turn r b at n v w log size is_open started source waits newest older =
     subst (λ (x : Log × ℕ). MayBeginJob x.1 x.0 at n.0 v.0) (λ i. (sym log i, sym size i)) (record {

@@ -38,13 +38,14 @@ pub fn note_copied<D: FaultDir + Drop>(
         ∷ shown at (Event.Copying n (newest_of (printed cluster.old.log))) ∷ cluster.old.log)) }
     ensures err { OnErr result (IsEnded cluster.old cluster.new) }
 {
-    cluster.book.is_fresh(at);
-    cluster.book.is_legal();
-    let v = Version(cluster.book.newest());
+    let book = cluster.ledger.book();
+    book.is_fresh(at);
+    book.is_legal();
+    let v = Version(book.newest());
     cluster.ended = true;
-    cluster.book.reserve(2)?;
-    cluster.book.show(at, Event::Copying { n, v });
-    cluster.book.show(at, Event::Copied { n, v });
+    cluster.ledger.reserve(2)?;
+    cluster.ledger.show(at, Event::Copying { n, v });
+    cluster.ledger.show(at, Event::Copied { n, v });
     cluster.ended = false;
     Ok(())
 }
@@ -71,15 +72,16 @@ pub fn begin_copy<D: FaultDir + Drop>(
         (shown at (Event.Copying n (newest_of (printed cluster.old.log))) ∷ cluster.old.log)) }
     ensures err { OnErr result (IsEnded cluster.old cluster.new) }
 {
-    cluster.book.is_fresh(at);
+    let book = cluster.ledger.book();
+    book.is_fresh(at);
     files_last();
-    let newest = cluster.book.newest();
+    let newest = book.newest();
     cluster.ended = true;
-    cluster.book.reserve(2)?;
+    cluster.ledger.reserve(2)?;
     let job = begin_in(alloc, &mut cluster.places, p, n)?;
     let v = Version(newest);
-    cluster.book.show(at, Event::Copying { n, v });
-    cluster.book.keep(Inner::JobBegun {
+    cluster.ledger.show(at, Event::Copying { n, v });
+    cluster.ledger.keep(Inner::JobBegun {
         line: at.line,
         node: n,
         job,
@@ -116,13 +118,14 @@ pub fn begin_settling<D: FaultDir + Drop>(
     ensures ok { IfOk result (BeginsJob at n cluster.old cluster.new cluster.old.log) }
     ensures err { OnErr result (IsEnded cluster.old cluster.new) }
 {
-    cluster.book.is_legal();
+    let book = cluster.ledger.book();
+    book.is_legal();
     files_last();
-    let newest = cluster.book.newest();
+    let newest = book.newest();
     cluster.ended = true;
-    cluster.book.reserve(1)?;
+    cluster.ledger.reserve(1)?;
     let job = begin_in(alloc, &mut cluster.places, p, n)?;
-    cluster.book.keep(Inner::JobBegun {
+    cluster.ledger.keep(Inner::JobBegun {
         line: at.line,
         node: n,
         job,

@@ -57,11 +57,12 @@ pub fn begin_settle<D: FaultDir + Drop>(
     ensures settling { IfOk result (IsSettling cluster.new.nodes (printed cluster.new.log) at) }
     ensures err { OnErr result (IsEnded cluster.old cluster.new) }
 {
-    cluster.book.is_fresh(at);
+    let book = cluster.ledger.book();
+    book.is_fresh(at);
     cluster.is_apart(at);
     cluster.has_no_commit(at);
-    let version = Version(cluster.book.newest());
-    let left = match replicas(alloc, &cluster.book) {
+    let version = Version(book.newest());
+    let left = match replicas(alloc, book) {
         Ok(left) => left,
         Err(fault) => {
             cluster.ended = true;
@@ -89,10 +90,11 @@ pub fn next_left<D: FaultDir + Drop>(
     ensures done { result ≡ None
         → MaySettle cluster.now.nodes (printed cluster.now.log) at task.new.version }
 {
-    cluster.book.is_legal();
+    let book = cluster.ledger.book();
+    book.is_legal();
     while let Some(n) = task.left.first() {
         let n = *n;
-        if cluster.book.node_survives(at, n) && cluster.book.version(n) < task.version.0 {
+        if book.node_survives(at, n) && book.version(n) < task.version.0 {
             return Some(n);
         }
         task.left.remove(0);

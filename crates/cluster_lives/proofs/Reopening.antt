@@ -45,7 +45,8 @@ use Rattle.history_tables.specs.declared.jobs.Job.{Job}
 use Rattle.history_tables.specs.declared.jobs.JobRow.{JobRow}
 use Rattle.history_tables.specs.JobRows.{while_going}
 use Rattle.history_book.specs.Laws.{IsFresh, may_find}
-use Rattle.history_book.specs.Log.{Log, Pages, printed, shown}
+use Rattle.history_book.specs.Log.{Log, printed, shown}
+use Rattle.history_merges.specs.Merging.{Sheet}
 use Rattle.history_book.specs.Jobs.{last_job, job_at}
 use Rattle.history_book.specs.Turns.{InTurn, AreInTurn}
 use Rattle.cluster_places.specs.declared.held.Held.{Held}
@@ -394,7 +395,7 @@ module _ {D : Type 0} (cells : D → Cells) (size : ℕ) (log : Log) (old new : 
 
 -- ---- in the terms of a call
 
-module _ {D : Type 0} (cells : D → Cells) (r : Run) (ended : Bool) (b0 : Pages) (old : List (Option (Place D))) (at : At) (n : NodeNo)
+module _ {D : Type 0} (cells : D → Cells) (r : Run) (ended : Bool) (b0 : Sheet) (old : List (Option (Place D))) (at : At) (n : NodeNo)
     {left : List ℕ} (view : record { ended = ended; nodes = b0.nodes; log = b0.log; calls_left = left } ≡ r) (running : r.ended ≡ false) (pair : ended ≡ false → Shows cells b0.log b0.nodes old × FilesShow cells b0.log b0.nodes old) (lasting : FilesLast)
     (legal : IsLegalPast b0.nodes (printed b0.log)) (turns : AreInTurn (printed b0.log)) (fresh : IsFresh at (printed b0.log)) (node : IsNode r.nodes n.0) (down : is_running n.0 (printed r.log) ≡ false) where
   legal_now : IsLegalPast r.nodes (printed r.log)
@@ -419,7 +420,7 @@ module _ {D : Type 0} (cells : D → Cells) (r : Run) (ended : Bool) (b0 : Pages
     pub rule_there : KeepsRule r.nodes (printed r.log) at (Reopened n v)
     rule_there = reopen_rule cells r.nodes r.log old new at n v lasting legal_now turns_now fresh_now node down s f b
 
-    pub reopen_path : (b1 b2 : Pages) → b1.log ≡ b0.log → b1.nodes ≡ b0.nodes → b2.log ≡ shown at (Reopened n v) ∷ b1.log → b2.nodes ≡ b1.nodes
+    pub reopen_path : (b1 b2 : Sheet) → b1.log ≡ b0.log → b1.nodes ≡ b0.nodes → b2.log ≡ shown at (Reopened n v) ∷ b1.log → b2.nodes ≡ b1.nodes
         → ((m : ℕ) → is_running m (printed b0.log) ≡ false → job_at m b0.log ≡ None) → ((m : ℕ) → is_running m (printed b0.log) ≡ false → commit_in_flight m (printed b0.log) ≡ None)
         → Shows cells b2.log b2.nodes new × FilesShow cells b2.log b2.nodes new
     reopen_path b1 b2 e1 n1 e2 n2 idle uncommitting =
@@ -433,7 +434,7 @@ module _ {D : Type 0} (cells : D → Cells) (r : Run) (ended : Bool) (b0 : Pages
           files_is cells (shown at (Reopened n v) ∷ r.log) b2.log r.nodes b2.nodes new log size (reopened_files cells r.nodes r.log old new at n v lasting legal_now turns_now fresh_now node down s f b idle_now none_now),
         )
 
-    pub reopened_now : {now : List ℕ} (b1 b2 : Pages) → b1.log ≡ b0.log → b1.nodes ≡ b0.nodes → b2.log ≡ shown at (Reopened n v) ∷ b1.log → b2.nodes ≡ b1.nodes → IsNow r (record { ended = false; nodes = b2.nodes; log = b2.log; calls_left = now }) (shown at (Reopened n v) ∷ r.log)
+    pub reopened_now : {now : List ℕ} (b1 b2 : Sheet) → b1.log ≡ b0.log → b1.nodes ≡ b0.nodes → b2.log ≡ shown at (Reopened n v) ∷ b1.log → b2.nodes ≡ b1.nodes → IsNow r (record { ended = false; nodes = b2.nodes; log = b2.log; calls_left = now }) (shown at (Reopened n v) ∷ r.log)
     reopened_now b1 b2 e1 n1 e2 n2 = record {
       running = refl;
       nodes = n2 ∙ (n1 ∙ ap (λ (x : Run). x.nodes) view);

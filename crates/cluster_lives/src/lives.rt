@@ -33,13 +33,14 @@ pub fn crash_node<D: FaultDir + Drop>(
     ensures err { OnErr result (IsEnded cluster.old cluster.new) }
 {
     let primary = cluster.primary();
-    cluster.book.is_fresh(at);
+    let book = cluster.ledger.book();
+    book.is_fresh(at);
     files_last();
     cluster.ended = true;
-    cluster.book.reserve(1)?;
+    cluster.ledger.reserve(1)?;
     crash_in(alloc, &mut cluster.places, primary, n, pick)?;
-    cluster.book.show(at, Event::Crashed { n });
-    cluster.book.is_idle();
+    cluster.ledger.show_crashed(at, n);
+    cluster.ledger.book().is_idle();
     cluster.ended = false;
     Ok(())
 }
@@ -59,14 +60,15 @@ pub fn reopen_node<D: FaultDir + Drop>(
     ensures ok { OnOk result (Reopens at n cluster.old cluster.new) }
     ensures err { OnErr result (IsEnded cluster.old cluster.new) }
 {
-    cluster.book.is_fresh(at);
-    cluster.book.is_legal();
-    cluster.book.is_idle();
+    let book = cluster.ledger.book();
+    book.is_fresh(at);
+    book.is_legal();
+    book.is_idle();
     files_last();
     cluster.ended = true;
-    cluster.book.reserve(1)?;
+    cluster.ledger.reserve(1)?;
     let v = reopen_in(alloc, &mut cluster.places, n)?;
-    cluster.book.show(at, Event::Reopened { n, v });
+    cluster.ledger.show(at, Event::Reopened { n, v });
     cluster.ended = false;
     Ok(())
 }

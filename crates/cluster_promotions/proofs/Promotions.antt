@@ -41,7 +41,8 @@ use Rattle.history_tables.specs.declared.jobs.Job.{Job}
 use Rattle.history_tables.specs.declared.jobs.JobRow.{JobRow}
 use Rattle.history_tables.specs.JobRows.{while_going}
 use Rattle.history_book.specs.Laws.{IsFresh}
-use Rattle.history_book.specs.Log.{Log, Pages, printed, shown}
+use Rattle.history_book.specs.Log.{Log, printed, shown}
+use Rattle.history_merges.specs.Merging.{Sheet}
 use Rattle.history_book.specs.Jobs.{last_job, job_at}
 use Rattle.history_book.specs.Turns.{AreInTurn}
 use Rattle.history_book.proofs.LineLaws.{flying}
@@ -211,8 +212,8 @@ module _ {D : Type 0} (cells : D → Cells) where
           writer = writes_now;
           waiting = b.becomes.waiting;
           accepted = b.becomes.accepted;
-          uncut = b.becomes.has_cut_over;
-          calm = b.becomes.merges;
+          uncut = λ none. b.becomes.has_cut_over;
+          calm = λ none. b.becomes.merges;
           flight = subst (λ (o : Option At). FlightShows now o b.primary.publish b.primary.segs) (sym flight_now) b.becomes.publish;
         };
         tickets = subst (λ (ts : List (Open Shown)). HoldsTickets (printed now) n.0 ts b.at.held.items) (sym b.becomes.tickets)
@@ -357,7 +358,7 @@ module _ {D : Type 0} (cells : D → Cells) where
     above = above;
   }
 
-  pub can_path : (r : Run) (ended : Bool) (b0 : Pages) (places : List (Option (Place D))) (n : NodeNo) (g : Gen) (forced : Version) (last : ℕ) → {left : List ℕ} → record { ended = ended; nodes = b0.nodes; log = b0.log; calls_left = left } ≡ r → r.ended ≡ false
+  pub can_path : (r : Run) (ended : Bool) (b0 : Sheet) (places : List (Option (Place D))) (n : NodeNo) (g : Gen) (forced : Version) (last : ℕ) → {left : List ℕ} → record { ended = ended; nodes = b0.nodes; log = b0.log; calls_left = left } ≡ r → r.ended ≡ false
       → (ended ≡ false → Shows cells b0.log b0.nodes places × FilesShow cells b0.log b0.nodes places) → IsLegalPast b0.nodes (printed b0.log) → IsNode r.nodes n.0 → is_running n.0 (printed r.log) ≡ true → primary_of (printed r.log) ≡ None
       → last ≡ generation_of (printed r.log) → g.0 ≡ last + 1 → g.0 < 2 ^ 31 → forced.0 < 2 ^ 62 → newest_version (printed r.log) ≤ forced.0 → CanPromoteIn cells g forced n.0 places
   can_path r ended b0 places n g forced last view running pair legal node up vacant is next small low high =
@@ -365,7 +366,7 @@ module _ {D : Type 0} (cells : D → Cells) where
       (was cells r ended b0.nodes b0.log places view running (λ e. (pair e).0)) (files_was cells r ended b0.nodes b0.log places view running (λ e. (pair e).1))
       node up vacant (omega (arith, is, next)) small low high
 
-  pub promote_path : (r : Run) (ended : Bool) (b0 b1 b2 : Pages) (old new : List (Option (Place D))) (at : At) (n : NodeNo) (g : Gen) (forced v : Version) → {left : List ℕ} → record { ended = ended; nodes = b0.nodes; log = b0.log; calls_left = left } ≡ r → r.ended ≡ false
+  pub promote_path : (r : Run) (ended : Bool) (b0 b1 b2 : Sheet) (old new : List (Option (Place D))) (at : At) (n : NodeNo) (g : Gen) (forced v : Version) → {left : List ℕ} → record { ended = ended; nodes = b0.nodes; log = b0.log; calls_left = left } ≡ r → r.ended ≡ false
       → (ended ≡ false → Shows cells b0.log b0.nodes old × FilesShow cells b0.log b0.nodes old) → b1.log ≡ b0.log → b1.nodes ≡ b0.nodes → b2.log ≡ shown at (Promoted n g forced v) ∷ b1.log → b2.nodes ≡ b1.nodes
       → IsLegalPast b1.nodes (printed b1.log) → AreInTurn (printed b1.log) → ((m : ℕ) → primary_of (printed b0.log) ≡ None → job_at m b0.log ≡ None) → IsFresh at (printed b0.log)
       → KeepsRule r.nodes (printed r.log) at (Promoted n g forced v) → PromotesIn cells g forced n.0 old new → Shows cells b2.log b2.nodes new × FilesShow cells b2.log b2.nodes new

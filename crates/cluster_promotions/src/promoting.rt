@@ -8,7 +8,6 @@ ghost use Rattle.cluster_state.specs.Run.{IsNow, IsEnded};
 
 use cluster_state::ClusterState;
 use disk_model::FaultDir;
-use history_entries::Event;
 use node_promotions::promote_in;
 use nrt_base::{At, Gen, NoMemory, NodeNo, Version};
 use replica_node::laws::files_last;
@@ -39,28 +38,21 @@ pub fn promote_node<D: FaultDir + Drop>(
         (record { 0 = forced.0 + 1 })) ∷ cluster.old.log)) }
     ensures err { OnErr result (IsEnded cluster.old cluster.new) }
 {
-    cluster.book.is_fresh(at);
-    cluster.book.is_legal();
-    cluster.book.is_idle();
+    let book = cluster.ledger.book();
+    book.is_fresh(at);
+    book.is_legal();
+    book.is_idle();
     files_last();
+    let last = book.generation();
     cluster.ended = true;
-    let last = cluster.book.generation();
     if last >= GENERATIONS - 1 {
         return Err(AllocError);
     }
     let generation = Gen(last + 1);
     let v = Version(forced.0 + 1);
-    cluster.book.reserve(1)?;
+    cluster.ledger.reserve(1)?;
     promote_in(alloc, &mut cluster.places, n, generation, forced)?;
-    cluster.book.show(
-        at,
-        Event::Promoted {
-            n,
-            generation,
-            forced,
-            v,
-        },
-    );
+    cluster.ledger.show_promoted(at, n, generation, forced, v);
     cluster.ended = false;
     Ok(())
 }

@@ -149,8 +149,8 @@ module _ {D : Type 0} (cells : D → Cells) where
     writer = subst (λ (x : Infos × List Shown). WritesAt (printed log) x.0 x.1) (λ i. (sym (ap (λ (z : PrimaryParts D). z.infos) k.0) i, sym (ap (λ (z : PrimaryParts D). z.segs) k.0) i)) was.writer;
     waiting = ap (λ (z : PrimaryParts D). z.waiting) k.0 ∙ was.waiting;
     accepted = ap (λ (z : PrimaryParts D). z.accepted) k.0 ∙ was.accepted;
-    uncut = ap (λ (z : PrimaryParts D). z.has_cut_over) k.0 ∙ was.uncut;
-    calm = ap (λ (z : PrimaryParts D). z.merges) k.0 ∙ was.calm;
+    uncut = λ none. ap (λ (z : PrimaryParts D). z.has_cut_over) k.0 ∙ was.uncut none;
+    calm = λ none. ap (λ (z : PrimaryParts D). z.merges) k.0 ∙ was.calm none;
     flight = subst (λ (x : Option Publish × List Shown). FlightShows log (publish_in_flight (printed log)) x.0 x.1)
         (λ i. (sym (ap (λ (z : PrimaryParts D). z.publish) k.0) i, sym (ap (λ (z : PrimaryParts D). z.segs) k.0) i)) was.flight;
   }

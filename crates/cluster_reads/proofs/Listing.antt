@@ -43,7 +43,8 @@ use Rattle.history_entries.specs.Commits.{has_committed}
 use Rattle.history_entries.specs.Faults.{has_met_fault}
 use Rattle.history_entries.specs.Rules.{MayHaveName, MayListFiles, has_documents}
 use Rattle.history_entries.specs.Legal.{KeepsRule}
-use Rattle.history_book.specs.Log.{Log, Pages, printed}
+use Rattle.history_book.specs.Log.{Log, printed}
+use Rattle.history_merges.specs.Merging.{Sheet}
 use Rattle.history_book.specs.Laws.{IsFresh}
 use Rattle.cluster_places.specs.declared.held.Held.{Held}
 use Rattle.cluster_places.specs.declared.nodes.Node.{Node}
@@ -227,7 +228,7 @@ module _ {D : Type 0} (cells : D → Cells) where
       → (ended ≡ false → Shows cells log size places) → IsNode r.nodes n → is_running n (printed r.log) ≡ true → HasRunning (place_of places n)
   running_there r ended size n log places view running shows node up = running_place r.log n (place_of places n) up ((was cells r ended size log places view running shows).each n node)
 
-  pub may_tell : (r : Run) (ended : Bool) (b : Pages) (places : List (Option (Place D))) (at : At) (n : NodeNo) (names : List Name) → {left : List ℕ} → record { ended = ended; nodes = b.nodes; log = b.log; calls_left = left } ≡ r → r.ended ≡ false
+  pub may_tell : (r : Run) (ended : Bool) (b : Sheet) (places : List (Option (Place D))) (at : At) (n : NodeNo) (names : List Name) → {left : List ℕ} → record { ended = ended; nodes = b.nodes; log = b.log; calls_left = left } ≡ r → r.ended ≡ false
       → (ended ≡ false → Shows cells b.log b.nodes places × FilesShow cells b.log b.nodes places) → IsFresh at (printed b.log) → IsNode r.nodes n.0 → is_running n.0 (printed r.log) ≡ true → AreNamesAt cells (place_of places n.0) names
       → KeepsRule r.nodes (printed r.log) at (Files n names)
   may_tell r ended b places at n names view running pair fresh node up told =

@@ -18,7 +18,8 @@ use Rattle.history_entries.specs.Tickets.{has_ticket, open_ticket}
 use Rattle.history_entries.specs.Legal.{KeepsRule, IsLegalPast}
 use Rattle.history_tables.specs.declared.tickets.Opening.{Opening}
 use Rattle.history_tables.specs.Openings.{ticket_of}
-use Rattle.history_book.specs.Log.{Log, Pages, printed, shown}
+use Rattle.history_book.specs.Log.{Log, printed, shown}
+use Rattle.history_merges.specs.Merging.{Sheet}
 use Rattle.history_book.specs.Laws.{IsFresh}
 use Rattle.history_book.specs.Turns.{AreInTurn}
 use Rattle.cluster_places.specs.declared.held.Key.{Key}
@@ -40,10 +41,10 @@ use Rattle.cluster_state.proofs.Turning.{fresh_line, past_has}
 
 -- ---- rules
 
-legal_is : (r : Run) (ended : Bool) (b : Pages) → {left : List ℕ} → record { ended = ended; nodes = b.nodes; log = b.log; calls_left = left } ≡ r → IsLegalPast b.nodes (printed b.log) → IsLegalPast r.nodes (printed r.log)
+legal_is : (r : Run) (ended : Bool) (b : Sheet) → {left : List ℕ} → record { ended = ended; nodes = b.nodes; log = b.log; calls_left = left } ≡ r → IsLegalPast b.nodes (printed b.log) → IsLegalPast r.nodes (printed r.log)
 legal_is r ended b view legal = subst (λ (x : Run). IsLegalPast x.nodes (printed x.log)) view legal
 
-pub may_open : (r : Run) (ended : Bool) (b : Pages) (at : At) (n : NodeNo) (t : TicketNo) (v : Version) → {left : List ℕ} → record { ended = ended; nodes = b.nodes; log = b.log; calls_left = left } ≡ r
+pub may_open : (r : Run) (ended : Bool) (b : Sheet) (at : At) (n : NodeNo) (t : TicketNo) (v : Version) → {left : List ℕ} → record { ended = ended; nodes = b.nodes; log = b.log; calls_left = left } ≡ r
     → IsFresh at (printed b.log) → IsNode r.nodes n.0 → is_running n.0 (printed r.log) ≡ true → v.0 ≡ version_of n.0 (printed b.log) → has_ticket at.lane.0 t.0 (printed r.log) ≡ false
     → KeepsRule r.nodes (printed r.log) at (Opened n t v)
 may_open r ended b at n t v view fresh node up version free = record {
@@ -54,23 +55,23 @@ may_open r ended b at n t v view fresh node up version free = record {
   spared = (past_has (IsFresh at) r ended b view fresh).spared;
 }
 
-pub ask_node : (r : Run) (ended : Bool) (b : Pages) (at : At) (t : TicketNo) (o : Opening) → {left : List ℕ} → record { ended = ended; nodes = b.nodes; log = b.log; calls_left = left } ≡ r → IsLegalPast b.nodes (printed b.log)
+pub ask_node : (r : Run) (ended : Bool) (b : Sheet) (at : At) (t : TicketNo) (o : Opening) → {left : List ℕ} → record { ended = ended; nodes = b.nodes; log = b.log; calls_left = left } ≡ r → IsLegalPast b.nodes (printed b.log)
     → open_ticket at.lane.0 t.0 (printed r.log) ≡ Some (ticket_of o) → IsNode r.nodes o.node.0
 ask_node r ended b at t o view legal held = ticket_node r.nodes at.lane.0 t.0 (printed r.log) (ticket_of o) (legal_is r ended b view legal) held
 
-pub may_ask : (r : Run) (ended : Bool) (b : Pages) (at : At) (t : TicketNo) (o : Opening) → {left : List ℕ} → record { ended = ended; nodes = b.nodes; log = b.log; calls_left = left } ≡ r → IsLegalPast b.nodes (printed b.log)
+pub may_ask : (r : Run) (ended : Bool) (b : Sheet) (at : At) (t : TicketNo) (o : Opening) → {left : List ℕ} → record { ended = ended; nodes = b.nodes; log = b.log; calls_left = left } ≡ r → IsLegalPast b.nodes (printed b.log)
     → open_ticket at.lane.0 t.0 (printed r.log) ≡ Some (ticket_of o) → KeepsRule r.nodes (printed r.log) at (Asking o.node t o.version)
 may_ask r ended b at t o view legal held = record {
   node = ask_node r ended b at t o view legal held;
   held = ticket_is at.lane.0 t.0 (printed r.log) (ticket_of o) held;
 }
 
-pub asks_at : (r : Run) (ended : Bool) (b0 b1 : Pages) (at : At) (t : TicketNo) (o : Opening) → {left : List ℕ} → record { ended = ended; nodes = b0.nodes; log = b0.log; calls_left = left } ≡ r → b1.log ≡ b0.log → b1.nodes ≡ b0.nodes
+pub asks_at : (r : Run) (ended : Bool) (b0 b1 : Sheet) (at : At) (t : TicketNo) (o : Opening) → {left : List ℕ} → record { ended = ended; nodes = b0.nodes; log = b0.log; calls_left = left } ≡ r → b1.log ≡ b0.log → b1.nodes ≡ b0.nodes
     → IsLegalPast b0.nodes (printed b0.log) → open_ticket at.lane.0 t.0 (printed r.log) ≡ Some (ticket_of o) → KeepsRule b1.nodes (printed b1.log) at (Asking o.node t o.version)
 asks_at r ended b0 b1 at t o view e1 n1 legal held = rule_at r ended b0 b1 at (Asking o.node t o.version) view e1 n1 (may_ask r ended b0 at t o view legal held)
 
 module _ {D : Type 0} (cells : D → Cells) where
-  opened_path : (r : Run) (ended : Bool) (b0 b1 b2 : Pages) (old mid new : List (Option (Place D))) (at : At) (n : NodeNo) (t : TicketNo) (v : Version) (key : Key) (x y : Place D)
+  opened_path : (r : Run) (ended : Bool) (b0 b1 b2 : Sheet) (old mid new : List (Option (Place D))) (at : At) (n : NodeNo) (t : TicketNo) (v : Version) (key : Key) (x y : Place D)
       → {left : List ℕ} → record { ended = ended; nodes = b0.nodes; log = b0.log; calls_left = left } ≡ r → r.ended ≡ false → (ended ≡ false → Shows cells b0.log b0.nodes old)
       → b1.log ≡ b0.log → b1.nodes ≡ b0.nodes → b2.log ≡ shown at (Opened n t v) ∷ b1.log → b2.nodes ≡ b1.nodes → IsLegalPast b1.nodes (printed b1.log) → AreInTurn (printed b1.log)
       → IsFresh at (printed b0.log) → KeepsRule r.nodes (printed r.log) at (Opened n t v)
@@ -82,7 +83,7 @@ module _ {D : Type 0} (cells : D → Cells) where
       (λ m apart here. line) (λ m apart. refl) (λ m apart. apart) put keeps.node there
       (λ all order was. opened_place cells r.nodes r.log at n t v key x y all order keeps line keeps.searched same more opened searched was)
 
-  pub ticket_path : (r : Run) (ended : Bool) (b0 b1 b2 : Pages) (old mid new : List (Option (Place D))) (at : At) (n : NodeNo) (t : TicketNo) (v : Version) (x y : Place D)
+  pub ticket_path : (r : Run) (ended : Bool) (b0 b1 b2 : Sheet) (old mid new : List (Option (Place D))) (at : At) (n : NodeNo) (t : TicketNo) (v : Version) (x y : Place D)
       → {left : List ℕ} → record { ended = ended; nodes = b0.nodes; log = b0.log; calls_left = left } ≡ r → r.ended ≡ false → (ended ≡ false → Shows cells b0.log b0.nodes old)
       → b1.log ≡ b0.log → b1.nodes ≡ b0.nodes → b2.log ≡ shown at (Opened n t v) ∷ b1.log → b2.nodes ≡ b1.nodes → IsLegalPast b1.nodes (printed b1.log) → AreInTurn (printed b1.log)
       → IsFresh at (printed b0.log) → KeepsRule r.nodes (printed r.log) at (Opened n t v) → t.0 ≢ 0
@@ -92,7 +93,7 @@ module _ {D : Type 0} (cells : D → Cells) where
       opened_path r ended b0 b1 b2 old mid new at n t v (TicketKey at.lane t) x y view running shows e1 n1 e2 n2 legal turns fresh keeps
       (λ lane u w is. ticket_opened (printed r.log) at n t v lane u w some is) (λ a w is. ticket_searched (printed r.log) at n t v a w some is) put there same more
 
-  pub search_path : (r : Run) (ended : Bool) (b0 b1 b2 : Pages) (old mid new : List (Option (Place D))) (at : At) (n : NodeNo) (v : Version) (x y : Place D)
+  pub search_path : (r : Run) (ended : Bool) (b0 b1 b2 : Sheet) (old mid new : List (Option (Place D))) (at : At) (n : NodeNo) (v : Version) (x y : Place D)
       → {left : List ℕ} → record { ended = ended; nodes = b0.nodes; log = b0.log; calls_left = left } ≡ r → r.ended ≡ false → (ended ≡ false → Shows cells b0.log b0.nodes old)
       → b1.log ≡ b0.log → b1.nodes ≡ b0.nodes → b2.log ≡ shown at (Opened n (record { 0 = 0 }) v) ∷ b1.log → b2.nodes ≡ b1.nodes → IsLegalPast b1.nodes (printed b1.log) → AreInTurn (printed b1.log)
       → IsFresh at (printed b0.log) → KeepsRule r.nodes (printed r.log) at (Opened n (record { 0 = 0 }) v)
@@ -102,7 +103,7 @@ module _ {D : Type 0} (cells : D → Cells) where
       (λ lane u w is. search_ticket (printed r.log) at n v lane u w is) (λ a w is. search_opened (printed r.log) at n v a w is) put there same more
 
   -- a ticket was given back
-  pub without_path : (r : Run) (ended : Bool) (b0 b1 b2 : Pages) (old mid new : List (Option (Place D))) (at : At) (e : Event) (n : ℕ) (key : Key) (x y : Place D)
+  pub without_path : (r : Run) (ended : Bool) (b0 b1 b2 : Sheet) (old mid new : List (Option (Place D))) (at : At) (e : Event) (n : ℕ) (key : Key) (x y : Place D)
       → {left : List ℕ} → record { ended = ended; nodes = b0.nodes; log = b0.log; calls_left = left } ≡ r → r.ended ≡ false → (ended ≡ false → Shows cells b0.log b0.nodes old)
       → b1.log ≡ b0.log → b1.nodes ≡ b0.nodes → b2.log ≡ shown at e ∷ b1.log → b2.nodes ≡ b1.nodes → IsLegalPast b1.nodes (printed b1.log) → AreInTurn (printed b1.log)
       → KeepsRule r.nodes (printed r.log) at e → start_entry at (printed r.log) ≢ Some Publishing → ((p : Option NodeNo) (m : ℕ) → moves e p m ≡ false) → ((m : ℕ) → moves_tickets e m ≡ false)
@@ -141,20 +142,20 @@ module _ {D : Type 0} (cells : D → Cells) where
 
   -- ---- a search of a ticket
 
-  pub ask_held : (r : Run) (ended : Bool) (b : Pages) (places : List (Option (Place D))) (at : At) (t : TicketNo) (o : Opening) → {left : List ℕ} → record { ended = ended; nodes = b.nodes; log = b.log; calls_left = left } ≡ r → r.ended ≡ false
+  pub ask_held : (r : Run) (ended : Bool) (b : Sheet) (places : List (Option (Place D))) (at : At) (t : TicketNo) (o : Opening) → {left : List ℕ} → record { ended = ended; nodes = b.nodes; log = b.log; calls_left = left } ≡ r → r.ended ≡ false
       → (ended ≡ false → Shows cells b.log b.nodes places) → IsLegalPast b.nodes (printed b.log) → open_ticket at.lane.0 t.0 (printed r.log) ≡ Some (ticket_of o) → HoldsTicket (place_of places o.node.0) (TicketKey at.lane t)
   ask_held r ended b places at t o view running shows legal held =
       ticket_held cells r.log o.node.0 at.lane.0 t.0 o.version.0 (place_of places o.node.0)
       ((was cells r ended b.nodes b.log places view running shows).each o.node.0 (ask_node r ended b at t o view legal held)) (ticket_is at.lane.0 t.0 (printed r.log) (ticket_of o) held)
 
-  pub ask_reads : (r : Run) (ended : Bool) (b : Pages) (places : List (Option (Place D))) (at : At) (t : TicketNo) (o : Opening) (lease : Lease Shown) → {left : List ℕ} → record { ended = ended; nodes = b.nodes; log = b.log; calls_left = left } ≡ r → r.ended ≡ false
+  pub ask_reads : (r : Run) (ended : Bool) (b : Sheet) (places : List (Option (Place D))) (at : At) (t : TicketNo) (o : Opening) (lease : Lease Shown) → {left : List ℕ} → record { ended = ended; nodes = b.nodes; log = b.log; calls_left = left } ≡ r → r.ended ≡ false
       → (ended ≡ false → Shows cells b.log b.nodes places) → IsLegalPast b.nodes (printed b.log) → open_ticket at.lane.0 t.0 (printed r.log) ≡ Some (ticket_of o) → IsLeaseUnder (place_of places o.node.0) (TicketKey at.lane t) lease
       → ReadsAt (printed r.log) o.version.0 lease
   ask_reads r ended b places at t o lease view running shows legal held under =
       ticket_reads cells r.log o.node.0 at.lane.0 t.0 o.version.0 lease (place_of places o.node.0)
       ((was cells r ended b.nodes b.log places view running shows).each o.node.0 (ask_node r ended b at t o view legal held)) (ticket_is at.lane.0 t.0 (printed r.log) (ticket_of o) held) under
 
-  pub ask_path : (r : Run) (ended : Bool) (b0 b1 b2 : Pages) (places : List (Option (Place D))) (at : At) (t : TicketNo) (o : Opening)
+  pub ask_path : (r : Run) (ended : Bool) (b0 b1 b2 : Sheet) (places : List (Option (Place D))) (at : At) (t : TicketNo) (o : Opening)
       → {left : List ℕ} → record { ended = ended; nodes = b0.nodes; log = b0.log; calls_left = left } ≡ r → r.ended ≡ false → (ended ≡ false → Shows cells b0.log b0.nodes places)
       → b1.log ≡ b0.log → b1.nodes ≡ b0.nodes → b2.log ≡ shown at (Asking o.node t o.version) ∷ b1.log → b2.nodes ≡ b1.nodes → IsLegalPast b0.nodes (printed b0.log) → AreInTurn (printed b0.log)
       → IsLegalPast b1.nodes (printed b1.log) → AreInTurn (printed b1.log) → IsFresh at (printed b0.log) → open_ticket at.lane.0 t.0 (printed r.log) ≡ Some (ticket_of o) → Shows cells b2.log b2.nodes places

@@ -29,7 +29,8 @@ pub fn list_files<D: FaultDir + Drop>(
     ensures ok { OnOk result (TellsFiles at n cluster.old cluster.new) }
     ensures err { OnErr result (IsEnded cluster.old cluster.new) }
 {
-    cluster.book.is_fresh(at);
+    let book = cluster.ledger.book();
+    book.is_fresh(at);
     cluster.is_apart(at);
     cluster.has_no_commit(at);
     let names = match names_in(alloc, &cluster.places, n) {

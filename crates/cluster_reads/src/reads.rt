@@ -44,16 +44,17 @@ pub fn open_ticket<D: FaultDir + Drop>(
         (record { 0 = version_of n.0 (printed cluster.old.log) })) ∷ cluster.old.log)) }
     ensures err { OnErr result (IsEnded cluster.old cluster.new) }
 {
-    cluster.book.is_fresh(at);
-    let v = Version(cluster.book.version(n));
+    let book = cluster.ledger.book();
+    book.is_fresh(at);
+    let v = Version(book.version(n));
     cluster.ended = true;
-    cluster.book.reserve(1)?;
+    cluster.ledger.reserve(1)?;
     let key = Key::Ticket { lane: at.lane, t };
     let mut place = take(&mut cluster.places, n);
     let holding = hold_ticket(alloc, &mut place, key);
     put(&mut cluster.places, n, place);
     holding?;
-    cluster.book.show(at, Event::Opened { n, t, v });
+    cluster.ledger.show(at, Event::Opened { n, t, v });
     cluster.ended = false;
     Ok(())
 }
@@ -78,18 +79,19 @@ pub fn open_search<D: FaultDir + Drop>(
         (version_of n.0 (printed cluster.old.log))) }
     ensures err { OnErr result (IsEnded cluster.old cluster.new) }
 {
-    cluster.book.is_fresh(at);
-    let v = Version(cluster.book.version(n));
+    let book = cluster.ledger.book();
+    book.is_fresh(at);
+    let v = Version(book.version(n));
     let key = Key::Search { at };
     cluster.ended = true;
-    cluster.book.reserve(1)?;
+    cluster.ledger.reserve(1)?;
     let mut place = take(&mut cluster.places, n);
     let holding = hold_ticket(alloc, &mut place, key);
     put(&mut cluster.places, n, place);
     holding?;
     let lease = lease_in(alloc, &cluster.places, n, key)?;
     let t = TicketNo(0);
-    cluster.book.show(at, Event::Opened { n, t, v });
+    cluster.ledger.show(at, Event::Opened { n, t, v });
     cluster.ended = false;
     Ok(lease)
 }
@@ -112,8 +114,9 @@ pub fn ask_ticket<D: FaultDir + Drop>(
     ensures lease { IfOk result (ReadsAt (printed cluster.old.log) opening.version.0) }
     ensures err { OnErr result (IsEnded cluster.old cluster.new) }
 {
-    cluster.book.is_fresh(at);
-    cluster.book.is_legal();
+    let book = cluster.ledger.book();
+    book.is_fresh(at);
+    book.is_legal();
     let Opening {
         node: n,
         version: v,
@@ -121,9 +124,9 @@ pub fn ask_ticket<D: FaultDir + Drop>(
     } = opening;
     let key = Key::Ticket { lane: at.lane, t };
     cluster.ended = true;
-    cluster.book.reserve(1)?;
+    cluster.ledger.reserve(1)?;
     let lease = lease_in(alloc, &cluster.places, n, key)?;
-    cluster.book.show(at, Event::Asking { n, t, v });
+    cluster.ledger.show(at, Event::Asking { n, t, v });
     cluster.ended = false;
     Ok(lease)
 }
@@ -156,11 +159,11 @@ pub fn note_without<D: FaultDir + Drop>(
     ensures err { OnErr result (IsEnded cluster.old cluster.new) }
 {
     cluster.ended = true;
-    cluster.book.reserve(1)?;
+    cluster.ledger.reserve(1)?;
     let mut place = take(&mut cluster.places, n);
     give_ticket_back(&mut place, key);
     put(&mut cluster.places, n, place);
-    cluster.book.show(at, event);
+    cluster.ledger.show(at, event);
     cluster.ended = false;
     Ok(())
 }

@@ -225,12 +225,12 @@ module _ {D : Type 0} (cells : D → Cells) where
         version = refl;
         counter = refl;
         few = omega arith;
-        live = All-nil (λ (r : SegRecord). 0 < r.live);
+        live = λ none. All-nil (λ (r : SegRecord). 0 < r.live);
       });
       waiting = opened.waiting;
       accepted = opened.accepted;
-      uncut = opened.has_cut_over;
-      calm = opened.merges;
+      uncut = λ none. opened.has_cut_over;
+      calm = λ none. opened.merges;
       flight = opened.publish;
     }
       where

@@ -12,7 +12,7 @@ ghost use Rattle.cluster_state.specs.Names.{NamesShow};
 use cluster_places::{Node, Place};
 use cluster_state::ClusterState;
 use disk_model::{Dir, FaultDir};
-use history_book::Book;
+use history_merges::Ledger;
 use index_primary::Primary;
 use nrt_base::NoMemory;
 use replica_node::{NodeParts, Replica};
@@ -94,11 +94,11 @@ pub fn start_cluster<D: FaultDir + Drop>(
     ensures nodes { IfOk result (λ c. c.nodes ≡ length dirs.items) }
     ensures log { IfOk result (λ c. c.log ≡ []) }
 {
-    let book = Book::new(alloc, dirs.len() as u8)?;
+    let ledger = Ledger::new(alloc, dirs.len() as u8)?;
     let places = first_places(alloc, dirs)?;
     let ended = false;
     Ok(ClusterState {
-        book,
+        ledger,
         places,
         ended,
     })

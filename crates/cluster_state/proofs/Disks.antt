@@ -18,7 +18,8 @@ use Rattle.history_entries.specs.Commits.{has_committed, late_commit, more_by, r
 use Rattle.history_entries.specs.Legal.{KeepsRule, IsLegalPast}
 use Rattle.history_tables.proofs.RowLemmas.{by_test, same_at_is}
 use Rattle.history_book.specs.Laws.{may_find}
-use Rattle.history_book.specs.Log.{Log, Pages, printed}
+use Rattle.history_book.specs.Log.{Log, printed}
+use Rattle.history_merges.specs.Merging.{Sheet}
 use Rattle.history_book.specs.Turns.{StartsOnce, InTurn, AreInTurn}
 use Rattle.history_book.proofs.FoundLaws.{commit_found}
 use Rattle.cluster_places.specs.declared.nodes.Node.{Node}
@@ -104,7 +105,7 @@ module _ (past : Past) (at : At) (n : ℕ) where
   }
 
 -- in the terms of a call
-pub none_flying : (r : Run) (ended : Bool) (b : Pages) (at : At) → {left : List ℕ} → record { ended = ended; nodes = b.nodes; log = b.log; calls_left = left } ≡ r → IsLegalPast b.nodes (printed b.log) → AreInTurn (printed b.log) → is_commit_line (start_entry at (printed r.log)) ≡ false
+pub none_flying : (r : Run) (ended : Bool) (b : Sheet) (at : At) → {left : List ℕ} → record { ended = ended; nodes = b.nodes; log = b.log; calls_left = left } ≡ r → IsLegalPast b.nodes (printed b.log) → AreInTurn (printed b.log) → is_commit_line (start_entry at (printed r.log)) ≡ false
     → (m : ℕ) → commit_in_flight m (printed r.log) ≢ Some at
 none_flying r ended b at view legal turns line = no_commit r.nodes (printed r.log) at (subst (λ (x : Run). IsLegalPast x.nodes (printed x.log)) view legal) (subst (λ (x : Run). AreInTurn (printed x.log)) view turns) line
 

@@ -25,7 +25,8 @@ use Rattle.history_entries.specs.Lines.{start_entry, before_start, commit_in_fli
 use Rattle.history_entries.specs.Legal.{KeepsRule, IsLegalPast}
 use Rattle.history_tables.proofs.RowLemmas.{by_test}
 use Rattle.history_tables.specs.declared.jobs.Job.{Job}
-use Rattle.history_book.specs.Log.{Log, Pages, printed, shown, kept}
+use Rattle.history_book.specs.Log.{Log, printed, shown, kept}
+use Rattle.history_merges.specs.Merging.{Sheet}
 use Rattle.history_book.specs.declared.inner.Inner.{Inner}
 use Rattle.history_book.specs.declared.inner.Inner.TheVariants.{FlushOut}
 use Rattle.history_book.specs.Jobs.{job_at}
@@ -323,13 +324,13 @@ module _ {D : Type 0} (cells : D → Cells) where
   files_is log now size size' places e f s = subst (λ (x : Log × ℕ). FilesShow cells x.0 x.1 places) (λ i. (sym e i, sym f i)) s
 
   -- what a call knows of the past
-  pub record Before (r : Run) (b : Pages) : Type 0 where
+  pub record Before (r : Run) (b : Sheet) : Type 0 where
     pub log : b.log ≡ r.log
     pub size : b.nodes ≡ r.nodes
     pub legal : IsLegalPast r.nodes (printed r.log)
     pub turns : AreInTurn (printed r.log)
 
-  pub before : (r : Run) (ended : Bool) (b0 b1 : Pages) → {left : List ℕ} → record { ended = ended; nodes = b0.nodes; log = b0.log; calls_left = left } ≡ r → b1.log ≡ b0.log → b1.nodes ≡ b0.nodes → IsLegalPast b1.nodes (printed b1.log) → AreInTurn (printed b1.log) → Before r b1
+  pub before : (r : Run) (ended : Bool) (b0 b1 : Sheet) → {left : List ℕ} → record { ended = ended; nodes = b0.nodes; log = b0.log; calls_left = left } ≡ r → b1.log ≡ b0.log → b1.nodes ≡ b0.nodes → IsLegalPast b1.nodes (printed b1.log) → AreInTurn (printed b1.log) → Before r b1
   before r ended b0 b1 view e1 n1 legal turns =
       let log : b1.log ≡ r.log = e1 ∙ ap (λ (x : Run). x.log) view in
       let size : b1.nodes ≡ r.nodes = n1 ∙ ap (λ (x : Run). x.nodes) view in
@@ -341,12 +342,12 @@ module _ {D : Type 0} (cells : D → Cells) where
       }
 
   -- a line that has not started has no commit in flight
-  pub flights_of : (r : Run) (ended : Bool) (b0 b1 : Pages) (at : At) → {left : List ℕ} → record { ended = ended; nodes = b0.nodes; log = b0.log; calls_left = left } ≡ r → b1.log ≡ b0.log → b1.nodes ≡ b0.nodes → IsLegalPast b1.nodes (printed b1.log) → AreInTurn (printed b1.log)
+  pub flights_of : (r : Run) (ended : Bool) (b0 b1 : Sheet) (at : At) → {left : List ℕ} → record { ended = ended; nodes = b0.nodes; log = b0.log; calls_left = left } ≡ r → b1.log ≡ b0.log → b1.nodes ≡ b0.nodes → IsLegalPast b1.nodes (printed b1.log) → AreInTurn (printed b1.log)
       → start_entry at (printed r.log) ≡ None → (m : ℕ) → commit_in_flight m (printed r.log) ≢ Some at
   flights_of r ended b0 b1 at view e1 n1 legal turns none = let b = before r ended b0 b1 view e1 n1 legal turns in fresh_flights r.nodes (printed r.log) at b.legal b.turns none
 
   -- the entry that a call appended moved no place
-  pub files_noted : (r : Run) (ended : Bool) (b0 b1 b2 : Pages) (places : List (Option (Place D))) (at : At) (e : Event)
+  pub files_noted : (r : Run) (ended : Bool) (b0 b1 b2 : Sheet) (places : List (Option (Place D))) (at : At) (e : Event)
       → {left : List ℕ} → record { ended = ended; nodes = b0.nodes; log = b0.log; calls_left = left } ≡ r → r.ended ≡ false → (ended ≡ false → Shows cells b0.log b0.nodes places) → (ended ≡ false → FilesShow cells b0.log b0.nodes places)
       → b1.log ≡ b0.log → b1.nodes ≡ b0.nodes → b2.log ≡ shown at e ∷ b1.log → b2.nodes ≡ b1.nodes → IsLegalPast b1.nodes (printed b1.log) → AreInTurn (printed b1.log)
       → KeepsRule r.nodes (printed r.log) at e → InTurn (printed r.log) at e → ((m : ℕ) → keeps_jobs e m ≡ true)
@@ -359,7 +360,7 @@ module _ {D : Type 0} (cells : D → Cells) where
       (was cells r ended b0.nodes b0.log places view running shows) (files_was r ended b0.nodes b0.log places view running files))
 
   -- it moved one, of which the node's call left the files and the job
-  pub files_moved : (r : Run) (ended : Bool) (b0 b1 b2 : Pages) (old mid new : List (Option (Place D))) (at : At) (e : Event) (n : ℕ) (x y : Place D)
+  pub files_moved : (r : Run) (ended : Bool) (b0 b1 b2 : Sheet) (old mid new : List (Option (Place D))) (at : At) (e : Event) (n : ℕ) (x y : Place D)
       → {left : List ℕ} → record { ended = ended; nodes = b0.nodes; log = b0.log; calls_left = left } ≡ r → r.ended ≡ false → (ended ≡ false → Shows cells b0.log b0.nodes old) → (ended ≡ false → FilesShow cells b0.log b0.nodes old)
       → b1.log ≡ b0.log → b1.nodes ≡ b0.nodes → b2.log ≡ shown at e ∷ b1.log → b2.nodes ≡ b1.nodes → IsLegalPast b1.nodes (printed b1.log) → AreInTurn (printed b1.log)
       → KeepsRule r.nodes (printed r.log) at e → InTurn (printed r.log) at e → ((m : ℕ) → keeps_jobs e m ≡ true)
@@ -372,7 +373,7 @@ module _ {D : Type 0} (cells : D → Cells) where
       (was cells r ended b0.nodes b0.log old view running shows) (files_was r ended b0.nodes b0.log old view running files))
 
   -- the start of a publish, which is handed out
-  pub files_started : (r : Run) (ended : Bool) (b0 b1 b2 b3 : Pages) (old mid new : List (Option (Place D))) (at : At) (seg : Option SegNo) (segs : List Shown) (n : ℕ) (x y : Place D)
+  pub files_started : (r : Run) (ended : Bool) (b0 b1 b2 b3 : Sheet) (old mid new : List (Option (Place D))) (at : At) (seg : Option SegNo) (segs : List Shown) (n : ℕ) (x y : Place D)
       → {left : List ℕ} → record { ended = ended; nodes = b0.nodes; log = b0.log; calls_left = left } ≡ r → r.ended ≡ false → (ended ≡ false → Shows cells b0.log b0.nodes old) → (ended ≡ false → FilesShow cells b0.log b0.nodes old)
       → b1.log ≡ b0.log → b1.nodes ≡ b0.nodes → b2.log ≡ shown at Publishing ∷ b1.log → b2.nodes ≡ b1.nodes → IsLegalPast b1.nodes (printed b1.log) → AreInTurn (printed b1.log)
       → b3.log ≡ kept (FlushOut at seg segs) ∷ b2.log → b3.nodes ≡ b2.nodes
@@ -390,7 +391,7 @@ module _ {D : Type 0} (cells : D → Cells) where
       (was cells r ended b0.nodes b0.log old view running shows) (files_was r ended b0.nodes b0.log old view running files))
 
   -- the end of a publish, which wrote files
-  pub files_published : (r : Run) (ended : Bool) (b0 b1 b2 : Pages) (old mid new : List (Option (Place D))) (at : At) (g : Gen) (v : Version) (n : NodeNo) (p q : PrimaryParts D) (held : Vec Held Global)
+  pub files_published : (r : Run) (ended : Bool) (b0 b1 b2 : Sheet) (old mid new : List (Option (Place D))) (at : At) (g : Gen) (v : Version) (n : NodeNo) (p q : PrimaryParts D) (held : Vec Held Global)
       → {left : List ℕ} → record { ended = ended; nodes = b0.nodes; log = b0.log; calls_left = left } ≡ r → r.ended ≡ false → (ended ≡ false → Shows cells b0.log b0.nodes old) → (ended ≡ false → FilesShow cells b0.log b0.nodes old)
       → b1.log ≡ b0.log → b1.nodes ≡ b0.nodes → b2.log ≡ shown at (Published g v) ∷ b1.log → b2.nodes ≡ b1.nodes → IsLegalPast b1.nodes (printed b1.log) → AreInTurn (printed b1.log)
       → KeepsRule r.nodes (printed r.log) at (Published g v) → InTurn (printed r.log) at (Published g v) → primary_of (printed r.log) ≡ Some n

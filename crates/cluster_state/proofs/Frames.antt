@@ -20,7 +20,8 @@ use Rattle.history_entries.specs.Lines.{same_at, is_start, start_entry, publish_
 use Rattle.history_entries.specs.Points.{documents_at, cut_of}
 use Rattle.history_entries.specs.Legal.{KeepsRule, IsLegalPast}
 use Rattle.history_tables.proofs.RowLemmas.{by_test}
-use Rattle.history_book.specs.Log.{Log, Pages, printed, shown, kept}
+use Rattle.history_book.specs.Log.{Log, printed, shown, kept}
+use Rattle.history_merges.specs.Merging.{Sheet}
 use Rattle.history_book.specs.declared.inner.Inner.TheVariants.{FlushOut}
 use Rattle.nrt_base.specs.declared.numbers.SegNo.{SegNo}
 use Rattle.history_book.specs.Turns.{AreInTurn}
@@ -82,7 +83,7 @@ writes_more past now infos segs g s was =
       version = was.version ∙ sym s.newest;
       counter = was.counter ∙ sym s.names;
       few = subst (λ (k : ℕ). length infos.segs ≤ k) (sym s.puts) was.few;
-      live = was.live;
+      live = λ none. was.live (sym s.merges ∙ none);
     }
 
 -- what was handed out stays so
@@ -106,7 +107,7 @@ flight_same log now publish segs s out was =
 -- ---- rules, in the terms of a call
 
 -- the rule of an entry at what a call has of the book after it made room
-pub rule_at : (r : Run) (ended : Bool) (b0 b1 : Pages) (at : At) (e : Event) → {left : List ℕ} → record { ended = ended; nodes = b0.nodes; log = b0.log; calls_left = left } ≡ r
+pub rule_at : (r : Run) (ended : Bool) (b0 b1 : Sheet) (at : At) (e : Event) → {left : List ℕ} → record { ended = ended; nodes = b0.nodes; log = b0.log; calls_left = left } ≡ r
     → b1.log ≡ b0.log → b1.nodes ≡ b0.nodes → KeepsRule r.nodes (printed r.log) at e → KeepsRule b1.nodes (printed b1.log) at e
 rule_at r ended b0 b1 at e view same_log same_size keeps =
     let log : b1.log ≡ r.log = same_log ∙ ap (λ (x : Run). x.log) view in
@@ -127,8 +128,8 @@ module _ {D : Type 0} (cells : D → Cells) where
         writer = writes_more (printed log) (printed now) p.infos p.segs s.lasts writer was.writer;
         waiting = was.waiting ∙ sym (cut_same (printed log) (printed now) writer);
         accepted = was.accepted ∙ ap (λ (ops : List Op). length ops) (sym writer.operations);
-        uncut = was.uncut;
-        calm = was.calm;
+        uncut = λ none. was.uncut (sym writer.merges ∙ none);
+        calm = λ none. was.calm (sym writer.merges ∙ none);
         flight = flight_same log now p.publish p.segs (s.flight was.primary) out was.flight;
       }
 
@@ -208,7 +209,7 @@ module _ {D : Type 0} (cells : D → Cells) where
   now_is log now size size' places e f s = subst (λ (x : Log × ℕ). Shows cells x.0 x.1 places) (λ i. (sym e i, sym f i)) s
 
   -- the entry that a call appended moved no place
-  pub noted : (r : Run) (ended : Bool) (b0 b1 b2 : Pages) (places : List (Option (Place D))) (at : At) (e : Event)
+  pub noted : (r : Run) (ended : Bool) (b0 b1 b2 : Sheet) (places : List (Option (Place D))) (at : At) (e : Event)
       → {left : List ℕ} → record { ended = ended; nodes = b0.nodes; log = b0.log; calls_left = left } ≡ r → r.ended ≡ false → (ended ≡ false → Shows cells b0.log b0.nodes places)
       → b1.log ≡ b0.log → b1.nodes ≡ b0.nodes → b2.log ≡ shown at e ∷ b1.log → b2.nodes ≡ b1.nodes → IsLegalPast b1.nodes (printed b1.log) → AreInTurn (printed b1.log)
       → KeepsRule r.nodes (printed r.log) at e → publish_in_flight (printed r.log) ≢ Some at → ((p : Option NodeNo) (m : ℕ) → moves e p m ≡ false) → ((m : ℕ) → moves_tickets e m ≡ false)
@@ -225,7 +226,7 @@ module _ {D : Type 0} (cells : D → Cells) where
       (λ a none. s.handed a (start_back a (record { at = at; event = e }) (printed r.log) none)) s)
 
   -- the entry that a call appended moved one place
-  pub moved_at : (r : Run) (ended : Bool) (b0 b1 b2 : Pages) (old mid new : List (Option (Place D))) (at : At) (e : Event) (n : ℕ) (x y : Place D)
+  pub moved_at : (r : Run) (ended : Bool) (b0 b1 b2 : Sheet) (old mid new : List (Option (Place D))) (at : At) (e : Event) (n : ℕ) (x y : Place D)
       → {left : List ℕ} → record { ended = ended; nodes = b0.nodes; log = b0.log; calls_left = left } ≡ r → r.ended ≡ false → (ended ≡ false → Shows cells b0.log b0.nodes old)
       → b1.log ≡ b0.log → b1.nodes ≡ b0.nodes → b2.log ≡ shown at e ∷ b1.log → b2.nodes ≡ b1.nodes → IsLegalPast b1.nodes (printed b1.log) → AreInTurn (printed b1.log)
       → KeepsRule r.nodes (printed r.log) at e
@@ -259,7 +260,7 @@ module _ {D : Type 0} (cells : D → Cells) where
       go false got = ap (λ (o : Option Handed). or_older o None) (was a got)
 
   -- the entry that starts a publish moved the primary's place, and what is handed out stands behind it
-  pub moved_out : (r : Run) (ended : Bool) (b0 b1 b2 b3 : Pages) (old mid new : List (Option (Place D))) (at : At) (seg : Option SegNo) (segs : List Shown) (n : ℕ) (x y : Place D)
+  pub moved_out : (r : Run) (ended : Bool) (b0 b1 b2 b3 : Sheet) (old mid new : List (Option (Place D))) (at : At) (seg : Option SegNo) (segs : List Shown) (n : ℕ) (x y : Place D)
       → {left : List ℕ} → record { ended = ended; nodes = b0.nodes; log = b0.log; calls_left = left } ≡ r → r.ended ≡ false → (ended ≡ false → Shows cells b0.log b0.nodes old)
       → b1.log ≡ b0.log → b1.nodes ≡ b0.nodes → b2.log ≡ shown at Publishing ∷ b1.log → b2.nodes ≡ b1.nodes → IsLegalPast b1.nodes (printed b1.log) → AreInTurn (printed b1.log)
       → b3.log ≡ kept (FlushOut at seg segs) ∷ b2.log → b3.nodes ≡ b2.nodes

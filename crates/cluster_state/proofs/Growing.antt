@@ -228,7 +228,7 @@ writes_same size n past at Publishing keeps other here = nobody_writes past _ n 
 writes_same size n past at (Published g w) keeps other here = nobody_writes past _ n here other
 writes_same size n past at (Merging seg) keeps other here = nobody_writes past _ n here other
 writes_same size n past at (Promoted m g f w) keeps other here = nobody_writes past _ n here (ap (λ (p : Option NodeNo). is_at p n) keeps.vacant)
-writes_same size n past at e keeps other here = record { newest = refl; generation = refl; names = refl; operations = refl; published = refl; puts = refl }
+writes_same size n past at e keeps other here = record { newest = refl; generation = refl; names = refl; operations = refl; published = refl; puts = refl; merges = refl }
 
 pub same : (size n : ℕ) (past : Past) (at : At) (e : Event) → IsLegalPast size past → AreInTurn past → KeepsRule size past at e
     → (is_at (primary_of past) n ≡ true → publish_in_flight past ≢ Some at) → moves e (primary_of past) n ≡ false → Same past (record { at = at; event = e } ∷ past) n

@@ -26,7 +26,7 @@ same_none past n = record {
   running = refl;
   primary = refl;
   version = refl;
-  writer = λ here. record { newest = refl; generation = refl; names = refl; operations = refl; published = refl; puts = refl };
+  writer = λ here. record { newest = refl; generation = refl; names = refl; operations = refl; published = refl; puts = refl; merges = refl };
   flight = λ here. record { flight = refl; start = λ at is. refl };
 }
 
@@ -59,8 +59,8 @@ module _ {D : Type 0} (cells : D → Cells) where
     writer = subst (λ (x : PrimaryParts D). WritesAt (printed log) x.infos x.segs) (sym alters.others) was.writer;
     waiting = ap (λ (x : PrimaryParts D). x.waiting) alters.others ∙ was.waiting;
     accepted = ap (λ (x : PrimaryParts D). x.accepted) alters.others ∙ was.accepted;
-    uncut = ap (λ (x : PrimaryParts D). x.has_cut_over) alters.others ∙ was.uncut;
-    calm = ap (λ (x : PrimaryParts D). x.merges) alters.others ∙ was.calm;
+    uncut = λ none. ap (λ (x : PrimaryParts D). x.has_cut_over) alters.others ∙ was.uncut none;
+    calm = λ none. ap (λ (x : PrimaryParts D). x.merges) alters.others ∙ was.calm none;
     flight = subst (λ (x : PrimaryParts D). FlightShows log (publish_in_flight (printed log)) x.publish x.segs) (sym alters.others) was.flight;
   }
 

@@ -17,3 +17,4 @@ mod Lasting
 mod Living
 pub mod Points
 pub mod Reigning
+pub mod Ledgers

@@ -43,7 +43,7 @@ opening_stands reads infos is = subst (λ (i : Infos). StandsFor reads i []) (sy
 pub opening_writable : (past : Past) (infos : Infos) → infos ≡ opening_infos → IsWritable past infos
 opening_writable past infos is = subst (λ (i : Infos). IsWritable past i) (sym is) (record {
   few = omega arith;
-  live = All-nil (λ (r : SegRecord). 0 < r.live);
+  live = λ none. All-nil (λ (r : SegRecord). 0 < r.live);
   numbered = empty_numbered opening_infos refl (omega arith) (omega arith);
 })
 

@@ -7,10 +7,11 @@ use Rattle.segment_infos.specs.declared.infos.Infos.{Infos}
 use Rattle.seg_reader.specs.Stands.{StandsFor}
 use Rattle.primary_parts.specs.Held.{AreNumbered}
 use Rattle.history_entries.specs.declared.entry.Event.{Event}
-use Rattle.history_entries.specs.declared.entry.Event.TheVariants.{Published, Promoted}
+use Rattle.history_entries.specs.declared.entry.Event.TheVariants.{Published, Merging, Promoted}
 use Rattle.history_entries.specs.Nodes.{Past, newest_version}
 use Rattle.history_entries.specs.Lines.{before_start}
 use Rattle.history_entries.specs.Points.{cut_has_put}
+use Rattle.history_entries.specs.Tasks.{merge_count}
 use Rattle.history_entries.specs.Legal.{KeepsRule, IsLegalPast}
 use Rattle.history_laws.proofs.PointLemmas.{documents_stay_lem}
 use Rattle.script_serving.specs.Refusals.{put_publishes}
@@ -22,7 +23,7 @@ use Rattle.cluster_state.proofs.Drawn.{put_more}
 
 -- nothing happened
 pub points_alone : (past : Past) → PointsStay past past
-points_alone past = record { newest = omega arith; generation = omega arith; puts = omega arith; documents = λ v low. refl }
+points_alone past = record { newest = omega arith; generation = omega arith; puts = omega arith; merges = omega arith; documents = λ v low. refl }
 
 -- two steps in a row
 pub points_then : (past mid now : Past) → PointsStay past mid → PointsStay mid now → PointsStay past now
@@ -30,6 +31,7 @@ points_then past mid now a b = record {
   newest = omega (arith, a.newest, b.newest);
   generation = omega (arith, a.generation, b.generation);
   puts = omega (arith, a.puts, b.puts);
+  merges = omega (arith, a.merges, b.merges);
   documents = λ v low. b.documents v (omega (arith, low, a.newest)) ∙ a.documents v low;
 }
 
@@ -42,19 +44,24 @@ puts_more : (past : Past) (at : At) (e : Event) → put_publishes past ≤ put_p
 puts_more past at (Published g w) = put_more (cut_has_put (before_start at past)) (put_publishes past)
 puts_more past at e = omega arith
 
+merges_more : (past : Past) (at : At) (e : Event) → merge_count past ≤ merge_count (record { at = at; event = e } ∷ past)
+merges_more past at (Merging seg) = omega arith
+merges_more past at e = omega arith
+
 -- one entry more
 pub points_shown : (size : ℕ) (past : Past) (at : At) (e : Event) → IsLegalPast size past → KeepsRule size past at e → PointsStay past (record { at = at; event = e } ∷ past)
 points_shown size past at e legal rule = record {
   newest = newest_more past at e;
   generation = generation_more size past at e rule;
   puts = puts_more past at e;
+  merges = merges_more past at e;
   documents = λ v low. documents_stay_lem size (record { at = at; event = e } ∷ []) past v (rule, legal) low;
 }
 
 -- ---- points
 
-pub writable_stays : (past now : Past) (infos : Infos) → put_publishes past ≤ put_publishes now → IsWritable past infos → IsWritable now infos
-writable_stays past now infos more was = record { few = omega (arith, was.few, more); live = was.live; numbered = was.numbered }
+pub writable_stays : (past now : Past) (infos : Infos) → put_publishes past ≤ put_publishes now → merge_count past ≤ merge_count now → IsWritable past infos → IsWritable now infos
+writable_stays past now infos more merges was = record { few = omega (arith, was.few, more); live = λ none. was.live (omega (arith, none, merges)); numbered = was.numbered }
 
 -- a point of the history stays one
 pub point_stays : (source : Name → Content) (past now : Past) (infos : Infos) → PointsStay past now → IsPastPoint source past infos → IsPastPoint source now infos
@@ -62,7 +69,7 @@ point_stays source past now infos stay was = record {
   known = omega (arith, was.known, stay.newest);
   generation = omega (arith, was.generation, stay.generation);
   stands = subst (λ (docs : List Doc). StandsFor source infos docs) (sym (stay.documents infos.version.0 was.known)) was.stands;
-  writable = writable_stays past now infos stay.puts was.writable;
+  writable = writable_stays past now infos stay.puts stay.merges was.writable;
 }
 
 -- what a primary may write from, without the segments that have no file yet

@@ -21,16 +21,17 @@ use Rattle.history_entries.specs.Nodes.{Past, IsNode, generation_of, newest_vers
 use Rattle.history_entries.specs.Lines.{start_entry, commit_in_flight}
 use Rattle.history_entries.specs.Points.{documents_at}
 use Rattle.history_entries.specs.Commits.{has_committed}
+use Rattle.history_entries.specs.Tasks.{merge_count}
 use Rattle.history_book.specs.Laws.{may_find}
 use Rattle.history_book.specs.Log.{Log, printed}
 use Rattle.cluster_places.specs.declared.nodes.Place.{Place}
 use Rattle.cluster_places.specs.Places.{Disk, place_of, disk_at}
 
--- what a writer needs of a point to go on from it: no more segments than publishes had puts, each with a live row, and numbers that
--- are drawn
+-- what a writer needs of a point to go on from it: no more segments than publishes had puts, each with a live row where no merge was
+-- started, and numbers that are drawn
 pub record IsWritable (past : Past) (infos : Infos) : Type 0 where
   pub few : length infos.segs ≤ put_publishes past
-  pub live : All (λ r. 0 < r.live) infos.segs
+  pub live : merge_count past ≡ 0 → All (λ r. 0 < r.live) infos.segs
   pub numbered : AreNumbered infos []
 
 -- a point of the history: no newer than the newest, of no later generation, of the documents of its version, and one that a writer may
@@ -93,11 +94,13 @@ module _ {D : Type 0} where
   abbrev pub DisksShow : (Name → Content) → (D → Cells) → Log → ℕ → List (Option (Place D)) → Type 0
   DisksShow source cells log size places = (n : ℕ) → IsNode size n → IsSomeAnd (disk_at (place_of places n)) (DiskShows source cells (printed log) n)
 
--- what points rest on: versions, generations and publishes with puts become no less, and the documents of a version are what they were
+-- what points rest on: versions, generations, publishes with puts and merges become no less, and the documents of a version are what they
+-- were
 pub record PointsStay (past now : Past) : Type 0 where
   pub newest : newest_version past ≤ newest_version now
   pub generation : generation_of past ≤ generation_of now
   pub puts : put_publishes past ≤ put_publishes now
+  pub merges : merge_count past ≤ merge_count now
   pub documents : (v : ℕ) → v ≤ newest_version past → documents_at now v ≡ documents_at past v
 
 -- what the commits of a node rest on: points are what they were, versions that a reopening may find are more, and the commit in flight

@@ -9,6 +9,7 @@ use Rattle.history_entries.specs.Nodes.{Past, primary_of, is_at, is_running, gen
 use Rattle.history_entries.specs.Lines.{before_start, publish_in_flight}
 use Rattle.history_entries.specs.Points.{operations_of_generation, published_in_generation, names_drawn}
 use Rattle.history_entries.specs.Tickets.{open_ticket, IsTicketOf}
+use Rattle.history_entries.specs.Tasks.{merge_count}
 use Rattle.script_serving.specs.Refusals.{put_publishes}
 use Rattle.cluster_state.specs.Lookups.{IsSearching}
 use Rattle.cluster_places.specs.declared.held.Key.{Key}
@@ -64,6 +65,7 @@ pub record WritesOn (past now : Past) : Type 0 where
   pub operations : operations_of_generation now ≡ operations_of_generation past
   pub published : published_in_generation now ≡ published_in_generation past
   pub puts : put_publishes now ≡ put_publishes past
+  pub merges : merge_count now ≡ merge_count past
 
 -- a node that an entry does not move, but for its tickets
 pub record Same (past now : Past) (n : ℕ) : Type 0 where

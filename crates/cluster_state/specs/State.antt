@@ -15,6 +15,7 @@ use Rattle.history_entries.specs.Nodes.{Past, IsNode, primary_of, is_at, is_runn
 use Rattle.history_entries.specs.Lines.{start_entry, before_start, publish_in_flight}
 use Rattle.history_entries.specs.Points.{documents_at, operations_of_generation, cut_of, names_drawn}
 use Rattle.history_entries.specs.Tickets.{open_ticket, IsTicketOf}
+use Rattle.history_entries.specs.Tasks.{merge_count}
 use Rattle.history_book.specs.Log.{Log, printed}
 use Rattle.primary_parts.specs.declared.parts.Parts.{Parts as PrimaryParts}
 use Rattle.primary_parts.specs.declared.parts.Publish.{Publish}
@@ -78,14 +79,14 @@ FlightShows log None publish segs = publish ≡ None
 FlightShows log (Some at) publish segs = IsSomeAnd publish (λ f. IsFlying log at f segs)
 
 -- the writer stands for the newest point, and draws names of the present generation; a publish that had a put made each of its
--- segments, and each has a live row
+-- segments, and each has a live row where no merge was started
 pub record WritesAt (past : Past) (infos : Infos) (segs : List Shown) : Type 0 where
   pub documents : AreSegmentsOf (documents_at past (newest_version past)) segs
   pub generation : infos.generation.0 ≡ generation_of past
   pub version : infos.version.0 ≡ newest_version past
   pub counter : infos.counter ≡ names_drawn past
   pub few : length infos.segs ≤ put_publishes past
-  pub live : All (λ r. 0 < r.live) infos.segs
+  pub live : merge_count past ≡ 0 → All (λ r. 0 < r.live) infos.segs
 
 -- a node that is down
 pub record DownShows (past : Past) (n : ℕ) : Type 0 where
@@ -93,7 +94,8 @@ pub record DownShows (past : Past) (n : ℕ) : Type 0 where
   pub other : is_at (primary_of past) n ≡ false
 
 module _ {D : Type 0} where
-  -- the primary searches its point, and writes from the newest on; its operations that wait are the cut, and no merge is in flight
+  -- the primary searches its point, and writes from the newest on; its operations that wait are the cut, and no merge is
+  -- in flight or was cut over where none was started
   pub record PrimaryShows (cells : D → Cells) (log : Log) (n : ℕ) (p : PrimaryParts D) : Type 0 where
     pub running : is_running n (printed log) ≡ true
     pub primary : is_at (primary_of (printed log)) n ≡ true
@@ -102,8 +104,8 @@ module _ {D : Type 0} where
     pub writer : WritesAt (printed log) p.infos p.segs
     pub waiting : p.waiting ≡ cut_of (printed log)
     pub accepted : p.accepted ≡ length (operations_of_generation (printed log))
-    pub uncut : p.has_cut_over ≡ false
-    pub calm : p.merges ≡ []
+    pub uncut : merge_count (printed log) ≡ 0 → p.has_cut_over ≡ false
+    pub calm : merge_count (printed log) ≡ 0 → p.merges ≡ []
     pub flight : FlightShows log (publish_in_flight (printed log)) p.publish p.segs
 
   -- a replica searches its point, and saw no later generation than the present one

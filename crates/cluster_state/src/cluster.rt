@@ -4,13 +4,14 @@ use cluster_places::Place;
 use disk_model::FaultDir;
 use history_book::Book;
 use history_entries::Event;
+use history_merges::Ledger;
 use nrt_base::{At, NoMemory, NodeNo};
 use std::marker::Model;
 
 /// All nodes of a cluster and what happened in it. A call that finds no memory ends it: no other has a condition to rest on.
 #[derive(Drop)]
 pub struct ClusterState<D: FaultDir> {
-    pub book: Book,
+    pub ledger: Ledger,
     pub places: Vec<Option<Place<D>>>,
     pub ended: bool,
 }
@@ -31,13 +32,13 @@ impl<D: FaultDir> Model for ClusterState<D> {
 
     ghost view = { λ c. record {
       ended = c.ended;
-      nodes = c.book.nodes;
-      log = c.book.log;
+      nodes = c.ledger.nodes;
+      log = c.ledger.log;
       calls_left = calls_in c.places.items;
     } };
 
-    ghost invariant = { λ c. c.ended ≡ false → Shows D.cells c.book.log c.book.nodes c.places.items
-        × FilesShow D.cells c.book.log c.book.nodes c.places.items };
+    ghost invariant = { λ c. c.ended ≡ false → Shows D.cells c.ledger.log c.ledger.nodes c.places.items
+        × FilesShow D.cells c.ledger.log c.ledger.nodes c.places.items };
 }
 
 impl<D: FaultDir + Drop> ClusterState<D> {
@@ -58,7 +59,7 @@ impl<D: FaultDir + Drop> ClusterState<D> {
         ensures log { result.now.log ≡ self.now.log }
         ensures nodes { result.now.nodes ≡ self.now.nodes }
     {
-        &self.book
+        self.ledger.book()
     }
 
     /// Whether it has ended: a call found no memory, and no other may be made.
@@ -74,8 +75,9 @@ impl<D: FaultDir + Drop> ClusterState<D> {
         ensures is { result ≡ primary_of (printed self.now.log) }
         ensures node { IfSome result (λ p. IsNode self.now.nodes p.0) }
     {
-        self.book.is_legal();
-        self.book.primary()
+        let book = self.ledger.book();
+        book.is_legal();
+        book.primary()
     }
 
     /// Ends it, for a caller that found no memory.
@@ -90,8 +92,8 @@ impl<D: FaultDir + Drop> ClusterState<D> {
         ensures log { result.log ≡ self.log }
         ensures nodes { result.nodes ≡ self.nodes }
     {
-        let ClusterState { book, .. } = self;
-        book
+        let ClusterState { ledger, .. } = self;
+        ledger.into_book()
     }
 
     /// The publish in flight is not that of a line which did not start as one. A law.
@@ -100,7 +102,8 @@ impl<D: FaultDir + Drop> ClusterState<D> {
         requires line { start_entry at (printed self.now.log) ≢ Some Event.Publishing }
         ensures { publish_in_flight (printed self.now.log) ≢ Some at }
     {
-        self.book.is_legal();
+        let book = self.ledger.book();
+        book.is_legal();
     }
 
     /// A line that did not start as a commit has none in flight. A law.
@@ -108,7 +111,8 @@ impl<D: FaultDir + Drop> ClusterState<D> {
         requires line { is_commit_line (start_entry at (printed self.now.log)) ≡ false }
         ensures { (m : ℕ) → commit_in_flight m (printed self.now.log) ≢ Some at }
     {
-        self.book.is_legal();
+        let book = self.ledger.book();
+        book.is_legal();
     }
 
     /// Appends an entry that moves no node, starts no copy and no commit, and opens no ticket, of a line whose publish or commit is not in
@@ -128,8 +132,8 @@ impl<D: FaultDir + Drop> ClusterState<D> {
         ensures err { OnErr result (IsEnded self.old self.new) }
     {
         self.ended = true;
-        self.book.reserve(1)?;
-        self.book.show(at, event);
+        self.ledger.reserve(1)?;
+        self.ledger.show(at, event);
         self.ended = false;
         Ok(())
     }

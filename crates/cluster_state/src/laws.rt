@@ -18,6 +18,6 @@ impl<D: FaultDir + Drop> ClusterState<D> {
         ensures { IfSome (job_at n.0 self.now.log)
             (λ job. job.version.0 ≤ newest_version (printed self.now.log)) }
     {
-        let _book = &self.book;
+        let _ledger = &self.ledger;
     }
 }

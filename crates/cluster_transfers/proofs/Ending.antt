@@ -38,7 +38,8 @@ use Rattle.history_tables.specs.NodeRows.{crashed_at}
 use Rattle.history_tables.specs.Numbering.{primary_crashed}
 use Rattle.history_tables.specs.JobRows.{row_by, row_if_some, while_going}
 use Rattle.history_tables.proofs.RowLemmas.{same_at_self}
-use Rattle.history_book.specs.Log.{Log, Pages, printed, shown, kept}
+use Rattle.history_book.specs.Log.{Log, printed, shown, kept}
+use Rattle.history_merges.specs.Merging.{Sheet}
 use Rattle.history_book.specs.declared.inner.Inner.TheVariants.{JobEnd}
 use Rattle.history_book.specs.Jobs.{job_at, last_job, StartsJob, LaneJobShows}
 use Rattle.history_book.specs.Turns.{AreInTurn}
@@ -425,7 +426,7 @@ module _ {D : Type 0} (cells : D → Cells) where
       (subst (λ (l : Log). IsReplica (printed l) row.job.node.0) (ap (λ (x : Run). x.log) view) replica) h.is next
 
   -- what the log shows of the job, once there is room
-  pub copy_here : (r : Run) (ended : Bool) (b0 b1 : Pages) (places : List (Option (Place D))) (row : JobRow) → {left : List ℕ} → record { ended = ended; nodes = b0.nodes; log = b0.log; calls_left = left } ≡ r → r.ended ≡ false
+  pub copy_here : (r : Run) (ended : Bool) (b0 b1 : Sheet) (places : List (Option (Place D))) (row : JobRow) → {left : List ℕ} → record { ended = ended; nodes = b0.nodes; log = b0.log; calls_left = left } ≡ r → r.ended ≡ false
       → (ended ≡ false → Shows cells b0.log b0.nodes places × FilesShow cells b0.log b0.nodes places) → b1.log ≡ b0.log → JobRuns r.log row → LaneJobShows b0.nodes (printed b0.log) row → IsReplica (printed b0.log) row.job.node.0
       → (version_of row.job.node.0 (printed b1.log) < newest_version (before_start row.job.at (printed b1.log))) × (highest_copy row.job.node.0 (printed b1.log) ≤ row.job.version.0)
   copy_here r ended b0 b1 places row view running pair same_log runs lane replica =
@@ -437,7 +438,7 @@ module _ {D : Type 0} (cells : D → Cells) where
       let job = job_here cells f.source r.log row.job.node.0 row.job here.at.parts h.is here.files in
       subst (λ (l : Log). (version_of row.job.node.0 (printed l) < newest_version (before_start row.job.at (printed l))) × (highest_copy row.job.node.0 (printed l) ≤ row.job.version.0)) (sym log) (job.shows.behind, job.shows.latest)
 
-  pub finish_path : (r : Run) (ended : Bool) (b0 b1 b2 : Pages) (old new : List (Option (Place D))) (p : NodeNo) (row : JobRow) → {left : List ℕ} → record { ended = ended; nodes = b0.nodes; log = b0.log; calls_left = left } ≡ r → r.ended ≡ false
+  pub finish_path : (r : Run) (ended : Bool) (b0 b1 b2 : Sheet) (old new : List (Option (Place D))) (p : NodeNo) (row : JobRow) → {left : List ℕ} → record { ended = ended; nodes = b0.nodes; log = b0.log; calls_left = left } ≡ r → r.ended ≡ false
       → (ended ≡ false → Shows cells b0.log b0.nodes old × FilesShow cells b0.log b0.nodes old) → b1.log ≡ b0.log → b1.nodes ≡ b0.nodes
       → b2.log ≡ ended_log row.job (start_entry row.job.at (printed b1.log)) b1.log → b2.nodes ≡ b1.nodes → IsLegalPast b2.nodes (printed b2.log) → AreInTurn (printed b2.log)
       → SourcedStand → FilesLast → IsNode r.nodes p.0 → primary_of (printed r.log) ≡ Some p → JobRuns r.log row → LaneJobShows b0.nodes (printed b0.log) row → IsReplica (printed b0.log) row.job.node.0

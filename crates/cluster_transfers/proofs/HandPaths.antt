@@ -12,7 +12,8 @@ use Rattle.copy_state.specs.Meta.{IsMetaOf}
 use Rattle.primary_parts.specs.declared.parts.Parts.{Parts as PrimaryParts}
 use Rattle.history_entries.specs.Nodes.{IsNode, IsReplica, is_at, primary_of}
 use Rattle.history_tables.specs.declared.jobs.JobRow.{JobRow}
-use Rattle.history_book.specs.Log.{Log, Pages, printed, kept}
+use Rattle.history_book.specs.Log.{Log, printed, kept}
+use Rattle.history_merges.specs.Merging.{Sheet}
 use Rattle.history_book.specs.declared.inner.Inner.TheVariants.{FileOut}
 use Rattle.history_book.specs.Jobs.{job_at, LaneJobShows}
 use Rattle.cluster_places.specs.declared.held.Held.{Held}
@@ -71,7 +72,7 @@ module _ {D : Type 0} (cells : D → Cells) where
 
   -- ---- in the terms of a call
 
-  module _ (r : Run) (ended : Bool) (b0 : Pages) (places : List (Option (Place D))) (row : JobRow) {left : List ℕ} (view : record { ended = ended; nodes = b0.nodes; log = b0.log; calls_left = left } ≡ r) (running : r.ended ≡ false)
+  module _ (r : Run) (ended : Bool) (b0 : Sheet) (places : List (Option (Place D))) (row : JobRow) {left : List ℕ} (view : record { ended = ended; nodes = b0.nodes; log = b0.log; calls_left = left } ≡ r) (running : r.ended ≡ false)
       (pair : ended ≡ false → Shows cells b0.log b0.nodes places × FilesShow cells b0.log b0.nodes places) (runs : JobRuns r.log row) (lane : LaneJobShows b0.nodes (printed b0.log) row) (replica : IsReplica (printed b0.log) row.job.node.0) where
     same_log : b0.log ≡ r.log
     same_log = ap (λ (x : Run). x.log) view
@@ -120,7 +121,7 @@ module _ {D : Type 0} (cells : D → Cells) where
         file_footer cells call_files.source r.log row.job.node.0 t.here.at.parts.searchers.point.version.0 row.job t.job.point name meta bytes above t.job.shows
         (next_is places row.job.node.0 t.here.at.parts t.here.at.held t.job.point (Some (name, meta)) t.here.at.there t.job.runs next) is fits
 
-    pub hand_path : (b1 b2 : Pages) (new : List (Option (Place D))) (p : NodeNo) (name : Name) (meta : FileMetaData) (bytes copy : List ℕ) → FilesLast → IsNode r.nodes p.0 → primary_of (printed r.log) ≡ Some p → HasNextFile (place_of places row.job.node.0) (Some (name, meta))
+    pub hand_path : (b1 b2 : Sheet) (new : List (Option (Place D))) (p : NodeNo) (name : Name) (meta : FileMetaData) (bytes copy : List ℕ) → FilesLast → IsNode r.nodes p.0 → primary_of (printed r.log) ≡ Some p → HasNextFile (place_of places row.job.node.0) (Some (name, meta))
         → ReadsIn cells p.0 name bytes places new → copy ≡ bytes → b1.log ≡ b0.log → b1.nodes ≡ b0.nodes → b2.log ≡ kept (FileOut row.job.at.line row.job.node row.job.number name copy (Some row.job.at)) ∷ b1.log → b2.nodes ≡ b1.nodes
         → Shows cells b2.log b2.nodes new × FilesShow cells b2.log b2.nodes new
     hand_path b1 b2 new p name meta bytes copy lasting node_p primary next b shared e1 n1 e2 n2 =

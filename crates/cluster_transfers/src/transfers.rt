@@ -17,6 +17,7 @@ use copy_job::Part;
 use disk_model::FaultDir;
 use history_book::{Book, Inner, Job, JobRow, Start};
 use history_entries::Event;
+use history_merges::Ledger;
 use node_jobs::{finish_in, next_in, read_in, take_in};
 use nrt_base::{At, NoMemory, NodeNo, Share};
 use replica_node::laws::{files_last, sourced_stands};
@@ -49,18 +50,19 @@ fn starts_as_copy(book: &Book, at: At) -> bool
 }
 
 // Appends the end of a job: its node switched to its version, and a copy has its reply.
-fn show_end(book: &mut Book, row: JobRow)
-    requires room { 3 ≤ book.old.room }
-    requires runs { JobRuns book.old.log row }
-    requires line { open_line row.job.at (printed book.old.log) ≢ None }
-    requires below { version_of row.job.node.0 (printed book.old.log)
-        < newest_version (before_start row.job.at (printed book.old.log)) }
-    requires latest { highest_copy row.job.node.0 (printed book.old.log) ≤ row.job.version.0 }
-    requires ordered { highest_switched row.job.at (printed book.old.log) < row.job.node.0 }
-    ensures log { book.new.log
-        ≡ ended_log row.job (start_entry row.job.at (printed book.old.log)) book.old.log }
-    ensures nodes { book.new.nodes ≡ book.old.nodes }
+fn show_end(ledger: &mut Ledger, row: JobRow)
+    requires room { 3 ≤ ledger.old.room }
+    requires runs { JobRuns ledger.old.log row }
+    requires line { open_line row.job.at (printed ledger.old.log) ≢ None }
+    requires below { version_of row.job.node.0 (printed ledger.old.log)
+        < newest_version (before_start row.job.at (printed ledger.old.log)) }
+    requires latest { highest_copy row.job.node.0 (printed ledger.old.log) ≤ row.job.version.0 }
+    requires ordered { highest_switched row.job.at (printed ledger.old.log) < row.job.node.0 }
+    ensures log { ledger.new.log
+        ≡ ended_log row.job (start_entry row.job.at (printed ledger.old.log)) ledger.old.log }
+    ensures nodes { ledger.new.nodes ≡ ledger.old.nodes }
 {
+    let book = ledger.book();
     book.job_shows(row);
     book.job_switches(row);
     let Job {
@@ -71,13 +73,13 @@ fn show_end(book: &mut Book, row: JobRow)
     } = row.job;
     let line = at.line;
     let is_copy = starts_as_copy(book, at);
-    book.show(at, Event::Switched { n, v });
+    ledger.show(at, Event::Switched { n, v });
     if !is_copy {
-        book.keep(Inner::JobEnd { line, node: n, job });
+        ledger.keep(Inner::JobEnd { line, node: n, job });
         return;
     }
-    book.show(at, Event::Copied { n, v });
-    book.keep(Inner::JobEnd { line, node: n, job });
+    ledger.show(at, Event::Copied { n, v });
+    ledger.keep(Inner::JobEnd { line, node: n, job });
 }
 
 // The running primary, which is the source of a job that runs.
@@ -87,8 +89,9 @@ fn source_of<D: FaultDir + Drop>(cluster: &ClusterState<D>, row: JobRow) -> Node
     ensures is { primary_of (printed cluster.now.log) ≡ Some result }
     ensures node { IsNode cluster.now.nodes result.0 }
 {
-    cluster.book.is_legal();
-    cluster.book.job_shows(row);
+    let book = cluster.ledger.book();
+    book.is_legal();
+    book.job_shows(row);
     match cluster.primary() {
         Some(p) => p,
         None => unreachable!(),
@@ -109,9 +112,10 @@ pub fn go_on<D: FaultDir + Drop>(
     ensures ok { IfOk result (GoesOn row.job cluster.old cluster.new) }
     ensures err { OnErr result (IsEnded cluster.old cluster.new) }
 {
-    cluster.book.is_legal();
-    cluster.book.job_shows(row);
-    cluster.book.job_replica(row);
+    let book = cluster.ledger.book();
+    book.is_legal();
+    book.job_shows(row);
+    book.job_replica(row);
     files_last();
     sourced_stands();
     let p = source_of(cluster, row);
@@ -122,12 +126,12 @@ pub fn go_on<D: FaultDir + Drop>(
         ..
     } = row.job;
     cluster.ended = true;
-    cluster.book.reserve(3)?;
+    cluster.ledger.reserve(3)?;
     match next_in(alloc, &cluster.places, n)? {
         None => {
             finish_in(alloc, &mut cluster.places, p, n)?;
-            show_end(&mut cluster.book, row);
-            cluster.book.is_legal();
+            show_end(&mut cluster.ledger, row);
+            cluster.ledger.book().is_legal();
             cluster.ended = false;
             Ok(None)
         }
@@ -136,7 +140,7 @@ pub fn go_on<D: FaultDir + Drop>(
             let source = read_in(&mut cluster.places, p, &name)?;
             are_bytes(source.as_slice());
             let copy = source.share(alloc)?;
-            cluster.book.keep(Inner::FileOut {
+            cluster.ledger.keep(Inner::FileOut {
                 line: at.line,
                 node: n,
                 job: number,
@@ -168,9 +172,10 @@ pub fn take_part<D: FaultDir + Drop>(
     ensures ok { OnOk result (IsNow cluster.old cluster.new cluster.old.log) }
     ensures err { OnErr result (IsEnded cluster.old cluster.new) }
 {
-    cluster.book.is_legal();
-    cluster.book.job_shows(row);
-    cluster.book.job_replica(row);
+    let book = cluster.ledger.book();
+    book.is_legal();
+    book.job_shows(row);
+    book.job_replica(row);
     files_last();
     cluster.ended = true;
     take_in(&mut cluster.places, row.job.node, part)?;

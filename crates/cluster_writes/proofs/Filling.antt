@@ -1,5 +1,5 @@
 -- How many segments a publish leaves, and that each has a live row; when there may be as many as there may be.
-use Rattle.std.proofs.Common.{◌≡◌, ◌≤◌, ◌<◌, ◌+◌, ◌||◌, ◌&&◌, nat_lt, nat_le, ℕ, suc, Bool, true, false, cond, if◌then◌else◌, List, [], ◌∷◌, length, map, Option, Some, None, refl, ap, ◌∙◌, sym, subst, arith, length-append}
+use Rattle.std.proofs.Common.{◌≡◌, ◌≤◌, ◌<◌, ◌+◌, ◌||◌, ◌&&◌, nat_lt, nat_le, ℕ, zero, suc, Bool, true, false, cond, if◌then◌else◌, List, [], ◌∷◌, length, map, Option, Some, None, refl, ap, ◌∙◌, sym, subst, arith, length-append}
 use Rattle.std.specs.List.{All, AllZip, filter, zip, list_any}
 use Rattle.std.proofs.lemmas.Bool.{ltb-true}
 use Rattle.std.proofs.lemmas.Bool.Decides.{nat_tests}
@@ -51,11 +51,11 @@ module _ (g : ℕ) where
       go true live more = All-cons IsLive (record_after g t) (map (record_after g) (staying g [] ts)) (live refl) more
       go false live more = more
 
-  staying_few : (ts : List Turn) → length (map (record_after g) (staying g [] ts)) ≤ length ts
-  staying_few [] = omega arith
-  staying_few (t ∷ ts) = go (stays g [] t) (staying_few ts)
+  staying_few : (held : List SegNo) (ts : List Turn) → length (map (record_after g) (staying g held ts)) ≤ length ts
+  staying_few held [] = omega arith
+  staying_few held (t ∷ ts) = go (stays g held t) (staying_few held ts)
     where
-      go : (b : Bool) → length (map (record_after g) (staying g [] ts)) ≤ length ts → length (map (record_after g) (cond b (t ∷ staying g [] ts) (staying g [] ts))) ≤ suc (length ts)
+      go : (b : Bool) → length (map (record_after g) (staying g held ts)) ≤ length ts → length (map (record_after g) (cond b (t ∷ staying g held ts) (staying g held ts))) ≤ suc (length ts)
       go true more = omega (arith, more)
       go false more = omega (arith, more)
 
@@ -94,14 +94,13 @@ next_live g records segs task work held made none flushed next =
     (subst (λ (h : List SegNo). All IsLive (map (record_after g) (staying g h (turns records segs work.live)))) (sym none) (staying_live g (turns records segs work.live)))
     (new_live task.seg task.ops work.files flushed.files))
 
-pub next_few : (g : ℕ) (records : List SegRecord) (segs : List Shown) (task : FlushTask) (work : FlushWork) (held : List SegNo) (made : NextSegments) (puts : ℕ) → held ≡ [] → IsFlushOf task work
+pub next_few : (g : ℕ) (records : List SegRecord) (segs : List Shown) (task : FlushTask) (work : FlushWork) (held : List SegNo) (made : NextSegments) (puts : ℕ) → IsFlushOf task work
     → IsNextOf g records segs work held made → length records ≤ puts → length made.records ≤ (if list_any is_put task.ops then puts + 1 else puts)
-next_few g records segs task work held made puts none flushed next few =
+next_few g records segs task work held made puts flushed next few =
     go (list_any is_put task.ops) (new_few task.seg task.ops work.files flushed.files)
   where
     old : length (map (record_after g) (staying g held (turns records segs work.live))) ≤ length records
-    old = subst (λ (h : List SegNo). length (map (record_after g) (staying g h (turns records segs work.live))) ≤ length records) (sym none)
-        (omega (arith, staying_few g (turns records segs work.live), zip_few records (zip segs work.live)))
+    old = omega (arith, staying_few g held (turns records segs work.live), zip_few records (zip segs work.live))
 
     all : length made.records ≡ length (map (record_after g) (staying g held (turns records segs work.live))) + length (new_records work.files)
     all = ap length next.records_are ∙ length-append (map (record_after g) (staying g held (turns records segs work.live))) (new_records work.files)
@@ -127,6 +126,12 @@ segment_document : (reads : Name → Content) (r : SegRecord) (s : Shown) → Is
 segment_document reads r s is live =
     some_document s.docs s.live (rows_same is.parts.live r s.live is.segment.live ∙ sym is.segment.docs_rows) (subst (λ (k : ℕ). 0 < k) (sym is.live) live)
 
+as_many : (reads : Name → Content) (records : List SegRecord) (segs : List Shown) → AllZip (IsSegmentIn reads) records segs → length segs ≡ length records
+as_many reads [] [] each = refl
+as_many reads [] (s ∷ segs) each = absurd each
+as_many reads (r ∷ records) [] each = absurd each
+as_many reads (r ∷ records) (s ∷ segs) each = ap suc (as_many reads records segs each.1)
+
 segments_few : (reads : Name → Content) (records : List SegRecord) (segs : List Shown) → AllZip (IsSegmentIn reads) records segs → All IsLive records
     → (length segs ≡ length records) × (length segs ≤ length (live_documents segs))
 segments_few reads [] [] each live = (refl, omega arith)
@@ -137,17 +142,32 @@ segments_few reads (r ∷ records) (s ∷ segs) each live =
     let one = segment_document reads r s each.0 (All-head IsLive r records live) in
     (ap suc more.0, omega (arith, more.1, one, length-append (live_documents_of s) (live_documents segs)))
 
--- there are as many segments as there may be: as many publishes had a put, and there are as many documents
-pub is_full : (past : Past) (reads : Name → Content) (records : List SegRecord) (segs : List Shown) → AllZip (IsSegmentIn reads) records segs → All IsLive records → length records ≤ put_publishes past
+-- there are as many segments as there may be: as many publishes had a put, and where no merge was started there are as many documents
+pub is_full : (past : Past) (reads : Name → Content) (records : List SegRecord) (segs : List Shown) → AllZip (IsSegmentIn reads) records segs → (merge_count past ≡ 0 → All IsLive records) → length records ≤ put_publishes past
     → AreSegmentsOf (documents_at past (newest_version past)) segs → 256 ≤ length segs → may_be_full past ≡ true
-is_full past reads records segs each live few are many =
-    let f = segments_few reads records segs each live in
-    let docs : length (documents_at past (newest_version past)) ≡ length (live_documents segs) = length_permutation (live_documents segs) (documents_at past (newest_version past)) are.documents.same in
-    let made : 256 ≤ put_publishes past = omega (arith, few, f.0, many) in
-    let there : 256 ≤ length (documents_at past (newest_version past)) = omega (arith, docs, f.1, many) in
-    both (nat_le 256 (put_publishes past)) (nat_lt 0 (merge_count past)) (nat_le 256 (length (documents_at past (newest_version past)))) (grind (arith, nat_tests)) (grind (arith, nat_tests))
+is_full past reads records segs each live few are many = by (merge_count past) refl
   where
-    both : (a b c : Bool) → a ≡ true → c ≡ true → (a && (b || c)) ≡ true
-    both true true c x y = refl
-    both true false c x y = y
+    same : length segs ≡ length records
+    same = as_many reads records segs each
+
+    made : nat_le 256 (put_publishes past) ≡ true
+    made = let all : 256 ≤ put_publishes past = omega (arith, few, same, many) in grind (arith, nat_tests)
+
+    there : merge_count past ≡ 0 → nat_le 256 (length (documents_at past (newest_version past))) ≡ true
+    there none =
+        let docs : length (documents_at past (newest_version past)) ≡ length (live_documents segs) = length_permutation (live_documents segs) (documents_at past (newest_version past)) are.documents.same in
+        let f = segments_few reads records segs each (live none) in
+        let all : 256 ≤ length (documents_at past (newest_version past)) = omega (arith, docs, f.1, many) in
+        grind (arith, nat_tests)
+
+    both : (a b c : Bool) → a ≡ true → (b || c) ≡ true → (a && (b || c)) ≡ true
+    both true b c x y = y
     both false b c x y = x
+
+    by : (k : ℕ) → merge_count past ≡ k → may_be_full past ≡ true
+    by zero none = both (nat_le 256 (put_publishes past)) (nat_lt 0 (merge_count past)) (nat_le 256 (length (documents_at past (newest_version past)))) made (ap (λ (b : Bool). nat_lt 0 (merge_count past) || b) (there none) ∙ ends (nat_lt 0 (merge_count past)))
+      where
+        ends : (b : Bool) → (b || true) ≡ true
+        ends true = refl
+        ends false = refl
+    by (suc k) some = both (nat_le 256 (put_publishes past)) (nat_lt 0 (merge_count past)) (nat_le 256 (length (documents_at past (newest_version past)))) made (ap (λ (b : Bool). b || nat_le 256 (length (documents_at past (newest_version past)))) (ap (nat_lt 0) some))

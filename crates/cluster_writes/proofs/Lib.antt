@@ -1,5 +1,4 @@
 mod Cuts
-mod Paid
 mod Filling
 mod Writing
 mod Written

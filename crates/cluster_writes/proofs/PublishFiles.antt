@@ -19,7 +19,8 @@ use Rattle.history_entries.specs.Nodes.{Past, IsNode, primary_of}
 use Rattle.history_entries.specs.Points.{cut_has_put, names_drawn, is_drawn}
 use Rattle.history_entries.specs.Lines.{publish_in_flight}
 use Rattle.history_entries.specs.Legal.{KeepsRule, IsLegalPast}
-use Rattle.history_book.specs.Log.{Log, Pages, printed, shown, kept}
+use Rattle.history_book.specs.Log.{Log, printed, shown, kept}
+use Rattle.history_merges.specs.Merging.{Sheet}
 use Rattle.history_book.specs.declared.inner.Inner.TheVariants.{FlushOut}
 use Rattle.history_book.specs.Laws.{IsFresh}
 use Rattle.history_book.specs.Turns.{AreInTurn}
@@ -191,7 +192,7 @@ module _ {D : Type 0} (cells : D → Cells) where
 
   -- ---- paths
 
-  module _ (r : Run) (ended : Bool) (b0 b1 : Pages) (old mid new : List (Option (Place D))) (n : NodeNo) (x : Place D) (p q : PrimaryParts D) (held : Vec Held Global)
+  module _ (r : Run) (ended : Bool) (b0 b1 : Sheet) (old mid new : List (Option (Place D))) (n : NodeNo) (x : Place D) (p q : PrimaryParts D) (held : Vec Held Global)
       {left : List ℕ} (view : record { ended = ended; nodes = b0.nodes; log = b0.log; calls_left = left } ≡ r) (running : r.ended ≡ false) (shows : ended ≡ false → Shows cells b0.log b0.nodes old) (files : ended ≡ false → FilesShow cells b0.log b0.nodes old)
       (e1 : b1.log ≡ b0.log) (n1 : b1.nodes ≡ b0.nodes) (node : IsNode r.nodes n.0) (put : PutsBack cells old mid new n.0 (record { node = Primary q; held = held })) (there : place_of old n.0 ≡ Some x) (is : x ≡ record { node = Primary p; held = held }) where
     keeps_at : KeepsNodeFiles cells (Primary p) (Primary q) → KeepsNodeFiles cells x.node (Primary q)
@@ -214,7 +215,7 @@ module _ {D : Type 0} (cells : D → Cells) where
     here : PrimaryShows cells r.log n.0 p
     here = (subst (λ (z : Place D). PlaceShows cells r.log n.0 z) is (place_at cells r ended b0.nodes n.0 b0.log old x view running shows node there)).node_shows
 
-    module _ (b2 : Pages) (at : At) (legal : IsLegalPast b1.nodes (printed b1.log)) (turns : AreInTurn (printed b1.log)) where
+    module _ (b2 : Sheet) (at : At) (legal : IsLegalPast b1.nodes (printed b1.log)) (turns : AreInTurn (printed b1.log)) where
       pub accept_files : (seq : ℕ) (op copy : Op) → b2.log ≡ shown at (Accepted seq op) ∷ b1.log → b2.nodes ≡ b1.nodes → IsFresh at (printed b0.log) → KeepsRule r.nodes (printed r.log) at (Accepted seq op)
           → q ≡ record p { waiting = p.waiting ++ copy ∷ []; accepted = p.accepted + 1 } → FilesShow cells b2.log b2.nodes new
       accept_files seq op copy e2 n2 fresh rule next =
@@ -224,7 +225,7 @@ module _ {D : Type 0} (cells : D → Cells) where
           (keeps_at (subst (λ (z : PrimaryParts D). KeepsNodeFiles cells (Primary p) (Primary z)) (sym next) (accepted_alone p (p.waiting ++ copy ∷ []) (p.accepted + 1))))
           (holds_at (printed (shown at (Accepted seq op) ∷ r.log)) (holds_same cells (printed (shown at (Accepted seq op) ∷ r.log)) (Primary p) (Primary q) (ap (λ (z : PrimaryParts D). z.searchers.tickets) next) (ap (λ (z : PrimaryParts D). loose_of z) next)))
 
-      pub start_files : (b3 : Pages) (seg : Option SegNo) (segs : List Shown) → b2.log ≡ shown at Publishing ∷ b1.log → b2.nodes ≡ b1.nodes → b3.log ≡ kept (FlushOut at seg segs) ∷ b2.log → b3.nodes ≡ b2.nodes
+      pub start_files : (b3 : Sheet) (seg : Option SegNo) (segs : List Shown) → b2.log ≡ shown at Publishing ∷ b1.log → b2.nodes ≡ b1.nodes → b3.log ≡ kept (FlushOut at seg segs) ∷ b2.log → b3.nodes ≡ b2.nodes
           → IsFresh at (printed b0.log) → KeepsRule r.nodes (printed r.log) at Publishing
           → q ≡ record p { infos = infos_drawn (has_put p.waiting) p.infos; publish = noted seg p.waiting } → DrawsOnly p q
           → seg ≡ number_drawn (has_put p.waiting) p.infos → (cut_has_put (printed r.log) ≡ true → names_drawn (printed r.log) ≢ segments_of_generation) → FilesShow cells b3.log b3.nodes new

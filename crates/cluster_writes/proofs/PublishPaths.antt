@@ -18,7 +18,8 @@ use Rattle.history_entries.specs.Points.{operations_of_generation, cut_of, cut_h
 use Rattle.history_entries.specs.Legal.{KeepsRule, IsLegalPast}
 use Rattle.script_serving.specs.Refusals.{may_be_full}
 use Rattle.history_tables.proofs.RowLemmas.{by_test, same_at_self}
-use Rattle.history_book.specs.Log.{Log, Pages, printed, shown, kept}
+use Rattle.history_book.specs.Log.{Log, printed, shown, kept}
+use Rattle.history_merges.specs.Merging.{Sheet}
 use Rattle.history_book.specs.declared.inner.Inner.TheVariants.{FlushOut}
 use Rattle.history_book.specs.Laws.{IsFresh, Flying}
 use Rattle.history_book.specs.Turns.{AreInTurn}
@@ -40,7 +41,6 @@ use Rattle.cluster_state.specs.State.{PrimaryShows, PlaceShows, Shows}
 use Rattle.cluster_state.specs.Writes.{HandsFlush, IsFlushed}
 use Rattle.cluster_state.proofs.Frames.{PutsBack, was, now_is, place_at, moved_at, moved_out}
 use Rattle.cluster_writes.proofs.Written.{accepted_place, started_place, published_place}
-use Rattle.cluster_writes.proofs.Paid.{ends_paid}
 use Rattle.cluster_writes.proofs.Filling.{is_full}
 use Rattle.cluster_writes.proofs.Primaries.{others_apart, primary_there, has_primary, numbered, unpublished, is_work}
 use Rattle.cluster_state.proofs.Turning.{fresh_line, log_is, nodes_is, past_has}
@@ -58,7 +58,7 @@ on_err {T} {E} {P} r e is holds = subst (λ (q : Result T E). OnErr q P) is hold
 
 -- ---- rules
 
-pub may_accept : (r : Run) (ended : Bool) (b : Pages) (at : At) (p : NodeNo) (seq : ℕ) (op : Op) → {left : List ℕ} → record { ended = ended; nodes = b.nodes; log = b.log; calls_left = left } ≡ r
+pub may_accept : (r : Run) (ended : Bool) (b : Sheet) (at : At) (p : NodeNo) (seq : ℕ) (op : Op) → {left : List ℕ} → record { ended = ended; nodes = b.nodes; log = b.log; calls_left = left } ≡ r
     → IsFresh at (printed b.log) → primary_of (printed r.log) ≡ Some p → seq ≡ accepted_count (printed b.log) + 1 → KeepsRule r.nodes (printed r.log) at (Accepted seq op)
 may_accept r ended b at p seq op view fresh primary next = record {
   running = λ none. some_none (sym primary ∙ none);
@@ -79,23 +79,14 @@ may_start r at p primary free some = record {
     some_none : Some p ≡ None → ⊥
     some_none is = absurd (cc)
 
-pub may_publish : (r : Run) (ended : Bool) (b : Pages) (at : At) (g : Gen) (v : Version) → {left : List ℕ} → record { ended = ended; nodes = b.nodes; log = b.log; calls_left = left } ≡ r
-    → IsLegalPast b.nodes (printed b.log) → AreInTurn (printed b.log) → publish_in_flight (printed r.log) ≡ Some at → Flying (printed b.log) at
-    → g.0 ≡ generation_of (printed b.log) → v.0 ≡ newest_version (printed b.log) + 1 → KeepsRule r.nodes (printed r.log) at (Published g v)
-may_publish r ended b at g v view legal turns flight flying present next =
-    let f = past_has (λ p. Flying p at) r ended b view flying in
-    let all : IsLegalPast b.nodes (printed r.log) = past_has (IsLegalPast b.nodes) r ended b view legal in
-    let order : AreInTurn (printed r.log) = past_has AreInTurn r ended b view turns in
-    record {
-      started = f.entry;
-      survives = record { source = f.source };
-      present = past_has (λ p. g.0 ≡ generation_of p) r ended b view present;
-      next = past_has (λ p. v.0 ≡ newest_version p + 1) r ended b view next;
-      merged = ends_paid b.nodes (printed r.log) at all order flight;
-    }
+-- the end of a publish kept its rule, as the ledger says
+pub published_rule : (r : Run) (ended : Bool) (b0 b1 : Sheet) (at : At) (g : Gen) (v : Version) → {left : List ℕ} → record { ended = ended; nodes = b0.nodes; log = b0.log; calls_left = left } ≡ r
+    → b1.log ≡ b0.log → b1.nodes ≡ b0.nodes → KeepsRule b1.nodes (printed b1.log) at (Published g v) → KeepsRule r.nodes (printed r.log) at (Published g v)
+published_rule r ended b0 b1 at g v view e1 n1 rule =
+    subst (λ (x : ℕ × Log). KeepsRule x.0 (printed x.1) at (Published g v)) (λ i. ((n1 ∙ nodes_is r ended b0 view) i, (e1 ∙ log_is r ended b0 view) i)) rule
 
 -- a publish has ended
-pub ends_now : (r : Run) {now : List ℕ} (ended : Bool) (b0 b1 b2 : Pages) (at : At) (g : Gen) (v : Version) → {left : List ℕ} → record { ended = ended; nodes = b0.nodes; log = b0.log; calls_left = left } ≡ r
+pub ends_now : (r : Run) {now : List ℕ} (ended : Bool) (b0 b1 b2 : Sheet) (at : At) (g : Gen) (v : Version) → {left : List ℕ} → record { ended = ended; nodes = b0.nodes; log = b0.log; calls_left = left } ≡ r
     → b1.log ≡ b0.log → b1.nodes ≡ b0.nodes → b2.log ≡ shown at (Published g v) ∷ b1.log → b2.nodes ≡ b1.nodes → g.0 ≡ generation_of (printed b0.log) → v.0 ≡ newest_version (printed b0.log) + 1
     → IsNow r (record { ended = false; nodes = b2.nodes; log = b2.log; calls_left = now }) (shown at (Published (record { 0 = generation_of (printed r.log) }) (record { 0 = newest_version (printed r.log) + 1 })) ∷ r.log)
 ends_now r ended b0 b1 b2 at g v view e1 n1 e2 n2 present next =
@@ -110,7 +101,7 @@ ends_now r ended b0 b1 b2 at g v view e1 n1 e2 n2 present next =
 module _ {D : Type 0} (cells : D → Cells) where
   -- ---- the primary, taken out of its place
 
-  module _ (r : Run) (ended : Bool) (b : Pages) (places : List (Option (Place D))) (n : NodeNo) (x : Place D)
+  module _ (r : Run) (ended : Bool) (b : Sheet) (places : List (Option (Place D))) (n : NodeNo) (x : Place D)
       {left : List ℕ} (view : record { ended = ended; nodes = b.nodes; log = b.log; calls_left = left } ≡ r) (running : r.ended ≡ false) (shows : ended ≡ false → Shows cells b.log b.nodes places)
       (node : IsNode r.nodes n.0) (there : place_of places n.0 ≡ Some x) where
     pub primary_stands : primary_of (printed r.log) ≡ Some n → HasPrimary (Some x)
@@ -159,7 +150,7 @@ module _ {D : Type 0} (cells : D → Cells) where
       next_fits newest is below = let same = past_has (λ q. newest ≡ newest_version q) r ended b view is in let version = primary_at.writer.version in omega (arith, same, version, below)
 
       -- what is handed out stands in the log
-      pub hands_out : {now : List ℕ} (b1 b2 b3 : Pages) (at : At) (task : FlushTask) (segs : List Shown) → b1.log ≡ b.log → b1.nodes ≡ b.nodes → b2.log ≡ shown at Publishing ∷ b1.log → b2.nodes ≡ b1.nodes
+      pub hands_out : {now : List ℕ} (b1 b2 b3 : Sheet) (at : At) (task : FlushTask) (segs : List Shown) → b1.log ≡ b.log → b1.nodes ≡ b.nodes → b2.log ≡ shown at Publishing ∷ b1.log → b2.nodes ≡ b1.nodes
           → b3.log ≡ kept (FlushOut at task.seg segs) ∷ b2.log → b3.nodes ≡ b2.nodes → IsFresh at (printed b.log) → segs ≡ task.segs → IsTaskOf p task
           → HandsFlush at r (record { ended = false; nodes = b3.nodes; log = b3.log; calls_left = now }) task
       hands_out b1 b2 b3 at task segs e1 n1 e2 n2 e3 n3 fresh same t = record {
@@ -180,7 +171,7 @@ module _ {D : Type 0} (cells : D → Cells) where
           none = (was cells r ended b.nodes b.log places view running shows).handed at (past_has (IsFresh at) r ended b view fresh).begun
 
   -- a place that was taken out and put back as it was
-  pub back_path : (r : Run) (ended : Bool) (b0 b1 : Pages) (old mid new : List (Option (Place D))) (n : ℕ) (x : Place D) (p q : PrimaryParts D) (held : Vec Held Global)
+  pub back_path : (r : Run) (ended : Bool) (b0 b1 : Sheet) (old mid new : List (Option (Place D))) (n : ℕ) (x : Place D) (p q : PrimaryParts D) (held : Vec Held Global)
       → {left : List ℕ} → record { ended = ended; nodes = b0.nodes; log = b0.log; calls_left = left } ≡ r → r.ended ≡ false → (ended ≡ false → Shows cells b0.log b0.nodes old)
       → b1.log ≡ b0.log → b1.nodes ≡ b0.nodes → PutsBack cells old mid new n (record { node = Primary q; held = held }) → place_of old n ≡ Some x → x ≡ record { node = Primary p; held = held } → q ≡ p
       → Shows cells b1.log b1.nodes new
@@ -209,7 +200,7 @@ module _ {D : Type 0} (cells : D → Cells) where
 
   -- ---- what each path leaves
 
-  pub accept_path : (r : Run) (ended : Bool) (b0 b1 b2 : Pages) (old mid new : List (Option (Place D))) (at : At) (n : NodeNo) (seq : ℕ) (op copy : Op) (x : Place D) (p q : PrimaryParts D) (held : Vec Held Global)
+  pub accept_path : (r : Run) (ended : Bool) (b0 b1 b2 : Sheet) (old mid new : List (Option (Place D))) (at : At) (n : NodeNo) (seq : ℕ) (op copy : Op) (x : Place D) (p q : PrimaryParts D) (held : Vec Held Global)
       → {left : List ℕ} → record { ended = ended; nodes = b0.nodes; log = b0.log; calls_left = left } ≡ r → r.ended ≡ false → (ended ≡ false → Shows cells b0.log b0.nodes old)
       → b1.log ≡ b0.log → b1.nodes ≡ b0.nodes → b2.log ≡ shown at (Accepted seq op) ∷ b1.log → b2.nodes ≡ b1.nodes → IsLegalPast b1.nodes (printed b1.log) → AreInTurn (printed b1.log)
       → IsFresh at (printed b0.log) → KeepsRule r.nodes (printed r.log) at (Accepted seq op) → IsNode r.nodes n.0 → primary_of (printed r.log) ≡ Some n
@@ -222,7 +213,7 @@ module _ {D : Type 0} (cells : D → Cells) where
       (λ all order was. accepted_place cells r.nodes r.log at seq op n.0 p q held all order keeps line
       (subst (λ (o : Op). q ≡ record p { waiting = p.waiting ++ o ∷ []; accepted = p.accepted + 1 }) same next) whole (subst (PlaceShows cells r.log n.0) is was))
 
-  pub start_path : (r : Run) (ended : Bool) (b0 b1 b2 b3 : Pages) (old mid new : List (Option (Place D))) (at : At) (n : NodeNo) (seg : Option SegNo) (segs : List Shown) (x : Place D) (p q : PrimaryParts D) (held : Vec Held Global)
+  pub start_path : (r : Run) (ended : Bool) (b0 b1 b2 b3 : Sheet) (old mid new : List (Option (Place D))) (at : At) (n : NodeNo) (seg : Option SegNo) (segs : List Shown) (x : Place D) (p q : PrimaryParts D) (held : Vec Held Global)
       → {left : List ℕ} → record { ended = ended; nodes = b0.nodes; log = b0.log; calls_left = left } ≡ r → r.ended ≡ false → (ended ≡ false → Shows cells b0.log b0.nodes old)
       → b1.log ≡ b0.log → b1.nodes ≡ b0.nodes → b2.log ≡ shown at Publishing ∷ b1.log → b2.nodes ≡ b1.nodes → IsLegalPast b1.nodes (printed b1.log) → AreInTurn (printed b1.log)
       → b3.log ≡ kept (FlushOut at seg segs) ∷ b2.log → b3.nodes ≡ b2.nodes
@@ -234,7 +225,7 @@ module _ {D : Type 0} (cells : D → Cells) where
       (past_has (IsFresh at) r ended b0 view fresh).begun (λ m apart. others_apart (primary_of (printed r.log)) n m primary apart) put node there
       (λ all order out was. started_place cells r.nodes r.log at seg segs n.0 p q held all keeps out same next whole (subst (PlaceShows cells r.log n.0) is was))
 
-  pub end_path : (r : Run) (ended : Bool) (b0 b1 b2 : Pages) (old mid new : List (Option (Place D))) (at : At) (n : NodeNo) (g : Gen) (v : Version) (x : Place D) (p q : PrimaryParts D) (work : FlushWork) (held : Vec Held Global)
+  pub end_path : (r : Run) (ended : Bool) (b0 b1 b2 : Sheet) (old mid new : List (Option (Place D))) (at : At) (n : NodeNo) (g : Gen) (v : Version) (x : Place D) (p q : PrimaryParts D) (work : FlushWork) (held : Vec Held Global)
       → {left : List ℕ} → record { ended = ended; nodes = b0.nodes; log = b0.log; calls_left = left } ≡ r → r.ended ≡ false → (ended ≡ false → Shows cells b0.log b0.nodes old)
       → b1.log ≡ b0.log → b1.nodes ≡ b0.nodes → b2.log ≡ shown at (Published g v) ∷ b1.log → b2.nodes ≡ b1.nodes → IsLegalPast b1.nodes (printed b1.log) → AreInTurn (printed b1.log)
       → KeepsRule r.nodes (printed r.log) at (Published g v) → publish_in_flight (printed r.log) ≡ Some at → IsNode r.nodes n.0 → primary_of (printed r.log) ≡ Some n

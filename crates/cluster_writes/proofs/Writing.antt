@@ -34,6 +34,7 @@ use Rattle.segment_steps.specs.declared.flushing.FlushWork.{FlushWork}
 use Rattle.primary_parts.specs.Calls.{IsPublished}
 use Rattle.primary_parts.specs.Merges.{merge_inputs}
 use Rattle.primary_parts.specs.declared.states.Merging.{Merging}
+use Rattle.history_entries.specs.Tasks.{merge_count}
 use Rattle.script_serving.specs.Refusals.{put_publishes}
 use Rattle.primary_parts.specs.Work.{AreOfCut}
 use Rattle.primary_parts.specs.Cut.{infos_drawn, noted, has_put, cut_by, after_cut}
@@ -67,8 +68,8 @@ module _ {D : Type 0} (cells : D → Cells) where
         waiting = ap (λ (z : PrimaryParts D). z.waiting) is ∙ (ap (λ (ops : List Op). ops ++ op ∷ []) was.waiting
             ∙ sym (drop_last (published_in_generation (printed log)) (operations_of_generation (printed log)) (op ∷ []) (written size (printed log) legal).within));
         accepted = omega (arith, ap (λ (z : PrimaryParts D). z.accepted) is, was.accepted, length_last (operations_of_generation (printed log)) op);
-        uncut = ap (λ (z : PrimaryParts D). z.has_cut_over) is ∙ was.uncut;
-        calm = ap (λ (z : PrimaryParts D). z.merges) is ∙ was.calm;
+        uncut = λ none. ap (λ (z : PrimaryParts D). z.has_cut_over) is ∙ was.uncut none;
+        calm = λ none. ap (λ (z : PrimaryParts D). z.merges) is ∙ was.calm none;
         flight = subst (λ (x : Option Publish × List Shown). FlightShows (shown at (Accepted seq op) ∷ log) (publish_in_flight (printed (shown at (Accepted seq op) ∷ log))) x.0 x.1)
             (λ i. (sym (ap (λ (z : PrimaryParts D). z.publish) is) i, sym (ap (λ (z : PrimaryParts D). z.segs) is) i)) flight;
       }
@@ -76,12 +77,12 @@ module _ {D : Type 0} (cells : D → Cells) where
   -- ---- a publish starts
 
   drawn_writes : (b : Bool) (past now : Past) (infos : Infos) (segs : List Shown) → AreSegmentsOf (documents_at now (newest_version now)) segs
-      → generation_of now ≡ generation_of past → newest_version now ≡ newest_version past → names_drawn now ≡ (if b then names_drawn past + 1 else names_drawn past) → put_publishes now ≡ put_publishes past
+      → generation_of now ≡ generation_of past → newest_version now ≡ newest_version past → names_drawn now ≡ (if b then names_drawn past + 1 else names_drawn past) → put_publishes now ≡ put_publishes past → merge_count now ≡ merge_count past
       → WritesAt past infos segs → WritesAt now (infos_drawn b infos) segs
-  drawn_writes true past now infos segs documents generation newest names puts was =
-      record { documents = documents; generation = was.generation ∙ sym generation; version = was.version ∙ sym newest; counter = ap (λ (k : ℕ). k + 1) was.counter ∙ sym names; few = subst (λ (k : ℕ). length infos.segs ≤ k) (sym puts) was.few; live = was.live }
-  drawn_writes false past now infos segs documents generation newest names puts was =
-      record { documents = documents; generation = was.generation ∙ sym generation; version = was.version ∙ sym newest; counter = was.counter ∙ sym names; few = subst (λ (k : ℕ). length infos.segs ≤ k) (sym puts) was.few; live = was.live }
+  drawn_writes true past now infos segs documents generation newest names puts merges was =
+      record { documents = documents; generation = was.generation ∙ sym generation; version = was.version ∙ sym newest; counter = ap (λ (k : ℕ). k + 1) was.counter ∙ sym names; few = subst (λ (k : ℕ). length infos.segs ≤ k) (sym puts) was.few; live = λ none. was.live (sym merges ∙ none) }
+  drawn_writes false past now infos segs documents generation newest names puts merges was =
+      record { documents = documents; generation = was.generation ∙ sym generation; version = was.version ∙ sym newest; counter = was.counter ∙ sym names; few = subst (λ (k : ℕ). length infos.segs ≤ k) (sym puts) was.few; live = λ none. was.live (sym merges ∙ none) }
 
   pub started_primary : (size : ℕ) (log : Log) (at : At) (seg : Option SegNo) (segs : List Shown) (n : ℕ) (p q : PrimaryParts D) → IsLegalPast size (printed log)
       → KeepsRule size (printed log) at Publishing → flush_out at log ≡ None → segs ≡ p.segs
@@ -91,7 +92,7 @@ module _ {D : Type 0} (cells : D → Cells) where
       let point = stands_more size (printed log) (record { at = at; event = Publishing }) (version_of n (printed log)) p.searchers.point.readers (keeps, legal) was.point.stands in
       let newest = stands_more size (printed log) (record { at = at; event = Publishing }) (newest_version (printed log)) p.segs (keeps, legal) (record { known = omega arith; documents = was.writer.documents }) in
       let writer = drawn_writes (has_put p.waiting) (printed log) (printed (shown at Publishing ∷ log)) p.infos p.segs newest.documents refl refl
-      (ap (λ (ops : List Op). if list_any is_put ops then names_drawn (printed log) + 1 else names_drawn (printed log)) (sym was.waiting)) refl was.writer in
+      (ap (λ (ops : List Op). if list_any is_put ops then names_drawn (printed log) + 1 else names_drawn (printed log)) (sym was.waiting)) refl refl was.writer in
       record {
         running = was.running;
         primary = was.primary;
@@ -101,8 +102,8 @@ module _ {D : Type 0} (cells : D → Cells) where
         writer = subst (λ (x : Infos × List Shown). WritesAt (printed (shown at Publishing ∷ log)) x.0 x.1) (λ i. (sym (ap (λ (z : PrimaryParts D). z.infos) is) i, sym (ap (λ (z : PrimaryParts D). z.segs) is) i)) writer;
         waiting = ap (λ (z : PrimaryParts D). z.waiting) is ∙ was.waiting;
         accepted = ap (λ (z : PrimaryParts D). z.accepted) is ∙ was.accepted;
-        uncut = ap (λ (z : PrimaryParts D). z.has_cut_over) is ∙ was.uncut;
-        calm = ap (λ (z : PrimaryParts D). z.merges) is ∙ was.calm;
+        uncut = λ none. ap (λ (z : PrimaryParts D). z.has_cut_over) is ∙ was.uncut none;
+        calm = λ none. ap (λ (z : PrimaryParts D). z.merges) is ∙ was.calm none;
         flight = subst (λ (x : Option Publish × List Shown). FlightShows (kept (FlushOut at seg segs) ∷ shown at Publishing ∷ log) (Some at) x.0 x.1)
             (λ i. (sym (ap (λ (z : PrimaryParts D). z.publish) is) i, sym (ap (λ (z : PrimaryParts D). z.segs) is) i)) flying;
       }
@@ -161,14 +162,14 @@ module _ {D : Type 0} (cells : D → Cells) where
           counter = ap (λ (i : Infos). i.counter) published.point.infos ∙ was.writer.counter;
           few = subst (λ (rs : List SegRecord). length rs ≤ put_publishes (printed (shown at (Published g v) ∷ log))) (sym records)
               (subst (λ (ops : List Op). length published.made.records ≤ (if list_any is_put ops then put_publishes (printed log) + 1 else put_publishes (printed log))) flushed.ops
-              (next_few p.infos.generation.0 p.infos.segs p.segs flushed.task work (merge_inputs p.merges) published.made (put_publishes (printed log)) unheld flushed.flushed published.next was.writer.few));
-          live = subst (λ (rs : List SegRecord). All IsLive rs) (sym records)
-              (next_live p.infos.generation.0 p.infos.segs p.segs flushed.task work (merge_inputs p.merges) published.made unheld flushed.flushed published.next);
+              (next_few p.infos.generation.0 p.infos.segs p.segs flushed.task work (merge_inputs p.merges) published.made (put_publishes (printed log)) flushed.flushed published.next was.writer.few));
+          live = λ none. subst (λ (rs : List SegRecord). All IsLive rs) (sym records)
+              (next_live p.infos.generation.0 p.infos.segs p.segs flushed.task work (merge_inputs p.merges) published.made (unheld none) flushed.flushed published.next);
         };
         waiting = published.point.waiting ∙ left;
         accepted = accepted ∙ was.accepted;
-        uncut = published.point.has_cut_over;
-        calm = calm ∙ was.calm;
+        uncut = λ none. published.point.has_cut_over;
+        calm = λ none. calm ∙ was.calm none;
         flight = subst (λ (o : Option At). FlightShows (shown at (Published g v) ∷ log) o q.publish q.segs) (sym none) published.point.publish;
       }
     where
@@ -178,8 +179,8 @@ module _ {D : Type 0} (cells : D → Cells) where
       records : q.infos.segs ≡ published.made.records
       records = ap (λ (i : Infos). i.segs) published.point.infos
 
-      unheld : merge_inputs p.merges ≡ []
-      unheld = ap (λ (ms : List Merging). merge_inputs ms) was.calm
+      unheld : merge_count (printed log) ≡ 0 → merge_inputs p.merges ≡ []
+      unheld none = ap (λ (ms : List Merging). merge_inputs ms) (was.calm none)
 
       searched : version_of n (printed (shown at (Published g v) ∷ log)) ≡ v.0
       searched = ap (λ (b : Bool). if b then v.0 else version_of n (printed log)) was.primary

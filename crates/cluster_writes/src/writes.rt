@@ -60,21 +60,22 @@ pub fn accept_at<D: FaultDir + Drop>(
         (Event.Accepted (accepted_count (printed cluster.old.log) + 1) op) ∷ cluster.old.log)) }
     ensures err { OnErr result (IsEnded cluster.old cluster.new) }
 {
-    cluster.book.is_fresh(at);
-    cluster.book.is_counted();
-    let next = next_number(cluster.book.accepted());
+    let book = cluster.ledger.book();
+    book.is_fresh(at);
+    book.is_counted();
+    let next = next_number(book.accepted());
     cluster.ended = true;
     let Some(seq) = next else {
         return Err(AllocError);
     };
     let copy = op.share(alloc)?;
-    cluster.book.reserve(1)?;
+    cluster.ledger.reserve(1)?;
     let (mut primary, held) = primary_in(take(&mut cluster.places, p));
     let place = primary.accept(copy);
     let node = Node::Primary(primary);
     put(&mut cluster.places, p, Place { node, held });
     place?;
-    cluster.book.show(at, Event::Accepted { seq, op });
+    cluster.ledger.show(at, Event::Accepted { seq, op });
     cluster.ended = false;
     Ok(())
 }
@@ -99,9 +100,10 @@ pub fn start_publish<D: FaultDir + Drop>(
     ensures ok { IfOk result (StartsPublish at cluster.old cluster.new) }
     ensures err { OnErr result (IsEnded cluster.old cluster.new) }
 {
-    cluster.book.is_fresh(at);
+    let book = cluster.ledger.book();
+    book.is_fresh(at);
     cluster.ended = true;
-    cluster.book.reserve(2)?;
+    cluster.ledger.reserve(2)?;
     let (mut primary, held) = primary_in(take(&mut cluster.places, p));
     let started = primary.publish_start(alloc);
     let node = Node::Primary(primary);
@@ -119,8 +121,8 @@ pub fn start_publish<D: FaultDir + Drop>(
         drop(task);
         return Err(AllocError);
     };
-    cluster.book.show(at, Event::Publishing);
-    cluster.book.keep(Inner::FlushOut {
+    cluster.ledger.show_publishing(at);
+    cluster.ledger.keep(Inner::FlushOut {
         at,
         seg: task.seg,
         segs,
@@ -149,17 +151,17 @@ pub fn end_publish<D: FaultDir + Drop>(
         (record { 0 = newest_version (printed cluster.old.log) + 1 })) ∷ cluster.old.log)) }
     ensures err { OnErr result (IsEnded cluster.old cluster.new) }
 {
-    cluster.book.flies(at);
-    cluster.book.is_flushed(at);
-    cluster.book.is_legal();
+    let book = cluster.ledger.book();
+    book.is_flushed(at);
+    book.is_legal();
     files_last();
-    let newest = cluster.book.newest();
-    let generation = Gen(cluster.book.generation());
+    let newest = book.newest();
+    let generation = Gen(book.generation());
     cluster.ended = true;
     if newest >= (1 << 63) - 1 {
         return Err(AllocError);
     }
-    cluster.book.reserve(1)?;
+    cluster.ledger.reserve(1)?;
     let (mut primary, held) = primary_in(take(&mut cluster.places, p));
     let ended = primary.publish_end(alloc, work);
     let node = Node::Primary(primary);
@@ -167,7 +169,7 @@ pub fn end_publish<D: FaultDir + Drop>(
     let Ok(v) = ended else {
         return Err(AllocError);
     };
-    cluster.book.show(at, Event::Published { generation, v });
+    cluster.ledger.show_published(at, generation, v);
     cluster.ended = false;
     Ok(())
 }

@@ -10,7 +10,9 @@ use Rattle.nrt_base.specs.SegNumbers.{segment_number}
 use Rattle.history_entries.specs.declared.entry.Event.{Event}
 use Rattle.history_entries.specs.declared.entry.Event.TheVariants.{Publishing, Published, Crashed, Promoted, Merging, Fault}
 use Rattle.history_entries.specs.declared.cause.FaultKind.{FaultKind}
-use Rattle.history_entries.specs.Nodes.{Past, is_at, primary_of, primary_by, generation_of}
+use Rattle.history_entries.specs.Nodes.{Past, is_at, primary_of, primary_by, generation_of, newest_version}
+use Rattle.history_entries.specs.Rules.{MayPublish}
+use Rattle.history_book.specs.Laws.{Flying}
 use Rattle.history_entries.specs.Lines.{same_at, is_start, is_reply, before_start, without_at, publish_in_flight}
 use Rattle.history_entries.specs.Points.{operations_of_generation, accepted_at_start, published_in_generation, names_drawn, merges_started, idle_publishes, adds_none, cut_has_put}
 use Rattle.history_entries.specs.Legal.{IsLegalPast}
@@ -232,3 +234,14 @@ merges_promoted size log t x m g f v legal turns none s =
 -- what is shown at the start of a publish: an operation, or a merge that none took
 pub publish_some : (log : Log) (t : MergeTable) → t.cut ≡ true → MergesShow log t → idle_publishes (printed log) < merges_started (printed log)
 publish_some log t cut s = let p = s.paid in let one : cut_overs t.cut ≡ 1 = ap cut_overs cut in omega arith
+
+-- the publish in flight ends by its rule
+pub publish_rule : (log : Log) (t : MergeTable) (at : At) (g : Gen) (v : Version) → publish_in_flight (printed log) ≡ Some at → Flying (printed log) at → g.0 ≡ generation_of (printed log) → v.0 ≡ newest_version (printed log) + 1 → MergesShow log t
+    → MayPublish (printed log) at g v
+publish_rule log t at g v flight flies present next shows = record {
+  started = flies.entry;
+  survives = record { source = flies.source };
+  present = present;
+  next = next;
+  merged = let p = publish_paid log t at g v flight shows in omega (arith, p);
+}

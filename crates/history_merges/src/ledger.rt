@@ -42,10 +42,10 @@ impl Ledger {
     ghost use Rattle.history_entries.specs.Lines.{is_start, is_free_for, publish_in_flight};
     ghost use Rattle.history_entries.specs.Points.{cut_of};
     ghost use Rattle.history_entries.specs.Rules.{MayStartMerge, MayPromote};
-    ghost use Rattle.history_entries.specs.Legal.{KeepsRule};
+    ghost use Rattle.history_entries.specs.Legal.{KeepsRule, IsLegalPast};
     ghost use Rattle.history_tables.specs.Openings.{opens_ticket};
     ghost use Rattle.history_tables.specs.JobRows.{is_begin};
-    ghost use Rattle.history_book.specs.Turns.{IsUnbegun, InTurn};
+    ghost use Rattle.history_book.specs.Turns.{IsUnbegun, InTurn, AreInTurn};
     ghost use Rattle.history_book.specs.Jobs.{job_step, IsInside};
     ghost use Rattle.history_book.specs.Log.{printed, shown, kept, mark_for, FollowsMerging};
     ghost use Rattle.history_merges.specs.Merging.{merge_on, is_apart, ends_reign, ends_no_merge};
@@ -100,6 +100,9 @@ impl Ledger {
         ensures room { self.new.room + 1 ≡ self.old.room }
         ensures jobs { self.new.jobs ≡ self.old.jobs }
         ensures cut { self.new.cut ≡ self.old.cut }
+        // what stood there before
+        ensures legal { IsLegalPast self.old.nodes (printed self.old.log) }
+        ensures turns { AreInTurn (printed self.old.log) }
     {
         self.book.show(at, event);
     }
@@ -171,6 +174,9 @@ impl Ledger {
         ensures nodes { self.new.nodes ≡ self.old.nodes }
         ensures room { self.new.room + 1 ≡ self.old.room }
         ensures cut { self.new.cut ≡ self.old.cut }
+        // what stood there before
+        ensures legal { IsLegalPast self.old.nodes (printed self.old.log) }
+        ensures turns { AreInTurn (printed self.old.log) }
     {
         self.book.show(at, Event::Publishing);
     }
@@ -185,6 +191,10 @@ impl Ledger {
         ensures nodes { self.new.nodes ≡ self.old.nodes }
         ensures room { self.new.room + 1 ≡ self.old.room }
         ensures cut { self.new.cut ≡ false }
+        // what stood there before
+        ensures legal { IsLegalPast self.old.nodes (printed self.old.log) }
+        ensures turns { AreInTurn (printed self.old.log) }
+        ensures rule { KeepsRule self.old.nodes (printed self.old.log) at (Event.Published generation v) }
     {
         self.book.flies(at);
         self.merges.publish();
@@ -201,9 +211,29 @@ impl Ledger {
         ensures nodes { self.new.nodes ≡ self.old.nodes }
         ensures room { self.new.room + 1 ≡ self.old.room }
         ensures cut { self.new.cut ≡ false }
+        // what stood there before
+        ensures legal { IsLegalPast self.old.nodes (printed self.old.log) }
+        ensures turns { AreInTurn (printed self.old.log) }
     {
         self.merges.clear();
         self.book.show(at, Event::Crashed { n });
+    }
+
+    /// Appends the crash of a node. That of the primary ends its merges.
+    pub fn show_crashed(&mut self, at: At, n: NodeNo)
+        requires room { 1 ≤ self.old.room }
+        requires node { IsNode self.old.nodes n.0 }
+        requires runs { is_running n.0 (printed self.old.log) ≡ true }
+        ensures log { self.new.log ≡ shown at (Event.Crashed n) ∷ self.old.log }
+        ensures nodes { self.new.nodes ≡ self.old.nodes }
+        // what stood there before
+        ensures legal { IsLegalPast self.old.nodes (printed self.old.log) }
+        ensures turns { AreInTurn (printed self.old.log) }
+    {
+        match self.book.primary() {
+            Some(p) if p.0 == n.0 => self.show_fall(at, n),
+            _ => self.show(at, Event::Crashed { n }),
+        }
     }
 
     /// Appends a promotion.
@@ -214,6 +244,9 @@ impl Ledger {
             ≡ shown at (Event.Promoted n generation forced v) ∷ self.old.log }
         ensures nodes { self.new.nodes ≡ self.old.nodes }
         ensures room { self.new.room + 1 ≡ self.old.room }
+        // what stood there before
+        ensures legal { IsLegalPast self.old.nodes (printed self.old.log) }
+        ensures turns { AreInTurn (printed self.old.log) }
     {
         self.book.show(
             at,
@@ -238,6 +271,15 @@ impl Ledger {
         ensures { result ≡ self.now.cut }
     {
         self.merges.has_cut()
+    }
+
+    /// The book, once no other entry is to come.
+    pub fn into_book(self) -> Book
+        ensures log { result.log ≡ self.log }
+        ensures nodes { result.nodes ≡ self.nodes }
+    {
+        let Ledger { book, .. } = self;
+        book
     }
 
     /// The printed entries alone.

@@ -1,16 +1,23 @@
 use Rattle.cluster_state.proofs.Frames.{noted, rule_at}
 use Rattle.cluster_state.proofs.FileFrames.{files_noted}
+use Rattle.cluster_state.proofs.Ledgers.{still_apart, still_reigns}
 use Rattle.cluster_state.proofs.cluster.ClusterState.note.Goals as goal
 
 pub invariant_of-self-2 : goal.invariant_of-self-2
 invariant_of-self-2 g c = λ running. (
-  noted g.D.Dir.cells c.args.self.now _ c.self.inside.book c.reserve.new.self c.show.new.self _ c.args.at c.args.event
+  noted g.D.Dir.cells c.args.self.now _ c.self.inside.ledger c.reserve.new.self c.show.new.self _ c.args.at c.args.event
       c.self.view_is c.requires.running (λ e. (c.self.invariant e).0) c.in_ok-reserve.ensures.log c.in_ok-reserve.ensures.nodes c.show.ensures.log c.show.ensures.nodes c.show.ensures.legal c.show.ensures.turns
       c.requires.rule c.requires.line c.requires.still c.requires.apart,
-  files_noted g.D.Dir.cells c.args.self.now _ c.self.inside.book c.reserve.new.self c.show.new.self _ c.args.at c.args.event
+  files_noted g.D.Dir.cells c.args.self.now _ c.self.inside.ledger c.reserve.new.self c.show.new.self _ c.args.at c.args.event
       c.self.view_is c.requires.running (λ e. (c.self.invariant e).0) (λ e. (c.self.invariant e).1) c.in_ok-reserve.ensures.log c.in_ok-reserve.ensures.nodes c.show.ensures.log c.show.ensures.nodes
       c.show.ensures.legal c.show.ensures.turns c.requires.rule c.requires.turn c.requires.jobs c.requires.commits c.requires.flights,
 )
 
 pub show-requires-clause-rule : goal.show-requires-clause-rule
-show-requires-clause-rule g c = rule_at c.args.self.now _ c.self.inside.book c.reserve.new.self c.args.at c.args.event c.self.view_is c.in_ok-reserve.ensures.log c.in_ok-reserve.ensures.nodes c.requires.rule
+show-requires-clause-rule g c = rule_at c.args.self.now _ c.self.inside.ledger c.reserve.new.self c.args.at c.args.event c.self.view_is c.in_ok-reserve.ensures.log c.in_ok-reserve.ensures.nodes c.requires.rule
+
+pub show-requires-clause-apart : goal.show-requires-clause-apart
+show-requires-clause-apart g c = still_apart c.args.event c.requires.still
+
+pub show-requires-clause-reigns : goal.show-requires-clause-reigns
+show-requires-clause-reigns g c = still_reigns c.args.event _ c.requires.still

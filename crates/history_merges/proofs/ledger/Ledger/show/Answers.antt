@@ -1,9 +1,10 @@
 use Rattle.std.proofs.Common.{◌≡◌, sym, subst, false}
 use Rattle.history_entries.specs.Nodes.{primary_of}
 use Rattle.history_book.specs.Log.{Log, printed}
-use Rattle.history_book.specs.Turns.{InTurn}
+use Rattle.history_book.specs.Turns.{InTurn, AreInTurn}
 use Rattle.history_merges.specs.Merging.{MergesShow, Sheet, ends_reign}
 use Rattle.history_merges.proofs.MergeFrames.{merges_still}
+use Rattle.history_entries.specs.Legal.{IsLegalPast}
 use Rattle.history_merges.proofs.ledger.Ledger.show.Goals as goal
 
 pub invariant_of-self : goal.invariant_of-self
@@ -13,3 +14,9 @@ invariant_of-self c =
     (merges_still _ _ c.self.inside.merges c.args.at c.args.event c.show.ensures.legal c.show.ensures.turns
     (subst (λ (s : Sheet). InTurn (printed s.log) c.args.at c.args.event) back c.requires.turn) c.requires.apart
     (subst (λ (s : Sheet). ends_reign c.args.event (primary_of (printed s.log)) ≡ false) back c.requires.reigns) c.self.invariant)
+
+pub returns-clause-legal : goal.returns-clause-legal
+returns-clause-legal c = subst (λ (s : Sheet). IsLegalPast s.nodes (printed s.log)) c.self.view_is c.show.ensures.legal
+
+pub returns-clause-turns : goal.returns-clause-turns
+returns-clause-turns c = subst (λ (s : Sheet). AreInTurn (printed s.log)) c.self.view_is c.show.ensures.turns

@@ -5,6 +5,8 @@ use Rattle.history_entries.specs.Nodes.{is_at, primary_of}
 use Rattle.history_book.specs.Log.{Log, printed}
 use Rattle.history_merges.specs.Merging.{MergesShow, Sheet}
 use Rattle.history_merges.proofs.MergeFrames.{merges_crashed}
+use Rattle.history_entries.specs.Legal.{IsLegalPast}
+use Rattle.history_book.specs.Turns.{AreInTurn}
 use Rattle.history_merges.proofs.ledger.Ledger.show_fall.Goals as goal
 
 pub invariant_of-self : goal.invariant_of-self
@@ -13,3 +15,9 @@ invariant_of-self c =
     subst (λ (l : Log). MergesShow l c.clear.new.self) (sym c.show.ensures.log)
     (merges_crashed _ c.self.inside.merges c.clear.new.self c.args.at c.args.n (ap (λ (p : Option NodeNo). is_at p c.args.n.0) primary ∙ eq-eqb c.args.n.0 c.args.n.0 refl)
     c.clear.ensures.rows c.clear.ensures.cut c.self.invariant)
+
+pub returns-clause-legal : goal.returns-clause-legal
+returns-clause-legal c = subst (λ (s : Sheet). IsLegalPast s.nodes (printed s.log)) c.self.view_is c.show.ensures.legal
+
+pub returns-clause-turns : goal.returns-clause-turns
+returns-clause-turns c = subst (λ (s : Sheet). AreInTurn (printed s.log)) c.self.view_is c.show.ensures.turns

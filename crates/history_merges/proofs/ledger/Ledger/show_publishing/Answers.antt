@@ -6,6 +6,8 @@ use Rattle.history_entries.specs.Points.{cut_of, operations_of_generation, publi
 use Rattle.history_book.specs.Log.{Log, printed}
 use Rattle.history_merges.specs.Merging.{MergesShow, Sheet}
 use Rattle.history_merges.proofs.MergeFrames.{merges_publishing, publish_some}
+use Rattle.history_entries.specs.Legal.{IsLegalPast}
+use Rattle.history_book.specs.Turns.{AreInTurn}
 use Rattle.history_merges.proofs.ledger.Ledger.show_publishing.Goals as goal
 
 pub show-requires-clause-rule : goal.show-requires-clause-rule
@@ -23,3 +25,9 @@ invariant_of-self c =
     subst (λ (l : Log). MergesShow l c.self.inside.merges) (sym c.show.ensures.log)
     (merges_publishing _ c.self.inside.merges c.args.at
     (λ few. ⊎_elim (λ ops. absurd (let n = length-drop (published_in_generation (printed c.self.inside.book.log)) (operations_of_generation (printed c.self.inside.book.log)) in omega arith)) (λ cut. cut) some) c.self.invariant)
+
+pub returns-clause-legal : goal.returns-clause-legal
+returns-clause-legal c = subst (λ (s : Sheet). IsLegalPast s.nodes (printed s.log)) c.self.view_is c.show.ensures.legal
+
+pub returns-clause-turns : goal.returns-clause-turns
+returns-clause-turns c = subst (λ (s : Sheet). AreInTurn (printed s.log)) c.self.view_is c.show.ensures.turns
