@@ -28,8 +28,8 @@ use Rattle.searcher_switch.specs.Searching.{searcher_names}
 use Rattle.index_primary.specs.Primary.{IsPrimary, primary_names, rest_names}
 use Rattle.index_primary.specs.States.{out_of, is_out}
 use Rattle.replica_opening.specs.Known.{IsLasting, HasMeta}
-use Rattle.replica_node.specs.declared.job.PointJob.{PointJob}
-use Rattle.replica_node.specs.declared.parts.Parts.{Parts as ReplicaParts}
+use Rattle.replica_parts.specs.declared.job.PointJob.{PointJob}
+use Rattle.replica_parts.specs.declared.parts.Parts.{Parts as ReplicaParts}
 use Rattle.history_entries.specs.declared.entry.Event.{Event}
 use Rattle.history_entries.specs.declared.entry.Event.TheVariants.{Published, Copying, Promoted}
 use Rattle.history_entries.specs.Nodes.{Past, IsNode, is_at, primary_of, newest_version, version_of}

@@ -27,8 +27,8 @@ use Rattle.index_primary.specs.declared.states.Out.{Out}
 use Rattle.index_primary.specs.Held.{IsUndrawn}
 use Rattle.index_primary.specs.Primary.{IsPrimary, loose_of}
 use Rattle.replica_opening.specs.Known.{IsLasting}
-use Rattle.replica_node.specs.declared.job.PointJob.{PointJob}
-use Rattle.replica_node.specs.declared.parts.Parts.{Parts as ReplicaParts}
+use Rattle.replica_parts.specs.declared.job.PointJob.{PointJob}
+use Rattle.replica_parts.specs.declared.parts.Parts.{Parts as ReplicaParts}
 use Rattle.history_entries.specs.declared.entry.Event.{Event}
 use Rattle.history_entries.specs.declared.entry.Event.TheVariants.{Publishing, Committing, Committed}
 use Rattle.history_entries.specs.Nodes.{Past, IsNode, is_at, primary_of, is_running, newest_version, generation_of, version_of}

@@ -29,10 +29,10 @@ use Rattle.copy_state.specs.declared.meta.FileMetaData.{FileMetaData}
 use Rattle.copy_state.specs.States.{meta_names, meta_in}
 use Rattle.copy_job.specs.declared.copying.Part.{Part}
 use Rattle.replica_opening.specs.Known.{IsLasting, HasMeta}
-use Rattle.replica_node.specs.declared.job.PointJob.{PointJob}
-use Rattle.replica_node.specs.Replica.{IsJobAbove}
-use Rattle.replica_node.proofs.Metas.{some_meta}
-use Rattle.replica_node.specs.declared.parts.Parts.{Parts as ReplicaParts}
+use Rattle.replica_parts.specs.declared.job.PointJob.{PointJob}
+use Rattle.replica_parts.specs.Replica.{IsJobAbove}
+use Rattle.replica_parts.proofs.Metas.{some_meta}
+use Rattle.replica_parts.specs.declared.parts.Parts.{Parts as ReplicaParts}
 use Rattle.history_entries.specs.Nodes.{Past}
 use Rattle.history_entries.specs.Points.{is_drawn, IsDrawnFile}
 use Rattle.history_entries.specs.Rules.{MayHaveName}

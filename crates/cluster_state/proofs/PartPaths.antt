@@ -14,8 +14,8 @@ use Rattle.index_primary.specs.States.{out_of}
 use Rattle.seg_reader.specs.Stands.{StandsFor}
 use Rattle.segment_infos.specs.declared.infos.Infos.{Infos}
 use Rattle.replica_opening.specs.Known.{HasMeta}
-use Rattle.replica_node.specs.declared.job.PointJob.{PointJob}
-use Rattle.replica_node.specs.declared.parts.Parts.{Parts as ReplicaParts}
+use Rattle.replica_parts.specs.declared.job.PointJob.{PointJob}
+use Rattle.replica_parts.specs.declared.parts.Parts.{Parts as ReplicaParts}
 use Rattle.history_entries.specs.Nodes.{IsNode, IsReplica, version_of, generation_of}
 use Rattle.history_entries.specs.Points.{documents_at}
 use Rattle.history_tables.specs.declared.jobs.Job.{Job}
@@ -38,7 +38,7 @@ use Rattle.cluster_state.specs.Disks.{IsPastPoint}
 use Rattle.cluster_state.proofs.Disks.{commits_alone, disk_moved, disk_same, disks_kept}
 use Rattle.cluster_state.proofs.Frames.{some_at, slot_of, was}
 use Rattle.cluster_places.proofs.OutCounts.{jobs_same}
-use Rattle.replica_node.specs.Replica.{IsJobAbove}
+use Rattle.replica_parts.specs.Replica.{IsJobAbove}
 use Rattle.cluster_state.proofs.Drawn.{grows_none}
 use Rattle.cluster_state.proofs.Naming.{FilesLast, took_steps}
 use Rattle.cluster_state.proofs.FileFrames.{names_one, Both, both_of, node_files, one_each, wants_same, files_was}

@@ -18,18 +18,18 @@ use Rattle.searcher_switch.specs.Tickets.{ticket_names}
 use Rattle.searcher_switch.specs.Searching.{searcher_names}
 use Rattle.replica_opening.specs.Known.{IsLasting}
 use Rattle.replica_opening.specs.Opening.{FindsPoint, number_of_last}
-use Rattle.replica_node.specs.Sources.{IsSourced}
-use Rattle.replica_node.proofs.Advances.{among_file, some_among}
+use Rattle.replica_parts.specs.Sources.{IsSourced}
+use Rattle.replica_parts.proofs.Named.{among_file, some_among}
 use Rattle.commit_steps.proofs.Safe.{own_is, number_of_own}
 use Rattle.replica_opening.specs.declared.opening.Opened.{Opened}
 use Rattle.replica_opening.specs.Opened.{IsNodeOpened, IsHandedBack}
-use Rattle.replica_node.specs.Waiting.{HasNoTemporary}
-use Rattle.replica_node.specs.Replica.{IsWholeReplica}
-use Rattle.replica_node.proofs.Temporary.{joins, files_no_temporary}
+use Rattle.replica_parts.specs.Waiting.{HasNoTemporary}
+use Rattle.replica_parts.specs.Replica.{IsWholeReplica}
+use Rattle.replica_parts.proofs.Temporary.{joins, files_no_temporary}
 use Rattle.std.specs.Prelude.{IfSome, IsSomeAnd}
 use Rattle.node_files.specs.Appearing.{NoneAppears}
 use Rattle.node_files.proofs.Appearing.{there_or}
-use Rattle.replica_node.specs.Starting.{HasJustItsFiles}
+use Rattle.replica_parts.specs.Starting.{HasJustItsFiles}
 use Rattle.disk_model.specs.Disk.{Name, Content, Cells, reads_of}
 use Rattle.segment_infos.specs.declared.infos.Infos.{Infos}
 use Rattle.commit_steps.specs.declared.states.Commit.{Commit}

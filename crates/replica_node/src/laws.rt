@@ -16,8 +16,8 @@ ghost use Rattle.copy_job.specs.Jobs.{Job, reads_under};
 ghost use Rattle.replica_opening.specs.Known.{IsLasting, HasMeta};
 ghost use Rattle.replica_opening.specs.Readers.{AreReaders};
 ghost use Rattle.replica_opening.specs.Opened.{IsSettledOn};
-ghost use Rattle.replica_node.specs.Jobs.{IsStartingFault};
-ghost use Rattle.replica_node.specs.Sources.{CopiesFrom};
+ghost use Rattle.replica_parts.specs.Jobs.{IsStartingFault};
+ghost use Rattle.replica_parts.specs.Sources.{CopiesFrom};
 
 /// A directory that restarted from an image, as after a crash, shows in each image what it shows.
 pub fn restarted_settled()

@@ -17,20 +17,24 @@ ghost use Rattle.replica_opening.specs.declared.fault.StartFault.{StartFault};
 ghost use Rattle.replica_opening.specs.Known.{IsLasting};
 ghost use Rattle.replica_opening.specs.Opening.{FindsPoint, number_of_last, IsStartRefusal, IsCutOffOr};
 ghost use Rattle.replica_opening.specs.Opened.{IsSettledOn, IsHandedBack};
-ghost use Rattle.replica_node.specs.Sources.{IsSourced};
-ghost use Rattle.replica_node.specs.Starting.{IsJustOpened, SearchesJust, HasJustItsFiles, IsHandedOut};
-ghost use Rattle.replica_node.specs.Replica.{IsWholeReplica};
+ghost use Rattle.replica_parts.specs.Sources.{IsSourced};
+ghost use Rattle.replica_parts.specs.Starting.{IsJustOpened, SearchesJust, HasJustItsFiles};
+ghost use Rattle.replica_node.specs.Refusals.{IsHandedOut};
+ghost use Rattle.replica_parts.specs.Replica.{IsWholeReplica};
 
-use crate::answer::PointAnswer;
-use crate::parts::Parts;
-use crate::taking::NodeParts;
 use commit_steps::CommitFault;
 use copy_job::{CopyJob, JobFault, Part};
 use copy_state::CopyState;
 use disk_model::{Dir, FaultDir};
 use file_names::FileName;
 use nrt_base::{Gen, NoMemory, Version};
+use replica_calls::{
+    acquire, commit_begin, commit_step, end_job, into_dir, lease, new_point, plan, release,
+    stop_at, take_apart,
+};
+use replica_copies::{arrived, finish, start_job};
 use replica_opening::{StartFault, open};
+use replica_parts::{NodeParts, Parts, PointAnswer};
 use searcher_switch::{Lease, Ticket};
 use seg_reader::Segment;
 use std::alloc::Global;
@@ -99,8 +103,8 @@ pub struct Replica<D: Dir> {
 }
 
 impl<D: Dir> Model for Replica<D> {
-    ghost use Rattle.replica_node.specs.declared.parts.Parts.{Parts};
-    ghost use Rattle.replica_node.specs.Replica.{IsWholeReplica};
+    ghost use Rattle.replica_parts.specs.declared.parts.Parts.{Parts};
+    ghost use Rattle.replica_parts.specs.Replica.{IsWholeReplica};
 
     ghost Value = { Parts D };
 
@@ -126,10 +130,10 @@ impl<D: Dir> Replica<D> {
     ghost use Rattle.copy_state.specs.Meta.{IsMetaOf};
     ghost use Rattle.copy_state.specs.States.{meta_in, IsCopyState};
     ghost use Rattle.copy_job.specs.Jobs.{with_part, reads_under};
-    ghost use Rattle.replica_node.specs.Answers.{point_answer};
-    ghost use Rattle.replica_node.specs.Jobs.{IsPointJob, Agrees, IsStartingFault};
-    ghost use Rattle.replica_node.specs.Sources.{HeldReadAs, IsSourced, KeepsSource, HoldsOnly, IsWantedName, IsStillCopying, IsTakenApart};
-    ghost use Rattle.replica_node.specs.Replica.{IsWholeReplica, AreStanding, IsWanted};
+    ghost use Rattle.replica_parts.specs.Answers.{point_answer};
+    ghost use Rattle.replica_parts.specs.Jobs.{IsPointJob, Agrees, IsStartingFault};
+    ghost use Rattle.replica_parts.specs.Sources.{HeldReadAs, IsSourced, KeepsSource, HoldsOnly, IsWantedName, IsStillCopying, IsTakenApart};
+    ghost use Rattle.replica_parts.specs.Replica.{IsWholeReplica, AreStanding, IsWanted};
     ghost use Rattle.node_files.specs.Standing.{StandsForSome, IsStanding, ImagesStand};
     ghost use Rattle.node_files.specs.Appearing.{AppearsOnly, IsNameInFlight};
 
@@ -227,7 +231,7 @@ impl<D: Dir> Replica<D> {
         ensures seen { self.new.seen.0 ≡ max self.old.seen.0 generation.0 }
         ensures others { self.new ≡ record self.old { seen = self.new.seen } }
     {
-        self.parts.new_point(generation, version)
+        new_point(&mut self.parts, generation, version)
     }
 
     /// Opens a ticket at the point that is searched.
@@ -251,7 +255,7 @@ impl<D: Dir> Replica<D> {
           searchers = self.new.searchers;
         } }
     {
-        self.parts.acquire(alloc)
+        acquire(alloc, &mut self.parts)
     }
 
     /// What a search under a ticket reads.
@@ -260,7 +264,7 @@ impl<D: Dir> Replica<D> {
         ensures { IfOk result (λ lease.
             IfSome (ticket_at ticket.now.number self.now.searchers.tickets) (IsLeaseOf lease)) }
     {
-        self.parts.lease(alloc, ticket)
+        lease(alloc, &self.parts, ticket)
     }
 
     /// Closes a ticket.
@@ -283,7 +287,7 @@ impl<D: Dir> Replica<D> {
           searchers = self.new.searchers;
         } }
     {
-        self.parts.release(ticket);
+        release(&mut self.parts, ticket);
     }
 
     /// Begins a commit of the point that is searched.
@@ -304,7 +308,7 @@ impl<D: Dir> Replica<D> {
           commits = self.new.commits;
         } }
     {
-        self.parts.commit_begin(alloc)
+        commit_begin(alloc, &mut self.parts)
     }
 
     /// Makes the next call of the directory for the commit in flight, and answers whether the commit is made.
@@ -334,7 +338,7 @@ impl<D: Dir> Replica<D> {
           commits = self.new.commits;
         } }
     {
-        self.parts.commit_step(alloc)
+        commit_step(alloc, &mut self.parts)
     }
 
     /// Begins a job of a newer point, and answers its number. It fetches the files of the point that nobody holds, and reuses
@@ -372,7 +376,7 @@ impl<D: Dir> Replica<D> {
           job = self.new.job;
         } }
     {
-        self.parts.start_job(alloc, state)
+        start_job(alloc, &mut self.parts, state)
     }
 
     /// Writes a part of the job under its temporary name. After a refusal it is still missing.
@@ -407,7 +411,7 @@ impl<D: Dir> Replica<D> {
           job = self.new.job;
         } }
     {
-        self.parts.arrived(job, part)
+        arrived(&mut self.parts, job, part)
     }
 
     /// Searches the point of the job, of which nothing is missing, and ends the job. After a refusal the job holds what it
@@ -452,7 +456,7 @@ impl<D: Dir> Replica<D> {
           known = self.new.known;
         } }
     {
-        self.parts.finish(alloc, job)
+        finish(alloc, &mut self.parts, job)
     }
 
     /// Ends a job, and gives back what it held, by one release.
@@ -474,7 +478,7 @@ impl<D: Dir> Replica<D> {
           job = self.new.job;
         } }
     {
-        self.parts.end_job();
+        end_job(&mut self.parts);
     }
 
     /// The names that its directory has, ascending. It makes no disk call.
@@ -507,7 +511,7 @@ impl<D: Dir> Replica<D> {
         ensures later { D.faults self.dir ≤ D.faults result.dir }
     {
         let Replica { parts } = self;
-        parts.take_apart()
+        take_apart(parts)
     }
 
     /// The directory of a replica that ends.
@@ -515,13 +519,13 @@ impl<D: Dir> Replica<D> {
         ensures { result ≡ self.dir }
     {
         let Replica { parts } = self;
-        parts.into_dir()
+        into_dir(parts)
     }
 }
 
 impl<D: FaultDir> Replica<D> {
-    ghost use Rattle.replica_node.specs.Sources.{KeepsSource, HoldsOnly};
-    ghost use Rattle.replica_node.specs.Replica.{IsWholeReplica, AreStanding};
+    ghost use Rattle.replica_parts.specs.Sources.{KeepsSource, HoldsOnly};
+    ghost use Rattle.replica_parts.specs.Replica.{IsWholeReplica, AreStanding};
 
     /// The k-th counted call of the directory from now fails once.
     pub fn plan(&mut self, k: u64)
@@ -535,7 +539,7 @@ impl<D: FaultDir> Replica<D> {
         ensures faults { D.faults self.new.dir ≡ D.faults self.old.dir }
         ensures others { self.new ≡ record self.old { dir = self.new.dir } }
     {
-        self.parts.plan(k);
+        plan(&mut self.parts, k);
     }
 
     /// The k-th counted call of the directory from now and every later one fail.
@@ -550,7 +554,7 @@ impl<D: FaultDir> Replica<D> {
         ensures faults { D.faults self.new.dir ≡ D.faults self.old.dir }
         ensures others { self.new ≡ record self.old { dir = self.new.dir } }
     {
-        self.parts.stop_at(k);
+        stop_at(&mut self.parts, k);
     }
 
     /// How many faults of the directory were met by `plan`, and how many by `stop_at`.

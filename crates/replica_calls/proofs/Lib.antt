@@ -1,0 +1,6 @@
+mod Apart
+mod Calls
+mod Committing
+mod Ended
+mod Planned
+mod Searched

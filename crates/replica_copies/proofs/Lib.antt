@@ -1,0 +1,9 @@
+mod Advances
+mod Appears
+mod Arrived
+mod Begun
+mod Finished
+mod Finishing
+mod States
+mod Switched
+mod Taken

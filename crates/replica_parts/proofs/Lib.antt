@@ -1,0 +1,13 @@
+pub mod Along
+pub mod Beside
+pub mod Carried
+pub mod Cores
+pub mod Documents
+pub mod Keeping
+pub mod Lasting
+pub mod Lists
+pub mod Metas
+pub mod Named
+pub mod Noted
+pub mod Temporary
+pub mod Waiting

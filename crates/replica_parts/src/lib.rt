@@ -1,0 +1,14 @@
+//! What a replica has, and what is known of its files.
+#![tactic(auto)]
+
+mod answer;
+mod held;
+mod job;
+mod parts;
+mod taking;
+
+pub use answer::PointAnswer;
+pub use held::{held_of, note_wanted};
+pub use job::{PointJob, told};
+pub use parts::Parts;
+pub use taking::NodeParts;
