@@ -1,9 +1,9 @@
 mod Advances
 mod Appears
-mod Arrived
+mod Arrivals
 mod Begun
 mod Finished
-mod Finishing
 mod States
 mod Switched
+mod Switching
 mod Taken

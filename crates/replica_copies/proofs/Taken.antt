@@ -16,7 +16,7 @@ use Rattle.replica_parts.specs.declared.job.PointJob.{PointJob}
 use Rattle.replica_parts.specs.declared.parts.Parts.{Parts}
 use Rattle.replica_parts.specs.Sources.{CopiesFrom, IsSourced, KeepsSource, HoldsOnly}
 use Rattle.replica_parts.specs.Replica.{IsWholeReplica, IsJobAbove, HasMetas}
-use Rattle.replica_copies.proofs.Arrived.{arrives, stays_out, part_added, node_j, counts_new}
+use Rattle.replica_copies.proofs.Arrivals.{arrives, stays_out, part_added, node_j, counts_new}
 use Rattle.replica_parts.proofs.Carried.{JobReads, HoldsNoOther, job_arrives, held_along}
 use Rattle.replica_parts.proofs.Cores.{IsCore}
 use Rattle.replica_parts.proofs.Keeping.{Knows, HasWanted, Matches, core_of, whole_of, whole_beside, sourced_beside, holds_beside, knows_reads, reads_known, metas_reads, reads_metas, as_reads, reads_as, copies_reads, reads_copies}

@@ -2,7 +2,7 @@ use Rattle.std.proofs.Common.{◌≡◌, sym, subst, Option, Some}
 use Rattle.std.specs.Prelude.{IfSome}
 use Rattle.copy_state.specs.States.{meta_in}
 use Rattle.replica_parts.specs.declared.job.PointJob.{PointJob}
-use Rattle.replica_copies.proofs.Arrived.{free_j}
+use Rattle.replica_copies.proofs.Arrivals.{free_j}
 use Rattle.replica_parts.proofs.Beside.{standing_jobs}
 use Rattle.replica_parts.proofs.Keeping.{core_of}
 use Rattle.replica_copies.proofs.Taken.{arrived_core, arrived_whole, arrived_sourced, arrived_held, out_core, out_whole, out_sourced, out_held}
