@@ -1,4 +1,5 @@
 -- A job that begins.
+use Rattle.replica_parts.proofs.Lasting.{listed_lasts}
 use Rattle.std.proofs.Common.{◌≡◌, ◌≢◌, ◌==◌, ℕ, zero, suc, ◌+◌, ◌<◌, Bool, true, false, List, [], ◌∷◌, ◌++◌, Option, Some, None, cond, is_some, is_none, refl, sym, ap, subst, ◌∙◌, arith, inl, get_or, length}
 use Rattle.std.specs.Prelude.{Contains, filter, IsSomeAnd}
 use Rattle.std.specs.List.{All}

@@ -1,9 +1,4 @@
-mod Advances
-mod Appears
 mod Arrivals
 mod Begun
-mod Finished
 mod States
-mod Switched
-mod Switching
 mod Taken

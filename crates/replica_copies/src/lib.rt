@@ -1,11 +1,8 @@
-//! The jobs of a replica that copy points.
+//! The jobs of a replica that copy points: how they begin, and go on.
 #![tactic(auto)]
 
-mod advancing;
 mod arriving;
 mod beginning;
-mod finishing;
 
 pub use arriving::arrived;
 pub use beginning::start_job;
-pub use finishing::finish;

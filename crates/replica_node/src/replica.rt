@@ -32,9 +32,10 @@ use replica_calls::{
     acquire, commit_begin, commit_step, end_job, into_dir, lease, new_point, plan, release,
     stop_at, take_apart,
 };
-use replica_copies::{arrived, finish, start_job};
+use replica_copies::{arrived, start_job};
 use replica_opening::{StartFault, open};
 use replica_parts::{NodeParts, Parts, PointAnswer};
+use replica_switches::finish;
 use searcher_switch::{Lease, Ticket};
 use seg_reader::Segment;
 use std::alloc::Global;

@@ -1,4 +1,5 @@
 pub mod Along
+pub mod Appears
 pub mod Beside
 pub mod Carried
 pub mod Cores

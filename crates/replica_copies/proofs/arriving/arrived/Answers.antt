@@ -6,7 +6,7 @@ use Rattle.replica_copies.proofs.Arrivals.{free_j}
 use Rattle.replica_parts.proofs.Beside.{standing_jobs}
 use Rattle.replica_parts.proofs.Keeping.{core_of}
 use Rattle.replica_copies.proofs.Taken.{arrived_core, arrived_whole, arrived_sourced, arrived_held, out_core, out_whole, out_sourced, out_held}
-use Rattle.replica_copies.proofs.Appears.{part_appears}
+use Rattle.replica_parts.proofs.Appears.{part_appears}
 use Rattle.replica_copies.proofs.arriving.arrived.Goals as goal
 
 pub arrived-requires-clause-free : goal.arrived-requires-clause-free

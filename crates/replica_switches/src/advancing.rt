@@ -11,7 +11,7 @@ ghost use Rattle.copy_job.specs.Jobs.{job_names};
 ghost use Rattle.segment_infos.specs.Infos.{CanSpell};
 ghost use Rattle.replica_opening.specs.Reading.{IsReadCutOff};
 ghost use Rattle.replica_parts.specs.Replica.{IsPointOf, KeepsReads};
-ghost use Rattle.replica_copies.specs.Advancing.{IsJobReady, TakesInHand};
+ghost use Rattle.replica_switches.specs.Advancing.{IsJobReady, TakesInHand};
 
 use copy_job::{CopyJob, JobFault};
 use disk_model::Dir;

@@ -6,7 +6,7 @@ use Rattle.file_deleter.proofs.NameLemmas.{times-append}
 use Rattle.copy_job.specs.declared.part.JobPart.{JobPart}
 use Rattle.copy_job.specs.Parts.{present_names}
 use Rattle.replica_parts.proofs.Lists.{push_times, present_more, one_more}
-use Rattle.replica_copies.proofs.advancing.gone_names.Goals as goal
+use Rattle.replica_switches.proofs.advancing.gone_names.Goals as goal
 
 pub loop-part-preserved : goal.loop-part-preserved
 loop-part-preserved c q =

@@ -1,4 +1,5 @@
 -- A newer point in hand.
+use Rattle.replica_parts.proofs.Named.{file_counted, among_file}
 use Rattle.std.proofs.Common.{◌≡◌, ℕ, ◌+◌, ◌<◌, ◌≤◌, Bool, true, false, List, [], ◌++◌, length, get_or, refl, sym, ap, subst, ◌∙◌, arith}
 use Rattle.std.specs.Prelude.{Contains}
 use Rattle.std.specs.List.{flat_map}
@@ -21,10 +22,10 @@ use Rattle.copy_job.specs.Placing.{Places}
 use Rattle.copy_job.specs.Jobs.{Job, job_names, present_of, reads_under}
 use Rattle.copy_job.proofs.Placings.{joined}
 use Rattle.copy_job.proofs.Points.{reads_placed, all_placed}
-use Rattle.replica_copies.specs.declared.advancing.NewPoint.{NewPoint}
+use Rattle.replica_switches.specs.declared.advancing.NewPoint.{NewPoint}
 use Rattle.replica_opening.specs.Readers.{AreReaders}
 use Rattle.replica_parts.specs.Replica.{IsPointOf, KeepsReads}
-use Rattle.replica_copies.specs.Advancing.{IsJobReady, TakesInHand}
+use Rattle.replica_switches.specs.Advancing.{IsJobReady, TakesInHand}
 use Rattle.replica_parts.proofs.Carried.{under_placed}
 
 -- ---- parts are placed

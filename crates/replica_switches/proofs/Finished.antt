@@ -19,13 +19,13 @@ use Rattle.searcher_switch.specs.Searching.{searcher_names}
 use Rattle.copy_state.specs.declared.meta.FileMetaData.{FileMetaData}
 use Rattle.copy_job.specs.Parts.{placed_to, written_names, ArePlaceable}
 use Rattle.copy_job.specs.Jobs.{Job, IsJob, job_names, reads_under}
-use Rattle.replica_copies.specs.declared.advancing.NewPoint.{NewPoint}
+use Rattle.replica_switches.specs.declared.advancing.NewPoint.{NewPoint}
 use Rattle.replica_parts.specs.declared.job.PointJob.{PointJob}
 use Rattle.replica_parts.specs.declared.parts.Parts.{Parts}
 use Rattle.replica_parts.specs.Waiting.{IsWaiting}
 use Rattle.replica_parts.specs.Replica.{AreStanding, IsJobAbove, names_of_job}
-use Rattle.replica_copies.specs.Advancing.{IsJobReady, TakesInHand}
-use Rattle.replica_copies.proofs.Switching.{ready_j, waits_refused, above_refused, above_now, node_refused, point_refused, slice_counted, node_finished, point_finished, reads_finished, stands_finished, lasting_finished, book_reads}
+use Rattle.replica_switches.specs.Advancing.{IsJobReady, TakesInHand}
+use Rattle.replica_switches.proofs.Switching.{ready_j, waits_refused, above_refused, above_now, node_refused, point_refused, slice_counted, node_finished, point_finished, reads_finished, stands_finished, lasting_finished, book_reads}
 
 module _ {D : Type 0} (cells : D → Cells) (p : Parts D) (is : IsCore cells p) (j : PointJob) (e : p.job ≡ Some j) (complete : IfSome p.job (λ k. k.copy.missing ≡ []))
     (standing : IfSome p.job (λ k. StandsForSome (reads_under k.copy.parts (reads_of (cells p.dir))) k.infos)) where

@@ -30,15 +30,15 @@ use Rattle.seg_reader.specs.Stands.{StandsFor}
 use Rattle.node_files.specs.Standing.{StandsForSome}
 use Rattle.copy_state.specs.declared.state.CopyState.{CopyState}
 use Rattle.copy_job.specs.Parts.{written_names, ArePlaceable}
-use Rattle.replica_copies.specs.declared.advancing.NewPoint.{NewPoint}
+use Rattle.replica_switches.specs.declared.advancing.NewPoint.{NewPoint}
 use Rattle.replica_parts.specs.Sources.{CopiesFrom, IsSourced, KeepsSource, HoldsOnly, IsStillCopying}
 use Rattle.replica_parts.specs.Waiting.{IsWaiting}
 use Rattle.replica_parts.specs.Replica.{IsWholeReplica, AreStanding, IsJobAbove, HasMetas, KeepsReads, names_of_job}
-use Rattle.replica_copies.specs.Advancing.{TakesInHand}
+use Rattle.replica_switches.specs.Advancing.{TakesInHand}
 use Rattle.replica_parts.proofs.Named.{among_file, file_counted, some_among}
 use Rattle.replica_parts.proofs.Carried.{HeldReads, JobReads, placed_name}
 use Rattle.replica_parts.proofs.Cores.{IsCore}
-use Rattle.replica_copies.proofs.Finished.{refused, finished, reads, stands, standing_finished}
+use Rattle.replica_switches.proofs.Finished.{refused, finished, reads, stands, standing_finished}
 use Rattle.replica_parts.proofs.Keeping.{core_of, whole_of, Knows, HasWanted, Matches, knows_reads, reads_known, metas_reads, reads_metas, as_reads, reads_as, copies_reads, reads_copies, meta_here}
 use Rattle.replica_parts.proofs.Metas.{some_meta, one_meta, listed_meta}
 

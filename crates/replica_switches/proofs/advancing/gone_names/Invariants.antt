@@ -2,7 +2,7 @@ use Rattle.std.proofs.Common.{◌≡◌, ◌+◌, take}
 use Rattle.disk_model.specs.Disk.{Name}
 use Rattle.file_deleter.specs.Holdings.{times}
 use Rattle.copy_job.specs.Parts.{present_names}
-use Rattle.replica_copies.proofs.advancing.gone_names.Given as goal
+use Rattle.replica_switches.proofs.advancing.gone_names.Given as goal
 
 abbrev pub invariant-loop-part : goal.invariant-loop-part
 invariant-loop-part l = (q : Name) → times l.gone q ≡ times l.names q + times (present_names (take l.part-index l.part-items)) q

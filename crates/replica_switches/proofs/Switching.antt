@@ -1,4 +1,5 @@
 -- A job that ends, or is refused.
+use Rattle.replica_parts.proofs.Along.{point_along}
 use Rattle.std.proofs.Common.{◌≡◌, ◌⊎◌, ℕ, ◌+◌, ◌<◌, ◌≤◌, Bool, true, false, List, [], ◌++◌, Option, Some, None, refl, sym, ap, subst, ◌∙◌, arith, inl, inr, true≢false}
 use Rattle.std.specs.Prelude.{Contains, IfSome}
 use Rattle.std.specs.List.{flat_map}
@@ -30,7 +31,7 @@ use Rattle.copy_state.specs.States.{meta_names}
 use Rattle.node_files.specs.Standing.{StandsForSome}
 use Rattle.copy_job.specs.Parts.{own_names}
 use Rattle.replica_parts.specs.declared.job.PointJob.{PointJob}
-use Rattle.replica_copies.specs.declared.advancing.NewPoint.{NewPoint}
+use Rattle.replica_switches.specs.declared.advancing.NewPoint.{NewPoint}
 use Rattle.copy_state.specs.declared.state.CopyState.{CopyState}
 use Rattle.copy_job.specs.Parts.{ArePlaceable}
 use Rattle.file_names.specs.Names.{temp_name_of}
@@ -41,7 +42,7 @@ use Rattle.replica_parts.specs.Replica.{IsPointState}
 use Rattle.replica_parts.proofs.Temporary.{files_no_temporary}
 use Rattle.replica_parts.proofs.Waiting.{can_place, waits_placed}
 use Rattle.replica_parts.specs.Replica.{names_of_job, IsPointOf, IsJobAbove}
-use Rattle.replica_copies.specs.Advancing.{IsJobReady, TakesInHand}
+use Rattle.replica_switches.specs.Advancing.{IsJobReady, TakesInHand}
 use Rattle.replica_parts.proofs.Named.{file_counted}
 use Rattle.replica_opening.proofs.Openings.{plain_none}
 

@@ -10,7 +10,7 @@ use Rattle.segment_infos.specs.Files.{files_of_segment, AreFilesOf}
 use Rattle.node_files.specs.Standing.{StandsForSome}
 use Rattle.copy_job.specs.Parts.{own_names, written_names}
 use Rattle.copy_job.specs.Jobs.{Job, job_names, reads_under}
-use Rattle.replica_copies.specs.declared.advancing.NewPoint.{NewPoint}
+use Rattle.replica_switches.specs.declared.advancing.NewPoint.{NewPoint}
 use Rattle.replica_opening.specs.Readers.{AreReaders}
 use Rattle.replica_parts.specs.Replica.{CanPlace}
 

@@ -1,12 +1,12 @@
 use Rattle.std.proofs.Common.{◌∙◌, ap, sym, Some, inl}
-use Rattle.replica_copies.proofs.Finished.{ready, gone_counted}
+use Rattle.replica_switches.proofs.Finished.{ready, gone_counted}
 use Rattle.replica_parts.proofs.Beside.{standing_jobs}
 use Rattle.replica_parts.proofs.Keeping.{core_of}
-use Rattle.replica_copies.proofs.Switched.{noted_whole, noted_still, want_slice, refused_core, refused_whole, refused_sourced, refused_held, done_whole, done_sourced, done_held, done_stands, done_standing}
+use Rattle.replica_switches.proofs.Switched.{noted_whole, noted_still, want_slice, refused_core, refused_whole, refused_sourced, refused_held, done_whole, done_sourced, done_held, done_stands, done_standing}
 use Rattle.node_files.proofs.Appearing.{keeps_none, only_then_none}
 use Rattle.replica_parts.specs.Sources.{IsWantedName}
-use Rattle.replica_copies.proofs.Appears.{parts_appear}
-use Rattle.replica_copies.proofs.finishing.finish.Goals as goal
+use Rattle.replica_parts.proofs.Appears.{parts_appear}
+use Rattle.replica_switches.proofs.finishing.finish.Goals as goal
 
 pub advance-requires-clause-ready : goal.advance-requires-clause-ready
 advance-requires-clause-ready g c = ready g.D.Dir.cells c.args.parts.now (core_of g.D.Dir.cells c.args.parts.now c.requires.whole) c.in-Some-take.field-0 (sym c.in-Some-take.ensures.value) c.requires.complete c.requires.standing

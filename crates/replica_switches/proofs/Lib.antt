@@ -1,0 +1,4 @@
+mod Advances
+mod Finished
+mod Switched
+mod Switching

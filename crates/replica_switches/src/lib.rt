@@ -1,0 +1,7 @@
+//! The jobs of a replica that copy points: how their points come to be searched.
+#![tactic(auto)]
+
+mod advancing;
+mod finishing;
+
+pub use finishing::finish;
