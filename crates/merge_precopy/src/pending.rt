@@ -39,6 +39,19 @@ fn strike(segs: &mut Vec<SegNo>, seg: SegNo)
     segs.retain(|s| s.0 != seg.0);
 }
 
+impl Share for Precopies {
+    fn share(&self, alloc: Global) -> Result<Self, NoMemory> {
+        let mut expected = Vec::new(alloc);
+        expected.extend_from_slice(self.expected.as_slice())?;
+        let table = joined(alloc, self.table.files.as_slice(), &[])?;
+        Ok(Precopies {
+            alloc: self.alloc,
+            expected,
+            table,
+        })
+    }
+}
+
 impl Precopies {
     /// No file is pending, and none is expected.
     pub fn new(alloc: Global) -> Result<Self, NoMemory>
@@ -59,6 +72,15 @@ impl Precopies {
     {
         self.expected.push(seg)?;
         Ok(())
+    }
+
+    /// Expects the files of a merged segment no more. Takes no memory.
+    pub fn forget(&mut self, seg: SegNo)
+        ensures { self.new ≡ record self.old {
+          expected = filter (λ s. not (s.0 == seg.0)) self.old.expected;
+        } }
+    {
+        strike(&mut self.expected, seg);
     }
 
     /// The files of a segment that was expected have come, and are pending from now on.

@@ -38,10 +38,10 @@ module _ {D : Type 0} (cells : D → Cells) (p : Parts D) (is : IsWholeReplica c
     searched_bytes = record { held = moves.keeps.reads }
 
     pub searched_whole : IsWholeReplica cells (record p { dir = dir; files = files; searchers = searchers })
-    searched_whole = whole_beside cells p (record p { dir = dir; files = files; searchers = searchers }) is searched_core refl searched_other searched_bytes refl refl (ap (λ (x : Point Shown). x.readers) same)
+    searched_whole = whole_beside cells p (record p { dir = dir; files = files; searchers = searchers }) is searched_core refl refl searched_other searched_bytes refl refl (ap (λ (x : Point Shown). x.readers) same) refl
 
     pub searched_sourced : KeepsSource cells p (record p { dir = dir; files = files; searchers = searchers })
-    searched_sourced = sourced_beside cells p (record p { dir = dir; files = files; searchers = searchers }) is searched_core refl searched_other searched_bytes
+    searched_sourced = sourced_beside cells p (record p { dir = dir; files = files; searchers = searchers }) is searched_core refl refl searched_other searched_bytes
 
     pub searched_held : HoldsOnly p (record p { dir = dir; files = files; searchers = searchers })
     searched_held = holds_beside p (record p { dir = dir; files = files; searchers = searchers }) searched_other
@@ -59,10 +59,10 @@ module _ {D : Type 0} (cells : D → Cells) (p : Parts D) (is : IsWholeReplica c
       step_other = no_other p.files files (step_only cells p (core_of cells p is) dir files commits shifts sound e)
 
       pub step_whole : IsWholeReplica cells (record p { dir = dir; files = files; commits = commits })
-      step_whole = whole_beside cells p (record p { dir = dir; files = files; commits = commits }) is step_core refl step_other shift_bytes refl refl refl
+      step_whole = whole_beside cells p (record p { dir = dir; files = files; commits = commits }) is step_core refl refl step_other shift_bytes refl refl refl refl
 
       pub step_sourced : KeepsSource cells p (record p { dir = dir; files = files; commits = commits })
-      step_sourced = sourced_beside cells p (record p { dir = dir; files = files; commits = commits }) is step_core refl step_other shift_bytes
+      step_sourced = sourced_beside cells p (record p { dir = dir; files = files; commits = commits }) is step_core refl refl step_other shift_bytes
 
       pub step_held : HoldsOnly p (record p { dir = dir; files = files; commits = commits })
       step_held = holds_beside p (record p { dir = dir; files = files; commits = commits }) step_other
@@ -75,10 +75,10 @@ module _ {D : Type 0} (cells : D → Cells) (p : Parts D) (is : IsWholeReplica c
       stop_other = no_other p.files files (stop_only cells p (core_of cells p is) dir files commits shifts sound e)
 
       pub stop_whole : IsWholeReplica cells (record p { dir = dir; files = files; commits = commits })
-      stop_whole = whole_beside cells p (record p { dir = dir; files = files; commits = commits }) is stop_core refl stop_other shift_bytes refl refl refl
+      stop_whole = whole_beside cells p (record p { dir = dir; files = files; commits = commits }) is stop_core refl refl stop_other shift_bytes refl refl refl refl
 
       pub stop_sourced : KeepsSource cells p (record p { dir = dir; files = files; commits = commits })
-      stop_sourced = sourced_beside cells p (record p { dir = dir; files = files; commits = commits }) is stop_core refl stop_other shift_bytes
+      stop_sourced = sourced_beside cells p (record p { dir = dir; files = files; commits = commits }) is stop_core refl refl stop_other shift_bytes
 
       pub stop_held : HoldsOnly p (record p { dir = dir; files = files; commits = commits })
       stop_held = holds_beside p (record p { dir = dir; files = files; commits = commits }) stop_other
@@ -94,10 +94,10 @@ module _ {D : Type 0} (cells : D → Cells) (p : Parts D) (is : IsWholeReplica c
     begin_bytes = record { held = λ q had has. refl }
 
     pub begin_whole : IsWholeReplica cells (record p { files = files; commits = commits })
-    begin_whole = whole_beside cells p (record p { files = files; commits = commits }) is begin_core refl begin_other begin_bytes refl refl refl
+    begin_whole = whole_beside cells p (record p { files = files; commits = commits }) is begin_core refl refl begin_other begin_bytes refl refl refl refl
 
     pub begin_sourced : KeepsSource cells p (record p { files = files; commits = commits })
-    begin_sourced = sourced_beside cells p (record p { files = files; commits = commits }) is begin_core refl begin_other begin_bytes
+    begin_sourced = sourced_beside cells p (record p { files = files; commits = commits }) is begin_core refl refl begin_other begin_bytes
 
     pub begin_held : HoldsOnly p (record p { files = files; commits = commits })
     begin_held = holds_beside p (record p { files = files; commits = commits }) begin_other
@@ -113,10 +113,10 @@ module _ {D : Type 0} (cells : D → Cells) (p : Parts D) (is : IsWholeReplica c
     same_bytes = record { held = λ q had has. refl }
 
     pub same_whole : IsWholeReplica cells (record p { files = files; commits = commits })
-    same_whole = whole_beside cells p (record p { files = files; commits = commits }) is same_core refl same_other same_bytes refl refl refl
+    same_whole = whole_beside cells p (record p { files = files; commits = commits }) is same_core refl refl same_other same_bytes refl refl refl refl
 
     pub same_sourced : KeepsSource cells p (record p { files = files; commits = commits })
-    same_sourced = sourced_beside cells p (record p { files = files; commits = commits }) is same_core refl same_other same_bytes
+    same_sourced = sourced_beside cells p (record p { files = files; commits = commits }) is same_core refl refl same_other same_bytes
 
     pub same_held : HoldsOnly p (record p { files = files; commits = commits })
     same_held = holds_beside p (record p { files = files; commits = commits }) same_other
@@ -133,35 +133,10 @@ module _ {D : Type 0} (cells : D → Cells) (p : Parts D) (is : IsWholeReplica c
     planned_bytes = record { held = λ q had has. ap (λ (c : Cells). (c q).now) same }
 
     pub planned_whole : IsWholeReplica cells (record p { dir = dir })
-    planned_whole = whole_beside cells p (record p { dir = dir }) is planned_core refl planned_other planned_bytes refl refl refl
+    planned_whole = whole_beside cells p (record p { dir = dir }) is planned_core refl refl planned_other planned_bytes refl refl refl refl
 
     pub planned_sourced : KeepsSource cells p (record p { dir = dir })
-    planned_sourced = sourced_beside cells p (record p { dir = dir }) is planned_core refl planned_other planned_bytes
+    planned_sourced = sourced_beside cells p (record p { dir = dir }) is planned_core refl refl planned_other planned_bytes
 
     pub planned_held : HoldsOnly p (record p { dir = dir })
     planned_held = holds_beside p (record p { dir = dir }) planned_other
-
-  -- ---- the end of a job
-  module _ (j : PointJob) (e : p.job ≡ Some j) (dir : D) (files : Holdings) (job : Option PointJob) (none : job ≡ None) (lets_go : LetsGo (job_names j.copy) p.files files (cells p.dir) (cells dir)) where
-    pub ended_core : IsCore cells (record p { dir = dir; files = files; job = job })
-    ended_core = ended cells p (core_of cells p is) j e dir files job none lets_go
-
-    ended_other : HoldsNoOther p.files files
-    ended_other = record { each = λ q lasting z. omega (arith, z, lets_go.counts q) }
-
-    ended_bytes : KeepsBytes p.files files (cells p.dir) (cells dir)
-    ended_bytes = record { held = lets_go.keeps.reads }
-
-    pub ended_whole : IsWholeReplica cells (record p { dir = dir; files = files; job = job })
-    ended_whole = whole_of cells (record p { dir = dir; files = files; job = job }) ended_core is.segs
-        (reads_known (cells dir) files p.known (held_along (Knows p.known) (cells p.dir) (cells dir) p.files files ended_other ended_bytes (knows_reads (cells p.dir) p.files p.known is.known)))
-        (subst (λ (o : Option PointJob). IfSome o (λ k. HasMetas (reads_of (cells dir)) k.copy)) (sym none) tt)
-
-    pub ended_sourced : KeepsSource cells p (record p { dir = dir; files = files; job = job })
-    ended_sourced source h = record {
-      held = reads_as source (cells dir) files (held_along (Matches source) (cells p.dir) (cells dir) p.files files ended_other ended_bytes (as_reads source (cells p.dir) p.files h.held));
-      job = subst (λ (o : Option PointJob). IfSome o (λ k. CopiesFrom source (reads_of (cells dir)) k.copy)) (sym none) tt;
-    }
-
-    pub ended_held : HoldsOnly p (record p { dir = dir; files = files; job = job })
-    ended_held = holds_beside p (record p { dir = dir; files = files; job = job }) ended_other

@@ -21,7 +21,7 @@ use Rattle.node_files.proofs.Standing.{stands_along, standing_kept, standing_ste
 use Rattle.searcher_switch.specs.Tickets.{ticket_names}
 use Rattle.searcher_switch.specs.Searching.{searcher_names}
 use Rattle.replica_parts.specs.declared.parts.Parts.{Parts}
-use Rattle.replica_parts.specs.Replica.{AreStanding, replica_names, names_of_job}
+use Rattle.replica_parts.specs.Replica.{AreStanding, replica_names, copying_names}
 use Rattle.replica_parts.proofs.Named.{file_counted}
 use Rattle.replica_parts.proofs.Along.{point_along}
 use Rattle.replica_parts.proofs.Beside.{waits_on, same_no_more}
@@ -37,7 +37,7 @@ next_after book (Some (Renamed s)) = refl
 
 module _ {D : Type 0} (cells : D → Cells) (p : Parts D) (is : IsCore cells p) where
   point_some : (q : Name) → 0 < times p.searchers.point.names q → 0 < times (replica_names p) q
-  point_some q some = omega (arith, some, times-append (searcher_names p.searchers) (names_of_job p.job) q, times-append p.searchers.point.names (ticket_names p.searchers.tickets) q)
+  point_some q some = omega (arith, some, times-append (searcher_names p.searchers) (copying_names p) q, times-append p.searchers.point.names (ticket_names p.searchers.tickets) q)
 
   -- the files of the point are there
   pub point_there : (q : Name) → Contains (flat_map files_of_segment p.infos.segs) q → IsThere (cells p.dir) q
@@ -58,7 +58,7 @@ module _ {D : Type 0} (cells : D → Cells) (p : Parts D) (is : IsCore cells p) 
           spelled = is.spelled;
           lasting = is.lasting;
           newer = is.newer;
-          waits = waits_on (cells p.dir) (cells dir) p.files files p.searchers.point.version.0 p.job (searcher_names p.searchers) (searcher_names p.searchers) p.commits commits is.node node is.lasting is.lasting beside is.newer is.waits;
+          waits = waits_on (cells p.dir) (cells dir) p.files files p.searchers.point.version.0 p.job (searcher_names p.searchers) (searcher_names p.searchers) (copying_names p) p.commits commits is.node node is.lasting is.lasting beside is.newer is.waits;
         }
 
     pub step_only : commits ≡ book_after p.commits → HoldsNoMore p.files files
@@ -115,16 +115,16 @@ module _ {D : Type 0} (cells : D → Cells) (p : Parts D) (is : IsCore cells p) 
       spelled = is.spelled;
       lasting = is.lasting;
       newer = is.newer;
-      waits = waits_on (cells p.dir) (cells p.dir) p.files files p.searchers.point.version.0 p.job (searcher_names p.searchers) (searcher_names p.searchers) p.commits commits is.node node_begun is.lasting is.lasting
+      waits = waits_on (cells p.dir) (cells p.dir) p.files files p.searchers.point.version.0 p.job (searcher_names p.searchers) (searcher_names p.searchers) (copying_names p) p.commits commits is.node node_begun is.lasting is.lasting
           (no_more_begun (cells p.dir) p.files files (replica_names p) p.commits commits p.infos p.searchers.point.names is.node node_begun begun is.point.names within) is.newer is.waits;
     }
       where
         within : (q : Name) → times (replica_names p) q ≡ 0 → times p.searchers.point.names q ≡ 0
-        within q none = omega (arith, none, times-append (searcher_names p.searchers) (names_of_job p.job) q, times-append p.searchers.point.names (ticket_names p.searchers.tickets) q)
+        within q none = omega (arith, none, times-append (searcher_names p.searchers) (copying_names p) q, times-append p.searchers.point.names (ticket_names p.searchers.tickets) q)
 
     pub begin_only : HoldsNoMore p.files files
     begin_only = no_more_begun (cells p.dir) p.files files (replica_names p) p.commits commits p.infos p.searchers.point.names is.node node_begun begun is.point.names
-        (λ q none. omega (arith, none, times-append (searcher_names p.searchers) (names_of_job p.job) q, times-append p.searchers.point.names (ticket_names p.searchers.tickets) q))
+        (λ q none. omega (arith, none, times-append (searcher_names p.searchers) (copying_names p) q, times-append p.searchers.point.names (ticket_names p.searchers.tickets) q))
 
     -- of the documents of the point
     pub standing_begins : AreStanding cells p → AreStanding cells (record p { files = files; commits = commits })

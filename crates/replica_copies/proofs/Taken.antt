@@ -86,10 +86,10 @@ module _ {D : Type 0} (cells : D → Cells) (p : Parts D) (is : IsWholeReplica c
       out_other = record { each = λ q lasting z. let f : times (job_names now) q ≡ times (job_names j.copy) q = ap (λ (x : Job). times (job_names x) q) same_job in omega (arith, f, z, moves.balance q) }
 
       pub out_whole : IsWholeReplica cells (record p { dir = dir; files = files; job = Some (record { copy = now; infos = j.infos }) })
-      out_whole = whole_beside cells p (record p { dir = dir; files = files; job = Some (record { copy = now; infos = j.infos }) }) is out_core out_job out_other bytes_j refl refl refl
+      out_whole = whole_beside cells p (record p { dir = dir; files = files; job = Some (record { copy = now; infos = j.infos }) }) is out_core out_job refl out_other bytes_j refl refl refl refl
 
       pub out_sourced : KeepsSource cells p (record p { dir = dir; files = files; job = Some (record { copy = now; infos = j.infos }) })
-      out_sourced = sourced_beside cells p (record p { dir = dir; files = files; job = Some (record { copy = now; infos = j.infos }) }) is out_core out_job out_other bytes_j
+      out_sourced = sourced_beside cells p (record p { dir = dir; files = files; job = Some (record { copy = now; infos = j.infos }) }) is out_core out_job refl out_other bytes_j
 
       pub out_held : HoldsOnly p (record p { dir = dir; files = files; job = Some (record { copy = now; infos = j.infos }) })
       out_held = holds_beside p (record p { dir = dir; files = files; job = Some (record { copy = now; infos = j.infos }) }) out_other

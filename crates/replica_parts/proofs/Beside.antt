@@ -1,9 +1,10 @@
 -- A job, and what is of documents, over calls beside them.
 use Rattle.replica_parts.proofs.Cores.{IsCore}
-use Rattle.std.proofs.Common.{◌≡◌, ℕ, ◌+◌, ◌<◌, true, List, [], ◌++◌, Option, Some, None, refl, sym, subst, arith}
+use Rattle.std.proofs.Common.{◌≡◌, ◌∙◌, ℕ, ◌+◌, ◌<◌, true, List, [], ◌++◌, Option, Some, None, refl, sym, subst, arith}
 use Rattle.std.specs.Prelude.{IfSome, Contains}
 use Rattle.std.specs.List.{flat_map}
 use Rattle.disk_model.specs.Disk.{Name, Cells, is_among, reads_of}
+use Rattle.file_names.specs.Names.{temp_name_of}
 use Rattle.file_deleter.specs.Holdings.{Holdings, count_of, times}
 use Rattle.file_deleter.proofs.NameLemmas.{times-append, among_times}
 use Rattle.segment_infos.specs.declared.infos.Infos.{Infos}
@@ -22,25 +23,29 @@ use Rattle.copy_state.specs.declared.meta.FileMetaData.{FileMetaData}
 use Rattle.replica_parts.specs.declared.job.PointJob.{PointJob}
 use Rattle.replica_parts.specs.declared.parts.Parts.{Parts}
 use Rattle.replica_parts.specs.Waiting.{HasNoTemporary, IsWaiting}
-use Rattle.replica_parts.specs.Replica.{IsJobAbove, AreStanding, names_of_job}
+use Rattle.replica_parts.specs.Replica.{IsJobAbove, AreStanding, copying_names}
 use Rattle.replica_parts.proofs.Named.{file_counted}
-use Rattle.replica_parts.proofs.Temporary.{joins, book_no_temporary}
+use Rattle.replica_parts.proofs.Temporary.{book_no_temporary}
 use Rattle.replica_parts.proofs.Waiting.{waits_beside}
 
 -- ---- the job
-job_beside : (version : ℕ) (job : Option PointJob) (old new : Holdings) (others more : List Name) → IfSome job (IsJobAbove version) → ((q : Name) → count_of old q ≡ times others q + times (names_of_job job) q)
-    → ((q : Name) → count_of new q ≡ times more q + times (names_of_job job) q) → HasNoTemporary others → HasNoTemporary more → HoldsNoMore old new → IfSome job (λ j. IsWaiting old j.copy) → IfSome job (λ j. IsWaiting new j.copy)
-job_beside version None old new others more above counts still none none_more beside waits = tt
-job_beside version (Some j) old new others more above counts still none none_more beside waits = waits_beside j.infos j.copy above.copy above.state.files old waits others more new counts still none none_more beside
+pub job_beside : (version : ℕ) (job : Option PointJob) (old new : Holdings) → IfSome job (IsJobAbove version) → ((name : Name) (number : ℕ) → count_of new (temp_name_of name number) ≡ count_of old (temp_name_of name number))
+    → HoldsNoMore old new → IfSome job (λ j. IsWaiting old j.copy) → IfSome job (λ j. IsWaiting new j.copy)
+job_beside version None old new above temporary beside waits = tt
+job_beside version (Some j) old new above temporary beside waits = waits_beside j.infos j.copy above.copy above.state.files old waits new (λ name. temporary name j.copy.number) beside
+
+-- a temporary file is held by the copies alone
+pub temporary_count : (cells : Cells) (holdings : Holdings) (front rest : List Name) (book : CommitBook) → IsWholeNode cells holdings (front ++ rest) book → HasNoTemporary front
+    → (name : Name) (number : ℕ) → count_of holdings (temp_name_of name number) ≡ times rest (temp_name_of name number)
+temporary_count cells holdings front rest book node none name number =
+    let q : Name = temp_name_of name number in
+    omega (arith, node.counts q, none.each name number, (book_no_temporary cells holdings book node.sound).each name number, times-append front rest q)
 
 -- the job waits on, where the searchers and the commits name no temporary file and hold none that nobody held
-pub waits_on : (a b : Cells) (old new : Holdings) (version : ℕ) (job : Option PointJob) (from to : List Name) (was now : CommitBook) → IsWholeNode a old (from ++ names_of_job job) was → IsWholeNode b new (to ++ names_of_job job) now
+pub waits_on : (a b : Cells) (old new : Holdings) (version : ℕ) (job : Option PointJob) (from to rest : List Name) (was now : CommitBook) → IsWholeNode a old (from ++ rest) was → IsWholeNode b new (to ++ rest) now
     → HasNoTemporary from → HasNoTemporary to → HoldsNoMore old new → IfSome job (IsJobAbove version) → IfSome job (λ j. IsWaiting old j.copy) → IfSome job (λ j. IsWaiting new j.copy)
-waits_on a b old new version job from to was now node after none none_more beside above waits =
-    job_beside version job old new (from ++ book_names was) (to ++ book_names now) above
-    (λ q. omega (arith, node.counts q, times-append from (names_of_job job) q, times-append from (book_names was) q))
-    (λ q. omega (arith, after.counts q, times-append to (names_of_job job) q, times-append to (book_names now) q))
-    (joins from (book_names was) none (book_no_temporary a old was node.sound)) (joins to (book_names now) none_more (book_no_temporary b new now after.sound)) beside waits
+waits_on a b old new version job from to rest was now node after none none_more beside above waits =
+    job_beside version job old new above (λ name number. temporary_count b new to rest now after none_more name number ∙ sym (temporary_count a old from rest was node none name number)) beside waits
 
 -- a value in front that adds no name holds no more
 pub front_no_more : (a b : Cells) (old new : Holdings) (from to rest : List Name) (book : CommitBook) → IsWholeNode a old (from ++ rest) book → IsWholeNode b new (to ++ rest) book → AddsOnly [] from to → HoldsNoMore old new
@@ -56,7 +61,7 @@ module _ {D : Type 0} (cells : D → Cells) (p : Parts D) (is : IsCore cells p) 
   point_held : (q : Name) → Contains (flat_map files_of_segment p.infos.segs) q → 0 < count_of p.files q
   point_held q named =
       let some : 0 < times p.searchers.point.names q = file_counted p.infos p.searchers.point.names is.point.names q named in
-      omega (arith, some, is.node.counts q, times-append (searcher_names p.searchers) (names_of_job p.job) q, times-append p.searchers.point.names (ticket_names p.searchers.tickets) q)
+      omega (arith, some, is.node.counts q, times-append (searcher_names p.searchers) (copying_names p) q, times-append p.searchers.point.names (ticket_names p.searchers.tickets) q)
 
   book_held : (q : Name) → is_among (book_names p.commits) q ≡ true → 0 < count_of p.files q
   book_held q there = omega (arith, among_times (book_names p.commits) q there, is.node.counts q)

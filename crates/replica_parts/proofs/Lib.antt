@@ -7,8 +7,11 @@ pub mod Documents
 pub mod Keeping
 pub mod Lasting
 pub mod Lists
+pub mod Merging
 pub mod Metas
 pub mod Named
 pub mod Noted
+pub mod Segments
+pub mod Sparing
 pub mod Temporary
 pub mod Waiting

@@ -1,12 +1,12 @@
 -- The parts of a job while they arrive.
-use Rattle.std.proofs.Common.{◌≡◌, ◌≢◌, ◌⊎◌, ℕ, zero, suc, ◌+◌, ◌<◌, ◌≤◌, not, Bool, true, false, List, [], ◌∷◌, ◌++◌, Some, cond, refl, sym, ap, subst, ◌∙◌, arith, inl, inr, codes}
+use Rattle.std.proofs.Common.{◌≡◌, ◌≢◌, ◌^◌, ◌⊎◌, ℕ, zero, suc, ◌+◌, ◌<◌, ◌≤◌, not, Bool, true, false, List, [], ◌∷◌, ◌++◌, Some, cond, refl, sym, ap, subst, ◌∙◌, arith, inl, inr, codes}
 use Rattle.std.specs.Prelude.{Contains, filter}
 use Rattle.std.specs.List.{flat_map}
 use Rattle.std.proofs.lemmas.List.{append_cancel_right}
 use Rattle.std.proofs.lemmas.List.Elements.{All-contains}
 use Rattle.file_names.specs.Base36.{base36_of}
 use Rattle.file_names.specs.Names.{temp_name_of, is_commit_name, is_pending_name}
-use Rattle.file_names.proofs.NameLaws.{temp_name_not_commit, temp_name_not_pending}
+use Rattle.file_names.proofs.NameLaws.{temp_name_apart, temp_name_not_commit, temp_name_not_pending}
 use Rattle.disk_model.specs.Disk.{Name, same, is_among}
 use Rattle.disk_model.proofs.CellLemmas.{same_true}
 use Rattle.file_deleter.specs.Holdings.{Holdings, count_of, times}
@@ -22,7 +22,7 @@ use Rattle.copy_job.specs.Parts.{part_at, present_names, own_names, written_name
 use Rattle.copy_job.specs.Jobs.{Job, IsJob, job_names, with_part}
 use Rattle.copy_job.proofs.Placings.{written_is}
 use Rattle.replica_parts.specs.Replica.{CanPlace}
-use Rattle.replica_parts.specs.Waiting.{HasNoTemporary, IsLoose, IsWaiting}
+use Rattle.replica_parts.specs.Waiting.{IsLoose, IsWaiting}
 use Rattle.replica_parts.proofs.Named.{some_among}
 use Rattle.replica_parts.proofs.Temporary.{file_apart}
 
@@ -34,7 +34,7 @@ temp_apart a b job e =
     (append_cancel_right (a ++ codes "_") (b ++ codes "_") (base36_of job)
     (append_cancel_right (a ++ codes "_" ++ base36_of job) (b ++ codes "_" ++ base36_of job) (codes ".tmp") e))
 
-own_some : (ps : List JobPart) (i : ℕ) (p : JobPart) → part_at ps i ≡ Some p → 0 < times (own_names ps) p.own
+pub own_some : (ps : List JobPart) (i : ℕ) (p : JobPart) → part_at ps i ≡ Some p → 0 < times (own_names ps) p.own
 own_some [] i p at = cc
 own_some (y ∷ ps) zero p at =
     let e : y ≡ p = cc in
@@ -135,6 +135,27 @@ module _ (infos : Infos) (j : Job) (is : IsJob j) (files : AreFilesOf infos (met
       plain = written_plain;
     }
 
+    -- ---- temporary names of other jobs
+    module _ (number : ℕ) (few : j.number < 2 ^ 64) (fewer : number < 2 ^ 64) (other : j.number ≢ number) where
+      no_foreign : (name : Name) (place : ℕ) (p : JobPart) → part_at j.parts place ≡ Some p → p.now ≢ temp_name_of name number
+      no_foreign name place p at e = elim (waits.each place p at) [
+        | inl own ↦ lasting p.own (own_wanted place p at) name number (sym own ∙ e)
+        | inr l ↦ other (temp_name_apart p.own name j.number number few fewer (sym l.temporary ∙ e)).1
+      ]
+
+      foreign_reused : (name : Name) → times j.reused (temp_name_of name number) ≡ 0
+      foreign_reused name = by (times j.reused (temp_name_of name number)) refl
+        where
+          by : (n : ℕ) → times j.reused (temp_name_of name number) ≡ n → times j.reused (temp_name_of name number) ≡ 0
+          by zero e = e
+          by (suc n) e =
+              let some : 0 < times (meta_names j.want.files) (temp_name_of name number) = omega (arith, e, is.each (temp_name_of name number)) in
+              absurd (lasting (temp_name_of name number) some name number refl)
+
+      -- the job holds no temporary file of another
+      pub job_foreign : (name : Name) → times (job_names j) (temp_name_of name number) ≡ 0
+      job_foreign name = omega (arith, no_present j.parts (temp_name_of name number) (no_foreign name), foreign_reused name, times-append (present_names j.parts) j.reused (temp_name_of name number))
+
     -- ---- the temporary name of a file that is missing
     module _ (name : Name) (missing : 0 < times j.missing name) where
       part_apart : (place : ℕ) (p : JobPart) → part_at j.parts place ≡ Some p → p.now ≢ temp_name_of name j.number
@@ -158,8 +179,8 @@ module _ (infos : Infos) (j : Job) (is : IsJob j) (files : AreFilesOf infos (met
       pub job_lacks : times (job_names j) (temp_name_of name j.number) ≡ 0
       job_lacks = omega (arith, no_present j.parts (temp_name_of name j.number) part_apart, reused_none, times-append (present_names j.parts) j.reused (temp_name_of name j.number))
 
-      pub temp_free : (others : List Name) → HasNoTemporary others → ((q : Name) → count_of holdings q ≡ times others q + times (job_names j) q) → count_of holdings (temp_name_of name j.number) ≡ 0
-      temp_free others plain_others counts = omega (arith, counts (temp_name_of name j.number), plain_others.each name j.number, job_lacks)
+      pub temp_free : (others : List Name) → times others (temp_name_of name j.number) ≡ 0 → ((q : Name) → count_of holdings q ≡ times others q + times (job_names j) q) → count_of holdings (temp_name_of name j.number) ≡ 0
+      temp_free others none counts = omega (arith, counts (temp_name_of name j.number), none, job_lacks)
 
       -- ---- it arrives
       module _ (new : Holdings) (now : Job) (is_now : now ≡ with_part j name) (free : count_of holdings (temp_name_of name j.number) ≡ 0)
@@ -193,16 +214,13 @@ module _ (infos : Infos) (j : Job) (is : IsJob j) (files : AreFilesOf infos (met
         })
 
     -- ---- calls beside the job
-    module _ (others more : List Name) (new : Holdings) (counts : (q : Name) → count_of holdings q ≡ times others q + times (job_names j) q) (still : (q : Name) → count_of new q ≡ times more q + times (job_names j) q)
-        (none : HasNoTemporary others) (none_more : HasNoTemporary more) (beside : HoldsNoMore holdings new) where
+    module _ (new : Holdings) (temporary : (name : Name) → count_of new (temp_name_of name j.number) ≡ count_of holdings (temp_name_of name j.number)) (beside : HoldsNoMore holdings new) where
       still_loose : (place : ℕ) (p : JobPart) → part_at j.parts place ≡ Some p → IsLoose holdings j.number p → IsLoose new j.number p
       still_loose place p at l =
           let own = plain p.own (own_wanted place p at) in
-          let here : times others p.now ≡ 0 = ap (times others) l.temporary ∙ none.each p.own j.number in
-          let there : times more p.now ≡ 0 = ap (times more) l.temporary ∙ none_more.each p.own j.number in
           record {
             temporary = l.temporary;
-            once = omega (arith, l.once, counts p.now, still p.now, here, there);
+            once = ap (count_of new) l.temporary ∙ temporary p.own ∙ sym (ap (count_of holdings) l.temporary) ∙ l.once;
             free = beside.each p.own own.0 own.1 l.free;
           }
 

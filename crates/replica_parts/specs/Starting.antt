@@ -8,13 +8,15 @@ use Rattle.file_deleter.specs.Holdings.{IsThere}
 use Rattle.segment_infos.specs.Files.{files_of_segment}
 use Rattle.seg_reader.specs.Stands.{StandsFor, AreSegmentsOf}
 use Rattle.replica_parts.specs.declared.parts.Parts.{Parts}
+use Rattle.replica_parts.specs.Merges.{no_copies}
 use Rattle.replica_parts.specs.Replica.{AreStanding}
 
--- nothing is in flight, no ticket is open, there is no job and there was none, and the greatest generation seen is that of the point
+-- nothing is in flight, no ticket is open, there is no job and no merge copy and there was none, no file is pending, and the greatest generation seen is that of the point
 pub record IsJustOpened {D : Type 0} (p : Parts D) : Type 0 where
   pub stage : p.commits.stage ≡ None
   pub tickets : p.searchers.tickets ≡ []
   pub job : p.job ≡ None
+  pub copies : p.copies ≡ no_copies
   pub jobs : p.jobs ≡ 0
   pub seen : p.seen ≡ p.infos.generation
 

@@ -4,11 +4,13 @@
 mod answer;
 mod held;
 mod job;
+mod merges;
 mod parts;
 mod taking;
 
 pub use answer::PointAnswer;
 pub use held::{held_of, note_wanted};
 pub use job::{PointJob, told};
+pub use merges::{MergeCopies, RunningCopies};
 pub use parts::Parts;
 pub use taking::NodeParts;

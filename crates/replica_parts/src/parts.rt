@@ -1,6 +1,7 @@
 //! A replica's parts.
 
 use crate::job::PointJob;
+use crate::merges::MergeCopies;
 use commit_steps::CommitBook;
 use file_deleter::FileDeleter;
 use nrt_base::{Gen, List};
@@ -11,7 +12,7 @@ use segment_infos::Infos;
 
 /// What a replica has: its directory, the counts of its files, the point that it searches with the open tickets, its commits,
 /// the infos of the point with its segments once more, the greatest generation seen, the number of its last job, the job of a
-/// newer point, and what is known of the files that it holds.
+/// newer point, the copies of merged segments, and what is known of the files that it holds.
 #[derive(Drop)]
 pub struct Parts<D> {
     pub dir: D,
@@ -23,5 +24,6 @@ pub struct Parts<D> {
     pub seen: Gen,
     pub jobs: u64,
     pub job: Option<PointJob>,
+    pub copies: MergeCopies,
     pub known: Known,
 }

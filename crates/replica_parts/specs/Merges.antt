@@ -1,0 +1,66 @@
+-- The copies of merged segments that run, by their numbers, and the names that they hold.
+use Rattle.std.specs.Prelude.{◌≡◌, ◌≢◌, ◌==◌, ◌<◌, ◌^◌, ℕ, suc, if◌then◌else◌, List, [], ◌∷◌, ◌++◌, Option, Some, None, Unit}
+use Rattle.std.specs.List.{AllByRecursion}
+use Rattle.nrt_base.specs.declared.numbers.SegNo.{SegNo}
+use Rattle.file_names.specs.Names.{part_name_of}
+use Rattle.file_names.specs.declared.composed.SegPart.TheVariants.{Docs, Post, Info}
+use Rattle.disk_model.specs.Disk.{Name}
+use Rattle.file_deleter.specs.Holdings.{times}
+use Rattle.copy_state.specs.declared.state.CopyState.{CopyState}
+use Rattle.copy_state.specs.States.{meta_names}
+use Rattle.copy_job.specs.Parts.{own_names}
+use Rattle.copy_job.specs.Jobs.{Job, job_names}
+use Rattle.replica_parts.specs.declared.merges.MergeCopies.{MergeCopies}
+
+-- the copy with the number
+abbrev pub copy_at : ℕ → List Job → Option Job
+copy_at number [] = None
+copy_at number (c ∷ cs) = if c.number == number then Some c else copy_at number cs
+
+-- the copies without the one of this number
+abbrev pub copies_without : ℕ → List Job → List Job
+copies_without number [] = []
+copies_without number (c ∷ cs) = if c.number == number then cs else c ∷ copies_without number cs
+
+-- the copies, with this one in the place of the one of this number
+abbrev pub copies_with : ℕ → Job → List Job → List Job
+copies_with number job [] = []
+copies_with number job (c ∷ cs) = if c.number == number then job ∷ cs else c ∷ copies_with number job cs
+
+-- the place of the copy with the number, or the length
+abbrev pub copy_place : ℕ → List Job → ℕ
+copy_place number [] = 0
+copy_place number (c ∷ cs) = if c.number == number then 0 else suc (copy_place number cs)
+
+-- the names that copies hold
+abbrev pub running_names : List Job → List Name
+running_names [] = []
+running_names (c ∷ cs) = job_names c ++ running_names cs
+
+-- the names that the copies that run and the pending files hold
+abbrev pub copies_names : MergeCopies → List Name
+copies_names c = running_names c.running ++ meta_names c.pending.files
+
+-- nothing runs, nothing is pending, and nothing is expected
+abbrev pub no_copies : MergeCopies
+no_copies = record { running = []; pending = record { expected = []; files = [] } }
+
+-- the files that a job copies: those that it lacks, and its parts
+abbrev pub copied_names : Job → List Name
+copied_names j = j.missing ++ own_names j.parts
+
+-- two jobs have other numbers, and copy no file both
+pub record CopyApart (a b : Job) : Type 0 where
+  pub numbers : a.number ≢ b.number
+  pub files : (q : Name) → 0 < times (copied_names a) q → times (copied_names b) q ≡ 0
+
+-- any two of the jobs are so
+abbrev pub AreCopiesApart : List Job → Type 0
+AreCopiesApart [] = Unit {0}
+AreCopiesApart (c ∷ cs) = AllByRecursion (CopyApart c) cs × AreCopiesApart cs
+
+-- the files of the state are the three of one segment, which has no live file
+pub record IsSegmentState (state : CopyState) : Type 0 where
+  pub seg : SegNo
+  pub numbered : seg.0 < 2 ^ 64
+  pub files : meta_names state.files ≡ part_name_of seg.0 Docs ∷ part_name_of seg.0 Post ∷ part_name_of seg.0 Info ∷ []
