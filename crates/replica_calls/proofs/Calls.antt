@@ -1,9 +1,8 @@
 -- A replica over each of its calls.
-use Rattle.std.proofs.Common.{◌≡◌, [], Option, Some, None, refl, sym, ap, subst, ◌∙◌, arith}
-use Rattle.std.specs.Prelude.{IfSome}
-use Rattle.disk_model.specs.Disk.{Cells, reads_of}
+use Rattle.std.proofs.Common.{◌≡◌, [], refl, ap, ◌∙◌}
+use Rattle.disk_model.specs.Disk.{Cells}
 use Rattle.file_deleter.specs.Holdings.{Holdings, count_of}
-use Rattle.file_deleter.specs.Moves.{LetsGo, MovesCounts, Shifts}
+use Rattle.file_deleter.specs.Moves.{MovesCounts, Shifts}
 use Rattle.seg_reader.specs.Shown.{Shown}
 use Rattle.commit_steps.specs.declared.stage.CommitBook.{CommitBook}
 use Rattle.commit_steps.specs.Book.{book_names, book_after, HasBegun, IsBookSound}
@@ -11,16 +10,13 @@ use Rattle.node_files.specs.Node.{AddsOnly, KeepsBytes}
 use Rattle.searcher_switch.specs.declared.open.Point.{Point}
 use Rattle.searcher_switch.specs.declared.searchers.Searchers.{Searchers}
 use Rattle.searcher_switch.specs.Searching.{searcher_names}
-use Rattle.copy_job.specs.Jobs.{job_names}
-use Rattle.replica_parts.specs.declared.job.PointJob.{PointJob}
 use Rattle.replica_parts.specs.declared.parts.Parts.{Parts}
-use Rattle.replica_parts.specs.Sources.{CopiesFrom, KeepsSource, HoldsOnly}
-use Rattle.replica_parts.specs.Replica.{IsWholeReplica, HasMetas}
-use Rattle.replica_parts.proofs.Carried.{HoldsNoOther, no_other, held_along}
+use Rattle.replica_parts.specs.Sources.{KeepsSource, HoldsOnly}
+use Rattle.replica_parts.specs.Replica.{IsWholeReplica}
+use Rattle.replica_parts.proofs.Carried.{HoldsNoOther, no_other}
 use Rattle.replica_calls.proofs.Committing.{replica_steps, replica_stopped, replica_begins, replica_same, step_only, stop_only, begin_only}
 use Rattle.replica_parts.proofs.Cores.{IsCore}
-use Rattle.replica_calls.proofs.Ended.{ended}
-use Rattle.replica_parts.proofs.Keeping.{Knows, Matches, core_of, whole_of, whole_beside, sourced_beside, holds_beside, knows_reads, reads_known, as_reads, reads_as}
+use Rattle.replica_parts.proofs.Keeping.{core_of, whole_beside, sourced_beside, holds_beside}
 use Rattle.replica_calls.proofs.Planned.{planned}
 use Rattle.replica_calls.proofs.Searched.{searched, searched_only}
 

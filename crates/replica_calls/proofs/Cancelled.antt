@@ -1,31 +1,31 @@
 -- Merge copies that end, and pending files that are given back.
-use Rattle.std.proofs.Common.{◌≡◌, ◌≢◌, ◌+◌, ◌<◌, ◌≤◌, ◌^◌, ℕ, List, [], ◌++◌, Option, Some, None, refl, sym, ap, subst, ◌∙◌, arith}
+use Rattle.std.proofs.Common.{◌≡◌, ◌+◌, ◌≤◌, ℕ, List, [], ◌++◌, Option, Some, None, refl, sym, ap, subst, arith}
 use Rattle.std.specs.Prelude.{IfSome}
 use Rattle.std.specs.List.{AllByRecursion}
 use Rattle.file_names.specs.Names.{temp_name_of}
 use Rattle.disk_model.specs.Disk.{Name, Content, Cells, reads_of}
 use Rattle.file_deleter.specs.Holdings.{Holdings, times, AreCounted}
-use Rattle.file_deleter.specs.Moves.{LetsGo}
+use Rattle.file_deleter.specs.Moves.{LetsGo, MovesCounts}
+use Rattle.file_deleter.proofs.Keeping.{keeps_then}
 use Rattle.file_deleter.proofs.NameLemmas.{times-append}
 use Rattle.node_files.specs.Node.{KeepsBytes}
 use Rattle.copy_state.specs.States.{meta_names}
 use Rattle.copy_job.specs.Jobs.{Job, job_names}
 use Rattle.copy_job.specs.Jobs.{IsJob}
-use Rattle.searcher_switch.specs.Searching.{searcher_names}
 use Rattle.replica_parts.specs.declared.job.PointJob.{PointJob}
 use Rattle.replica_parts.specs.declared.merges.MergeCopies.{MergeCopies}
 use Rattle.replica_parts.specs.declared.parts.Parts.{Parts}
 use Rattle.replica_parts.specs.Merges.{copy_at, copies_without, running_names, copies_names, no_copies, CopyApart}
 use Rattle.replica_parts.specs.Sources.{CopiesFrom, KeepsSource, HoldsOnly}
-use Rattle.replica_parts.specs.Waiting.{IsWaiting}
-use Rattle.replica_parts.specs.Replica.{IsWholeReplica, IsJobAbove, HasMetas, IsMergeCopy, AreMergeCopies, names_of_job, copying_names}
+use Rattle.replica_parts.specs.Replica.{IsWholeReplica, IsJobAbove, IsMergeCopy, AreMergeCopies, AreStanding, names_of_job, copying_names}
+use Rattle.replica_parts.proofs.Beside.{standing_on}
 use Rattle.replica_parts.proofs.Carried.{HoldsNoOther, held_along, job_along}
 use Rattle.replica_parts.proofs.Cores.{IsCore}
-use Rattle.replica_parts.proofs.Foreign.{merge_foreign, copies_foreign}
-use Rattle.replica_parts.proofs.Keeping.{Knows, Matches, HasWanted, core_of, whole_of, knows_reads, reads_known, as_reads, reads_as, metas_reads, reads_metas, copies_reads, reads_copies, some_map, source_spared, holds_beside}
-use Rattle.replica_parts.proofs.Merging.{all_map, all_both, all_at, all_held, all_without, all_dropped, apart_without, names-without, number_at}
+use Rattle.replica_parts.proofs.Foreign.{merge_foreign, beside_foreign}
+use Rattle.replica_parts.proofs.Keeping.{Knows, Matches, HasWanted, core_of, whole_of, knows_reads, reads_known, as_reads, reads_as, metas_reads, reads_metas, some_map, source_spared, holds_beside}
+use Rattle.replica_parts.proofs.Merging.{all_map, all_both, all_at, all_held, all_without, all_dropped, apart_without, names-without}
 use Rattle.replica_parts.proofs.Sparing.{SparesJob, waits_spared}
-use Rattle.replica_calls.proofs.Given.{gone_counted, node_rest, point_rest, rest_other, rest_bytes, copy_bytes, copy_spared, copy_stays}
+use Rattle.replica_calls.proofs.GivenBack.{gone_counted, node_rest, point_rest, rest_other, rest_bytes, copy_bytes, copy_spared, copy_stays}
 
 -- a claim of the job there is
 pub some_with : {P Q : PointJob → Type 0} (job : Option PointJob) → ((j : PointJob) → job ≡ Some j → P j → Q j) → IfSome job P → IfSome job Q
@@ -157,10 +157,7 @@ module _ {D : Type 0} (cells : D → Cells) (p : Parts D) (is : IsWholeReplica c
   all_split q = let none : times (copies_names no_copies) q ≡ 0 = refl in omega (arith, none)
 
   pub all_foreign : (j : PointJob) → p.job ≡ Some j → (name : Name) → times (copies_names p.copies) (temp_name_of name j.copy.number) ≡ 0
-  all_foreign j f =
-      let apart : AllByRecursion (CopyApart j.copy) p.copies.running = subst (λ (o : Option PointJob). IfSome o (λ k. AllByRecursion (CopyApart k.copy) p.copies.running)) f is.merges.beside_job in
-      let given = subst (λ (o : Option PointJob). IfSome o (λ k. k.copy.number ≤ p.jobs)) f is.merges.job_given in
-      copies_foreign cells p is j.copy.number (omega (arith, given, is.few)) (all_map (CopyApart j.copy) (λ c. c.number ≢ j.copy.number) p.copies.running (λ c h same. h.numbers (sym same)) apart)
+  all_foreign = beside_foreign cells p is
 
   pub none_merges : (dir : D) (files : Holdings) → AreMergeCopies (cells dir) files p.jobs p.job no_copies
   none_merges dir files = record {
@@ -184,3 +181,50 @@ module _ {D : Type 0} (cells : D → Cells) (p : Parts D) (is : IsWholeReplica c
 
     pub none_held : HoldsOnly p (record p { dir = dir; files = files; copies = no_copies })
     none_held = cancelled_held cells p is no_copies (copies_names p.copies) all_split all_foreign dir files lets_go
+
+-- ---- as the calls leave the copies
+module _ {D : Type 0} (cells : D → Cells) (p : Parts D) (is : IsWholeReplica cells p) (number : ℕ) (c : Job) (e : copy_at number p.copies.running ≡ Some c) (dir : D) (files : Holdings) (lets_go : LetsGo (job_names c) p.files files (cells p.dir) (cells dir))
+    (left : List Job) (left_is : left ≡ copies_without number p.copies.running) where
+  pub left_whole : IsWholeReplica cells (record p { dir = dir; files = files; copies = record { running = left; pending = p.copies.pending } })
+  left_whole = subst (λ (r : List Job). IsWholeReplica cells (record p { dir = dir; files = files; copies = record { running = r; pending = p.copies.pending } })) (sym left_is) (without_whole cells p is number c e dir files lets_go)
+
+  pub left_sourced : KeepsSource cells p (record p { dir = dir; files = files; copies = record { running = left; pending = p.copies.pending } })
+  left_sourced = subst (λ (r : List Job). KeepsSource cells p (record p { dir = dir; files = files; copies = record { running = r; pending = p.copies.pending } })) (sym left_is) (without_sourced cells p is number c e dir files lets_go)
+
+  pub left_standing : AreStanding cells p → AreStanding cells (record p { dir = dir; files = files; copies = record { running = left; pending = p.copies.pending } })
+  left_standing = standing_on cells p (record p { dir = dir; files = files; copies = record { running = left; pending = p.copies.pending } }) (core_of cells p is)
+      (core_of cells (record p { dir = dir; files = files; copies = record { running = left; pending = p.copies.pending } }) left_whole) refl refl (record { held = lets_go.keeps.reads })
+
+-- what the copies held and what was pending is given back
+pub all_gone : (running pending slice : List Name) (h0 h1 h2 : Holdings) (a b c : Cells) → MovesCounts [] running [] h0 h1 a b → slice ≡ pending → LetsGo slice h1 h2 b c → LetsGo (running ++ pending) h0 h2 a c
+all_gone running pending slice h0 h1 h2 a b c moves same lets_go = record {
+  counts = λ q.
+      let e : times slice q ≡ times pending q = ap (λ (ns : List Name). times ns q) same in
+      let none : times [] q ≡ 0 = refl in
+      omega (arith, e, none, moves.balance q, lets_go.counts q, times-append running pending q);
+  keeps = keeps_then [] [] h0 h1 h2 a b c moves.keeps lets_go.keeps (λ q had has. omega (arith, has, lets_go.counts q));
+}
+
+module _ {D : Type 0} (cells : D → Cells) (p : Parts D) (is : IsWholeReplica cells p) where
+  pub running_counted : AreCounted (running_names p.copies.running) p.files
+  running_counted = record { each = λ q. let all = (cancelled_counted cells p is no_copies (copies_names p.copies) (all_split cells p is)).each q in omega (arith, all, times-append (running_names p.copies.running) (meta_names p.copies.pending.files) q) }
+
+  -- what is pending is still counted once the copies have ended
+  pub pending_counted : (files : Holdings) (dir : D) (slice : List Name) → slice ≡ meta_names p.copies.pending.files → MovesCounts [] (running_names p.copies.running) [] p.files files (cells p.dir) (cells dir) → AreCounted slice files
+  pending_counted files dir slice same moves = record {
+    each = λ q.
+        let all = (cancelled_counted cells p is no_copies (copies_names p.copies) (all_split cells p is)).each q in
+        let e : times slice q ≡ times (meta_names p.copies.pending.files) q = ap (λ (ns : List Name). times ns q) same in
+        let none : times [] q ≡ 0 = refl in
+        omega (arith, all, e, none, moves.balance q, times-append (running_names p.copies.running) (meta_names p.copies.pending.files) q);
+  }
+
+  module _ (dir : D) (files : Holdings) (lets_go : LetsGo (copies_names p.copies) p.files files (cells p.dir) (cells dir)) (next : MergeCopies) (next_is : next ≡ no_copies) where
+    pub gone_whole : IsWholeReplica cells (record p { dir = dir; files = files; copies = next })
+    gone_whole = subst (λ (k : MergeCopies). IsWholeReplica cells (record p { dir = dir; files = files; copies = k })) (sym next_is) (none_whole cells p is dir files lets_go)
+
+    pub gone_sourced : KeepsSource cells p (record p { dir = dir; files = files; copies = next })
+    gone_sourced = subst (λ (k : MergeCopies). KeepsSource cells p (record p { dir = dir; files = files; copies = k })) (sym next_is) (none_sourced cells p is dir files lets_go)
+
+    pub gone_standing : AreStanding cells p → AreStanding cells (record p { dir = dir; files = files; copies = next })
+    gone_standing = standing_on cells p (record p { dir = dir; files = files; copies = next }) (core_of cells p is) (core_of cells (record p { dir = dir; files = files; copies = next }) gone_whole) refl refl (record { held = lets_go.keeps.reads })

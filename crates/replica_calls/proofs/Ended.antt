@@ -1,9 +1,9 @@
 -- Copies that are given back.
-use Rattle.std.proofs.Common.{◌≡◌, ◌≢◌, ◌+◌, ◌<◌, ◌≤◌, ◌^◌, ℕ, List, [], ◌++◌, Option, Some, None, refl, sym, ap, subst, ◌∙◌, arith}
+use Rattle.std.proofs.Common.{◌≡◌, ◌+◌, ◌<◌, ◌≤◌, ◌^◌, ℕ, ◌++◌, Option, Some, None, sym, ap, subst, arith}
 use Rattle.std.specs.Prelude.{IfSome}
 use Rattle.std.specs.List.{AllByRecursion}
 use Rattle.file_names.specs.Names.{temp_name_of}
-use Rattle.disk_model.specs.Disk.{Name, Content, Cells, reads_of}
+use Rattle.disk_model.specs.Disk.{Name, Cells, reads_of}
 use Rattle.file_deleter.specs.Holdings.{Holdings, times, AreCounted}
 use Rattle.file_deleter.specs.Moves.{LetsGo}
 use Rattle.file_deleter.proofs.NameLemmas.{times-append}
@@ -12,20 +12,17 @@ use Rattle.searcher_switch.specs.Searching.{searcher_names}
 use Rattle.copy_state.specs.States.{meta_names}
 use Rattle.copy_job.specs.Jobs.{Job, job_names}
 use Rattle.replica_parts.specs.declared.job.PointJob.{PointJob}
-use Rattle.replica_parts.specs.declared.merges.MergeCopies.{MergeCopies}
 use Rattle.replica_parts.specs.declared.parts.Parts.{Parts}
-use Rattle.replica_parts.specs.Merges.{copy_at, copies_without, running_names, copies_names, no_copies, CopyApart}
-use Rattle.replica_parts.specs.Sources.{CopiesFrom, IsSourced, KeepsSource, HoldsOnly}
+use Rattle.replica_parts.specs.Merges.{running_names, copies_names, CopyApart}
+use Rattle.replica_parts.specs.Sources.{CopiesFrom, KeepsSource, HoldsOnly}
 use Rattle.replica_parts.specs.Waiting.{IsWaiting}
 use Rattle.replica_parts.specs.Replica.{IsWholeReplica, IsJobAbove, HasMetas, IsMergeCopy, AreMergeCopies, names_of_job, copying_names}
 use Rattle.replica_parts.proofs.Carried.{held_along}
 use Rattle.replica_parts.proofs.Cores.{IsCore}
-use Rattle.replica_parts.proofs.Foreign.{merge_foreign, copies_foreign, point_foreign}
-use Rattle.replica_parts.proofs.Keeping.{Knows, Matches, core_of, whole_of, knows_reads, reads_known, as_reads, reads_as, some_map, source_spared, metas_reads, reads_metas, holds_beside, HasWanted}
-use Rattle.replica_parts.proofs.Carried.{job_along}
-use Rattle.replica_parts.proofs.Merging.{all_map, all_both, all_at, all_held, all_without, apart_without, names-without, number_at}
-use Rattle.replica_parts.proofs.Sparing.{waits_spared}
-use Rattle.replica_calls.proofs.Given.{gone_counted, node_rest, point_rest, rest_other, rest_bytes, copy_bytes, copy_spared, copy_stays}
+use Rattle.replica_parts.proofs.Foreign.{point_foreign}
+use Rattle.replica_parts.proofs.Keeping.{Knows, Matches, core_of, whole_of, knows_reads, reads_known, as_reads, reads_as, source_spared, holds_beside}
+use Rattle.replica_parts.proofs.Merging.{all_map, all_both, all_held}
+use Rattle.replica_calls.proofs.GivenBack.{gone_counted, node_rest, point_rest, rest_other, rest_bytes, copy_bytes, copy_stays}
 
 module _ {D : Type 0} (cells : D → Cells) (p : Parts D) (is : IsWholeReplica cells p) where
   core : IsCore cells p

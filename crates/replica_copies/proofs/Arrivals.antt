@@ -1,6 +1,6 @@
 -- A part that arrives.
 use Rattle.replica_parts.proofs.Cores.{IsCore}
-use Rattle.std.proofs.Common.{◌≡◌, ℕ, ◌+◌, ◌<◌, Bool, true, false, [], ◌∷◌, ◌++◌, Option, Some, cond, refl, sym, ap, subst, ◌∙◌, arith, inl, inr, true≢false}
+use Rattle.std.proofs.Common.{◌≡◌, ℕ, ◌+◌, ◌<◌, Bool, true, false, List, [], ◌∷◌, ◌++◌, Option, Some, cond, refl, sym, ap, subst, ◌∙◌, arith, inl, inr, true≢false}
 use Rattle.file_names.specs.Names.{temp_name_of, is_commit_name, is_pending_name}
 use Rattle.file_names.proofs.NameLaws.{temp_name_not_commit, temp_name_not_pending}
 use Rattle.disk_model.specs.Disk.{Name, Cells, same, is_among}
@@ -15,6 +15,7 @@ use Rattle.searcher_switch.specs.Searching.{searcher_names}
 use Rattle.copy_job.specs.Parts.{present_names}
 use Rattle.copy_job.specs.Jobs.{Job, job_names}
 use Rattle.replica_parts.specs.declared.parts.Parts.{Parts}
+use Rattle.replica_parts.specs.Merges.{copies_names}
 use Rattle.replica_parts.specs.Replica.{IsPointState, IsJobAbove, names_of_job}
 use Rattle.replica_parts.specs.declared.job.PointJob.{PointJob}
 use Rattle.std.specs.Prelude.{IfSome}
@@ -23,7 +24,7 @@ use Rattle.copy_job.specs.Jobs.{IsJob, with_part}
 use Rattle.replica_opening.specs.Known.{IsLasting}
 use Rattle.replica_parts.specs.Waiting.{IsWaiting}
 use Rattle.replica_parts.proofs.Waiting.{temp_free, waits_arrived}
-use Rattle.replica_parts.proofs.Temporary.{joins, book_no_temporary}
+use Rattle.replica_parts.proofs.Temporary.{book_no_temporary}
 use Rattle.commit_steps.specs.Book.{book_names}
 use Rattle.replica_parts.proofs.Lists.{present_append}
 use Rattle.replica_parts.proofs.Along.{point_along}
@@ -64,37 +65,41 @@ module _ (name : Name) (job : ℕ) where
 
 -- ---- a replica over a part that arrives, or does not
 module _ {D : Type 0} (cells : D → Cells) (p : Parts D) (is : IsCore cells p) (j : PointJob) (e : p.job ≡ Some j) where
-  pub node_j : IsWholeNode (cells p.dir) p.files (searcher_names p.searchers ++ job_names j.copy) p.commits
-  node_j = subst (λ (x : Option PointJob). IsWholeNode (cells p.dir) p.files (searcher_names p.searchers ++ names_of_job x) p.commits) e is.node
+  pub node_j : IsWholeNode (cells p.dir) p.files (searcher_names p.searchers ++ (job_names j.copy ++ copies_names p.copies)) p.commits
+  node_j = subst (λ (x : Option PointJob). IsWholeNode (cells p.dir) p.files (searcher_names p.searchers ++ (names_of_job x ++ copies_names p.copies)) p.commits) e is.node
+
+  -- the names of all holders, with these of the job
+  pub held_split : (names : List Name) (q : Name) → times (searcher_names p.searchers ++ (names ++ copies_names p.copies)) q ≡ times (searcher_names p.searchers) q + (times names q + times (copies_names p.copies) q)
+  held_split names q = omega (arith, times-append (searcher_names p.searchers) (names ++ copies_names p.copies) q, times-append names (copies_names p.copies) q)
 
   module _ (name : Name) (free : count_of p.files (temp_name_of name j.copy.number) ≡ 0) (dir : D) (files : Holdings) (now : Job)
       (moves : MovesCounts (temp_name_of name j.copy.number ∷ []) (job_names j.copy) (job_names now) p.files files (cells p.dir) (cells dir))
       (adds : AddsOnly (temp_name_of name j.copy.number ∷ []) (job_names j.copy) (job_names now)) where
     apart : IsApart (temp_name_of name j.copy.number ∷ []) p.commits
-    apart = unheld_apart (cells p.dir) p.files (searcher_names p.searchers ++ job_names j.copy) (temp_name_of name j.copy.number ∷ []) p.commits node_j (temp_plain name j.copy.number) (λ q there. by q (same (temp_name_of name j.copy.number) q) refl there)
+    apart = unheld_apart (cells p.dir) p.files (searcher_names p.searchers ++ (job_names j.copy ++ copies_names p.copies)) (temp_name_of name j.copy.number ∷ []) p.commits node_j (temp_plain name j.copy.number) (λ q there. by q (same (temp_name_of name j.copy.number) q) refl there)
       where
         by : (q : Name) (b : Bool) → same (temp_name_of name j.copy.number) q ≡ b → is_among (temp_name_of name j.copy.number ∷ []) q ≡ true → count_of p.files q ≡ 0
         by q true f there = subst (λ (x : Name). count_of p.files x ≡ 0) (same_true (temp_name_of name j.copy.number) q f) free
         by q false f there = let n = among_times (temp_name_of name j.copy.number ∷ []) q there in absurd (omega (arith, n, times_one (temp_name_of name j.copy.number) q ∙ ap (λ b. cond b 1 0) f))
 
-    plain : HasNoPending (searcher_names p.searchers ++ job_names now)
+    plain : HasNoPending (searcher_names p.searchers ++ (job_names now ++ copies_names p.copies))
     plain = record {
       each = λ q named.
-          let none : times (searcher_names p.searchers ++ job_names j.copy) q ≡ 0 = node_j.plain.each q named in
-          let split : times (searcher_names p.searchers ++ job_names j.copy) q ≡ times (searcher_names p.searchers) q + times (job_names j.copy) q = times-append (searcher_names p.searchers) (job_names j.copy) q in
-          omega (arith, none, split, times-append (searcher_names p.searchers) (job_names now) q, adds.each q (omega (arith, none, split)) (temp_none name j.copy.number q named));
+          let none : times (searcher_names p.searchers ++ (job_names j.copy ++ copies_names p.copies)) q ≡ 0 = node_j.plain.each q named in
+          omega (arith, none, held_split (job_names j.copy) q, held_split (job_names now) q, adds.each q (omega (arith, none, held_split (job_names j.copy) q)) (temp_none name j.copy.number q named));
     }
 
-    node_arrived : IsWholeNode (cells dir) files (searcher_names p.searchers ++ job_names now) p.commits
-    node_arrived = node_moves (cells p.dir) (cells dir) p.files files (searcher_names p.searchers ++ job_names j.copy) (searcher_names p.searchers ++ job_names now) (job_names j.copy) (job_names now) p.commits (temp_name_of name j.copy.number ∷ []) node_j apart moves
-        (λ q. omega (arith, times-append (searcher_names p.searchers) (job_names j.copy) q, times-append (searcher_names p.searchers) (job_names now) q)) plain
+    node_arrived : IsWholeNode (cells dir) files (searcher_names p.searchers ++ (job_names now ++ copies_names p.copies)) p.commits
+    node_arrived = node_moves (cells p.dir) (cells dir) p.files files (searcher_names p.searchers ++ (job_names j.copy ++ copies_names p.copies)) (searcher_names p.searchers ++ (job_names now ++ copies_names p.copies)) (job_names j.copy) (job_names now) p.commits
+        (temp_name_of name j.copy.number ∷ []) node_j apart moves
+        (λ q. omega (arith, held_split (job_names j.copy) q, held_split (job_names now) q)) plain
 
     pub arrived : (is_job : IsJob now) → now.want ≡ j.copy.want → IsWaiting files now → IsCore cells (record p { dir = dir; files = files; job = Some (record { copy = now; infos = j.infos }) })
     arrived is_job want waits = record {
       node = node_arrived;
       point = point_along (cells p.dir) (cells dir) p.infos p.searchers.point is.point (λ q some.
           let n : 0 < times (searcher_names p.searchers) q = omega (arith, some, times-append p.searchers.point.names (ticket_names p.searchers.tickets) q) in
-          moves.keeps.reads q (omega (arith, n, node_j.counts q, times-append (searcher_names p.searchers) (job_names j.copy) q)) (omega (arith, n, node_arrived.counts q, times-append (searcher_names p.searchers) (job_names now) q)));
+          moves.keeps.reads q (omega (arith, n, node_j.counts q, held_split (job_names j.copy) q)) (omega (arith, n, node_arrived.counts q, held_split (job_names now) q)));
       spelled = is.spelled;
       newer =
           let was : IsJobAbove p.searchers.point.version.0 j = subst (λ (x : Option PointJob). IfSome x (IsJobAbove p.searchers.point.version.0)) e is.newer in
@@ -104,25 +109,26 @@ module _ {D : Type 0} (cells : D → Cells) (p : Parts D) (is : IsCore cells p) 
     }
 
 -- ---- a part of the job arrives, or does not
-module _ {D : Type 0} (cells : D → Cells) (p : Parts D) (is : IsCore cells p) (j : PointJob) (e : p.job ≡ Some j) where
+module _ {D : Type 0} (cells : D → Cells) (p : Parts D) (is : IsCore cells p) (j : PointJob) (e : p.job ≡ Some j) (foreign : (name : Name) → times (copies_names p.copies) (temp_name_of name j.copy.number) ≡ 0) where
   above_j : IsJobAbove p.searchers.point.version.0 j
   above_j = subst (λ (x : Option PointJob). IfSome x (IsJobAbove p.searchers.point.version.0)) e is.newer
 
   waits_j : IsWaiting p.files j.copy
   waits_j = subst (λ (x : Option PointJob). IfSome x (λ k. IsWaiting p.files k.copy)) e is.waits
 
-  counts_j : (q : Name) → count_of p.files q ≡ times (searcher_names p.searchers ++ book_names p.commits) q + times (job_names j.copy) q
-  counts_j q =
-      let names : times (names_of_job p.job) q ≡ times (job_names j.copy) q = ap (λ (x : Option PointJob). times (names_of_job x) q) e in
-      omega (arith, names, is.node.counts q, times-append (searcher_names p.searchers) (names_of_job p.job) q, times-append (searcher_names p.searchers) (book_names p.commits) q)
+  counts_j : (q : Name) → count_of p.files q ≡ times ((searcher_names p.searchers ++ book_names p.commits) ++ copies_names p.copies) q + times (job_names j.copy) q
+  counts_j q = omega (arith, (node_j cells p is j e).counts q, held_split cells p is j e (job_names j.copy) q, times-append (searcher_names p.searchers ++ book_names p.commits) (copies_names p.copies) q, times-append (searcher_names p.searchers) (book_names p.commits) q)
 
   module _ (name : Name) (missing : IfSome p.job (λ k. 0 < times k.copy.missing name)) where
     missing_j : 0 < times j.copy.missing name
     missing_j = subst (λ (x : Option PointJob). IfSome x (λ k. 0 < times k.copy.missing name)) e missing
 
+    others_none : times ((searcher_names p.searchers ++ book_names p.commits) ++ copies_names p.copies) (temp_name_of name j.copy.number) ≡ 0
+    others_none = omega (arith, foreign name, is.lasting.each name j.copy.number, (book_no_temporary (cells p.dir) p.files p.commits is.node.sound).each name j.copy.number,
+        times-append (searcher_names p.searchers ++ book_names p.commits) (copies_names p.copies) (temp_name_of name j.copy.number), times-append (searcher_names p.searchers) (book_names p.commits) (temp_name_of name j.copy.number))
+
     pub free_j : count_of p.files (temp_name_of name j.copy.number) ≡ 0
-    free_j = temp_free j.infos j.copy above_j.copy above_j.state.files p.files waits_j name missing_j (searcher_names p.searchers ++ book_names p.commits)
-        (joins (searcher_names p.searchers) (book_names p.commits) is.lasting (book_no_temporary (cells p.dir) p.files p.commits is.node.sound)) counts_j
+    free_j = temp_free j.infos j.copy above_j.copy above_j.state.files p.files waits_j name missing_j ((searcher_names p.searchers ++ book_names p.commits) ++ copies_names p.copies) others_none counts_j
 
     module _ (dir : D) (files : Holdings) (now : Job) (moves : MovesCounts (temp_name_of name j.copy.number ∷ []) (job_names j.copy) (job_names now) p.files files (cells p.dir) (cells dir)) (is_job : IsJob now) where
       pub arrives : now ≡ with_part j.copy name → IsCore cells (record p { dir = dir; files = files; job = Some (record { copy = now; infos = j.infos }) })

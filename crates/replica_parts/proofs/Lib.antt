@@ -4,6 +4,7 @@ pub mod Beside
 pub mod Carried
 pub mod Cores
 pub mod Documents
+pub mod Foreign
 pub mod Keeping
 pub mod Lasting
 pub mod Lists

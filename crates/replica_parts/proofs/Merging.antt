@@ -33,6 +33,9 @@ copy_found number (c ∷ cs) = by (copy_found number cs) (c.number == number)
     by more true = refl
     by more false = more
 
+pub item_at : (number : ℕ) (cs : List Job) (c : Job) → slice_get cs (copy_place number cs) ≡ Some c → copy_at number cs ≡ Some c
+item_at number cs c e = sym (copy_found number cs) ∙ e
+
 pub set_with : (number : ℕ) (cs : List Job) (now : Job) → slice_set cs (copy_place number cs) now ≡ copies_with number now cs
 set_with number [] now = refl
 set_with number (c ∷ cs) now = by (set_with number cs now) (c.number == number)

@@ -79,7 +79,7 @@ files_no_temporary infos names are = record { each = λ name job. by name job (i
 pub joins : (xs ys : List Name) → HasNoTemporary xs → HasNoTemporary ys → HasNoTemporary (xs ++ ys)
 joins xs ys a b = record { each = λ name job. omega (arith, a.each name job, b.each name job, times-append xs ys (temp_name_of name job)) }
 
-one_apart : (x q : Name) → (x ≡ q → ⊥) → times (x ∷ []) q ≡ 0
+pub one_apart : (x q : Name) → (x ≡ q → ⊥) → times (x ∷ []) q ≡ 0
 one_apart x q apart = by (same x q) refl
   where
     by : (b : Bool) → same x q ≡ b → times (x ∷ []) q ≡ 0

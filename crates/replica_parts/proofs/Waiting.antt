@@ -77,7 +77,7 @@ no_present (y ∷ ps) q none =
     omega (arith, rest, times-cons y.now (present_names ps) q, times_one y.now q, apart_none y.now q (none 0 y refl))
 
 -- what is left of names without one of them
-filtered : (names : List Name) (name q : Name) → 0 < times (filter (λ x. not (same x name)) names) q → 0 < times names q
+pub filtered : (names : List Name) (name q : Name) → 0 < times (filter (λ x. not (same x name)) names) q → 0 < times names q
 filtered [] name q some = some
 filtered (x ∷ xs) name q some = by (filtered xs name q) (same x name) some
   where

@@ -1,5 +1,5 @@
 -- The copies of merged segments that run, by their numbers, and the names that they hold.
-use Rattle.std.specs.Prelude.{◌≡◌, ◌≢◌, ◌==◌, ◌<◌, ◌^◌, ℕ, suc, if◌then◌else◌, List, [], ◌∷◌, ◌++◌, Option, Some, None, Unit}
+use Rattle.std.specs.Prelude.{◌≡◌, ◌≢◌, ◌==◌, ◌<◌, ◌^◌, ℕ, suc, nat_lt, if◌then◌else◌, List, [], ◌∷◌, ◌++◌, Option, Some, None, Unit}
 use Rattle.std.specs.List.{AllByRecursion}
 use Rattle.nrt_base.specs.declared.numbers.SegNo.{SegNo}
 use Rattle.file_names.specs.Names.{part_name_of}
@@ -45,14 +45,22 @@ copies_names c = running_names c.running ++ meta_names c.pending.files
 abbrev pub no_copies : MergeCopies
 no_copies = record { running = []; pending = record { expected = []; files = [] } }
 
+-- what is left of the copies where a generation is told: nothing, where it is above the greatest that was seen
+abbrev pub copies_seen : (seen generation : ℕ) → MergeCopies → MergeCopies
+copies_seen seen generation c = if nat_lt seen generation then no_copies else c
+
 -- the files that a job copies: those that it lacks, and its parts
 abbrev pub copied_names : Job → List Name
 copied_names j = j.missing ++ own_names j.parts
 
+-- no name of the one list is in the other
+abbrev pub SharesNone : List Name → List Name → Type 0
+SharesNone names others = (q : Name) → 0 < times names q → times others q ≡ 0
+
 -- two jobs have other numbers, and copy no file both
 pub record CopyApart (a b : Job) : Type 0 where
   pub numbers : a.number ≢ b.number
-  pub files : (q : Name) → 0 < times (copied_names a) q → times (copied_names b) q ≡ 0
+  pub files : SharesNone (copied_names a) (copied_names b)
 
 -- any two of the jobs are so
 abbrev pub AreCopiesApart : List Job → Type 0

@@ -1,10 +1,21 @@
 //! The copies of merged segments.
 
-ghost use Rattle.std.specs.Prelude.{◌≡◌, ◌<◌, ◌++◌, ◌∷◌, [], true, is_some, Some, IfSome, OnOk, OnErr, slice_set, slice_get, length};
+ghost use Rattle.std.specs.Prelude.{◌≡◌, ◌<◌, ◌≤◌, ◌++◌, ◌∷◌, [], true, is_some, Some, IfSome, IfErr, IsErrOf, OnOk, OnErr};
 ghost use Rattle.std.specs.Option.{option_map};
-ghost use Rattle.replica_parts.specs.Merges.{copy_at, copies_without, copy_place};
+ghost use Rattle.nrt_base.specs.Causes.{Rose};
+ghost use Rattle.file_names.specs.Names.{temp_name_of};
+ghost use Rattle.file_deleter.specs.Holdings.{count_of, times, AreCounted, IsWhole};
+ghost use Rattle.file_deleter.specs.Moves.{MovesCounts};
+ghost use Rattle.copy_state.specs.States.{meta_in};
+ghost use Rattle.copy_job.specs.Parts.{ArePlaceable};
+ghost use Rattle.copy_job.specs.Placing.{IsPlacingFault};
+ghost use Rattle.replica_parts.specs.Merges.{copy_at, copies_without, copy_place, running_names};
+ghost use Rattle.replica_parts.specs.Moving.{CopyArrives, CopyPlaced};
 
-use copy_job::CopyJob;
+use crate::job::told;
+use copy_job::{CopyJob, JobFault, Part};
+use disk_model::Dir;
+use file_deleter::FileDeleter;
 use merge_precopy::Precopies;
 use nrt_base::NoMemory;
 use std::alloc::Global;
@@ -46,6 +57,19 @@ fn place_of(copies: &[CopyJob], number: u64) -> usize
     i
 }
 
+// Ends each copy, the last one first.
+fn end_each<D: Dir>(copies: &mut Vec<CopyJob>, files: &mut FileDeleter, dir: &mut D)
+    requires { AreCounted (running_names copies.old.items) files.old }
+    ensures none { copies.new.items ≡ [] }
+    ensures moves { MovesCounts [] (running_names copies.old.items) [] files.old files.new
+        (D.cells dir.old) (D.cells dir.new) }
+    ensures later { D.faults dir.old ≤ D.faults dir.new }
+{
+    while let Some(copy) = copies.pop() {
+        copy.end(files, dir);
+    }
+}
+
 impl RunningCopies {
     /// No copy runs.
     pub fn new(alloc: Global) -> Self
@@ -83,5 +107,72 @@ impl RunningCopies {
     {
         let at = place_of(self.items.as_slice(), number);
         self.items.remove(at)
+    }
+
+    /// Writes a part of the copy with this number under its temporary name. After a refusal it is still missing.
+    pub fn arrived<D: Dir>(
+        &mut self,
+        number: u64,
+        part: Part,
+        files: &mut FileDeleter,
+        dir: &mut D,
+    ) -> Result<(), JobFault>
+        requires runs { is_some (copy_at number self.old) ≡ true }
+        requires missing { IfSome (copy_at number self.old) (λ c. 0 < times c.missing part.name) }
+        requires meta { IfSome (copy_at number self.old) (λ c.
+            meta_in c.want.files part.name ≡ Some part.meta) }
+        requires free { count_of files.old (temp_name_of part.name number) ≡ 0 }
+        requires whole { IsWhole (D.cells dir.old) files.old }
+
+        ensures copy { IfSome (copy_at number self.old) (λ c. CopyArrives c number part.name part.bytes
+            self.old self.new files.old files.new (D.cells dir.old) (D.cells dir.new) result) }
+
+        // The causes of a refusal.
+        ensures fault { IfErr result IsPlacingFault }
+        ensures failed { IsErrOf result JobFault.DirFailed
+            → Rose (D.faults dir.old) (D.faults dir.new) }
+        ensures later { D.faults dir.old ≤ D.faults dir.new }
+    {
+        let at = place_of(self.items.as_slice(), number);
+        let result = self.items[at].arrived(part, files, dir);
+        told(&self.items[at]);
+        result
+    }
+
+    /// Gives the parts of the copy with this number their own names, in order, and ends at the first rename that is refused.
+    pub fn place<D: Dir>(
+        &mut self,
+        number: u64,
+        files: &mut FileDeleter,
+        dir: &mut D,
+    ) -> Result<(), JobFault>
+        requires runs { is_some (copy_at number self.old) ≡ true }
+        requires placeable { IfSome (copy_at number self.old) (λ c. ArePlaceable files.old c.parts) }
+        requires whole { IsWhole (D.cells dir.old) files.old }
+
+        ensures copy { IfSome (copy_at number self.old) (λ c. CopyPlaced c number
+            self.old self.new files.old files.new (D.cells dir.old) (D.cells dir.new) result) }
+
+        // The causes of a refusal.
+        ensures fault { IfErr result IsPlacingFault }
+        ensures failed { IsErrOf result JobFault.DirFailed
+            → Rose (D.faults dir.old) (D.faults dir.new) }
+        ensures later { D.faults dir.old ≤ D.faults dir.new }
+    {
+        let at = place_of(self.items.as_slice(), number);
+        let result = self.items[at].place(files, dir);
+        told(&self.items[at]);
+        result
+    }
+
+    /// Ends each copy, and gives back what it held. Takes no memory.
+    pub fn end_all<D: Dir>(&mut self, files: &mut FileDeleter, dir: &mut D)
+        requires { AreCounted (running_names self.old) files.old }
+        ensures none { self.new ≡ [] }
+        ensures moves { MovesCounts [] (running_names self.old) [] files.old files.new
+            (D.cells dir.old) (D.cells dir.new) }
+        ensures later { D.faults dir.old ≤ D.faults dir.new }
+    {
+        end_each(&mut self.items, files, dir);
     }
 }

@@ -1,13 +1,12 @@
 use Rattle.std.proofs.Common.{sym, arith}
 use Rattle.replica_parts.proofs.Beside.{standing_jobs}
-use Rattle.replica_calls.proofs.Ended.{job_counted}
 use Rattle.replica_parts.proofs.Keeping.{core_of}
-use Rattle.replica_calls.proofs.Calls.{ended_core, ended_whole, ended_sourced, ended_held}
+use Rattle.replica_calls.proofs.Ended.{job_counted, ended_core, ended_whole, ended_sourced, ended_held}
 use Rattle.node_files.proofs.Appearing.{keeps_none}
 use Rattle.replica_calls.proofs.ends.end_job.Goals as goal
 
 pub end-requires : goal.end-requires
-end-requires g c = job_counted g.D.Dir.cells c.args.parts.now (core_of g.D.Dir.cells c.args.parts.now c.requires.whole) c.in-Some.job (sym c.in-Some.ensures.value)
+end-requires g c = job_counted g.D.Dir.cells c.args.parts.now c.requires.whole c.in-Some.job (sym c.in-Some.ensures.value)
 
 pub returns-clause-whole : goal.returns-clause-whole
 returns-clause-whole g c = ended_whole g.D.Dir.cells c.args.parts.now c.requires.whole c.in-Some.job (sym c.in-Some.ensures.value) c.end.new.dir c.end.new.files c.take.new.self c.take.ensures.after c.end.ensures.lets_go

@@ -1,8 +1,8 @@
 -- A replica whose copies give names back.
-use Rattle.std.proofs.Common.{◌≡◌, ◌≢◌, ◌+◌, ◌<◌, ◌≤◌, ◌^◌, ℕ, List, ◌++◌, arith, sym}
+use Rattle.std.proofs.Common.{◌≡◌, ◌+◌, ◌<◌, ◌≤◌, ℕ, List, ◌++◌, arith}
 use Rattle.file_names.specs.Names.{temp_name_of}
 use Rattle.disk_model.specs.Disk.{Name, Cells, reads_of}
-use Rattle.file_deleter.specs.Holdings.{Holdings, count_of, times, AreCounted}
+use Rattle.file_deleter.specs.Holdings.{Holdings, times, AreCounted}
 use Rattle.file_deleter.specs.Moves.{LetsGo}
 use Rattle.file_deleter.proofs.NameLemmas.{times-append}
 use Rattle.node_files.specs.Node.{IsWholeNode, KeepsBytes}
@@ -11,7 +11,6 @@ use Rattle.searcher_switch.specs.Tickets.{ticket_names}
 use Rattle.searcher_switch.specs.Searching.{searcher_names}
 use Rattle.copy_job.specs.Jobs.{Job, job_names}
 use Rattle.replica_parts.specs.declared.parts.Parts.{Parts}
-use Rattle.replica_parts.specs.Merges.{copied_names}
 use Rattle.replica_parts.specs.Replica.{IsPointOf, IsMergeCopy, copying_names, replica_names}
 use Rattle.replica_parts.proofs.Along.{point_along}
 use Rattle.replica_parts.proofs.Carried.{HoldsNoOther}
