@@ -1,6 +1,6 @@
 -- A job that begins.
 use Rattle.replica_parts.proofs.Lasting.{listed_lasts}
-use Rattle.std.proofs.Common.{◌≡◌, ◌≢◌, ◌==◌, ℕ, zero, suc, ◌+◌, ◌<◌, Bool, true, false, List, [], ◌∷◌, ◌++◌, Option, Some, None, cond, is_some, is_none, refl, sym, ap, subst, ◌∙◌, arith, inl, get_or, length}
+use Rattle.std.proofs.Common.{◌≡◌, ◌≢◌, ◌==◌, ℕ, zero, suc, ◌+◌, ◌<◌, ◌^◌, Bool, true, false, List, [], ◌∷◌, ◌++◌, Option, Some, None, cond, is_some, is_none, refl, sym, ap, subst, ◌∙◌, arith, inl, get_or, length}
 use Rattle.std.specs.Prelude.{Contains, filter, IsSomeAnd}
 use Rattle.std.specs.List.{All}
 use Rattle.std.specs.List.Sorted.{IsStrictlySortedBy}
@@ -36,12 +36,15 @@ use Rattle.replica_parts.specs.declared.job.PointJob.{PointJob}
 use Rattle.replica_parts.specs.declared.parts.Parts.{Parts}
 use Rattle.replica_parts.specs.Held.{held_metas}
 use Rattle.replica_parts.specs.Jobs.{job_on, Agrees, IsStartingFault}
-use Rattle.replica_parts.specs.Replica.{IsWholeReplica, IsPointState, IsJobAbove, replica_names, names_of_job}
+use Rattle.replica_parts.specs.Merges.{copies_names, copied_names, SharesNone, CopyApart}
+use Rattle.replica_parts.specs.Replica.{IsWholeReplica, IsPointState, IsJobAbove, IsMergeCopy, AreMergeCopies, replica_names, copying_names, names_of_job}
 use Rattle.replica_parts.proofs.Named.{some_among}
 use Rattle.replica_parts.proofs.Carried.{HeldReads, JobReads, job_begins}
 use Rattle.replica_parts.proofs.Cores.{IsCore}
 use Rattle.replica_parts.specs.Sources.{KeepsSource, HoldsOnly}
-use Rattle.replica_parts.proofs.Keeping.{Knows, HasWanted, Matches, knows_reads, reads_metas, reads_copies, as_reads, whole_of}
+use Rattle.replica_parts.proofs.Keeping.{Knows, HasWanted, Matches, knows_reads, reads_metas, reads_copies, as_reads, whole_of, merge_spared}
+use Rattle.replica_parts.proofs.Merging.{all_map, all_both}
+use Rattle.replica_parts.proofs.Sparing.{SparesJob, copied_wanted}
 use Rattle.replica_parts.proofs.Metas.{listed_meta, held_in, held_names_are, is_held, same_filter, passed, same_meta}
 use Rattle.replica_parts.proofs.Waiting.{waits_begun}
 
@@ -178,7 +181,7 @@ module _ (reads : Name → Content) (holdings : Holdings) (known held : List (Na
   begun_fault fault h = starting reads holdings known knows infos (meta_names state.files) is.files state.files refl fault (subst (λ (hs : List (Name × FileMetaData)). IsBeginningFault hs state.files fault) held_is h)
 
 -- ---- the replica with its job
-module _ {D : Type 0} (cells : D → Cells) (p : Parts D) (is : IsWholeReplica cells p) (none : p.job ≡ None) (number : ℕ) (state : CopyState) (infos : Infos) (of : IsPointState state infos) (above : p.searchers.point.version.0 < state.version.0) (agreed : All (Agrees (reads_of (cells p.dir)) p.files) state.files)
+module _ {D : Type 0} (cells : D → Cells) (p : Parts D) (is : IsWholeReplica cells p) (none : p.job ≡ None) (number : ℕ) (last : p.jobs + 1 ≡ number) (state : CopyState) (infos : Infos) (of : IsPointState state infos) (above : p.searchers.point.version.0 < state.version.0) (agreed : All (Agrees (reads_of (cells p.dir)) p.files) state.files)
     (copy : Job) (copy_is : copy ≡ job_on number state p.files) (is_job : IsJob copy) where
   reused_is : copy.reused ≡ filter (λ q. nat_lt 0 (count_of p.files q)) (meta_names state.files)
   reused_is = ap (λ (j : Job). j.reused) copy_is
@@ -230,8 +233,9 @@ module _ {D : Type 0} (cells : D → Cells) (p : Parts D) (is : IsWholeReplica c
     no_job : (q : Name) → times (names_of_job p.job) q ≡ 0
     no_job q = ap (λ (x : Option PointJob). times (names_of_job x) q) none
 
-    all : (q : Name) → times (searcher_names p.searchers ++ job_names copy) q ≡ times (replica_names p) q + times copy.reused q
-    all q = omega (arith, times-append (searcher_names p.searchers) (job_names copy) q, times-append (searcher_names p.searchers) (names_of_job p.job) q, no_job q, names_begun q)
+    all : (q : Name) → times (searcher_names p.searchers ++ (job_names copy ++ copies_names p.copies)) q ≡ times (replica_names p) q + times copy.reused q
+    all q = omega (arith, times-append (searcher_names p.searchers) (job_names copy ++ copies_names p.copies) q, times-append (job_names copy) (copies_names p.copies) q, times-append (searcher_names p.searchers) (copying_names p) q,
+        times-append (names_of_job p.job) (copies_names p.copies) q, no_job q, names_begun q)
 
     above_job : IsJobAbove p.searchers.point.version.0 (record { copy = copy; infos = infos })
     above_job = record { copy = is_job; state = subst (λ (s : CopyState). IsPointState s infos) (sym want_is) of; above = omega (arith, above, ap (λ (v : Version). v.0) of.version) }
@@ -241,7 +245,7 @@ module _ {D : Type 0} (cells : D → Cells) (p : Parts D) (is : IsWholeReplica c
 
     pub begun_core : (jobs : ℕ) → IsCore cells (record p { files = files; jobs = jobs; job = Some (record { copy = copy; infos = infos }) })
     begun_core jobs = record {
-      node = node_kept (cells p.dir) (cells p.dir) p.files files (replica_names p) (searcher_names p.searchers ++ job_names copy) p.commits [] is.node (nothing_written p.commits) holds.keeps
+      node = node_kept (cells p.dir) (cells p.dir) p.files files (replica_names p) (searcher_names p.searchers ++ (job_names copy ++ copies_names p.copies)) p.commits [] is.node (nothing_written p.commits) holds.keeps
           (λ q. omega (arith, more q, is.node.counts q, all q))
           (record { each = λ q named. omega (arith, all q, is.node.plain.each q named, plain_reused q named) });
       point = is.point;
@@ -277,11 +281,58 @@ module _ {D : Type 0} (cells : D → Cells) (p : Parts D) (is : IsWholeReplica c
         let listed : Contains state.files (q, meta) = listed_meta state.files q meta (subst (λ (s : CopyState). meta_in s.files q ≡ Some meta) want_is e) in
         All-contains (Agrees (reads_of (cells p.dir)) p.files) state.files (q, meta) agreed listed some
 
-    pub begun_whole : (jobs : ℕ) → IsWholeReplica cells (record p { files = files; jobs = jobs; job = Some (record { copy = copy; infos = infos }) })
-    begun_whole jobs = whole_of cells (record p { files = files; jobs = jobs; job = Some (record { copy = copy; infos = infos }) }) (begun_core jobs) is.segs
+    -- ---- the merge copies
+    reused_temporary : (name : Name) (number : ℕ) → times copy.reused (temp_name_of name number) ≡ 0
+    reused_temporary name number = by (times copy.reused (temp_name_of name number)) refl
+      where
+        by : (n : ℕ) → times copy.reused (temp_name_of name number) ≡ n → times copy.reused (temp_name_of name number) ≡ 0
+        by zero z = z
+        by (suc n) z = absurd ((listed_lasts infos (meta_names state.files) of.files (temp_name_of name number) (reused_held (temp_name_of name number) (omega (arith, z))).1).temporary name number refl)
+
+    reused_none : (q : Name) → count_of p.files q ≡ 0 → times copy.reused q ≡ 0
+    reused_none q z = by (times copy.reused q) refl
+      where
+        by : (n : ℕ) → times copy.reused q ≡ n → times copy.reused q ≡ 0
+        by zero f = f
+        by (suc n) f = absurd (let some : 0 < count_of p.files q = (reused_held q (omega (arith, f))).0 in omega (arith, some, z))
+
+    spares : (c : Job) → SparesJob c p.files files (cells p.dir) (cells p.dir)
+    spares c = record {
+      temporary = λ name. omega (arith, more (temp_name_of name c.number), reused_temporary name c.number);
+      unheld = λ q copied z. omega (arith, more q, z, reused_none q z);
+      bytes = λ q some. refl;
+    }
+
+    -- the job copies what it lacks, and the merge copies copy no file of its state
+    begun_apart : AllByRecursion (λ c. SharesNone (copied_names c) (meta_names state.files)) p.copies.running → AllByRecursion (CopyApart copy) p.copies.running
+    begun_apart shares = all_map (λ c. IsMergeCopy (cells p.dir) p.files p.jobs c × SharesNone (copied_names c) (meta_names state.files)) (CopyApart copy) p.copies.running
+        (λ c h. record {
+        numbers = λ same. let number_is : copy.number ≡ number = ap (λ (j : Job). j.number) copy_is in absurd (omega (arith, same, number_is, last, h.0.given));
+        files = λ q some. none c h.1 q some (times (copied_names c) q) refl;
+      })
+        (all_both (IsMergeCopy (cells p.dir) p.files p.jobs) (λ c. SharesNone (copied_names c) (meta_names state.files)) p.copies.running is.merges.each shares)
+      where
+        none : (c : Job) → SharesNone (copied_names c) (meta_names state.files) → (q : Name) → 0 < times (copied_names copy) q → (n : ℕ) → times (copied_names c) q ≡ n → times (copied_names c) q ≡ 0
+        none c h q some zero z = z
+        none c h q some (suc n) z =
+            let wanted : 0 < times (meta_names state.files) q = subst (λ (s : CopyState). 0 < times (meta_names s.files) q) want_is (copied_wanted copy is_job q some) in
+            absurd (omega (arith, wanted, h q (omega (arith, z))))
+
+    begun_merges : AllByRecursion (λ c. SharesNone (copied_names c) (meta_names state.files)) p.copies.running → AreMergeCopies (cells p.dir) files number (Some (record { copy = copy; infos = infos })) p.copies
+    begun_merges shares = record {
+      each = all_map (IsMergeCopy (cells p.dir) p.files p.jobs) (IsMergeCopy (cells p.dir) files number) p.copies.running (λ c m. merge_spared (cells p.dir) (cells p.dir) p.files files p.jobs number c (omega (arith, last)) (spares c) m) is.merges.each;
+      apart = is.merges.apart;
+      beside_job = begun_apart shares;
+      job_given = let number_is : copy.number ≡ number = ap (λ (j : Job). j.number) copy_is in omega (arith, number_is);
+      pending = is.merges.pending;
+      unexpected = is.merges.unexpected;
+    }
+
+    pub begun_whole : AllByRecursion (λ c. SharesNone (copied_names c) (meta_names state.files)) p.copies.running → number < 2 ^ 63 → IsWholeReplica cells (record p { files = files; jobs = number; job = Some (record { copy = copy; infos = infos }) })
+    begun_whole shares few = whole_of cells (record p { files = files; jobs = number; job = Some (record { copy = copy; infos = infos }) }) (begun_core number) is.segs
         (record { each = λ q lasting some. is.known.each q lasting (begun_held q some) })
         (reads_metas (cells p.dir) copy (begun_reads (Knows p.known) (HasWanted copy.want.files)
-        (λ q wanted some k meta e. let h = agreed_meta q meta e some in record { bytes = h.bytes; there = h.there; meta_is = h.meta_is }) (knows_reads (cells p.dir) p.files p.known is.known)))
+        (λ q wanted some k meta e. let h = agreed_meta q meta e some in record { bytes = h.bytes; there = h.there; meta_is = h.meta_is }) (knows_reads (cells p.dir) p.files p.known is.known))) few (begun_merges shares)
 
 -- what was found among a state's files, as a slice
 pub held_slice : (known : List (Name × FileMetaData)) (holdings : Holdings) (state : CopyState) (slice held files : List (Name × FileMetaData)) → slice ≡ held → held ≡ held_metas known holdings (meta_names files) → files ≡ state.files
@@ -289,13 +340,14 @@ pub held_slice : (known : List (Name × FileMetaData)) (holdings : Holdings) (st
 held_slice known holdings state slice held files e f g = e ∙ f ∙ ap (λ (fs : List (Name × FileMetaData)). held_metas known holdings (meta_names fs)) g
 
 -- what the replica's files read, and what is held, where the job has begun
-module _ {D : Type 0} (cells : D → Cells) (p : Parts D) (is : IsWholeReplica cells p) (none : p.job ≡ None) (number : ℕ) (state : CopyState) (infos : Infos) (of : IsPointState state infos) (above : p.searchers.point.version.0 < state.version.0) (agreed : All (Agrees (reads_of (cells p.dir)) p.files) state.files)
+module _ {D : Type 0} (cells : D → Cells) (p : Parts D) (is : IsWholeReplica cells p) (none : p.job ≡ None) (number : ℕ) (last : p.jobs + 1 ≡ number) (state : CopyState) (infos : Infos) (of : IsPointState state infos) (above : p.searchers.point.version.0 < state.version.0) (agreed : All (Agrees (reads_of (cells p.dir)) p.files) state.files)
     (copy : Job) (copy_is : copy ≡ job_on number state p.files) (is_job : IsJob copy) (slice : List Name) (slice_is : slice ≡ copy.reused) (files : Holdings) (holds : HoldsFiles slice p.files files (cells p.dir)) (jobs : ℕ) where
   pub begun_sourced : KeepsSource cells p (record p { files = files; jobs = jobs; job = Some (record { copy = copy; infos = infos }) })
   begun_sourced source h = record {
-    held = record { each = λ q lasting some. h.held.each q lasting (begun_held cells p is none number state infos of above agreed copy copy_is is_job slice slice_is files holds q some) };
-    job = reads_copies source (cells p.dir) copy (begun_reads cells p is none number state infos of above agreed copy copy_is is_job slice slice_is files holds (Matches source) (Matches source) (λ q wanted some k. k) (as_reads source (cells p.dir) p.files h.held));
+    held = record { each = λ q lasting some. h.held.each q lasting (begun_held cells p is none number last state infos of above agreed copy copy_is is_job slice slice_is files holds q some) };
+    job = reads_copies source (cells p.dir) copy (begun_reads cells p is none number last state infos of above agreed copy copy_is is_job slice slice_is files holds (Matches source) (Matches source) (λ q wanted some k. k) (as_reads source (cells p.dir) p.files h.held));
+    merges = h.merges;
   }
 
   pub begun_only : HoldsOnly p (record p { files = files; jobs = jobs; job = Some (record { copy = copy; infos = infos }) })
-  begun_only q lasting some = inl (begun_held cells p is none number state infos of above agreed copy copy_is is_job slice slice_is files holds q some)
+  begun_only q lasting some = inl (begun_held cells p is none number last state infos of above agreed copy copy_is is_job slice slice_is files holds q some)

@@ -4,9 +4,10 @@ ghost use Rattle.std.specs.Prelude.{◌≡◌, ◌+◌, ◌<◌, Some, None, IsS
 ghost use Rattle.disk_model.specs.Disk.{reads_of};
 ghost use Rattle.segment_infos.specs.declared.infos.Infos.{Infos};
 ghost use Rattle.replica_parts.specs.Replica.{IsPointState, IsWholeReplica, AreStanding, IsWanted};
-ghost use Rattle.std.specs.List.{All};
+ghost use Rattle.std.specs.List.{All, AllByRecursion};
 ghost use Rattle.node_files.specs.Node.{KeepsBytes};
-ghost use Rattle.copy_state.specs.States.{IsCopyState};
+ghost use Rattle.copy_state.specs.States.{meta_names, IsCopyState};
+ghost use Rattle.replica_parts.specs.Merges.{copied_names, SharesNone};
 ghost use Rattle.replica_parts.specs.Jobs.{IsPointJob, Agrees, IsStartingFault};
 ghost use Rattle.replica_parts.specs.Sources.{KeepsSource, HoldsOnly};
 
@@ -43,6 +44,8 @@ pub fn start_job<D: Dir>(
     requires few { parts.old.jobs + 1 < 2 ^ 63 }
     requires state { IsCopyState state }
     requires wanted { IsWanted parts.old state }
+    requires apart { AllByRecursion (λ c. SharesNone (copied_names c) (meta_names state.files))
+        parts.old.copies.running }
 
     // The job that begins.
     ensures whole { IsWholeReplica D.cells parts.new }

@@ -4,13 +4,14 @@ use Rattle.copy_state.specs.States.{meta_in}
 use Rattle.replica_parts.specs.declared.job.PointJob.{PointJob}
 use Rattle.replica_copies.proofs.Arrivals.{free_j}
 use Rattle.replica_parts.proofs.Beside.{standing_jobs}
+use Rattle.replica_parts.proofs.Foreign.{beside_foreign}
 use Rattle.replica_parts.proofs.Keeping.{core_of}
 use Rattle.replica_copies.proofs.Taken.{arrived_core, arrived_whole, arrived_sourced, arrived_held, out_core, out_whole, out_sourced, out_held}
 use Rattle.replica_parts.proofs.Appears.{part_appears}
 use Rattle.replica_copies.proofs.arriving.arrived.Goals as goal
 
 pub arrived-requires-clause-free : goal.arrived-requires-clause-free
-arrived-requires-clause-free g c = free_j g.D.Dir.cells c.args.parts.now (core_of g.D.Dir.cells c.args.parts.now c.requires.whole) c.in-Some.field-0 (sym c.in-Some.ensures.value) c.args.part.name c.requires.missing
+arrived-requires-clause-free g c = free_j g.D.Dir.cells c.args.parts.now (core_of g.D.Dir.cells c.args.parts.now c.requires.whole) c.in-Some.field-0 (sym c.in-Some.ensures.value) (beside_foreign g.D.Dir.cells c.args.parts.now c.requires.whole c.in-Some.field-0 (sym c.in-Some.ensures.value)) c.args.part.name c.requires.missing
 
 pub returns-in-Ok-clause-whole : goal.returns-in-Ok-clause-whole
 returns-in-Ok-clause-whole g c =

@@ -1,4 +1,4 @@
-use Rattle.std.proofs.Common.{◌≡◌, ◌∙◌, ◌+◌}
+use Rattle.std.proofs.Common.{◌≡◌, ◌∙◌, ◌+◌, refl}
 use Rattle.disk_model.specs.Disk.{reads_of}
 use Rattle.copy_state.specs.States.{meta_names}
 use Rattle.replica_parts.specs.Held.{held_metas}
@@ -14,7 +14,7 @@ pub hold_there-requires : goal.hold_there-requires
 hold_there-requires g c =
     let p = c.args.parts.now in
     let held : c.as_slice-2.result.now ≡ held_metas p.known p.files (meta_names c.args.state.files) = held_slice p.known p.files c.args.state _ _ _ c.as_slice-2.ensures c.in-Ok-held_of.ensures c.as_slice.ensures in
-    begun_there g.D.Dir.cells p c.requires.whole c.requires.none (p.jobs + 1) c.args.state c.in-Ok.infos c.in-Ok.ensures c.requires.wanted.above
+    begun_there g.D.Dir.cells p c.requires.whole c.requires.none (p.jobs + 1) refl c.args.state c.in-Ok.infos c.in-Ok.ensures c.requires.wanted.above
     (begun_agrees (reads_of (g.D.Dir.cells p.dir)) p.files p.known c.as_slice-2.result.now c.requires.whole.known c.in-Ok.infos c.args.state c.in-Ok.ensures held c.in-Ok-begin.ensures.agreed)
     c.in-Ok-begin.copy (c.in-Ok-begin.ensures.job ∙ begun_as (reads_of (g.D.Dir.cells p.dir)) p.files p.known c.as_slice-2.result.now c.requires.whole.known c.in-Ok.infos c.args.state c.in-Ok.ensures held (p.jobs + 1))
     c.told.ensures c.reused.result.now c.reused.ensures
@@ -23,10 +23,10 @@ pub returns-clause-whole : goal.returns-clause-whole
 returns-clause-whole g c =
     let p = c.args.parts.now in
     let held : c.as_slice-2.result.now ≡ held_metas p.known p.files (meta_names c.args.state.files) = held_slice p.known p.files c.args.state _ _ _ c.as_slice-2.ensures c.in-Ok-held_of.ensures c.as_slice.ensures in
-    begun_whole g.D.Dir.cells p c.requires.whole c.requires.none (p.jobs + 1) c.args.state c.in-Ok.infos c.in-Ok.ensures c.requires.wanted.above
+    begun_whole g.D.Dir.cells p c.requires.whole c.requires.none (p.jobs + 1) refl c.args.state c.in-Ok.infos c.in-Ok.ensures c.requires.wanted.above
     (begun_agrees (reads_of (g.D.Dir.cells p.dir)) p.files p.known c.as_slice-2.result.now c.requires.whole.known c.in-Ok.infos c.args.state c.in-Ok.ensures held c.in-Ok-begin.ensures.agreed)
     c.in-Ok-begin.copy (c.in-Ok-begin.ensures.job ∙ begun_as (reads_of (g.D.Dir.cells p.dir)) p.files p.known c.as_slice-2.result.now c.requires.whole.known c.in-Ok.infos c.args.state c.in-Ok.ensures held (p.jobs + 1))
-    c.told.ensures c.reused.result.now c.reused.ensures c.hold_there.new.self c.in-Ok-hold_there.ensures.holds (p.jobs + 1)
+    c.told.ensures c.reused.result.now c.reused.ensures c.hold_there.new.self c.in-Ok-hold_there.ensures.holds c.requires.apart c.requires.few
 
 pub returns-clause-begun : goal.returns-clause-begun
 returns-clause-begun g c =
@@ -56,7 +56,7 @@ pub returns-clause-sourced : goal.returns-clause-sourced
 returns-clause-sourced g c =
     let p = c.args.parts.now in
     let held : c.as_slice-2.result.now ≡ held_metas p.known p.files (meta_names c.args.state.files) = held_slice p.known p.files c.args.state _ _ _ c.as_slice-2.ensures c.in-Ok-held_of.ensures c.as_slice.ensures in
-    begun_sourced g.D.Dir.cells p c.requires.whole c.requires.none (p.jobs + 1) c.args.state c.in-Ok.infos c.in-Ok.ensures c.requires.wanted.above
+    begun_sourced g.D.Dir.cells p c.requires.whole c.requires.none (p.jobs + 1) refl c.args.state c.in-Ok.infos c.in-Ok.ensures c.requires.wanted.above
     (begun_agrees (reads_of (g.D.Dir.cells p.dir)) p.files p.known c.as_slice-2.result.now c.requires.whole.known c.in-Ok.infos c.args.state c.in-Ok.ensures held c.in-Ok-begin.ensures.agreed)
     c.in-Ok-begin.copy (c.in-Ok-begin.ensures.job ∙ begun_as (reads_of (g.D.Dir.cells p.dir)) p.files p.known c.as_slice-2.result.now c.requires.whole.known c.in-Ok.infos c.args.state c.in-Ok.ensures held (p.jobs + 1))
     c.told.ensures c.reused.result.now c.reused.ensures c.hold_there.new.self c.in-Ok-hold_there.ensures.holds (p.jobs + 1)
@@ -65,7 +65,7 @@ pub returns-clause-held : goal.returns-clause-held
 returns-clause-held g c =
     let p = c.args.parts.now in
     let held : c.as_slice-2.result.now ≡ held_metas p.known p.files (meta_names c.args.state.files) = held_slice p.known p.files c.args.state _ _ _ c.as_slice-2.ensures c.in-Ok-held_of.ensures c.as_slice.ensures in
-    begun_only g.D.Dir.cells p c.requires.whole c.requires.none (p.jobs + 1) c.args.state c.in-Ok.infos c.in-Ok.ensures c.requires.wanted.above
+    begun_only g.D.Dir.cells p c.requires.whole c.requires.none (p.jobs + 1) refl c.args.state c.in-Ok.infos c.in-Ok.ensures c.requires.wanted.above
     (begun_agrees (reads_of (g.D.Dir.cells p.dir)) p.files p.known c.as_slice-2.result.now c.requires.whole.known c.in-Ok.infos c.args.state c.in-Ok.ensures held c.in-Ok-begin.ensures.agreed)
     c.in-Ok-begin.copy (c.in-Ok-begin.ensures.job ∙ begun_as (reads_of (g.D.Dir.cells p.dir)) p.files p.known c.as_slice-2.result.now c.requires.whole.known c.in-Ok.infos c.args.state c.in-Ok.ensures held (p.jobs + 1))
     c.told.ensures c.reused.result.now c.reused.ensures c.hold_there.new.self c.in-Ok-hold_there.ensures.holds (p.jobs + 1)
