@@ -3,8 +3,10 @@ use Rattle.std.proofs.Common.{◌≡◌, ◌==◌, ℕ, zero, suc, ◌+◌, ◌<
 use Rattle.std.specs.Prelude.{slice_set}
 use Rattle.std.specs.List.{remove, AllByRecursion}
 use Rattle.std.proofs.lemmas.Bool.Decides.{nat_tests}
-use Rattle.disk_model.specs.Disk.{Name}
-use Rattle.file_deleter.specs.Holdings.{times}
+use Rattle.disk_model.specs.Disk.{Name, Cells}
+use Rattle.file_deleter.specs.Holdings.{Holdings, times, AreCounted}
+use Rattle.file_deleter.specs.Moves.{LetsGo, MovesCounts}
+use Rattle.file_deleter.proofs.Keeping.{keeps_then}
 use Rattle.file_deleter.proofs.NameLemmas.{times-append}
 use Rattle.copy_job.specs.Jobs.{Job, job_names}
 use Rattle.replica_parts.specs.Merges.{copy_at, copies_without, copies_with, copy_place, running_names, copied_names, CopyApart, AreCopiesApart}
@@ -32,6 +34,15 @@ copy_found number (c ∷ cs) = by (copy_found number cs) (c.number == number)
     by : slice_get cs (copy_place number cs) ≡ copy_at number cs → (b : Bool) → slice_get (c ∷ cs) (if b then 0 else suc (copy_place number cs)) ≡ (if b then Some c else copy_at number cs)
     by more true = refl
     by more false = more
+
+pub found_in : (number : ℕ) (slice now : List Job) (at : ℕ) → slice ≡ now → at ≡ copy_place number slice → slice_get slice at ≡ copy_at number now
+found_in number slice now at e f = ap (slice_get slice) f ∙ copy_found number slice ∙ ap (copy_at number) e
+
+pub found_within : (number : ℕ) (slice now : List Job) (at : ℕ) → slice ≡ now → at ≡ copy_place number slice → is_some (copy_at number now) ≡ true → at < length now
+found_within number slice now at e f h =
+    let within : copy_place number now < length now = (copy_places number now h).within in
+    let same : at ≡ copy_place number now = f ∙ ap (copy_place number) e in
+    omega (arith, within, same)
 
 pub item_at : (number : ℕ) (cs : List Job) (c : Job) → slice_get cs (copy_place number cs) ≡ Some c → copy_at number cs ≡ Some c
 item_at number cs c e = sym (copy_found number cs) ∙ e
@@ -180,3 +191,20 @@ apart_with number (x ∷ xs) c now e turns h = by (λ f. apart_with number xs c 
 pub apart_push : (cs : List Job) (c : Job) → AreCopiesApart cs → AllByRecursion (λ d. CopyApart d c) cs → AreCopiesApart (cs ++ c ∷ [])
 apart_push [] c h k = (tt, tt)
 apart_push (x ∷ xs) c h k = (all_push (CopyApart x) xs c h.0 k.0, apart_push xs c h.1 k.1)
+
+-- ---- copies that end, one after the other
+pub copies_left : (was now rest : List Job) (c : Job) (h0 h1 : Holdings) (a b : Cells) → now ≡ rest ++ c ∷ [] → MovesCounts [] (running_names was) (running_names now) h0 h1 a b → AreCounted (running_names was) h0 → AreCounted (job_names c) h1
+copies_left was now rest c h0 h1 a b e moves counted = record {
+  each = λ q.
+      let all : times (running_names now) q ≡ times (running_names rest) q + times (job_names c) q = ap (λ (cs : List Job). times (running_names cs) q) e ∙ names-push rest c q in
+      omega (arith, all, moves.balance q, counted.each q);
+}
+
+pub copies_ended : (was now rest : List Job) (c : Job) (h0 h1 h2 : Holdings) (a b d : Cells) → now ≡ rest ++ c ∷ [] → MovesCounts [] (running_names was) (running_names now) h0 h1 a b → LetsGo (job_names c) h1 h2 b d
+    → MovesCounts [] (running_names was) (running_names rest) h0 h2 a d
+copies_ended was now rest c h0 h1 h2 a b d e moves lets_go = record {
+  balance = λ q.
+      let all : times (running_names now) q ≡ times (running_names rest) q + times (job_names c) q = ap (λ (cs : List Job). times (running_names cs) q) e ∙ names-push rest c q in
+      omega (arith, all, moves.balance q, lets_go.counts q);
+  keeps = keeps_then [] [] h0 h1 h2 a b d moves.keeps lets_go.keeps (λ q had has. omega (arith, has, lets_go.counts q));
+}

@@ -1,13 +1,14 @@
 -- The copies of merged segments that run, by their numbers, and the names that they hold.
-use Rattle.std.specs.Prelude.{◌≡◌, ◌≢◌, ◌==◌, ◌<◌, ◌^◌, ℕ, suc, nat_lt, if◌then◌else◌, List, [], ◌∷◌, ◌++◌, Option, Some, None, Unit}
+use Rattle.std.specs.Prelude.{◌≡◌, ◌≢◌, ◌==◌, ◌<◌, ◌^◌, ℕ, suc, nat_lt, if◌then◌else◌, List, [], ◌∷◌, ◌++◌, Option, Some, None}
 use Rattle.std.specs.List.{AllByRecursion}
 use Rattle.nrt_base.specs.declared.numbers.SegNo.{SegNo}
-use Rattle.file_names.specs.Names.{part_name_of}
+use Rattle.file_names.specs.Names.{part_name_of, temp_name_of}
 use Rattle.file_names.specs.declared.composed.SegPart.TheVariants.{Docs, Post, Info}
 use Rattle.disk_model.specs.Disk.{Name}
-use Rattle.file_deleter.specs.Holdings.{times}
+use Rattle.file_deleter.specs.Holdings.{Holdings, count_of, times}
 use Rattle.copy_state.specs.declared.state.CopyState.{CopyState}
-use Rattle.copy_state.specs.States.{meta_names}
+use Rattle.copy_state.specs.States.{meta_names, meta_in}
+use Rattle.copy_job.specs.declared.copying.Part.{Part}
 use Rattle.copy_job.specs.Parts.{own_names}
 use Rattle.copy_job.specs.Jobs.{Job, job_names}
 use Rattle.replica_parts.specs.declared.merges.MergeCopies.{MergeCopies}
@@ -52,6 +53,12 @@ copies_seen seen generation c = if nat_lt seen generation then no_copies else c
 -- the files that a job copies: those that it lacks, and its parts
 abbrev pub copied_names : Job → List Name
 copied_names j = j.missing ++ own_names j.parts
+
+-- the job lacks the part, which has the metadata that is wanted, and nobody holds a file of the part's temporary name
+pub record TakesPart (part : Part) (holdings : Holdings) (j : Job) : Type 0 where
+  pub missing : 0 < times j.missing part.name
+  pub meta : meta_in j.want.files part.name ≡ Some part.meta
+  pub free : count_of holdings (temp_name_of part.name j.number) ≡ 0
 
 -- no name of the one list is in the other
 abbrev pub SharesNone : List Name → List Name → Type 0
