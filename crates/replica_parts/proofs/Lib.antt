@@ -1,10 +1,12 @@
 pub mod Along
 pub mod Appears
+pub mod Beginning
 pub mod Beside
 pub mod Carried
 pub mod Cores
 pub mod Documents
 pub mod Foreign
+pub mod HeldFiles
 pub mod Keeping
 pub mod Lasting
 pub mod Lists
@@ -12,6 +14,7 @@ pub mod Merging
 pub mod Metas
 pub mod Named
 pub mod Noted
+pub mod Renamed
 pub mod Segments
 pub mod Sparing
 pub mod Temporary

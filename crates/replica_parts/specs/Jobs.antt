@@ -6,7 +6,7 @@ use Rattle.file_deleter.specs.Holdings.{Holdings, count_of}
 use Rattle.copy_state.specs.declared.meta.FileMetaData.{FileMetaData}
 use Rattle.copy_state.specs.declared.state.CopyState.{CopyState}
 use Rattle.copy_state.specs.States.{meta_names}
-use Rattle.copy_job.specs.declared.part.JobKind.TheVariants.{Point as PointKind}
+use Rattle.copy_job.specs.declared.part.JobKind.TheVariants.{Point as PointKind, Merge as MergeKind}
 use Rattle.copy_job.specs.declared.fault.JobFault.{JobFault}
 use Rattle.copy_job.specs.declared.fault.JobFault.TheVariants.{Memory, LinkFailed, Damaged, DirFailed, NameClash}
 use Rattle.copy_job.specs.Jobs.{Job}
@@ -24,6 +24,10 @@ job_on number state holdings = record {
   parts = [];
   reused = filter (λ q. nat_lt 0 (count_of holdings q)) (meta_names state.files);
 }
+
+-- the same of a merged segment
+abbrev pub merge_job_on : ℕ → CopyState → Holdings → Job
+merge_job_on number state holdings = record (job_on number state holdings) { kind = MergeKind }
 
 -- that job, with the infos of the state's point
 pub record IsPointJob (number : ℕ) (state : CopyState) (holdings : Holdings) (j : PointJob) : Type 0 where

@@ -23,7 +23,7 @@ use Rattle.replica_parts.specs.declared.merges.MergeCopies.{MergeCopies}
 use Rattle.replica_parts.specs.declared.parts.Parts.{Parts}
 use Rattle.replica_opening.specs.Known.{HasMeta, KnowsHeld}
 use Rattle.replica_opening.specs.Readers.{AreReaders}
-use Rattle.replica_parts.specs.Merges.{copies_names, CopyApart, AreCopiesApart, IsSegmentState}
+use Rattle.replica_parts.specs.Merges.{copies_names, CopyApart, AreCopiesApart, IsSegmentState, SharesNone}
 use Rattle.replica_parts.specs.Waiting.{HasNoTemporary, IsWaiting}
 
 -- the names that a job holds, where there is one
@@ -103,6 +103,14 @@ pub record IsWanted {D : Type 0} (p : Parts D) (state : CopyState) : Type 0 wher
   pub is : IsPointState state infos
   pub seen : state.primary_gen ≡ p.seen
   pub above : p.searchers.point.version.0 < state.version.0
+
+-- the state is of a merged segment, of the greatest generation seen; no job, no merge copy and no pending file names one of its files
+pub record MayLaunch {D : Type 0} (p : Parts D) (state : CopyState) : Type 0 where
+  pub segment : IsSegmentState state
+  pub seen : state.primary_gen ≡ p.seen
+  pub job : IfSome p.job (λ j. SharesNone (meta_names j.copy.want.files) (meta_names state.files))
+  pub copies : AllByRecursion (λ c. SharesNone (meta_names c.want.files) (meta_names state.files)) p.copies.running
+  pub pending : SharesNone (meta_names p.copies.pending.files) (meta_names state.files)
 
 -- the point that is searched is of some documents, and so is each commit
 pub record AreStanding {D : Type 0} (cells : D → Cells) (p : Parts D) : Type 0 where
