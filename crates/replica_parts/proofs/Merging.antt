@@ -1,6 +1,6 @@
 -- Copies in a list, by their numbers.
-use Rattle.std.proofs.Common.{◌≡◌, ◌==◌, ℕ, zero, suc, ◌+◌, ◌<◌, ◌≤◌, Bool, true, false, if◌then◌else◌, List, [], ◌∷◌, ◌++◌, length, Some, is_some, refl, sym, ap, subst, ◌∙◌, arith, true≢false, slice_get}
-use Rattle.std.specs.Prelude.{slice_set}
+use Rattle.std.proofs.Common.{◌≡◌, ◌==◌, ℕ, zero, suc, ◌+◌, ◌<◌, ◌≤◌, Bool, true, false, if◌then◌else◌, List, [], ◌∷◌, ◌++◌, length, take, drop, get_or, Option, Some, None, is_some, refl, sym, ap, subst, ◌∙◌, arith, true≢false, slice_get}
+use Rattle.std.specs.Prelude.{slice_set, IfSome}
 use Rattle.std.specs.List.{remove, AllByRecursion}
 use Rattle.std.proofs.lemmas.Bool.Decides.{nat_tests}
 use Rattle.disk_model.specs.Disk.{Name, Cells}
@@ -8,7 +8,8 @@ use Rattle.file_deleter.specs.Holdings.{Holdings, times, AreCounted}
 use Rattle.file_deleter.specs.Moves.{LetsGo, MovesCounts}
 use Rattle.file_deleter.proofs.Keeping.{keeps_then}
 use Rattle.file_deleter.proofs.NameLemmas.{times-append}
-use Rattle.copy_job.specs.Jobs.{Job, job_names}
+use Rattle.copy_job.specs.Jobs.{Job, IsJob, job_names}
+use Rattle.replica_parts.specs.Moving.{SetsCopy, ChangesCopy}
 use Rattle.replica_parts.specs.Merges.{copy_at, copies_without, copies_with, copy_place, running_names, copied_names, CopyApart, AreCopiesApart}
 
 -- ---- the place of a number
@@ -54,6 +55,58 @@ set_with number (c ∷ cs) now = by (set_with number cs now) (c.number == number
     by : slice_set cs (copy_place number cs) now ≡ copies_with number now cs → (b : Bool) → slice_set (c ∷ cs) (if b then 0 else suc (copy_place number cs)) now ≡ (if b then now ∷ cs else c ∷ copies_with number now cs)
     by more true = refl
     by more false = ap (λ (l : List Job). c ∷ l) more
+
+-- ---- the copy at a place is another one
+item_of : (cs : List Job) (at : ℕ) (c : Job) → at < length cs → c ≡ get_or cs at c → slice_get cs at ≡ Some c
+item_of [] at c lt e = absurd (omega (arith, lt))
+item_of (x ∷ xs) zero c lt e = ap (λ (y : Job). Some y) (sym e)
+item_of (x ∷ xs) (suc at) c lt e = item_of xs at c (omega (arith, lt)) e
+
+item_set : (cs : List Job) (at : ℕ) (c d : Job) → at < length cs → get_or (slice_set cs at c) at d ≡ c
+item_set [] at c d lt = absurd (omega (arith, lt))
+item_set (x ∷ xs) zero c d lt = refl
+item_set (x ∷ xs) (suc at) c d lt = item_set xs at c d (omega (arith, lt))
+
+length_set : (cs : List Job) (at : ℕ) (c : Job) → length (slice_set cs at c) ≡ length cs
+length_set [] at c = refl
+length_set (x ∷ xs) zero c = refl
+length_set (x ∷ xs) (suc at) c = ap suc (length_set xs at c)
+
+pub set_here : (P : Job → Job → Type 0) (cs : List Job) (at : ℕ) (c now d : Job) → at < length cs → c ≡ get_or cs at c → (IsJob now → P c now) → IsJob (get_or (slice_set cs at now) at d) → IfSome (slice_get cs at) (λ k. SetsCopy (P k) at cs (slice_set cs at now))
+set_here P cs at c now d lt e turns is = subst (λ (o : Option Job). IfSome o (λ k. SetsCopy (P k) at cs (slice_set cs at now))) (sym (item_of cs at c lt e))
+    (record { copy = now; all = refl; is = turns (subst IsJob (item_set cs at now d lt) is) })
+
+-- a list written back over one of the same length
+written_back : (xs ys : List Job) → length ys ≡ length xs → take (length xs) (ys ++ drop (length ys) xs) ≡ ys
+written_back [] [] e = refl
+written_back [] (y ∷ ys) e = absurd (omega (arith, e))
+written_back (x ∷ xs) [] e = absurd (omega (arith, e))
+written_back (x ∷ xs) (y ∷ ys) e = ap (λ (zs : List Job). y ∷ zs) (written_back xs ys (omega (arith, e)))
+
+some_turns : (P Q : Job → Type 0) (o : Option Job) → ((c : Job) → P c → Q c) → IfSome o P → IfSome o Q
+some_turns P Q None turns h = tt
+some_turns P Q (Some c) turns h = turns c h
+
+module _ (number : ℕ) (items slice first : List Job) (at : ℕ) (slice_is : slice ≡ items) (first_is : first ≡ items) (at_is : at ≡ copy_place number first) where
+  pub item_is : slice_get slice at ≡ copy_at number items
+  item_is = ap (λ (xs : List Job). slice_get xs at) (slice_is ∙ sym first_is) ∙ found_in number first items at first_is at_is
+
+  pub within_slice : is_some (copy_at number items) ≡ true → at < length slice
+  within_slice h = subst (λ (xs : List Job). at < length xs) (sym slice_is) (found_within number first items at first_is at_is h)
+
+  pub change_in : (P : Job → Job → Type 0) (n : ℕ) (new : List Job) → length slice ≡ n → IfSome (slice_get slice at) (λ c. SetsCopy (P c) at slice new)
+      → IfSome (copy_at number items) (λ c. ChangesCopy (P c) number items (take n (new ++ drop (length new) items)))
+  change_in P n new long h = some_turns (λ c. SetsCopy (P c) at slice new) (λ c. ChangesCopy (P c) number items (take n (new ++ drop (length new) items))) (copy_at number items)
+      (λ c s. record {
+      copy = s.copy;
+      all =
+          let same_long : length new ≡ length items = ap (λ (xs : List Job). length xs) s.all ∙ length_set slice at s.copy ∙ ap (λ (xs : List Job). length xs) slice_is in
+          let n_is : n ≡ length items = sym long ∙ ap (λ (xs : List Job). length xs) slice_is in
+          ap (λ (k : ℕ). take k (new ++ drop (length new) items)) n_is ∙ written_back items new same_long ∙ s.all
+          ∙ ap (λ (xs : List Job). slice_set xs at s.copy) slice_is ∙ ap (λ (k : ℕ). slice_set items k s.copy) (at_is ∙ ap (copy_place number) first_is) ∙ set_with number items s.copy;
+      is = s.is;
+    })
+      (subst (λ (o : Option Job). IfSome o (λ c. SetsCopy (P c) at slice new)) item_is h)
 
 same_number : (m n : ℕ) → (m == n) ≡ true → m ≡ n
 same_number m n e = grind (arith, nat_tests, e)
