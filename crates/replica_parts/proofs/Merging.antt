@@ -232,6 +232,15 @@ all_with P Q number (x ∷ xs) c now e apart k turns h = by (λ f. all_with P Q 
         (k, all_map (λ d. P d × CopyApart c d) Q xs (λ d both. turns d both.0 both.1) (all_both P (CopyApart c) xs h.1 (subst (λ (y : Job). AllByRecursion (CopyApart y) xs) is apart.0)))
     by more here false f = (turns x h.0 (apart_sym x c (here f)), more f)
 
+-- the copy of the number is another one, and the others are as they were
+pub all_put : (P : Job → Type 0) (number : ℕ) (cs : List Job) (now : Job) → P now → AllByRecursion P (copies_without number cs) → AllByRecursion P (copies_with number now cs)
+all_put P number [] now k h = tt
+all_put P number (x ∷ xs) now k h = by (all_put P number xs now k) (x.number == number) h
+  where
+    by : (AllByRecursion P (copies_without number xs) → AllByRecursion P (copies_with number now xs)) → (b : Bool) → AllByRecursion P (if b then xs else x ∷ copies_without number xs) → AllByRecursion P (if b then now ∷ xs else x ∷ copies_with number now xs)
+    by more true rest = (k, rest)
+    by more false rest = (rest.0, more rest.1)
+
 pub apart_with : (number : ℕ) (cs : List Job) (c now : Job) → copy_at number cs ≡ Some c → ((d : Job) → CopyApart c d → CopyApart now d) → AreCopiesApart cs → AreCopiesApart (copies_with number now cs)
 apart_with number [] c now e turns h = tt
 apart_with number (x ∷ xs) c now e turns h = by (λ f. apart_with number xs c now f turns h.1) (λ f. all_at (CopyApart x) number xs c f h.0) (x.number == number) e
