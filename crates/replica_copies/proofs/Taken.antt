@@ -23,7 +23,8 @@ use Rattle.replica_parts.proofs.Foreign.{beside_foreign, other_temporary}
 use Rattle.replica_parts.proofs.Keeping.{Knows, HasWanted, Matches, core_of, whole_of, whole_beside, sourced_beside, holds_beside, knows_reads, reads_known, metas_reads, reads_metas, as_reads, reads_as, copies_reads, reads_copies, merge_spared, merge_lasts, source_spared}
 use Rattle.replica_parts.proofs.Merging.{all_map, all_both, all_held}
 use Rattle.replica_parts.proofs.Sparing.{SparesJob, copied_part}
-use Rattle.replica_copies.proofs.Arrivals.{arrives, stays_out, part_added, node_j, held_split, counts_new}
+use Rattle.replica_copies.proofs.Arrivals.{arrives, stays_out, node_j, held_split, counts_new}
+use Rattle.replica_parts.proofs.Parting.{part_added}
 
 module _ {D : Type 0} (cells : D → Cells) (p : Parts D) (is : IsWholeReplica cells p) where
   -- ---- a part that arrives, or does not

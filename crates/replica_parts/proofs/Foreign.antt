@@ -22,7 +22,7 @@ use Rattle.replica_parts.proofs.Waiting.{job_foreign}
 pub merge_foreign : (cells : Cells) (holdings : Holdings) (jobs : ℕ) (c : Job) → IsMergeCopy cells holdings jobs c → jobs < 2 ^ 63 → (number : ℕ) → number < 2 ^ 64 → c.number ≢ number → (name : Name) → times (job_names c) (temp_name_of name number) ≡ 0
 merge_foreign cells holdings jobs c m few number fewer other = job_foreign (segment_infos m.segment.seg) c m.copy (segment_files c.want m.segment m.copy.state.files.ascending) holdings m.waits number (omega (arith, few, m.given)) fewer other
 
-running_foreign : (cells : Cells) (holdings : Holdings) (jobs : ℕ) (cs : List Job) → AllByRecursion (IsMergeCopy cells holdings jobs) cs → jobs < 2 ^ 63 → (number : ℕ) → number < 2 ^ 64 → AllByRecursion (λ c. c.number ≢ number) cs
+pub running_foreign : (cells : Cells) (holdings : Holdings) (jobs : ℕ) (cs : List Job) → AllByRecursion (IsMergeCopy cells holdings jobs) cs → jobs < 2 ^ 63 → (number : ℕ) → number < 2 ^ 64 → AllByRecursion (λ c. c.number ≢ number) cs
     → (name : Name) → times (running_names cs) (temp_name_of name number) ≡ 0
 running_foreign cells holdings jobs [] each few number fewer others name = refl
 running_foreign cells holdings jobs (c ∷ cs) each few number fewer others name =

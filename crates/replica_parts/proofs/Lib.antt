@@ -14,6 +14,7 @@ pub mod Merging
 pub mod Metas
 pub mod Named
 pub mod Noted
+pub mod Parting
 pub mod Renamed
 pub mod Segments
 pub mod Sparing

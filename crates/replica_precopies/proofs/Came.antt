@@ -1,13 +1,13 @@
 -- A part of a merge copy arrives, or does not.
-use Rattle.std.proofs.Common.{◌≡◌, ◌≢◌, ℕ, ◌+◌, ◌<◌, ◌≤◌, ◌^◌, Bool, true, false, List, [], ◌∷◌, ◌++◌, Option, Some, cond, refl, sym, ap, subst, ◌∙◌, arith, inl, inr}
+use Rattle.std.proofs.Common.{◌≡◌, ◌≢◌, ℕ, ◌+◌, ◌<◌, ◌^◌, Bool, true, false, List, [], ◌∷◌, ◌++◌, Option, Some, None, cond, refl, sym, ap, subst, ◌∙◌, arith}
 use Rattle.std.specs.Prelude.{IfSome}
+use Rattle.std.specs.List.{AllByRecursion}
 use Rattle.file_names.specs.Names.{temp_name_of, is_pending_name}
 use Rattle.disk_model.specs.Disk.{Name, Content, Cells, same, is_among, reads_of}
 use Rattle.disk_model.proofs.CellLemmas.{same_true}
 use Rattle.file_deleter.specs.Holdings.{Holdings, count_of, times}
 use Rattle.file_deleter.specs.Moves.{MovesCounts}
 use Rattle.file_deleter.proofs.NameLemmas.{times-append, times_one, among_times, once}
-use Rattle.segment_infos.specs.declared.infos.Infos.{Infos}
 use Rattle.segment_infos.specs.Files.{AreFilesOf}
 use Rattle.node_files.specs.Node.{IsApart, KeepsBytes}
 use Rattle.node_files.proofs.Carry.{unheld_apart}
@@ -17,19 +17,139 @@ use Rattle.copy_state.specs.declared.meta.FileMetaData.{FileMetaData}
 use Rattle.copy_state.specs.Meta.{IsMetaOf}
 use Rattle.copy_state.specs.States.{meta_names, meta_in}
 use Rattle.copy_job.specs.Jobs.{Job, IsJob, job_names, with_part}
-use Rattle.replica_opening.specs.Known.{KnowsHeld, IsLasting}
+use Rattle.replica_opening.specs.Known.{IsLasting}
+use Rattle.replica_parts.specs.declared.job.PointJob.{PointJob}
 use Rattle.replica_parts.specs.declared.parts.Parts.{Parts}
-use Rattle.replica_parts.specs.Merges.{copy_at, copies_with, running_names, copies_names, copied_names, CopyApart}
+use Rattle.replica_parts.specs.Merges.{copy_at, copies_with, copies_without, running_names, copies_names, copied_names, CopyApart}
 use Rattle.replica_parts.specs.Sources.{CopiesFrom, IsSourced, HoldsOnly}
-use Rattle.replica_parts.specs.Waiting.{IsWaiting}
-use Rattle.replica_parts.specs.Replica.{IsWholeReplica, HasMetas, IsMergeCopy, names_of_job, copying_names, replica_names}
-use Rattle.replica_parts.proofs.Carried.{HoldsNoOther, held_along, job_arrives}
-use Rattle.replica_parts.proofs.Foreign.{other_temporary}
-use Rattle.replica_parts.proofs.Keeping.{Knows, HasWanted, Matches, knows_reads, reads_known, as_reads, reads_as, copies_reads, reads_copies, metas_reads, reads_metas, holds_beside, running_within}
-use Rattle.replica_parts.proofs.Merging.{all_at, all_held, number_at}
-use Rattle.replica_parts.proofs.Parting.{part_added, adds_made, temp_plain, temp_none, temp_lasting}
+use Rattle.replica_parts.specs.Replica.{IsWholeReplica, IsMergeCopy, names_of_job, copying_names, replica_names}
+use Rattle.replica_parts.proofs.Carried.{JobReads, HoldsNoOther, held_along, job_arrives}
+use Rattle.replica_parts.proofs.Foreign.{other_temporary, merge_foreign, point_foreign, running_foreign}
+use Rattle.replica_parts.proofs.Keeping.{Knows, HasWanted, Matches, knows_reads, reads_known, as_reads, reads_as, copies_reads, reads_copies, metas_reads, reads_metas, holds_beside}
+use Rattle.replica_parts.proofs.Merging.{all_at, all_map, all_without, names-without, number_at}
+use Rattle.replica_parts.proofs.Parting.{part_added, temp_plain, temp_none, temp_lasting}
 use Rattle.replica_parts.proofs.Segments.{segment_infos, segment_files}
 use Rattle.replica_parts.proofs.Sparing.{copied_part}
-use Rattle.replica_parts.proofs.Temporary.{one_apart, book_no_temporary}
+use Rattle.replica_parts.proofs.Temporary.{book_no_temporary}
 use Rattle.replica_parts.proofs.Waiting.{temp_free, waits_arrived}
-use Rattle.replica_precopies.proofs.Moved.{is_copy, moved_whole, moved_sourced}
+use Rattle.replica_precopies.proofs.Moved.{moved_whole, moved_sourced}
+
+module _ {D : Type 0} (cells : D → Cells) (p : Parts D) (is : IsWholeReplica cells p) (number : ℕ) (c : Job) (e : copy_at number p.copies.running ≡ Some c) (name : Name) (missing : 0 < times c.missing name) where
+  m : IsMergeCopy (cells p.dir) p.files p.jobs c
+  m = all_at (IsMergeCopy (cells p.dir) p.files p.jobs) number p.copies.running c e is.merges.each
+
+  files_are : AreFilesOf (segment_infos m.segment.seg) (meta_names c.want.files)
+  files_are = segment_files c.want m.segment m.copy.state.files.ascending
+
+  few64 : c.number < 2 ^ 64
+  few64 = omega (arith, m.given, is.few)
+
+  same_number : c.number ≡ number
+  same_number = number_at number p.copies.running c e
+
+  -- ---- nobody holds a file of the part's temporary name
+  others : List Name
+  others = (searcher_names p.searchers ++ book_names p.commits) ++ (names_of_job p.job ++ (running_names (copies_without number p.copies.running) ++ meta_names p.copies.pending.files))
+
+  counts_c : (q : Name) → count_of p.files q ≡ times others q + times (job_names c) q
+  counts_c q = omega (arith, is.node.counts q, names-without number p.copies.running c q e, times-append (searcher_names p.searchers) (copying_names p) q, times-append (names_of_job p.job) (copies_names p.copies) q,
+      times-append (running_names p.copies.running) (meta_names p.copies.pending.files) q, times-append (searcher_names p.searchers ++ book_names p.commits) (names_of_job p.job ++ (running_names (copies_without number p.copies.running) ++ meta_names p.copies.pending.files)) q,
+      times-append (searcher_names p.searchers) (book_names p.commits) q, times-append (names_of_job p.job) (running_names (copies_without number p.copies.running) ++ meta_names p.copies.pending.files) q,
+      times-append (running_names (copies_without number p.copies.running)) (meta_names p.copies.pending.files) q)
+
+  job_none : (o : Option PointJob) → p.job ≡ o → times (names_of_job o) (temp_name_of name c.number) ≡ 0
+  job_none None f = refl
+  job_none (Some j) f =
+      let all : AllByRecursion (CopyApart j.copy) p.copies.running = subst (λ (x : Option PointJob). IfSome x (λ k. AllByRecursion (CopyApart k.copy) p.copies.running)) f is.merges.beside_job in
+      point_foreign cells p is c.number few64 j f (all_at (CopyApart j.copy) number p.copies.running c e all).numbers name
+
+  running_none : times (running_names (copies_without number p.copies.running)) (temp_name_of name c.number) ≡ 0
+  running_none =
+      let each = all_without (IsMergeCopy (cells p.dir) p.files p.jobs) number p.copies.running c e is.merges.apart is.merges.each in
+      running_foreign (cells p.dir) p.files p.jobs (copies_without number p.copies.running)
+      (all_map (λ d. IsMergeCopy (cells p.dir) p.files p.jobs d × CopyApart c d) (IsMergeCopy (cells p.dir) p.files p.jobs) (copies_without number p.copies.running) (λ d h. h.0) each) is.few c.number few64
+      (all_map (λ d. IsMergeCopy (cells p.dir) p.files p.jobs d × CopyApart c d) (λ d. d.number ≢ c.number) (copies_without number p.copies.running) (λ d h same. h.1.numbers (sym same)) each) name
+
+  others_none : times others (temp_name_of name c.number) ≡ 0
+  others_none =
+      let q : Name = temp_name_of name c.number in
+      omega (arith, job_none p.job refl, running_none, is.merges.pending.each name c.number, is.lasting.each name c.number, (book_no_temporary (cells p.dir) p.files p.commits is.node.sound).each name c.number,
+      times-append (searcher_names p.searchers ++ book_names p.commits) (names_of_job p.job ++ (running_names (copies_without number p.copies.running) ++ meta_names p.copies.pending.files)) q,
+      times-append (searcher_names p.searchers) (book_names p.commits) q, times-append (names_of_job p.job) (running_names (copies_without number p.copies.running) ++ meta_names p.copies.pending.files) q,
+      times-append (running_names (copies_without number p.copies.running)) (meta_names p.copies.pending.files) q)
+
+  pub free_copy : count_of p.files (temp_name_of name c.number) ≡ 0
+  free_copy = temp_free (segment_infos m.segment.seg) c m.copy files_are p.files m.waits name missing others others_none counts_c
+
+  module _ (dir : D) (files : Holdings) (now : Job) (moves : MovesCounts (temp_name_of name c.number ∷ []) (job_names c) (job_names now) p.files files (cells p.dir) (cells dir)) (is_job : IsJob now) where
+    stays : KeepsBytes p.files files (cells p.dir) (cells dir)
+    stays = record { held = moves.keeps.reads }
+
+    apart : IsApart (temp_name_of name c.number ∷ []) p.commits
+    apart = unheld_apart (cells p.dir) p.files (replica_names p) (temp_name_of name c.number ∷ []) p.commits is.node (temp_plain name c.number) (λ q there. by q (same (temp_name_of name c.number) q) refl there)
+      where
+        by : (q : Name) (b : Bool) → same (temp_name_of name c.number) q ≡ b → is_among (temp_name_of name c.number ∷ []) q ≡ true → count_of p.files q ≡ 0
+        by q true f there = subst (λ (x : Name). count_of p.files x ≡ 0) (same_true (temp_name_of name c.number) q f) free_copy
+        by q false f there = let n = among_times (temp_name_of name c.number ∷ []) q there in absurd (omega (arith, n, times_one (temp_name_of name c.number) q ∙ ap (λ b. cond b 1 0) f))
+
+    copy_plain : (q : Name) → is_pending_name q ≡ true → times (job_names c) q ≡ 0
+    copy_plain q named = omega (arith, is.node.plain.each q named, names-without number p.copies.running c q e, times-append (searcher_names p.searchers) (copying_names p) q, times-append (names_of_job p.job) (copies_names p.copies) q,
+        times-append (running_names p.copies.running) (meta_names p.copies.pending.files) q)
+
+    -- ---- it arrives
+    module _ (made : now ≡ with_part c name) where
+      more : (q : Name) → count_of files q ≡ count_of p.files q + times (temp_name_of name c.number ∷ []) q
+      more q = omega (arith, moves.balance q, part_added c now name made q)
+
+      other : HoldsNoOther p.files files
+      other = record { each = λ q lasting none. omega (arith, none, more q, temp_lasting name c.number q lasting) }
+
+      now_plain : (q : Name) → is_pending_name q ≡ true → times (job_names now) q ≡ 0
+      now_plain q named = omega (arith, copy_plain q named, part_added c now name made q, temp_none name c.number q named)
+
+      now_foreign : (k : ℕ) → k < 2 ^ 64 → c.number ≢ k → (file : Name) → times (job_names now) (temp_name_of file k) ≡ 0
+      now_foreign k fewer apart_k file = omega (arith, part_added c now name made (temp_name_of file k), merge_foreign (cells p.dir) p.files p.jobs c m is.few k fewer apart_k file, other_temporary name file c.number k few64 fewer apart_k)
+
+      newly : (q : Name) → IsLasting q → count_of p.files q ≡ 0 → 0 < count_of files q → 0 < times (copied_names c) q
+      newly q lasting none some = absurd (omega (arith, none, some, more q, temp_lasting name c.number q lasting))
+
+      turns : (d : Job) → CopyApart c d → CopyApart now d
+      turns d h = record {
+        numbers = λ same_d. h.numbers (sym (ap (λ (k : Job). k.number) made) ∙ same_d);
+        files = λ q some. h.files q (copied_part c name missing q (subst (λ (k : Job). 0 < times (copied_names k) q) made some));
+      }
+
+      copy_bytes : (q : Name) → 0 < times (job_names c) q → (cells dir q).now ≡ (cells p.dir q).now
+      copy_bytes q some = let had : 0 < count_of p.files q = omega (arith, some, counts_c q) in stays.held q had (omega (arith, had, more q))
+
+      come : (J : Name → Content → Type 0) → J name (cells dir (temp_name_of name c.number)).now → JobReads J (cells p.dir) c → JobReads J (cells dir) (with_part c name)
+      come J here h = job_arrives J (cells p.dir) (cells dir) c m.copy (λ q. once (meta_names c.want.files) q m.copy.state.files.ascending) name missing copy_bytes here h
+
+      module _ (bytes : List ℕ) (written : (cells dir (temp_name_of name c.number)).now ≡ Some bytes) where
+        is_now : (meta : FileMetaData) → IsMetaOf bytes meta → meta_in c.want.files name ≡ Some meta → IsMergeCopy (cells dir) files p.jobs now
+        is_now meta meta_is wanted = subst (IsMergeCopy (cells dir) files p.jobs) (sym made) (record {
+          kind = m.kind;
+          copy = subst IsJob made is_job;
+          segment = m.segment;
+          given = m.given;
+          waits = waits_arrived (segment_infos m.segment.seg) c m.copy files_are p.files m.waits name missing files (with_part c name) refl free_copy more;
+          copied = reads_metas (cells dir) (with_part c name) (come (HasWanted c.want.files) (λ n f. record { bytes = bytes; there = written; meta_is = subst (IsMetaOf bytes) (some_same meta n (sym wanted ∙ f)) meta_is }) (metas_reads (cells p.dir) c m.copied));
+        })
+          where
+            some_same : (a b : FileMetaData) → ◌≡◌ {A = Option FileMetaData} (Some a) (Some b) → a ≡ b
+            some_same a b f = cc
+
+        pub came_whole : (meta : FileMetaData) → IsMetaOf bytes meta → meta_in c.want.files name ≡ Some meta
+            → IsWholeReplica cells (record p { dir = dir; files = files; known = p.known; copies = record { running = copies_with number now p.copies.running; pending = p.copies.pending } })
+        came_whole meta meta_is wanted = moved_whole cells p is number c e now dir files (temp_name_of name c.number ∷ []) moves apart now_plain (omega (arith, m.given, ap (λ (k : Job). k.number) made)) (ap (λ (k : Job). k.number) made) now_foreign newly turns (is_now meta meta_is wanted) p.known
+            (reads_known (cells dir) files p.known (held_along (Knows p.known) (cells p.dir) (cells dir) p.files files other stays (knows_reads (cells p.dir) p.files p.known is.known)))
+
+        pub came_sourced : (source : Name → Content) → source name ≡ Some bytes → IsSourced source cells p → IsSourced source cells (record p { dir = dir; files = files; known = p.known; copies = record { running = copies_with number now p.copies.running; pending = p.copies.pending } })
+        came_sourced source is_source h = moved_sourced cells p is number c e now dir files (temp_name_of name c.number ∷ []) moves apart now_plain (omega (arith, m.given, ap (λ (k : Job). k.number) made)) (ap (λ (k : Job). k.number) made) now_foreign newly source p.known
+            (reads_as source (cells dir) files (held_along (Matches source) (cells p.dir) (cells dir) p.files files other stays (as_reads source (cells p.dir) p.files h.held)))
+            (subst (CopiesFrom source (reads_of (cells dir))) (sym made) (reads_copies source (cells dir) (with_part c name) (come (Matches source) (written ∙ sym is_source)
+            (copies_reads source (cells p.dir) c (all_at (CopiesFrom source (reads_of (cells p.dir))) number p.copies.running c e h.merges)))))
+            h
+
+      pub came_held : HoldsOnly p (record p { dir = dir; files = files; known = p.known; copies = record { running = copies_with number now p.copies.running; pending = p.copies.pending } })
+      came_held = holds_beside p (record p { dir = dir; files = files; known = p.known; copies = record { running = copies_with number now p.copies.running; pending = p.copies.pending } }) other

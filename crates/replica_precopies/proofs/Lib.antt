@@ -1,1 +1,3 @@
+mod Came
 mod Launched
+mod Moved

@@ -1,13 +1,13 @@
 -- A merge copy that a call changes.
-use Rattle.std.proofs.Common.{◌≡◌, ◌≢◌, ℕ, zero, suc, ◌+◌, ◌<◌, ◌≤◌, ◌^◌, List, [], ◌++◌, Option, Some, None, refl, sym, ap, subst, ◌∙◌, arith}
+use Rattle.std.proofs.Common.{◌≡◌, ◌≢◌, ℕ, zero, suc, ◌+◌, ◌<◌, ◌≤◌, ◌^◌, List, ◌++◌, Option, Some, None, refl, sym, ap, subst, arith}
 use Rattle.std.specs.Prelude.{IfSome}
 use Rattle.std.specs.List.{AllByRecursion}
 use Rattle.file_names.specs.Names.{temp_name_of, is_pending_name}
-use Rattle.disk_model.specs.Disk.{Name, Content, Cells, is_among, reads_of}
+use Rattle.disk_model.specs.Disk.{Name, Content, Cells, reads_of}
 use Rattle.file_deleter.specs.Holdings.{Holdings, count_of, times}
 use Rattle.file_deleter.specs.Moves.{MovesCounts}
 use Rattle.file_deleter.proofs.NameLemmas.{times-append}
-use Rattle.node_files.specs.Node.{IsWholeNode, IsApart, HasNoPending, KeepsBytes}
+use Rattle.node_files.specs.Node.{IsWholeNode, IsApart}
 use Rattle.node_files.proofs.Carry.{node_moves}
 use Rattle.searcher_switch.specs.Tickets.{ticket_names}
 use Rattle.searcher_switch.specs.Searching.{searcher_names}
@@ -16,18 +16,15 @@ use Rattle.copy_state.specs.States.{meta_names}
 use Rattle.copy_job.specs.Jobs.{Job, IsJob, job_names}
 use Rattle.replica_opening.specs.Known.{KnowsHeld, IsLasting}
 use Rattle.replica_parts.specs.declared.job.PointJob.{PointJob}
-use Rattle.replica_parts.specs.declared.merges.MergeCopies.{MergeCopies}
 use Rattle.replica_parts.specs.declared.parts.Parts.{Parts}
 use Rattle.replica_parts.specs.Merges.{copy_at, copies_with, copies_without, running_names, copies_names, copied_names, CopyApart}
 use Rattle.replica_parts.specs.Sources.{CopiesFrom, HeldReadAs, IsSourced}
-use Rattle.replica_parts.specs.Waiting.{IsWaiting}
 use Rattle.replica_parts.specs.Replica.{IsWholeReplica, IsJobAbove, HasMetas, IsMergeCopy, AreMergeCopies, names_of_job, copying_names, replica_names}
 use Rattle.replica_parts.proofs.Along.{point_along}
 use Rattle.replica_parts.proofs.Carried.{job_along}
 use Rattle.replica_parts.proofs.Cores.{IsCore}
 use Rattle.replica_parts.proofs.Foreign.{merge_foreign}
-use Rattle.replica_parts.proofs.Keeping.{HasWanted, whole_of, merge_spared, merge_lasts, source_spared, metas_reads, reads_metas, some_map, running_within, job_within}
-use Rattle.replica_parts.proofs.Lasting.{listed_lasts}
+use Rattle.replica_parts.proofs.Keeping.{HasWanted, whole_of, merge_spared, merge_lasts, source_spared, metas_reads, reads_metas, some_map}
 use Rattle.replica_parts.proofs.Merging.{all_map, all_both, all_at, all_held, all_put, all_without, all_dropped, apart_with, apart_sym, names-with, names-without}
 use Rattle.replica_parts.proofs.Sparing.{SparesJob, waits_spared, copied_lasts}
 

@@ -1,12 +1,7 @@
-use Rattle.std.proofs.Common.{◌≡◌, ◌∙◌, ◌+◌, refl}
 use Rattle.disk_model.specs.Disk.{reads_of}
-use Rattle.copy_state.specs.States.{meta_names}
-use Rattle.copy_job.specs.declared.part.JobKind.TheVariants.{Merge as MergeKind}
-use Rattle.replica_parts.specs.Held.{held_metas}
-use Rattle.replica_parts.proofs.Beginning.{begun_as, held_ascends, begun_agrees, begun_fault, begun_there}
+use Rattle.replica_parts.proofs.Beginning.{held_ascends}
 use Rattle.replica_parts.proofs.HeldFiles.{held_slice}
 use Rattle.replica_parts.proofs.Segments.{segment_infos, segment_files}
-use Rattle.replica_precopies.proofs.Launched.{launched_whole, launched_sourced, launched_only}
 use Rattle.replica_precopies.proofs.launching.launch_precopy.Goals as goal
 
 pub begin-requires-clause-held : goal.begin-requires-clause-held
