@@ -15,6 +15,7 @@ use Rattle.file_deleter.specs.Holdings.{Holdings, count_of, times, AreThere}
 use Rattle.file_deleter.specs.Moves.{HoldsFiles}
 use Rattle.file_deleter.proofs.NameLemmas.{times-append}
 use Rattle.segment_infos.specs.declared.infos.Infos.{Infos}
+use Rattle.segment_infos.specs.Files.{AreFilesOf}
 use Rattle.file_deleter.proofs.Keeping.{known_counted}
 use Rattle.copy_state.specs.declared.meta.FileMetaData.{FileMetaData}
 use Rattle.copy_state.specs.declared.state.CopyState.{CopyState}
