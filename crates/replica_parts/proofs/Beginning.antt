@@ -9,7 +9,7 @@ use Rattle.std.specs.Ordering.{nat_cmp}
 use Rattle.std.specs.Cmp.Lexicographic.{slice_cmp}
 use Rattle.std.proofs.Math.Dec.{ltb as nat_lt}
 use Rattle.std.proofs.lemmas.List.Elements.{All-contains}
-use Rattle.file_names.specs.Names.{is_pending_name}
+use Rattle.file_names.specs.Names.{is_pending_name, temp_name_of}
 use Rattle.disk_model.specs.Disk.{Name, Content, Cells, reads_of}
 use Rattle.file_deleter.specs.Holdings.{Holdings, count_of, times, AreThere}
 use Rattle.file_deleter.specs.Moves.{HoldsFiles}
@@ -39,25 +39,25 @@ use Rattle.replica_parts.specs.Waiting.{IsWaiting}
 use Rattle.replica_parts.proofs.Waiting.{waits_begun}
 
 -- ---- the copy
-module _ (reads : Name → Content) (holdings : Holdings) (known held : List (Name × FileMetaData)) (knows : KnowsHeld reads holdings known) (infos : Infos) (state : CopyState) (named : AreFilesOf infos (meta_names state.files))
+module _ (reads : Name → Content) (holdings : Holdings) (known held : List (Name × FileMetaData)) (knows : KnowsHeld reads holdings known) (infos : Infos) (state : CopyState) (listed : AreFilesOf infos (meta_names state.files))
     (held_is : held ≡ held_metas known holdings (meta_names state.files)) where
   pub begun_as : (kind : JobKind) (number : ℕ) → begun_job number kind state held ≡ record (job_on number state holdings) { kind = kind }
   begun_as kind number =
       ap (λ (h : List (Name × FileMetaData)). begun_job number kind state h) held_is
-      ∙ ap (λ (ns : List Name). record { number = number; kind = kind; want = state; missing = ns; parts = []; reused = held_names (held_metas known holdings (meta_names state.files)) (meta_names state.files) }) (missing_are reads holdings known knows infos (meta_names state.files) named)
-      ∙ ap (λ (ns : List Name). record { number = number; kind = kind; want = state; missing = filter (λ q. count_of holdings q == 0) (meta_names state.files); parts = []; reused = ns }) (reused_are reads holdings known knows infos (meta_names state.files) named)
+      ∙ ap (λ (ns : List Name). record { number = number; kind = kind; want = state; missing = ns; parts = []; reused = held_names (held_metas known holdings (meta_names state.files)) (meta_names state.files) }) (missing_are reads holdings known knows infos (meta_names state.files) listed)
+      ∙ ap (λ (ns : List Name). record { number = number; kind = kind; want = state; missing = filter (λ q. count_of holdings q == 0) (meta_names state.files); parts = []; reused = ns }) (reused_are reads holdings known knows infos (meta_names state.files) listed)
 
   pub held_ascends : IsStrictlySortedBy (slice_cmp nat_cmp) (meta_names held)
-  held_ascends = subst (λ (h : List (Name × FileMetaData)). IsStrictlySortedBy (slice_cmp nat_cmp) (meta_names h)) (sym held_is) (held_ascend reads holdings known knows infos (meta_names state.files) named)
+  held_ascends = subst (λ (h : List (Name × FileMetaData)). IsStrictlySortedBy (slice_cmp nat_cmp) (meta_names h)) (sym held_is) (held_ascend reads holdings known knows infos (meta_names state.files) listed)
 
   pub begun_agrees : AreAgreed held state.files → All (Agrees reads holdings) state.files
-  begun_agrees agreed = all_agree reads holdings known knows infos (meta_names state.files) named state.files (λ q some. some) (subst (λ (h : List (Name × FileMetaData)). AreAgreed h state.files) held_is agreed)
+  begun_agrees agreed = all_agree reads holdings known knows infos (meta_names state.files) listed state.files (λ q some. some) (subst (λ (h : List (Name × FileMetaData)). AreAgreed h state.files) held_is agreed)
 
   pub begun_fault : (fault : JobFault) → IsBeginningFault held state.files fault → IsStartingFault reads holdings state.files fault
-  begun_fault fault h = starting reads holdings known knows infos (meta_names state.files) named state.files refl fault (subst (λ (hs : List (Name × FileMetaData)). IsBeginningFault hs state.files fault) held_is h)
+  begun_fault fault h = starting reads holdings known knows infos (meta_names state.files) listed state.files refl fault (subst (λ (hs : List (Name × FileMetaData)). IsBeginningFault hs state.files fault) held_is h)
 
 -- ---- the replica where it has begun
-module _ {D : Type 0} (cells : D → Cells) (p : Parts D) (is : IsWholeReplica cells p) (kind : JobKind) (number : ℕ) (state : CopyState) (infos : Infos) (named : AreFilesOf infos (meta_names state.files)) (agreed : All (Agrees (reads_of (cells p.dir)) p.files) state.files)
+module _ {D : Type 0} (cells : D → Cells) (p : Parts D) (is : IsWholeReplica cells p) (kind : JobKind) (number : ℕ) (state : CopyState) (infos : Infos) (listed : AreFilesOf infos (meta_names state.files)) (agreed : All (Agrees (reads_of (cells p.dir)) p.files) state.files)
     (copy : Job) (copy_is : copy ≡ record (job_on number state p.files) { kind = kind }) (is_job : IsJob copy) where
   pub reused_is : copy.reused ≡ filter (λ q. nat_lt 0 (count_of p.files q)) (meta_names state.files)
   reused_is = ap (λ (j : Job). j.reused) copy_is
@@ -88,7 +88,7 @@ module _ {D : Type 0} (cells : D → Cells) (p : Parts D) (is : IsWholeReplica c
     where
       by : (n : ℕ) → times copy.reused q ≡ n → times copy.reused q ≡ 0
       by zero e = e
-      by (suc n) e = absurd (let some : 0 < times (meta_names state.files) q = (reused_held q (omega (arith, e))).1 in let z : times (meta_names state.files) q ≡ 0 = plain_none infos (meta_names state.files) named q named in omega (arith, some, z))
+      by (suc n) e = absurd (let some : 0 < times (meta_names state.files) q = (reused_held q (omega (arith, e))).1 in let z : times (meta_names state.files) q ≡ 0 = plain_none infos (meta_names state.files) listed q named in omega (arith, some, z))
 
   pub begun_there : (slice : List Name) → slice ≡ copy.reused → AreThere (cells p.dir) slice
   begun_there slice e = record { each = λ k d lt. there_of (get_or slice k d) (held_at slice e k d lt) }
@@ -127,7 +127,7 @@ module _ {D : Type 0} (cells : D → Cells) (p : Parts D) (is : IsWholeReplica c
         (reused_held q (omega (arith, wanted, gone, own, is_job.each q))).0
 
     wanted_lasts : (q : Name) → 0 < times (meta_names copy.want.files) q → IsLasting q
-    wanted_lasts q wanted = listed_lasts infos (meta_names state.files) named q (subst (λ (s : CopyState). 0 < times (meta_names s.files) q) want_is wanted)
+    wanted_lasts q wanted = listed_lasts infos (meta_names state.files) listed q (subst (λ (s : CopyState). 0 < times (meta_names s.files) q) want_is wanted)
 
     pub begun_reads : (H J : Name → Content → Type 0) → ((q : Name) → 0 < times (meta_names copy.want.files) q → 0 < count_of p.files q → H q (cells p.dir q).now → J q (cells p.dir q).now) → HeldReads H (cells p.dir) p.files → JobReads J (cells p.dir) copy
     begun_reads H J turns held = job_begins H J (cells p.dir) p.files copy (ap (λ (j : Job). j.parts) copy_is) wanted_held wanted_lasts turns held
@@ -143,7 +143,7 @@ module _ {D : Type 0} (cells : D → Cells) (p : Parts D) (is : IsWholeReplica c
       where
         by : (n : ℕ) → times copy.reused (temp_name_of name number) ≡ n → times copy.reused (temp_name_of name number) ≡ 0
         by zero z = z
-        by (suc n) z = absurd ((listed_lasts infos (meta_names state.files) named (temp_name_of name number) (reused_held (temp_name_of name number) (omega (arith, z))).1).temporary name number refl)
+        by (suc n) z = absurd ((listed_lasts infos (meta_names state.files) listed (temp_name_of name number) (reused_held (temp_name_of name number) (omega (arith, z))).1).temporary name number refl)
 
     pub spares : (c : Job) → SparesJob c p.files files (cells p.dir) (cells p.dir)
     spares c = record {

@@ -20,3 +20,4 @@ pub mod Segments
 pub mod Sparing
 pub mod Temporary
 pub mod Waiting
+pub mod Written

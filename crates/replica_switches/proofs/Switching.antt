@@ -1,10 +1,10 @@
 -- A job that ends, or is refused.
+use Rattle.replica_parts.proofs.Written.{written_apart, now_plain, others_plain, refused_node}
 use Rattle.replica_parts.proofs.Along.{point_along}
-use Rattle.std.proofs.Common.{◌≡◌, ◌⊎◌, ℕ, ◌+◌, ◌<◌, ◌≤◌, Bool, true, false, List, [], ◌++◌, Option, Some, None, refl, sym, ap, subst, ◌∙◌, arith, inl, inr, true≢false}
+use Rattle.std.proofs.Common.{◌≡◌, ℕ, ◌+◌, ◌<◌, ◌≤◌, true, List, [], ◌++◌, Option, Some, None, refl, sym, ap, subst, ◌∙◌, arith}
 use Rattle.std.specs.Prelude.{Contains, IfSome}
 use Rattle.std.specs.List.{flat_map}
 use Rattle.nrt_base.specs.declared.doc.Doc.{Doc}
-use Rattle.file_names.specs.Names.{is_pending_name}
 use Rattle.disk_model.specs.Disk.{Name, Cells, is_among, reads_of}
 use Rattle.file_deleter.specs.Holdings.{Holdings, count_of, times, AreCounted}
 use Rattle.file_deleter.specs.Moves.{LetsGo, MovesCounts}
@@ -15,18 +15,16 @@ use Rattle.seg_reader.specs.Shown.{Shown}
 use Rattle.seg_reader.specs.Stands.{StandsFor}
 use Rattle.commit_steps.specs.declared.stage.CommitBook.{CommitBook}
 use Rattle.commit_steps.specs.Book.{book_names}
-use Rattle.node_files.specs.Node.{IsWholeNode, IsApart}
-use Rattle.node_files.proofs.Carry.{node_moves, node_kept, nothing_written}
+use Rattle.node_files.specs.Node.{IsWholeNode}
+use Rattle.node_files.proofs.Carry.{node_moves, node_kept, node_same_names, nothing_written}
 use Rattle.node_files.proofs.Standing.{segments_along, stands_along}
 use Rattle.searcher_switch.specs.declared.open.Point.{Point}
 use Rattle.searcher_switch.specs.declared.searchers.Searchers.{Searchers}
 use Rattle.searcher_switch.specs.Tickets.{ticket_names}
 use Rattle.searcher_switch.specs.Searching.{searcher_names}
 use Rattle.copy_job.specs.declared.part.JobPart.{JobPart}
-use Rattle.copy_job.specs.Parts.{present_names, written_names, placed_to}
+use Rattle.copy_job.specs.Parts.{written_names, placed_to}
 use Rattle.copy_job.specs.Jobs.{Job, job_names, reads_under}
-use Rattle.copy_job.proofs.Placings.{IsWritten, written_is, other_name, present_some}
-use Rattle.copy_job.proofs.Points.{present_to}
 use Rattle.copy_state.specs.States.{meta_names}
 use Rattle.node_files.specs.Standing.{StandsForSome}
 use Rattle.copy_job.specs.Parts.{own_names}
@@ -46,72 +44,36 @@ use Rattle.replica_switches.specs.Advancing.{IsJobReady, TakesInHand}
 use Rattle.replica_parts.proofs.Named.{file_counted}
 use Rattle.replica_opening.proofs.Openings.{plain_none}
 
--- what is written while parts get their own names is none of a commit, and the commits hold none of it
-module _ (a : Cells) (h0 : Holdings) (others : List Name) (j : Job) (infos : Infos) (book : CommitBook) (node : IsWholeNode a h0 (others ++ job_names j) book) (ready : IsJobReady a h0 j infos) where
-  pub written_apart : IsApart (written_names j.parts) book
-  written_apart = record { plain = ready.can_place.plain; files = λ q there. by q (among_times (book_names book) q there) (is_among (written_names j.parts) q) refl }
-    where
-      held : (q : Name) → 0 < times (book_names book) q → (w : IsWritten j.parts q) → (w.part.now ≡ q) ⊎ (w.part.own ≡ q) → ⊥
-      held q some w (inl e) =
-          let one : count_of h0 q ≡ 1 = ap (count_of h0) (sym e) ∙ (other_name h0 w.part (ready.can_place.able.each w.place w.part w.at) w.apart).0 in
-          let mine : 1 ≤ times (present_names j.parts) q = subst (λ (x : Name). 1 ≤ times (present_names j.parts) x) e (present_some j.parts w.place w.part w.at) in
-          omega (arith, some, one, mine, node.counts q, times-append others (job_names j) q, times-append (present_names j.parts) j.reused q)
-      held q some w (inr e) =
-          let none : count_of h0 q ≡ 0 = ap (count_of h0) (sym e) ∙ (other_name h0 w.part (ready.can_place.able.each w.place w.part w.at) w.apart).1 in
-          omega (arith, some, none, node.counts q)
+-- the newer point is in hand
+module _ (a : Cells) (h0 : Holdings) (others : List Name) (j : Job) (infos : Infos) (book : CommitBook) (node : IsWholeNode a h0 (others ++ job_names j) book) (ready : IsJobReady a h0 j infos)
+    (now : Job) (n : ℕ) (parts : now.parts ≡ placed_to n j.parts) (reused : now.reused ≡ j.reused) where
+  pub held_node : (b : Cells) (h1 : Holdings) (olds dropped : List Name) (point : NewPoint) → TakesInHand j now infos olds dropped point h0 h1 a b → IsWholeNode b h1 (others ++ (point.names ++ job_names now)) book
+  held_node b h1 olds dropped point adv =
+      node_moves a b h0 h1 (others ++ job_names j) (others ++ (point.names ++ job_names now)) (job_names j) (point.names ++ job_names now) book (written_names j.parts) node (written_apart a h0 others j book node ready.can_place) adv.moves
+      (λ q. omega (arith, times-append others (job_names j) q, times-append others (point.names ++ job_names now) q))
+      (record {
+        each = λ q named. omega (arith, now_plain a h0 others j book node ready.can_place now n parts reused q named, others_plain a h0 others j book node ready.can_place now n parts reused q named, plain_none infos point.names adv.names q named,
+            times-append others (point.names ++ job_names now) q, times-append point.names (job_names now) q);
+      })
 
-      by : (q : Name) → 0 < times (book_names book) q → (b : Bool) → is_among (written_names j.parts) q ≡ b → is_among (written_names j.parts) q ≡ false
-      by q some true e = let w = written_is j.parts q e in absurd (held q some w w.is)
-      by q some false e = e
-
-  -- no name of a commit in preparation is held
-  not_written : (q : Name) → is_pending_name q ≡ true → (b : Bool) → is_among (written_names j.parts) q ≡ b → is_among (written_names j.parts) q ≡ false
-  not_written q named true e = absurd (true≢false (sym named ∙ (ready.can_place.plain q e).1))
-  not_written q named false e = e
-
-  module _ (now : Job) (n : ℕ) (parts : now.parts ≡ placed_to n j.parts) (reused : now.reused ≡ j.reused) where
-    now_plain : (q : Name) → is_pending_name q ≡ true → times (job_names now) q ≡ 0
-    now_plain q named =
-        let e : times (present_names now.parts) q ≡ times (present_names j.parts) q = ap (λ (ps : List JobPart). times (present_names ps) q) parts ∙ present_to j.parts n q (not_written q named (is_among (written_names j.parts) q) refl) in
-        let f : times now.reused q ≡ times j.reused q = ap (λ (ns : List Name). times ns q) reused in
-        omega (arith, e, f, node.plain.each q named, times-append others (job_names j) q, times-append (present_names j.parts) j.reused q, times-append (present_names now.parts) now.reused q)
-
-    others_plain : (q : Name) → is_pending_name q ≡ true → times others q ≡ 0
-    others_plain q named = omega (arith, node.plain.each q named, times-append others (job_names j) q)
-
-    -- the job was refused
-    pub refused_node : (b : Cells) (h1 : Holdings) → MovesCounts (written_names j.parts) (job_names j) (job_names now) h0 h1 a b → IsWholeNode b h1 (others ++ job_names now) book
-    refused_node b h1 moves =
-        node_moves a b h0 h1 (others ++ job_names j) (others ++ job_names now) (job_names j) (job_names now) book (written_names j.parts) node written_apart moves
-        (λ q. omega (arith, times-append others (job_names j) q, times-append others (job_names now) q))
-        (record { each = λ q named. omega (arith, now_plain q named, others_plain q named, times-append others (job_names now) q) })
-
-    -- the newer point is in hand
-    pub held_node : (b : Cells) (h1 : Holdings) (olds : List Name) (point : NewPoint) → TakesInHand j now infos olds point h0 h1 a b → IsWholeNode b h1 (others ++ (point.names ++ job_names now)) book
-    held_node b h1 olds point adv =
-        node_moves a b h0 h1 (others ++ job_names j) (others ++ (point.names ++ job_names now)) (job_names j) (point.names ++ job_names now) book (written_names j.parts) node written_apart adv.moves
-        (λ q. omega (arith, times-append others (job_names j) q, times-append others (point.names ++ job_names now) q))
-        (record { each = λ q named. omega (arith, now_plain q named, others_plain q named, plain_none infos point.names adv.names q named, times-append others (point.names ++ job_names now) q, times-append point.names (job_names now) q) })
-
--- the newer point is searched, and what the older one and the job held is given back
-module _ (b c : Cells) (h1 h2 : Holdings) (olds tickets names gone : List Name) (now : Job) (book : CommitBook) (node : IsWholeNode b h1 ((olds ++ tickets) ++ (names ++ job_names now)) book)
-    (gone_is : (q : Name) → times gone q ≡ times olds q + times (job_names now) q) where
+-- the newer point is searched, and what the older one, the job and the pending files of the point held is given back
+module _ (b c : Cells) (h1 h2 : Holdings) (olds tickets left dropped names gone : List Name) (now : Job) (book : CommitBook) (node : IsWholeNode b h1 ((olds ++ tickets) ++ (names ++ job_names now)) book)
+    (split : (q : Name) → times tickets q ≡ times left q + times dropped q) (gone_is : (q : Name) → times gone q ≡ times olds q + times (job_names now) q + times dropped q) where
   pub gone_counted : AreCounted gone h1
-  gone_counted = record { each = λ q. omega (arith, gone_is q, node.counts q, times-append (olds ++ tickets) (names ++ job_names now) q, times-append olds tickets q, times-append names (job_names now) q) }
+  gone_counted = record { each = λ q. omega (arith, gone_is q, split q, node.counts q, times-append (olds ++ tickets) (names ++ job_names now) q, times-append olds tickets q, times-append names (job_names now) q) }
 
   module _ (lets_go : LetsGo gone h1 h2 b c) where
-    pub switched_node : IsWholeNode c h2 ((names ++ tickets) ++ []) book
+    pub switched_node : IsWholeNode c h2 (names ++ left) book
     switched_node =
-        let none : (q : Name) → times [] q ≡ 0 = λ q. refl in
-        node_kept b c h1 h2 ((olds ++ tickets) ++ (names ++ job_names now)) ((names ++ tickets) ++ []) book [] node (nothing_written book) lets_go.keeps
-        (λ q. omega (arith, none q, gone_is q, lets_go.counts q, node.counts q, times-append (olds ++ tickets) (names ++ job_names now) q, times-append olds tickets q, times-append names (job_names now) q, times-append (names ++ tickets) [] q, times-append names tickets q))
-        (record { each = λ q named. omega (arith, none q, node.plain.each q named, times-append (olds ++ tickets) (names ++ job_names now) q, times-append olds tickets q, times-append names (job_names now) q, times-append (names ++ tickets) [] q, times-append names tickets q) })
+        node_kept b c h1 h2 ((olds ++ tickets) ++ (names ++ job_names now)) (names ++ left) book [] node (nothing_written book) lets_go.keeps
+        (λ q. omega (arith, gone_is q, split q, lets_go.counts q, node.counts q, times-append (olds ++ tickets) (names ++ job_names now) q, times-append olds tickets q, times-append names (job_names now) q, times-append names left q))
+        (record { each = λ q named. omega (arith, split q, node.plain.each q named, times-append (olds ++ tickets) (names ++ job_names now) q, times-append olds tickets q, times-append names (job_names now) q, times-append names left q) })
 
     pub new_reads : (q : Name) → 0 < times names q → (c q).now ≡ (b q).now
     new_reads q some =
         lets_go.keeps.reads q
         (omega (arith, some, node.counts q, times-append (olds ++ tickets) (names ++ job_names now) q, times-append names (job_names now) q))
-        (omega (arith, some, switched_node.counts q, times-append (names ++ tickets) [] q, times-append names tickets q))
+        (omega (arith, some, switched_node.counts q, times-append names left q))
 
 -- ---- a job of which nothing is missing
 module _ (a : Cells) (h0 : Holdings) (version : ℕ) (job : Option PointJob) (j : PointJob) (held : job ≡ Some j) (above_some : IfSome job (IsJobAbove version)) (whole_some : IfSome job (λ k. k.copy.missing ≡ []))
@@ -154,50 +116,66 @@ module _ (a : Cells) (h0 : Holdings) (version : ℕ) (job : Option PointJob) (j 
   }
 
 -- ---- the whole replica, before and after
-module _ (a b : Cells) (h0 h1 : Holdings) (s : Searchers Shown) (job : Option PointJob) (j : PointJob) (now : Job) (book : CommitBook) (infos : Infos) (held : job ≡ Some j)
-    (node : IsWholeNode a h0 (searcher_names s ++ names_of_job job) book) (ready : IsJobReady a h0 j.copy j.infos) (same : now ≡ record j.copy { parts = now.parts }) (parts : (n : ℕ) × (now.parts ≡ placed_to n j.copy.parts)) where
-  node_j : IsWholeNode a h0 (searcher_names s ++ job_names j.copy) book
-  node_j = subst (λ (o : Option PointJob). IsWholeNode a h0 (searcher_names s ++ names_of_job o) book) held node
+module _ (a b : Cells) (h0 h1 : Holdings) (s : Searchers Shown) (more : List Name) (job : Option PointJob) (j : PointJob) (now : Job) (book : CommitBook) (infos : Infos) (held : job ≡ Some j)
+    (node : IsWholeNode a h0 (searcher_names s ++ (names_of_job job ++ more)) book) (ready : IsJobReady a h0 j.copy j.infos) (same : now ≡ record j.copy { parts = now.parts }) (parts : (n : ℕ) × (now.parts ≡ placed_to n j.copy.parts)) where
+  holders : (names : List Name) (q : Name) → times ((searcher_names s ++ more) ++ names) q ≡ times s.point.names q + (times (ticket_names s.tickets) q + (times more q + times names q))
+  holders names q = omega (arith, times-append (searcher_names s ++ more) names q, times-append (searcher_names s) more q, times-append s.point.names (ticket_names s.tickets) q)
+
+  node_j : IsWholeNode a h0 ((searcher_names s ++ more) ++ job_names j.copy) book
+  node_j = node_same_names a h0 (searcher_names s ++ (names_of_job job ++ more)) ((searcher_names s ++ more) ++ job_names j.copy) book node (λ q.
+      let names : times (names_of_job job) q ≡ times (job_names j.copy) q = ap (λ (o : Option PointJob). times (names_of_job o) q) held in
+      omega (arith, names, holders (job_names j.copy) q, times-append (searcher_names s) (names_of_job job ++ more) q, times-append (names_of_job job) more q, times-append s.point.names (ticket_names s.tickets) q))
 
   reused_j : now.reused ≡ j.copy.reused
   reused_j = ap (λ (x : Job). x.reused) same
 
-  point_some : (q : Name) → 0 < times s.point.names q → 0 < times (searcher_names s) q
-  point_some q some = omega (arith, some, times-append s.point.names (ticket_names s.tickets) q)
-
   pub counted_j : (q : Name) → times s.point.names q + times (job_names j.copy) q ≤ count_of h0 q
-  counted_j q = omega (arith, node_j.counts q, times-append (searcher_names s) (job_names j.copy) q, times-append s.point.names (ticket_names s.tickets) q)
+  counted_j q = omega (arith, node_j.counts q, holders (job_names j.copy) q)
 
-  pub node_refused : MovesCounts (written_names j.copy.parts) (job_names j.copy) (job_names now) h0 h1 a b → IsWholeNode b h1 (searcher_names s ++ job_names now) book
-  node_refused moves = refused_node a h0 (searcher_names s) j.copy j.infos book node_j ready now parts.0 parts.1 reused_j b h1 moves
+  node_moved : MovesCounts (written_names j.copy.parts) (job_names j.copy) (job_names now) h0 h1 a b → IsWholeNode b h1 ((searcher_names s ++ more) ++ job_names now) book
+  node_moved moves = refused_node a h0 (searcher_names s ++ more) j.copy book node_j ready.can_place now parts.0 parts.1 reused_j b h1 moves
+
+  pub node_refused : MovesCounts (written_names j.copy.parts) (job_names j.copy) (job_names now) h0 h1 a b → IsWholeNode b h1 (searcher_names s ++ (job_names now ++ more)) book
+  node_refused moves = node_same_names b h1 ((searcher_names s ++ more) ++ job_names now) (searcher_names s ++ (job_names now ++ more)) book (node_moved moves)
+      (λ q. omega (arith, holders (job_names now) q, times-append (searcher_names s) (job_names now ++ more) q, times-append (job_names now) more q, times-append s.point.names (ticket_names s.tickets) q))
 
   pub point_refused : MovesCounts (written_names j.copy.parts) (job_names j.copy) (job_names now) h0 h1 a b → IsPointOf (reads_of a) infos s.point → IsPointOf (reads_of b) infos s.point
-  point_refused moves is = point_along a b infos s.point is (λ q some.
-      let n = point_some q some in
-      moves.keeps.reads q (omega (arith, n, node_j.counts q, times-append (searcher_names s) (job_names j.copy) q)) (omega (arith, n, (node_refused moves).counts q, times-append (searcher_names s) (job_names now) q)))
+  point_refused moves is = point_along a b infos s.point is (λ q some. moves.keeps.reads q (omega (arith, some, node_j.counts q, holders (job_names j.copy) q)) (omega (arith, some, (node_moved moves).counts q, holders (job_names now) q)))
 
-  module _ (point : NewPoint) (adv : TakesInHand j.copy now j.infos s.point.names point h0 h1 a b) (slice : List Name) (slice_is : slice ≡ point.gone) where
-    node_held : IsWholeNode b h1 ((s.point.names ++ ticket_names s.tickets) ++ (point.names ++ job_names now)) book
-    node_held = held_node a h0 (searcher_names s) j.copy j.infos book node_j ready now parts.0 parts.1 reused_j b h1 s.point.names point adv
+  module _ (left dropped : List Name) (split : (q : Name) → times more q ≡ times left q + times dropped q) (point : NewPoint) (adv : TakesInHand j.copy now j.infos s.point.names dropped point h0 h1 a b) (slice : List Name) (slice_is : slice ≡ point.gone) where
+    node_held : IsWholeNode b h1 ((s.point.names ++ (ticket_names s.tickets ++ more)) ++ (point.names ++ job_names now)) book
+    node_held = node_same_names b h1 ((searcher_names s ++ more) ++ (point.names ++ job_names now)) ((s.point.names ++ (ticket_names s.tickets ++ more)) ++ (point.names ++ job_names now)) book
+        (held_node a h0 (searcher_names s ++ more) j.copy j.infos book node_j ready now parts.0 parts.1 reused_j b h1 s.point.names dropped point adv)
+        (λ q. omega (arith, holders (point.names ++ job_names now) q, times-append (s.point.names ++ (ticket_names s.tickets ++ more)) (point.names ++ job_names now) q, times-append s.point.names (ticket_names s.tickets ++ more) q, times-append (ticket_names s.tickets) more q))
 
-    slice_gone : (q : Name) → times slice q ≡ times s.point.names q + times (job_names now) q
+    rest_split : (q : Name) → times (ticket_names s.tickets ++ more) q ≡ times (ticket_names s.tickets ++ left) q + times dropped q
+    rest_split q = omega (arith, split q, times-append (ticket_names s.tickets) more q, times-append (ticket_names s.tickets) left q)
+
+    slice_gone : (q : Name) → times slice q ≡ times s.point.names q + times (job_names now) q + times dropped q
     slice_gone q = ap (λ (ns : List Name). times ns q) slice_is ∙ adv.gone q
 
     pub slice_counted : AreCounted slice h1
-    slice_counted = gone_counted b b h1 h1 s.point.names (ticket_names s.tickets) point.names slice now book node_held slice_gone
+    slice_counted = gone_counted b b h1 h1 s.point.names (ticket_names s.tickets ++ more) (ticket_names s.tickets ++ left) dropped point.names slice now book node_held rest_split slice_gone
 
-    module _ (c : Cells) (h2 : Holdings) (t : Searchers Shown) (left : Option PointJob) (lets_go : LetsGo slice h1 h2 b c)
-        (searched : t.point ≡ record { version = j.infos.version; names = point.names; readers = point.segs }) (tickets : t.tickets ≡ s.tickets) (ended : left ≡ None) where
-      pub node_finished : IsWholeNode c h2 (searcher_names t ++ names_of_job left) book
-      node_finished =
-          let e : ◌≡◌ {A = Point Shown} (record { version = j.infos.version; names = point.names; readers = point.segs }) t.point = sym searched in
-          let f : s.tickets ≡ t.tickets = sym tickets in
-          let n : ◌≡◌ {A = Option PointJob} None left = sym ended in
-          subst (λ (hs : List Name). IsWholeNode c h2 hs book) (λ i. ((e i).names ++ ticket_names (f i)) ++ names_of_job (n i))
-          (switched_node b c h1 h2 s.point.names (ticket_names s.tickets) point.names slice now book node_held slice_gone lets_go)
+    module _ (c : Cells) (h2 : Holdings) (t : Searchers Shown) (last : Option PointJob) (lets_go : LetsGo slice h1 h2 b c)
+        (searched : t.point ≡ record { version = j.infos.version; names = point.names; readers = point.segs }) (tickets : t.tickets ≡ s.tickets) (ended : last ≡ None) where
+      switched : IsWholeNode c h2 (point.names ++ (ticket_names s.tickets ++ left)) book
+      switched = switched_node b c h1 h2 s.point.names (ticket_names s.tickets ++ more) (ticket_names s.tickets ++ left) dropped point.names slice now book node_held rest_split slice_gone lets_go
+
+      names_are : (q : Name) → times t.point.names q ≡ times point.names q
+      names_are q = ap (λ (x : Point Shown). times x.names q) searched
+
+      tickets_are : (q : Name) → times (ticket_names t.tickets) q ≡ times (ticket_names s.tickets) q
+      tickets_are q = ap (λ (ts : List (Open Shown)). times (ticket_names ts) q) tickets
+
+      pub node_finished : IsWholeNode c h2 (searcher_names t ++ (names_of_job last ++ left)) book
+      node_finished = node_same_names c h2 (point.names ++ (ticket_names s.tickets ++ left)) (searcher_names t ++ (names_of_job last ++ left)) book switched (λ q.
+          let none : times (names_of_job last) q ≡ 0 = ap (λ (o : Option PointJob). times (names_of_job o) q) ended in
+          omega (arith, none, names_are q, tickets_are q, times-append point.names (ticket_names s.tickets ++ left) q, times-append (ticket_names s.tickets) left q, times-append (searcher_names t) (names_of_job last ++ left) q,
+          times-append (names_of_job last) left q, times-append t.point.names (ticket_names t.tickets) q))
 
       read_on : (q : Name) → Contains (flat_map files_of_segment j.infos.segs) q → (c q).now ≡ (b q).now
-      read_on q named = new_reads b c h1 h2 s.point.names (ticket_names s.tickets) point.names slice now book node_held slice_gone lets_go q (file_counted j.infos point.names adv.names q named)
+      read_on q named = new_reads b c h1 h2 s.point.names (ticket_names s.tickets ++ more) (ticket_names s.tickets ++ left) dropped point.names slice now book node_held rest_split slice_gone lets_go q (file_counted j.infos point.names adv.names q named)
 
       pub point_finished : IsPointOf (reads_of c) j.infos t.point
       point_finished = subst (λ (p : Point Shown). IsPointOf (reads_of c) j.infos p) (sym searched) (record {
@@ -219,9 +197,7 @@ module _ (a b : Cells) (h0 h1 : Holdings) (s : Searchers Shown) (job : Option Po
       lasting_finished was = record {
         each = λ name k.
             let q : Name = temp_name_of name k in
-            let e : times t.point.names q ≡ times point.names q = ap (λ (x : Point Shown). times x.names q) searched in
-            let f : times (ticket_names t.tickets) q ≡ times (ticket_names s.tickets) q = ap (λ (ts : List (Open Shown)). times (ticket_names ts) q) tickets in
-            omega (arith, e, f, (files_no_temporary j.infos point.names adv.names).each name k, was.each name k, times-append t.point.names (ticket_names t.tickets) q, times-append s.point.names (ticket_names s.tickets) q);
+            omega (arith, names_are q, tickets_are q, (files_no_temporary j.infos point.names adv.names).each name k, was.each name k, times-append t.point.names (ticket_names t.tickets) q, times-append s.point.names (ticket_names s.tickets) q);
       }
 
       -- what the commits hold reads the same

@@ -22,10 +22,10 @@ pub record IsJobReady (cells : Cells) (holdings : Holdings) (j : Job) (infos : I
   pub standing : StandsForSome (reads_under j.parts (reads_of cells)) infos
 
 -- the new point is in hand: its files are counted once more, and have the bytes that the job had of them
-pub record TakesInHand (was now : Job) (infos : Infos) (olds : List Name) (point : NewPoint) (old new : Holdings) (before after : Cells) : Type 0 where
+pub record TakesInHand (was now : Job) (infos : Infos) (olds dropped : List Name) (point : NewPoint) (old new : Holdings) (before after : Cells) : Type 0 where
   pub names : AreFilesOf infos point.names
   pub readers : AreReaders (reads_of after) infos.segs point.segs
   pub shared : point.readers ≡ point.segs
-  pub gone : (q : Name) → times point.gone q ≡ times olds q + times (job_names now) q
+  pub gone : (q : Name) → times point.gone q ≡ times olds q + times (job_names now) q + times dropped q
   pub moves : MovesCounts (written_names was.parts) (job_names was) (point.names ++ job_names now) old new before after
   pub reads : (q : Name) → Contains (flat_map files_of_segment infos.segs) q → (after q).now ≡ reads_under was.parts (reads_of before) q

@@ -33,16 +33,20 @@ pub struct NewPoint {
     pub readers: List<Segment>,
 }
 
-// The names of a point and of a job.
+// The names of a point and of a job, and these.
 fn gone_names(
     alloc: Global,
     names: &List<FileName>,
     copy: &CopyJob,
+    dropped: &[FileName],
 ) -> Result<List<FileName>, NoMemory>
-    ensures { IfOk result (λ gone. (q : List ℕ)
-        → times gone q ≡ times names.now q + times (job_names copy.now) q) }
+    ensures { IfOk result (λ gone. (q : List ℕ) → times gone q
+        ≡ times names.now q + times (job_names copy.now) q + times dropped.now q) }
 {
     let mut gone = names.share(alloc)?;
+    for file in dropped {
+        gone.push(*file)?;
+    }
     for part in copy.parts() {
         gone.push(part.now)?;
     }
@@ -66,13 +70,15 @@ fn cut_off(fault: ReadFault) -> JobFault
 }
 
 /// Gives the parts of a job their own names, makes the readers of its point, and counts the point's files. Whatever is
-/// answered, the job holds what it has: after a refusal the renamed parts under their own names.
+/// answered, the job holds what it has: after a refusal the renamed parts under their own names. What is given back once the
+/// point is searched are the older point's files, the job's, and these.
 pub fn advance<D: Dir>(
     alloc: Global,
     copy: &mut CopyJob,
     wanted: &Infos,
     infos: &Infos,
     olds: &Point<Segment>,
+    dropped: &[FileName],
     files: &mut FileDeleter,
     dir: &mut D,
 ) -> Result<NewPoint, JobFault>
@@ -87,7 +93,7 @@ pub fn advance<D: Dir>(
     ensures job { copy.new ≡ record copy.old { parts = copy.new.parts } }
     ensures parts { (n : ℕ) × (copy.new.parts ≡ placed_to n copy.old.parts) }
 
-    ensures ok { IfOk result (λ point. TakesInHand copy.old copy.new wanted.now olds.now.names point
+    ensures ok { IfOk result (λ point. TakesInHand copy.old copy.new wanted.now olds.now.names dropped.now point
         files.old files.new (D.cells dir.old) (D.cells dir.new)) }
     ensures err { OnErr result (MovesCounts (written_names copy.old.parts)
         (job_names copy.old) (job_names copy.new)
@@ -118,7 +124,7 @@ pub fn advance<D: Dir>(
     let Ok(readers) = segs.share(alloc) else {
         return Err(JobFault::Memory);
     };
-    let Ok(gone) = gone_names(alloc, &olds.names, copy) else {
+    let Ok(gone) = gone_names(alloc, &olds.names, copy, dropped) else {
         return Err(JobFault::Memory);
     };
     let Ok(()) = files.hold_there(names.as_slice(), dir) else {
