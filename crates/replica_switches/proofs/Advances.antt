@@ -79,9 +79,9 @@ module _ (j : Job) (infos : Infos) (now : List JobPart) (olds : List Name) (h0 h
       keeps = joined (written_names j.parts) [] h0 h1 h2 a b b done.moves.keeps holds.keeps (λ q out. refl) between;
     }
 
-  pub advanced : (h2 : Holdings) (c : Cells) (point : NewPoint) → AreFilesOf infos point.names → c ≡ b → AreReaders (reads_of b) infos.segs point.segs → point.readers ≡ point.segs
-      → ((q : Name) → times point.gone q ≡ times olds q + times (present_names now ++ j.reused) q) → HoldsFiles point.names h1 h2 b → TakesInHand j (record j { parts = now }) infos olds point h0 h2 a c
-  advanced h2 c point are same readers shared gone holds = subst (λ (x : Cells). TakesInHand j (record j { parts = now }) infos olds point h0 h2 a x) (sym same) (record {
+  pub advanced : (dropped : List Name) (h2 : Holdings) (c : Cells) (point : NewPoint) → AreFilesOf infos point.names → c ≡ b → AreReaders (reads_of b) infos.segs point.segs → point.readers ≡ point.segs
+      → ((q : Name) → times point.gone q ≡ times olds q + times (present_names now ++ j.reused) q + times dropped q) → HoldsFiles point.names h1 h2 b → TakesInHand j (record j { parts = now }) infos olds dropped point h0 h2 a c
+  advanced dropped h2 c point are same readers shared gone holds = subst (λ (x : Cells). TakesInHand j (record j { parts = now }) infos olds dropped point h0 h2 a x) (sym same) (record {
     names = are;
     readers = readers;
     shared = shared;

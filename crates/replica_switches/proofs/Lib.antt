@@ -1,4 +1,5 @@
 mod Advances
 mod Finished
+mod Spared
 mod Switched
 mod Switching

@@ -53,15 +53,15 @@ hold_there-requires g c =
 
 pub returns-clause-ok : goal.returns-clause-ok
 returns-clause-ok g c =
-    subst (λ (n : Job). TakesInHand c.args.copy.now n c.args.wanted.now c.args.olds.now.names (record { names = c.from_vec-names.result; gone = c.in-Ok-gone_names.gone; segs = c.from_vec-segs.result; readers = c.in-Ok-share.readers })
+    subst (λ (n : Job). TakesInHand c.args.copy.now n c.args.wanted.now c.args.olds.now.names c.args.dropped.now (record { names = c.from_vec-names.result; gone = c.in-Ok-gone_names.gone; segs = c.from_vec-segs.result; readers = c.in-Ok-share.readers })
     c.args.files.now c.hold_there.new.self (g.D.Dir.cells c.args.dir.now) (g.D.Dir.cells c.readers_of.new.dir)) (sym c.place.ensures.others)
     (advanced c.args.copy.now c.args.wanted.now c.place.new.self.parts c.args.olds.now.names c.args.files.now c.place.new.files (g.D.Dir.cells c.args.dir.now) (g.D.Dir.cells c.place.new.dir) c.requires.ready c.requires.counted c.in_default.ensures.ok
-    c.hold_there.new.self (g.D.Dir.cells c.readers_of.new.dir) (record { names = c.from_vec-names.result; gone = c.in-Ok-gone_names.gone; segs = c.from_vec-segs.result; readers = c.in-Ok-share.readers })
+    c.args.dropped.now c.hold_there.new.self (g.D.Dir.cells c.readers_of.new.dir) (record { names = c.from_vec-names.result; gone = c.in-Ok-gone_names.gone; segs = c.from_vec-segs.result; readers = c.in-Ok-share.readers })
     (subst (AreFilesOf c.args.wanted.now) (sym c.from_vec-names.ensures) c.in-Ok.ensures) c.readers_of.ensures.cells
     (subst (λ (ss : List Shown). AreReaders (reads_of (g.D.Dir.cells c.place.new.dir)) c.args.wanted.now.segs ss) (sym c.from_vec-segs.ensures)
     (subst (λ (rs : List SegRecord). AreReaders (reads_of (g.D.Dir.cells c.place.new.dir)) rs c.in-Ok-readers_of.segs.items) c.as_slice.ensures c.in-Ok-readers_of.ensures.readers))
     c.in-Ok-share.ensures
-    (λ q. c.in-Ok-gone_names.ensures q ∙ ap (λ (n : Job). times c.args.olds.now.names q + times (job_names n) q) c.place.ensures.others)
+    (λ q. c.in-Ok-gone_names.ensures q ∙ ap (λ (n : Job). times c.args.olds.now.names q + times (job_names n) q + times c.args.dropped.now q) c.place.ensures.others)
     (subst (λ (cells : Cells). HoldsFiles c.from_vec-names.result c.place.new.files c.hold_there.new.self cells) c.readers_of.ensures.cells
     (subst (λ (ns : List Name). HoldsFiles ns c.place.new.files c.hold_there.new.self (g.D.Dir.cells c.readers_of.new.dir)) c.as_slice-4.ensures c.in-Ok-hold_there.ensures.holds)))
 
