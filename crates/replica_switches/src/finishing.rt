@@ -11,9 +11,12 @@ ghost use Rattle.nrt_base.specs.declared.doc.Doc.{Doc};
 ghost use Rattle.node_files.specs.Node.{KeepsBytes};
 ghost use Rattle.node_files.specs.Standing.{StandsForSome};
 ghost use Rattle.node_files.specs.Appearing.{AppearsOnly};
+ghost use Rattle.copy_state.specs.States.{meta_names};
+ghost use Rattle.replica_switches.specs.Parting.{pending_after};
 ghost use Rattle.replica_parts.specs.Sources.{KeepsSource, HoldsOnly, IsWantedName, IsStillCopying};
 
 use crate::advancing::advance;
+use crate::parting::{Left, part_pending};
 use copy_job::JobFault;
 use disk_model::Dir;
 use nrt_base::Version;
@@ -21,7 +24,8 @@ use replica_parts::{Parts, PointJob, note_wanted, told};
 use std::alloc::Global;
 
 /// Searches the point of the job, of which nothing is missing, and ends the job. After a refusal the job holds what it
-/// has, the renamed parts under their own names, and the point is as before.
+/// has, the renamed parts under their own names, and the point is as before. A pending file that the point names belongs to the
+/// point, and one that is completed and not named is given back.
 pub fn finish<D: Dir>(alloc: Global, parts: &mut Parts<D>, job: u64) -> Result<Version, JobFault>
     requires whole { IsWholeReplica D.cells parts.old }
     requires runs { IfSome parts.old.job (λ j. j.copy.number ≡ job) }
@@ -38,6 +42,11 @@ pub fn finish<D: Dir>(alloc: Global, parts: &mut Parts<D>, job: u64) -> Result<V
     ensures infos { OnOk result (IfSome parts.old.job (λ j. parts.new.infos ≡ j.infos)) }
     ensures version { IfOk result (λ version. version ≡ parts.new.searchers.point.version) }
     ensures job { OnOk result (parts.new.job ≡ None) }
+    ensures pending { OnOk result (IfSome parts.old.job (λ j.
+        parts.new.copies ≡ record parts.old.copies {
+          pending = pending_after (meta_names j.copy.want.files) j.copy.want.completed
+              parts.old.copies.pending;
+        })) }
     ensures tickets { parts.new.searchers.tickets ≡ parts.old.searchers.tickets }
     ensures stands { OnOk result (IfSome parts.old.job (λ j. (docs : List Doc)
         → StandsFor (reads_under j.copy.parts (reads_of (D.cells parts.old.dir))) j.infos docs
@@ -60,6 +69,7 @@ pub fn finish<D: Dir>(alloc: Global, parts: &mut Parts<D>, job: u64) -> Result<V
       infos = parts.new.infos;
       segs = parts.new.segs;
       job = parts.new.job;
+      copies = parts.new.copies;
       known = parts.new.known;
     } }
 {
@@ -69,6 +79,10 @@ pub fn finish<D: Dir>(alloc: Global, parts: &mut Parts<D>, job: u64) -> Result<V
     let Ok(()) = note_wanted(alloc, job.copy.want().files.as_slice(), &mut parts.known) else {
         return Err(JobFault::Memory);
     };
+    let Ok(left) = part_pending(alloc, &parts.copies.pending, job.copy.want()) else {
+        return Err(JobFault::Memory);
+    };
+    let Left { pending, dropped } = left;
     let Some(PointJob { mut copy, infos }) = parts.job.take() else {
         unreachable!();
     };
@@ -79,6 +93,7 @@ pub fn finish<D: Dir>(alloc: Global, parts: &mut Parts<D>, job: u64) -> Result<V
         &infos,
         &parts.infos,
         &searchers.point,
+        dropped.as_slice(),
         &mut parts.files,
         &mut parts.dir,
     ) {
@@ -87,6 +102,7 @@ pub fn finish<D: Dir>(alloc: Global, parts: &mut Parts<D>, job: u64) -> Result<V
             parts.searchers.replace(version, point.names, point.readers);
             parts.files.release(point.gone.as_slice(), &mut parts.dir);
             parts.known.keep_held(&parts.files);
+            parts.copies.pending = pending;
             parts.segs = point.segs;
             parts.infos = infos;
             Ok(version)

@@ -3,5 +3,6 @@
 
 mod advancing;
 mod finishing;
+mod parting;
 
 pub use finishing::finish;
