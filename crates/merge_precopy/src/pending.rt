@@ -53,15 +53,22 @@ impl Share for Precopies {
 }
 
 impl Precopies {
+    /// No file is pending, and none is expected. Takes no memory.
+    pub fn none(alloc: Global) -> Self
+        ensures { result ≡ record { expected = []; files = [] } }
+    {
+        Precopies {
+            alloc,
+            expected: Vec::new(alloc),
+            table: Table::new(alloc),
+        }
+    }
+
     /// No file is pending, and none is expected.
     pub fn new(alloc: Global) -> Result<Self, NoMemory>
         ensures { IfOk result (λ p. p ≡ record { expected = []; files = [] }) }
     {
-        Ok(Precopies {
-            alloc,
-            expected: Vec::new(alloc),
-            table: Table::new(alloc),
-        })
+        Ok(Precopies::none(alloc))
     }
 
     /// Expects the files of a merged segment.
