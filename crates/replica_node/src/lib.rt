@@ -1,6 +1,7 @@
 //! A replica: it stands at a point, copies newer ones and searches them.
 #![tactic(auto)]
 
+mod jobs;
 pub mod laws;
 mod replica;
 

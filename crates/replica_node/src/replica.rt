@@ -22,7 +22,7 @@ ghost use Rattle.replica_parts.specs.Starting.{IsJustOpened, SearchesJust, HasJu
 ghost use Rattle.replica_node.specs.Refusals.{IsHandedOut};
 ghost use Rattle.replica_parts.specs.Replica.{IsWholeReplica};
 
-use crate::jobs::{arrive, end};
+use crate::jobs::{arrive, begin, end};
 use commit_steps::CommitFault;
 use copy_job::{CopyJob, JobFault, Part};
 use copy_state::CopyState;
@@ -34,7 +34,6 @@ use replica_calls::{
     acquire, commit_begin, commit_step, into_dir, lease, new_point, plan, release, stop_at,
     take_apart,
 };
-use replica_copies::start_job;
 use replica_opening::{StartFault, open};
 use replica_parts::{MergeCopies, NodeParts, Parts, PointAnswer, RunningCopies};
 use replica_precopies::{finish_precopy, launch_precopy};
@@ -141,7 +140,8 @@ impl<D: Dir> Replica<D> {
     ghost use Rattle.copy_job.specs.Jobs.{with_part, reads_under};
     ghost use Rattle.replica_parts.specs.Merges.{copy_at, copies_seen};
     ghost use Rattle.replica_parts.specs.Answers.{point_answer};
-    ghost use Rattle.replica_parts.specs.Jobs.{IsPointJob, Agrees, IsStartingFault, merge_job_on};
+    ghost use Rattle.replica_parts.specs.Jobs.{Agrees, IsStartingFault, merge_job_on};
+    ghost use Rattle.replica_precopies.specs.Overlapping.{StartsBeside, copies_beside};
     ghost use Rattle.replica_parts.specs.Sources.{HeldReadAs, IsSourced, KeepsSource, HoldsOnly, HoldsOnlyWanted, IsWantedName, IsStillCopying, IsTakenApart};
     ghost use Rattle.replica_parts.specs.Replica.{IsWholeReplica, AreStanding, IsWanted, MayLaunch};
     ghost use Rattle.replica_precopies.specs.Settling.{SettlesCopy, EndsCopy, StillCopies};
@@ -373,28 +373,24 @@ impl<D: Dir> Replica<D> {
         commit_step(alloc, &mut self.parts)
     }
 
-    /// Begins a job of a newer point, and answers its number. It fetches the files of the point that nobody holds, and reuses
-    /// the others. A file that is held with other metadata, the first in the order of the state, is a clash.
+    /// Begins a job of a newer point, and answers its number. Each copy of a merged segment that copies a file of the point ends
+    /// before. The job fetches the files of the point that nobody holds, and reuses the others. A file that is held with other
+    /// metadata, the first in the order of the state, is a clash.
     pub fn start_job(&mut self, alloc: Global, state: CopyState) -> Result<u64, JobFault>
         requires none { self.old.job ≡ None }
         requires few { self.old.jobs + 1 < 2 ^ 63 }
         requires state { IsCopyState state }
         requires wanted { IsWanted self.old state }
 
-        // The job that begins.
+        // The job that begins, or why none begins.
         ensures whole { IsWholeReplica D.cells self.new }
+        ensures starts { StartsBeside D.cells state self.old self.new result }
         ensures number { IfOk result (λ number. number ≡ self.old.jobs + 1) }
         ensures jobs { OnOk result (self.new.jobs ≡ self.old.jobs + 1) }
-        ensures begun { OnOk result (IfSome self.new.job
-            (IsPointJob (self.old.jobs + 1) state self.old.files)) }
         ensures some { OnOk result (IsSome self.new.job) }
-        ensures agreed { OnOk result (All (Agrees (reads_of (D.cells self.old.dir)) self.old.files)
-            state.files) }
-
-        // Why none begins.
-        ensures err { OnErr result (self.new ≡ self.old) }
-        ensures fault { IfErr result (IsStartingFault (reads_of (D.cells self.old.dir))
-            self.old.files state.files) }
+        ensures copies { self.new.copies ≡ record self.old.copies {
+          running = copies_beside (meta_names state.files) self.old.copies.running;
+        } }
 
         // What stays.
         ensures standing { AreStanding D.cells self.old → AreStanding D.cells self.new }
@@ -402,13 +398,17 @@ impl<D: Dir> Replica<D> {
         ensures held { HoldsOnly self.old self.new }
         ensures stays { KeepsBytes self.old.files self.new.files
             (D.cells self.old.dir) (D.cells self.new.dir) }
+        ensures appears { NoneAppears (D.cells self.old.dir) (D.cells self.new.dir) }
+        ensures later { D.faults self.old.dir ≤ D.faults self.new.dir }
         ensures others { self.new ≡ record self.old {
+          dir = self.new.dir;
           files = self.new.files;
           jobs = self.new.jobs;
           job = self.new.job;
+          copies = self.new.copies;
         } }
     {
-        start_job(alloc, &mut self.parts, state)
+        begin(alloc, &mut self.parts, state)
     }
 
     /// Begins a copy of a merged segment, and answers its number. It fetches the files of the segment that nobody holds, and

@@ -185,6 +185,13 @@ impl RunningCopies {
         }
     }
 
+    /// The copies, in the order in which they began.
+    pub fn items(&self) -> &[CopyJob]
+        ensures { result.now ≡ self.now }
+    {
+        self.items.as_slice()
+    }
+
     /// The copy with this number.
     pub fn copy(&self, number: u64) -> Option<&CopyJob>
         ensures { option_map (λ c. c.now) result ≡ copy_at number self.now }

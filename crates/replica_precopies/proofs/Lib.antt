@@ -1,3 +1,4 @@
 mod Came
 mod Launched
 mod Moved
+mod Overlaps

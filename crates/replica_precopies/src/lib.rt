@@ -3,8 +3,10 @@
 
 mod arriving;
 mod launching;
+mod overlapping;
 mod settling;
 
 pub use arriving::arrived_precopy;
 pub use launching::launch_precopy;
+pub use overlapping::end_overlapping;
 pub use settling::finish_precopy;
