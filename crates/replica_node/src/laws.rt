@@ -52,3 +52,11 @@ pub fn sourced_stands()
         → CopiesFrom source reads j → j.missing ≡ [] → AreFilesOf infos (meta_names j.want.files)
         → StandsFor source infos docs → StandsFor (reads_under j.parts reads) infos docs }
 {}
+
+/// Where the job of a newer point has the number, it is the one that the calls by number are about.
+pub fn point_runs<D>()
+    ensures { (number : ℕ) (p : Parts D) (j : PointJob) → p.job ≡ Some j → j.copy.number ≡ number
+        → (running_job number p ≡ Some j.copy)
+        × ((k : Job) → with_job number k p ≡ record p { job = Some (record j { copy = k }) })
+        × (without_job number p ≡ record p { job = None }) }
+{}
