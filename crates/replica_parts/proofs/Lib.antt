@@ -15,6 +15,7 @@ pub mod Metas
 pub mod Named
 pub mod Noted
 pub mod Parting
+pub mod Partly
 pub mod Renamed
 pub mod Segments
 pub mod Sparing

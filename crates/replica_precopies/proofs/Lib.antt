@@ -2,3 +2,5 @@ mod Came
 mod Launched
 mod Moved
 mod Overlaps
+mod Placed
+mod Settled

@@ -26,15 +26,7 @@ use Rattle.replica_switches.specs.declared.advancing.NewPoint.{NewPoint}
 use Rattle.replica_opening.specs.Readers.{AreReaders}
 use Rattle.replica_parts.specs.Replica.{IsPointOf, KeepsReads}
 use Rattle.replica_switches.specs.Advancing.{IsJobReady, TakesInHand}
-use Rattle.replica_parts.proofs.Carried.{under_placed}
-
--- ---- parts are placed
-pub placed_moves : (n : ℕ) (parts now : List JobPart) (reused : List Name) (old new : Holdings) (before after : Cells) → Places n parts now old new before after
-    → MovesCounts (written_names parts) (present_names parts ++ reused) (present_names now ++ reused) old new before after
-placed_moves n parts now reused old new before after done = record {
-  balance = λ q. omega (arith, done.moves.balance q, times-append (present_names parts) reused q, times-append (present_names now) reused q);
-  keeps = done.moves.keeps;
-}
+use Rattle.replica_parts.proofs.Partly.{placed_moves, reads_partly}
 
 module _ (j : Job) (infos : Infos) (now : List JobPart) (olds : List Name) (h0 h1 : Holdings) (a b : Cells) (ready : IsJobReady a h0 j infos) (counted : (q : Name) → times olds q + times (job_names j) q ≤ count_of h0 q)
     (done : Places (length j.parts) j.parts now h0 h1 a b) where
@@ -89,16 +81,6 @@ module _ (j : Job) (infos : Infos) (now : List JobPart) (olds : List Name) (h0 h
     moves = held_moves point.names are h2 holds;
     reads = files_read;
   })
-
--- ---- parts are placed, not all of them
-module _ (j : Job) (now : List JobPart) (n : ℕ) (h0 h1 : Holdings) (a b : Cells) (counted : (q : Name) → times (job_names j) q ≤ count_of h0 q) (done : Places n j.parts now h0 h1 a b) where
-  pub reads_partly : KeepsReads j (record j { parts = now }) a b
-  reads_partly = record {
-    each = λ q some. subst (λ (ps : List JobPart). (b (present_of ps q)).now ≡ (a (present_of j.parts q)).now) (sym done.parts_are)
-        (under_placed j.parts n q a b (λ place was is at there. done.reads place was is at (ap (λ (ps : List JobPart). part_at ps place) done.parts_are ∙ there)) (λ none.
-        let r : 0 < times j.reused q = omega (arith, some, none) in
-        done.moves.keeps.reads q (omega (arith, r, counted q, times-append (present_names j.parts) j.reused q)) (omega (arith, r, counted q, done.moves.balance q, times-append (present_names j.parts) j.reused q))));
-  }
 
 -- ---- parts are placed, and nothing else was done
 module _ (j now : Job) (n : ℕ) (h0 h1 : Holdings) (a b c : Cells) (done : Places n j.parts now.parts h0 h1 a b) (others : now ≡ record j { parts = now.parts }) (same : c ≡ b) where

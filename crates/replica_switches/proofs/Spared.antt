@@ -21,19 +21,6 @@ use Rattle.replica_parts.proofs.Keeping.{merge_spared, merge_lasts, source_spare
 use Rattle.replica_parts.proofs.Merging.{all_map, all_both, all_held}
 use Rattle.replica_parts.proofs.Sparing.{SparesJob}
 
--- the parts have the own names that they had
-pub own_placed : (ps : List JobPart) (n : ℕ) (q : Name) → times (own_names (placed_to n ps)) q ≡ times (own_names ps) q
-own_placed ps zero q = refl
-own_placed [] (suc n) q = refl
-own_placed (y ∷ ys) (suc n) q = omega (arith, own_placed ys n q, times-cons y.own (own_names (placed_to n ys)) q, times-cons y.own (own_names ys) q)
-
--- so the job copies what it copied
-pub copied_placed : (j now : Job) → now ≡ record j { parts = now.parts } → (n : ℕ) → now.parts ≡ placed_to n j.parts → (q : Name) → times (copied_names now) q ≡ times (copied_names j) q
-copied_placed j now same n parts q =
-    let own : times (own_names now.parts) q ≡ times (own_names j.parts) q = ap (λ (ps : List JobPart). times (own_names ps) q) parts ∙ own_placed j.parts n q in
-    let missing : times now.missing q ≡ times j.missing q = ap (λ (k : Job). times k.missing q) same in
-    omega (arith, own, missing, times-append now.missing (own_names now.parts) q, times-append j.missing (own_names j.parts) q)
-
 module _ {D : Type 0} (cells : D → Cells) (p : Parts D) (is : IsWholeReplica cells p) (j : PointJob) (e : p.job ≡ Some j) (dir : D) (files : Holdings)
     (temporary : (number : ℕ) → number < 2 ^ 64 → j.copy.number ≢ number → (name : Name) → count_of files (temp_name_of name number) ≡ count_of p.files (temp_name_of name number))
     (newly : (q : Name) → IsLasting q → count_of p.files q ≡ 0 → 0 < count_of files q → 0 < times (copied_names j.copy) q)

@@ -38,7 +38,8 @@ use Rattle.replica_parts.specs.Replica.{IsWholeReplica, AreStanding, IsJobAbove,
 use Rattle.replica_parts.specs.declared.merges.MergeCopies.{MergeCopies}
 use Rattle.replica_parts.specs.Merges.{running_names, copies_names, copied_names, CopyApart, AreCopiesApart}
 use Rattle.replica_switches.specs.Advancing.{TakesInHand}
-use Rattle.replica_switches.proofs.Spared.{copied_placed, beside_j, each_spared, sources_spared}
+use Rattle.replica_parts.proofs.Partly.{copied_placed}
+use Rattle.replica_switches.proofs.Spared.{beside_j, each_spared, sources_spared}
 use Rattle.replica_parts.proofs.Foreign.{point_foreign}
 use Rattle.replica_parts.proofs.Merging.{all_map}
 use Rattle.replica_parts.proofs.Waiting.{job_foreign}
