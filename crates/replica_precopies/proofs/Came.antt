@@ -1,6 +1,6 @@
 -- A part of a merge copy arrives, or does not.
-use Rattle.std.proofs.Common.{◌≡◌, ◌≢◌, ℕ, ◌+◌, ◌<◌, ◌^◌, Bool, true, false, List, [], ◌∷◌, ◌++◌, Option, Some, None, cond, refl, sym, ap, subst, ◌∙◌, arith}
-use Rattle.std.specs.Prelude.{IfSome}
+use Rattle.std.proofs.Common.{◌≡◌, ◌≢◌, ℕ, ◌+◌, ◌<◌, ◌^◌, Bool, true, false, List, [], ◌∷◌, ◌++◌, Option, Some, None, is_some, true≢false, cond, refl, sym, ap, subst, ◌∙◌, arith}
+use Rattle.std.specs.Prelude.{◌==◌, if◌then◌else◌, IfSome, OnOk, OnErr, Result, Ok, Err}
 use Rattle.std.specs.List.{AllByRecursion}
 use Rattle.file_names.specs.Names.{temp_name_of, is_pending_name}
 use Rattle.disk_model.specs.Disk.{Name, Content, Cells, same, is_among, reads_of}
@@ -21,11 +21,12 @@ use Rattle.replica_opening.specs.Known.{IsLasting}
 use Rattle.replica_parts.specs.declared.job.PointJob.{PointJob}
 use Rattle.replica_parts.specs.declared.parts.Parts.{Parts}
 use Rattle.replica_parts.specs.Merges.{copy_at, copies_with, copies_without, running_names, copies_names, copied_names, CopyApart}
+use Rattle.replica_parts.specs.Moving.{PartComes}
 use Rattle.replica_parts.specs.Sources.{CopiesFrom, IsSourced, HoldsOnly}
 use Rattle.replica_parts.specs.Replica.{IsWholeReplica, IsMergeCopy, names_of_job, copying_names, replica_names}
 use Rattle.replica_parts.proofs.Carried.{JobReads, HoldsNoOther, held_along, job_arrives}
 use Rattle.replica_parts.proofs.Foreign.{other_temporary, merge_foreign, point_foreign, running_foreign}
-use Rattle.replica_parts.proofs.Keeping.{Knows, HasWanted, Matches, knows_reads, reads_known, as_reads, reads_as, copies_reads, reads_copies, metas_reads, reads_metas, holds_beside}
+use Rattle.replica_parts.proofs.Keeping.{Knows, HasWanted, Matches, knows_reads, reads_known, as_reads, reads_as, copies_reads, reads_copies, metas_reads, reads_metas, holds_beside, merge_spared, source_spared}
 use Rattle.replica_parts.proofs.Merging.{all_at, all_map, all_without, names-without, number_at}
 use Rattle.replica_parts.proofs.Parting.{part_added, temp_plain, temp_none, temp_lasting}
 use Rattle.replica_parts.proofs.Segments.{segment_infos, segment_files}
@@ -33,6 +34,15 @@ use Rattle.replica_parts.proofs.Sparing.{copied_part}
 use Rattle.replica_parts.proofs.Temporary.{book_no_temporary}
 use Rattle.replica_parts.proofs.Waiting.{temp_free, waits_arrived}
 use Rattle.replica_precopies.proofs.Moved.{moved_whole, moved_sourced}
+
+-- a copy in its own place
+with_same : (number : ℕ) (cs : List Job) (c : Job) → copy_at number cs ≡ Some c → copies_with number c cs ≡ cs
+with_same number [] c e = refl
+with_same number (x ∷ xs) c e = by (x.number == number) refl e
+  where
+    by : (b : Bool) → (x.number == number) ≡ b → (if b then Some x else copy_at number xs) ≡ Some c → (if b then c ∷ xs else x ∷ copies_with number c xs) ≡ x ∷ xs
+    by true f g = let same : x ≡ c = cc in ap (λ (y : Job). y ∷ xs) (sym same)
+    by false f g = ap (λ (ys : List Job). x ∷ ys) (with_same number xs c g)
 
 module _ {D : Type 0} (cells : D → Cells) (p : Parts D) (is : IsWholeReplica cells p) (number : ℕ) (c : Job) (e : copy_at number p.copies.running ≡ Some c) (name : Name) (missing : 0 < times c.missing name) where
   m : IsMergeCopy (cells p.dir) p.files p.jobs c
@@ -153,3 +163,85 @@ module _ {D : Type 0} (cells : D → Cells) (p : Parts D) (is : IsWholeReplica c
 
       pub came_held : HoldsOnly p (record p { dir = dir; files = files; known = p.known; copies = record { running = copies_with number now p.copies.running; pending = p.copies.pending } })
       came_held = holds_beside p (record p { dir = dir; files = files; known = p.known; copies = record { running = copies_with number now p.copies.running; pending = p.copies.pending } }) other
+
+    -- ---- it does not arrive
+    module _ (out : now ≡ c) where
+      none_more : (q : Name) → count_of files q ≡ count_of p.files q
+      none_more q = let f : times (job_names now) q ≡ times (job_names c) q = ap (λ (k : Job). times (job_names k) q) out in omega (arith, moves.balance q, f)
+
+      out_other : HoldsNoOther p.files files
+      out_other = record { each = λ q lasting none. omega (arith, none, none_more q) }
+
+      out_plain : (q : Name) → is_pending_name q ≡ true → times (job_names now) q ≡ 0
+      out_plain q named = ap (λ (k : Job). times (job_names k) q) out ∙ copy_plain q named
+
+      out_foreign : (k : ℕ) → k < 2 ^ 64 → c.number ≢ k → (file : Name) → times (job_names now) (temp_name_of file k) ≡ 0
+      out_foreign k fewer apart_k file = ap (λ (j : Job). times (job_names j) (temp_name_of file k)) out ∙ merge_foreign (cells p.dir) p.files p.jobs c m is.few k fewer apart_k file
+
+      out_newly : (q : Name) → IsLasting q → count_of p.files q ≡ 0 → 0 < count_of files q → 0 < times (copied_names c) q
+      out_newly q lasting none some = absurd (omega (arith, none, some, none_more q))
+
+      out_turns : (d : Job) → CopyApart c d → CopyApart now d
+      out_turns d h = subst (λ (k : Job). CopyApart k d) (sym out) h
+
+      out_bytes : (q : Name) → 0 < times (job_names c) q → (cells dir q).now ≡ (cells p.dir q).now
+      out_bytes q some = let had : 0 < count_of p.files q = omega (arith, some, counts_c q) in stays.held q had (omega (arith, had, none_more q))
+
+      out_now : IsMergeCopy (cells dir) files p.jobs now
+      out_now = subst (IsMergeCopy (cells dir) files p.jobs) (sym out) (merge_spared (cells p.dir) (cells dir) p.files files p.jobs p.jobs c (omega arith)
+          (record { temporary = λ n. none_more (temp_name_of n c.number); unheld = λ q copied none. omega (arith, none, none_more q); bytes = out_bytes }) m)
+
+      pub out_whole : IsWholeReplica cells (record p { dir = dir; files = files; known = p.known; copies = record { running = copies_with number now p.copies.running; pending = p.copies.pending } })
+      out_whole = moved_whole cells p is number c e now dir files (temp_name_of name c.number ∷ []) moves apart out_plain (omega (arith, m.given, ap (λ (k : Job). k.number) out)) (ap (λ (k : Job). k.number) out) out_foreign out_newly out_turns out_now p.known
+          (reads_known (cells dir) files p.known (held_along (Knows p.known) (cells p.dir) (cells dir) p.files files out_other stays (knows_reads (cells p.dir) p.files p.known is.known)))
+
+      pub out_sourced : (source : Name → Content) → IsSourced source cells p → IsSourced source cells (record p { dir = dir; files = files; known = p.known; copies = record { running = copies_with number now p.copies.running; pending = p.copies.pending } })
+      out_sourced source h = moved_sourced cells p is number c e now dir files (temp_name_of name c.number ∷ []) moves apart out_plain (omega (arith, m.given, ap (λ (k : Job). k.number) out)) (ap (λ (k : Job). k.number) out) out_foreign out_newly source p.known
+          (reads_as source (cells dir) files (held_along (Matches source) (cells p.dir) (cells dir) p.files files out_other stays (as_reads source (cells p.dir) p.files h.held)))
+          (subst (CopiesFrom source (reads_of (cells dir))) (sym out) (source_spared source (cells p.dir) (cells dir) c m.copy out_bytes (all_at (CopiesFrom source (reads_of (cells p.dir))) number p.copies.running c e h.merges)))
+          h
+
+      pub out_held : HoldsOnly p (record p { dir = dir; files = files; known = p.known; copies = record { running = copies_with number now p.copies.running; pending = p.copies.pending } })
+      out_held = holds_beside p (record p { dir = dir; files = files; known = p.known; copies = record { running = copies_with number now p.copies.running; pending = p.copies.pending } }) out_other
+
+-- ---- both, by the result
+module _ {D : Type 0} (cells : D → Cells) (p : Parts D) (is : IsWholeReplica cells p) (number : ℕ) (c : Job) (e : copy_at number p.copies.running ≡ Some c) (name : Name) (missing : 0 < times c.missing name) {T E : Type 0}
+    (dir : D) (files : Holdings) (now : Job) (bytes : List ℕ) (meta : FileMetaData) (meta_is : IsMetaOf bytes meta) (wanted : meta_in c.want.files name ≡ Some meta) where
+  pub comes_whole : (result : Result T E) → PartComes c now name bytes p.files files (cells p.dir) (cells dir) result → (running : List Job) → running ≡ copies_with number now p.copies.running
+      → IsWholeReplica cells (record p { dir = dir; files = files; copies = record p.copies { running = running } })
+  comes_whole (Ok x) comes running made = subst (λ (cs : List Job). IsWholeReplica cells (record p { dir = dir; files = files; copies = record p.copies { running = cs } })) (sym made)
+      (came_whole cells p is number c e name missing dir files now comes.moves comes.is comes.ok bytes comes.reads meta meta_is wanted)
+  comes_whole (Err x) comes running made = subst (λ (cs : List Job). IsWholeReplica cells (record p { dir = dir; files = files; copies = record p.copies { running = cs } })) (sym made)
+      (out_whole cells p is number c e name missing dir files now comes.moves comes.is comes.err)
+
+  pub comes_sourced : (result : Result T E) → PartComes c now name bytes p.files files (cells p.dir) (cells dir) result → (running : List Job) → running ≡ copies_with number now p.copies.running
+      → (source : Name → Content) → source name ≡ Some bytes → IsSourced source cells p → IsSourced source cells (record p { dir = dir; files = files; copies = record p.copies { running = running } })
+  comes_sourced (Ok x) comes running made source is_source h = subst (λ (cs : List Job). IsSourced source cells (record p { dir = dir; files = files; copies = record p.copies { running = cs } })) (sym made)
+      (came_sourced cells p is number c e name missing dir files now comes.moves comes.is comes.ok bytes comes.reads source is_source h)
+  comes_sourced (Err x) comes running made source is_source h = subst (λ (cs : List Job). IsSourced source cells (record p { dir = dir; files = files; copies = record p.copies { running = cs } })) (sym made)
+      (out_sourced cells p is number c e name missing dir files now comes.moves comes.is comes.err source h)
+
+  pub comes_held : (result : Result T E) → PartComes c now name bytes p.files files (cells p.dir) (cells dir) result → (running : List Job) → running ≡ copies_with number now p.copies.running
+      → HoldsOnly p (record p { dir = dir; files = files; copies = record p.copies { running = running } })
+  comes_held (Ok x) comes running made = came_held cells p is number c e name missing dir files now comes.moves comes.is comes.ok bytes comes.reads
+  comes_held (Err x) comes running made = out_held cells p is number c e name missing dir files now comes.moves comes.is comes.err
+
+  -- what the copies are
+  pub comes_ok : (result : Result T E) → PartComes c now name bytes p.files files (cells p.dir) (cells dir) result → (running : List Job) → running ≡ copies_with number now p.copies.running
+      → OnOk result (record p.copies { running = running } ≡ record p.copies { running = copies_with number (with_part c name) p.copies.running })
+  comes_ok (Ok x) comes running made = ap (λ (cs : List Job). record p.copies { running = cs }) (made ∙ ap (λ (k : Job). copies_with number k p.copies.running) comes.ok)
+  comes_ok (Err x) comes running made = tt
+
+  pub comes_err : (result : Result T E) → PartComes c now name bytes p.files files (cells p.dir) (cells dir) result → (running : List Job) → running ≡ copies_with number now p.copies.running
+      → OnErr result (record p.copies { running = running } ≡ p.copies)
+  comes_err (Ok x) comes running made = tt
+  comes_err (Err x) comes running made = ap (λ (cs : List Job). record p.copies { running = cs }) (made ∙ ap (λ (k : Job). copies_with number k p.copies.running) comes.err ∙ with_same number p.copies.running c e)
+
+  pub comes_reads : (result : Result T E) → PartComes c now name bytes p.files files (cells p.dir) (cells dir) result → OnOk result ((cells dir (temp_name_of name number)).now ≡ Some bytes)
+  comes_reads (Ok x) comes = subst (λ (k : ℕ). (cells dir (temp_name_of name k)).now ≡ Some bytes) (number_at number p.copies.running c e) comes.reads
+  comes_reads (Err x) comes = tt
+
+-- the one there is
+pub some_at : {P : Job → Type 0} (o : Option Job) → is_some o ≡ true → IfSome o P → (c : Job) × (o ≡ Some c) × P c
+some_at None there h = absurd (true≢false (sym there))
+some_at (Some c) there h = (c, refl, h)

@@ -2,7 +2,7 @@
 use Rattle.std.proofs.Common.{◌≡◌, ℕ, zero, suc, ◌+◌, ◌<◌, Bool, true, false, ◌||◌, List, [], ◌∷◌, ◌++◌, length, Option, Some, cond, refl, sym, ap, subst, ◌∙◌, arith}
 use Rattle.std.specs.Prelude.{◌==◌, not, if◌then◌else◌, filter, IfSome}
 use Rattle.std.specs.List.{AllByRecursion, list_any}
-use Rattle.std.proofs.lemmas.List.Map.{map-append}
+use Rattle.std.proofs.lemmas.List.{map-append}
 use Rattle.nrt_base.specs.declared.numbers.SegNo.{SegNo}
 use Rattle.file_names.specs.Names.{temp_name_of}
 use Rattle.disk_model.specs.Disk.{Name, Content, Cells, same, reads_of}
