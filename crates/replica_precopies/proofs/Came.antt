@@ -37,7 +37,7 @@ use Rattle.replica_parts.proofs.Waiting.{temp_free, waits_arrived}
 use Rattle.replica_precopies.proofs.Moved.{moved_whole, moved_sourced}
 
 -- a copy in its own place
-with_same : (number : ℕ) (cs : List Job) (c : Job) → copy_at number cs ≡ Some c → copies_with number c cs ≡ cs
+pub with_same : (number : ℕ) (cs : List Job) (c : Job) → copy_at number cs ≡ Some c → copies_with number c cs ≡ cs
 with_same number [] c e = refl
 with_same number (x ∷ xs) c e = by (x.number == number) refl e
   where
