@@ -88,8 +88,14 @@ module _ {D : Type 0} (cells : D → Cells) (p : Parts D) (is : IsCore cells p) 
     missing_j = subst (λ (x : Option PointJob). IfSome x (λ k. 0 < times k.copy.missing name)) e missing
 
     others_none : times ((searcher_names p.searchers ++ book_names p.commits) ++ copies_names p.copies) (temp_name_of name j.copy.number) ≡ 0
-    others_none = omega (arith, foreign name, is.lasting.each name j.copy.number, (book_no_temporary (cells p.dir) p.files p.commits is.node.sound).each name j.copy.number,
-        times-append (searcher_names p.searchers ++ book_names p.commits) (copies_names p.copies) (temp_name_of name j.copy.number), times-append (searcher_names p.searchers) (book_names p.commits) (temp_name_of name j.copy.number))
+    others_none = omega (
+      arith,
+      foreign name,
+      is.lasting.each name j.copy.number,
+      (book_no_temporary (cells p.dir) p.files p.commits is.node.sound).each name j.copy.number,
+      times-append (searcher_names p.searchers ++ book_names p.commits) (copies_names p.copies) (temp_name_of name j.copy.number),
+      times-append (searcher_names p.searchers) (book_names p.commits) (temp_name_of name j.copy.number),
+    )
 
     pub free_j : count_of p.files (temp_name_of name j.copy.number) ≡ 0
     free_j = temp_free j.infos j.copy above_j.copy above_j.state.files p.files waits_j name missing_j ((searcher_names p.searchers ++ book_names p.commits) ++ copies_names p.copies) others_none counts_j

@@ -34,8 +34,15 @@ module _ {D : Type 0} (cells : D → Cells) (p : Parts D) (is : IsWholeReplica c
   no_job q = ap (λ (x : Option PointJob). times (names_of_job x) q) none
 
   all : (q : Name) → times (searcher_names p.searchers ++ (job_names copy ++ copies_names p.copies)) q ≡ times (replica_names p) q + times copy.reused q
-  all q = omega (arith, times-append (searcher_names p.searchers) (job_names copy ++ copies_names p.copies) q, times-append (job_names copy) (copies_names p.copies) q, times-append (searcher_names p.searchers) (copying_names p) q,
-      times-append (names_of_job p.job) (copies_names p.copies) q, no_job q, names_begun cells p is PointKind number state infos of.files agreed copy copy_is is_job slice slice_is files holds q)
+  all q = omega (
+    arith,
+    times-append (searcher_names p.searchers) (job_names copy ++ copies_names p.copies) q,
+    times-append (job_names copy) (copies_names p.copies) q,
+    times-append (searcher_names p.searchers) (copying_names p) q,
+    times-append (names_of_job p.job) (copies_names p.copies) q,
+    no_job q,
+    names_begun cells p is PointKind number state infos of.files agreed copy copy_is is_job slice slice_is files holds q,
+  )
 
   above_job : IsJobAbove p.searchers.point.version.0 (record { copy = copy; infos = infos })
   above_job = record { copy = is_job; state = subst (λ (s : CopyState). IsPointState s infos) (sym state_is) of; above = omega (arith, above, ap (λ (v : Version). v.0) of.version) }
@@ -59,9 +66,9 @@ module _ {D : Type 0} (cells : D → Cells) (p : Parts D) (is : IsWholeReplica c
   begun_apart : AllByRecursion (λ c. SharesNone (copied_names c) (meta_names state.files)) p.copies.running → AllByRecursion (CopyApart copy) p.copies.running
   begun_apart shares = all_map (λ c. IsMergeCopy (cells p.dir) p.files p.jobs c × SharesNone (copied_names c) (meta_names state.files)) (CopyApart copy) p.copies.running
       (λ c h. record {
-      numbers = λ same. absurd (omega (arith, same, number_is, last, h.0.given));
-      files = λ q some. none c h.1 q some (times (copied_names c) q) refl;
-    })
+        numbers = λ same. absurd (omega (arith, same, number_is, last, h.0.given));
+        files = λ q some. none c h.1 q some (times (copied_names c) q) refl;
+      })
       (all_both (IsMergeCopy (cells p.dir) p.files p.jobs) (λ c. SharesNone (copied_names c) (meta_names state.files)) p.copies.running is.merges.each shares)
     where
       none : (c : Job) → SharesNone (copied_names c) (meta_names state.files) → (q : Name) → 0 < times (copied_names copy) q → (n : ℕ) → times (copied_names c) q ≡ n → times (copied_names c) q ≡ 0

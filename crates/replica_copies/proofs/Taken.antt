@@ -72,8 +72,14 @@ module _ {D : Type 0} (cells : D → Cells) (p : Parts D) (is : IsWholeReplica c
 
       -- ---- the merge copies
       copy_bytes : (c : Job) → ((q : Name) → times (job_names c) q ≤ times (running_names p.copies.running) q) → (q : Name) → 0 < times (job_names c) q → (cells dir q).now ≡ (cells p.dir q).now
-      copy_bytes c within q some = held_bytes q (omega (arith, some, within q, (node_j cells p (core_of cells p is) j e).counts q, held_split cells p (core_of cells p is) j e (job_names j.copy) q,
-          times-append (running_names p.copies.running) (meta_names p.copies.pending.files) q))
+      copy_bytes c within q some = held_bytes q (omega (
+        arith,
+        some,
+        within q,
+        (node_j cells p (core_of cells p is) j e).counts q,
+        held_split cells p (core_of cells p is) j e (job_names j.copy) q,
+        times-append (running_names p.copies.running) (meta_names p.copies.pending.files) q,
+      ))
 
       spares : (c : Job) → IsMergeCopy (cells p.dir) p.files p.jobs c → ((q : Name) → times (job_names c) q ≤ times (running_names p.copies.running) q) → CopyApart j.copy c → SparesJob c p.files files (cells p.dir) (cells dir)
       spares c m within apart = record {

@@ -1,10 +1,8 @@
 -- The job or the copy of a merged segment with a number, before and after a call.
-use Rattle.std.proofs.Common.{◌≡◌, ℕ, Bool, true, false, List, Option, Some, None, is_some, refl, sym, ap, subst, ◌∙◌, arith, true≢false}
-use Rattle.std.specs.Prelude.{◌==◌, if◌then◌else◌, IsSome, IfSome, OnOk, OnErr, Result, Ok, Err}
+use Rattle.std.proofs.Common.{◌≡◌, ℕ, Bool, true, false, Option, Some, None, is_some, refl, sym, ap, subst, ◌∙◌, arith, true≢false}
+use Rattle.std.specs.Prelude.{if◌then◌else◌, IsSome, IfSome, OnOk, OnErr, Result, Ok, Err}
 use Rattle.std.specs.Option.{option_map}
-use Rattle.file_names.specs.Names.{temp_name_of}
 use Rattle.disk_model.specs.Disk.{Name}
-use Rattle.file_deleter.specs.Holdings.{Holdings}
 use Rattle.copy_job.specs.Jobs.{Job, with_part}
 use Rattle.replica_parts.specs.declared.job.PointJob.{PointJob}
 use Rattle.replica_parts.specs.declared.merges.MergeCopies.{MergeCopies}
@@ -94,6 +92,6 @@ point_runs number p j e same =
     let test : is_point number p.job ≡ true = ap (is_point number) e ∙ grind (arith, nat_tests, same) in (
       ap (λ (b : Bool). if b then option_map (λ (i : PointJob). i.copy) p.job else copy_at number p.copies.running) test ∙ ap (option_map (λ (i : PointJob). i.copy)) e,
       (λ k. ap (λ (b : Bool). if b then record p { job = option_map (λ (i : PointJob). record i { copy = k }) p.job } else record p { copies = record p.copies { running = copies_with number k p.copies.running } }) test
-      ∙ ap (λ (o : Option PointJob). record p { job = option_map (λ (i : PointJob). record i { copy = k }) o }) e),
+          ∙ ap (λ (o : Option PointJob). record p { job = option_map (λ (i : PointJob). record i { copy = k }) o }) e),
       ap (λ (b : Bool). if b then record p { job = None } else record p { copies = record p.copies { running = copies_without number p.copies.running } }) test,
     )

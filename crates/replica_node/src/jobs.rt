@@ -38,11 +38,7 @@ fn copies_point<D: Dir>(parts: &Parts<D>, job: u64) -> bool
 /// Begins a job of a newer point, and answers its number. Each copy of a merged segment that copies a file of the point ends
 /// before. The job fetches the files of the point that nobody holds, and reuses the others. A file that is held with other
 /// metadata, the first in the order of the state, is a clash.
-pub fn begin<D: Dir>(
-    alloc: Global,
-    parts: &mut Parts<D>,
-    state: CopyState,
-) -> Result<u64, JobFault>
+pub fn begin<D: Dir>(alloc: Global, parts: &mut Parts<D>, state: CopyState) -> Result<u64, JobFault>
     requires whole { IsWholeReplica D.cells parts.old }
     requires none { parts.old.job ≡ None }
     requires few { parts.old.jobs + 1 < 2 ^ 63 }

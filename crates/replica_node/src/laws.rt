@@ -1,6 +1,6 @@
 //! What holds of directories and of points, for proofs to call. No function here does anything.
 
-ghost use Rattle.std.specs.Prelude.{◌≡◌, ◌<◌, List, [], Contains};
+ghost use Rattle.std.specs.Prelude.{◌≡◌, ◌<◌, ℕ, List, [], Some, None, Contains};
 ghost use Rattle.std.specs.List.{All, flat_map};
 ghost use Rattle.nrt_base.specs.declared.doc.Doc.{Doc};
 ghost use Rattle.disk_model.specs.Disk.{Name, Content, Image, restarted};
@@ -17,7 +17,10 @@ ghost use Rattle.replica_opening.specs.Known.{IsLasting, HasMeta};
 ghost use Rattle.replica_opening.specs.Readers.{AreReaders};
 ghost use Rattle.replica_opening.specs.Opened.{IsSettledOn};
 ghost use Rattle.replica_parts.specs.Jobs.{IsStartingFault};
+ghost use Rattle.replica_parts.specs.declared.job.PointJob.{PointJob};
+ghost use Rattle.replica_parts.specs.declared.parts.Parts.{Parts};
 ghost use Rattle.replica_parts.specs.Sources.{CopiesFrom};
+ghost use Rattle.replica_node.specs.Running.{running_job, with_job, without_job};
 
 /// A directory that restarted from an image, as after a crash, shows in each image what it shows.
 pub fn restarted_settled()

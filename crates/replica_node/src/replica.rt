@@ -28,8 +28,8 @@ use copy_job::{CopyJob, JobFault, Part};
 use copy_state::CopyState;
 use disk_model::{Dir, FaultDir};
 use file_names::FileName;
-use nrt_base::{Gen, NoMemory, Version};
 use merge_precopy::Precopies;
+use nrt_base::{Gen, NoMemory, Version};
 use replica_calls::{
     acquire, commit_begin, commit_step, into_dir, lease, new_point, plan, release, stop_at,
     take_apart,

@@ -31,8 +31,12 @@ running_foreign cells holdings jobs (c ∷ cs) each few number fewer others name
 module _ {D : Type 0} (cells : D → Cells) (p : Parts D) (is : IsWholeReplica cells p) (number : ℕ) (fewer : number < 2 ^ 64) where
   -- the merge copies and the pending files
   pub copies_foreign : AllByRecursion (λ c. c.number ≢ number) p.copies.running → (name : Name) → times (copies_names p.copies) (temp_name_of name number) ≡ 0
-  copies_foreign others name = omega (arith, running_foreign (cells p.dir) p.files p.jobs p.copies.running is.merges.each is.few number fewer others name, is.merges.pending.each name number,
-      times-append (running_names p.copies.running) (meta_names p.copies.pending.files) (temp_name_of name number))
+  copies_foreign others name = omega (
+    arith,
+    running_foreign (cells p.dir) p.files p.jobs p.copies.running is.merges.each is.few number fewer others name,
+    is.merges.pending.each name number,
+    times-append (running_names p.copies.running) (meta_names p.copies.pending.files) (temp_name_of name number),
+  )
 
   -- the job
   pub point_foreign : (j : PointJob) → p.job ≡ Some j → j.copy.number ≢ number → (name : Name) → times (job_names j.copy) (temp_name_of name number) ≡ 0

@@ -147,4 +147,3 @@ module _ (reads : Name → Content) (holdings : Holdings) (known : List (Name ×
 pub held_slice : (known : List (Name × FileMetaData)) (holdings : Holdings) (state : CopyState) (slice held files : List (Name × FileMetaData)) → slice ≡ held → held ≡ held_metas known holdings (meta_names files) → files ≡ state.files
     → slice ≡ held_metas known holdings (meta_names state.files)
 held_slice known holdings state slice held files e f g = e ∙ f ∙ ap (λ (fs : List (Name × FileMetaData)). held_metas known holdings (meta_names fs)) g
-

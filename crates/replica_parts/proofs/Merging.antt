@@ -98,14 +98,14 @@ module _ (number : ℕ) (items slice first : List Job) (at : ℕ) (slice_is : sl
       → IfSome (copy_at number items) (λ c. ChangesCopy (P c) number items (take n (new ++ drop (length new) items)))
   change_in P n new long h = some_turns (λ c. SetsCopy (P c) at slice new) (λ c. ChangesCopy (P c) number items (take n (new ++ drop (length new) items))) (copy_at number items)
       (λ c s. record {
-      copy = s.copy;
-      all =
-          let same_long : length new ≡ length items = ap (λ (xs : List Job). length xs) s.all ∙ length_set slice at s.copy ∙ ap (λ (xs : List Job). length xs) slice_is in
-          let n_is : n ≡ length items = sym long ∙ ap (λ (xs : List Job). length xs) slice_is in
-          ap (λ (k : ℕ). take k (new ++ drop (length new) items)) n_is ∙ written_back items new same_long ∙ s.all
-          ∙ ap (λ (xs : List Job). slice_set xs at s.copy) slice_is ∙ ap (λ (k : ℕ). slice_set items k s.copy) (at_is ∙ ap (copy_place number) first_is) ∙ set_with number items s.copy;
-      is = s.is;
-    })
+        copy = s.copy;
+        all =
+            let same_long : length new ≡ length items = ap (λ (xs : List Job). length xs) s.all ∙ length_set slice at s.copy ∙ ap (λ (xs : List Job). length xs) slice_is in
+            let n_is : n ≡ length items = sym long ∙ ap (λ (xs : List Job). length xs) slice_is in
+            ap (λ (k : ℕ). take k (new ++ drop (length new) items)) n_is ∙ written_back items new same_long ∙ s.all
+            ∙ ap (λ (xs : List Job). slice_set xs at s.copy) slice_is ∙ ap (λ (k : ℕ). slice_set items k s.copy) (at_is ∙ ap (copy_place number) first_is) ∙ set_with number items s.copy;
+        is = s.is;
+      })
       (subst (λ (o : Option Job). IfSome o (λ c. SetsCopy (P c) at slice new)) item_is h)
 
 same_number : (m n : ℕ) → (m == n) ≡ true → m ≡ n

@@ -98,4 +98,3 @@ module _ (a b : Cells) (h0 h1 : Holdings) (j now : Job) (is : IsJob j) (others :
             | inl had ↦ subst (K q) (sym (stays q had some)) (from_held q (a q).now e (held.each q lasting had))
             | inr own ↦ absurd (omega (arith, own, e, is.each q))
           ]
-

@@ -63,10 +63,18 @@ module _ {D : Type 0} (cells : D → Cells) (p : Parts D) (is : IsWholeReplica c
   others = (searcher_names p.searchers ++ book_names p.commits) ++ (names_of_job p.job ++ (running_names (copies_without number p.copies.running) ++ meta_names p.copies.pending.files))
 
   counts_c : (q : Name) → count_of p.files q ≡ times others q + times (job_names c) q
-  counts_c q = omega (arith, is.node.counts q, names-without number p.copies.running c q e, times-append (searcher_names p.searchers) (copying_names p) q, times-append (names_of_job p.job) (copies_names p.copies) q,
-      times-append (running_names p.copies.running) (meta_names p.copies.pending.files) q, times-append (searcher_names p.searchers ++ book_names p.commits) (names_of_job p.job ++ (running_names (copies_without number p.copies.running) ++ meta_names p.copies.pending.files)) q,
-      times-append (searcher_names p.searchers) (book_names p.commits) q, times-append (names_of_job p.job) (running_names (copies_without number p.copies.running) ++ meta_names p.copies.pending.files) q,
-      times-append (running_names (copies_without number p.copies.running)) (meta_names p.copies.pending.files) q)
+  counts_c q = omega (
+    arith,
+    is.node.counts q,
+    names-without number p.copies.running c q e,
+    times-append (searcher_names p.searchers) (copying_names p) q,
+    times-append (names_of_job p.job) (copies_names p.copies) q,
+    times-append (running_names p.copies.running) (meta_names p.copies.pending.files) q,
+    times-append (searcher_names p.searchers ++ book_names p.commits) (names_of_job p.job ++ (running_names (copies_without number p.copies.running) ++ meta_names p.copies.pending.files)) q,
+    times-append (searcher_names p.searchers) (book_names p.commits) q,
+    times-append (names_of_job p.job) (running_names (copies_without number p.copies.running) ++ meta_names p.copies.pending.files) q,
+    times-append (running_names (copies_without number p.copies.running)) (meta_names p.copies.pending.files) q,
+  )
 
   job_none : (o : Option PointJob) → p.job ≡ o → times (names_of_job o) (temp_name_of name c.number) ≡ 0
   job_none None f = refl
@@ -84,10 +92,18 @@ module _ {D : Type 0} (cells : D → Cells) (p : Parts D) (is : IsWholeReplica c
   others_none : times others (temp_name_of name c.number) ≡ 0
   others_none =
       let q : Name = temp_name_of name c.number in
-      omega (arith, job_none p.job refl, running_none, is.merges.pending.each name c.number, is.lasting.each name c.number, (book_no_temporary (cells p.dir) p.files p.commits is.node.sound).each name c.number,
-      times-append (searcher_names p.searchers ++ book_names p.commits) (names_of_job p.job ++ (running_names (copies_without number p.copies.running) ++ meta_names p.copies.pending.files)) q,
-      times-append (searcher_names p.searchers) (book_names p.commits) q, times-append (names_of_job p.job) (running_names (copies_without number p.copies.running) ++ meta_names p.copies.pending.files) q,
-      times-append (running_names (copies_without number p.copies.running)) (meta_names p.copies.pending.files) q)
+      omega (
+        arith,
+        job_none p.job refl,
+        running_none,
+        is.merges.pending.each name c.number,
+        is.lasting.each name c.number,
+        (book_no_temporary (cells p.dir) p.files p.commits is.node.sound).each name c.number,
+        times-append (searcher_names p.searchers ++ book_names p.commits) (names_of_job p.job ++ (running_names (copies_without number p.copies.running) ++ meta_names p.copies.pending.files)) q,
+        times-append (searcher_names p.searchers) (book_names p.commits) q,
+        times-append (names_of_job p.job) (running_names (copies_without number p.copies.running) ++ meta_names p.copies.pending.files) q,
+        times-append (running_names (copies_without number p.copies.running)) (meta_names p.copies.pending.files) q,
+      )
 
   pub free_copy : count_of p.files (temp_name_of name c.number) ≡ 0
   free_copy = temp_free (segment_infos m.segment.seg) c m.copy files_are p.files m.waits name missing others others_none counts_c
@@ -104,8 +120,14 @@ module _ {D : Type 0} (cells : D → Cells) (p : Parts D) (is : IsWholeReplica c
         by q false f there = let n = among_times (temp_name_of name c.number ∷ []) q there in absurd (omega (arith, n, times_one (temp_name_of name c.number) q ∙ ap (λ b. cond b 1 0) f))
 
     copy_plain : (q : Name) → is_pending_name q ≡ true → times (job_names c) q ≡ 0
-    copy_plain q named = omega (arith, is.node.plain.each q named, names-without number p.copies.running c q e, times-append (searcher_names p.searchers) (copying_names p) q, times-append (names_of_job p.job) (copies_names p.copies) q,
-        times-append (running_names p.copies.running) (meta_names p.copies.pending.files) q)
+    copy_plain q named = omega (
+      arith,
+      is.node.plain.each q named,
+      names-without number p.copies.running c q e,
+      times-append (searcher_names p.searchers) (copying_names p) q,
+      times-append (names_of_job p.job) (copies_names p.copies) q,
+      times-append (running_names p.copies.running) (meta_names p.copies.pending.files) q,
+    )
 
     -- ---- it arrives
     module _ (made : now ≡ with_part c name) where

@@ -57,12 +57,23 @@ module _ {D : Type 0} (cells : D → Cells) (p : Parts D) (is : IsWholeReplica c
     launched_copies = record { running = p.copies.running ++ copy ∷ []; pending = p.copies.pending }
 
     copies_more : (q : Name) → times (copies_names (record { running = p.copies.running ++ copy ∷ []; pending = p.copies.pending })) q ≡ times (copies_names p.copies) q + times copy.reused q
-    copies_more q = omega (arith, names-push p.copies.running copy q, names_begun cells p is MergeKind number state (segment_infos may.segment.seg) state_files agreed copy copy_is is_job slice slice_is files holds q,
-        times-append (running_names (p.copies.running ++ copy ∷ [])) (meta_names p.copies.pending.files) q, times-append (running_names p.copies.running) (meta_names p.copies.pending.files) q)
+    copies_more q = omega (
+      arith,
+      names-push p.copies.running copy q,
+      names_begun cells p is MergeKind number state (segment_infos may.segment.seg) state_files agreed copy copy_is is_job slice slice_is files holds q,
+      times-append (running_names (p.copies.running ++ copy ∷ [])) (meta_names p.copies.pending.files) q,
+      times-append (running_names p.copies.running) (meta_names p.copies.pending.files) q,
+    )
 
     all : (q : Name) → times (searcher_names p.searchers ++ (names_of_job p.job ++ copies_names (record { running = p.copies.running ++ copy ∷ []; pending = p.copies.pending }))) q ≡ times (replica_names p) q + times copy.reused q
-    all q = omega (arith, copies_more q, times-append (searcher_names p.searchers) (names_of_job p.job ++ copies_names (record { running = p.copies.running ++ copy ∷ []; pending = p.copies.pending })) q,
-        times-append (names_of_job p.job) (copies_names (record { running = p.copies.running ++ copy ∷ []; pending = p.copies.pending })) q, times-append (searcher_names p.searchers) (copying_names p) q, times-append (names_of_job p.job) (copies_names p.copies) q)
+    all q = omega (
+      arith,
+      copies_more q,
+      times-append (searcher_names p.searchers) (names_of_job p.job ++ copies_names (record { running = p.copies.running ++ copy ∷ []; pending = p.copies.pending })) q,
+      times-append (names_of_job p.job) (copies_names (record { running = p.copies.running ++ copy ∷ []; pending = p.copies.pending })) q,
+      times-append (searcher_names p.searchers) (copying_names p) q,
+      times-append (names_of_job p.job) (copies_names p.copies) q,
+    )
 
     launched_core : IsCore cells (record p { files = files; jobs = number; copies = record { running = p.copies.running ++ copy ∷ []; pending = p.copies.pending } })
     launched_core = record {

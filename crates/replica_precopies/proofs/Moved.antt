@@ -47,8 +47,11 @@ module _ {D : Type 0} (cells : D → Cells) (p : Parts D) (is : IsWholeReplica c
 
   now_split : (q : Name) → times (searcher_names p.searchers ++ (names_of_job p.job ++ copies_names (record { running = copies_with number now p.copies.running; pending = p.copies.pending }))) q
       ≡ times (searcher_names p.searchers) q + (times (names_of_job p.job) q + times (copies_names (record { running = copies_with number now p.copies.running; pending = p.copies.pending })) q)
-  now_split q = omega (arith, times-append (searcher_names p.searchers) (names_of_job p.job ++ copies_names (record { running = copies_with number now p.copies.running; pending = p.copies.pending })) q,
-      times-append (names_of_job p.job) (copies_names (record { running = copies_with number now p.copies.running; pending = p.copies.pending })) q)
+  now_split q = omega (
+    arith,
+    times-append (searcher_names p.searchers) (names_of_job p.job ++ copies_names (record { running = copies_with number now p.copies.running; pending = p.copies.pending })) q,
+    times-append (names_of_job p.job) (copies_names (record { running = copies_with number now p.copies.running; pending = p.copies.pending })) q,
+  )
 
   node : IsWholeNode (cells dir) files (searcher_names p.searchers ++ (names_of_job p.job ++ copies_names (record { running = copies_with number now p.copies.running; pending = p.copies.pending }))) p.commits
   node = node_moves (cells p.dir) (cells dir) p.files files (replica_names p) (searcher_names p.searchers ++ (names_of_job p.job ++ copies_names (record { running = copies_with number now p.copies.running; pending = p.copies.pending })))

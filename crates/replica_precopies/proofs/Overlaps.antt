@@ -11,7 +11,6 @@ use Rattle.copy_job.specs.declared.part.JobPart.{JobPart}
 use Rattle.copy_job.specs.Parts.{own_names}
 use Rattle.copy_job.specs.Jobs.{Job}
 use Rattle.replica_parts.specs.Merges.{copy_at, copies_without, copied_names, SharesNone, CopyApart, AreCopiesApart}
-use Rattle.replica_parts.proofs.Merging.{number_at}
 use Rattle.replica_precopies.specs.Overlapping.{overlaps, first_overlapping, copies_beside}
 
 -- ---- the first one runs

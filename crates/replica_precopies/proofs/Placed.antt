@@ -1,5 +1,5 @@
 -- A merge copy whose parts get their own names.
-use Rattle.std.proofs.Common.{◌≡◌, ◌≢◌, ◌⊎◌, ℕ, ◌+◌, ◌<◌, ◌≤◌, ◌^◌, true, List, [], ◌++◌, Option, Some, refl, sym, ap, subst, ◌∙◌, arith, inl, inr}
+use Rattle.std.proofs.Common.{◌≡◌, ◌≢◌, ℕ, ◌+◌, ◌<◌, ◌≤◌, ◌^◌, true, List, [], ◌++◌, Some, sym, ap, subst, ◌∙◌, arith, inl, inr}
 use Rattle.file_names.specs.Names.{temp_name_of, is_pending_name}
 use Rattle.disk_model.specs.Disk.{Name, Content, Cells, reads_of}
 use Rattle.file_deleter.specs.Holdings.{Holdings, count_of, times}
@@ -13,7 +13,7 @@ use Rattle.searcher_switch.specs.Searching.{searcher_names}
 use Rattle.copy_state.specs.declared.meta.FileMetaData.{FileMetaData}
 use Rattle.copy_state.specs.declared.state.CopyState.{CopyState}
 use Rattle.copy_state.specs.States.{meta_names, meta_in}
-use Rattle.copy_job.specs.Parts.{own_names, present_names, written_names, placed_to, ArePlaceable}
+use Rattle.copy_job.specs.Parts.{own_names, written_names, ArePlaceable}
 use Rattle.copy_job.specs.Placing.{Places}
 use Rattle.copy_job.specs.Jobs.{Job, IsJob, job_names, present_of, reads_under}
 use Rattle.replica_opening.specs.Known.{IsLasting, KnowsHeld}
@@ -22,8 +22,8 @@ use Rattle.replica_parts.specs.Held.{LearnsSome, LearnsAll}
 use Rattle.replica_parts.specs.Merges.{copy_at, copies_with, copies_without, running_names, copies_names, copied_names, CopyApart, IsSegmentState}
 use Rattle.replica_parts.specs.Sources.{CopiesFrom, IsSourced, HoldsOnlyWanted}
 use Rattle.replica_parts.specs.Waiting.{IsWaiting}
-use Rattle.replica_parts.specs.Replica.{IsWholeReplica, IsMergeCopy, HasMetas, KeepsReads, CanPlace, names_of_job, copying_names, replica_names}
-use Rattle.replica_parts.proofs.Carried.{HeldReads, JobReads}
+use Rattle.replica_parts.specs.Replica.{IsWholeReplica, IsMergeCopy, KeepsReads, CanPlace, names_of_job, copying_names, replica_names}
+use Rattle.replica_parts.proofs.Carried.{JobReads}
 use Rattle.replica_parts.proofs.Keeping.{Knows, HasWanted, Matches, knows_reads, reads_known, as_reads, reads_as, copies_reads, reads_copies, metas_reads, reads_metas}
 use Rattle.replica_parts.proofs.Merging.{all_at, names-without}
 use Rattle.replica_parts.proofs.Metas.{some_meta}
@@ -55,9 +55,16 @@ module _ {D : Type 0} (cells : D → Cells) (p : Parts D) (is : IsWholeReplica c
   others = beside ++ book_names p.commits
 
   beside_times : (q : Name) → times (replica_names p) q ≡ times beside q + times (job_names c) q
-  beside_times q = omega (arith, names-without number p.copies.running c q e, times-append (searcher_names p.searchers) (copying_names p) q, times-append (names_of_job p.job) (copies_names p.copies) q,
-      times-append (running_names p.copies.running) (meta_names p.copies.pending.files) q, times-append (searcher_names p.searchers) (names_of_job p.job ++ (running_names (copies_without number p.copies.running) ++ meta_names p.copies.pending.files)) q,
-      times-append (names_of_job p.job) (running_names (copies_without number p.copies.running) ++ meta_names p.copies.pending.files) q, times-append (running_names (copies_without number p.copies.running)) (meta_names p.copies.pending.files) q)
+  beside_times q = omega (
+    arith,
+    names-without number p.copies.running c q e,
+    times-append (searcher_names p.searchers) (copying_names p) q,
+    times-append (names_of_job p.job) (copies_names p.copies) q,
+    times-append (running_names p.copies.running) (meta_names p.copies.pending.files) q,
+    times-append (searcher_names p.searchers) (names_of_job p.job ++ (running_names (copies_without number p.copies.running) ++ meta_names p.copies.pending.files)) q,
+    times-append (names_of_job p.job) (running_names (copies_without number p.copies.running) ++ meta_names p.copies.pending.files) q,
+    times-append (running_names (copies_without number p.copies.running)) (meta_names p.copies.pending.files) q,
+  )
 
   before : (q : Name) → count_of p.files q ≡ times others q + times (job_names c) q
   before q = omega (arith, is.node.counts q, beside_times q, times-append beside (book_names p.commits) q)

@@ -1,7 +1,6 @@
 -- A merge copy whose files come to be pending.
-use Rattle.std.proofs.Common.{◌≡◌, ℕ, zero, suc, ◌+◌, ◌<◌, Bool, true, false, ◌||◌, List, [], ◌∷◌, ◌++◌, length, Option, Some, cond, refl, sym, ap, subst, ◌∙◌, arith}
-use Rattle.std.specs.Prelude.{◌==◌, not, if◌then◌else◌, filter, IfSome}
-use Rattle.std.specs.List.{AllByRecursion, list_any}
+use Rattle.std.proofs.Common.{◌≡◌, ℕ, ◌+◌, Bool, true, false, ◌||◌, List, [], ◌∷◌, ◌++◌, length, Some, cond, refl, sym, ap, subst, ◌∙◌, arith}
+use Rattle.std.specs.Prelude.{◌==◌, not, if◌then◌else◌, filter}
 use Rattle.std.proofs.lemmas.List.{map-append}
 use Rattle.nrt_base.specs.declared.numbers.SegNo.{SegNo}
 use Rattle.file_names.specs.Names.{temp_name_of}
@@ -9,7 +8,6 @@ use Rattle.disk_model.specs.Disk.{Name, Content, Cells, same, reads_of}
 use Rattle.disk_model.proofs.CellLemmas.{same_true}
 use Rattle.file_deleter.specs.Holdings.{times}
 use Rattle.file_deleter.proofs.NameLemmas.{times-append}
-use Rattle.node_files.specs.Node.{IsWholeNode}
 use Rattle.node_files.proofs.Carry.{node_same_names}
 use Rattle.searcher_switch.specs.Searching.{searcher_names}
 use Rattle.copy_state.specs.declared.meta.FileMetaData.{FileMetaData}
@@ -27,7 +25,7 @@ use Rattle.replica_parts.specs.Replica.{IsWholeReplica, IsMergeCopy, names_of_jo
 use Rattle.replica_parts.proofs.Keeping.{some_map}
 use Rattle.replica_parts.proofs.Merging.{all_at, all_dropped, apart_without, names-without}
 use Rattle.replica_parts.proofs.Segments.{segment_infos, segment_files}
-use Rattle.replica_parts.proofs.Temporary.{joins, files_no_temporary}
+use Rattle.replica_parts.proofs.Temporary.{files_no_temporary}
 
 -- ---- a segment that is expected, and no more
 pub struck : (seg : SegNo) (es : List SegNo) → es ≡ [] → filter (λ s. not (s.0 == seg.0)) (es ++ seg ∷ []) ≡ []
@@ -93,9 +91,18 @@ module _ {D : Type 0} (cells : D → Cells) (p : Parts D) (is : IsWholeReplica c
   pending_names q = ap (λ (ns : List Name). times ns q) (map-append (λ (f : Name × FileMetaData). f.0) p.copies.pending.files c.want.files) ∙ times-append (meta_names p.copies.pending.files) (meta_names c.want.files) q
 
   same_names : (q : Name) → times (searcher_names p.searchers ++ (names_of_job p.job ++ copies_names next)) q ≡ times (replica_names p) q
-  same_names q = omega (arith, held_names q, pending_names q, names-without number p.copies.running c q e, times-append (searcher_names p.searchers) (names_of_job p.job ++ copies_names next) q, times-append (names_of_job p.job) (copies_names next) q,
-      times-append (running_names (copies_without number p.copies.running)) (meta_names (p.copies.pending.files ++ c.want.files)) q, times-append (searcher_names p.searchers) (copying_names p) q, times-append (names_of_job p.job) (copies_names p.copies) q,
-      times-append (running_names p.copies.running) (meta_names p.copies.pending.files) q)
+  same_names q = omega (
+    arith,
+    held_names q,
+    pending_names q,
+    names-without number p.copies.running c q e,
+    times-append (searcher_names p.searchers) (names_of_job p.job ++ copies_names next) q,
+    times-append (names_of_job p.job) (copies_names next) q,
+    times-append (running_names (copies_without number p.copies.running)) (meta_names (p.copies.pending.files ++ c.want.files)) q,
+    times-append (searcher_names p.searchers) (copying_names p) q,
+    times-append (names_of_job p.job) (copies_names p.copies) q,
+    times-append (running_names p.copies.running) (meta_names p.copies.pending.files) q,
+  )
 
   pub settled_whole : (left : MergeCopies) → left ≡ next → IsWholeReplica cells (record p { copies = left })
   settled_whole left made = subst (λ (x : MergeCopies). IsWholeReplica cells (record p { copies = x })) (sym made) (record {

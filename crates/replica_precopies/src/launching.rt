@@ -64,7 +64,11 @@ pub fn launch_precopy<D: Dir>(
         Err(fault) => return Err(fault),
     };
     told(&copy);
-    let Ok(()) = parts.copies.running.begin(alloc, copy, &mut parts.files, &parts.dir) else {
+    let Ok(()) = parts
+        .copies
+        .running
+        .begin(alloc, copy, &mut parts.files, &parts.dir)
+    else {
         return Err(JobFault::Memory);
     };
     parts.jobs = number;

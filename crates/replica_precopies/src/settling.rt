@@ -1,6 +1,6 @@
 //! Copies of merged segments of which nothing is missing.
 
-ghost use Rattle.std.specs.Prelude.{◌≡◌, ◌<◌, ◌≤◌, ◌⊎◌, ◌++◌, [], ℕ, true, is_some, Some, IfSome, OnOk, OnErr, IsErrOf, IfErr, length};
+ghost use Rattle.std.specs.Prelude.{◌≡◌, ◌<◌, ◌≤◌, [], true, is_some, Some, IfSome, OnOk, OnErr, IsErrOf, IfErr, length};
 ghost use Rattle.nrt_base.specs.Causes.{Rose};
 ghost use Rattle.nrt_base.specs.declared.numbers.SegNo.{SegNo};
 ghost use Rattle.disk_model.specs.Disk.{Name, reads_of};
@@ -11,7 +11,7 @@ ghost use Rattle.copy_state.specs.States.{meta_names};
 ghost use Rattle.copy_job.specs.Parts.{placed_to};
 ghost use Rattle.copy_job.specs.Placing.{IsPlacingFault};
 ghost use Rattle.copy_job.specs.Jobs.{reads_under};
-ghost use Rattle.replica_parts.specs.Merges.{copy_at, copies_with, copies_without};
+ghost use Rattle.replica_parts.specs.Merges.{copy_at};
 ghost use Rattle.replica_parts.specs.Sources.{KeepsSource, HoldsOnlyWanted};
 ghost use Rattle.replica_parts.specs.Replica.{IsWholeReplica, AreStanding};
 ghost use Rattle.replica_precopies.specs.Settling.{PlacesCopy, SettlesCopy, EndsCopy, StillCopies};
@@ -20,10 +20,10 @@ use copy_job::JobFault;
 use copy_state::FileMetaData;
 use disk_model::Dir;
 use file_names::{FileName, segment_of_file};
-use nrt_base::{NoMemory, SegNo, Share};
+use nrt_base::{NoMemory, SegNo};
 use replica_calls::end_copy;
 use replica_parts::{Parts, note_wanted};
-use std::alloc::{AllocError, Global};
+use std::alloc::Global;
 
 // The files of a copy's state, and its segment.
 fn wanted_of<D: Dir>(

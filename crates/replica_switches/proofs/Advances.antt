@@ -17,7 +17,7 @@ use Rattle.seg_reader.specs.Stands.{StandsFor}
 use Rattle.node_files.proofs.Standing.{segments_along, stands_along}
 use Rattle.searcher_switch.specs.declared.open.Point.{Point}
 use Rattle.copy_job.specs.declared.part.JobPart.{JobPart}
-use Rattle.copy_job.specs.Parts.{part_at, present_names, own_names, written_names}
+use Rattle.copy_job.specs.Parts.{present_names, own_names, written_names}
 use Rattle.copy_job.specs.Placing.{Places}
 use Rattle.copy_job.specs.Jobs.{Job, job_names, present_of, reads_under}
 use Rattle.copy_job.proofs.Placings.{joined}

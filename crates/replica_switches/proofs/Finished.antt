@@ -32,8 +32,14 @@ use Rattle.replica_switches.proofs.Switching.{ready_j, waits_refused, above_refu
 module _ {D : Type 0} (cells : D → Cells) (p : Parts D) (is : IsCore cells p) (j : PointJob) (e : p.job ≡ Some j) (complete : IfSome p.job (λ k. k.copy.missing ≡ []))
     (standing : IfSome p.job (λ k. StandsForSome (reads_under k.copy.parts (reads_of (cells p.dir))) k.infos)) where
   counts : (q : Name) → count_of p.files q ≡ times ((searcher_names p.searchers ++ book_names p.commits) ++ copies_names p.copies) q + times (names_of_job p.job) q
-  counts q = omega (arith, is.node.counts q, times-append (searcher_names p.searchers) (copying_names p) q, times-append (names_of_job p.job) (copies_names p.copies) q, times-append (searcher_names p.searchers ++ book_names p.commits) (copies_names p.copies) q,
-      times-append (searcher_names p.searchers) (book_names p.commits) q)
+  counts q = omega (
+    arith,
+    is.node.counts q,
+    times-append (searcher_names p.searchers) (copying_names p) q,
+    times-append (names_of_job p.job) (copies_names p.copies) q,
+    times-append (searcher_names p.searchers ++ book_names p.commits) (copies_names p.copies) q,
+    times-append (searcher_names p.searchers) (book_names p.commits) q,
+  )
 
   above : IsJobAbove p.searchers.point.version.0 j
   above = above_now (cells p.dir) p.files p.searchers.point.version.0 p.job j e is.newer complete is.waits ((searcher_names p.searchers ++ book_names p.commits) ++ copies_names p.copies) counts standing

@@ -1,15 +1,13 @@
 -- The merge copies over the finish of a job.
-use Rattle.std.proofs.Common.{◌≡◌, ◌≢◌, ℕ, zero, suc, ◌<◌, ◌≤◌, ◌^◌, List, [], ◌∷◌, Option, Some, refl, ap, subst, ◌∙◌, arith}
+use Rattle.std.proofs.Common.{◌≡◌, ◌≢◌, ℕ, zero, suc, ◌<◌, ◌≤◌, ◌^◌, Option, Some, refl, subst, arith}
 use Rattle.std.specs.Prelude.{IfSome}
 use Rattle.std.specs.List.{AllByRecursion}
 use Rattle.file_names.specs.Names.{temp_name_of}
 use Rattle.disk_model.specs.Disk.{Name, Content, Cells, reads_of}
 use Rattle.file_deleter.specs.Holdings.{Holdings, count_of, times}
-use Rattle.file_deleter.proofs.NameLemmas.{times-append, times-cons}
+use Rattle.file_deleter.proofs.NameLemmas.{times-append}
 use Rattle.node_files.specs.Node.{KeepsBytes}
 use Rattle.searcher_switch.specs.Searching.{searcher_names}
-use Rattle.copy_job.specs.declared.part.JobPart.{JobPart}
-use Rattle.copy_job.specs.Parts.{own_names, placed_to}
 use Rattle.copy_job.specs.Jobs.{Job, job_names}
 use Rattle.replica_opening.specs.Known.{IsLasting}
 use Rattle.replica_parts.specs.declared.job.PointJob.{PointJob}

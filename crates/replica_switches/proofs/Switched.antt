@@ -153,12 +153,25 @@ module _ {D : Type 0} (cells : D → Cells) (p : Parts D) (is : IsWholeReplica c
         others = (searcher_names p.searchers ++ book_names p.commits) ++ copies_names p.copies
 
         before : (q : Name) → count_of p.files q ≡ times others q + times (job_names j.copy) q
-        before q = omega (arith, is.node.counts q, job_counts q, times-append (searcher_names p.searchers) (copying_names p) q, times-append (names_of_job p.job) (copies_names p.copies) q,
-            times-append (searcher_names p.searchers ++ book_names p.commits) (copies_names p.copies) q, times-append (searcher_names p.searchers) (book_names p.commits) q)
+        before q = omega (
+          arith,
+          is.node.counts q,
+          job_counts q,
+          times-append (searcher_names p.searchers) (copying_names p) q,
+          times-append (names_of_job p.job) (copies_names p.copies) q,
+          times-append (searcher_names p.searchers ++ book_names p.commits) (copies_names p.copies) q,
+          times-append (searcher_names p.searchers) (book_names p.commits) q,
+        )
 
         after : (q : Name) → count_of files q ≡ times others q + times (job_names now) q
-        after q = omega (arith, refused_core.node.counts q, times-append (searcher_names p.searchers) (job_names now ++ copies_names p.copies) q, times-append (job_names now) (copies_names p.copies) q,
-            times-append (searcher_names p.searchers ++ book_names p.commits) (copies_names p.copies) q, times-append (searcher_names p.searchers) (book_names p.commits) q)
+        after q = omega (
+          arith,
+          refused_core.node.counts q,
+          times-append (searcher_names p.searchers) (job_names now ++ copies_names p.copies) q,
+          times-append (job_names now) (copies_names p.copies) q,
+          times-append (searcher_names p.searchers ++ book_names p.commits) (copies_names p.copies) q,
+          times-append (searcher_names p.searchers) (book_names p.commits) q,
+        )
 
         refused_stays : KeepsBytes p.files files (cells p.dir) (cells mid)
         refused_stays = record { held = moves.keeps.reads }
@@ -244,8 +257,16 @@ module _ {D : Type 0} (cells : D → Cells) (p : Parts D) (is : IsWholeReplica c
         left_none q = ap (λ (o : Option PointJob). times (names_of_job o) q) ended
 
         before_done : (q : Name) → count_of p.files q ≡ times p.searchers.point.names q + (times rest q + times (job_names j.copy) q)
-        before_done q = omega (arith, is.node.counts q, job_counts q, times-append (searcher_names p.searchers) (copying_names p) q, times-append (names_of_job p.job) (copies_names p.copies) q, times-append p.searchers.point.names (ticket_names p.searchers.tickets) q,
-            times-append (ticket_names p.searchers.tickets) (book_names p.commits ++ copies_names p.copies) q, times-append (book_names p.commits) (copies_names p.copies) q)
+        before_done q = omega (
+          arith,
+          is.node.counts q,
+          job_counts q,
+          times-append (searcher_names p.searchers) (copying_names p) q,
+          times-append (names_of_job p.job) (copies_names p.copies) q,
+          times-append p.searchers.point.names (ticket_names p.searchers.tickets) q,
+          times-append (ticket_names p.searchers.tickets) (book_names p.commits ++ copies_names p.copies) q,
+          times-append (book_names p.commits) (copies_names p.copies) q,
+        )
 
         held_done : (q : Name) → count_of holdings q ≡ times point.names q + (times (ticket_names p.searchers.tickets) q + (times (book_names p.commits) q + times (copies_names next) q))
         held_done q = omega (arith, done_core.node.counts q, left_none q, names_are q, tickets_are q, times-append (searcher_names t) (names_of_job left ++ copies_names next) q, times-append (names_of_job left) (copies_names next) q, times-append t.point.names (ticket_names t.tickets) q)
@@ -269,9 +290,21 @@ module _ {D : Type 0} (cells : D → Cells) (p : Parts D) (is : IsWholeReplica c
         done_temporary : (number : ℕ) → number < 2 ^ 64 → j.copy.number ≢ number → (name : Name) → count_of holdings (temp_name_of name number) ≡ count_of p.files (temp_name_of name number)
         done_temporary number fewer other name =
             let q : Name = temp_name_of name number in
-            omega (arith, temporary_held cells p core name number, temporary_held cells (record p { dir = dir; files = holdings; searchers = t; infos = j.infos; segs = point.segs; job = left; copies = next; known = known }) done_core name number,
-            point_foreign cells p is number fewer j e other name, job_counts q, left_none q, same_running q, settled.each name number, is.merges.pending.each name number, times-append (names_of_job p.job) (copies_names p.copies) q,
-            times-append (names_of_job left) (copies_names next) q, times-append (running_names p.copies.running) (meta_names p.copies.pending.files) q, times-append (running_names next.running) (meta_names next.pending.files) q)
+            omega (
+              arith,
+              temporary_held cells p core name number,
+              temporary_held cells (record p { dir = dir; files = holdings; searchers = t; infos = j.infos; segs = point.segs; job = left; copies = next; known = known }) done_core name number,
+              point_foreign cells p is number fewer j e other name,
+              job_counts q,
+              left_none q,
+              same_running q,
+              settled.each name number,
+              is.merges.pending.each name number,
+              times-append (names_of_job p.job) (copies_names p.copies) q,
+              times-append (names_of_job left) (copies_names next) q,
+              times-append (running_names p.copies.running) (meta_names p.copies.pending.files) q,
+              times-append (running_names next.running) (meta_names next.pending.files) q,
+            )
 
         done_newly : (q : Name) → IsLasting q → count_of p.files q ≡ 0 → 0 < count_of holdings q → 0 < times (copied_names j.copy) q
         done_newly q lasting none some = elim (holds_finished p.files holdings j.copy j.infos p.searchers.point.names rest point.names above.state.files adv.names before_done after_done q some) [

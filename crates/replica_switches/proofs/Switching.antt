@@ -52,8 +52,14 @@ module _ (a : Cells) (h0 : Holdings) (others : List Name) (j : Job) (infos : Inf
       node_moves a b h0 h1 (others ++ job_names j) (others ++ (point.names ++ job_names now)) (job_names j) (point.names ++ job_names now) book (written_names j.parts) node (written_apart a h0 others j book node ready.can_place) adv.moves
       (λ q. omega (arith, times-append others (job_names j) q, times-append others (point.names ++ job_names now) q))
       (record {
-        each = λ q named. omega (arith, now_plain a h0 others j book node ready.can_place now n parts reused q named, others_plain a h0 others j book node ready.can_place now n parts reused q named, plain_none infos point.names adv.names q named,
-            times-append others (point.names ++ job_names now) q, times-append point.names (job_names now) q);
+        each = λ q named. omega (
+          arith,
+          now_plain a h0 others j book node ready.can_place now n parts reused q named,
+          others_plain a h0 others j book node ready.can_place now n parts reused q named,
+          plain_none infos point.names adv.names q named,
+          times-append others (point.names ++ job_names now) q,
+          times-append point.names (job_names now) q,
+        );
       })
 
 -- the newer point is searched, and what the older one, the job and the pending files of the point held is given back
@@ -171,8 +177,17 @@ module _ (a b : Cells) (h0 h1 : Holdings) (s : Searchers Shown) (more : List Nam
       pub node_finished : IsWholeNode c h2 (searcher_names t ++ (names_of_job last ++ left)) book
       node_finished = node_same_names c h2 (point.names ++ (ticket_names s.tickets ++ left)) (searcher_names t ++ (names_of_job last ++ left)) book switched (λ q.
           let none : times (names_of_job last) q ≡ 0 = ap (λ (o : Option PointJob). times (names_of_job o) q) ended in
-          omega (arith, none, names_are q, tickets_are q, times-append point.names (ticket_names s.tickets ++ left) q, times-append (ticket_names s.tickets) left q, times-append (searcher_names t) (names_of_job last ++ left) q,
-          times-append (names_of_job last) left q, times-append t.point.names (ticket_names t.tickets) q))
+          omega (
+            arith,
+            none,
+            names_are q,
+            tickets_are q,
+            times-append point.names (ticket_names s.tickets ++ left) q,
+            times-append (ticket_names s.tickets) left q,
+            times-append (searcher_names t) (names_of_job last ++ left) q,
+            times-append (names_of_job last) left q,
+            times-append t.point.names (ticket_names t.tickets) q,
+          ))
 
       read_on : (q : Name) → Contains (flat_map files_of_segment j.infos.segs) q → (c q).now ≡ (b q).now
       read_on q named = new_reads b c h1 h2 s.point.names (ticket_names s.tickets ++ more) (ticket_names s.tickets ++ left) dropped point.names slice now book node_held rest_split slice_gone lets_go q (file_counted j.infos point.names adv.names q named)

@@ -7,7 +7,7 @@ ghost use Rattle.replica_switches.specs.Parting.{AreLeft};
 use copy_state::{CopyState, FileMetaData};
 use file_names::FileName;
 use merge_precopy::Precopies;
-use nrt_base::{NoMemory, Share};
+use nrt_base::NoMemory;
 use std::alloc::Global;
 
 /// The pending files that a point leaves, and the names of those that it does not leave.
@@ -30,11 +30,7 @@ fn names_of(alloc: Global, files: &[(FileName, FileMetaData)]) -> Result<Vec<Fil
 
 /// Parts the pending files: those that the state's point names belong to the point, and those that the state lists as completed
 /// belong to no point; the others are left.
-pub fn part_pending(
-    alloc: Global,
-    pending: &Precopies,
-    state: &CopyState,
-) -> Result<Left, NoMemory>
+pub fn part_pending(alloc: Global, pending: &Precopies, state: &CopyState) -> Result<Left, NoMemory>
     ensures { IfOk result (AreLeft pending.now state.now) }
 {
     let names = names_of(alloc, state.files.as_slice())?;

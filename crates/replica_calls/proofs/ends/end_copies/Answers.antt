@@ -41,19 +41,23 @@ returns-clause-held g c =
     none_held g.D.Dir.cells p c.requires c.release.new.dir c.release.new.self
     (all_gone (running_names p.copies.running) (meta_names p.copies.pending.files) c.as_slice.result.now p.files c.end_all.new.files c.release.new.self (g.D.Dir.cells p.dir) (g.D.Dir.cells c.end_all.new.dir) (g.D.Dir.cells c.release.new.dir)
     c.end_all.ensures.moves (c.as_slice.ensures ∙ c.discard_all-names.ensures.names) c.release.ensures.lets_go)
-    
 
 pub returns-clause-fewer : goal.returns-clause-fewer
 returns-clause-fewer g c q =
     let p = c.args.parts.now in
-    omega (arith, (all_gone (running_names p.copies.running) (meta_names p.copies.pending.files) c.as_slice.result.now p.files c.end_all.new.files c.release.new.self (g.D.Dir.cells p.dir) (g.D.Dir.cells c.end_all.new.dir) (g.D.Dir.cells c.release.new.dir)
-    c.end_all.ensures.moves (c.as_slice.ensures ∙ c.discard_all-names.ensures.names) c.release.ensures.lets_go).counts q)
+    omega (
+      arith,
+      (all_gone (running_names p.copies.running) (meta_names p.copies.pending.files) c.as_slice.result.now p.files c.end_all.new.files c.release.new.self (g.D.Dir.cells p.dir) (g.D.Dir.cells c.end_all.new.dir) (g.D.Dir.cells c.release.new.dir)
+          c.end_all.ensures.moves (c.as_slice.ensures ∙ c.discard_all-names.ensures.names) c.release.ensures.lets_go).counts q,
+    )
 
 pub returns-clause-stays : goal.returns-clause-stays
 returns-clause-stays g c =
     let p = c.args.parts.now in
-    record { held = (all_gone (running_names p.copies.running) (meta_names p.copies.pending.files) c.as_slice.result.now p.files c.end_all.new.files c.release.new.self (g.D.Dir.cells p.dir) (g.D.Dir.cells c.end_all.new.dir) (g.D.Dir.cells c.release.new.dir)
-    c.end_all.ensures.moves (c.as_slice.ensures ∙ c.discard_all-names.ensures.names) c.release.ensures.lets_go).keeps.reads }
+    record {
+      held = (all_gone (running_names p.copies.running) (meta_names p.copies.pending.files) c.as_slice.result.now p.files c.end_all.new.files c.release.new.self (g.D.Dir.cells p.dir) (g.D.Dir.cells c.end_all.new.dir) (g.D.Dir.cells c.release.new.dir)
+          c.end_all.ensures.moves (c.as_slice.ensures ∙ c.discard_all-names.ensures.names) c.release.ensures.lets_go).keeps.reads;
+    }
 
 pub returns-clause-appears : goal.returns-clause-appears
 returns-clause-appears g c =

@@ -1,5 +1,5 @@
 -- Not checked: the names of the facts are guessed.
-use Rattle.std.proofs.Common.{sym, subst, ap, refl, ◌∙◌, List, ◌<◌}
+use Rattle.std.proofs.Common.{subst, ◌<◌}
 use Rattle.std.specs.Prelude.{Some, Option, IfSome, ◌≡◌}
 use Rattle.file_deleter.specs.Holdings.{times}
 use Rattle.copy_state.specs.States.{meta_in}
