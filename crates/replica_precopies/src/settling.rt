@@ -1,6 +1,6 @@
 //! Copies of merged segments of which nothing is missing.
 
-ghost use Rattle.std.specs.Prelude.{◌≡◌, ◌<◌, ◌≤◌, [], true, is_some, Some, IfSome, OnOk, OnErr, IsErrOf, IfErr, length};
+ghost use Rattle.std.specs.Prelude.{◌≡◌, ◌<◌, ◌≤◌, [], true, is_some, Some, IfSome, IfOk, OnOk, OnErr, IsErrOf, IfErr, length};
 ghost use Rattle.nrt_base.specs.Causes.{Rose};
 ghost use Rattle.nrt_base.specs.declared.numbers.SegNo.{SegNo};
 ghost use Rattle.disk_model.specs.Disk.{Name, reads_of};
@@ -20,7 +20,7 @@ use copy_job::JobFault;
 use copy_state::FileMetaData;
 use disk_model::Dir;
 use file_names::{FileName, segment_of_file};
-use nrt_base::{NoMemory, SegNo};
+use nrt_base::{NoMemory, SegNo, Share};
 use replica_calls::end_copy;
 use replica_parts::{Parts, note_wanted};
 use std::alloc::Global;

@@ -17,7 +17,7 @@ use copy_job::{CopyJob, JobFault};
 use disk_model::Dir;
 use file_deleter::FileDeleter;
 use file_names::FileName;
-use nrt_base::{List, NoMemory};
+use nrt_base::{List, NoMemory, Share};
 use replica_opening::{ReadFault, readers_of};
 use searcher_switch::Point;
 use seg_reader::Segment;

@@ -7,7 +7,7 @@ ghost use Rattle.replica_switches.specs.Parting.{AreLeft};
 use copy_state::{CopyState, FileMetaData};
 use file_names::FileName;
 use merge_precopy::Precopies;
-use nrt_base::NoMemory;
+use nrt_base::{NoMemory, Share};
 use std::alloc::Global;
 
 /// The pending files that a point leaves, and the names of those that it does not leave.
