@@ -24,8 +24,8 @@ use Rattle.primary_parts.specs.declared.states.Out.{Out}
 use Rattle.primary_parts.specs.Held.{IsUndrawn}
 use Rattle.primary_parts.specs.Primary.{IsPrimary, loose_of, filled_of}
 use Rattle.replica_opening.specs.Known.{IsLasting}
-use Rattle.replica_node.specs.declared.job.PointJob.{PointJob}
-use Rattle.replica_node.specs.declared.parts.Parts.{Parts as ReplicaParts}
+use Rattle.replica_parts.specs.declared.job.PointJob.{PointJob}
+use Rattle.replica_parts.specs.declared.parts.Parts.{Parts as ReplicaParts}
 use Rattle.history_entries.specs.declared.entry.Event.{Event}
 use Rattle.history_entries.specs.declared.entry.Event.TheVariants.{Publishing, Committing, Committed}
 use Rattle.history_entries.specs.Nodes.{Past, IsNode, is_at, primary_of, is_running, version_of}

@@ -31,10 +31,10 @@ use Rattle.primary_parts.specs.States.{is_out}
 use Rattle.replica_opening.specs.Opening.{FindsPoint, opening_infos}
 use Rattle.replica_opening.specs.Opened.{IsSettledOn}
 use Rattle.replica_opening.proofs.Settled.{restarted_settled}
-use Rattle.replica_node.specs.declared.job.PointJob.{PointJob}
-use Rattle.replica_node.specs.declared.parts.Parts.{Parts as ReplicaParts}
-use Rattle.replica_node.specs.Replica.{replica_names}
-use Rattle.replica_node.specs.Sources.{HeldReadAs}
+use Rattle.replica_parts.specs.declared.job.PointJob.{PointJob}
+use Rattle.replica_parts.specs.declared.parts.Parts.{Parts as ReplicaParts}
+use Rattle.replica_parts.specs.Replica.{replica_names}
+use Rattle.replica_parts.specs.Sources.{HeldReadAs}
 use Rattle.history_entries.specs.declared.entry.Entry.{Entry}
 use Rattle.history_entries.specs.declared.entry.Event.{Event}
 use Rattle.history_entries.specs.declared.entry.Event.TheVariants.{Published, Opened, Closed, Crashed, Promoted, Publishing}

@@ -29,9 +29,9 @@ use Rattle.primary_parts.specs.declared.states.Out.{Out}
 use Rattle.replica_opening.specs.Opening.{FindsPoint, number_of_last, opening_infos}
 use Rattle.replica_opening.specs.Opened.{IsSettledOn}
 use Rattle.replica_opening.proofs.Clearings.{one_found}
-use Rattle.replica_node.specs.declared.job.PointJob.{PointJob}
-use Rattle.replica_node.specs.declared.parts.Parts.{Parts as ReplicaParts}
-use Rattle.replica_node.specs.Starting.{SearchesJust}
+use Rattle.replica_parts.specs.declared.job.PointJob.{PointJob}
+use Rattle.replica_parts.specs.declared.parts.Parts.{Parts as ReplicaParts}
+use Rattle.replica_parts.specs.Starting.{SearchesJust}
 use Rattle.history_entries.specs.declared.entry.Event.{Event}
 use Rattle.history_entries.specs.declared.entry.Event.TheVariants.{Copying, Crashed, Reopened, Publishing}
 use Rattle.history_entries.specs.Nodes.{Past, IsNode, is_at, primary_of, is_running, newest_version, generation_of, version_of}

@@ -18,11 +18,11 @@ use Rattle.primary_parts.specs.Primary.{IsPrimary, KeepsHeldBytes, loose_of, IsU
 use Rattle.primary_parts.specs.Held.{IsUndrawn}
 use Rattle.primary_parts.specs.Calls.{HoldsNoNew}
 use Rattle.primary_parts.specs.States.{out_of, states_without, is_out, same_out, IsStateOf}
-use Rattle.replica_node.specs.declared.job.PointJob.{PointJob}
-use Rattle.replica_node.specs.declared.parts.Parts.{Parts as ReplicaParts}
-use Rattle.replica_node.specs.Replica.{IsWholeReplica, AreStanding}
-use Rattle.replica_node.specs.Jobs.{IsPointJob}
-use Rattle.replica_node.specs.Sources.{IsSourced, KeepsSource, IsWantedName}
+use Rattle.replica_parts.specs.declared.job.PointJob.{PointJob}
+use Rattle.replica_parts.specs.declared.parts.Parts.{Parts as ReplicaParts}
+use Rattle.replica_parts.specs.Replica.{IsWholeReplica, AreStanding}
+use Rattle.replica_parts.specs.Jobs.{IsPointJob}
+use Rattle.replica_parts.specs.Sources.{IsSourced, KeepsSource, IsWantedName}
 use Rattle.cluster_places.specs.Outs.{want_of}
 use Rattle.cluster_places.specs.JobChanges.{given_back, AltersStates, AltersJob, BeginsAt, FinishesAt, TakesPart, IsTemporaryIn}
 

@@ -6,7 +6,7 @@ use Rattle.searcher_switch.specs.declared.searchers.Lease.{Lease}
 use Rattle.searcher_switch.specs.Searching.{IsLeaseOf}
 use Rattle.searcher_switch.specs.Tickets.{ticket_at, tickets_without}
 use Rattle.primary_parts.specs.Primary.{IsPrimary}
-use Rattle.replica_node.specs.Replica.{IsWholeReplica, AreStanding}
+use Rattle.replica_parts.specs.Replica.{IsWholeReplica, AreStanding}
 use Rattle.cluster_places.specs.declared.held.Key.{Key}
 use Rattle.cluster_places.specs.declared.nodes.Node.{Node}
 use Rattle.cluster_places.specs.declared.nodes.Node.TheVariants.{Primary, Replica, Down}

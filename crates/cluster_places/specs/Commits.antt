@@ -9,9 +9,9 @@ use Rattle.node_files.specs.Node.{HoldsNoMore}
 use Rattle.node_files.specs.Appearing.{AppearsOnly, IsNameInFlight}
 use Rattle.primary_parts.specs.declared.parts.Parts.{Parts as PrimaryParts}
 use Rattle.primary_parts.specs.Primary.{IsPrimary, KeepsHeldBytes}
-use Rattle.replica_node.specs.declared.parts.Parts.{Parts as ReplicaParts}
-use Rattle.replica_node.specs.Replica.{IsWholeReplica, AreStanding}
-use Rattle.replica_node.specs.Sources.{KeepsSource}
+use Rattle.replica_parts.specs.declared.parts.Parts.{Parts as ReplicaParts}
+use Rattle.replica_parts.specs.Replica.{IsWholeReplica, AreStanding}
+use Rattle.replica_parts.specs.Sources.{KeepsSource}
 use Rattle.cluster_places.specs.declared.nodes.Node.{Node}
 use Rattle.cluster_places.specs.declared.nodes.Node.TheVariants.{Primary, Replica, Down}
 use Rattle.cluster_places.specs.declared.nodes.Place.{Place}

@@ -9,8 +9,8 @@ use Rattle.node_files.specs.Appearing.{NoneAppears, AppearsOnly}
 use Rattle.primary_parts.specs.Held.{IsOwnFile}
 use Rattle.primary_parts.specs.Primary.{KeepsHeldBytes, loose_of}
 use Rattle.primary_parts.specs.Calls.{FillsUndrawn, DrawsOnly, HoldsNoNew}
-use Rattle.replica_node.specs.declared.parts.Parts.{Parts as ReplicaParts}
-use Rattle.replica_node.specs.Sources.{KeepsSource}
+use Rattle.replica_parts.specs.declared.parts.Parts.{Parts as ReplicaParts}
+use Rattle.replica_parts.specs.Sources.{KeepsSource}
 use Rattle.cluster_places.specs.declared.nodes.Node.{Node}
 use Rattle.cluster_places.specs.declared.nodes.Node.TheVariants.{Primary, Replica, Down}
 

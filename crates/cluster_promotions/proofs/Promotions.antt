@@ -25,9 +25,9 @@ use Rattle.primary_parts.specs.declared.states.Merging.{Merging}
 use Rattle.primary_parts.specs.Merges.{merge_loose, merge_filled}
 use Rattle.primary_parts.specs.Primary.{loose_of, publish_loose, filled_of}
 use Rattle.primary_parts.specs.Held.{IsUndrawn}
-use Rattle.replica_node.specs.declared.job.PointJob.{PointJob}
-use Rattle.replica_node.specs.declared.parts.Parts.{Parts as ReplicaParts}
-use Rattle.replica_node.specs.Replica.{replica_names}
+use Rattle.replica_parts.specs.declared.job.PointJob.{PointJob}
+use Rattle.replica_parts.specs.declared.parts.Parts.{Parts as ReplicaParts}
+use Rattle.replica_parts.specs.Replica.{replica_names}
 use Rattle.promotion.specs.Generations.{promoted_infos}
 use Rattle.history_entries.specs.declared.entry.Event.{Event}
 use Rattle.history_entries.specs.declared.entry.Event.TheVariants.{Copying, Crashed, Promoted, Publishing}

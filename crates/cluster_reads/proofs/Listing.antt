@@ -34,7 +34,7 @@ use Rattle.searcher_switch.specs.declared.searchers.Searchers.{Searchers}
 use Rattle.searcher_switch.specs.Tickets.{ticket_at, ticket_names}
 use Rattle.searcher_switch.specs.Searching.{searcher_names}
 use Rattle.primary_parts.specs.Primary.{primary_names, rest_names, loose_of}
-use Rattle.replica_node.specs.Replica.{replica_names, names_of_job}
+use Rattle.replica_parts.specs.Replica.{replica_names, names_of_job}
 use Rattle.history_entries.specs.declared.entry.Event.TheVariants.{Files}
 use Rattle.history_entries.specs.Nodes.{Past, IsNode, is_running, version_of}
 use Rattle.history_entries.specs.Points.{documents_at}

@@ -17,8 +17,8 @@ use Rattle.searcher_switch.specs.declared.open.Point.{Point}
 use Rattle.searcher_switch.specs.Tickets.{tickets_without}
 use Rattle.primary_parts.specs.declared.parts.Parts.{Parts as PrimaryParts}
 use Rattle.primary_parts.specs.Primary.{IsPrimary, loose_of}
-use Rattle.replica_node.specs.declared.parts.Parts.{Parts as ReplicaParts}
-use Rattle.replica_node.specs.Replica.{IsWholeReplica}
+use Rattle.replica_parts.specs.declared.parts.Parts.{Parts as ReplicaParts}
+use Rattle.replica_parts.specs.Replica.{IsWholeReplica}
 use Rattle.history_entries.specs.Nodes.{Past}
 use Rattle.history_book.specs.Log.{Log}
 use Rattle.cluster_places.specs.declared.held.Key.{Key}

@@ -33,11 +33,11 @@ use Rattle.commit_steps.specs.declared.stage.CommitBook.{CommitBook}
 use Rattle.commit_steps.specs.declared.stage.Stage.{Stage}
 use Rattle.replica_opening.specs.Opening.{opening_infos, FindsPoint, number_of_last}
 use Rattle.replica_opening.specs.Opened.{IsSettledAt, IsSettledOn}
-use Rattle.replica_node.specs.declared.parts.Parts.{Parts as ReplicaParts}
-use Rattle.replica_node.specs.declared.taking.NodeParts.{NodeParts}
-use Rattle.replica_node.specs.Replica.{IsWholeReplica}
-use Rattle.replica_node.specs.Sources.{IsSourced, IsTakenApart}
-use Rattle.replica_node.specs.Starting.{IsJustOpened, SearchesJust}
+use Rattle.replica_parts.specs.declared.parts.Parts.{Parts as ReplicaParts}
+use Rattle.replica_parts.specs.declared.taking.NodeParts.{NodeParts}
+use Rattle.replica_parts.specs.Replica.{IsWholeReplica}
+use Rattle.replica_parts.specs.Sources.{IsSourced, IsTakenApart}
+use Rattle.replica_parts.specs.Starting.{IsJustOpened, SearchesJust}
 use Rattle.primary_parts.specs.declared.parts.Parts.{Parts as PrimaryParts}
 use Rattle.primary_parts.specs.Primary.{IsPrimary, loose_of, publish_loose}
 use Rattle.node_files.specs.Appearing.{NoneAppears}
@@ -60,7 +60,7 @@ use Rattle.primary_parts.specs.States.{state_names}
 use Rattle.primary_parts.specs.Merges.{merge_names, merge_loose}
 use Rattle.file_deleter.specs.Holdings.{count_of}
 use Rattle.nrt_base.specs.declared.numbers.At.{At}
-use Rattle.replica_node.specs.declared.job.PointJob.{PointJob}
+use Rattle.replica_parts.specs.declared.job.PointJob.{PointJob}
 use Rattle.cluster_places.specs.declared.nodes.Node.{Node}
 use Rattle.cluster_state.specs.State.{IsPointAt, WritesAt, HoldsTickets, PrimaryShows, PlaceShows, Shows}
 use Rattle.cluster_state.proofs.PointStands.{opening_stands, opening_writable}

@@ -8,9 +8,9 @@ use Rattle.disk_model.specs.Disk.{Name, Content, Cells}
 use Rattle.primary_parts.specs.declared.parts.Parts.{Parts as PrimaryParts}
 use Rattle.primary_parts.specs.declared.states.Out.{Out}
 use Rattle.primary_parts.specs.States.{is_out, out_of}
-use Rattle.replica_node.specs.declared.job.PointJob.{PointJob}
-use Rattle.replica_node.specs.declared.parts.Parts.{Parts as ReplicaParts}
-use Rattle.replica_node.specs.Replica.{IsJobAbove}
+use Rattle.replica_parts.specs.declared.job.PointJob.{PointJob}
+use Rattle.replica_parts.specs.declared.parts.Parts.{Parts as ReplicaParts}
+use Rattle.replica_parts.specs.Replica.{IsJobAbove}
 use Rattle.history_entries.specs.Nodes.{IsNode, IsReplica, is_at, primary_of, newest_version, version_of}
 use Rattle.history_entries.specs.Lines.{copy_in_flight, is_free_for}
 use Rattle.history_tables.specs.declared.jobs.Job.{Job}

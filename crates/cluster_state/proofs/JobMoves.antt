@@ -3,7 +3,7 @@ use Rattle.std.proofs.Common.{◌≡◌, ◌≤◌, ℕ, List, ◌∷◌, Some, 
 use Rattle.nrt_base.specs.declared.numbers.At.{At}
 use Rattle.disk_model.specs.Disk.{Cells}
 use Rattle.primary_parts.specs.declared.parts.Parts.{Parts as PrimaryParts}
-use Rattle.replica_node.specs.declared.parts.Parts.{Parts as ReplicaParts}
+use Rattle.replica_parts.specs.declared.parts.Parts.{Parts as ReplicaParts}
 use Rattle.history_entries.specs.Nodes.{Past, generation_of, version_of}
 use Rattle.history_entries.specs.Lines.{publish_in_flight}
 use Rattle.history_book.specs.Log.{Log, printed, kept}

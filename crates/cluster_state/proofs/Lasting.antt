@@ -13,7 +13,7 @@ use Rattle.file_deleter.proofs.Keeping.{known_counted}
 use Rattle.commit_steps.specs.declared.stage.CommitBook.{CommitBook}
 use Rattle.node_files.specs.Node.{IsWholeNode}
 use Rattle.replica_opening.specs.Known.{IsLasting}
-use Rattle.replica_node.specs.Sources.{HeldReadAs}
+use Rattle.replica_parts.specs.Sources.{HeldReadAs}
 
 -- a name with another ending than `.tmp` is no temporary one
 ends_apart : (front : List ℕ) (ending : List ℕ) (name : Name) (job : ℕ) → list_all (λ b. not (nat_eq b 46)) ending ≡ true → get_or ending 0 0 ≢ 116 → front ++ 46 ∷ ending ≢ temp_name_of name job

@@ -27,10 +27,10 @@ use Rattle.primary_parts.specs.Primary.{IsPrimary, loose_of, primary_names, rest
 use Rattle.copy_state.specs.States.{meta_names}
 use Rattle.copy_job.specs.declared.copying.Part.{Part}
 use Rattle.replica_opening.specs.Known.{IsLasting, HasMeta}
-use Rattle.replica_node.specs.declared.job.PointJob.{PointJob}
-use Rattle.replica_node.specs.Replica.{IsJobAbove}
-use Rattle.replica_node.proofs.Metas.{some_meta}
-use Rattle.replica_node.specs.declared.parts.Parts.{Parts as ReplicaParts}
+use Rattle.replica_parts.specs.declared.job.PointJob.{PointJob}
+use Rattle.replica_parts.specs.Replica.{IsJobAbove}
+use Rattle.replica_parts.proofs.Metas.{some_meta}
+use Rattle.replica_parts.specs.declared.parts.Parts.{Parts as ReplicaParts}
 use Rattle.history_entries.specs.Nodes.{Past, generation_of}
 use Rattle.segment_steps.specs.Next.{record_generation, live_base}
 use Rattle.history_entries.specs.Points.{is_drawn, IsDrawnFile}

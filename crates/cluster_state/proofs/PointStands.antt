@@ -20,7 +20,7 @@ use Rattle.searcher_switch.specs.Tickets.{ticket_names}
 use Rattle.searcher_switch.specs.Searching.{searcher_names}
 use Rattle.primary_parts.specs.Primary.{IsPrimary, primary_names, rest_names, loose_of}
 use Rattle.replica_opening.specs.Known.{HasMeta}
-use Rattle.replica_node.specs.Sources.{HeldReadAs}
+use Rattle.replica_parts.specs.Sources.{HeldReadAs}
 use Rattle.nrt_base.specs.declared.numbers.Version.{Version}
 use Rattle.history_entries.specs.Nodes.{Past, version_of}
 use Rattle.history_entries.specs.Points.{documents_at}

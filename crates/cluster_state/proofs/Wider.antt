@@ -19,11 +19,11 @@ use Rattle.primary_parts.specs.declared.parts.Parts.{Parts as PrimaryParts}
 use Rattle.primary_parts.specs.declared.states.Out.{Out}
 use Rattle.primary_parts.specs.Primary.{IsPrimary}
 use Rattle.replica_opening.specs.Known.{IsLasting, HasMeta}
-use Rattle.replica_node.specs.declared.job.PointJob.{PointJob}
-use Rattle.replica_node.specs.declared.parts.Parts.{Parts as ReplicaParts}
-use Rattle.replica_node.specs.Replica.{IsWholeReplica, HasMetas}
-use Rattle.replica_node.specs.Sources.{CopiesFrom, HeldReadAs, IsSourced}
-use Rattle.replica_node.proofs.Metas.{listed_meta, some_meta}
+use Rattle.replica_parts.specs.declared.job.PointJob.{PointJob}
+use Rattle.replica_parts.specs.declared.parts.Parts.{Parts as ReplicaParts}
+use Rattle.replica_parts.specs.Replica.{IsWholeReplica, HasMetas}
+use Rattle.replica_parts.specs.Sources.{CopiesFrom, HeldReadAs, IsSourced}
+use Rattle.replica_parts.proofs.Metas.{listed_meta, some_meta}
 use Rattle.history_entries.specs.Nodes.{Past}
 use Rattle.history_entries.specs.Points.{documents_at}
 use Rattle.history_tables.specs.declared.jobs.Job.{Job}

@@ -12,9 +12,9 @@ use Rattle.primary_parts.specs.declared.states.Out.{Out}
 use Rattle.primary_parts.specs.Primary.{loose_of, IsUnwritten}
 use Rattle.primary_parts.specs.Held.{IsUndrawn}
 use Rattle.replica_opening.specs.Known.{HasMeta, IsLasting}
-use Rattle.replica_node.specs.declared.job.PointJob.{PointJob}
-use Rattle.replica_node.specs.declared.parts.Parts.{Parts as ReplicaParts}
-use Rattle.replica_node.specs.Sources.{HeldReadAs, IsSourced}
+use Rattle.replica_parts.specs.declared.job.PointJob.{PointJob}
+use Rattle.replica_parts.specs.declared.parts.Parts.{Parts as ReplicaParts}
+use Rattle.replica_parts.specs.Sources.{HeldReadAs, IsSourced}
 use Rattle.history_entries.specs.Nodes.{Past, IsNode, newest_version, generation_of, version_of}
 use Rattle.history_entries.specs.Lines.{start_entry, before_start, copy_in_flight, highest_copy}
 use Rattle.history_entries.specs.Points.{IsDrawnFile}

@@ -4,9 +4,9 @@ use Rattle.disk_model.specs.Disk.{Name, Cells, Image, IsImage, reads_of}
 use Rattle.seg_reader.specs.Stands.{StandsFor, AreSegmentsOf}
 use Rattle.commit_steps.specs.declared.stage.CommitBook.{CommitBook}
 use Rattle.replica_opening.specs.Opening.{opening_infos}
-use Rattle.replica_node.specs.declared.parts.Parts.{Parts as ReplicaParts}
-use Rattle.replica_node.specs.Replica.{IsWholeReplica, AreStanding}
-use Rattle.replica_node.specs.Sources.{IsSourced}
+use Rattle.replica_parts.specs.declared.parts.Parts.{Parts as ReplicaParts}
+use Rattle.replica_parts.specs.Replica.{IsWholeReplica, AreStanding}
+use Rattle.replica_parts.specs.Sources.{IsSourced}
 use Rattle.cluster_places.specs.declared.nodes.Place.{Place}
 use Rattle.cluster_state.specs.State.{PlaceShows}
 use Rattle.cluster_state.specs.Names.{NamesShow}

@@ -20,8 +20,8 @@ use Rattle.history_book.specs.Log.{Log, printed}
 use Rattle.primary_parts.specs.declared.parts.Parts.{Parts as PrimaryParts}
 use Rattle.primary_parts.specs.declared.parts.Publish.{Publish}
 use Rattle.primary_parts.specs.Primary.{IsPrimary}
-use Rattle.replica_node.specs.declared.parts.Parts.{Parts as ReplicaParts}
-use Rattle.replica_node.specs.Replica.{IsWholeReplica, AreStanding}
+use Rattle.replica_parts.specs.declared.parts.Parts.{Parts as ReplicaParts}
+use Rattle.replica_parts.specs.Replica.{IsWholeReplica, AreStanding}
 use Rattle.cluster_places.specs.declared.held.Held.{Held}
 use Rattle.cluster_places.specs.declared.held.Key.{Key}
 use Rattle.cluster_places.specs.declared.held.Key.TheVariants.{Ticket, Search}

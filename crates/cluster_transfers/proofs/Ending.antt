@@ -19,10 +19,10 @@ use Rattle.searcher_switch.specs.declared.open.Open.{Open}
 use Rattle.primary_parts.specs.declared.parts.Parts.{Parts as PrimaryParts}
 use Rattle.primary_parts.specs.declared.states.Out.{Out}
 use Rattle.primary_parts.specs.States.{out_of, is_out, states_without}
-use Rattle.replica_node.specs.declared.job.PointJob.{PointJob}
-use Rattle.replica_node.specs.declared.parts.Parts.{Parts as ReplicaParts}
-use Rattle.replica_node.specs.Replica.{IsJobAbove}
-use Rattle.replica_node.specs.Sources.{CopiesFrom}
+use Rattle.replica_parts.specs.declared.job.PointJob.{PointJob}
+use Rattle.replica_parts.specs.declared.parts.Parts.{Parts as ReplicaParts}
+use Rattle.replica_parts.specs.Replica.{IsJobAbove}
+use Rattle.replica_parts.specs.Sources.{CopiesFrom}
 use Rattle.node_files.specs.Standing.{StandsForSome}
 use Rattle.history_entries.specs.declared.entry.Event.{Event}
 use Rattle.history_entries.specs.declared.entry.Event.TheVariants.{Publishing, Copying, Settling, Switched, Copied}

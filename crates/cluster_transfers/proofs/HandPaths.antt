@@ -6,8 +6,8 @@ use Rattle.disk_model.specs.Disk.{Name, Content, Cells}
 use Rattle.copy_state.specs.declared.meta.FileMetaData.{FileMetaData}
 use Rattle.codec_frame.specs.Bytes.{AreBytes}
 use Rattle.codec_frame.specs.Checking.{HasFooter}
-use Rattle.replica_node.specs.declared.job.PointJob.{PointJob}
-use Rattle.replica_node.specs.Replica.{IsJobAbove}
+use Rattle.replica_parts.specs.declared.job.PointJob.{PointJob}
+use Rattle.replica_parts.specs.Replica.{IsJobAbove}
 use Rattle.copy_state.specs.Meta.{IsMetaOf}
 use Rattle.primary_parts.specs.declared.parts.Parts.{Parts as PrimaryParts}
 use Rattle.history_entries.specs.Nodes.{IsNode, IsReplica, is_at, primary_of}

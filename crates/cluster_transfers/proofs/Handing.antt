@@ -27,9 +27,9 @@ use Rattle.primary_parts.specs.Primary.{IsPrimary, primary_names, rest_names}
 use Rattle.primary_parts.specs.States.{out_of, is_out, state_names}
 use Rattle.primary_parts.specs.Merges.{merge_names}
 use Rattle.replica_opening.specs.Known.{HasMeta}
-use Rattle.replica_node.specs.declared.job.PointJob.{PointJob}
-use Rattle.replica_node.specs.declared.parts.Parts.{Parts as ReplicaParts}
-use Rattle.replica_node.specs.Replica.{IsJobAbove}
+use Rattle.replica_parts.specs.declared.job.PointJob.{PointJob}
+use Rattle.replica_parts.specs.declared.parts.Parts.{Parts as ReplicaParts}
+use Rattle.replica_parts.specs.Replica.{IsJobAbove}
 use Rattle.history_entries.specs.Nodes.{IsNode, is_at, primary_of, newest_version}
 use Rattle.history_tables.specs.declared.jobs.Job.{Job}
 use Rattle.history_tables.specs.declared.jobs.JobRow.{JobRow}

@@ -13,8 +13,8 @@ use Rattle.primary_parts.specs.declared.states.Out.{Out}
 use Rattle.primary_parts.specs.States.{out_of}
 use Rattle.segment_infos.specs.declared.infos.Infos.{Infos}
 use Rattle.replica_opening.specs.Known.{HasMeta}
-use Rattle.replica_node.specs.declared.job.PointJob.{PointJob}
-use Rattle.replica_node.specs.declared.parts.Parts.{Parts as ReplicaParts}
+use Rattle.replica_parts.specs.declared.job.PointJob.{PointJob}
+use Rattle.replica_parts.specs.declared.parts.Parts.{Parts as ReplicaParts}
 use Rattle.history_entries.specs.Nodes.{IsNode, IsReplica, version_of, generation_of}
 use Rattle.history_tables.specs.declared.jobs.Job.{Job}
 use Rattle.history_tables.specs.declared.jobs.JobRow.{JobRow}
@@ -37,7 +37,7 @@ use Rattle.cluster_state.proofs.Points.{points_alone}
 use Rattle.cluster_state.proofs.Disks.{commits_alone, disk_moved, disk_same, disks_kept}
 use Rattle.cluster_state.proofs.Frames.{some_at, slot_of, was}
 use Rattle.cluster_places.proofs.OutCounts.{jobs_same}
-use Rattle.replica_node.specs.Replica.{IsJobAbove}
+use Rattle.replica_parts.specs.Replica.{IsJobAbove}
 use Rattle.cluster_state.proofs.Drawn.{grows_none}
 use Rattle.cluster_state.proofs.Naming.{FilesLast, took_steps}
 use Rattle.cluster_state.proofs.FileFrames.{names_one, Both, both_of, node_files, one_each, wants_same, files_was}

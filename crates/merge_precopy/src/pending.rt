@@ -39,16 +39,36 @@ fn strike(segs: &mut Vec<SegNo>, seg: SegNo)
     segs.retain(|s| s.0 != seg.0);
 }
 
+impl Share for Precopies {
+    fn share(&self, alloc: Global) -> Result<Self, NoMemory> {
+        let mut expected = Vec::new(alloc);
+        expected.extend_from_slice(self.expected.as_slice())?;
+        let table = joined(alloc, self.table.files.as_slice(), &[])?;
+        Ok(Precopies {
+            alloc: self.alloc,
+            expected,
+            table,
+        })
+    }
+}
+
 impl Precopies {
+    /// No file is pending, and none is expected. Takes no memory.
+    pub fn none(alloc: Global) -> Self
+        ensures { result ≡ record { expected = []; files = [] } }
+    {
+        Precopies {
+            alloc,
+            expected: Vec::new(alloc),
+            table: Table::new(alloc),
+        }
+    }
+
     /// No file is pending, and none is expected.
     pub fn new(alloc: Global) -> Result<Self, NoMemory>
         ensures { IfOk result (λ p. p ≡ record { expected = []; files = [] }) }
     {
-        Ok(Precopies {
-            alloc,
-            expected: Vec::new(alloc),
-            table: Table::new(alloc),
-        })
+        Ok(Precopies::none(alloc))
     }
 
     /// Expects the files of a merged segment.
@@ -59,6 +79,15 @@ impl Precopies {
     {
         self.expected.push(seg)?;
         Ok(())
+    }
+
+    /// Expects the files of a merged segment no more. Takes no memory.
+    pub fn forget(&mut self, seg: SegNo)
+        ensures { self.new ≡ record self.old {
+          expected = filter (λ s. not (s.0 == seg.0)) self.old.expected;
+        } }
+    {
+        strike(&mut self.expected, seg);
     }
 
     /// The files of a segment that was expected have come, and are pending from now on.

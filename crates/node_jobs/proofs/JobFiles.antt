@@ -8,8 +8,8 @@ use Rattle.file_deleter.proofs.NameLemmas.{same_self, times-cons, among_times}
 use Rattle.copy_state.specs.declared.meta.FileMetaData.{FileMetaData}
 use Rattle.copy_state.specs.States.{meta_names, meta_in}
 use Rattle.copy_job.specs.Jobs.{Job, IsJob}
-use Rattle.replica_node.specs.declared.job.PointJob.{PointJob}
-use Rattle.replica_node.proofs.Metas.{some_meta}
+use Rattle.replica_parts.specs.declared.job.PointJob.{PointJob}
+use Rattle.replica_parts.proofs.Metas.{some_meta}
 
 pub first_counted : (names : List Name) (q : Name) → Some q ≡ slice_get names 0 → 0 < times names q
 first_counted [] q is = absurd (cc)

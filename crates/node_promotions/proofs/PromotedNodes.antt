@@ -35,9 +35,9 @@ use Rattle.primary_parts.specs.Merges.{merge_names}
 use Rattle.primary_parts.specs.Primary.{IsPrimary, primary_names, rest_names}
 use Rattle.primary_parts.specs.Held.{IsHeld, IsUndrawn, AreUndrawn, AreNumbered}
 use Rattle.primary_parts.specs.Calls.{IsOpenedOn}
-use Rattle.replica_node.specs.declared.parts.Parts.{Parts as ReplicaParts}
-use Rattle.replica_node.specs.declared.taking.NodeParts.{NodeParts}
-use Rattle.replica_node.specs.Sources.{HeldReadAs, IsSourced, IsTakenApart}
+use Rattle.replica_parts.specs.declared.parts.Parts.{Parts as ReplicaParts}
+use Rattle.replica_parts.specs.declared.taking.NodeParts.{NodeParts}
+use Rattle.replica_parts.specs.Sources.{HeldReadAs, IsSourced, IsTakenApart}
 use Rattle.replica_opening.specs.Known.{IsLasting}
 use Rattle.node_promotions.specs.Promoting.{CanPromote, PromotesTo}
 

@@ -8,9 +8,9 @@ use Rattle.node_files.specs.Appearing.{NoneAppears}
 use Rattle.primary_parts.specs.declared.parts.Parts.{Parts as PrimaryParts}
 use Rattle.primary_parts.specs.Primary.{IsPrimary}
 use Rattle.primary_parts.specs.Held.{AreUndrawn, AreNumbered}
-use Rattle.replica_node.specs.declared.parts.Parts.{Parts as ReplicaParts}
-use Rattle.replica_node.specs.Replica.{IsWholeReplica, AreStanding}
-use Rattle.replica_node.specs.Sources.{HeldReadAs, IsSourced}
+use Rattle.replica_parts.specs.declared.parts.Parts.{Parts as ReplicaParts}
+use Rattle.replica_parts.specs.Replica.{IsWholeReplica, AreStanding}
+use Rattle.replica_parts.specs.Sources.{HeldReadAs, IsSourced}
 use Rattle.promotion.specs.Generations.{promoted_infos}
 use Rattle.cluster_places.specs.declared.held.Held.{Held}
 use Rattle.cluster_places.specs.declared.nodes.Node.TheVariants.{Primary, Replica}

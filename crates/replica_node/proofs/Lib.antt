@@ -1,26 +1,3 @@
-mod Advances
-mod Apart
-mod Appears
-mod Arrived
-mod Begun
-mod Beside
-mod Calls
-mod Carried
-mod Committing
-mod Cores
-mod Documents
-mod Ended
-mod Finished
-mod Finishing
-mod Keeping
-mod Lists
-pub mod Metas
-mod Noted
-mod Planned
-mod Searched
+mod Numbered
 mod Sourced
 mod Started
-mod States
-mod Switched
-mod Temporary
-mod Waiting

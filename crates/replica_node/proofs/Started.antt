@@ -18,18 +18,19 @@ use Rattle.searcher_switch.specs.Tickets.{ticket_names}
 use Rattle.searcher_switch.specs.Searching.{searcher_names}
 use Rattle.replica_opening.specs.Known.{IsLasting}
 use Rattle.replica_opening.specs.Opening.{FindsPoint, number_of_last}
-use Rattle.replica_node.specs.Sources.{IsSourced}
-use Rattle.replica_node.proofs.Advances.{among_file, some_among}
+use Rattle.replica_parts.specs.Merges.{no_copies}
+use Rattle.replica_parts.specs.Sources.{IsSourced}
+use Rattle.replica_parts.proofs.Named.{among_file, some_among}
 use Rattle.commit_steps.proofs.Safe.{own_is, number_of_own}
 use Rattle.replica_opening.specs.declared.opening.Opened.{Opened}
 use Rattle.replica_opening.specs.Opened.{IsNodeOpened, IsHandedBack}
-use Rattle.replica_node.specs.Waiting.{HasNoTemporary}
-use Rattle.replica_node.specs.Replica.{IsWholeReplica}
-use Rattle.replica_node.proofs.Temporary.{joins, files_no_temporary}
+use Rattle.replica_parts.specs.Waiting.{HasNoTemporary}
+use Rattle.replica_parts.specs.Replica.{IsWholeReplica}
+use Rattle.replica_parts.proofs.Temporary.{joins, files_no_temporary}
 use Rattle.std.specs.Prelude.{IfSome, IsSomeAnd}
 use Rattle.node_files.specs.Appearing.{NoneAppears}
 use Rattle.node_files.proofs.Appearing.{there_or}
-use Rattle.replica_node.specs.Starting.{HasJustItsFiles}
+use Rattle.replica_parts.specs.Starting.{HasJustItsFiles}
 use Rattle.disk_model.specs.Disk.{Name, Content, Cells, reads_of}
 use Rattle.segment_infos.specs.declared.infos.Infos.{Infos}
 use Rattle.commit_steps.specs.declared.states.Commit.{Commit}
@@ -146,9 +147,9 @@ last_stood before (Some d) infos q finds of none = stands (some_same d of.0 of.1
         cc
 
 module _ {D : Type 0} (cells : D → Cells) (dir : D) (o : Opened) (node : IsWholeNode (cells dir) o.files (searcher_names o.searchers) o.commits) (is : IsNodeOpened (reads_of (cells dir)) o) (seen : Gen) where
-  pub just_opened : IsWholeReplica cells (record { dir = dir; files = o.files; searchers = o.searchers; commits = o.commits; infos = o.infos; segs = o.segs; seen = seen; jobs = 0; job = None; known = o.known })
+  pub just_opened : IsWholeReplica cells (record { dir = dir; files = o.files; searchers = o.searchers; commits = o.commits; infos = o.infos; segs = o.segs; seen = seen; jobs = 0; job = None; copies = no_copies; known = o.known })
   just_opened = record {
-    node = node_same_names (cells dir) o.files (searcher_names o.searchers) (searcher_names o.searchers ++ []) o.commits node (λ q. let none : times [] q ≡ 0 = refl in omega (arith, none, times-append (searcher_names o.searchers) [] q));
+    node = node_same_names (cells dir) o.files (searcher_names o.searchers) (searcher_names o.searchers ++ ([] ++ ([] ++ []))) o.commits node (λ q. let none : times [] q ≡ 0 = refl in omega (arith, none, times-append (searcher_names o.searchers) [] q));
     point = record { version = is.version; names = is.names; readers = is.readers };
     spelled = is.spelled;
     segs = is.segs;
@@ -157,14 +158,17 @@ module _ {D : Type 0} (cells : D → Cells) (dir : D) (o : Opened) (node : IsWho
     newer = tt;
     waits = tt;
     copied = tt;
+    few = grind (arith);
+    merges = record { each = tt; apart = tt; beside_job = tt; job_given = tt; pending = record { each = λ name job. refl }; unexpected = refl };
   }
 
   pub just_sourced : (before : Cells) (number : Option ℕ) → IsHandedBack before (cells dir) → FindsPoint (reads_of before) number o.infos → (source : Name → Content)
       → ((q : Name) → Contains (flat_map files_of_segment o.infos.segs) q → (before q).now ≡ source q)
-      → IsSourced source cells (record { dir = dir; files = o.files; searchers = o.searchers; commits = o.commits; infos = o.infos; segs = o.segs; seen = seen; jobs = 0; job = None; known = o.known })
+      → IsSourced source cells (record { dir = dir; files = o.files; searchers = o.searchers; commits = o.commits; infos = o.infos; segs = o.segs; seen = seen; jobs = 0; job = None; copies = no_copies; known = o.known })
   just_sourced before number back finds source reads = record {
     held = record { each = λ q lasting some. let named = file_opened (cells dir) o node is q lasting some in back.files number o.infos finds q named ∙ reads q named };
     job = tt;
+    merges = tt;
   }
 
   module _ (listed : (q : Name) → is_some (cells dir q).now ≡ is_among (searcher_names o.searchers ++ book_names o.commits) q) where
@@ -175,7 +179,7 @@ module _ {D : Type 0} (cells : D → Cells) (dir : D) (o : Opened) (node : IsWho
         subst (λ (l : Option Commit). IsSomeAnd l (λ c. (is_commit_name q ≡ true) × (commit_number q ≡ c.number))) (sym of.1)
         (sym (ap is_commit_name name) ∙ own_is c of.2, sym (ap commit_number name) ∙ number_of_own c of.2)
 
-    pub just_its : HasJustItsFiles cells (record { dir = dir; files = o.files; searchers = o.searchers; commits = o.commits; infos = o.infos; segs = o.segs; seen = seen; jobs = 0; job = None; known = o.known })
+    pub just_its : HasJustItsFiles cells (record { dir = dir; files = o.files; searchers = o.searchers; commits = o.commits; infos = o.infos; segs = o.segs; seen = seen; jobs = 0; job = None; copies = no_copies; known = o.known })
     just_its = record {
       each = λ q there. elim (name_opened (cells dir) o node is listed q there) [ inl file ↦ inl file | inr of ↦ inr (last_name o.commits.last q of) ];
     }

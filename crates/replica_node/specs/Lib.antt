@@ -1,7 +1,2 @@
-pub mod Answers
-pub mod Held
-pub mod Jobs
-pub mod Replica
-pub mod Sources
-pub mod Starting
-pub mod Waiting
+pub mod Refusals
+pub mod Running

@@ -1,6 +1,6 @@
 //! What holds of directories and of points, for proofs to call. No function here does anything.
 
-ghost use Rattle.std.specs.Prelude.{◌≡◌, ◌<◌, List, [], Contains};
+ghost use Rattle.std.specs.Prelude.{◌≡◌, ◌<◌, ℕ, List, [], Some, None, Contains};
 ghost use Rattle.std.specs.List.{All, flat_map};
 ghost use Rattle.nrt_base.specs.declared.doc.Doc.{Doc};
 ghost use Rattle.disk_model.specs.Disk.{Name, Content, Image, restarted};
@@ -16,8 +16,11 @@ ghost use Rattle.copy_job.specs.Jobs.{Job, reads_under};
 ghost use Rattle.replica_opening.specs.Known.{IsLasting, HasMeta};
 ghost use Rattle.replica_opening.specs.Readers.{AreReaders};
 ghost use Rattle.replica_opening.specs.Opened.{IsSettledOn};
-ghost use Rattle.replica_node.specs.Jobs.{IsStartingFault};
-ghost use Rattle.replica_node.specs.Sources.{CopiesFrom};
+ghost use Rattle.replica_parts.specs.Jobs.{IsStartingFault};
+ghost use Rattle.replica_parts.specs.declared.job.PointJob.{PointJob};
+ghost use Rattle.replica_parts.specs.declared.parts.Parts.{Parts};
+ghost use Rattle.replica_parts.specs.Sources.{CopiesFrom};
+ghost use Rattle.replica_node.specs.Running.{running_job, with_job, without_job};
 
 /// A directory that restarted from an image, as after a crash, shows in each image what it shows.
 pub fn restarted_settled()
@@ -51,4 +54,12 @@ pub fn sourced_stands()
     ensures { (source reads : Name → Content) (j : Job) (infos : Infos) (docs : List Doc)
         → CopiesFrom source reads j → j.missing ≡ [] → AreFilesOf infos (meta_names j.want.files)
         → StandsFor source infos docs → StandsFor (reads_under j.parts reads) infos docs }
+{}
+
+/// Where the job of a newer point has the number, it is the one that the calls by number are about.
+pub fn point_runs<D>()
+    ensures { (number : ℕ) (p : Parts D) (j : PointJob) → p.job ≡ Some j → j.copy.number ≡ number
+        → (running_job number p ≡ Some j.copy)
+        × ((k : Job) → with_job number k p ≡ record p { job = Some (record j { copy = k }) })
+        × (without_job number p ≡ record p { job = None }) }
 {}

@@ -1,6 +1,6 @@
 //! The replica.
 
-ghost use Rattle.std.specs.Prelude.{◌≡◌, ◌<◌, ◌≤◌, ◌+◌, ◌++◌, ◌∷◌, ◌^◌, ℕ, List, [], None, Some, Ok, IsSome, IfOk, IfErr, IfSome, OnOk, OnErr, IsErrOf, MatchResult, Contains, is_some, true, false, max};
+ghost use Rattle.std.specs.Prelude.{◌≡◌, ◌<◌, ◌≤◌, ◌+◌, ◌++◌, ◌∷◌, ◌^◌, ℕ, List, [], None, Some, Ok, IsSome, IfOk, IfErr, IfSome, OnOk, OnErr, IsErrOf, MatchResult, Contains, is_some, nat_lt, true, false, max};
 ghost use Rattle.std.specs.List.{flat_map};
 ghost use Rattle.nrt_base.specs.Causes.{Rose};
 ghost use Rattle.nrt_base.specs.declared.doc.Doc.{Doc};
@@ -17,20 +17,27 @@ ghost use Rattle.replica_opening.specs.declared.fault.StartFault.{StartFault};
 ghost use Rattle.replica_opening.specs.Known.{IsLasting};
 ghost use Rattle.replica_opening.specs.Opening.{FindsPoint, number_of_last, IsStartRefusal, IsCutOffOr};
 ghost use Rattle.replica_opening.specs.Opened.{IsSettledOn, IsHandedBack};
-ghost use Rattle.replica_node.specs.Sources.{IsSourced};
-ghost use Rattle.replica_node.specs.Starting.{IsJustOpened, SearchesJust, HasJustItsFiles, IsHandedOut};
-ghost use Rattle.replica_node.specs.Replica.{IsWholeReplica};
+ghost use Rattle.replica_parts.specs.Sources.{IsSourced};
+ghost use Rattle.replica_parts.specs.Starting.{IsJustOpened, SearchesJust, HasJustItsFiles};
+ghost use Rattle.replica_node.specs.Refusals.{IsHandedOut};
+ghost use Rattle.replica_parts.specs.Replica.{IsWholeReplica};
 
-use crate::answer::PointAnswer;
-use crate::parts::Parts;
-use crate::taking::NodeParts;
+use crate::jobs::{arrive, begin, end};
 use commit_steps::CommitFault;
 use copy_job::{CopyJob, JobFault, Part};
 use copy_state::CopyState;
 use disk_model::{Dir, FaultDir};
 use file_names::FileName;
+use merge_precopy::Precopies;
 use nrt_base::{Gen, NoMemory, Version};
+use replica_calls::{
+    acquire, commit_begin, commit_step, into_dir, lease, new_point, plan, release, stop_at,
+    take_apart,
+};
 use replica_opening::{StartFault, open};
+use replica_parts::{MergeCopies, NodeParts, Parts, PointAnswer, RunningCopies};
+use replica_precopies::{finish_precopy, launch_precopy};
+use replica_switches::finish;
 use searcher_switch::{Lease, Ticket};
 use seg_reader::Segment;
 use std::alloc::Global;
@@ -85,6 +92,10 @@ fn start<D: Dir>(alloc: Global, dir: D) -> Result<Parts<D>, Refused<D>>
                 seen,
                 jobs: 0,
                 job: None,
+                copies: MergeCopies {
+                    running: RunningCopies::new(alloc),
+                    pending: Precopies::none(alloc),
+                },
                 known: opened.known,
             })
         }
@@ -99,8 +110,8 @@ pub struct Replica<D: Dir> {
 }
 
 impl<D: Dir> Model for Replica<D> {
-    ghost use Rattle.replica_node.specs.declared.parts.Parts.{Parts};
-    ghost use Rattle.replica_node.specs.Replica.{IsWholeReplica};
+    ghost use Rattle.replica_parts.specs.declared.parts.Parts.{Parts};
+    ghost use Rattle.replica_parts.specs.Replica.{IsWholeReplica};
 
     ghost Value = { Parts D };
 
@@ -124,12 +135,18 @@ impl<D: Dir> Replica<D> {
     ghost use Rattle.searcher_switch.specs.Tickets.{ticket_at, tickets_without};
     ghost use Rattle.searcher_switch.specs.Searching.{IsLeaseOf, searcher_names};
     ghost use Rattle.copy_state.specs.Meta.{IsMetaOf};
-    ghost use Rattle.copy_state.specs.States.{meta_in, IsCopyState};
+    ghost use Rattle.std.specs.Option.{option_map};
+    ghost use Rattle.copy_state.specs.States.{meta_in, meta_names, IsCopyState};
     ghost use Rattle.copy_job.specs.Jobs.{with_part, reads_under};
-    ghost use Rattle.replica_node.specs.Answers.{point_answer};
-    ghost use Rattle.replica_node.specs.Jobs.{IsPointJob, Agrees, IsStartingFault};
-    ghost use Rattle.replica_node.specs.Sources.{HeldReadAs, IsSourced, KeepsSource, HoldsOnly, IsWantedName, IsStillCopying, IsTakenApart};
-    ghost use Rattle.replica_node.specs.Replica.{IsWholeReplica, AreStanding, IsWanted};
+    ghost use Rattle.replica_parts.specs.Merges.{copy_at, copies_seen};
+    ghost use Rattle.replica_parts.specs.Answers.{point_answer};
+    ghost use Rattle.replica_parts.specs.Jobs.{Agrees, IsStartingFault, merge_job_on};
+    ghost use Rattle.replica_precopies.specs.Overlapping.{StartsBeside, copies_beside};
+    ghost use Rattle.replica_parts.specs.Sources.{HeldReadAs, IsSourced, KeepsSource, HoldsOnly, HoldsOnlyWanted, IsWantedName, IsStillCopying, IsTakenApart};
+    ghost use Rattle.replica_parts.specs.Replica.{IsWholeReplica, AreStanding, IsWanted, MayLaunch};
+    ghost use Rattle.replica_precopies.specs.Settling.{SettlesCopy, EndsCopy, StillCopies};
+    ghost use Rattle.replica_switches.specs.Parting.{pending_after};
+    ghost use Rattle.replica_node.specs.Running.{running_job, with_job, without_job};
     ghost use Rattle.node_files.specs.Standing.{StandsForSome, IsStanding, ImagesStand};
     ghost use Rattle.node_files.specs.Appearing.{AppearsOnly, IsNameInFlight};
 
@@ -219,15 +236,34 @@ impl<D: Dir> Replica<D> {
         let _parts = &self.parts;
     }
 
-    /// What to do with a point of this generation and version.
+    /// What to do with a point of this generation and version. On a higher generation than was seen each copy of a merged segment
+    /// ends, and every pending file is given back. Takes no memory.
     pub fn new_point(&mut self, generation: Gen, version: Version) -> PointAnswer
         ensures whole { IsWholeReplica D.cells self.new }
         ensures answer { result ≡ point_answer self.old.seen.0 self.old.searchers.point.version.0
             generation.0 version.0 }
         ensures seen { self.new.seen.0 ≡ max self.old.seen.0 generation.0 }
-        ensures others { self.new ≡ record self.old { seen = self.new.seen } }
+        ensures copies { self.new.copies
+            ≡ copies_seen self.old.seen.0 generation.0 self.old.copies }
+
+        // What stays.
+        ensures standing { AreStanding D.cells self.old → AreStanding D.cells self.new }
+        ensures sourced { KeepsSource D.cells self.old self.new }
+        ensures held { HoldsOnly self.old self.new }
+        ensures fewer { (q : List ℕ) → count_of self.new.files q ≤ count_of self.old.files q }
+        ensures stays { KeepsBytes self.old.files self.new.files
+            (D.cells self.old.dir) (D.cells self.new.dir) }
+        ensures appears { NoneAppears (D.cells self.old.dir) (D.cells self.new.dir) }
+        ensures later { D.faults self.old.dir ≤ D.faults self.new.dir }
+        ensures quiet { nat_lt self.old.seen.0 generation.0 ≡ false → self.new ≡ self.old }
+        ensures others { self.new ≡ record self.old {
+          dir = self.new.dir;
+          files = self.new.files;
+          seen = self.new.seen;
+          copies = self.new.copies;
+        } }
     {
-        self.parts.new_point(generation, version)
+        new_point(&mut self.parts, generation, version)
     }
 
     /// Opens a ticket at the point that is searched.
@@ -251,7 +287,7 @@ impl<D: Dir> Replica<D> {
           searchers = self.new.searchers;
         } }
     {
-        self.parts.acquire(alloc)
+        acquire(alloc, &mut self.parts)
     }
 
     /// What a search under a ticket reads.
@@ -260,7 +296,7 @@ impl<D: Dir> Replica<D> {
         ensures { IfOk result (λ lease.
             IfSome (ticket_at ticket.now.number self.now.searchers.tickets) (IsLeaseOf lease)) }
     {
-        self.parts.lease(alloc, ticket)
+        lease(alloc, &self.parts, ticket)
     }
 
     /// Closes a ticket.
@@ -283,7 +319,7 @@ impl<D: Dir> Replica<D> {
           searchers = self.new.searchers;
         } }
     {
-        self.parts.release(ticket);
+        release(&mut self.parts, ticket);
     }
 
     /// Begins a commit of the point that is searched.
@@ -304,7 +340,7 @@ impl<D: Dir> Replica<D> {
           commits = self.new.commits;
         } }
     {
-        self.parts.commit_begin(alloc)
+        commit_begin(alloc, &mut self.parts)
     }
 
     /// Makes the next call of the directory for the commit in flight, and answers whether the commit is made.
@@ -334,24 +370,62 @@ impl<D: Dir> Replica<D> {
           commits = self.new.commits;
         } }
     {
-        self.parts.commit_step(alloc)
+        commit_step(alloc, &mut self.parts)
     }
 
-    /// Begins a job of a newer point, and answers its number. It fetches the files of the point that nobody holds, and reuses
-    /// the others. A file that is held with other metadata, the first in the order of the state, is a clash.
+    /// Begins a job of a newer point, and answers its number. Each copy of a merged segment that copies a file of the point ends
+    /// before. The job fetches the files of the point that nobody holds, and reuses the others. A file that is held with other
+    /// metadata, the first in the order of the state, is a clash.
     pub fn start_job(&mut self, alloc: Global, state: CopyState) -> Result<u64, JobFault>
         requires none { self.old.job ≡ None }
         requires few { self.old.jobs + 1 < 2 ^ 63 }
         requires state { IsCopyState state }
         requires wanted { IsWanted self.old state }
 
-        // The job that begins.
+        // The job that begins, or why none begins.
+        ensures whole { IsWholeReplica D.cells self.new }
+        ensures starts { StartsBeside D.cells state self.old self.new result }
+        ensures number { IfOk result (λ number. number ≡ self.old.jobs + 1) }
+        ensures jobs { OnOk result (self.new.jobs ≡ self.old.jobs + 1) }
+        ensures some { OnOk result (IsSome self.new.job) }
+        ensures copies { self.new.copies ≡ record self.old.copies {
+          running = copies_beside (meta_names state.files) self.old.copies.running;
+        } }
+
+        // What stays.
+        ensures standing { AreStanding D.cells self.old → AreStanding D.cells self.new }
+        ensures sourced { KeepsSource D.cells self.old self.new }
+        ensures held { HoldsOnly self.old self.new }
+        ensures stays { KeepsBytes self.old.files self.new.files
+            (D.cells self.old.dir) (D.cells self.new.dir) }
+        ensures appears { NoneAppears (D.cells self.old.dir) (D.cells self.new.dir) }
+        ensures later { D.faults self.old.dir ≤ D.faults self.new.dir }
+        ensures others { self.new ≡ record self.old {
+          dir = self.new.dir;
+          files = self.new.files;
+          jobs = self.new.jobs;
+          job = self.new.job;
+          copies = self.new.copies;
+        } }
+    {
+        begin(alloc, &mut self.parts, state)
+    }
+
+    /// Begins a copy of a merged segment, and answers its number. It fetches the files of the segment that nobody holds, and
+    /// reuses the others. A file that is held with other metadata, the first in the order of the state, is a clash.
+    pub fn launch_precopy(&mut self, alloc: Global, state: CopyState) -> Result<u64, JobFault>
+        requires few { self.old.jobs + 1 < 2 ^ 63 }
+        requires state { IsCopyState state }
+        requires launch { MayLaunch self.old state }
+
+        // The copy that begins.
         ensures whole { IsWholeReplica D.cells self.new }
         ensures number { IfOk result (λ number. number ≡ self.old.jobs + 1) }
         ensures jobs { OnOk result (self.new.jobs ≡ self.old.jobs + 1) }
-        ensures begun { OnOk result (IfSome self.new.job
-            (IsPointJob (self.old.jobs + 1) state self.old.files)) }
-        ensures some { OnOk result (IsSome self.new.job) }
+        ensures begun { OnOk result (self.new.copies ≡ record self.old.copies {
+          running = self.old.copies.running
+              ++ merge_job_on (self.old.jobs + 1) state self.old.files ∷ [];
+        }) }
         ensures agreed { OnOk result (All (Agrees (reads_of (D.cells self.old.dir)) self.old.files)
             state.files) }
 
@@ -369,30 +443,42 @@ impl<D: Dir> Replica<D> {
         ensures others { self.new ≡ record self.old {
           files = self.new.files;
           jobs = self.new.jobs;
-          job = self.new.job;
+          copies = self.new.copies;
         } }
     {
-        self.parts.start_job(alloc, state)
+        launch_precopy(alloc, &mut self.parts, state)
     }
 
-    /// Writes a part of the job under its temporary name. After a refusal it is still missing.
+    /// The copy of a merged segment with this number, where it runs.
+    pub fn precopy(&self, job: u64) -> Option<&CopyJob>
+        ensures { option_map (λ c. c.now) result ≡ copy_at job self.now.copies.running }
+    {
+        self.parts.copies.running.copy(job)
+    }
+
+    /// Writes a part of a job or of a copy of a merged segment under its temporary name. After a refusal it is still missing.
     pub fn arrived(&mut self, job: u64, part: Part) -> Result<(), JobFault>
-        requires runs { IfSome self.old.job (λ j. j.copy.number ≡ job) }
-        requires some { IsSome self.old.job }
-        requires missing { IfSome self.old.job (λ j. 0 < times j.copy.missing part.name) }
-        requires wanted { IfSome self.old.job (λ j.
-            meta_in j.copy.want.files part.name ≡ Some part.meta) }
+        requires runs { IsSome (running_job job self.old) }
+        requires missing { IfSome (running_job job self.old) (λ j. 0 < times j.missing part.name) }
+        requires wanted { IfSome (running_job job self.old) (λ j.
+            meta_in j.want.files part.name ≡ Some part.meta) }
         requires meta { IsMetaOf part.bytes part.meta }
         ensures whole { IsWholeReplica D.cells self.new }
         ensures standing { AreStanding D.cells self.old → AreStanding D.cells self.new }
         ensures sourced { (source : Name → Content) → source part.name ≡ Some part.bytes
             → IsSourced source D.cells self.old → IsSourced source D.cells self.new }
         ensures held { HoldsOnly self.old self.new }
-        ensures ok { OnOk result (IfSome self.old.job (λ j.
-            self.new.job ≡ Some (record j { copy = with_part j.copy part.name }))) }
-        ensures reads { OnOk result (IfSome self.old.job (λ j.
-            (D.cells self.new.dir (temp_name_of part.name j.copy.number)).now ≡ Some part.bytes)) }
-        ensures err { OnErr result (self.new.job ≡ self.old.job) }
+        ensures ok { OnOk result (IfSome (running_job job self.old) (λ j.
+            self.new ≡ record (with_job job (with_part j part.name) self.old) {
+              dir = self.new.dir;
+              files = self.new.files;
+            })) }
+        ensures reads { OnOk result
+            ((D.cells self.new.dir (temp_name_of part.name job)).now ≡ Some part.bytes) }
+        ensures err { OnErr result (self.new ≡ record self.old {
+          dir = self.new.dir;
+          files = self.new.files;
+        }) }
         ensures stays { KeepsBytes self.old.files self.new.files
             (D.cells self.old.dir) (D.cells self.new.dir) }
         ensures appears { AppearsOnly (λ q. q ≡ temp_name_of part.name job)
@@ -401,17 +487,13 @@ impl<D: Dir> Replica<D> {
         ensures failed { IsErrOf result JobFault.DirFailed
             → Rose (D.faults self.old.dir) (D.faults self.new.dir) }
         ensures later { D.faults self.old.dir ≤ D.faults self.new.dir }
-        ensures others { self.new ≡ record self.old {
-          dir = self.new.dir;
-          files = self.new.files;
-          job = self.new.job;
-        } }
     {
-        self.parts.arrived(job, part)
+        arrive(&mut self.parts, job, part)
     }
 
     /// Searches the point of the job, of which nothing is missing, and ends the job. After a refusal the job holds what it
-    /// has, the renamed parts under their own names, and the point is as before.
+    /// has, the renamed parts under their own names, and the point is as before. A pending file that the point names belongs to
+    /// the point, and one that is completed and not named is given back.
     pub fn finish(&mut self, alloc: Global, job: u64) -> Result<Version, JobFault>
         requires runs { IfSome self.old.job (λ j. j.copy.number ≡ job) }
         requires some { IsSome self.old.job }
@@ -427,6 +509,11 @@ impl<D: Dir> Replica<D> {
         ensures infos { OnOk result (IfSome self.old.job (λ j. self.new.infos ≡ j.infos)) }
         ensures version { IfOk result (λ version. version ≡ self.new.searchers.point.version) }
         ensures job { OnOk result (self.new.job ≡ None) }
+        ensures pending { OnOk result (IfSome self.old.job (λ j.
+            self.new.copies ≡ record self.old.copies {
+              pending = pending_after (meta_names j.copy.want.files) j.copy.want.completed
+                  self.old.copies.pending;
+            })) }
         ensures tickets { self.new.searchers.tickets ≡ self.old.searchers.tickets }
         ensures stands { OnOk result (IfSome self.old.job (λ j. (docs : List Doc)
             → StandsFor (reads_under j.copy.parts (reads_of (D.cells self.old.dir))) j.infos docs
@@ -449,32 +536,73 @@ impl<D: Dir> Replica<D> {
           infos = self.new.infos;
           segs = self.new.segs;
           job = self.new.job;
+          copies = self.new.copies;
           known = self.new.known;
         } }
     {
-        self.parts.finish(alloc, job)
+        finish(alloc, &mut self.parts, job)
     }
 
-    /// Ends a job, and gives back what it held, by one release.
-    pub fn fail(&mut self, _job: u64)
-        requires { IfSome self.old.job (λ j. j.copy.number ≡ _job) }
+    /// The files of a copy of a merged segment, of which nothing is missing, get their own names and are pending from now on.
+    /// Where the disk fails the copy has ended, and its parts were given back; out of memory, it runs on with what it has.
+    pub fn finish_precopy(&mut self, alloc: Global, job: u64) -> Result<(), JobFault>
+        requires runs { is_some (copy_at job self.old.copies.running) ≡ true }
+        requires complete { IfSome (copy_at job self.old.copies.running) (λ c. c.missing ≡ []) }
+        ensures whole { IsWholeReplica D.cells self.new }
+        ensures standing { AreStanding D.cells self.old → AreStanding D.cells self.new }
+        ensures sourced { KeepsSource D.cells self.old self.new }
+        ensures held { IfSome (copy_at job self.old.copies.running) (λ c.
+            HoldsOnlyWanted c.want self.old self.new) }
+
+        // What is pending, and what is left of the copy.
+        ensures ok { OnOk result (IfSome (copy_at job self.old.copies.running) (λ c.
+            SettlesCopy job c self.old self.new)) }
+        ensures reads { OnOk result (IfSome (copy_at job self.old.copies.running) (λ c.
+            (q : Name) → 0 < times (meta_names c.want.files) q → (D.cells self.new.dir q).now
+            ≡ reads_under c.parts (reads_of (D.cells self.old.dir)) q)) }
+        ensures failed_ends { IsErrOf result JobFault.DirFailed → EndsCopy job self.old self.new }
+        ensures memory { IsErrOf result JobFault.Memory
+            → IfSome (copy_at job self.old.copies.running) (λ c.
+            StillCopies job c self.old self.new) }
+
+        // What stays, and when the disk failed.
+        ensures stays { KeepsBytes self.old.files self.new.files
+            (D.cells self.old.dir) (D.cells self.new.dir) }
+        ensures appears { IfSome (copy_at job self.old.copies.running) (λ c.
+            AppearsOnly (λ q. 0 < times (meta_names c.want.files) q)
+            (D.cells self.old.dir) (D.cells self.new.dir)) }
+        ensures fault { IfErr result IsPlacingFault }
+        ensures failed { IsErrOf result JobFault.DirFailed
+            → Rose (D.faults self.old.dir) (D.faults self.new.dir) }
+        ensures later { D.faults self.old.dir ≤ D.faults self.new.dir }
+        ensures others { self.new ≡ record self.old {
+          dir = self.new.dir;
+          files = self.new.files;
+          copies = self.new.copies;
+          known = self.new.known;
+        } }
+    {
+        finish_precopy(alloc, &mut self.parts, job)
+    }
+
+    /// Ends a job or a copy of a merged segment, and gives back what it held, by one release.
+    pub fn fail(&mut self, job: u64)
+        requires { IsSome (running_job job self.old) }
         ensures whole { IsWholeReplica D.cells self.new }
         ensures standing { AreStanding D.cells self.old → AreStanding D.cells self.new }
         ensures sourced { KeepsSource D.cells self.old self.new }
         ensures held { HoldsOnly self.old self.new }
-        ensures job { self.new.job ≡ None }
+        ensures gone { self.new ≡ record (without_job job self.old) {
+          dir = self.new.dir;
+          files = self.new.files;
+        } }
         ensures fewer { (q : List ℕ) → count_of self.new.files q ≤ count_of self.old.files q }
         ensures stays { KeepsBytes self.old.files self.new.files
             (D.cells self.old.dir) (D.cells self.new.dir) }
         ensures appears { NoneAppears (D.cells self.old.dir) (D.cells self.new.dir) }
         ensures later { D.faults self.old.dir ≤ D.faults self.new.dir }
-        ensures others { self.new ≡ record self.old {
-          dir = self.new.dir;
-          files = self.new.files;
-          job = self.new.job;
-        } }
     {
-        self.parts.end_job();
+        end(&mut self.parts, job);
     }
 
     /// The names that its directory has, ascending. It makes no disk call.
@@ -486,7 +614,7 @@ impl<D: Dir> Replica<D> {
         self.parts.files.names(alloc)
     }
 
-    /// The parts of a replica that becomes another node. Its job is ended, by one release. Takes no memory.
+    /// The parts of a replica that becomes another node. Its copies are ended, and its pending files given back. Takes no memory.
     pub fn take_apart(self) -> NodeParts<D>
         ensures node { IsWholeNode (D.cells result.dir) result.files
             (searcher_names result.searchers) result.commits }
@@ -507,7 +635,7 @@ impl<D: Dir> Replica<D> {
         ensures later { D.faults self.dir ≤ D.faults result.dir }
     {
         let Replica { parts } = self;
-        parts.take_apart()
+        take_apart(parts)
     }
 
     /// The directory of a replica that ends.
@@ -515,13 +643,13 @@ impl<D: Dir> Replica<D> {
         ensures { result ≡ self.dir }
     {
         let Replica { parts } = self;
-        parts.into_dir()
+        into_dir(parts)
     }
 }
 
 impl<D: FaultDir> Replica<D> {
-    ghost use Rattle.replica_node.specs.Sources.{KeepsSource, HoldsOnly};
-    ghost use Rattle.replica_node.specs.Replica.{IsWholeReplica, AreStanding};
+    ghost use Rattle.replica_parts.specs.Sources.{KeepsSource, HoldsOnly};
+    ghost use Rattle.replica_parts.specs.Replica.{IsWholeReplica, AreStanding};
 
     /// The k-th counted call of the directory from now fails once.
     pub fn plan(&mut self, k: u64)
@@ -535,7 +663,7 @@ impl<D: FaultDir> Replica<D> {
         ensures faults { D.faults self.new.dir ≡ D.faults self.old.dir }
         ensures others { self.new ≡ record self.old { dir = self.new.dir } }
     {
-        self.parts.plan(k);
+        plan(&mut self.parts, k);
     }
 
     /// The k-th counted call of the directory from now and every later one fail.
@@ -550,7 +678,7 @@ impl<D: FaultDir> Replica<D> {
         ensures faults { D.faults self.new.dir ≡ D.faults self.old.dir }
         ensures others { self.new ≡ record self.old { dir = self.new.dir } }
     {
-        self.parts.stop_at(k);
+        stop_at(&mut self.parts, k);
     }
 
     /// How many faults of the directory were met by `plan`, and how many by `stop_at`.

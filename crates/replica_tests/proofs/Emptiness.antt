@@ -21,10 +21,10 @@ use Rattle.copy_state.specs.States.{meta_names}
 use Rattle.copy_job.specs.Jobs.{Job}
 use Rattle.nrt_base.specs.declared.numbers.Gen.{Gen}
 use Rattle.nrt_base.specs.declared.numbers.Version.{Version}
-use Rattle.replica_node.specs.declared.job.PointJob.{PointJob}
-use Rattle.replica_node.specs.declared.parts.Parts.{Parts}
-use Rattle.replica_node.specs.Jobs.{job_on, IsPointJob}
-use Rattle.replica_node.specs.Replica.{IsWanted}
+use Rattle.replica_parts.specs.declared.job.PointJob.{PointJob}
+use Rattle.replica_parts.specs.declared.parts.Parts.{Parts}
+use Rattle.replica_parts.specs.Jobs.{job_on, IsPointJob}
+use Rattle.replica_parts.specs.Replica.{IsWanted}
 use Rattle.replica_opening.proofs.Openings.{ascending_none}
 use Rattle.replica_tests.specs.States.{IsEmptyState}
 

@@ -7,7 +7,7 @@ use Rattle.searcher_switch.specs.declared.open.Open.{Open}
 use Rattle.searcher_switch.specs.declared.open.Point.{Point}
 use Rattle.searcher_switch.specs.declared.searchers.Ticket.{Ticket}
 use Rattle.searcher_switch.specs.Tickets.{ticket_at, tickets_without}
-use Rattle.replica_node.specs.declared.parts.Parts.{Parts}
+use Rattle.replica_parts.specs.declared.parts.Parts.{Parts}
 use Rattle.replica_tests.specs.declared.seen.Seen.{Seen}
 use Rattle.replica_tests.specs.Seeing.{IsReplicaSeen, numbers_open, numbers_given}
 

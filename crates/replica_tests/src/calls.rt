@@ -2,7 +2,7 @@
 
 ghost use Rattle.std.specs.Prelude.{◌≡◌, ◌<◌, [], OnOk, IfOk};
 ghost use Rattle.replica_opening.specs.Opened.{IsSettledOn};
-ghost use Rattle.replica_node.specs.Starting.{IsJustOpened};
+ghost use Rattle.replica_parts.specs.Starting.{IsJustOpened};
 ghost use Rattle.replica_tests.specs.Seeing.{IsReplicaSeen};
 ghost use Rattle.replica_tests.specs.States.{IsEmptyState};
 

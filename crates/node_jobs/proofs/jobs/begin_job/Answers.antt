@@ -1,6 +1,6 @@
 use Rattle.std.proofs.Common.{ap, arith}
 use Rattle.primary_parts.specs.States.{out_of}
-use Rattle.replica_node.specs.declared.parts.Parts.{Parts as ReplicaParts}
+use Rattle.replica_parts.specs.declared.parts.Parts.{Parts as ReplicaParts}
 use Rattle.cluster_places.specs.Outs.{want_of}
 use Rattle.cluster_places.proofs.Stepping.{out_pushed, begins, alters_by, none_by, job_seen, job_by}
 use Rattle.node_jobs.proofs.jobs.begin_job.Goals as goal

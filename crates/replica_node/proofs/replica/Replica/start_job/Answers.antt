@@ -1,6 +1,6 @@
 use Rattle.std.proofs.Common.{subst, IfErr}
 use Rattle.disk_model.specs.Disk.{reads_of}
-use Rattle.replica_node.specs.Jobs.{IsStartingFault}
+use Rattle.replica_parts.specs.Jobs.{IsStartingFault}
 use Rattle.replica_node.proofs.replica.Replica.start_job.Goals as goal
 
 pub returns-clause-fault : goal.returns-clause-fault

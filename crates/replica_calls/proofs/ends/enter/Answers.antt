@@ -1,0 +1,1 @@
+use Rattle.replica_calls.proofs.ends.enter.Goals as goal

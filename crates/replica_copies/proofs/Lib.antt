@@ -1,0 +1,4 @@
+mod Arrivals
+mod Begun
+mod States
+mod Taken

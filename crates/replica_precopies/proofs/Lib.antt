@@ -1,0 +1,6 @@
+mod Came
+mod Launched
+mod Moved
+mod Overlaps
+mod Placed
+mod Settled

@@ -1,0 +1,12 @@
+//! The copies of merged segments to a replica: how they begin, go on, and come to be pending files.
+#![tactic(auto)]
+
+mod arriving;
+mod launching;
+mod overlapping;
+mod settling;
+
+pub use arriving::arrived_precopy;
+pub use launching::launch_precopy;
+pub use overlapping::end_overlapping;
+pub use settling::finish_precopy;

@@ -1,0 +1,6 @@
+mod Advances
+mod Finished
+mod Parted
+mod Spared
+mod Switched
+mod Switching
