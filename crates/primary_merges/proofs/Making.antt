@@ -1,5 +1,5 @@
 -- A merge in its place; the state of one whose files are to be written, and the metadata of these; the records of its inputs, one after another.
-use Rattle.std.proofs.Common.{◌≡◌, ◌<◌, ◌+◌, ◌==◌, cond, ℕ, Bool, true, List, [], ◌∷◌, ◌++◌, Some, None, is_some, length, take, get_or, slice_set, refl, sym, ap, subst, ◌∙◌, All}
+use Rattle.std.proofs.Common.{◌≡◌, ◌<◌, ◌+◌, ◌==◌, ℕ, true, List, [], ◌∷◌, ◌++◌, Some, None, is_some, length, take, get_or, slice_set, refl, sym, ap, subst, ◌∙◌, All}
 use Rattle.std.proofs.lemmas.List.{take_more, map-append}
 use Rattle.std.proofs.lemmas.Option.{slice_get_read}
 use Rattle.std.specs.List.{list_any}
@@ -38,14 +38,11 @@ told_metas files i file metas more meta lt is e of sofar reads all = subst (All 
     (All-push (IsMetaIn reads) metas (file.0, meta) (sofar reads all) (record { bytes = file.1; there = subst (λ (f : File). reads f.0 ≡ Some f.1) (sym is) (all i file lt); meta = of }))
 
 -- ---- records that are chosen
--- where the next record is chosen it is put at the end, and else nothing is
-pub chosen_more : (inputs : List SegNo) (rs : List SegRecord) (i : ℕ) (r : SegRecord) (found more : List SegRecord) (b : Bool) → i < length rs → r ≡ get_or rs i r → list_any (λ (seg : SegNo). seg.0 == r.seg.0) inputs ≡ b
-    → found ≡ records_in inputs (take i rs) → more ≡ found ++ cond b (r ∷ []) [] → more ≡ records_in inputs (take (i + 1) rs)
-chosen_more inputs rs i r found more b lt is test sofar e =
-    e ∙ ap (λ (l : List SegRecord). l ++ cond b (r ∷ []) []) sofar
-    ∙ ap (λ (x : Bool). records_in inputs (take i rs) ++ cond x (r ∷ []) []) (sym test)
-    ∙ ap (λ (x : SegRecord). records_in inputs (take i rs) ++ cond (list_any (λ (seg : SegNo). seg.0 == x.seg.0) inputs) (x ∷ []) []) is
-    ∙ sym (filter_more (λ (x : SegRecord). list_any (λ (seg : SegNo). seg.0 == x.seg.0) inputs) rs i r lt)
+-- one record more was looked at
+pub chosen_more : (inputs : List SegNo) (rs : List SegRecord) (i : ℕ) (d : SegRecord) (found more : List SegRecord) → i < length rs → found ≡ records_in inputs (take i rs) → more ≡ found ++ records_in inputs (get_or rs i d ∷ [])
+    → more ≡ records_in inputs (take (i + 1) rs)
+chosen_more inputs rs i d found more lt sofar e =
+    e ∙ ap (λ (l : List SegRecord). l ++ records_in inputs (get_or rs i d ∷ [])) sofar ∙ sym (filter_more (λ (r : SegRecord). list_any (λ (seg : SegNo). seg.0 == r.seg.0) inputs) rs i d lt)
 
 -- ---- all that is made before the first write
 pub state_ready_of : {D : Type 0} (p : Parts D) (merged : Merged) (m : Merging) → merge_of merged.files.seg.0 p.merges ≡ Some m → m.merged ≡ None → IsMergedOf m.task merged → AreShortNames p.completed → (written names held : List Name)
