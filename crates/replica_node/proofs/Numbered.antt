@@ -1,13 +1,16 @@
 -- The job or the copy of a merged segment with a number, before and after a call.
 use Rattle.std.proofs.Common.{◌≡◌, ℕ, Bool, true, false, Option, Some, None, is_some, refl, sym, ap, subst, ◌∙◌, arith, true≢false}
-use Rattle.std.specs.Prelude.{if◌then◌else◌, IsSome, IfSome, OnOk, OnErr, Result, Ok, Err}
+use Rattle.std.specs.Prelude.{◌==◌, if◌then◌else◌, IsSome, IfSome, OnOk, OnErr, Result, Ok, Err}
 use Rattle.std.specs.Option.{option_map}
-use Rattle.disk_model.specs.Disk.{Name}
+use Rattle.std.specs.List.{AllByRecursion}
+use Rattle.disk_model.specs.Disk.{Name, Cells}
 use Rattle.copy_job.specs.Jobs.{Job, with_part}
 use Rattle.replica_parts.specs.declared.job.PointJob.{PointJob}
 use Rattle.replica_parts.specs.declared.merges.MergeCopies.{MergeCopies}
 use Rattle.replica_parts.specs.declared.parts.Parts.{Parts}
-use Rattle.replica_parts.specs.Merges.{copy_at, copies_with, copies_without}
+use Rattle.replica_parts.specs.Merges.{copy_at, copies_with, copies_without, CopyApart}
+use Rattle.replica_parts.specs.Replica.{IsWholeReplica}
+use Rattle.replica_parts.proofs.Merging.{all_at, number_at}
 use Rattle.replica_node.specs.Running.{is_point, running_job, with_job, without_job}
 
 no_point : (number : ℕ) → is_point number None ≡ true → ⊥
@@ -44,6 +47,14 @@ on_ok (Err x) turns h = tt
 on_err : {T E : Type 0} {P Q : Type 0} (result : Result T E) → (P → Q) → OnErr result P → OnErr result Q
 on_err (Ok x) turns h = tt
 on_err (Err x) turns h = turns h
+
+-- what is said under the job's number is said under the number
+pub point_named : {T E : Type 0} (P : ℕ → Type 0) (number : ℕ) (job : Option PointJob) (result : Result T E) → is_point number job ≡ true → OnOk result (IfSome job (λ j. P j.copy.number)) → OnOk result (P number)
+point_named P number job result e = on_ok result (named job e)
+  where
+    named : (o : Option PointJob) → is_point number o ≡ true → IfSome o (λ j. P j.copy.number) → P number
+    named None f h = absurd (no_point number f)
+    named (Some j) f h = subst P (point_number number (Some j) f) h
 
 point_made : (number : ℕ) (name : Name) (now job : Option PointJob) (other : Option Job) → is_point number job ≡ true → IfSome job (λ j. now ≡ Some (record j { copy = with_part j.copy name }))
     → IfSome (if is_point number job then option_map (λ j. j.copy) job else other) (λ k. now ≡ option_map (λ (j : PointJob). record j { copy = with_part k name }) job)
@@ -95,3 +106,21 @@ point_runs number p j e same =
           ∙ ap (λ (o : Option PointJob). record p { job = option_map (λ (i : PointJob). record i { copy = k }) o }) e),
       ap (λ (b : Bool). if b then record p { job = None } else record p { copies = record p.copies { running = copies_without number p.copies.running } }) test,
     )
+
+pub copy_runs : {D : Type 0} (cells : D → Cells) (number : ℕ) (p : Parts D) (c : Job) → IsWholeReplica cells p → copy_at number p.copies.running ≡ Some c
+    → (running_job number p ≡ Some c) × ((k : Job) → with_job number k p ≡ record p { copies = record p.copies { running = copies_with number k p.copies.running } })
+    × (without_job number p ≡ record p { copies = record p.copies { running = copies_without number p.copies.running } })
+copy_runs cells number p c is e =
+    let test : is_point number p.job ≡ false = not_point p.job is.merges.beside_job in (
+      ap (λ (b : Bool). if b then option_map (λ (i : PointJob). i.copy) p.job else copy_at number p.copies.running) test ∙ e,
+      (λ k. ap (λ (b : Bool). if b then record p { job = option_map (λ (i : PointJob). record i { copy = k }) p.job } else record p { copies = record p.copies { running = copies_with number k p.copies.running } }) test),
+      ap (λ (b : Bool). if b then record p { job = None } else record p { copies = record p.copies { running = copies_without number p.copies.running } }) test,
+    )
+  where
+    not_point : (o : Option PointJob) → IfSome o (λ j. AllByRecursion (CopyApart j.copy) p.copies.running) → is_point number o ≡ false
+    not_point None h = refl
+    not_point (Some j) h = by (j.copy.number == number) refl
+      where
+        by : (b : Bool) → (j.copy.number == number) ≡ b → (j.copy.number == number) ≡ false
+        by false f = f
+        by true f = absurd ((all_at (CopyApart j.copy) number p.copies.running c e h).numbers (grind (arith, nat_tests, f, number_at number p.copies.running c e)))
