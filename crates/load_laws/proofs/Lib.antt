@@ -1,0 +1,5 @@
+mod CalmPasts
+mod FewNames
+mod KeyedOps
+mod LaneSplits
+mod LoadTurns
