@@ -55,7 +55,7 @@ tally_low p [] = omega arith
 tally_low p (x ∷ xs) = let here = one_low (p x) in let rest = tally_low p xs in omega (arith, here, rest)
 
 tally-append : {X : Type 0} (p : X → Bool) (xs ys : List X) → tally p (xs ++ ys) ≡ tally p xs + tally p ys
-tally-append p [] ys = refl
+tally-append p [] ys = omega arith
 tally-append p (x ∷ xs) ys = let rest = tally-append p xs ys in omega (arith, rest)
 
 -- where the line at a place passes, and did not before, more lines pass
@@ -75,8 +75,8 @@ tally_rises p q more (l ∷ lines) at c new there = by_place (same_at l.at at) r
     by_place true e f ih =
         let both = new l (at_same l.at at e) (one l.command c f) in
         let rest = tally_grows p q more lines in
-        let first : (if p l then 1 else 0) ≡ 0 = ap (λ (b : Bool). if b then 1 else 0) both.0 in
-        let second : (if q l then 1 else 0) ≡ 1 = ap (λ (b : Bool). if b then 1 else 0) both.1 in
+        let first : ◌≡◌ {A = ℕ} (if p l then 1 else 0) 0 = ap (λ (b : Bool). if b then 1 else 0) both.0 in
+        let second : ◌≡◌ {A = ℕ} (if q l then 1 else 0) 1 = ap (λ (b : Bool). if b then 1 else 0) both.1 in
         omega (arith, rest, first, second)
     by_place false e f ih =
         let here = one_le (p l) (q l) (more l) in
@@ -120,7 +120,7 @@ turn_publishes i =
     let p = publish_turn i in
     let c = no_publish 100 (suc i) (Copy (record { 0 = 2 })) refl in
     let m = no_publish 200 (suc i) (Merge 4) refl in
-    let whole : tally is_publish (load_commands (suc i)) ≡ tally is_publish (deletes ++ (publishes ++ (copies ++ merges))) = refl in
+    let whole : tally is_publish (load_commands (suc i)) ≡ 0 + tally is_publish (deletes ++ (publishes ++ (copies ++ merges))) = refl in
     omega (arith, one, two, three, d, p, c, m, whole)
 
 load_publishes : (n : ℕ) → tally (λ l. is_publish l.command) (load_lines n) ≡ n / 50
@@ -170,7 +170,7 @@ answered_more past e l is =
     let parts = and_parts (is_publish l.command) (is_answered l.at past) is in
     and_from (is_publish l.command) (is_answered l.at (e ∷ past)) parts.0 (or_right (is_reply e.event && same_at e.at l.at) (is_answered l.at past) parts.1)
 
-at_self : (a : At) → same_at a a ≡ true
+pub at_self : (a : At) → same_at a a ≡ true
 at_self a = and_from (a.lane.0 == a.lane.0) (a.line.0 == a.line.0) (eq-eqb a.lane.0 a.lane.0 refl) (eq-eqb a.line.0 a.line.0 refl)
 
 put_le : (b : Bool) (k m n : ℕ) → k ≤ m → m + 1 ≤ n → (if b then k + 1 else k) ≤ n

@@ -39,7 +39,7 @@ use Rattle.load_laws.proofs.LoadTurns.{all_of, is_calm_command, calm_lines, asks
 
 -- ---- lists
 
-all_more : {X : Type 0} (p q : X → Bool) → ((x : X) → p x ≡ true → q x ≡ true) → (xs : List X) → list_all p xs ≡ true → list_all q xs ≡ true
+pub all_more : {X : Type 0} (p q : X → Bool) → ((x : X) → p x ≡ true → q x ≡ true) → (xs : List X) → list_all p xs ≡ true → list_all q xs ≡ true
 all_more p q more [] all = refl
 all_more p q more (x ∷ xs) all = let parts = and_parts (p x) (list_all p xs) all in and_from (q x) (list_all q xs) (more x parts.0) (all_more p q more xs parts.1)
 
@@ -50,7 +50,7 @@ all_both p q r both (x ∷ xs) one two =
     let qs = and_parts (q x) (list_all q xs) two in
     and_from (r x) (list_all r xs) (both x ps.0 qs.0) (all_both p q r both xs ps.1 qs.1)
 
-all_parts : {X : Type 0} (p : X → Bool) (xs ys : List X) → list_all p (xs ++ ys) ≡ true → (list_all p xs ≡ true) × (list_all p ys ≡ true)
+pub all_parts : {X : Type 0} (p : X → Bool) (xs ys : List X) → list_all p (xs ++ ys) ≡ true → (list_all p xs ≡ true) × (list_all p ys ≡ true)
 all_parts p xs ys all = and_parts (list_all p xs) (list_all p ys) (sym (list_all-append p xs ys) ∙ all)
 
 own_lines : (lane : ℕ) (lines : List Line) → list_all (λ l. l.at.lane.0 == lane) (of_lane lane lines) ≡ true
@@ -149,7 +149,7 @@ either_none false = refl
 suits_other : (c : LineCommand) (at : At) (past : Past) (last : Option Event) (e : Event) → operations_asked c ≡ [] → Suits c at past last e
     → accepted_of e ≡ (if is_reply e then operations_asked c else [])
 suits_other c at past last (Accepted seq op) none suits = absurd (suits_no c at past last seq op none suits)
-suits_other c at past last e none suits = rw none (either_none (is_reply e))
+suits_other c at past last e none suits = subst (λ (os : List Op). [] ≡ (if is_reply e then os else [])) (sym none) (either_none (is_reply e))
 
 -- a reply accepts what its line asks for, and no other entry accepts anything
 pub accepts : (c : LineCommand) (at : At) (past : Past) (e : Event) → is_calm_command c ≡ true → IsCalm past → Suits c at past (last_of_line at past) e
@@ -230,15 +230,14 @@ head_of [] (l ∷ rest) at past c answered left earlier fresh there = by_place (
         not_both (is_answered l.at past) (and_parts (not (is_answered l.at past)) (list_all (λ m. not (is_answered m.at past)) rest) left).0
         (and_parts (is_answered l.at past) (earlier_answered rest at past) f).0
 head_of (d ∷ done) rest at past c answered left earlier fresh there =
-    by_place (same_at d.at at) refl earlier there (head_of done rest at past c parts.1 left)
+    let parts = and_parts (is_answered d.at past) (list_all (λ m. is_answered m.at past) done) answered in
+    by_place (same_at d.at at) refl earlier there parts.0 (head_of done rest at past c parts.1 left)
   where
-    parts = and_parts (is_answered d.at past) (list_all (λ m. is_answered m.at past) done) answered
-
     by_place : (b : Bool) → same_at d.at at ≡ b → (if b then true else is_answered d.at past && earlier_answered (done ++ rest) at past) ≡ true
-        → (if b then Some d.command else command_at (done ++ rest) at) ≡ Some c
+        → (if b then Some d.command else command_at (done ++ rest) at) ≡ Some c → is_answered d.at past ≡ true
         → (earlier_answered (done ++ rest) at past ≡ true → is_answered at past ≡ false → command_at (done ++ rest) at ≡ Some c → Head at c rest) → Head at c rest
-    by_place true e f g ih = absurd (true≢false (sym parts.0 ∙ (ap (λ (a : At). is_answered a past) (at_same d.at at e) ∙ fresh)))
-    by_place false e f g ih = ih (and_parts (is_answered d.at past) (earlier_answered (done ++ rest) at past) f).1 fresh g
+    by_place true e f g met ih = absurd (true≢false (sym met ∙ (ap (λ (a : At). is_answered a past) (at_same d.at at e) ∙ fresh)))
+    by_place false e f g met ih = ih (and_parts (is_answered d.at past) (earlier_answered (done ++ rest) at past) f).1 fresh g
 
 stays_open : (x b : Bool) → x ≡ false → not b ≡ true → not (x || b) ≡ true
 stays_open true b e h = absurd (true≢false e)
@@ -257,6 +256,7 @@ module _ (n : ℕ) (few : n ≤ 10000) (past : Past) (e : Entry) (quiet : IsCalm
       let line = found is_owned (all_of n) e.at turn.command (owned_lines n few) turn.there in
       subst (λ (a : At). asks_for a.lane.0 turn.command ≡ true) line.place (subst (λ (c : LineCommand). asks_for line.line.at.lane.0 c ≡ true) line.asks line.holds)
 
+  suits : Suits turn.command e.at past (last_of_line e.at past) e.event × (earlier_answered (of_lane e.at.lane.0 (all_of n)) e.at past ≡ true)
   suits = turn_suits n past e calm turn
 
   gained : accepted_of e.event ≡ (if is_reply e.event then operations_asked turn.command else [])
@@ -315,7 +315,7 @@ module _ (n : ℕ) (few : n ≤ 10000) (past : Past) (e : Entry) (quiet : IsCalm
           or_left (is_reply e.event && same_at e.at head.line.at) (is_answered head.line.at past)
           (and_from (is_reply e.event) (same_at e.at head.line.at) reply (ap (same_at e.at) head.place ∙ at_self e.at)) in
       let mine : owned lane (accepted_of e.event) ≡ operations_asked head.line.command =
-          ap (owned lane) (gained ∙ rw reply refl)
+          ap (owned lane) (gained ∙ ap (λ (b : Bool). if b then operations_asked turn.command else []) reply)
           ∙ (owned_asked lane lane (operations_asked turn.command) asked ∙ (ap (λ (b : Bool). if b then operations_asked turn.command else []) (eq-eqb lane lane refl) ∙ ap operations_asked (sym head.asks))) in
       record {
         done = split.done ++ head.line ∷ [];
@@ -337,13 +337,13 @@ module _ (n : ℕ) (few : n ≤ 10000) (past : Past) (e : Entry) (quiet : IsCalm
   split_next lane split = by_tests (is_reply e.event) (e.at.lane.0 == lane) refl refl
     where
       by_tests : (r s : Bool) → is_reply e.event ≡ r → (e.at.lane.0 == lane) ≡ s → Split n lane (e ∷ past)
-      by_tests false s f g = aside lane split (λ l mine. ap (λ (b : Bool). b && same_at e.at l.at) f) (ap (owned lane) (gained ∙ rw f refl))
+      by_tests false s f g = aside lane split (λ l mine. ap (λ (b : Bool). b && same_at e.at l.at) f) (ap (owned lane) (gained ∙ ap (λ (b : Bool). if b then operations_asked turn.command else []) f))
       by_tests true false f g =
-          aside lane split (λ l mine. and_off (is_reply e.event) (same_at e.at l.at) (other_lane e.at l.at mine))
-          (ap (owned lane) (gained ∙ rw f refl) ∙ (owned_asked lane e.at.lane.0 (operations_asked turn.command) asked ∙ ap (λ (b : Bool). if b then operations_asked turn.command else []) g))
+          aside lane split (λ l mine. and_off (is_reply e.event) (same_at e.at l.at) (other_lane e.at l.at g mine))
+          (ap (owned lane) (gained ∙ ap (λ (b : Bool). if b then operations_asked turn.command else []) f) ∙ (owned_asked lane e.at.lane.0 (operations_asked turn.command) asked ∙ ap (λ (b : Bool). if b then operations_asked turn.command else []) g))
         where
-          other_lane : (a b : At) → (b.lane.0 == lane) ≡ true → same_at a b ≡ false
-          other_lane a b mine = grind (arith, nat_tests)
+          other_lane : (a b : At) → (a.lane.0 == lane) ≡ false → (b.lane.0 == lane) ≡ true → same_at a b ≡ false
+          other_lane a b other mine = grind (arith, nat_tests)
       by_tests true true f g =
           let same : e.at.lane.0 ≡ lane = eqb-true e.at.lane.0 lane g in
           subst (λ (k : ℕ). Split n k past → Split n k (e ∷ past)) same (answers f) split
@@ -427,11 +427,11 @@ written_keyed n size (e ∷ past) legal serves =
     ap (list_all is_keyed) (written_grows e past calm.0)
     ∙ (list_all-append is_keyed (operations_written past) (accepted_of e.event)
     ∙ and_from (list_all is_keyed (operations_written past)) (list_all is_keyed (accepted_of e.event)) (written_keyed n size past legal.1 serves.1)
-    (ap (list_all is_keyed) gained ∙ by_reply (is_reply e.event) (keyed_asked turn.command known)))
+    (ap (list_all is_keyed) gained ∙ by_reply (operations_asked turn.command) (is_reply e.event) (keyed_asked turn.command known)))
   where
-    by_reply : {ops : List Op} (b : Bool) → list_all is_keyed ops ≡ true → list_all is_keyed (if b then ops else []) ≡ true
-    by_reply true keyed = keyed
-    by_reply false keyed = refl
+    by_reply : (ops : List Op) (b : Bool) → list_all is_keyed ops ≡ true → list_all is_keyed (if b then ops else []) ≡ true
+    by_reply ops true keyed = keyed
+    by_reply ops false keyed = refl
 
 -- where the lines before the join have their replies, what is written leaves the documents of the script
 pub documents_written : (n size : ℕ) (past : Past) → n ≤ 10000 → IsLegalPast size past → ServesLanes (generated_script n) past
@@ -444,7 +444,7 @@ documents_written n size past few legal serves first =
 
 -- ---- phases
 
-under_has : (p : Line → Bool) (lane more k : ℕ) (lines : List Line) → k ≤ lane → lane < k + more → list_all p (under (lanes_from more k lines)) ≡ true → list_all p (of_lane lane lines) ≡ true
+pub under_has : (p : Line → Bool) (lane more k : ℕ) (lines : List Line) → k ≤ lane → lane < k + more → list_all p (under (lanes_from more k lines)) ≡ true → list_all p (of_lane lane lines) ≡ true
 under_has p lane zero k lines low high all = absurd (omega (arith, low, high))
 under_has p lane (suc more) k lines low high all =
     let parts = all_parts p (of_lane k lines) (under (lanes_from more (k + 1) lines)) (ap (list_all p) (sym (under_entry k (of_lane k lines) (lanes_from more (k + 1) lines))) ∙ all) in
@@ -456,7 +456,7 @@ under_has p lane (suc more) k lines low high all =
         let above : k + 1 ≤ lane = grind (arith, nat_tests) in
         rest above
 
-below : (m : ℕ) (lines : List Line) (at : At) → CountUp m lines → m + length lines ≤ at.line.0 → list_all (λ l. not (same_at l.at at)) lines ≡ true
+pub below : (m : ℕ) (lines : List Line) (at : At) → CountUp m lines → m + length lines ≤ at.line.0 → list_all (λ l. not (same_at l.at at)) lines ≡ true
 below m [] at count high = refl
 below m (l ∷ lines) at count high =
     let number : l.at.line.0 ≡ m = count.0 in

@@ -30,7 +30,7 @@ use Rattle.load_script.specs.Generated.{load_lines, lines_numbered, last_command
 use Rattle.load_script.specs.Totals.{place_behind}
 use Rattle.load_script.proofs.LoadForm.{load_count, last_of}
 use Rattle.load_laws.proofs.CalmPasts.{is_calm_event, IsCalm}
-use Rattle.load_laws.proofs.LoadTurns.{all_of, is_calm_command, found, command_lane, Turn, turn_of, command_calm, serves_calm, turn_open, turn_suits}
+use Rattle.load_laws.proofs.LoadTurns.{all_of, is_calm_command, at_same, found, command_lane, Turn, turn_of, command_calm, serves_calm, turn_open, turn_suits}
 use Rattle.load_laws.proofs.LaneSplits.{all_more, below, first_answered}
 use Rattle.load_laws.proofs.FewNames.{published_by}
 
@@ -65,16 +65,8 @@ pub record Replied (at : At) (past : Past) : Type 0 where
   pub is : past ≡ newer ++ record { at = at; event = event } ∷ older
   pub reply : is_reply event ≡ true
 
-at_is : (a b : At) → same_at a b ≡ true → (e : Event) → ◌≡◌ {A = Entry} (record { at = a; event = e }) (record { at = b; event = e })
-at_is a b same e = ap (λ (x : At). record { at = x; event = e }) (at_equal a b same)
-  where
-    at_equal : (a b : At) → same_at a b ≡ true → a ≡ b
-    at_equal a b same =
-        let parts = and_parts (a.lane.0 == b.lane.0) (a.line.0 == b.line.0) same in
-        same_parts a.lane.0 b.lane.0 a.line.0 b.line.0 (eqb-true a.lane.0 b.lane.0 parts.0) (eqb-true a.line.0 b.line.0 parts.1)
-      where
-        same_parts : (k l m n : ℕ) → k ≡ l → m ≡ n → ◌≡◌ {A = At} (record { lane = record { 0 = k }; line = record { 0 = m } }) (record { lane = record { 0 = l }; line = record { 0 = n } })
-        same_parts k l m n f g = cc
+pub at_is : (a b : At) → same_at a b ≡ true → (e : Event) → ◌≡◌ {A = Entry} (record { at = a; event = e }) (record { at = b; event = e })
+at_is a b same e = ap (λ (x : At). record { at = x; event = e }) (at_same a b same)
 
 pub replied : (at : At) (past : Past) → is_answered at past ≡ true → Replied at past
 replied at [] is = absurd (false≢true is)
@@ -149,14 +141,14 @@ earlier-behind (x ∷ xs) ys at past none earlier = by_place (same_at x.at at) n
     by_place false h f ih = ih h (and_parts (is_answered x.at past) (earlier_answered (xs ++ ys) at past) f).1
 
 -- the place of a line of lane 1
-abbrev place : ℕ → At
+abbrev pub place : ℕ → At
 place k = record { lane = record { 0 = 1 }; line = record { 0 = k } }
 
 apart_below : (k m : ℕ) → k < m → same_at (place k) (place m) ≡ false
 apart_below k m low = grind (arith, nat_tests)
 
 -- the i-th command of lines that are numbered from k on
-command_numbered : (cs rest : _) (k m i : ℕ) (c : LineCommand) → m ≡ k + i → slice_get cs i ≡ Some c → command_at (lines_numbered k 1 cs ++ rest) (place m) ≡ Some c
+command_numbered : (cs : List LineCommand) (rest : List Line) (k m i : ℕ) (c : LineCommand) → m ≡ k + i → slice_get cs i ≡ Some c → command_at (lines_numbered k 1 cs ++ rest) (place m) ≡ Some c
 command_numbered [] rest k m i c is there = absurd (none_some c there)
   where
     none_some : (x : LineCommand) → None ≡ Some x → ⊥
@@ -236,7 +228,7 @@ is_publish command = false
 pub record IsLate (n : ℕ) (past : Past) : Type 0 where
   pub late : (lane : ℕ) → 1 ≤ lane → lane ≤ 8 → list_all (λ l. not (is_publish l.command) || is_answered l.at past) (of_lane lane (all_of n)) ≡ true
 
-late_of : (n : ℕ) (past : Past) → ((lane : ℕ) → 1 ≤ lane → lane ≤ 8 → list_all (λ l. is_answered l.at past) (of_lane lane (load_lines n)) ≡ true)
+pub late_of : (n : ℕ) (past : Past) → ((lane : ℕ) → 1 ≤ lane → lane ≤ 8 → list_all (λ l. is_answered l.at past) (of_lane lane (load_lines n)) ≡ true)
     → is_answered (place_behind n 0) past ≡ true → IsLate n past
 late_of n past first answered =
     let q : Line → Bool = λ l. not (is_publish l.command) || is_answered l.at past in
@@ -257,7 +249,7 @@ late_of n past first answered =
 pub late_behind : (n k : ℕ) (c : LineCommand) (past : Past) (e : Event) → 1 ≤ k → Behind n k c past e → IsLate n past
 late_behind n k c past e low has = late_of n past has.first (has.earlier 0 (omega (arith, low)) (omega arith))
 
-late_more : (n : ℕ) (past : Past) (e : Entry) → IsLate n past → IsLate n (e ∷ past)
+pub late_more : (n : ℕ) (past : Past) (e : Entry) → IsLate n past → IsLate n (e ∷ past)
 late_more n past e late =
     record {
       late = λ lane low high.
@@ -318,29 +310,49 @@ first_start c at past (Some x) e calm first = inr (ap is_reply first)
 first_start c at past None (Refused x) calm first = inr refl
 first_start c at past None e calm first = begins_start c past e calm first
 
+some_none : (y : Event) → Some y ≡ None → ⊥
+some_none y f = cc
+
+or_off : (r b a : Bool) → (r && b || a) ≡ false → a ≡ false
+or_off true true a h = absurd (true≢false h)
+or_off true false a h = h
+or_off false b a h = h
+
+start_off : (s b : Bool) (e : Event) (o : Option Event) → (if s && b then Some e else o) ≡ None → ((s && b) ≡ false) × (o ≡ None)
+start_off true true e o h = absurd (some_none e h)
+start_off true false e o h = (refl, h)
+start_off false b e o h = (refl, h)
+
+-- the first entry of a line starts or answers it
+starts : (n : ℕ) (past : Past) (e : Entry) → Known n (e ∷ past) → last_of_line e.at past ≡ None → (is_start e.event ≡ true) ⊎ (is_reply e.event ≡ true)
+starts n past e known none =
+    let turn = turn_of n past e known.lanes in
+    let suits = turn_suits n past e (known_calm n (e ∷ past) known).0 turn in
+    first_start turn.command e.at past (refusal turn.command e.at.lane.0 past) e.event (command_calm n e.at turn.command turn.there)
+    (subst (λ (l : Option Event). Suits turn.command e.at past l e.event) none suits.0)
+
 -- a line with an entry has its reply or its start
-pub has_start : (n : ℕ) (at : At) (past : Past) (x : Event) → Known n past → last_of_line at past ≡ Some x → is_answered at past ≡ false → (start_entry at past ≡ None → ⊥)
+pub has_start : (n : ℕ) (at : At) (past : Past) (x : Event) → Known n past → last_of_line at past ≡ Some x → is_answered at past ≡ false → start_entry at past ≡ None → ⊥
 has_start n at [] x known last unmet none = none_some x last
   where
     none_some : (y : Event) → None ≡ Some y → ⊥
     none_some y e = cc
-has_start n at (e ∷ past) x known last unmet none = by_place (same_at e.at at) refl last unmet none
+has_start n at (e ∷ past) x known last unmet none = by_place (same_at e.at at) refl last unmet none (λ y. has_start n at past y (known_before n (e ∷ []) past known))
   where
-    before : Known n past
-    before = known_before n (e ∷ []) past known
+    none_of : (o : Option Event) → last_of_line at past ≡ o → same_at e.at at ≡ true → (is_start e.event && true) ≡ false → (is_reply e.event && true || is_answered at past) ≡ false
+        → start_entry at past ≡ None → ((y : Event) → last_of_line at past ≡ Some y → is_answered at past ≡ false → start_entry at past ≡ None → ⊥) → ⊥
+    none_of (Some y) is same off g h ih = ih y is (or_off (is_reply e.event) true (is_answered at past) g) h
+    none_of None is same off g h ih =
+        elim (starts n past e known (ap (λ (a : At). last_of_line a past) (at_same e.at at same) ∙ is)) [
+          | inl start ↦ true≢false (sym (ap (λ (b : Bool). b && true) start) ∙ off)
+          | inr reply ↦ true≢false (sym (ap (λ (b : Bool). b && true || is_answered at past) reply) ∙ g)
+        ]
 
-    calm : is_calm_event e.event ≡ true
-    calm = (known_calm n (e ∷ past) known).0
-
-    turn : Turn n past e
-    turn = turn_of n past e known.lanes
-
-    no_start : (b : Bool) → (is_start e.event && b) ≡ true → (if is_start e.event && b then Some e.event else start_entry at past) ≡ None → ⊥
-    no_start b starts is = some_none e.event (ap (λ (t : Bool). if t then Some e.event else start_entry at past) (sym starts) ∙ is)
-      where
-        some_none : (y : Event) → Some y ≡ None → ⊥
-        some_none y f = cc
-
-    by_place : (b : Bool) → same_at e.at at ≡ b → (if b then (elim e.event [ Fault m kind ↦ last_of_line at past | event ↦ Some event ]) else last_of_line at past) ≡ Some x
-        → (is_reply e.event && b || is_answered at past) ≡ false → (if is_start e.event && b then Some e.event else start_entry at past) ≡ None → ⊥
-    by_place b same f g h = ?
+    by_place : (b : Bool) → same_at e.at at ≡ b → ◌≡◌ {A = Option Event} (if b then (elim e.event [ Fault m kind ↦ last_of_line at past | event ↦ Some event ]) else last_of_line at past) (Some x)
+        → (is_reply e.event && b || is_answered at past) ≡ false → (if is_start e.event && b then Some e.event else start_entry at past) ≡ None
+        → ((y : Event) → last_of_line at past ≡ Some y → is_answered at past ≡ false → start_entry at past ≡ None → ⊥) → ⊥
+    by_place true same f g h ih =
+        let parts = start_off (is_start e.event) true e.event (start_entry at past) h in
+        none_of (last_of_line at past) refl same parts.0 g parts.1 ih
+    by_place false same f g h ih =
+        ih x f (or_off (is_reply e.event) false (is_answered at past) g) (start_off (is_start e.event) false e.event (start_entry at past) h).1

@@ -2,4 +2,6 @@ mod CalmPasts
 mod FewNames
 mod KeyedOps
 mod LaneSplits
+mod LastLines
 mod LoadTurns
+mod Searching
