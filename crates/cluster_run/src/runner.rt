@@ -8,7 +8,7 @@ use crate::line::do_line;
 use cluster_core::Cluster;
 use disk_model::FaultDir;
 use hist_lock::{HistLock, LaneSeat};
-use lane_crew::{Halt, RunsLines};
+use lane_crew::{Halt, Lane, RunsLines};
 use lane_sections::Gate;
 use nrt_base::NoMemory;
 use script_serving::Line;
@@ -39,5 +39,16 @@ impl<'g, D: FaultDir + Drop, G: Gate> RunsLines<Cluster<D>> for ClusterLines<'g,
         do_line(
             rt, self.alloc, lock, self.nodes, self.gate, halt, seat, line,
         )
+    }
+
+    // No line posts a task.
+    fn do_task<R: Wait>(
+        &self,
+        rt: &R,
+        lock: &HistLock<Cluster<D>>,
+        halt: &Halt,
+        lane: &mut Lane<Cluster<D>>,
+    ) -> Result<bool, NoMemory> {
+        Ok(false)
     }
 }

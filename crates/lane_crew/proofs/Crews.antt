@@ -22,8 +22,8 @@ use Rattle.lane_walks.proofs.PhaseLemmas.{part_of, part_fresh, ready_after}
 use Rattle.lane_walks.proofs.ScriptLemmas.{phase_done}
 use Rattle.lane_seats.specs.Seats.{log_seen, IsLaneSeat}
 use Rattle.lane_parts.specs.declared.lane.Lane.{Lane}
-use Rattle.lane_parts.specs.Parts.{IsIdleLane, MayRunPart, TakesTurn}
-use Rattle.lane_crew.specs.Lanes.{AreCrew, EachLane, EachChange, IsHubSeat, HasHeard, AllIncluded, DoesPhase, CrewDoesPhase, ArePhasesDone}
+use Rattle.lane_parts.specs.Parts.{IsIdleLane, HasHeard, MayRunPart, TakesTurn}
+use Rattle.lane_crew.specs.Lanes.{AreCrew, EachLane, EachChange, IsHubSeat, AllIncluded, DoesPhase, CrewDoesPhase, ArePhasesDone}
 use Rattle.lane_parts.proofs.Parts.{part_passes}
 
 module _ {T : Type 0} {g : Ghosts T Mark} where
@@ -76,7 +76,7 @@ module _ {T : Type 0} {g : Ghosts T Mark} (logged : Bool) (lock : HistLock T Mar
           idle = h.idle;
           done = phase_done logged lane phase (log_seen (slice_index_or old i d).seat) (log_seen (slice_index_or mid i d).seat) (log_seen (slice_index_or new i d).seat) form
               (r.ran (fine i d there)).ran apart (part_there i d lt);
-          worker = λ beyond. h.own ∙ t.worker beyond;
+          worker = λ beyond. h.own ∙ t.worker beyond (fine i d there);
         }
 
     pub crew_did : (s t : LaneSeat T Mark g) → split_count t ≡ split_count s → IsHubSeat logged lock t → CrewDoesPhase logged lock phase s t old new

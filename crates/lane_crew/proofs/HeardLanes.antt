@@ -14,43 +14,22 @@ use Rattle.history_book.specs.declared.inner.Mark.{Mark}
 use Rattle.history_book.specs.Log.{Log, name_of, lane_name}
 use Rattle.lane_walks.specs.Owes.{FaultsFit}
 use Rattle.lane_walks.specs.Walks.{GrowsByOthers, Includes}
-use Rattle.lane_walks.proofs.WalkLemmas.{includes_then, log_then}
+use Rattle.lane_walks.proofs.WalkLemmas.{includes_then}
 use Rattle.lane_seats.specs.Seats.{log_seen, IsLaneSeat}
-use Rattle.lane_seats.proofs.SeatLemmas.{all-append, told_apart, longer_faults}
+use Rattle.lane_seats.proofs.SeatLemmas.{told_apart, longer_faults}
 use Rattle.lane_parts.specs.declared.lane.Lane.{Lane}
-use Rattle.lane_parts.specs.Parts.{IsIdleLane}
-use Rattle.lane_crew.specs.Lanes.{EachLane, EachChange, HasHeard, IsHubSeat, HubHears, HubTells, EachIncluded, EachIncludes, AllIncluded}
+use Rattle.lane_parts.specs.Parts.{IsIdleLane, HasHeard}
+use Rattle.lane_parts.proofs.Hearing.{heard_first, heard_then}
+use Rattle.lane_crew.specs.Lanes.{EachLane, EachChange, IsHubSeat, HubHears, HubTells, EachIncluded, EachIncludes, AllIncluded}
 use Rattle.lane_crew.proofs.Places.{by_place}
 
 included : (seen found : List Mark) → IsPrefix seen found → Includes (reverse seen) (reverse found)
 included seen found pre = record { more = reverse pre.0; log = ap reverse (sym pre.1) ∙ reverse-append seen pre.0 }
 
-apart_then : (logged : Bool) (lane : ℕ) (a b c : Log) → GrowsByOthers logged lane a b → GrowsByOthers logged lane b c → GrowsByOthers logged lane a c
-apart_then logged lane a b c h k =
-    record {
-      more = k.more ++ h.more;
-      log = log_then a b c h.more k.more h.log k.log;
-      apart = all-append (λ (m : Mark). name_of m ≢ lane_name lane) k.more h.more k.apart h.apart;
-      faults = k.faults;
-    }
-
 both_faults : (logged : Bool) (a b c : List Mark) → HasBoth a b c → FaultsFit logged (reverse a) → FaultsFit logged (reverse b) → FaultsFit logged (reverse c)
 both_faults logged a b c both f h = subst (λ (ms : List Mark). FaultsFit logged (reverse ms)) (sym both.longer) (longer_faults logged a b f h)
 
 module _ {T : Type 0} {g : Ghosts T Mark} (logged : Bool) (lock : HistLock T Mark) where
-  pub heard_first : (l : Lane T Mark g) → IsIdleLane logged lock l → HasHeard logged lock l l
-  heard_first l idle = record { number = refl; idle = idle; apart = record { more = []; log = refl; apart = tt; faults = idle.faults }; own = refl }
-
-  pub heard_then : (a b c : Lane T Mark g) → HasHeard logged lock a b → HasHeard logged lock b c → HasHeard logged lock a c
-  heard_then a b c h k =
-      record {
-        number = k.number ∙ h.number;
-        idle = k.idle;
-        apart = apart_then logged a.number.0 (log_seen a.seat) (log_seen b.seat) (log_seen c.seat) h.apart
-            (subst (λ (n : LaneNo). GrowsByOthers logged n.0 (log_seen b.seat) (log_seen c.seat)) h.number k.apart);
-        own = k.own ∙ h.own;
-      }
-
   heard_includes : (a b : Lane T Mark g) → HasHeard logged lock a b → Includes (log_seen a.seat) (log_seen b.seat)
   heard_includes a b h = record { more = h.apart.more; log = h.apart.log }
 
@@ -153,7 +132,7 @@ module _ {T : Type 0} {g : Ghosts T Mark} (logged : Bool) (lock : HistLock T Mar
         hub = hub;
         splits = refl;
         count = refl;
-        heard = λ i d lt. heard_first (slice_index_or ls i d) (idle i d lt);
+        heard = λ i d lt. heard_first logged lock (slice_index_or ls i d) (idle i d lt);
         same = λ i d lt. refl;
         included = λ i d none lt. absurd (omega arith);
       }
@@ -163,7 +142,7 @@ module _ {T : Type 0} {g : Ghosts T Mark} (logged : Bool) (lock : HistLock T Mar
       record {
         hub = record { hub = hub; splits = refl; same = refl };
         count = refl;
-        heard = λ i d lt. heard_first (slice_index_or ls i d) (idle i d lt);
+        heard = λ i d lt. heard_first logged lock (slice_index_or ls i d) (idle i d lt);
         includes = λ i d none lt. absurd (omega arith);
       }
 
@@ -179,7 +158,7 @@ module _ {T : Type 0} {g : Ghosts T Mark} (logged : Bool) (lock : HistLock T Mar
     moved_heard : EachChange (HasHeard logged lock) ls (set ms k moved)
     moved_heard i d lt =
         by_place ms k i moved d (λ (x : Lane T Mark g). HasHeard logged lock (slice_index_or ls i d) x) inside
-        (λ e. heard_then (slice_index_or ls i d) (slice_index_or ms i d) moved (each i d lt) (subst (λ (x : Lane T Mark g). HasHeard logged lock x moved) (at_place ms k i item d inside e) here))
+        (λ e. heard_then logged lock (slice_index_or ls i d) (slice_index_or ms i d) moved (each i d lt) (subst (λ (x : Lane T Mark g). HasHeard logged lock x moved) (at_place ms k i item d inside e) here))
         (λ e. each i d lt)
 
     pub gathering_on : (s t u : LaneSeat T Mark g) → Gathering k s t ls ms → log_seen moved.seat ≡ log_seen (slice_index_or ms k item).seat
@@ -208,6 +187,10 @@ module _ {T : Type 0} {g : Ghosts T Mark} (logged : Bool) (lock : HistLock T Mar
               (λ e. subst (λ (l : Log). Includes l (log_seen moved.seat)) r.hub.same inc) (λ e. r.includes i d (omega arith) within);
         }
 
+  -- the first lane has heard of what was left
+  pub first_heard : (ls : List (Lane T Mark g)) (item moved : Lane T Mark g) → 0 < length ls → EachLane (IsIdleLane logged lock) ls → HasHeard logged lock (slice_index_or ls 0 item) moved → EachChange (HasHeard logged lock) ls (set ls 0 moved)
+  first_heard ls item moved some idle here = moved_heard 0 ls ls item moved some refl (λ i d lt. heard_first logged lock (slice_index_or ls i d) (idle i d lt)) here
+
   -- ---- all lanes
 
   pub idle_after : (ls ms : List (Lane T Mark g)) → length ms ≡ length ls → EachChange (HasHeard logged lock) ls ms → EachLane (IsIdleLane logged lock) ms
@@ -215,8 +198,14 @@ module _ {T : Type 0} {g : Ghosts T Mark} (logged : Bool) (lock : HistLock T Mar
 
   module _ (ls ms ns : List (Lane T Mark g)) (s : LaneSeat T Mark g) (first : length ms ≡ length ls) (heard : EachChange (HasHeard logged lock) ls ms) (later : EachChange (HasHeard logged lock) ms ns) where
     pub all_heard : EachChange (HasHeard logged lock) ls ns
-    all_heard i d lt = heard_then (slice_index_or ls i d) (slice_index_or ms i d) (slice_index_or ns i d) (heard i d lt) (later i d (omega arith))
+    all_heard i d lt = heard_then logged lock (slice_index_or ls i d) (slice_index_or ms i d) (slice_index_or ns i d) (heard i d lt) (later i d (omega arith))
 
     pub all_included : length ns ≡ length ms → EachIncluded ls (log_seen s) → EachIncludes (log_seen s) ns → AllIncluded ls ns
     all_included second inc incs i d lt j e lt' =
         includes_then (log_seen (slice_index_or ls i d).seat) (log_seen s) (log_seen (slice_index_or ns j e).seat) (inc i d lt) (incs j e lt')
+
+  -- what each lane had seen before the first one went on is included in what all have seen at the end
+  pub included_before : (ls ms ns : List (Lane T Mark g)) → length ms ≡ length ls → EachChange (HasHeard logged lock) ls ms → AllIncluded ms ns → AllIncluded ls ns
+  included_before ls ms ns count heard all i d lt j e lt' =
+      includes_then (log_seen (slice_index_or ls i d).seat) (log_seen (slice_index_or ms i d).seat) (log_seen (slice_index_or ns j e).seat)
+      (heard_includes (slice_index_or ls i d) (slice_index_or ms i d) (heard i d lt)) (all i d (omega arith) j e lt')

@@ -12,7 +12,7 @@ use Rattle.hist_lock.specs.Views.{all_room}
 use Rattle.history_book.specs.declared.inner.Mark.{Mark}
 use Rattle.history_book.specs.Log.{Log, name_of}
 use Rattle.lane_walks.specs.Owes.{FaultsFit}
-use Rattle.lane_walks.specs.Walks.{GrowsByOthers, Includes}
+use Rattle.lane_walks.specs.Walks.{Includes}
 use Rattle.lane_walks.specs.Phases.{LaneReady, PhaseDone}
 use Rattle.lane_seats.specs.declared.run.Setup.{Setup}
 use Rattle.lane_seats.specs.Seats.{log_seen}
@@ -41,13 +41,6 @@ module _ {T : Type 0} {g : Ghosts T Mark} where
     pub none : (i : ℕ) (d : Lane T Mark g) → 8 ≤ i → i < length ls → own_entries (slice_index_or ls i d).seat ≡ []
 
   -- ---- what is heard of others
-
-  -- the lane has heard of what others did, and did nothing itself
-  pub record HasHeard (logged : Bool) (lock : HistLock T Mark) (before after : Lane T Mark g) : Type 0 where
-    pub number : after.number ≡ before.number
-    pub idle : IsIdleLane logged lock after
-    pub apart : GrowsByOthers logged before.number.0 (log_seen before.seat) (log_seen after.seat)
-    pub own : own_entries after.seat ≡ own_entries before.seat
 
   -- the first seat of a lock, which holds nothing
   pub record IsFirstSeat (lock : HistLock T Mark) (s : LaneSeat T Mark g) : Type 0 where

@@ -4,8 +4,8 @@ ghost use Rattle.std.specs.Prelude.{◌≡◌, ℕ, ◌<◌, length, false, slic
 ghost use Rattle.hist_lock.specs.Seats.{split_count};
 ghost use Rattle.lane_walks.specs.Walks.{Includes};
 ghost use Rattle.lane_seats.specs.Seats.{log_seen};
-ghost use Rattle.lane_parts.specs.Parts.{IsIdleLane};
-ghost use Rattle.lane_crew.specs.Lanes.{IsHubSeat, HasHeard, EachLane, EachChange, AllIncluded, EachIncluded, EachIncludes, HubHears, HubTells};
+ghost use Rattle.lane_parts.specs.Parts.{IsIdleLane, HasHeard};
+ghost use Rattle.lane_crew.specs.Lanes.{IsHubSeat, EachLane, EachChange, AllIncluded, EachIncluded, EachIncludes, HubHears, HubTells};
 
 use hist_lock::{HistLock, LaneSeat};
 use lane_parts::Lane;

@@ -6,12 +6,12 @@ ghost use Rattle.nrt_base.specs.contracts.list.List as list;
 ghost use Rattle.script_serving.specs.contracts.script.Phase as script_phase;
 ghost use Rattle.script_serving.specs.declared.script.Phase.{Phase};
 ghost use Rattle.script_serving.specs.Form.{is_phase};
-ghost use Rattle.lane_parts.specs.Parts.{MayRunPart, TakesTurn};
+ghost use Rattle.lane_parts.specs.Parts.{HasHeard, IsIdleLane, MayRunPart, TakesTurn};
 ghost use Rattle.lane_crew.specs.Lanes.{AreCrew, IsHubSeat, EachLane, EachChange, CrewDoesPhase};
 
 use crate::hearing::tell_all;
 use hist_lock::{HistLock, LaneSeat};
-use lane_parts::{Lane, RunsLines, take_turn};
+use lane_parts::{Lane, RunsLines, do_tasks, take_turn};
 use lane_seats::{Halt, LaneRun};
 use nrt_base::{LaneNo, List, NoMemory};
 use script_serving::{Line, Phase};
@@ -111,7 +111,24 @@ fn run_parts<
     );
 }
 
-/// Runs a phase.
+// The first lane does the tasks that are left behind a phase.
+fn do_left<R: Wait, T: LaneRun, Q: RunsLines<T>>(
+    rt: &R,
+    lock: &HistLock<T>,
+    halt: &Halt,
+    runner: &Q,
+    lanes: &mut [Lane<T>],
+) -> Result<(), NoMemory>
+    requires some { 0 < length lanes.old }
+    requires idle { EachLane (IsIdleLane (Q.set_up runner.now).log lock.now) lanes.old }
+    ensures heard { OnOk result (EachChange (HasHeard (Q.set_up runner.now).log lock.now)
+        lanes.old lanes.new) }
+    ensures length { OnOk result (length lanes.new ≡ length lanes.old) }
+{
+    do_tasks(rt, lock, halt, runner, &mut lanes[0])
+}
+
+/// Runs a phase: the lanes and workers at once, and then the tasks that are left.
 pub fn run_phase<R: Threads + Wait + Sync, T: LaneRun + Send, Q: RunsLines<T> + Sync>(
     rt: &R,
     lock: &HistLock<T>,
@@ -135,6 +152,7 @@ pub fn run_phase<R: Threads + Wait + Sync, T: LaneRun + Send, Q: RunsLines<T> + 
     if any_failed(lanes) {
         return Err(AllocError);
     }
+    do_left(rt, lock, &halt, runner, lanes)?;
     tell_all(lock, logged, hub, lanes);
     Ok(())
 }

@@ -9,7 +9,7 @@ ghost use Rattle.lane_crew.specs.Lanes.{setup_of};
 use crate::run_script;
 use hist_lock::{Grows, HistLock, LaneSeat};
 use history_book::Mark;
-use lane_parts::RunsLines;
+use lane_parts::{Lane, RunsLines};
 use lane_seats::{Halt, LaneRun, Setup};
 use nrt_base::{LaneNo, List, NoMemory};
 use script_serving::{Line, LineCommand, Phase, Script};
@@ -71,6 +71,16 @@ impl RunsLines<Silent> for RunsNothing {
         line: &Line,
     ) -> Result<(), NoMemory> {
         Err(AllocError)
+    }
+
+    fn do_task<R: Wait>(
+        &self,
+        rt: &R,
+        lock: &HistLock<Silent>,
+        halt: &Halt,
+        lane: &mut Lane<Silent>,
+    ) -> Result<bool, NoMemory> {
+        Ok(false)
     }
 }
 

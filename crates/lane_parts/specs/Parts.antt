@@ -11,7 +11,7 @@ use Rattle.hist_lock.specs.declared.lock.LaneSeat.{LaneSeat}
 use Rattle.hist_lock.specs.Seats.{own_entries}
 use Rattle.history_book.specs.declared.inner.Mark.{Mark}
 use Rattle.history_book.specs.Log.{printed}
-use Rattle.lane_walks.specs.Walks.{AreUnbegun, ArePart, LinesRan}
+use Rattle.lane_walks.specs.Walks.{GrowsByOthers, AreUnbegun, ArePart, LinesRan}
 use Rattle.lane_seats.specs.Seats.{log_seen, IsLaneSeat}
 use Rattle.lane_parts.specs.declared.lane.Lane.{Lane}
 
@@ -23,6 +23,13 @@ module _ {T : Type 0} {g : Ghosts T Mark} where
   -- the lane's seat holds nothing
   abbrev pub IsIdleLane : Bool → HistLock T Mark → Lane T Mark g → Type 0
   IsIdleLane logged lock l = IsLaneSeat logged lock l.number.0 l.seat
+
+  -- the lane or worker has heard of what others did, and did nothing itself
+  pub record HasHeard (logged : Bool) (lock : HistLock T Mark) (before after : Lane T Mark g) : Type 0 where
+    pub number : after.number ≡ before.number
+    pub idle : IsIdleLane logged lock after
+    pub apart : GrowsByOthers logged before.number.0 (log_seen before.seat) (log_seen after.seat)
+    pub own : own_entries after.seat ≡ own_entries before.seat
 
   -- lines of a lane were done, and its seat holds nothing
   pub record EndsItsPart (logged : Bool) (lock : HistLock T Mark) (lane : ℕ) (lines : List Line) (before after : LaneSeat T Mark g) : Type 0 where
@@ -41,7 +48,7 @@ module _ {T : Type 0} {g : Ghosts T Mark} where
     pub number : after.number ≡ before.number
     pub ran : after.failed ≡ false → EndsItsPart logged lock before.number.0 (lines_under before.number.0 phase.lanes) before.seat after.seat
 
-  -- the lane has run them, and a worker has appended nothing
+  -- the lane has run them, and a worker that did not fail has appended nothing of its own
   pub record TakesTurn (logged : Bool) (lock : HistLock T Mark) (phase : Phase) (before after : Lane T Mark g) : Type 0 where
     pub part : RunsPart logged lock phase before after
-    pub worker : 8 < before.number.0 → own_entries after.seat ≡ own_entries before.seat
+    pub worker : 8 < before.number.0 → after.failed ≡ false → own_entries after.seat ≡ own_entries before.seat

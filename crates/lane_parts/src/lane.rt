@@ -1,4 +1,4 @@
-//! Lanes and workers, and what runs the lines of a lane.
+//! Lanes and workers, and what runs the lines of a lane and does tasks.
 
 ghost use Rattle.std.specs.Prelude.{◌≡◌, Bool, [], IsTrue, OnOk};
 ghost use Rattle.history_entries.specs.Lines.{entries_of_line};
@@ -6,6 +6,7 @@ ghost use Rattle.script_serving.specs.declared.script.LineCommand.{LineCommand};
 ghost use Rattle.history_book.specs.Log.{printed};
 ghost use Rattle.lane_seats.specs.declared.run.Setup.{Setup};
 ghost use Rattle.lane_seats.specs.Seats.{log_seen, IsLaneSeat, EndsItsLine};
+ghost use Rattle.lane_parts.specs.Parts.{IsIdleLane, HasHeard};
 
 use hist_lock::{Grows, HistLock, LaneSeat};
 use lane_seats::{Halt, LaneRun, Setup};
@@ -23,9 +24,9 @@ pub struct Lane<T: Grows> {
     pub failed: bool,
 }
 
-/// What runs a line: it takes the lock as often as the line has steps, and works between them.
+/// What runs a line, or does a task that a line has posted: it takes the lock as often as there are steps, and works between them.
 ///
-/// It is shared by all lanes.
+/// It is shared by all lanes and workers.
 pub trait RunsLines<T: LaneRun> {
     /// How the runs were set up whose lines it runs.
     ghost set_up: { Self → Setup };
@@ -49,4 +50,18 @@ pub trait RunsLines<T: LaneRun> {
         requires fresh { entries_of_line line.now.at (printed (log_seen seat.old)) ≡ [] }
         ensures { OnOk result (EndsItsLine (set_up self.now).log lock.now
             line.now.command line.now.at seat.old seat.new) };
+
+    /// Does a task that is posted, and answers whether there was one. `Err` is want of memory alone.
+    ///
+    /// What is appended is nobody's: for the lane or worker it is as if others had gone on.
+    fn do_task<R: Wait>(
+        &self,
+        rt: &R,
+        lock: &HistLock<T>,
+        halt: &Halt,
+        lane: &mut Lane<T>,
+    ) -> Result<bool, NoMemory>
+        requires { IsIdleLane (set_up self.now).log lock.now lane.old }
+        ensures number { lane.new.number ≡ lane.old.number }
+        ensures heard { OnOk result (HasHeard (set_up self.now).log lock.now lane.old lane.new) };
 }

@@ -1,4 +1,4 @@
-//! What a lane or a worker does in a phase: a lane runs its lines, one after another, and a worker waits until the lanes have ended.
+//! What a lane or a worker does in a phase: a lane runs its lines, one after another, and a worker does tasks until the lanes have ended.
 #![tactic(auto)]
 
 pub mod lane;
@@ -6,4 +6,4 @@ pub mod part;
 pub mod turn;
 
 pub use lane::{Lane, RunsLines};
-pub use turn::take_turn;
+pub use turn::{do_tasks, take_turn};

@@ -5,6 +5,6 @@ pub mod halt;
 pub mod run;
 pub mod section;
 
-pub use halt::Halt;
+pub use halt::{Glance, Halt};
 pub use run::{LaneRun, Setup};
 pub use section::{enter, is_running, leave};
