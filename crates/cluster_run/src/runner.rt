@@ -42,6 +42,7 @@ impl<'g, D: FaultDir + Drop, G: Gate> RunsLines<Cluster<D>> for ClusterLines<'g,
     }
 
     // No line posts a task.
+    #[tactic(auto, using(lane_parts::proofs::Hearing::heard_first))]
     fn do_task<R: Wait>(
         &self,
         rt: &R,

@@ -73,6 +73,7 @@ impl RunsLines<Silent> for RunsNothing {
         Err(AllocError)
     }
 
+    #[tactic(auto, using(lane_parts::proofs::Hearing::heard_first))]
     fn do_task<R: Wait>(
         &self,
         rt: &R,

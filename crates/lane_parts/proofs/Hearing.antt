@@ -1,5 +1,5 @@
 -- A lane or a worker that hears of what others did, once and again.
-use Rattle.std.proofs.Common.{◌≡◌, ◌≢◌, ℕ, Bool, [], ◌++◌, refl, ◌∙◌, subst}
+use Rattle.std.proofs.Common.{◌≢◌, ℕ, Bool, [], ◌++◌, refl, ◌∙◌, subst}
 use Rattle.nrt_base.specs.declared.numbers.LaneNo.{LaneNo}
 use Rattle.hist_lock.specs.declared.grows.Grows.{Ghosts}
 use Rattle.hist_lock.specs.declared.lock.HistLock.{HistLock}
