@@ -1,5 +1,5 @@
 -- What lanes and the first seat hear of each other.
-use Rattle.std.proofs.Common.{◌≡◌, ◌≢◌, ℕ, ◌+◌, ◌<◌, ◌≤◌, Bool, List, [], ◌++◌, refl, ap, ◌∙◌, sym, subst, arith, reverse, length, set, inl, inr}
+use Rattle.std.proofs.Common.{◌≡◌, ℕ, ◌+◌, ◌<◌, ◌≤◌, Bool, List, [], refl, ap, ◌∙◌, sym, subst, arith, reverse, length, set, inl, inr}
 use Rattle.std.specs.Prelude.{slice_index_or}
 use Rattle.std.proofs.lemmas.Bool.Decides.{eqb_tells}
 use Rattle.std.proofs.lemmas.List.{get_or_default, length-set, reverse-append}
@@ -11,7 +11,7 @@ use Rattle.hist_lock.specs.declared.lock.LaneSeat.{LaneSeat}
 use Rattle.hist_lock.specs.History.{HasBoth}
 use Rattle.hist_lock.specs.Seats.{history_seen, split_count, view_of, IsStillFree}
 use Rattle.history_book.specs.declared.inner.Mark.{Mark}
-use Rattle.history_book.specs.Log.{Log, name_of, lane_name}
+use Rattle.history_book.specs.Log.{Log, name_of}
 use Rattle.lane_walks.specs.Owes.{FaultsFit}
 use Rattle.lane_walks.specs.Walks.{GrowsByOthers, Includes}
 use Rattle.lane_walks.proofs.WalkLemmas.{includes_then}

@@ -3,7 +3,6 @@ use Rattle.std.proofs.Common.{◌≡◌, ℕ, ◌+◌, ◌<◌, ◌≤◌, Bool,
 use Rattle.std.specs.Prelude.{slice_index_or}
 use Rattle.std.proofs.lemmas.Bool.Decides.{eqb_tells}
 use Rattle.std.proofs.lemmas.List.{length-append, take_all}
-use mathlib.Core.List.{IsPrefix}
 use Rattle.script_serving.specs.declared.script.Phase.{Phase}
 use Rattle.hist_lock.specs.declared.grows.Grows.{Ghosts}
 use Rattle.hist_lock.specs.declared.lock.HistLock.{HistLock}

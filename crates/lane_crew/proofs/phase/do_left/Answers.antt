@@ -1,4 +1,3 @@
-use Rattle.lane_crew.proofs.HeardLanes.{first_heard}
 use Rattle.lane_crew.proofs.phase.do_left.Goals as goal
 
 pub do_tasks-requires : goal.do_tasks-requires
