@@ -1,8 +1,9 @@
-use Rattle.std.proofs.Common.{◌≡◌, ◌∙◌, refl, sym, ap, subst}
+use Rattle.std.proofs.Common.{◌≡◌, ◌∙◌, Result, Err, IsErrOf, refl, sym, ap, subst}
 use Rattle.seg_reader.specs.Stands.{AreSegmentsOf}
 use Rattle.primary_parts.specs.declared.parts.Parts.{Parts}
 use Rattle.primary_parts.specs.Merges.{merges_without}
 use Rattle.primary_parts.specs.Primary.{IsUnwritten}
+use Rattle.primary_parts.specs.declared.parts.PrimaryFault.{PrimaryFault}
 use Rattle.primary_parts.specs.declared.parts.PrimaryFault.TheVariants.{Memory, Failed}
 use Rattle.primary_merges.proofs.Abandoned.{refused_fills}
 use Rattle.primary_merges.proofs.CutPlaced.{ready_documents, cut_fills, cut_draws, unmerged, unplaced}
@@ -29,12 +30,15 @@ pub returns-in-Err-Failed-clause-drawn : goal.returns-in-Err-Failed-clause-drawn
 returns-in-Err-Failed-clause-drawn g c = record { each = λ q u. subst (λ (x : Parts _). IsUnwritten x q) c.write.ensures.others (c.abandon.ensures.drawn.each q u) }
 
 -- memory was wanting: all is as before
+not_failed : IsErrOf {T = Unit {0}} {E = PrimaryFault} (Err Memory) Failed → ⊥
+not_failed e = let never : ◌≡◌ {A = Result (Unit {0}) PrimaryFault} (Err Memory) (Err Failed) = e in absurd cc
+
 pub returns : goal.returns
 returns g c = record {
   cut = tt;
   documents = tt;
-  failed = λ e. (let never : Memory ≡ Failed = e in absurd cc);
-  ended = λ e. (let never : Memory ≡ Failed = e in absurd cc);
+  failed = λ e. absurd (not_failed e);
+  ended = λ e. absurd (not_failed e);
   memory = λ e. ap (λ (x : Parts _). x.merges) c.in-Err.ensures.others;
   err = unmerged c.args.parts.now c.write.new.parts c.in-Err.ensures.others;
   given_back = c.in-Err.ensures.no_new;
