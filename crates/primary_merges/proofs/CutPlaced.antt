@@ -1,5 +1,5 @@
 -- A cut-over, from its write to its releases.
-use Rattle.std.proofs.Common.{◌≡◌, ◌≢◌, ◌<◌, ◌≤◌, ◌+◌, ℕ, Bool, true, false, List, [], ◌++◌, inl, inr, Option, None, refl, sym, ap, subst, ◌∙◌, arith, true≢false, All}
+use Rattle.std.proofs.Common.{◌≡◌, ◌<◌, ◌≤◌, ◌+◌, ℕ, Bool, true, false, List, [], ◌++◌, inl, inr, Option, None, refl, sym, ap, subst, ◌∙◌, arith, true≢false, All}
 use Rattle.std.proofs.Common.{length, is_some, get_or}
 use Rattle.std.specs.Prelude.{IfSome}
 use Rattle.std.specs.List.{Contains}
