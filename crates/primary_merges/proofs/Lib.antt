@@ -1,10 +1,8 @@
 mod Carrying
-mod Begun
 mod MergedFiles
 mod Readied
 mod Abandoned
 mod CutSteps
 mod CutPlaced
-mod Begins
 mod CutMaking
 mod Making

@@ -1,10 +1,9 @@
 -- What calls of merges make of a primary's parts.
-use Rattle.std.specs.Prelude.{ℕ, ◌≡◌, ◌<◌, ◌==◌, ◌⊎◌, ◌↔◌, true, List, [], ◌∷◌, ◌++◌, length, map, Option, Some, None, Result, Ok, Err, IsSome, IsSomeAnd}
-use Rattle.std.specs.List.{All, AllByRecursion, AllZip, Contains, filter, list_any, zip}
+use Rattle.std.specs.Prelude.{ℕ, ◌≡◌, ◌⊎◌, ◌↔◌, true, List, ◌++◌, Option, Some, None, IsSome, IsSomeAnd}
+use Rattle.std.specs.List.{All, AllByRecursion, AllZip, Contains, zip}
 use Rattle.std.specs.List.Sorted.{IsStrictlySortedBy}
 use Rattle.std.specs.Ordering.{nat_cmp}
 use Rattle.std.specs.Cmp.Lexicographic.{slice_cmp}
-use Rattle.nrt_base.specs.SegNumbers.{segments_of_generation}
 use Rattle.nrt_base.specs.declared.numbers.SegNo.{SegNo}
 use Rattle.nrt_base.specs.declared.doc.Doc.{Doc}
 use Rattle.disk_model.specs.Disk.{Name, Content, Cells, reads_of}
@@ -13,46 +12,29 @@ use Rattle.segment_infos.specs.declared.infos.Infos.{Infos}
 use Rattle.segment_infos.specs.Infos.{CanSpell}
 use Rattle.segment_infos.specs.Files.{AreFilesOf}
 use Rattle.seg_reader.specs.Shown.{Shown}
-use Rattle.seg_reader.specs.Sound.{IsSound}
 use Rattle.seg_reader.specs.Stands.{IsSegmentIn, AreSegmentsOf}
-use Rattle.merge_choice.specs.Choice.{IsFirstRange, HasNoRange}
-use Rattle.seg_merge.specs.declared.task.MergeTask.{MergeTask}
 use Rattle.seg_merge.specs.declared.task.Merged.{Merged}
-use Rattle.seg_merge.specs.Merging.{HasAsManyRows, all_live_docs, docs_by_input, IsMergedOf}
+use Rattle.seg_merge.specs.Merging.{IsMergedOf}
 use Rattle.segment_steps.specs.declared.next.NextSegments.{NextSegments}
-use Rattle.segment_steps.specs.declared.starting.MergeStart.{MergeStart}
 use Rattle.segment_steps.specs.Next.{IsReadBack}
-use Rattle.segment_steps.specs.Starting.{size_by, IsStart}
 use Rattle.segment_steps.specs.CutOver.{IsCutOf}
 use Rattle.node_files.specs.Node.{IsWholeNode}
 use Rattle.node_files.specs.Standing.{IsStanding}
 use Rattle.copy_state.specs.States.{AreShortNames, IsCopyState}
 use Rattle.primary_parts.specs.declared.parts.Parts.{Parts}
-use Rattle.primary_parts.specs.declared.parts.PublishFault.{PublishFault}
-use Rattle.primary_parts.specs.declared.parts.PublishFault.TheVariants.{Memory, NamesSpent, TooManySegments}
 use Rattle.primary_parts.specs.declared.states.Merging.{Merging}
-use Rattle.primary_parts.specs.Cut.{infos_drawn, last_number}
+use Rattle.primary_parts.specs.Cut.{last_number}
 use Rattle.primary_parts.specs.States.{IsStateOf, out_of}
-use Rattle.primary_parts.specs.Held.{drawn_to, IsHeld, AreUndrawn, AreNumbered}
-use Rattle.primary_parts.specs.Merges.{merge_loose, merge_filled, merge_inputs, merge_of, merges_with, merges_without, IsMerging, AreApartMerges}
+use Rattle.primary_parts.specs.Held.{IsHeld, AreUndrawn, AreNumbered}
+use Rattle.primary_parts.specs.Merges.{merge_loose, merge_filled, merge_of, merges_with, merges_without, IsMerging, AreApartMerges}
 use Rattle.primary_parts.specs.Primary.{primary_names, publish_loose}
 use Rattle.primary_parts.specs.Written.{names_of}
 use Rattle.primary_merges.specs.declared.cutting.CutReady.{CutReady}
 use Rattle.primary_merges.specs.declared.readying.StateReady.{StateReady}
 
--- the records of the segments that have one of these numbers
-abbrev pub records_in : List SegNo → List SegRecord → List SegRecord
-records_in inputs rs = filter (λ r. list_any (λ seg. seg.0 == r.seg.0) inputs) rs
-
 -- the infos with these segments alone
 abbrev pub infos_of : Infos → List SegRecord → Infos
 infos_of infos records = record { generation = infos.generation; version = infos.version; counter = infos.counter; segs = records }
-
--- what a merge is made from is fit to be merged: a mark for each row, some row live, and sound inputs
-pub record IsFitTask (task : MergeTask) : Type 0 where
-  pub rows : AllZip HasAsManyRows task.inputs task.live
-  pub some : 0 < length (all_live_docs (docs_by_input task.inputs) task.live)
-  pub sound : All IsSound task.inputs
 
 -- names that stand in ascending order, each once, and are those of both lists
 pub record AreInBoth (a b names : List Name) : Type 0 where
@@ -65,33 +47,6 @@ AreWrittenOf None names = ⊥
 AreWrittenOf (Some merged) names = names ≡ names_of merged.files.files
 
 module _ {D : Type 0} where
-  -- the sizes of the writer's segments, of which a merge is chosen
-  abbrev pub merge_sizes : Parts D → List (Option ℕ)
-  merge_sizes p = map (size_by (merge_inputs p.merges)) p.infos.segs
-
-  -- the merge that was chosen, under the next number
-  abbrev pub IsChosen : ℕ → Parts D → MergeStart → Type 0
-  IsChosen factor p start = IsStart (record { 0 = drawn_to p.infos }) factor (merge_inputs p.merges) p.infos.segs p.segs start
-
-  -- A merge that starts: its inputs are the first neighbours that are chosen; its number is drawn, and the files of its inputs are held.
-  pub record StartsMerge (factor : ℕ) (old : Parts D) (task : MergeTask) (new : Parts D) : Type 0 where
-    pub merging : Merging
-    pub start : IsChosen factor old (record { task = task; inputs = merging.inputs })
-    pub more : old.infos.counter < segments_of_generation
-    pub task_is : merging.task ≡ task
-    pub unmade : merging.merged ≡ None
-    pub names : AreFilesOf (infos_of old.infos (records_in merging.inputs old.infos.segs)) merging.names
-    pub next : new ≡ record old { files = new.files; infos = infos_drawn true old.infos; merges = old.merges ++ merging ∷ [] }
-
-  -- What is answered where a merge is asked for: none where no neighbours can be chosen, spent names where some can and the generation has
-  -- drawn all numbers, and else a merge starts. Where none starts nothing changes.
-  abbrev pub AnswersMerge : ℕ → Parts D → Parts D → Result (Option MergeTask) PublishFault → Type 0
-  AnswersMerge factor old new (Ok None) = HasNoRange factor (merge_sizes old) × (new ≡ old)
-  AnswersMerge factor old new (Ok (Some task)) = StartsMerge factor old task new
-  AnswersMerge factor old new (Err Memory) = new ≡ old
-  AnswersMerge factor old new (Err NamesSpent) = ((at : ℕ) × IsFirstRange factor (merge_sizes old) at) × (old.infos.counter ≡ segments_of_generation) × (new ≡ old)
-  AnswersMerge factor old new (Err TooManySegments) = ⊥
-
   -- the merged segment was made of the task of a merge in flight, of which nothing was made yet
   abbrev pub IsMadeFor : Parts D → Merged → Type 0
   IsMadeFor p merged = IsSomeAnd (merge_of merged.files.seg.0 p.merges) (λ m. (m.merged ≡ None) × IsMergedOf m.task merged)

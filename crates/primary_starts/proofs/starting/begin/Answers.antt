@@ -1,8 +1,8 @@
 use Rattle.std.proofs.Common.{List, sym, subst}
 use Rattle.primary_parts.specs.declared.states.Merging.{Merging}
 use Rattle.primary_parts.specs.Calls.{DrawsOnly}
-use Rattle.primary_merges.proofs.Begins.{start_fit, start_there, start_begins, start_draws, start_no_new, start_starts}
-use Rattle.primary_merges.proofs.starting.begin.Goals as goal
+use Rattle.primary_starts.proofs.Begins.{start_fit, start_there, start_begins, start_draws, start_no_new, start_starts}
+use Rattle.primary_starts.proofs.starting.begin.Goals as goal
 
 pub note-requires : goal.note-requires
 note-requires g c = rw (c.as_slice-2.ensures, c.in_ok-held.ensures)

@@ -8,7 +8,7 @@ ghost use Rattle.segment_infos.specs.Files.{AreFilesOf};
 ghost use Rattle.merge_choice.specs.Choice.{HasNoRange};
 ghost use Rattle.primary_parts.specs.Primary.{IsPrimary, KeepsHeldBytes};
 ghost use Rattle.primary_parts.specs.Calls.{DrawsOnly, HoldsNoNew};
-ghost use Rattle.primary_merges.specs.MergeCalls.{records_in, infos_of, merge_sizes, IsChosen, IsFitTask, StartsMerge, AnswersMerge};
+ghost use Rattle.primary_starts.specs.StartCalls.{records_in, merge_sizes, IsChosen, IsFitTask, StartsMerge, AnswersMerge};
 
 use disk_model::Dir;
 use file_deleter::FileDeleter;
@@ -63,7 +63,7 @@ fn names_of_inputs(
     inputs: &[SegNo],
 ) -> Result<List<FileName>, NoMemory>
     ensures { IfOk result
-        (AreFilesOf (infos_of infos.now (records_in inputs.now infos.now.segs))) }
+        (AreFilesOf (record infos.now { segs = records_in inputs.now infos.now.segs })) }
 {
     let segs = chosen(alloc, infos.segs.as_slice(), inputs)?;
     let infos = Infos {

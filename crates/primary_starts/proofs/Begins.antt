@@ -22,8 +22,8 @@ use Rattle.primary_parts.specs.Merges.{merge_inputs}
 use Rattle.primary_parts.specs.Primary.{IsPrimary}
 use Rattle.primary_parts.specs.Calls.{DrawsOnly, HoldsNoNew}
 use Rattle.primary_parts.proofs.Drawing.{counted_on}
-use Rattle.primary_merges.specs.MergeCalls.{records_in, infos_of, IsFitTask, StartsMerge}
-use Rattle.primary_merges.proofs.Begun.{inputs_named, inputs_there, primary_begins_merge, begun_draws, begun_no_new}
+use Rattle.primary_starts.specs.StartCalls.{records_in, IsFitTask, StartsMerge}
+use Rattle.primary_starts.proofs.Begun.{inputs_named, inputs_there, primary_begins_merge, begun_draws, begun_no_new}
 
 -- a task of the same contents is the same
 pub same_task : (t : MergeTask) (inputs : List Shown) (live : List (List Bool)) → inputs ≡ t.inputs → live ≡ t.live → ◌≡◌ {A = MergeTask} (record { seg = t.seg; inputs = inputs; live = live }) t
@@ -42,7 +42,7 @@ module _ {D : Type 0} (cells : D → Cells) (p : Parts D) (is : IsPrimary cells 
       let f = start_fits (reads_of (cells p.dir)) number factor (merge_inputs p.merges) p.infos.segs p.segs start h two is.writer.stands.each in
       record { rows = f.0; some = f.1; sound = subst (All IsSound) (sym h.segs_are) (All-take IsSound factor (drop h.from p.segs) (All-drop IsSound h.from p.segs is.writer.stands.stand.sound)) }
 
-  module _ (noted : MergeTask) (same : noted ≡ start.task) (names : List Name) (named : AreFilesOf (infos_of p.infos (records_in start.inputs p.infos.segs)) names) where
+  module _ (noted : MergeTask) (same : noted ≡ start.task) (names : List Name) (named : AreFilesOf (record p.infos { segs = records_in start.inputs p.infos.segs }) names) where
     abbrev pub merging : Merging
     merging = record { task = noted; inputs = start.inputs; names = names; merged = None }
 

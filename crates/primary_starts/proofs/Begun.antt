@@ -30,7 +30,7 @@ use Rattle.primary_parts.proofs.Keeping.{writer_counted}
 use Rattle.primary_parts.proofs.Drawing.{counted_on, counted_held, drawn_now, numbered_on, numbered_within}
 use Rattle.primary_parts.proofs.NewFiles.{named_of, undrawn_of}
 use Rattle.primary_parts.proofs.MergeLists.{further, names_behind, loose_behind, filled_behind, all_behind, apart_behind, inputs_within}
-use Rattle.primary_merges.specs.MergeCalls.{records_in, infos_of}
+use Rattle.primary_starts.specs.StartCalls.{records_in}
 
 -- ---- the names of the inputs' files are names of the infos' files
 chosen_in : (test : SegRecord → Bool) (rs : List SegRecord) (q : Name) → Contains (flat_map files_of_segment (filter test rs)) q → Contains (flat_map files_of_segment rs) q
@@ -44,7 +44,7 @@ chosen_in test (r ∷ rs) q c = by (test r) (chosen_in test rs q) c
     ]
     by false more d = Contains-append_right (files_of_segment r) (flat_map files_of_segment rs) q (more d)
 
-pub inputs_named : {D : Type 0} (cells : D → Cells) (p : Parts D) → IsPrimary cells p → (inputs : List SegNo) (names : List Name) → AreFilesOf (infos_of p.infos (records_in inputs p.infos.segs)) names
+pub inputs_named : {D : Type 0} (cells : D → Cells) (p : Parts D) → IsPrimary cells p → (inputs : List SegNo) (names : List Name) → AreFilesOf (record p.infos { segs = records_in inputs p.infos.segs }) names
     → (q : Name) → 0 < times names q → 0 < times p.names q
 inputs_named cells p is inputs names are q some = named_times p.infos p.segs p.names (reads_of (cells p.dir)) is.writer q
     (chosen_in (λ (r : SegRecord). list_any (λ (seg : SegNo). seg.0 == r.seg.0) inputs) p.infos.segs q ((are.named q).0 (named_of names q some)))

@@ -2,8 +2,8 @@ use Rattle.std.proofs.Common.{Option, refl, subst}
 use Rattle.std.specs.Prelude.{MatchOption}
 use Rattle.merge_choice.specs.Choice.{HasNoRange}
 use Rattle.segment_steps.specs.declared.starting.MergeStart.{MergeStart}
-use Rattle.primary_merges.specs.MergeCalls.{merge_sizes, IsChosen}
-use Rattle.primary_merges.proofs.starting.merge_start.Goals as goal
+use Rattle.primary_starts.specs.StartCalls.{merge_sizes, IsChosen}
+use Rattle.primary_starts.proofs.starting.merge_start.Goals as goal
 
 pub returns-in-Ok-None-clause-answers : goal.returns-in-Ok-None-clause-answers
 returns-in-Ok-None-clause-answers g c =

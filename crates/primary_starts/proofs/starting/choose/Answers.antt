@@ -2,7 +2,7 @@ use Rattle.std.proofs.Common.{sym}
 use Rattle.std.proofs.lemmas.Slice.Zip.{AllZip-long}
 use Rattle.disk_model.specs.Disk.{reads_of}
 use Rattle.seg_reader.specs.Stands.{IsSegmentIn}
-use Rattle.primary_merges.proofs.starting.choose.Goals as goal
+use Rattle.primary_starts.proofs.starting.choose.Goals as goal
 
 pub start_merge-requires-clause-many : goal.start_merge-requires-clause-many
 start_merge-requires-clause-many g c = let p = c.args.parts.now in
