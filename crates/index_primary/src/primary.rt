@@ -56,7 +56,8 @@ impl<D: Dir> Primary<D> {
     ghost use Rattle.primary_parts.specs.Merges.{merges_without};
     ghost use Rattle.primary_parts.specs.Written.{names_of, ReadsSo};
     ghost use Rattle.primary_starts.specs.StartCalls.{IsFitTask, AnswersMerge};
-    ghost use Rattle.primary_merges.specs.MergeCalls.{IsMadeFor, IsReadied, IsFilledMerge, IsCutOver, KeepsDocuments};
+    ghost use Rattle.primary_merges.specs.MergeCalls.{IsMadeFor, IsReadied};
+    ghost use Rattle.primary_cut_overs.specs.CutOverCalls.{IsFilledMerge, IsCutOver, KeepsDocuments};
     ghost use Rattle.primary_parts.specs.Primary.{IsPrimary, KeepsHeldBytes, loose_of};
     ghost use Rattle.primary_parts.specs.Held.{IsHeld, IsOwnFile, AreUndrawn, AreNumbered};
     ghost use Rattle.primary_parts.specs.Calls.{IsOpenedOn, IsTaskOf, after_start, IsPublished, KeepsPoint, KeepsOthers, HasSameCounts, FillsUndrawn, DrawsOnly, HoldsNoNew};
@@ -234,7 +235,7 @@ impl<D: Dir> Primary<D> {
         ensures later { D.faults self.old.dir ≤ D.faults self.new.dir }
         ensures whole { IsPrimary D.cells self.new }
     {
-        primary_merges::merge_cut(alloc, &mut self.parts, seg)
+        primary_cut_overs::merge_cut(alloc, &mut self.parts, seg)
     }
 
     /// The copy state of the point that is searched: one load for each of its files, ascending. It holds these files until

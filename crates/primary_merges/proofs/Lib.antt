@@ -1,8 +1,5 @@
 mod Carrying
-mod MergedFiles
+pub mod MergedFiles
 mod Readied
-mod Abandoned
-mod CutSteps
-mod CutPlaced
-mod CutMaking
+pub mod Abandoned
 mod Making

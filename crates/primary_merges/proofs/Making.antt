@@ -66,6 +66,11 @@ state_ready_of p merged m found unmade of short_completed written names held w n
 }
 
 -- ---- the merge in its place
+-- what is true of the merge that is found
+pub so_at : {X : Type 0} (P : X → Type 0) (o : Option X) (x : X) → Some x ≡ o → IsSomeAnd o P → P x
+so_at P None x e h = absurd h
+so_at P (Some y) x e h = let same : y ≡ x = cc in subst P same h
+
 pub found_at : (n : ℕ) (ms : List Merging) (i : ℕ) (x : Merging) → is_some (merge_of n ms) ≡ true → i ≡ merge_place n ms → x ≡ get_or ms i x → Some x ≡ merge_of n ms
 found_at n ms i x there place is =
     let at = merge_at n ms there in

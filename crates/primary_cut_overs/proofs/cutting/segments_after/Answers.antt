@@ -1,6 +1,6 @@
 use Rattle.std.proofs.Common.{sym}
-use Rattle.primary_merges.proofs.CutMaking.{cut_bounded, cut_many, cut_some, cut_now, cut_from, cut_rows, cut_built}
-use Rattle.primary_merges.proofs.cutting.segments_after.Goals as goal
+use Rattle.primary_cut_overs.proofs.CutMaking.{cut_bounded, cut_many, cut_some, cut_now, cut_from, cut_rows, cut_built}
+use Rattle.primary_cut_overs.proofs.cutting.segments_after.Goals as goal
 
 pub cut_over-requires-clause-bounded : goal.cut_over-requires-clause-bounded
 cut_over-requires-clause-bounded g c = cut_bounded g.D.Dir.cells c.args.parts.now c.requires.whole c.args.seg c.merge_in-merging.result.now (sym (rw c.as_slice.ensures at c.merge_in-merging.ensures)) _ c.in-Some.is

@@ -1,8 +1,8 @@
 use Rattle.node_files.proofs.Appearing.{keeps_none, only_then_none}
 use Rattle.primary_parts.specs.Held.{IsOwnFile}
 use Rattle.primary_parts.specs.Primary.{loose_of}
-use Rattle.primary_merges.proofs.CutPlaced.{fresh, once, names_there, cut_refused, cut_unheld, has_written_cut, cut_appears}
-use Rattle.primary_merges.proofs.cutting.write.Goals as goal
+use Rattle.primary_cut_overs.proofs.CutPlaced.{fresh, once, names_there, cut_refused, cut_unheld, has_written_cut, cut_appears}
+use Rattle.primary_cut_overs.proofs.cutting.write.Goals as goal
 
 pub write_all-requires-clause-fresh : goal.write_all-requires-clause-fresh
 write_all-requires-clause-fresh g c = rw c.as_slice.ensures (fresh g.D.Dir.cells c.args.parts.now c.requires.whole c.args.seg c.args.ready.now c.requires.ready)

@@ -1,6 +1,6 @@
 use Rattle.node_files.proofs.Appearing.{keeps_none}
-use Rattle.primary_merges.proofs.CutPlaced.{gone_counted, primary_cut}
-use Rattle.primary_merges.proofs.cutting.place.Goals as goal
+use Rattle.primary_cut_overs.proofs.CutPlaced.{gone_counted, primary_cut}
+use Rattle.primary_cut_overs.proofs.cutting.place.Goals as goal
 
 pub release-requires : goal.release-requires
 release-requires g c = rw c.as_slice.ensures (gone_counted g.D.Dir.cells c.args.parts.now c.args.seg c.args.ready c.requires)

@@ -1,8 +1,8 @@
 use Rattle.std.proofs.Common.{◌∙◌, sym, subst}
 use Rattle.std.proofs.lemmas.List.Filters.{dedup_is}
-use Rattle.primary_merges.specs.MergeCalls.{AreInBoth}
-use Rattle.primary_merges.proofs.CutMaking.{both_are}
-use Rattle.primary_merges.proofs.cutting.ascending.Goals as goal
+use Rattle.primary_cut_overs.specs.CutOverCalls.{AreInBoth}
+use Rattle.primary_cut_overs.proofs.CutMaking.{both_are}
+use Rattle.primary_cut_overs.proofs.cutting.ascending.Goals as goal
 
 pub returns : goal.returns
 returns c = subst (AreInBoth c.args.a.now c.args.b.now) (sym c.from_vec.ensures)

@@ -38,9 +38,10 @@ use Rattle.primary_parts.proofs.Holding.{named_times, undrawn_plain, held_kept}
 use Rattle.primary_parts.proofs.Keeping.{writer_counted, point_counted, book_counted, merges_counted, primary_same}
 use Rattle.primary_parts.proofs.Writing.{among_at}
 use Rattle.primary_parts.proofs.MergeLists.{merging_kept, names_split, apart_without}
-use Rattle.primary_merges.specs.declared.cutting.CutReady.{CutReady}
-use Rattle.primary_merges.specs.MergeCalls.{infos_of, loose_left, filled_left, IsCutReady, HasWrittenCut}
-use Rattle.primary_merges.proofs.CutSteps.{is_made, cut_spelled, cut_numbered, cut_once, cut_unwritten, cut_own, cut_names, cut_rest, cut_stands, cut_documents, cut_keeps}
+use Rattle.primary_cut_overs.specs.declared.cutting.CutReady.{CutReady}
+use Rattle.primary_merges.specs.MergeCalls.{loose_left, filled_left}
+use Rattle.primary_cut_overs.specs.CutOverCalls.{infos_of, IsCutReady, HasWrittenCut}
+use Rattle.primary_cut_overs.proofs.CutSteps.{is_made, cut_spelled, cut_numbered, cut_once, cut_unwritten, cut_own, cut_names, cut_rest, cut_stands, cut_documents, cut_keeps}
 use Rattle.segment_steps.specs.declared.next.NextSegments.{NextSegments}
 
 module _ {D : Type 0} (cells : D → Cells) (p : Parts D) (is : IsPrimary cells p) (seg : SegNo) (r : CutReady) (ready : IsCutReady p seg r) where

@@ -40,7 +40,8 @@ use Rattle.primary_parts.specs.Primary.{loose_of, IsUnwritten, IsPrimary}
 use Rattle.primary_parts.specs.Written.{names_of}
 use Rattle.primary_parts.proofs.Drawing.{drawn_small}
 use Rattle.primary_parts.proofs.MergeLists.{number_of, all_at, all_without, others_at, parts_of, no_input}
-use Rattle.primary_merges.specs.MergeCalls.{infos_of, loose_left, filled_left}
+use Rattle.primary_merges.specs.MergeCalls.{loose_left, filled_left}
+use Rattle.primary_cut_overs.specs.CutOverCalls.{infos_of}
 use Rattle.primary_merges.proofs.Abandoned.{loose_within, is_loose, not_left, unused_within, outs_within}
 
 -- ---- parts

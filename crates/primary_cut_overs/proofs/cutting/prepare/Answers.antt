@@ -1,8 +1,8 @@
 use Rattle.std.proofs.Common.{◌∙◌, sym, subst}
 use Rattle.segment_infos.specs.Files.{AreFilesOf}
-use Rattle.primary_merges.specs.MergeCalls.{infos_of}
-use Rattle.primary_merges.proofs.CutMaking.{same_merging, written_is, cut_ready_of}
-use Rattle.primary_merges.proofs.cutting.prepare.Goals as goal
+use Rattle.primary_cut_overs.specs.CutOverCalls.{infos_of}
+use Rattle.primary_cut_overs.proofs.CutMaking.{same_merging, written_is, cut_ready_of}
+use Rattle.primary_cut_overs.proofs.cutting.prepare.Goals as goal
 
 pub returns : goal.returns
 returns g c =

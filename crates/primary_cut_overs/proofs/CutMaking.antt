@@ -32,15 +32,11 @@ use Rattle.primary_parts.proofs.Drawing.{drawn_small}
 use Rattle.primary_parts.proofs.MergeLists.{number_of, all_at}
 use Rattle.segment_infos.specs.Files.{AreFilesOf}
 use Rattle.segment_steps.specs.declared.next.NextSegments.{NextSegments}
-use Rattle.primary_merges.specs.MergeCalls.{infos_of, AreInBoth, AreWrittenOf, IsCutMade, IsCutReady}
+use Rattle.primary_cut_overs.specs.CutOverCalls.{infos_of, AreInBoth, AreWrittenOf, IsCutMade, IsCutReady}
 use Rattle.primary_merges.proofs.Abandoned.{is_loose}
 use Rattle.primary_merges.proofs.MergedFiles.{merged_short}
 
 -- ---- the merge that is meant
-pub so_at : {X : Type 0} (P : X → Type 0) (o : Option X) (x : X) → Some x ≡ o → IsSomeAnd o P → P x
-so_at P None x e h = absurd h
-so_at P (Some y) x e h = let same : y ≡ x = cc in subst P same h
-
 -- one merge of a number
 pub same_merging : (m x : Merging) (merged : Merged) → Some m ≡ Some x → x.merged ≡ Some merged → m.merged ≡ Some merged
 same_merging m x merged e is = let same : m ≡ x = cc in ap (λ (y : Merging). y.merged) same ∙ is

@@ -6,8 +6,8 @@ use Rattle.primary_parts.specs.Primary.{IsUnwritten}
 use Rattle.primary_parts.specs.declared.parts.PrimaryFault.{PrimaryFault}
 use Rattle.primary_parts.specs.declared.parts.PrimaryFault.TheVariants.{Memory, Failed}
 use Rattle.primary_merges.proofs.Abandoned.{refused_fills}
-use Rattle.primary_merges.proofs.CutPlaced.{ready_documents, cut_fills, cut_draws, unmerged, unplaced}
-use Rattle.primary_merges.proofs.cutting.merge_cut.Goals as goal
+use Rattle.primary_cut_overs.proofs.CutPlaced.{ready_documents, cut_fills, cut_draws, unmerged, unplaced}
+use Rattle.primary_cut_overs.proofs.cutting.merge_cut.Goals as goal
 
 pub returns-in-Ok-clause-documents : goal.returns-in-Ok-clause-documents
 returns-in-Ok-clause-documents g c docs stand = subst (AreSegmentsOf docs) (sym c.place.ensures.infos.1)

@@ -8,13 +8,13 @@ ghost use Rattle.primary_parts.specs.Held.{IsOwnFile};
 ghost use Rattle.primary_parts.specs.Merges.{merges_without};
 ghost use Rattle.primary_parts.specs.Primary.{IsPrimary, KeepsHeldBytes, loose_of};
 ghost use Rattle.primary_parts.specs.Calls.{DrawsOnly, FillsUndrawn, HoldsNoNew};
-ghost use Rattle.primary_merges.specs.MergeCalls.{AreInBoth, AreWrittenOf, IsFilledMerge, IsCutMade, IsCutReady, HasWrittenCut, IsCutOver, KeepsDocuments};
+ghost use Rattle.primary_cut_overs.specs.CutOverCalls.{AreInBoth, AreWrittenOf, IsFilledMerge, IsCutMade, IsCutReady, HasWrittenCut, IsCutOver, KeepsDocuments};
 
-use crate::finding::{abandon, merge_in, take_merge};
 use bytes::Bytes;
 use disk_model::{Dir, DirFault};
 use file_names::FileName;
 use nrt_base::{List, NoMemory, SegNo};
+use primary_merges::{abandon, merge_in, take_merge};
 use primary_parts::{Merging, Parts, PrimaryFault, joined, names_in, write_all};
 use seg_reader::Segment;
 use segment_infos::{Infos, files_of};
