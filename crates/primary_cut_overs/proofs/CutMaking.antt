@@ -1,6 +1,5 @@
 -- The segments after a cut-over of the primary, and the names of completed merges.
 use Rattle.std.proofs.Common.{◌≡◌, ◌<◌, ◌≤◌, ◌+◌, ◌*◌, ◌/◌, ◌^◌, inl, inr, ℕ, true, List, ◌++◌, Option, Some, None, length, replicate, refl, sym, ap, subst, ◌∙◌, arith, nat_eq, get_or}
-use Rattle.std.specs.Option.{IsSomeAnd}
 use Rattle.std.specs.List.{AllZip, Contains, dedup, zip}
 use Rattle.std.specs.List.Sorted.{IsStrictlySortedBy, IsSorted, IsPermutation}
 use Rattle.std.specs.Ordering.{nat_cmp}
