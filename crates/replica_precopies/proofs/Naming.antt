@@ -55,8 +55,8 @@ module _ {D : Type 0} (cells : D → Cells) (p : Parts D) (is : IsWholeReplica c
   pub unplaced_sourced : (source : Name → Content) → IsSourced source cells p → IsSourced source cells (record p { known = noted })
   unplaced_sourced = noted_sourced cells p is number c e complete noted slice slice_is noted_some
 
-  pub unplaced_places : {T E : Type 0} (x : E) → IfSome (copy_at number p.copies.running) (λ k. PlacesCopy {T = T} {E = E} cells number k p (record p { known = noted }) (Err x))
-  unplaced_places {T} {E} x = subst (λ (o : Option Job). IfSome o (λ k. PlacesCopy {T = T} {E = E} cells number k p (record p { known = noted }) (Err x))) (sym e) (record {
+  pub unplaced_places : (T E : Type 0) (x : E) → IfSome (copy_at number p.copies.running) (λ k. PlacesCopy {T = T} {E = E} cells number k p (record p { known = noted }) (Err x))
+  unplaced_places T E x = subst (λ (o : Option Job). IfSome o (λ k. PlacesCopy {T = T} {E = E} cells number k p (record p { known = noted }) (Err x))) (sym e) (record {
     placed = 0;
     copies = sym (ap (λ (cs : List Job). record p.copies { running = cs }) (with_same number p.copies.running c e));
     all = tt;

@@ -1,7 +1,5 @@
-use Rattle.std.proofs.Common.{◌≡◌, ◌∙◌, List, Some, Bor, sym, ap}
+use Rattle.std.proofs.Common.{◌≡◌, ◌∙◌, Some, Bor, sym, ap}
 use Rattle.std.specs.Option.{option_map}
-use Rattle.disk_model.specs.Disk.{Name}
-use Rattle.copy_state.specs.declared.meta.FileMetaData.{FileMetaData}
 use Rattle.copy_state.specs.declared.state.CopyState.{CopyState}
 use Rattle.copy_job.specs.Jobs.{Job}
 use Rattle.replica_parts.specs.Merges.{copy_at}
