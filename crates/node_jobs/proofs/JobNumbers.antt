@@ -53,7 +53,7 @@ module _ {D : Type 0} where
       by (Some j) e some copy =
           let same : number ≡ j.copy.number = is ∙ ap (λ (x : Job). x.number) copy in
           let all = law number r j e (sym same) in
-          record { job = j; there = e; copy = copy; number_is = same; runs = all.0; changes = all.1.0; ends = all.1.1 }
+          record { job = j; there = e; copy = copy; number_is = same; runs = all.0; changes = all.1; ends = all.2 }
 
   -- it runs
   pub some_runs : (number : ℕ) (c : Job) (r : ReplicaParts D) → RunsPoint number c r → IsSome (running_job number r)
