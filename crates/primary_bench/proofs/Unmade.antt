@@ -17,7 +17,9 @@ use Rattle.primary_parts.specs.declared.states.Out.{Out}
 use Rattle.copy_state.specs.declared.state.CopyState.{CopyState}
 use Rattle.primary_parts.specs.States.{out_of}
 use Rattle.primary_parts.specs.Merges.{merge_of, merges_with, merges_without}
-use Rattle.primary_merges.specs.MergeCalls.{IsFitTask, StartsMerge, IsMadeFor, IsReadied, IsFilledMerge}
+use Rattle.primary_starts.specs.StartCalls.{IsFitTask, StartsMerge}
+use Rattle.primary_merges.specs.MergeCalls.{IsMadeFor, IsReadied}
+use Rattle.primary_cut_overs.specs.CutOverCalls.{IsFilledMerge}
 use Rattle.primary_bench.specs.declared.seen.Seen.{Seen}
 use Rattle.primary_bench.specs.Seeing.{IsSeen, tasks_of, unmade_tasks, given_tasks, open_numbers}
 
