@@ -5,5 +5,6 @@ mod jobs;
 mod states;
 mod transfers;
 
+pub use jobs::end_job;
 pub use states::share_state;
 pub use transfers::{begin_in, finish_in, next_in, read_in, take_in, take_replica};

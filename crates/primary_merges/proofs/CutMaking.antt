@@ -1,5 +1,5 @@
 -- The segments after a cut-over of the primary, and the names of completed merges.
-use Rattle.std.proofs.Common.{◌≡◌, ◌<◌, ◌≤◌, ◌+◌, ◌*◌, ◌/◌, ◌^◌, inl, inr, ℕ, true, List, ◌++◌, Option, Some, None, length, map, replicate, is_some, refl, sym, ap, subst, ◌∙◌, arith, All, nat_eq, get_or}
+use Rattle.std.proofs.Common.{◌≡◌, ◌<◌, ◌≤◌, ◌+◌, ◌*◌, ◌/◌, ◌^◌, inl, inr, ℕ, true, List, ◌++◌, Option, Some, None, length, map, replicate, refl, sym, ap, subst, ◌∙◌, arith, All, nat_eq, get_or}
 use Rattle.std.specs.Option.{IsSomeAnd}
 use Rattle.std.specs.List.{AllZip, Contains, dedup, zip}
 use Rattle.std.specs.List.Sorted.{IsStrictlySortedBy, IsSorted, IsPermutation}
@@ -37,10 +37,6 @@ use Rattle.primary_merges.proofs.Abandoned.{is_loose}
 use Rattle.primary_merges.proofs.MergedFiles.{merged_short}
 
 -- ---- the merge that is meant
-pub some_there : {X : Type 0} (P : X → Type 0) (o : Option X) → IsSomeAnd o P → is_some o ≡ true
-some_there P None h = absurd h
-some_there P (Some x) h = refl
-
 pub so_at : {X : Type 0} (P : X → Type 0) (o : Option X) (x : X) → Some x ≡ o → IsSomeAnd o P → P x
 so_at P None x e h = absurd h
 so_at P (Some y) x e h = let same : y ≡ x = cc in subst P same h

@@ -310,3 +310,14 @@ module _ {D : Type 0} (cells : D → Cells) (p n : Parts D) (is : IsPrimary cell
           let c : times (state_names p.states ++ merge_names left) q ≡ times (state_names p.states) q + times (merge_names left) q = times-append (state_names p.states) (merge_names left) q in
           let book : times (book_names n.commits) q ≡ times (book_names p.commits) q = ap (λ (x : CommitBook). times (book_names x) q) commits in
           absurd (omega (arith, zero, some, none, new, named, a, b, c, book, split cells p is seg r ready q, is.node.counts q, now.node.counts q, names_split seg.0 p.merges ready.m q ready.found))
+
+-- ---- a write that is refused changes the directory and the counts alone
+module _ {D : Type 0} (p n : Parts D) (same : n ≡ record p { dir = n.dir; files = n.files }) where
+  pub unmerged : n ≡ record p { dir = n.dir; files = n.files; merges = n.merges }
+  unmerged = same ∙ ap (λ (ms : List Merging). record p { dir = n.dir; files = n.files; merges = ms }) (sym (ap (λ (x : Parts D). x.merges) same))
+
+  pub unplaced : n ≡ record p { dir = n.dir; files = n.files; infos = n.infos; segs = n.segs; names = n.names; merges = n.merges; has_cut_over = n.has_cut_over; completed = n.completed }
+  unplaced = all n same
+    where
+      all : (x : Parts D) → x ≡ record p { dir = n.dir; files = n.files } → x ≡ record p { dir = n.dir; files = n.files; infos = x.infos; segs = x.segs; names = x.names; merges = x.merges; has_cut_over = x.has_cut_over; completed = x.completed }
+      all x e = subst (λ (y : Parts D). y ≡ record p { dir = n.dir; files = n.files; infos = y.infos; segs = y.segs; names = y.names; merges = y.merges; has_cut_over = y.has_cut_over; completed = y.completed }) (sym e) refl

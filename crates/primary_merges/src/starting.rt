@@ -27,6 +27,20 @@ fn is_among(inputs: &[SegNo], seg: SegNo) -> bool
     inputs.iter().any(|other| other.0 == seg.0)
 }
 
+// Puts the record at the end where its number is one of these.
+fn push_chosen(
+    inputs: &[SegNo],
+    entry: SegRecord,
+    found: &mut List<SegRecord>,
+) -> Result<(), NoMemory>
+    ensures { OnOk result (found.new ≡ found.old ++ records_in inputs.now (entry ∷ [])) }
+{
+    if is_among(inputs, entry.seg) {
+        found.push(entry)?;
+    }
+    Ok(())
+}
+
 // The records of the segments that have one of these numbers.
 fn chosen(
     alloc: Global,
@@ -37,9 +51,7 @@ fn chosen(
 {
     let mut found = List::new(alloc);
     for entry in records {
-        if is_among(inputs, entry.seg) {
-            found.push(*entry)?;
-        }
+        push_chosen(inputs, *entry, &mut found)?;
     }
     Ok(found)
 }
@@ -67,10 +79,12 @@ fn names_of_inputs(
 fn shared(alloc: Global, task: &MergeTask) -> Result<MergeTask, NoMemory>
     ensures { IfOk result (λ other. other ≡ task.now) }
 {
+    let inputs = task.inputs.share(alloc)?;
+    let live = task.live.share(alloc)?;
     Ok(MergeTask {
         seg: task.seg,
-        inputs: task.inputs.share(alloc)?,
-        live: task.live.share(alloc)?,
+        inputs,
+        live,
     })
 }
 

@@ -3,7 +3,7 @@ mod Documents
 pub mod Segments
 pub mod PublishLaws
 pub mod CuttingOver
-mod Merges
+pub mod Merges
 mod CutRows
 pub mod TermRows
 mod RowsLeft

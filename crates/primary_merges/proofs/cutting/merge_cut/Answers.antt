@@ -1,9 +1,11 @@
-use Rattle.std.proofs.Common.{◌∙◌, sym, ap, subst}
+use Rattle.std.proofs.Common.{◌≡◌, ◌∙◌, refl, sym, ap, subst}
 use Rattle.seg_reader.specs.Stands.{AreSegmentsOf}
 use Rattle.primary_parts.specs.declared.parts.Parts.{Parts}
 use Rattle.primary_parts.specs.Merges.{merges_without}
 use Rattle.primary_parts.specs.Primary.{IsUnwritten}
-use Rattle.primary_merges.proofs.CutPlaced.{ready_documents, cut_fills, cut_draws}
+use Rattle.primary_parts.specs.declared.parts.PrimaryFault.TheVariants.{Memory, Failed}
+use Rattle.primary_merges.proofs.Abandoned.{refused_fills}
+use Rattle.primary_merges.proofs.CutPlaced.{ready_documents, cut_fills, cut_draws, unmerged, unplaced}
 use Rattle.primary_merges.proofs.cutting.merge_cut.Goals as goal
 
 pub returns-in-Ok-clause-documents : goal.returns-in-Ok-clause-documents
@@ -25,3 +27,22 @@ returns-in-Ok-clause-drawn g c = cut_draws g.D.Dir.cells c.args.parts.now c.plac
 -- the directory and the counts say nothing of what is not written yet
 pub returns-in-Err-Failed-clause-drawn : goal.returns-in-Err-Failed-clause-drawn
 returns-in-Err-Failed-clause-drawn g c = record { each = λ q u. subst (λ (x : Parts _). IsUnwritten x q) c.write.ensures.others (c.abandon.ensures.drawn.each q u) }
+
+-- memory was wanting: all is as before
+pub returns : goal.returns
+returns g c = record {
+  cut = tt;
+  documents = tt;
+  failed = λ e. (let never : Memory ≡ Failed = e in absurd cc);
+  ended = λ e. (let never : Memory ≡ Failed = e in absurd cc);
+  memory = λ e. ap (λ (x : Parts _). x.merges) c.in-Err.ensures.others;
+  err = unmerged c.args.parts.now c.write.new.parts c.in-Err.ensures.others;
+  given_back = c.in-Err.ensures.no_new;
+  others = unplaced c.args.parts.now c.write.new.parts c.in-Err.ensures.others;
+  stays = c.in-Err.ensures.stays;
+  fresh = refused_fills g.D.Dir.cells c.args.parts.now c.args.parts.now c.write.new.parts (λ q. refl) c.in-Err.ensures.no_new;
+  drawn = record { each = λ q u. subst (λ (x : Parts _). IsUnwritten x q) c.in-Err.ensures.others u };
+  appears = c.in-Err.ensures.appears;
+  later = c.in-Err.ensures.later;
+  whole = c.in-Err.ensures.whole;
+}
