@@ -122,11 +122,7 @@ fn settle<D: Dir>(alloc: Global, replica: &mut Replica<D>, number: u64) -> Resul
 }
 
 // Copies the segment from a source.
-fn copy<D: Dir, S: Dir>(
-    alloc: Global,
-    replica: &mut Replica<D>,
-    source: &mut S,
-) -> Result<(), Fail>
+fn copy<D: Dir, S: Dir>(alloc: Global, replica: &mut Replica<D>, source: &mut S) -> Result<(), Fail>
     requires { IsJustOpened replica.old }
     ensures sourced { OnOk result (IsSourced (reads_of (S.cells source.new)) D.cells replica.new) }
     ensures none { OnOk result (replica.new.job ≡ None) }
@@ -141,7 +137,11 @@ fn copy<D: Dir, S: Dir>(
 }
 
 // How many names it has before and after it is told of a point of this many generations more.
-fn count_told<D: Dir>(alloc: Global, replica: &mut Replica<D>, more: u64) -> Result<[usize; 2], Fail> {
+fn count_told<D: Dir>(
+    alloc: Global,
+    replica: &mut Replica<D>,
+    more: u64,
+) -> Result<[usize; 2], Fail> {
     let before = replica.names(alloc)?.len();
     let generation = replica.seen().0.saturating_add(more);
     replica.new_point(Gen(generation), Version(1));
@@ -175,25 +175,64 @@ fn count_pending<D: Dir, S: Dir>(
     count_told(alloc, replica, more)
 }
 
-// A directory that is in memory and has no file.
-fn empty(alloc: Global) -> Result<MemDir, Fail>
-    ensures { IfOk result (λ dir. IsSettledOn (MemDir.Dir.cells dir)) }
+// That of a copy whose files are pending, and belong to the point that is searched then.
+fn count_taken<D: Dir, S: Dir>(
+    alloc: Global,
+    replica: &mut Replica<D>,
+    source: &mut S,
+) -> Result<[usize; 2], Fail>
+    requires { IsJustOpened replica.old }
 {
-    crashed(MemDir::new(alloc)?)
+    copy(alloc, replica, source)?;
+    let metas = file_metas(alloc)?;
+    if begin(alloc, replica, metas.as_slice())?.is_err() {
+        return Err(Fail::new("no job begins"));
+    }
+    if !finish(alloc, replica, source)? {
+        return Err(Fail::new("a job is not finished"));
+    }
+    count_told(alloc, replica, 1)
 }
 
+/// What becomes of the files of a copy.
+#[derive(Clone, Copy)]
+enum Fate {
+    Begun(u64),
+    Pending(u64),
+    Taken,
+}
+
+// How many names a replica has on a directory before and after it is told of a point.
+fn names_by<D: FaultDir + Drop, S: Dir>(
+    alloc: Global,
+    dir: D,
+    source: &mut S,
+    fate: Fate,
+) -> Result<[usize; 2], Fail>
+    requires { IsSettledOn (D.cells dir) }
+{
+    let mut replica = opened(alloc, dir)?;
+    match fate {
+        Fate::Begun(more) => count_begun(alloc, &mut replica, source, more),
+        Fate::Pending(more) => count_pending(alloc, &mut replica, source, more),
+        Fate::Taken => count_taken(alloc, &mut replica, source),
+    }
+}
+
+// A higher generation ends the copy and gives its files back, but those that a point has.
 #[test]
 fn a_higher_generation_ends_copies(rt: HostRuntime) -> Result<(), Fail> {
-    let alloc = rt.alloc();
-    let mut source = opened_on(alloc, &DOCS)?;
-    for more in 0..2 {
-        let left = 1 - more as usize;
-        let mut replica = opened(alloc, crashed(MemDir::new(alloc)?)?)?;
-        let begun = count_begun(alloc, &mut replica, &mut source, more)?;
-        assert_eq!(rt; begun, [1, left]);
-        let mut replica = opened(alloc, crashed(MemDir::new(alloc)?)?)?;
-        let pending = count_pending(alloc, &mut replica, &mut source, more)?;
-        assert_eq!(rt; pending, [3, 3 * left]);
+    let mut source = opened_on(rt.alloc(), &DOCS)?;
+    for (fate, due) in [
+        (Fate::Begun(0), [1, 1]),
+        (Fate::Begun(1), [1, 0]),
+        (Fate::Pending(0), [3, 3]),
+        (Fate::Pending(1), [3, 0]),
+        (Fate::Taken, [3, 3]),
+    ] {
+        let dir = crashed(MemDir::new(rt.alloc())?)?;
+        let names = names_by(rt.alloc(), dir, &mut source, fate)?;
+        assert_eq!(rt; names, due);
     }
     Ok(())
 }
