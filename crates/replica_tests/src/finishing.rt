@@ -3,7 +3,7 @@
 ghost use Rattle.std.specs.Prelude.{◌≡◌, ◌<◌, None, OnOk};
 ghost use Rattle.disk_model.specs.Disk.{Name, Content, reads_of};
 ghost use Rattle.replica_opening.specs.Opened.{IsSettledOn};
-ghost use Rattle.replica_parts.specs.Sources.{IsSourced, KeepsSource};
+ghost use Rattle.replica_parts.specs.Sources.{HeldReadAs, IsSourced, KeepsSource};
 ghost use Rattle.replica_parts.specs.Starting.{IsJustOpened};
 
 use crate::files::{DOCS, SEG, crashed, opened_on};
@@ -31,8 +31,8 @@ fn only_doc(alloc: Global) -> Result<Doc, NoMemory> {
 
 /// A replica whose directory has no name holds nothing, so all that it holds reads as at any source.
 pub fn check_empty<D: Dir>(alloc: Global, replica: &Replica<D>) -> Result<(), Fail>
-    requires { replica.now.job ≡ None }
-    ensures { OnOk result ((source : Name → Content) → IsSourced source D.cells replica.now) }
+    ensures { OnOk result ((source : Name → Content)
+        → HeldReadAs source (D.cells replica.now.dir) replica.now.files) }
 {
     let _ = replica.version();
     if !replica.names(alloc)?.is_empty() {

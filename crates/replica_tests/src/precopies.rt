@@ -24,19 +24,28 @@ use replica_node::laws::copy_runs;
 use std::alloc::Global;
 use std::test::Fail;
 
+// Whether the file is this part of the segment.
+fn is_part(file: &(FileName, FileMetaData), seg: SegNo, part: SegPart) -> bool
+    ensures { result ≡ true → file.now.0 ≡ part_name_of seg.0 part }
+{
+    file.0 == part_name(seg, part)
+}
+
 // Whether the files are the three of the segment.
 fn are_files(files: &[(FileName, FileMetaData)], seg: SegNo) -> bool
     ensures { result ≡ true → meta_names files.now ≡ part_name_of seg.0 Docs
         ∷ part_name_of seg.0 Post ∷ part_name_of seg.0 Info ∷ [] }
 {
-    match files {
-        [docs, post, info] => {
-            docs.0 == part_name(seg, SegPart::Docs)
-                && post.0 == part_name(seg, SegPart::Post)
-                && info.0 == part_name(seg, SegPart::Info)
-        }
-        _ => false,
+    let [docs, post, info] = files else {
+        return false;
+    };
+    if !is_part(docs, seg, SegPart::Docs) {
+        return false;
     }
+    if !is_part(post, seg, SegPart::Post) {
+        return false;
+    }
+    is_part(info, seg, SegPart::Info)
 }
 
 // The state of the segment, as a merge made it.
@@ -102,6 +111,26 @@ fn fetch<D: Dir, S: Dir>(
     }
 }
 
+// Lets three files arrive from a source.
+fn fetch_files<D: Dir, S: Dir>(
+    alloc: Global,
+    replica: &mut Replica<D>,
+    number: u64,
+    source: &mut S,
+) -> Result<(), Fail>
+    requires { replica.old.job ≡ None }
+    ensures sourced { OnOk result (IsSourced (reads_of (S.cells source.old)) D.cells replica.old
+        → IsSourced (reads_of (S.cells source.old)) D.cells replica.new) }
+    ensures none { OnOk result (replica.new.job ≡ None) }
+    ensures jobs { OnOk result (replica.new.jobs ≡ replica.old.jobs) }
+    ensures cells { S.cells source.new ≡ S.cells source.old }
+{
+    fetch(alloc, replica, number, source)?;
+    fetch(alloc, replica, number, source)?;
+    fetch(alloc, replica, number, source)?;
+    Ok(())
+}
+
 // Makes the files of the copy pending.
 fn settle<D: Dir>(alloc: Global, replica: &mut Replica<D>, number: u64) -> Result<(), Fail>
     requires { replica.old.job ≡ None }
@@ -130,10 +159,9 @@ fn copy<D: Dir, S: Dir>(alloc: Global, replica: &mut Replica<D>, source: &mut S)
 {
     check_empty(alloc, replica)?;
     let number = launch(alloc, replica)?;
-    fetch(alloc, replica, number, source)?;
-    fetch(alloc, replica, number, source)?;
-    fetch(alloc, replica, number, source)?;
-    settle(alloc, replica, number)
+    fetch_files(alloc, replica, number, source)?;
+    settle(alloc, replica, number)?;
+    Ok(())
 }
 
 // How many names it has before and after it is told of a point of this many generations more.
