@@ -1,5 +1,5 @@
 -- A load: its words, its script, its answer and its summary.
-use Rattle.std.proofs.Common.{◌≡◌, ◌≢◌, ◌≤◌, ◌<◌, ◌+◌, ◌-◌, ◌^◌, ℕ, zero, suc, Bool, true, false, ◌&&◌, List, [], ◌∷◌, ◌++◌, length, take, reverse, Option, Some, None, refl, ap, ◌∙◌, sym, subst, arith, inl, inr, if◌then◌else◌}
+use Rattle.std.proofs.Common.{◌≡◌, ◌≢◌, ◌≤◌, ◌<◌, ◌+◌, ◌-◌, ◌^◌, ℕ, zero, suc, Bool, true, false, ◌&&◌, List, [], ◌∷◌, ◌++◌, length, take, get_or, reverse, Option, Some, None, refl, ap, ◌∙◌, sym, subst, arith, inl, inr, if◌then◌else◌}
 use Rattle.std.specs.Prelude.{◌⊎◌, ◌==◌, ◌%◌, ◌/◌, codes, MatchOption}
 use Rattle.std.specs.List.{list_all}
 use Rattle.std.specs.Fmt.{decimal}
@@ -35,6 +35,8 @@ use Rattle.cluster_run.specs.Built.{is_run, IsPlainScript}
 use Rattle.cluster_run.specs.Running.{history_of}
 use Rattle.nrt_main.specs.declared.status.Status.{Status}
 use Rattle.nrt_main.specs.declared.status.Status.TheVariants.{Done, BadScript, WriteFault}
+use Rattle.std.proofs.KnownBytes.{Consumes-nil}
+use Rattle.nrt_main.specs.Headline.{TakesWithin}
 use Rattle.nrt_main.specs.Load.{IsLoadOf, IsLoad, HasLoaded, IsSummary, LeavesSummary, LeavesSummaryInPart, first_unrun, IsUnrun, IsLoadAnswer}
 
 -- ---- words
@@ -46,8 +48,28 @@ other_words words none load = none (decimal load.0) load.1.is
 two_words : (a b c d : List ℕ) → ◌≡◌ {A = List (List ℕ)} (a ∷ b ∷ []) (c ∷ d ∷ []) → (a ≡ c) × (b ≡ d)
 two_words a b c d e = (cc, cc)
 
-first_is : (words : List (List ℕ)) (a b : List ℕ) → words ≡ a ∷ b ∷ [] → (a ≡ codes "load" → ⊥) → IsLoad words → ⊥
+pub first_is : (words : List (List ℕ)) (a b : List ℕ) → words ≡ a ∷ b ∷ [] → (a ≡ codes "load" → ⊥) → IsLoad words → ⊥
 first_is words a b is other load = other (two_words a b (codes "load") (decimal load.0) (sym is ∙ load.1.is)).0
+
+pub pair_of : (words : List (List ℕ)) (a b : List ℕ) → 2 ≤ length words → length words < 3 → a ≡ get_or words 0 a → b ≡ get_or words 1 b → words ≡ a ∷ b ∷ []
+pair_of [] a b low high e f = absurd (omega (arith, low))
+pair_of (x ∷ []) a b low high e f = absurd (omega (arith, low))
+pair_of (x ∷ y ∷ []) a b low high e f = λ i. sym e i ∷ sym f i ∷ []
+pair_of (x ∷ y ∷ z ∷ words) a b low high e f = absurd (omega (arith, high))
+
+-- one word alone is no load
+pub one_word : (words : List (List ℕ)) (w : List ℕ) (n : ℕ) → words ≡ w ∷ [] → IsLoadOf words n → ⊥
+one_word words w n is load = short w (codes "load") (decimal n) (sym is ∙ load.is)
+  where
+    short : (a b c : List ℕ) → ◌≡◌ {A = List (List ℕ)} (a ∷ []) (b ∷ c ∷ []) → ⊥
+    short a b c e = cc
+
+pub no_word : (words : List (List ℕ)) (w : List ℕ) → words ≡ w ∷ [] → IsLoad words → ⊥
+no_word words w is load = one_word words w load.0 is load.1
+
+-- what is not read is taken within any limit
+pub takes_none : (a b : Option (List ℕ)) → b ≡ a → TakesWithin a b
+takes_none a b is = subst (TakesWithin a) (sym is) (record { bytes = []; taken = Consumes-nil a; within = omega arith })
 
 -- the second word says how many
 pub asked : (words : List (List ℕ)) (a b : List ℕ) (result : Option ℕ) → words ≡ a ∷ b ∷ [] → a ≡ codes "load" → result ≡ number_within 1 10000 b → MatchOption result (IsLoad words → ⊥) (IsLoadOf words)
@@ -157,8 +179,11 @@ some_unrun n many = let same : n ≡ (n - 200) + 200 = omega (arith, many) in ap
 -- ---- answers
 
 -- the line that is not run yet
-pub unrun_line : (n : ℕ) (line : LineNo) (cause : LineFault) → 200 ≤ n → line.0 ≡ 229 → cause ≡ NotBuilt → IsUnrun n line.0 cause
-unrun_line n line cause many is same = (same, some_unrun n many ∙ ap Some (sym is))
+pub unrun_told : (n : ℕ) (line : LineNo) (cause : LineFault) → 200 ≤ n → BadScript (record { 0 = 229 }) NotBuilt ≡ BadScript line cause → IsUnrun n line.0 cause
+unrun_told n line cause many is =
+    let same : NotBuilt ≡ cause = cc in
+    let number : 229 ≡ line.0 = cc in
+    (sym same, some_unrun n many ∙ ap Some number)
 
 bad_script : (a b : LineNo) (cause : LineFault) → a.0 ≡ b.0 → cause ≡ NotBuilt → BadScript a NotBuilt ≡ BadScript b cause
 bad_script a b cause lines same = ap (λ (k : ℕ). let line : LineNo = record { 0 = k } in BadScript line NotBuilt) lines ∙ ap (BadScript b) (sym same)

@@ -27,11 +27,11 @@ const MERGE_LINE: u32 = 229;
 fn is_load(word: &[u8]) -> bool
     ensures { IsTrue result ↔ (word.now ≡ codes "load") }
 {
-    word == b"load"
+    word == b"load".as_slice()
 }
 
 /// How many documents the words ask for.
-#[tactic(auto, using(crate::proofs::Loads::asked, crate::proofs::Loads::other_words))]
+#[tactic(auto, using(crate::proofs::Loads::other_words, crate::proofs::Loads::first_is))]
 pub fn load_asked(words: &[Arg]) -> Option<u32>
     ensures { MatchOption result (¬ IsLoad words.now) (IsLoadOf words.now) }
 {
@@ -65,7 +65,7 @@ fn run_load<R: Threads + Wait + Sync, G: Gate + Sync>(
 }
 
 /// Runs the script of n documents, and writes its summary to the sink.
-pub fn load<R: Threads + Wait + Sync, K: Sink, G: Gate + Sync>(
+fn load_documents<R: Threads + Wait + Sync, K: Sink, G: Gate + Sync>(
     rt: &R,
     alloc: Global,
     gate: &G,
@@ -102,4 +102,35 @@ pub fn load<R: Threads + Wait + Sync, K: Sink, G: Gate + Sync>(
         Ok(()) => Status::Done,
         Err(_) => Status::WriteFault,
     }
+}
+
+/// Runs the script of the documents that the words ask for, and writes its summary to the sink.
+pub fn load<R: Threads + Wait + Sync, K: Sink, G: Gate + Sync>(
+    rt: &R,
+    alloc: Global,
+    gate: &G,
+    words: &[Arg],
+    n: u32,
+    sink: &mut K,
+    left: &mut Option<Cluster<MemDir>>,
+) -> Status
+    requires asked { IsLoadOf words.now n }
+    requires empty { left.old ≡ None }
+    ensures done { (k : ℕ) → IsLoadOf words.now k → result ≡ Status.Done
+        → IsSomeAnd left.new (LeavesSummary k (K.held sink.old) (K.held sink.new)) }
+    ensures part { (k : ℕ) → IsLoadOf words.now k → result ≡ Status.WriteFault
+        → IsSomeAnd left.new (LeavesSummaryInPart k (K.held sink.old) (K.held sink.new)) }
+    ensures bad { (k : ℕ) (line : LineNo) (cause : LineFault) → IsLoadOf words.now k
+        → result ≡ Status.BadScript line cause → IsUnrun k line.0 cause }
+    ensures answers { (k : ℕ) → IsLoadOf words.now k → result ≢ Status.Memory
+        → IsLoadAnswer k result }
+    ensures write { result ≡ Status.WriteFault → Rose (K.fault_count sink.old)
+        (K.fault_count sink.new) }
+    ensures kept { result ≢ Status.Done → result ≢ Status.WriteFault → sink.new ≡ sink.old }
+    ensures none { result ≢ Status.Done → result ≢ Status.WriteFault → left.new ≡ None }
+    ensures others { (result ≢ Status.Usage) × (result ≢ Status.ReadFault) ×
+        (result ≢ Status.TooLarge) × (result ≢ Status.BadIndex) × (result ≢ Status.BadImage) ×
+        ((k : ℕ) → result ≢ Status.BadStream k) }
+{
+    load_documents(rt, alloc, gate, n, sink, left)
 }

@@ -229,6 +229,7 @@ fn frames_source<S: Source, K: Sink>(alloc: Global, source: &mut S, sink: &mut K
 /// threads did in between, and `kept` has the cluster that ran it. `BadScript` names the first line that the program does not run yet.
 ///
 /// On every answer but `Done`, `WriteFault` and `BadIndex` the sink is as before.
+#[tactic(auto, using(crate::proofs::Loads::one_word, crate::proofs::Loads::no_word, crate::proofs::Loads::takes_none))]
 pub fn run_nrt<R: Threads + Wait + Sync, S: Source, K: Sink, G: Gate + Sync>(
     rt: &R,
     alloc: Global,
@@ -319,7 +320,7 @@ pub fn run_nrt<R: Threads + Wait + Sync, S: Source, K: Sink, G: Gate + Sync>(
         check_source(alloc, source, sink)
     } else {
         match load_asked(words) {
-            Some(n) => load(rt, alloc, gate, n, sink, kept),
+            Some(n) => load(rt, alloc, gate, words, n, sink, kept),
             None => Status::Usage,
         }
     }
