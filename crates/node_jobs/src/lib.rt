@@ -6,5 +6,5 @@ mod states;
 mod transfers;
 
 pub use jobs::end_job;
-pub use states::share_state;
-pub use transfers::{begin_in, finish_in, next_in, read_in, take_in, take_replica};
+pub use states::{lacks, next_file, share_state};
+pub use transfers::{begin_in, finish_in, next_in, read_in, take_in, take_primary, take_replica};

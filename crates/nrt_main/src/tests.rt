@@ -141,6 +141,28 @@ fn check(rt: HostRuntime) -> Result<(), Fail> {
 }
 
 #[test]
+fn loads(rt: HostRuntime) -> Result<(), Fail> {
+    let (status, text) = run(&rt, rt.alloc(), &[b"load", b"100"], b"", &[], &[])?;
+    assert_eq!(rt; status, Status::Done);
+    assert_eq!(rt;
+        text.as_slice(),
+        b"load 100\ndocuments 90\na0 13\na0 AND b0 1\n\"a1 b1\" 2\n"
+    );
+    let rows: &[(&[u8], Status)] = &[
+        (b"0", Status::Usage),
+        (b"007", Status::Usage),
+        (b"10001", Status::Usage),
+        (b"200", Status::BadScript(LineNo(229), LineFault::NotBuilt)),
+    ];
+    for (number, wanted) in rows {
+        let (status, text) = run(&rt, rt.alloc(), &[b"load", number], b"", &[], &[])?;
+        assert_eq!(rt; status, *wanted);
+        assert!(rt; text.is_empty());
+    }
+    Ok(())
+}
+
+#[test]
 fn replica_never_copied(rt: HostRuntime) -> Result<(), Fail> {
     let script = b"nodes 2\n1 put a x\n1 publish\n1 search 2 x";
     let (status, text) = run(&rt, rt.alloc(), &[b"run"], script, &[], &[])?;

@@ -71,10 +71,14 @@ pub fn copy_runs<D>()
     ensures { (cells : D → Cells) (number : ℕ) (p : Parts D) (c : Job) → IsWholeReplica cells p
         → copy_at number p.copies.running ≡ Some c
         → (running_job number p ≡ Some c)
-        × ((k : Job) → with_job number k p ≡ record p { copies = record p.copies {
-          running = copies_with number k p.copies.running;
-        } })
-        × (without_job number p ≡ record p { copies = record p.copies {
-          running = copies_without number p.copies.running;
-        } }) }
+        × ((k : Job) → with_job number k p ≡ record p {
+          copies = record p.copies {
+            running = copies_with number k p.copies.running;
+          };
+        })
+        × (without_job number p ≡ record p {
+          copies = record p.copies {
+            running = copies_without number p.copies.running;
+          };
+        }) }
 {}

@@ -1,11 +1,11 @@
 -- The next part of a job.
-use Rattle.std.proofs.Common.{◌≡◌, ℕ, suc, ◌+◌, ◌<◌, true, false, List, [], ◌∷◌, length, drop, get_or, slice_get, Option, Some, None, is_some, cond, sym, ap, subst, ◌∙◌, arith, true≢false, drop-cons, add-one}
+use Rattle.std.proofs.Common.{◌≡◌, ℕ, suc, ◌+◌, ◌<◌, ◌≤◌, true, false, List, [], ◌∷◌, length, drop, get_or, slice_get, Option, Some, None, is_some, cond, sym, ap, subst, ◌∙◌, arith, true≢false, drop-cons, add-one}
 use Rattle.std.specs.Prelude.{IfSome}
 use Rattle.disk_model.specs.Disk.{Name, same}
 use Rattle.file_deleter.specs.Holdings.{times}
 use Rattle.file_deleter.proofs.NameLemmas.{same_self, times-cons}
 use Rattle.copy_state.specs.declared.meta.FileMetaData.{FileMetaData}
-use Rattle.copy_state.specs.States.{meta_in}
+use Rattle.copy_state.specs.States.{meta_names, meta_in}
 
 abbrev File : Type 0
 File = Name × FileMetaData
@@ -30,3 +30,12 @@ looked_up files i d q lt here = sym (ap (λ (fs : List File). meta_in fs q) (dro
 pub of_seen : {A B : Type 0} (P : A → Type 0) (f : B → A) (job : Option B) (seen : A) → is_some job ≡ true → IfSome job (λ j. seen ≡ f j) → P seen → IfSome job (λ j. P (f j))
 of_seen P f None seen some is h = absurd (true≢false (sym some))
 of_seen P f (Some j) seen some is h = subst P is h
+
+-- three files by their names
+pub three_named : (files : List File) (a b c : File) (x y z : Name) → 3 ≤ length files → length files < 4 → a ≡ get_or files 0 a → b ≡ get_or files 1 b → c ≡ get_or files 2 c → a.0 ≡ x → b.0 ≡ y → c.0 ≡ z → meta_names files ≡ x ∷ y ∷ z ∷ []
+three_named [] a b c x y z long short ea eb ec ex ey ez = absurd (omega (arith, long))
+three_named (p ∷ []) a b c x y z long short ea eb ec ex ey ez = absurd (omega (arith, long))
+three_named (p ∷ q ∷ []) a b c x y z long short ea eb ec ex ey ez = absurd (omega (arith, long))
+three_named (p ∷ q ∷ r ∷ []) a b c x y z long short ea eb ec ex ey ez =
+    λ i. (sym (ap (λ (f : File). f.0) ea) ∙ ex) i ∷ (sym (ap (λ (f : File). f.0) eb) ∙ ey) i ∷ (sym (ap (λ (f : File). f.0) ec) ∙ ez) i ∷ []
+three_named (p ∷ q ∷ r ∷ s ∷ rest) a b c x y z long short ea eb ec ex ey ez = absurd (omega (arith, short))

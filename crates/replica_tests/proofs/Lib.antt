@@ -2,4 +2,5 @@ mod Due
 mod Emptiness
 mod Listing
 mod Noticing
+mod Running
 mod Sources

@@ -3,7 +3,7 @@
 ghost use Rattle.std.specs.Prelude.{◌≡◌, ◌<◌, None, OnOk};
 ghost use Rattle.disk_model.specs.Disk.{Name, Content, reads_of};
 ghost use Rattle.replica_opening.specs.Opened.{IsSettledOn};
-ghost use Rattle.replica_parts.specs.Sources.{IsSourced, KeepsSource};
+ghost use Rattle.replica_parts.specs.Sources.{HeldReadAs, IsSourced, KeepsSource};
 ghost use Rattle.replica_parts.specs.Starting.{IsJustOpened};
 
 use crate::files::{DOCS, SEG, crashed, opened_on};
@@ -17,7 +17,7 @@ use file_names::{FileName, SegPart, commit_name, part_name};
 use index_check::check_dir;
 use nrt_base::{Doc, Key, NoMemory, Text};
 use replica_node::Replica;
-use replica_node::laws::sourced_stands;
+use replica_node::laws::{point_runs, sourced_stands};
 use segment_infos::decode;
 use std::alloc::Global;
 use std::test::Fail;
@@ -29,10 +29,10 @@ fn only_doc(alloc: Global) -> Result<Doc, NoMemory> {
     Ok(Doc { key, text })
 }
 
-// A replica whose directory has no name holds nothing, so all that it holds reads as at any source.
-fn check_empty<D: Dir>(alloc: Global, replica: &Replica<D>) -> Result<(), Fail>
-    requires { replica.now.job ≡ None }
-    ensures { OnOk result ((source : Name → Content) → IsSourced source D.cells replica.now) }
+/// A replica whose directory has no name holds nothing, so all that it holds reads as at any source.
+pub fn check_empty<D: Dir>(alloc: Global, replica: &Replica<D>) -> Result<(), Fail>
+    ensures { OnOk result ((source : Name → Content)
+        → HeldReadAs source (D.cells replica.now.dir) replica.now.files) }
 {
     let _ = replica.version();
     if !replica.names(alloc)?.is_empty() {
@@ -61,6 +61,7 @@ fn fetch<D: Dir, S: Dir>(
     };
     let bytes = source.load(name)?;
     let part = due_part(alloc, job, bytes)?;
+    point_runs::<D>();
     match replica.arrived(number, part) {
         Ok(()) => Ok(()),
         Err(_) => Err(Fail::new("a file does not arrive")),
@@ -114,8 +115,8 @@ fn copy_files<D: Dir, S: Dir>(
     Ok(())
 }
 
-// Finishes the job, where the source stands for the document under the job's infos. Answers whether it did.
-fn finish<D: Dir, S: Dir>(
+/// Finishes the job, where the source stands for the document under the job's infos. Answers whether it did.
+pub fn finish<D: Dir, S: Dir>(
     alloc: Global,
     replica: &mut Replica<D>,
     source: &mut S,

@@ -20,6 +20,7 @@ use disk_model::{Dir, FaultDir};
 use file_names::{FileName, SegPart, part_name};
 use nrt_base::{Gen, List, NoMemory, Share, Version};
 use replica_node::Replica;
+use replica_node::laws::point_runs;
 use segment_infos::{Infos, SegRecord, encode, files_of};
 use std::alloc::Global;
 use std::test::Fail;
@@ -69,8 +70,8 @@ fn listed(
     Ok(files)
 }
 
-// A state of a point of the segment, whose files have this metadata.
-fn state_of(
+/// A state of a point of the segment, whose files have this metadata.
+pub fn state_of(
     alloc: Global,
     generation: Gen,
     version: Version,
@@ -104,7 +105,7 @@ pub fn begin<D: Dir>(
     metas: &[FileMetaData],
 ) -> Result<Result<u64, JobFault>, Fail>
     requires none { replica.old.job ≡ None }
-    requires jobs { replica.old.jobs ≡ 0 }
+    requires jobs { replica.old.jobs < 2 }
     ensures sourced { KeepsSource D.cells replica.old replica.new }
     ensures commits { replica.new.commits ≡ replica.old.commits }
 {
@@ -253,6 +254,7 @@ fn arrive<D: Dir>(alloc: Global, replica: &mut Replica<D>, bytes: &[u8]) -> Resu
     };
     let number = job.number();
     let part = due_part(alloc, job, Bytes::copy_from_slice(alloc, bytes)?)?;
+    point_runs::<D>();
     match replica.arrived(number, part) {
         Ok(()) => Ok(true),
         Err(JobFault::DirFailed) => Ok(false),

@@ -13,6 +13,8 @@ mod finishing;
 mod jobs;
 #[cfg(test)]
 mod openings;
+#[cfg(test)]
+mod precopies;
 mod seen;
 
 pub use seen::Seen;

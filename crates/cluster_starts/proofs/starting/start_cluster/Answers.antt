@@ -4,4 +4,4 @@ use Rattle.cluster_starts.proofs.starting.start_cluster.Goals as goal
 
 pub invariant_of-result : goal.invariant_of-result
 invariant_of-result g c = λ running.
-    first_state g.D.Dir.cells _ _ _ _ c.in_ok-book.ensures.log (omega (arith, c.in_ok-book.ensures.nodes, c.len.ensures, c.args.dirs.ok.0)) c.requires.some c.in_ok-places.ensures.count c.in_ok-places.ensures.each
+    first_state g.D.Dir.cells _ _ _ _ c.in_ok-ledger.ensures.log (omega (arith, c.in_ok-ledger.ensures.nodes, c.len.ensures, c.args.dirs.ok.0)) c.requires.some c.in_ok-places.ensures.count c.in_ok-places.ensures.each

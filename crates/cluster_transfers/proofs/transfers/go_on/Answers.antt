@@ -56,7 +56,7 @@ finish_in-requires g c = can_finish g.D.Dir.cells c.args.cluster.now _ _ _ _ c.s
 
 pub invariant_of-cluster-in-None : goal.invariant_of-cluster-in-None
 invariant_of-cluster-in-None g c = λ running. finish_path g.D.Dir.cells c.args.cluster.now _ c.cluster.inside.ledger c.reserve.new.self c.show_end.new.ledger _ _ c.source_of-p.result c.args.row c.cluster.view_is c.requires.running c.cluster.invariant c.in_ok-reserve.ensures.log c.in_ok-reserve.ensures.nodes
-    c.show_end.ensures.log c.show_end.ensures.nodes (legal_of c.book-in-None.ensures.nodes c.book-in-None.ensures.log c.is_legal-in-None.ensures.legal) (turns_of c.book-in-None.ensures.log c.is_legal-in-None.ensures.turns) c.sourced_stands.ensures c.files_last.ensures c.source_of-p.ensures.node c.source_of-p.ensures.is c.requires.runs (lane_of c.book-book.ensures.nodes c.book-book.ensures.log c.job_shows.ensures) (replica_of c.book-book.ensures.log c.job_replica.ensures)
+    c.show_end.ensures.log c.show_end.ensures.nodes (legal_of c.book.ensures.nodes c.book.ensures.log c.is_legal-in-None.ensures.legal) (turns_of c.book.ensures.log c.is_legal-in-None.ensures.turns) c.sourced_stands.ensures c.files_last.ensures c.source_of-p.ensures.node c.source_of-p.ensures.is c.requires.runs (lane_of c.book-book.ensures.nodes c.book-book.ensures.log c.job_shows.ensures) (replica_of c.book-book.ensures.log c.job_replica.ensures)
     (subst (HasNextFile (place_of c.cluster.inside.places.items c.args.row.job.node.0)) c.in-None.is c.in_ok-next_in.ensures) c.in_ok-finish_in-in-None.ensures
 
 pub job_shows-requires : goal.job_shows-requires

@@ -2,6 +2,7 @@ use Rattle.std.proofs.Common.{subst, sym, ap, ◌∙◌}
 use Rattle.disk_model.specs.Disk.{Cells, reads_of}
 use Rattle.commit_steps.specs.declared.stage.CommitBook.{CommitBook}
 use Rattle.replica_parts.specs.Sources.{IsSourced}
+use Rattle.replica_tests.proofs.Running.{just_sourced}
 use Rattle.replica_tests.proofs.finishing.copy_files.Goals as goal
 
 pub returns : goal.returns
@@ -10,6 +11,6 @@ returns g c =
     record {
       sourced =
           subst (λ (x : Cells). IsSourced (reads_of x) g.D.Dir.cells c.fetch_files.new.replica) (sym c.fetch_files.ensures.cells)
-          (c.in_ok-fetch_files.ensures.sourced (c.begin_files.ensures.sourced source (c.in_ok-check_empty.ensures source)));
+          (c.in_ok-fetch_files.ensures.sourced (c.begin_files.ensures.sourced source (just_sourced g.D.Dir.cells c.args.replica.now c.requires source (c.in_ok-check_empty.ensures source))));
       none = ap (λ (b : CommitBook). b.stage) (c.in_ok-fetch_files.ensures.commits ∙ c.begin_files.ensures.commits) ∙ c.requires.stage;
     }

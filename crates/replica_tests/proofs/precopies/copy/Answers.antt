@@ -1,0 +1,11 @@
+use Rattle.std.proofs.Common.{subst, sym}
+use Rattle.disk_model.specs.Disk.{Cells, reads_of}
+use Rattle.replica_parts.specs.Sources.{IsSourced}
+use Rattle.replica_tests.proofs.Running.{just_sourced}
+use Rattle.replica_tests.proofs.precopies.copy.Goals as goal
+
+pub returns-clause-sourced : goal.returns-clause-sourced
+returns-clause-sourced g c =
+    let source = reads_of (g.S.Dir.cells c.args.source.now) in
+    subst (λ (x : Cells). IsSourced (reads_of x) g.D.Dir.cells c.settle.new.replica) (sym c.fetch_files.ensures.cells)
+    (c.settle.ensures.sourced source (c.in_ok-fetch_files.ensures.sourced (c.launch.ensures.sourced source (just_sourced g.D.Dir.cells c.args.replica.now c.requires source (c.in_ok-check_empty.ensures source)))))
