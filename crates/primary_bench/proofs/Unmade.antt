@@ -30,8 +30,8 @@ none_made None e = refl
 none_made (Some merged) e = absurd (true≢false e)
 
 pub not_ready : (o : Option MergeTask) (b : Bool) → b ≡ is_some o → b ≡ false → o ≡ None
-not_ready None b is no = refl
-not_ready (Some task) b is no = absurd (true≢false (sym is ∙ no))
+not_ready None b is e = refl
+not_ready (Some task) b is e = absurd (true≢false (sym is ∙ e))
 
 -- the first merge and those behind it, where the first one's files are written or not
 pub record StartsWith (b : Bool) (ms : List Merging) (task : MergeTask) (behind : List (MergeTask × Bool)) : Type 0 where
