@@ -31,6 +31,8 @@ fn a_hundred_documents(rt: HostRuntime) -> Result<(), Fail> {
     Ok(())
 }
 
+const SUMMARY: &[u8] = b"load 1\ndocuments 90\na0 13\na0 AND b0 0\n\"a1 b1\" 2\n";
+
 /// An answer of a line that found so many.
 fn answered(alloc: Global, line: u32, total: u32) -> Result<Entry, NoMemory> {
     let query = Query::Word(Word::new(alloc, b"a")?);
@@ -58,6 +60,6 @@ fn a_summary(rt: HostRuntime) -> Result<(), Fail> {
         entries.push(answered(alloc, line, total)?)?;
     }
     let text = summary(alloc, 1, &entries)?;
-    assert_eq!(rt; text.as_slice(), b"load 1\ndocuments 90\na0 13\na0 AND b0 0\n\"a1 b1\" 2\n");
+    assert_eq!(rt; text.as_slice(), SUMMARY);
     Ok(())
 }
