@@ -6,6 +6,7 @@ ghost use Rattle.nrt_main.specs.Built.{IsFirstUnbuilt, RunsWhole, is_built as is
 ghost use Rattle.nrt_main.specs.Built.{is_built_command as is_built_command_lem};
 ghost use Rattle.nrt_main.specs.Built.{is_built_for_documents as is_built_for_documents_lem};
 ghost use Rattle.nrt_main.specs.Built.{is_built_for_nodes as is_built_for_nodes_lem};
+ghost use Rattle.nrt_main.specs.Built.{is_built_header as is_built_header_lem};
 
 use nrt_base::LineNo;
 use script_text::{LONGEST, first_words, is_word, next_statement};
@@ -44,15 +45,19 @@ fn is_built_command(name: &[u8]) -> bool
     is_built_for_documents(name) || is_built_for_nodes(name)
 }
 
+/// Whether the word begins a header that the program reads, or ends a phase.
+fn is_built_header(name: &[u8]) -> bool
+    ensures { result ≡ is_built_header_lem name.now }
+{
+    is_word(b"nodes", name) || is_word(b"workers", name) || is_word(b"join", name)
+}
+
 /// Whether the program runs this statement so far.
 fn is_built(line: &[u8]) -> bool
     ensures { result ≡ is_built_lem (words_in line.now) }
 {
     let words = first_words(line);
-    is_word(b"nodes", words.first)
-        || is_word(b"workers", words.first)
-        || is_word(b"join", words.first)
-        || is_built_command(words.second)
+    is_built_header(words.first) || is_built_command(words.second)
 }
 
 /// The line of the first statement that the program does not run yet.
