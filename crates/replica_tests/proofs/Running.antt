@@ -1,9 +1,13 @@
 -- The job or the copy that a call by number is about.
-use Rattle.std.proofs.Common.{◌≡◌, ℕ, ◌+◌, ◌<◌, true, false, List, [], Option, Some, None, Result, Ok, Err, is_some, refl, sym, ap, subst, ◌∙◌, arith, true≢false}
+use Rattle.std.proofs.Common.{◌≡◌, ℕ, ◌+◌, ◌<◌, ◌^◌, true, false, List, [], ◌∷◌, Option, Some, None, Result, Ok, Err, is_some, refl, sym, ap, subst, ◌∙◌, arith, true≢false}
 use Rattle.std.specs.Prelude.{IfSome, OnOk, OnErr}
 use Rattle.std.specs.List.{AllByRecursion}
+use Rattle.nrt_base.specs.declared.numbers.SegNo.{SegNo}
+use Rattle.file_names.specs.Names.{part_name_of}
+use Rattle.file_names.specs.declared.composed.SegPart.TheVariants.{Docs, Post, Info}
 use Rattle.disk_model.specs.Disk.{Name, Content, Cells, reads_of}
 use Rattle.file_deleter.specs.Holdings.{times}
+use Rattle.copy_state.specs.declared.meta.FileMetaData.{FileMetaData}
 use Rattle.copy_state.specs.declared.state.CopyState.{CopyState}
 use Rattle.copy_state.specs.States.{meta_names}
 use Rattle.copy_job.specs.Jobs.{Job, with_part}
@@ -69,3 +73,7 @@ just_sourced cells p is source held = record {
   job = subst (λ (o : Option PointJob). IfSome o (λ j. CopiesFrom source (reads_of (cells p.dir)) j.copy)) (sym is.job) tt;
   merges = subst (λ (k : MergeCopies). AllByRecursion (CopiesFrom source (reads_of (cells p.dir))) k.running) (sym is.copies) tt;
 }
+
+-- a state whose files are these is that of the segment
+pub segment_made : (state : CopyState) (slice : List (Name × FileMetaData)) → slice ≡ state.files → (seg : SegNo) → seg.0 < 2 ^ 64 → meta_names slice ≡ part_name_of seg.0 Docs ∷ part_name_of seg.0 Post ∷ part_name_of seg.0 Info ∷ [] → IsSegmentState state
+segment_made state slice same seg low names = record { seg = seg; numbered = low; files = ap (λ (fs : List (Name × FileMetaData)). meta_names fs) (sym same) ∙ names }

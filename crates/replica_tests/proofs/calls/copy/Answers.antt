@@ -5,4 +5,4 @@ use Rattle.replica_tests.proofs.calls.copy.Goals as goal
 
 pub finish-requires-clause-standing : goal.finish-requires-clause-standing
 finish-requires-clause-standing g c =
-    empty_standing _ _ c.in_ok-state.state c.in_ok-state.ensures _ _ c.start_job.new.self.job c.in-Ok.ensures.begun (λ k. reads_under k.parts (reads_of (g.D.Dir.cells c.start_job.new.self.dir)))
+    empty_standing _ _ c.in_ok-state.state c.in_ok-state.ensures _ _ c.start_job.new.self.job c.in-Ok.ensures.starts.begun (λ k. reads_under k.parts (reads_of (g.D.Dir.cells c.start_job.new.self.dir)))
