@@ -389,6 +389,7 @@ fn each_prefix(rt: HostRuntime) -> Result<(), Fail> {
 }
 
 /// Holds the copy of a file until a search is about to be evaluated.
+#[derive(Drop)]
 struct HoldsCopies {
     searched: AtomicU64,
     late: AtomicU64,
