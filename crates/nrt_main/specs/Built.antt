@@ -19,12 +19,13 @@ is_built_for_nodes name =
 abbrev pub is_built_command : List ℕ → Bool
 is_built_command name = is_built_for_documents name || is_built_for_nodes name
 
--- the program runs a statement of these words: it says how many nodes or workers there are, ends a phase, or is a line of such a
--- command
+-- a statement of this first word says how many nodes or workers there are, or ends a phase
+abbrev pub is_no_line : List ℕ → Bool
+is_no_line word = bytes_eq (codes "nodes") word || bytes_eq (codes "workers") word || bytes_eq (codes "join") word
+
+-- the program runs a statement of these words: it is no line, or a line of such a command
 abbrev pub is_built : List (List ℕ) → Bool
-is_built words =
-    bytes_eq (codes "nodes") (word_at 0 words) || bytes_eq (codes "workers") (word_at 0 words) || bytes_eq (codes "join") (word_at 0 words)
-    || is_built_command (word_at 1 words)
+is_built words = is_no_line (word_at 0 words) || is_built_command (word_at 1 words)
 
 -- the line number of the first of these statements that the program does not run
 abbrev pub first_unbuilt : List Statement → Option ℕ

@@ -3,6 +3,7 @@
 ghost use Rattle.std.specs.Prelude.{◌≡◌, ◌≤◌, length, MatchOption};
 ghost use Rattle.script_text.specs.Grammar.{words_in};
 ghost use Rattle.nrt_main.specs.Built.{IsFirstUnbuilt, RunsWhole, is_built as is_built_lem};
+ghost use Rattle.nrt_main.specs.Built.{is_no_line as is_no_line_lem};
 ghost use Rattle.nrt_main.specs.Built.{is_built_command as is_built_command_lem};
 ghost use Rattle.nrt_main.specs.Built.{is_built_for_documents as is_built_for_documents_lem};
 ghost use Rattle.nrt_main.specs.Built.{is_built_for_nodes as is_built_for_nodes_lem};
@@ -44,15 +45,19 @@ fn is_built_command(name: &[u8]) -> bool
     is_built_for_documents(name) || is_built_for_nodes(name)
 }
 
+/// Whether a statement of this first word says how many nodes or workers there are, or ends a phase.
+fn is_no_line(word: &[u8]) -> bool
+    ensures { result ≡ is_no_line_lem word.now }
+{
+    is_word(b"nodes", word) || is_word(b"workers", word) || is_word(b"join", word)
+}
+
 /// Whether the program runs this statement so far.
 fn is_built(line: &[u8]) -> bool
     ensures { result ≡ is_built_lem (words_in line.now) }
 {
     let words = first_words(line);
-    is_word(b"nodes", words.first)
-        || is_word(b"workers", words.first)
-        || is_word(b"join", words.first)
-        || is_built_command(words.second)
+    is_no_line(words.first) || is_built_command(words.second)
 }
 
 /// The line of the first statement that the program does not run yet.
