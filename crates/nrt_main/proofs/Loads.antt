@@ -1,6 +1,6 @@
 -- A load: its words, its script, its answer and its summary.
 use Rattle.std.proofs.Common.{◌≡◌, ◌≢◌, ◌≤◌, ◌<◌, ◌+◌, ◌-◌, ◌^◌, ℕ, zero, suc, Bool, true, false, ◌&&◌, List, [], ◌∷◌, ◌++◌, length, take, get_or, reverse, Option, Some, None, refl, ap, ◌∙◌, sym, subst, arith, inl, inr, if◌then◌else◌}
-use Rattle.std.specs.Prelude.{◌⊎◌, ◌==◌, ◌%◌, ◌/◌, codes, MatchOption}
+use Rattle.std.specs.Prelude.{◌⊎◌, ◌==◌, ◌%◌, ◌/◌, codes, MatchOption, IsSomeAnd}
 use Rattle.std.specs.List.{list_all}
 use Rattle.std.specs.Fmt.{decimal}
 use Rattle.std.specs.Io.KnownBytes.{Appends}
@@ -95,6 +95,11 @@ asked words a b result is same number =
         let number : is_number_in 1 10000 (decimal n) ≡ true = number_in 1 10000 n (omega (arith, high)) between in
         let bad : true ≡ false = sym number ∙ (ap (is_number_in 1 10000) (sym spelled) ∙ off) in
         cc
+
+-- so with the slices of both words
+pub asked_pair : (words : List (List ℕ)) (a s b u : List ℕ) (result : Option ℕ) → words ≡ a ∷ b ∷ [] → s ≡ a → u ≡ b → s ≡ codes "load" → result ≡ number_within 1 10000 u
+    → MatchOption result (IsLoad words → ⊥) (IsLoadOf words)
+asked_pair words a s b u result is first second same number = asked words a b result is (sym first ∙ same) (number ∙ ap (number_within 1 10000) second)
 
 -- one load is asked for at most
 pub one_load : (words : List (List ℕ)) (m n : ℕ) → IsLoadOf words m → IsLoadOf words n → m ≡ n
@@ -220,3 +225,17 @@ module _ (n : ℕ) (r : Run) (text : List ℕ) (before after : Option (List ℕ)
 
   pub leaves_summary_in_part : (k : ℕ) → Appends before after (take k text) → LeavesSummaryInPart n before after r
   leaves_summary_in_part k written = record { ran = summary.ran; front = k; written = subst (λ (t : List ℕ). Appends before after (take k t)) summary.is written }
+
+-- ---- a number that is another by name alone
+
+pub same_summary : (m n : ℕ) (left : Option Run) (before after : Option (List ℕ)) → m ≡ n → IsSomeAnd left (LeavesSummary m before after) → IsSomeAnd left (LeavesSummary n before after)
+same_summary m n left before after e has = subst (λ (k : ℕ). IsSomeAnd left (LeavesSummary k before after)) e has
+
+pub same_front : (m n : ℕ) (left : Option Run) (before after : Option (List ℕ)) → m ≡ n → IsSomeAnd left (LeavesSummaryInPart m before after) → IsSomeAnd left (LeavesSummaryInPart n before after)
+same_front m n left before after e has = subst (λ (k : ℕ). IsSomeAnd left (LeavesSummaryInPart k before after)) e has
+
+pub same_unrun : (m n : ℕ) (line : LineNo) (cause : LineFault) → m ≡ n → IsUnrun m line.0 cause → IsUnrun n line.0 cause
+same_unrun m n line cause e unrun = subst (λ (k : ℕ). IsUnrun k line.0 cause) e unrun
+
+pub same_answer : (m n : ℕ) (answer : Status) → m ≡ n → IsLoadAnswer m answer → IsLoadAnswer n answer
+same_answer m n answer e given = subst (λ (k : ℕ). IsLoadAnswer k answer) e given
