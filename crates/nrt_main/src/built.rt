@@ -3,7 +3,6 @@
 ghost use Rattle.std.specs.Prelude.{◌≡◌, ◌≤◌, length, MatchOption};
 ghost use Rattle.script_text.specs.Grammar.{words_in};
 ghost use Rattle.nrt_main.specs.Built.{IsFirstUnbuilt, RunsWhole, is_built as is_built_lem};
-ghost use Rattle.nrt_main.specs.Built.{is_no_line as is_no_line_lem};
 ghost use Rattle.nrt_main.specs.Built.{is_built_command as is_built_command_lem};
 ghost use Rattle.nrt_main.specs.Built.{is_built_for_documents as is_built_for_documents_lem};
 ghost use Rattle.nrt_main.specs.Built.{is_built_for_nodes as is_built_for_nodes_lem};
