@@ -132,7 +132,7 @@ const AGAIN: [Call; 11] = [
     Acquire,
 ];
 
-// A merge writes three files.
+// A merge writes three files. Removals that failed are tried once more as the merge ends.
 #[test]
 fn a_stopped_merge_is_made_again(rt: HostRuntime) -> Result<(), Fail> {
     let alloc = rt.alloc();
@@ -141,8 +141,8 @@ fn a_stopped_merge_is_made_again(rt: HostRuntime) -> Result<(), Fail> {
         (Plan(2), true, 1, 0),
         (Plan(3), true, 1, 0),
         (StopAt(1), true, 0, 1),
-        (StopAt(2), false, 0, 2),
-        (StopAt(3), false, 0, 3),
+        (StopAt(2), false, 0, 3),
+        (StopAt(3), false, 0, 5),
     ] {
         let mut calls = Vec::from_slice(alloc, &TWO)?;
         calls.extend_from_slice(&[MergeTo(Start(2), Outcome::Started), call])?;
