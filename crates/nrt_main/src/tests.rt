@@ -1,3 +1,6 @@
+ghost use Rattle.std.specs.Prelude.{◌≤◌, length};
+ghost use Rattle.nrt_main.specs.Headline.{longest};
+
 use crate::gate::OpenGate;
 use crate::status::Status;
 use crate::top::{read_script, run_nrt};
@@ -431,18 +434,31 @@ impl Gate for HoldsCopies {
 // A copy in one lane, a search in another.
 const BESIDE: &[u8] = b"nodes 2\n1 put a x\n1 publish\njoin\n1 copy 2\n2 search 2 x\n";
 
+// A run of the script past the gate, without the program round it.
+fn run_alone<R: Threads + Wait + Sync, G: Gate + Sync>(
+    rt: &R,
+    alloc: Global,
+    gate: &G,
+    bytes: &[u8],
+) -> Result<(), Fail>
+    requires { length bytes.now ≤ longest }
+{
+    let script = match read_script(alloc, bytes) {
+        Ok(script) => script,
+        Err(_) => return Err(Fail::from("it is no script")),
+    };
+    run_script(rt, alloc, gate, &script)?;
+    Ok(())
+}
+
 #[test]
-#[tactic(auto, using(crate::proofs::BuiltScripts::is_built_script))]
 fn search_beside_copy(rt: HostRuntime) -> Result<(), Fail> {
     let alloc = rt.alloc();
     let gate = HoldsCopies::new();
     let (status, _) = run_gated(&rt, alloc, &gate, &[b"run"], BESIDE, &[], &[])?;
     assert!(rt; status == Status::Done && gate.was_in_time());
     let gate = HoldsCopies::new();
-    let Ok(script) = read_script(alloc, BESIDE) else {
-        return Err(Fail::from("it is a script"));
-    };
-    run_script(&rt, alloc, &gate, &script)?;
+    run_alone(&rt, alloc, &gate, BESIDE)?;
     assert!(rt; gate.was_in_time());
     Ok(())
 }
