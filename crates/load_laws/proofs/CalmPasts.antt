@@ -171,7 +171,7 @@ module _ (size : ℕ) (at : At) (past : Past) (calm : IsCalm past) (has : HasPub
       let made : (if w.0 == w.0 then operations_at_start at past else operations_at past w.0) ≡ operations_at_start at past = rw (eq-eqb w.0 w.0 refl) refl in
       let started_with : operations_at_start at past ≡ operations_of_generation (before_start at past) = started at past ∙ calm_written (before_start at past) (calm_start past calm) in
       let there : operations_at (record { at = at; event = Published g w } ∷ past) (max (newest_version past) w.0) ≡ operations_of_generation (before_start at past) =
-          ap (operations_at (record { at = at; event = Published g w } ∷ past)) greatest ∙ (made ∙ started_with) in
+      ap (operations_at (record { at = at; event = Published g w } ∷ past)) greatest ∙ (made ∙ started_with) in
       record {
         front = subst (λ (ops : List Op). IsPrefix ops (operations_of_generation past)) (sym there) (start_first at past calm);
         count = ap length there;
@@ -202,6 +202,6 @@ nothing_left past calm has none =
     let front = operations_at past (newest_version past) in
     let rest : List Op = has.front.0 in
     let cut : cut_of past ≡ rest =
-        ap (λ (k : ℕ). drop k (operations_of_generation past)) (sym has.count) ∙ (ap (drop (length front)) (sym has.front.1) ∙ drop-append_seam front rest) in
+    ap (λ (k : ℕ). drop k (operations_of_generation past)) (sym has.count) ∙ (ap (drop (length front)) (sym has.front.1) ∙ drop-append_seam front rest) in
     let empty : rest ≡ [] = no_rest rest (ap length (sym cut) ∙ none) in
     sym (append-nil front) ∙ (ap (λ (more : List Op). front ++ more) (sym empty) ∙ (has.front.1 ∙ sym (calm_written past calm)))

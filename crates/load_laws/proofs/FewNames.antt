@@ -185,9 +185,11 @@ publishes_step n past at (Published g w) calm turn low =
     let is : turn.command ≡ Publish = published_by turn.command at past (last_of_line at past) g w suits.0 in
     let fresh : is_answered at past ≡ false = turn_open turn.command at past (Published g w) suits.0 in
     let rise = tally_rises (has_published past) (has_published (entry ∷ past)) (answered_more past entry) (all_of n) at turn.command
-        (λ l place asks. (ap (λ (b : Bool). is_publish l.command && b) (ap (λ (a : At). is_answered a past) place ∙ fresh) ∙ and_no (is_publish l.command),
-        and_from (is_publish l.command) (is_answered l.at (entry ∷ past)) (ap is_publish (asks ∙ is))
-        (or_left (same_at at l.at) (is_answered l.at past) (ap (same_at at) place ∙ at_self at)))) turn.there in
+    (λ l place asks. (
+      ap (λ (b : Bool). is_publish l.command && b) (ap (λ (a : At). is_answered a past) place ∙ fresh) ∙ and_no (is_publish l.command),
+      and_from (is_publish l.command) (is_answered l.at (entry ∷ past)) (ap is_publish (asks ∙ is))
+          (or_left (same_at at l.at) (is_answered l.at past) (ap (same_at at) place ∙ at_self at)),
+    )) turn.there in
     put_le (cut_has_put (before_start at past)) (put_publishes past) (tally (has_published past) (all_of n)) (tally (has_published (entry ∷ past)) (all_of n)) low rise
   where
     and_no : (b : Bool) → (b && false) ≡ false
@@ -259,8 +261,10 @@ drawn_rise n past at e calm is turn =
     let suits = turn_suits n past entry calm turn in
     let none : last_of_line at past ≡ None = first_entry turn.command at past e is suits.0 in
     tally_rises (is_begun past) (is_begun (entry ∷ past)) (begun_more past entry) (all_of n) at turn.command
-    (λ l place asks. (ap is_some (ap (λ (a : At). last_of_line a past) place ∙ none),
-    ap (λ (b : Bool). is_some (if b then last_by e (last_of_line l.at past) else last_of_line l.at past)) (ap (same_at at) place ∙ at_self at) ∙ begins_line e (last_of_line l.at past) is)) turn.there
+    (λ l place asks. (
+      ap is_some (ap (λ (a : At). last_of_line a past) place ∙ none),
+      ap (λ (b : Bool). is_some (if b then last_by e (last_of_line l.at past) else last_of_line l.at past)) (ap (same_at at) place ∙ at_self at) ∙ begins_line e (last_of_line l.at past) is,
+    )) turn.there
 
 names_step : (n : ℕ) (past : Past) (at : At) (e : Event) → is_calm_event e ≡ true → Turn n past (record { at = at; event = e }) → names_drawn past ≤ tally (is_begun past) (all_of n)
     → names_drawn (record { at = at; event = e } ∷ past) ≤ tally (is_begun (record { at = at; event = e } ∷ past)) (all_of n)

@@ -271,7 +271,7 @@ module _ (n : ℕ) (few : n ≤ 10000) (past : Past) (e : Entry) (quiet : IsCalm
       → Split n lane (e ∷ past)
   aside lane split other none =
       let own : list_all (λ (l : Line). l.at.lane.0 == lane) split.rest ≡ true =
-          (all_parts (λ (l : Line). l.at.lane.0 == lane) split.done split.rest (subst (λ (ls : List Line). list_all (λ l. l.at.lane.0 == lane) ls ≡ true) split.whole (own_lines lane (all_of n)))).1 in
+      (all_parts (λ (l : Line). l.at.lane.0 == lane) split.done split.rest (subst (λ (ls : List Line). list_all (λ l. l.at.lane.0 == lane) ls ≡ true) split.whole (own_lines lane (all_of n)))).1 in
       record {
         done = split.done;
         rest = split.rest;
@@ -304,7 +304,7 @@ module _ (n : ℕ) (few : n ≤ 10000) (past : Past) (e : Entry) (quiet : IsCalm
       let lane = e.at.lane.0 in
       let earlier : earlier_answered (split.done ++ split.rest) e.at past ≡ true = subst (λ (ls : List Line). earlier_answered ls e.at past ≡ true) split.whole suits.1 in
       let there : command_at (split.done ++ split.rest) e.at ≡ Some turn.command =
-          subst (λ (ls : List Line). command_at ls e.at ≡ Some turn.command) split.whole (command_lane (all_of n) e.at ∙ turn.there) in
+      subst (λ (ls : List Line). command_at ls e.at ≡ Some turn.command) split.whole (command_lane (all_of n) e.at ∙ turn.there) in
       let fresh : is_answered e.at past ≡ false = turn_open turn.command e.at past e.event suits.0 in
       let head = head_of split.done split.rest e.at past turn.command split.answered split.left earlier fresh there in
       let ascends : AscendFrom 3 (split.done ++ split.rest) = subst (AscendFrom 3) split.whole (kept_ascend lane 3 (all_of n) (both_ascend n)) in
@@ -312,11 +312,11 @@ module _ (n : ℕ) (few : n ≤ 10000) (past : Past) (e : Entry) (quiet : IsCalm
       let left : list_all (λ l. not (is_answered l.at past)) (head.line ∷ head.others) ≡ true = subst (λ (ls : List Line). list_all (λ l. not (is_answered l.at past)) ls ≡ true) head.is split.left in
       let number : number_of head.line ≡ e.at.line.0 = ap (λ (a : At). a.line.0) head.place in
       let now : is_answered head.line.at (e ∷ past) ≡ true =
-          or_left (is_reply e.event && same_at e.at head.line.at) (is_answered head.line.at past)
-          (and_from (is_reply e.event) (same_at e.at head.line.at) reply (ap (same_at e.at) head.place ∙ at_self e.at)) in
+      or_left (is_reply e.event && same_at e.at head.line.at) (is_answered head.line.at past)
+      (and_from (is_reply e.event) (same_at e.at head.line.at) reply (ap (same_at e.at) head.place ∙ at_self e.at)) in
       let mine : owned lane (accepted_of e.event) ≡ operations_asked head.line.command =
-          ap (owned lane) (gained ∙ ap (λ (b : Bool). if b then operations_asked turn.command else []) reply)
-          ∙ (owned_asked lane lane (operations_asked turn.command) asked ∙ (ap (λ (b : Bool). if b then operations_asked turn.command else []) (eq-eqb lane lane refl) ∙ ap operations_asked (sym head.asks))) in
+      ap (owned lane) (gained ∙ ap (λ (b : Bool). if b then operations_asked turn.command else []) reply)
+      ∙ (owned_asked lane lane (operations_asked turn.command) asked ∙ (ap (λ (b : Bool). if b then operations_asked turn.command else []) (eq-eqb lane lane refl) ∙ ap operations_asked (sym head.asks))) in
       record {
         done = split.done ++ head.line ∷ [];
         rest = head.others;
@@ -390,23 +390,23 @@ lane_full n lane past few split first =
     let q : Line → Bool = λ l. is_answered l.at past || is_idle l.command in
     let one : list_all q (of_lane lane (load_lines n)) ≡ true = all_more (λ l. is_answered l.at past) q (λ l h. or_left (is_answered l.at past) (is_idle l.command) h) (of_lane lane (load_lines n)) first in
     let two : list_all q (of_lane lane (last_of n ++ [])) ≡ true =
-        all_more (λ l. is_idle l.command) q (λ l h. or_right (is_answered l.at past) (is_idle l.command) h) (of_lane lane (last_of n ++ []))
-        (all_kept (λ l. is_idle l.command) (λ l. l.at.lane.0 == lane) (last_of n ++ []) refl) in
+    all_more (λ l. is_idle l.command) q (λ l h. or_right (is_answered l.at past) (is_idle l.command) h) (of_lane lane (last_of n ++ []))
+    (all_kept (λ l. is_idle l.command) (λ l. l.at.lane.0 == lane) (last_of n ++ []) refl) in
     let seam : of_lane lane (all_of n) ≡ of_lane lane (load_lines n) ++ of_lane lane (last_of n ++ []) = filter-append (λ (l : Line). l.at.lane.0 == lane) (load_lines n) (last_of n ++ []) in
     let both : list_all q (split.done ++ split.rest) ≡ true =
-        ap (list_all q) (sym split.whole ∙ seam)
-        ∙ (list_all-append q (of_lane lane (load_lines n)) (of_lane lane (last_of n ++ []))
-        ∙ and_from (list_all q (of_lane lane (load_lines n))) (list_all q (of_lane lane (last_of n ++ []))) one two) in
+    ap (list_all q) (sym split.whole ∙ seam)
+    ∙ (list_all-append q (of_lane lane (load_lines n)) (of_lane lane (last_of n ++ []))
+    ∙ and_from (list_all q (of_lane lane (load_lines n))) (list_all q (of_lane lane (last_of n ++ []))) one two) in
     let idle : list_all (λ (l : Line). is_idle l.command) split.rest ≡ true =
-        all_both (λ l. not (is_answered l.at past)) q (λ l. is_idle l.command) (λ l fresh either. or_idle (is_answered l.at past) (is_idle l.command) fresh either) split.rest split.left
-        (all_parts q split.done split.rest both).1 in
+    all_both (λ l. not (is_answered l.at past)) q (λ l. is_idle l.command) (λ l fresh either. or_idle (is_answered l.at past) (is_idle l.command) fresh either) split.rest split.left
+    (all_parts q split.done split.rest both).1 in
     let none : operations_of_lines split.rest ≡ [] = idle_lines split.rest idle in
     let whole : operations_of_lines (of_lane lane (all_of n)) ≡ operations_of_lines split.done =
-        ap operations_of_lines split.whole
-        ∙ (flat_map-append (λ (l : Line). operations_asked l.command) split.done split.rest
-        ∙ (ap (λ (os : List Op). operations_of_lines split.done ++ os) none ∙ append-nil (operations_of_lines split.done))) in
+    ap operations_of_lines split.whole
+    ∙ (flat_map-append (λ (l : Line). operations_asked l.command) split.done split.rest
+    ∙ (ap (λ (os : List Op). operations_of_lines split.done ++ os) none ∙ append-nil (operations_of_lines split.done))) in
     let asked_for : operations_of_lines (all_of n) ≡ operations_of_lines (load_lines n) =
-        flat_map-append (λ (l : Line). operations_asked l.command) (load_lines n) (last_of n ++ []) ∙ append-nil (operations_of_lines (load_lines n)) in
+    flat_map-append (λ (l : Line). operations_asked l.command) (load_lines n) (last_of n ++ []) ∙ append-nil (operations_of_lines (load_lines n)) in
     split.ops ∙ (sym whole ∙ (owned_of_lines lane (all_of n) (owned_lines n few) ∙ ap (owned lane) asked_for))
 
 lines_keyed : (lines : List Line) → list_all (λ l. is_calm_command l.command) lines ≡ true → list_all is_keyed (operations_of_lines lines) ≡ true
@@ -487,9 +487,9 @@ pub first_answered : (n : ℕ) (e : Entry) (past : Past) → ServesPhases (lines
 first_answered n e past serves calm behind lane low high =
     let phase : List Line = lines_of_phase (phase_of (load_lines n)) in
     let none : has_line phase e.at ≡ false =
-        none_there phase e.at (all_of_phase (λ l. not (same_at l.at e.at)) (load_lines n) (below 3 (load_lines n) e.at (load_count n) (omega (arith, behind)))) in
+    none_there phase e.at (all_of_phase (λ l. not (same_at l.at e.at)) (load_lines n) (below 3 (load_lines n) e.at (load_count n) (omega (arith, behind)))) in
     let earlier : earlier_phases_answered (generated_script n).phases e.at past ≡ true =
-        ap (λ (b : Bool). b || earlier_phases_answered (generated_script n).phases e.at past) (sym (merge_fault_calm (command_at (lines_of (generated_script n)) e.at) e.event calm)) ∙ serves.0 in
+    ap (λ (b : Bool). b || earlier_phases_answered (generated_script n).phases e.at past) (sym (merge_fault_calm (command_at (lines_of (generated_script n)) e.at) e.event calm)) ∙ serves.0 in
     let both = ap (λ (b : Bool). if b then true else list_all (λ (l : Line). is_answered l.at past) phase && earlier_phases_answered (phase_of (last_of n) ∷ []) e.at past) (sym none) ∙ earlier in
     under_has (λ l. is_answered l.at past) lane 8 1 (load_lines n) low (omega (arith, high))
     (and_parts (list_all (λ (l : Line). is_answered l.at past) phase) (earlier_phases_answered (phase_of (last_of n) ∷ []) e.at past) both).0

@@ -166,7 +166,7 @@ earlier_numbered : (cs : List LineCommand) (rest : List Line) (k m j : ℕ) (pas
 earlier_numbered [] rest k m j past low near high earlier = absurd (omega (arith, low, high))
 earlier_numbered (d ∷ cs) rest k m j past low near high earlier =
     let parts = and_parts (is_answered (place k) past) (earlier_answered (lines_numbered (k + 1) 1 cs ++ rest) (place m) past)
-        (ap (λ (b : Bool). if b then true else is_answered (place k) past && earlier_answered (lines_numbered (k + 1) 1 cs ++ rest) (place m) past) (sym (apart_below k m (omega (arith, low, near)))) ∙ earlier) in
+    (ap (λ (b : Bool). if b then true else is_answered (place k) past && earlier_answered (lines_numbered (k + 1) 1 cs ++ rest) (place m) past) (sym (apart_below k m (omega (arith, low, near)))) ∙ earlier) in
     by_number (k == j) refl parts.0 (λ above. earlier_numbered cs rest (k + 1) m j past above near (omega (arith, high)) parts.1)
   where
     by_number : (b : Bool) → (k == j) ≡ b → is_answered (place k) past ≡ true → (k + 1 ≤ j → is_answered (place j) past ≡ true) → is_answered (place j) past ≡ true
@@ -270,7 +270,7 @@ newest_step n past at (Published g w) v late calm turn =
     let unmet : is_answered at past ≡ false = turn_open turn.command at past (Published g w) suits.0 in
     let line = found (λ l. not (is_publish l.command) || is_answered l.at past) (of_lane at.lane.0 (all_of n)) at turn.command (late.late at.lane.0 turn.low turn.high) (command_lane (all_of n) at ∙ turn.there) in
     let answered : is_answered at past ≡ true =
-        ap (λ (a : At). is_answered a past) (sym line.place) ∙ (ap (λ (c : LineCommand). not (is_publish c) || is_answered line.line.at past) (sym (line.asks ∙ is)) ∙ line.holds) in
+    ap (λ (a : At). is_answered a past) (sym line.place) ∙ (ap (λ (c : LineCommand). not (is_publish c) || is_answered line.line.at past) (sym (line.asks ∙ is)) ∙ line.holds) in
     absurd (true≢false (sym answered ∙ unmet))
 newest_step n past at (Promoted m g f w) v late calm turn = absurd (false≢true calm)
 newest_step n past at e v late calm turn = refl

@@ -53,7 +53,7 @@ pub calm_lines : (n : ℕ) → list_all (λ line. is_calm_command line.command) 
 calm_lines n =
     let p : Line → Bool = λ line. is_calm_command line.command in
     let first : list_all p (load_lines n) ≡ true =
-        load_all p n (λ i k low high. lines_all is_calm_command k (load_lane i) (load_commands i) (commands_all is_calm_command i refl (λ is. refl) refl refl (λ is. refl))) in
+    load_all p n (λ i k low high. lines_all is_calm_command k (load_lane i) (load_commands i) (commands_all is_calm_command i refl (λ is. refl) refl refl (λ is. refl))) in
     list_all-append p (load_lines n) (last_of n ++ []) ∙ and_from (list_all p (load_lines n)) (list_all p (last_of n ++ [])) first refl
 
 -- the operation that a command asks for is one of this lane
@@ -86,7 +86,7 @@ owned_turn i low high =
 pub owned_lines : (n : ℕ) → n ≤ 10000 → list_all is_owned (all_of n) ≡ true
 owned_lines n few =
     let first : list_all is_owned (load_lines n) ≡ true =
-        load_all is_owned n (λ i k low high. owned_numbered k (load_lane i) (load_commands i) (owned_turn i low (omega (arith, few, high)))) in
+    load_all is_owned n (λ i k low high. owned_numbered k (load_lane i) (load_commands i) (owned_turn i low (omega (arith, few, high)))) in
     list_all-append is_owned (load_lines n) (last_of n ++ []) ∙ and_from (list_all is_owned (load_lines n)) (list_all is_owned (last_of n ++ [])) first refl
 
 pub keyed_asked : (c : LineCommand) → is_calm_command c ≡ true → list_all is_keyed (operations_asked c) ≡ true
@@ -268,7 +268,7 @@ turn_of n past e serves = by_lane (lane_cases n e.at.lane.0)
     by_lane : ((1 ≤ e.at.lane.0) × (e.at.lane.0 ≤ 8)) ⊎ (lines_of_lane e.at.lane.0 (generated_script n) ≡ []) → Turn n past e
     by_lane (inl within) =
         let fits : FitsTurn (of_lane e.at.lane.0 (all_of n)) past e.at (command_at (of_lane e.at.lane.0 (all_of n)) e.at) e.event =
-            subst (λ (ls : List Line). FitsTurn ls past e.at (command_at ls e.at) e.event) (lane_is n e.at.lane.0 within.0 within.1) serves.0 in
+        subst (λ (ls : List Line). FitsTurn ls past e.at (command_at ls e.at) e.event) (lane_is n e.at.lane.0 within.0 within.1) serves.0 in
         by_command (command_at (all_of n) e.at) refl within.0 within.1
         (subst (λ (o : Option LineCommand). FitsTurn (of_lane e.at.lane.0 (all_of n)) past e.at o e.event) (command_lane (all_of n) e.at) fits)
     by_lane (inr none) = absurd (subst (λ (ls : List Line). FitsTurn ls past e.at (command_at ls e.at) e.event) none serves.0)

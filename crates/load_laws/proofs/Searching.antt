@@ -213,7 +213,7 @@ module _ (n : ℕ) (few : n ≤ 10000) where
       let end = publish_end at reply.older (last_of_line at reply.older) reply.event reply.reply has.suits in
       let full = publishes reply.older reply.event there reply.reply end in
       let met : is_answered at (now ∷ reply.older) ≡ true =
-          or_left (is_reply reply.event && same_at at at) (is_answered at reply.older) (and_from (is_reply reply.event) (same_at at at) reply.reply (at_self at)) in
+      or_left (is_reply reply.event && same_at at at) (is_answered at reply.older) (and_from (is_reply reply.event) (same_at at at) reply.reply (at_self at)) in
       let late = late_of n (now ∷ reply.older) (still_first reply.older now has.first) met in
       let same = newest_stays n reply.newer (now ∷ reply.older) whole late in
       let v : ℕ = newest_version (now ∷ reply.older) in

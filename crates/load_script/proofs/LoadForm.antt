@@ -113,7 +113,7 @@ commands_are n few =
     load_all p n (λ i k low high. lines_all (is_command 3) k (load_lane i) (load_commands i)
     (commands_all (is_command 3) i (and_from _ _ (key_is i (omega (arith, few, high))) (text_is i)) (λ is. key_is (i - 4) (omega (arith, few, high))) refl refl (λ is. refl))) in
     let second : list_all p (last_of n ++ []) ≡ true =
-        list_all-append p (last_of n) [] ∙ and_from (list_all p (last_of n)) true (lines_all (is_command 3) (4 + length (load_lines n)) 1 last_commands last_are) refl in
+    list_all-append p (last_of n) [] ∙ and_from (list_all p (last_of n)) true (lines_all (is_command 3) (4 + length (load_lines n)) 1 last_commands last_are) refl in
     list_all-append p (load_lines n) (last_of n ++ []) ∙ and_from (list_all p (load_lines n)) (list_all p (last_of n ++ [])) first second
 
 -- the script is in form

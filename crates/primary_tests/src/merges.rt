@@ -1,10 +1,10 @@
 //! Merges of a primary on a directory in memory.
 
+use crate::tables::{FAR, empty_dir, next};
 use primary_bench::Call::{
     self, Accept, Acquire, Commit, GiveBack, HasDueNames, HasMet, Merge, MergeTo, Plan, Publish,
     PublishTo, Release, StopAt, TakeState,
 };
-use crate::tables::{FAR, empty_dir, next};
 use primary_bench::MergeStep::{Cut, Ready, Start};
 use primary_bench::Step::{Delete, Drop, Put};
 use primary_bench::{Outcome, run};

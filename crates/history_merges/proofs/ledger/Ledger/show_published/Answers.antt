@@ -30,5 +30,5 @@ returns-clause-turns c = subst (λ (s : Sheet). AreInTurn (printed s.log)) c.sel
 pub returns-clause-rule : goal.returns-clause-rule
 returns-clause-rule c = subst (λ (s : Sheet). KeepsRule s.nodes (printed s.log) c.args.at (Published c.args.generation c.args.v)) c.self.view_is
     (publish_rule _ c.self.inside.merges c.args.at c.args.generation c.args.v (subst (λ (s : Sheet). publish_in_flight (printed s.log) ≡ Some c.args.at) (sym c.self.view_is) c.requires.flight) c.flies.ensures
-        (subst (λ (s : Sheet). c.args.generation.0 ≡ generation_of (printed s.log)) (sym c.self.view_is) c.requires.present)
-        (subst (λ (s : Sheet). c.args.v.0 ≡ newest_version (printed s.log) + 1) (sym c.self.view_is) c.requires.next) c.self.invariant)
+    (subst (λ (s : Sheet). c.args.generation.0 ≡ generation_of (printed s.log)) (sym c.self.view_is) c.requires.present)
+    (subst (λ (s : Sheet). c.args.v.0 ≡ newest_version (printed s.log) + 1) (sym c.self.view_is) c.requires.next) c.self.invariant)
