@@ -33,10 +33,11 @@ pub enum Inner {
     FlushEnd {
         at: At,
     },
-    /// A merge into this segment began.
+    /// A merge into this segment was handed out, with its inputs as they were.
     MergeOut {
         line: LineNo,
         seg: SegNo,
+        inputs: List<Segment>,
     },
     /// That merge has ended.
     MergeEnd {
