@@ -1,0 +1,146 @@
+-- The merges in flight once one has started, gone on or ended, and how many tasks may still come.
+use Rattle.std.proofs.Common.{◌≡◌, ◌≢◌, ◌≤◌, ◌<◌, ◌+◌, ◌++◌, ◌==◌, ◌&&◌, ℕ, zero, suc, Bool, true, false, List, [], ◌∷◌, Some, None, Option, length, refl, ap, ◌∙◌, sym, subst, arith, if◌then◌else◌}
+use Rattle.std.specs.Prelude.{not, slice_set}
+use Rattle.std.specs.List.{filter, slice_get}
+use Rattle.std.specs.Option.{option_map}
+use Rattle.std.proofs.lemmas.Bool.Decides.{nat_tests}
+use Rattle.nrt_base.specs.declared.numbers.LineNo.{LineNo}
+use Rattle.history_tables.proofs.RowLemmas.{by_test}
+use Rattle.cluster_tasks.specs.declared.tasks.OpenMerge.{OpenMerge}
+use Rattle.cluster_tasks.specs.declared.tasks.Sent.{Sent}
+use Rattle.cluster_tasks.specs.declared.tasks.Spread.{Spread}
+use Rattle.cluster_tasks.specs.Board.{open_merge, merge_at, spread_at, with_spread, without_merge, is_sent_in, without_sent, due_of, due_all}
+
+-- the line of a merge
+abbrev pub line_told : Option OpenMerge → Option LineNo
+line_told o = option_map (λ r. r.line) o
+
+-- a merge that is not among these, put behind them
+pub open_end : (rows : List OpenMerge) (r : OpenMerge) (s : ℕ) → open_merge r.seg.0 rows ≡ None → open_merge s (rows ++ r ∷ []) ≡ (if r.seg.0 == s then Some r else open_merge s rows)
+open_end [] r s fresh = refl
+open_end (q ∷ rows) r s fresh = ends (q.seg.0 == r.seg.0) refl fresh (open_end rows r s)
+  where
+    ends : (t : Bool) → (q.seg.0 == r.seg.0) ≡ t → (if t then Some q else open_merge r.seg.0 rows) ≡ None
+        → (open_merge r.seg.0 rows ≡ None → open_merge s (rows ++ r ∷ []) ≡ (if r.seg.0 == s then Some r else open_merge s rows))
+        → (if q.seg.0 == s then Some q else open_merge s (rows ++ r ∷ [])) ≡ (if r.seg.0 == s then Some r else if q.seg.0 == s then Some q else open_merge s rows)
+    ends true is none more = absurd (cc)
+    ends false is none more = let rest = more none in grind (arith, nat_tests, rest, is)
+
+-- one that is left out
+pub open_without : (rows : List OpenMerge) (seg s : ℕ) → open_merge s (without_merge seg rows) ≡ (if seg == s then None else open_merge s rows)
+open_without [] seg s = grind (arith, nat_tests)
+open_without (r ∷ rows) seg s = grind (arith, nat_tests, open_without rows seg s)
+
+-- one that goes on keeps its line, and so do the others
+pub lines_with : (rows : List OpenMerge) (seg : ℕ) (spread : Option Spread) (s : ℕ) → line_told (open_merge s (with_spread seg spread rows)) ≡ line_told (open_merge s rows)
+lines_with [] seg spread s = refl
+lines_with (r ∷ rows) seg spread s =
+    by_test (r.seg.0 == seg) (λ b. line_told (open_merge s (if b then record r { spread = spread } ∷ rows else r ∷ with_spread seg spread rows)) ≡ line_told (if r.seg.0 == s then Some r else open_merge s rows))
+    (λ here. elim (r.seg.0 == s) as (λ b. line_told (if b then Some (record r { spread = spread }) else open_merge s rows) ≡ line_told (if b then Some r else open_merge s rows)) [ true ↦ refl | false ↦ refl ])
+    (λ apart. let rest = lines_with rows seg spread s in
+    elim (r.seg.0 == s) as (λ b. line_told (if b then Some r else open_merge s (with_spread seg spread rows)) ≡ line_told (if b then Some r else open_merge s rows)) [ true ↦ refl | false ↦ rest ])
+
+-- one that goes on, by its segment
+pub open_with : (rows : List OpenMerge) (seg : ℕ) (spread : Option Spread) (r : OpenMerge) → open_merge seg rows ≡ Some r → (s : ℕ)
+    → open_merge s (with_spread seg spread rows) ≡ (if seg == s then Some (record r { spread = spread }) else open_merge s rows)
+open_with [] seg spread r is s = absurd (cc)
+open_with (q ∷ rows) seg spread r is s =
+    by_test (q.seg.0 == seg) (λ b. (if b then Some q else open_merge seg rows) ≡ Some r
+        → open_merge s (if b then record q { spread = spread } ∷ rows else q ∷ with_spread seg spread rows) ≡ (if seg == s then Some (record r { spread = spread }) else if q.seg.0 == s then Some q else open_merge s rows))
+    (λ here is. let same : q ≡ r = cc in let all : Some (record q { spread = spread }) ≡ Some (record r { spread = spread }) = ap (λ (z : OpenMerge). Some (record z { spread = spread })) same in grind (arith, nat_tests, here, all))
+    (λ apart is. let rest = open_with rows seg spread r is s in grind (arith, nat_tests, apart, rest))
+    is
+
+-- twice, the last counts
+pub with_last : (rows : List OpenMerge) (seg : ℕ) (a b : Option Spread) → with_spread seg a (with_spread seg b rows) ≡ with_spread seg a rows
+with_last [] seg a b = refl
+with_last (r ∷ rows) seg a b =
+    by_test (r.seg.0 == seg) (λ t. (r.seg.0 == seg) ≡ t → with_spread seg a (if t then record r { spread = b } ∷ rows else r ∷ with_spread seg b rows) ≡ (if t then record r { spread = a } ∷ rows else r ∷ with_spread seg a rows))
+    (λ here is. ap (λ (t : Bool). if t then record r { spread = a } ∷ rows else record r { spread = b } ∷ with_spread seg a rows) is)
+    (λ apart is. ap (λ (t : Bool). if t then record r { spread = a } ∷ with_spread seg b rows else r ∷ with_spread seg a (with_spread seg b rows)) is ∙ ap (λ (l : List OpenMerge). r ∷ l) (with_last rows seg a b))
+    refl
+
+-- left out, it does not matter how far it had come
+pub without_with : (rows : List OpenMerge) (seg : ℕ) (spread : Option Spread) → without_merge seg (with_spread seg spread rows) ≡ without_merge seg rows
+without_with [] seg spread = refl
+without_with (r ∷ rows) seg spread =
+    by_test (r.seg.0 == seg) (λ t. (r.seg.0 == seg) ≡ t → without_merge seg (if t then record r { spread = spread } ∷ rows else r ∷ with_spread seg spread rows) ≡ without_merge seg (r ∷ rows))
+    (λ here is. refl)
+    (λ apart is. ap (λ (l : List OpenMerge). if not (r.seg.0 == seg) then r ∷ l else l) (without_with rows seg spread))
+    refl
+
+-- it is still there
+pub there_with : (rows : List OpenMerge) (seg : ℕ) (spread : Option Spread) → open_merge seg rows ≢ None → open_merge seg (with_spread seg spread rows) ≢ None
+there_with [] seg spread there is = there is
+there_with (r ∷ rows) seg spread there =
+    by_test (r.seg.0 == seg) (λ t. (r.seg.0 == seg) ≡ t → (if t then Some r else open_merge seg rows) ≢ None → open_merge seg (if t then record r { spread = spread } ∷ rows else r ∷ with_spread seg spread rows) ≢ None)
+    (λ here is some none. let one : Some (record r { spread = spread }) ≡ None = sym (ap (λ (t : Bool). if t then Some (record r { spread = spread }) else open_merge seg rows) is) ∙ none in absurd (cc))
+    (λ apart is some none. there_with rows seg spread some (sym (ap (λ (t : Bool). if t then Some r else open_merge seg (with_spread seg spread rows)) is) ∙ none))
+    refl there
+
+-- ---- what may still come
+
+pub due_end : (size : ℕ) (rows : List OpenMerge) (r : OpenMerge) → due_all size (rows ++ r ∷ []) ≡ due_all size rows + due_of size r.spread
+due_end size [] r = omega arith
+due_end size (q ∷ rows) r = let rest = due_end size rows r in omega (arith, rest)
+
+due_no_more : (size : ℕ) (rows : List OpenMerge) (seg : ℕ) → due_all size (without_merge seg rows) ≤ due_all size rows
+due_no_more size [] seg = omega arith
+due_no_more size (r ∷ rows) seg =
+    let rest = due_no_more size rows seg in
+    elim (r.seg.0 == seg) as (λ b. due_all size (if not b then r ∷ without_merge seg rows else without_merge seg rows) ≤ due_all size (r ∷ rows)) [ true ↦ omega (arith, rest) | false ↦ omega (arith, rest) ]
+
+pub due_without : (size : ℕ) (rows : List OpenMerge) (seg : ℕ) (r : OpenMerge) → open_merge seg rows ≡ Some r → due_all size (without_merge seg rows) + due_of size r.spread ≤ due_all size rows
+due_without size [] seg r is = absurd (cc)
+due_without size (q ∷ rows) seg r is =
+    by_test (q.seg.0 == seg) (λ b. (if b then Some q else open_merge seg rows) ≡ Some r → due_all size (if not b then q ∷ without_merge seg rows else without_merge seg rows) + due_of size r.spread ≤ due_all size (q ∷ rows))
+    (λ here is. let same : q ≡ r = cc in let due : due_of size q.spread ≡ due_of size r.spread = ap (λ (z : OpenMerge). due_of size z.spread) same in let rest = due_no_more size rows seg in omega (arith, rest, due))
+    (λ apart is. let rest = due_without size rows seg r is in omega (arith, rest))
+    is
+
+pub due_with : (size : ℕ) (rows : List OpenMerge) (seg : ℕ) (spread : Option Spread) (r : OpenMerge) → open_merge seg rows ≡ Some r
+    → due_all size (with_spread seg spread rows) + due_of size r.spread ≡ due_all size rows + due_of size spread
+due_with size [] seg spread r is = absurd (cc)
+due_with size (q ∷ rows) seg spread r is =
+    by_test (q.seg.0 == seg) (λ b. (if b then Some q else open_merge seg rows) ≡ Some r
+        → due_all size (if b then record q { spread = spread } ∷ rows else q ∷ with_spread seg spread rows) + due_of size r.spread ≡ due_all size (q ∷ rows) + due_of size spread)
+    (λ here is. let same : q ≡ r = cc in let due : due_of size q.spread ≡ due_of size r.spread = ap (λ (z : OpenMerge). due_of size z.spread) same in omega (arith, due))
+    (λ apart is. let rest = due_with size rows seg spread r is in omega (arith, rest))
+    is
+
+sent_no_more : (left : List Sent) (n job : ℕ) → length (without_sent n job left) ≤ length left
+sent_no_more [] n job = omega arith
+sent_no_more (s ∷ left) n job =
+    let rest = sent_no_more left n job in
+    elim ((s.node.0 == n) && (s.job == job)) as (λ b. length (if not b then s ∷ without_sent n job left else without_sent n job left) ≤ length (s ∷ left)) [ true ↦ omega (arith, rest) | false ↦ omega (arith, rest) ]
+
+-- one copy less
+pub sent_less : (left : List Sent) (n job : ℕ) → is_sent_in n job left ≡ true → length (without_sent n job left) + 1 ≤ length left
+sent_less [] n job is = absurd (cc)
+sent_less (s ∷ left) n job is =
+    by_test ((s.node.0 == n) && (s.job == job)) (λ b. (if b then true else is_sent_in n job left) ≡ true → length (if not b then s ∷ without_sent n job left else without_sent n job left) + 1 ≤ length (s ∷ left))
+    (λ here is. let rest = sent_no_more left n job in omega (arith, rest))
+    (λ apart is. let rest = sent_less left n job is in omega (arith, rest))
+    is
+
+-- ---- the place of a merge
+
+pub place_inside : (rows : List OpenMerge) (seg : ℕ) → open_merge seg rows ≢ None → merge_at seg rows < length rows
+place_inside [] seg there = absurd (there refl)
+place_inside (r ∷ rows) seg there =
+    by_test (r.seg.0 == seg) (λ b. (if b then Some r else open_merge seg rows) ≢ None → (if b then 0 else suc (merge_at seg rows)) < length (r ∷ rows))
+    (λ here some. omega arith) (λ apart some. let rest = place_inside rows seg some in omega (arith, rest)) there
+
+pub place_get : (rows : List OpenMerge) (seg : ℕ) → slice_get rows (merge_at seg rows) ≡ open_merge seg rows
+place_get [] seg = refl
+place_get (r ∷ rows) seg =
+    by_test (r.seg.0 == seg) (λ b. slice_get (r ∷ rows) (if b then 0 else suc (merge_at seg rows)) ≡ (if b then Some r else open_merge seg rows)) (λ here. refl) (λ apart. place_get rows seg)
+
+pub place_set : (rows : List OpenMerge) (seg : ℕ) (spread : Option Spread) (r : OpenMerge) → open_merge seg rows ≡ Some r → slice_set rows (merge_at seg rows) (record r { spread = spread }) ≡ with_spread seg spread rows
+place_set [] seg spread r is = absurd (cc)
+place_set (q ∷ rows) seg spread r is =
+    by_test (q.seg.0 == seg) (λ b. (if b then Some q else open_merge seg rows) ≡ Some r
+        → slice_set (q ∷ rows) (if b then 0 else suc (merge_at seg rows)) (record r { spread = spread }) ≡ (if b then record q { spread = spread } ∷ rows else q ∷ with_spread seg spread rows))
+    (λ here is. let same : q ≡ r = cc in ap (λ (z : OpenMerge). record z { spread = spread } ∷ rows) (sym same))
+    (λ apart is. ap (λ (l : List OpenMerge). q ∷ l) (place_set rows seg spread r is))
+    is
