@@ -1,5 +1,5 @@
 -- The merges in flight once one has started, gone on or ended, and how many tasks may still come.
-use Rattle.std.proofs.Common.{◌≡◌, ◌≢◌, ◌≤◌, ◌<◌, ◌+◌, ◌++◌, ◌==◌, ◌&&◌, ℕ, zero, suc, Bool, true, false, List, [], ◌∷◌, Some, None, Option, length, refl, ap, ◌∙◌, sym, subst, arith, if◌then◌else◌}
+use Rattle.std.proofs.Common.{◌≡◌, ◌≢◌, ◌≤◌, ◌<◌, ◌+◌, ◌++◌, ◌==◌, ◌&&◌, ◌||◌, ℕ, zero, suc, Bool, true, false, List, [], ◌∷◌, Some, None, Option, length, refl, ap, ◌∙◌, sym, subst, arith, if◌then◌else◌}
 use Rattle.std.specs.Prelude.{not, slice_set}
 use Rattle.std.specs.List.{filter, slice_get}
 use Rattle.std.specs.Option.{option_map}
@@ -65,13 +65,14 @@ pub without_with : (rows : List OpenMerge) (seg : ℕ) (spread : Option Spread) 
 without_with [] seg spread = refl
 without_with (r ∷ rows) seg spread =
     by_test (r.seg.0 == seg) (λ t. (r.seg.0 == seg) ≡ t → without_merge seg (if t then record r { spread = spread } ∷ rows else r ∷ with_spread seg spread rows) ≡ without_merge seg (r ∷ rows))
-    (λ here is. refl)
+    (λ here is.
+    ap (λ (t : Bool). if not t then record r { spread = spread } ∷ without_merge seg rows else without_merge seg rows) is ∙ sym (ap (λ (t : Bool). if not t then r ∷ without_merge seg rows else without_merge seg rows) is))
     (λ apart is. ap (λ (l : List OpenMerge). if not (r.seg.0 == seg) then r ∷ l else l) (without_with rows seg spread))
     refl
 
 -- it is still there
 pub there_with : (rows : List OpenMerge) (seg : ℕ) (spread : Option Spread) → open_merge seg rows ≢ None → open_merge seg (with_spread seg spread rows) ≢ None
-there_with [] seg spread there is = there is
+there_with [] seg spread there = λ is. there is
 there_with (r ∷ rows) seg spread there =
     by_test (r.seg.0 == seg) (λ t. (r.seg.0 == seg) ≡ t → (if t then Some r else open_merge seg rows) ≢ None → open_merge seg (if t then record r { spread = spread } ∷ rows else r ∷ with_spread seg spread rows) ≢ None)
     (λ here is some none. let one : Some (record r { spread = spread }) ≡ None = sym (ap (λ (t : Bool). if t then Some (record r { spread = spread }) else open_merge seg rows) is) ∙ none in absurd (cc))
@@ -118,7 +119,7 @@ sent_no_more (s ∷ left) n job =
 pub sent_less : (left : List Sent) (n job : ℕ) → is_sent_in n job left ≡ true → length (without_sent n job left) + 1 ≤ length left
 sent_less [] n job is = absurd (cc)
 sent_less (s ∷ left) n job is =
-    by_test ((s.node.0 == n) && (s.job == job)) (λ b. (if b then true else is_sent_in n job left) ≡ true → length (if not b then s ∷ without_sent n job left else without_sent n job left) + 1 ≤ length (s ∷ left))
+    by_test ((s.node.0 == n) && (s.job == job)) (λ b. (b || is_sent_in n job left) ≡ true → length (if not b then s ∷ without_sent n job left else without_sent n job left) + 1 ≤ length (s ∷ left))
     (λ here is. let rest = sent_no_more left n job in omega (arith, rest))
     (λ apart is. let rest = sent_less left n job is in omega (arith, rest))
     is

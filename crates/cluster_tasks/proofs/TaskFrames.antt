@@ -59,8 +59,8 @@ merge_left seg x (Drained done most) p old leaves = refl
 merge_left seg x (Crashed m) p old leaves = by (is_at p m.0) leaves
   where
     by : (b : Bool) → not b ≡ true → (if b then None else old) ≡ old
-    by true no = absurd (true≢false (sym no))
-    by false yes = refl
+    by true e = absurd (true≢false (sym e))
+    by false e = refl
 merge_left seg x e p old leaves = refl
 
 count_left : (x : At) (e : Event) (past : Past) (p : Option NodeNo) → leaves_merges e p ≡ true → merge_count (record { at = x; event = e } ∷ past) ≡ merge_count past
@@ -105,8 +105,8 @@ tasks_kept size log b i leaves s = record {
   lines = s.lines;
   posted = told_all log (kept i ∷ log) (λ seg inputs is. is) b.posted s.posted;
   noted = s.noted;
-  paid = s.paid;
-  drains = s.drains;
+  paid = let paid = s.paid in omega (arith, paid);
+  drains = λ lines none. let low = s.drains lines none in omega (arith, low);
 }
 
 -- the inputs of a merge that was started are handed out
@@ -115,8 +115,8 @@ tasks_noted size log b line seg inputs started s = record {
   lines = s.lines;
   posted = told_all log (kept (MergeOut line seg inputs) ∷ log) (λ n x is. first_stays (inputs_out n log) (inputs_by n (MergeOut line seg inputs)) x is) b.posted s.posted;
   noted = λ n some. by n (seg.0 == n) refl some;
-  paid = s.paid;
-  drains = s.drains;
+  paid = let paid = s.paid in omega (arith, paid);
+  drains = λ lines none. let low = s.drains lines none in omega (arith, low);
 }
   where
     by : (n : ℕ) (t : Bool) → (seg.0 == n) ≡ t → or_first (inputs_out n log) (if t then Some inputs else None) ≢ None → has_started n (printed log) ≡ true
@@ -196,7 +196,7 @@ tasks_closed size log b new seg rows posted less s = record {
   posted = subst (λ (l : List Posted). All (IsToldTask (kept (MergeEnd seg) ∷ log)) l) (sym posted) (told_all log (kept (MergeEnd seg) ∷ log) (λ n inputs is. is) b.posted s.posted);
   noted = s.noted;
   paid = let paid = s.paid in omega (arith, paid, less);
-  drains = s.drains;
+  drains = λ lines none. let low = s.drains lines none in omega (arith, low);
 }
   where
     by : (n : ℕ) (t : Bool) → line_told (if t then None else open_merge n b.rows) ≡ option_map (λ (at : At). at.line) (if t then None else merge_on n log)
@@ -231,7 +231,8 @@ may_drain_most size log b at fresh s = let low = s.drains (λ x. same_at x at) (
 one_of : (t u : Bool) → (t ≡ true → u ≡ true → ⊥) → (if t || u then 1 else 0) ≡ (if t then 1 else 0) + (if u then 1 else 0)
 one_of true true apart = absurd (apart refl refl)
 one_of true false apart = refl
-one_of false u apart = refl
+one_of false true apart = refl
+one_of false false apart = refl
 
 module _ (at : At) (lines : At → Bool) (other : lines at ≡ false) where
   ends_apart : (i : Inner) → ends_task_by (λ x. lines x || same_at x at) i ≡ ends_task_by lines i + ends_task_by (λ x. same_at x at) i
@@ -252,9 +253,9 @@ module _ (at : At) (lines : At → Bool) (other : lines at ≡ false) where
       or_from (is_drained e.event && (lines e.at || same_at e.at at)) (have_drained (λ x. lines x || same_at x at) past) (neither (is_drained e.event) (lines e.at) (same_at e.at at) first.0 second.0) (drained_apart past first.1 second.1)
     where
       neither : (d t u : Bool) → (d && t) ≡ false → (d && u) ≡ false → (d && (t || u)) ≡ false
-      neither true true u no none = absurd (true≢false no)
-      neither true false u no none = none
-      neither false t u no none = refl
+      neither true true u a b = absurd (true≢false a)
+      neither true false u a b = b
+      neither false t u a b = refl
 
 -- a drain has its reply
 pub tasks_drained : (size : ℕ) (log : Log) (b : Board) (x : At) (done most : ℕ) → entries_of_line x (printed log) ≡ [] → done ≡ counted_for x log → TasksShow size log b → TasksShow size (shown x (Drained done most) ∷ log) b

@@ -32,8 +32,8 @@ fn replica_in<D: Dir + Drop>(place: Place<D>) -> (Replica<D>, Vec<Held>)
     }
 }
 
-// Takes the primary out of its place.
-fn take_primary<D: Dir + Drop>(
+/// Takes the primary out of its place.
+pub fn take_primary<D: Dir + Drop>(
     places: &mut Vec<Option<Place<D>>>,
     p: NodeNo,
 ) -> (Primary<D>, Vec<Held>)
