@@ -1,14 +1,13 @@
 //! Merges of a primary on a directory in memory.
 
-use crate::bench::Call::{
+use primary_bench::Call::{
     self, Accept, Acquire, Commit, GiveBack, HasDueNames, HasMet, Merge, MergeTo, Plan, Publish,
     PublishTo, Release, StopAt, TakeState,
 };
-use crate::bench::MergeStep::{Cut, Ready, Start};
-use crate::bench::run;
-use crate::calls::Outcome;
-use crate::plain::Step::{Delete, Drop, Put};
 use crate::tables::{FAR, empty_dir, next};
+use primary_bench::MergeStep::{Cut, Ready, Start};
+use primary_bench::Step::{Delete, Drop, Put};
+use primary_bench::{Outcome, run};
 use std::alloc::Global;
 use std::test::Fail;
 

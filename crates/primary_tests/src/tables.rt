@@ -2,17 +2,16 @@
 
 ghost use Rattle.std.specs.Prelude.{IfOk};
 ghost use Rattle.disk_memory.specs.Memory.{cells_in};
-ghost use Rattle.primary_tests.specs.Seeing.{IsEmpty};
+ghost use Rattle.primary_bench.specs.Seeing.{IsEmpty};
 
-use crate::bench::Call::{
+use primary_bench::Call::{
     self, Accept, Acquire, Commit, GiveBack, HasDueNames, HasMet, Plan, Publish, PublishTo,
     Release, StopAt, TakeState,
 };
-use crate::bench::run;
-use crate::calls::Outcome;
-use crate::plain::Step::{self, Delete, Drop, Put};
 use disk_memory::MemDir;
 use nrt_base::NoMemory;
+use primary_bench::Step::{self, Delete, Drop, Put};
+use primary_bench::{Outcome, run};
 use std::alloc::Global;
 use std::test::Fail;
 

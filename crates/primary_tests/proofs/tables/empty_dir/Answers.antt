@@ -1,4 +1,4 @@
-use Rattle.primary_tests.proofs.Seeing.{empty_table}
+use Rattle.primary_tests.proofs.Empty.{empty_table}
 use Rattle.primary_tests.proofs.tables.empty_dir.Goals as goal
 
 pub returns : goal.returns

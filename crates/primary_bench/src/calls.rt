@@ -2,7 +2,7 @@
 
 ghost use Rattle.std.specs.Prelude.{◌≡◌, ◌<◌, ◌≤◌, OnOk, IfOk};
 ghost use Rattle.nrt_base.specs.SegNumbers.{segments_of_generation};
-ghost use Rattle.primary_tests.specs.Seeing.{IsSeen, IsEmpty};
+ghost use Rattle.primary_bench.specs.Seeing.{IsSeen, IsEmpty};
 
 use crate::Seen;
 use commit_steps::{CommitBook, CommitFault};

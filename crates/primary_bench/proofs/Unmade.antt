@@ -1,5 +1,5 @@
 -- What is seen of merges in flight.
-use Rattle.std.proofs.Common.{◌≡◌, ◌<◌, ◌==◌, ℕ, Bool, true, false, if◌then◌else◌, List, [], ◌∷◌, ◌++◌, map, length, Option, Some, None, is_some, refl, sym, ap, subst, ◌∙◌, arith, All, true≢false, slice_get}
+use Rattle.std.proofs.Common.{◌≡◌, ◌==◌, ℕ, Bool, true, false, if◌then◌else◌, List, [], ◌∷◌, ◌++◌, map, length, Option, Some, None, is_some, refl, sym, ap, subst, ◌∙◌, arith, All, true≢false, slice_get}
 use Rattle.std.specs.List.{remove}
 use Rattle.std.specs.Option.{IsSomeAnd, IsSome}
 use Rattle.std.proofs.lemmas.Bool.{eq-eqb}
@@ -7,21 +7,15 @@ use Rattle.std.proofs.lemmas.List.{map-append}
 use Rattle.std.proofs.lemmas.List.Elements.{All-append, All-cons, All-nil}
 use Rattle.nrt_base.specs.declared.numbers.SegNo.{SegNo}
 use Rattle.disk_model.specs.Disk.{Name}
-use Rattle.searcher_switch.specs.declared.open.Open.{Open}
-use Rattle.seg_reader.specs.Shown.{Shown}
 use Rattle.seg_merge.specs.declared.task.MergeTask.{MergeTask}
 use Rattle.seg_merge.specs.declared.task.Merged.{Merged}
 use Rattle.seg_merge.specs.Merging.{IsMergedOf}
-use Rattle.copy_state.specs.declared.state.CopyState.{CopyState}
 use Rattle.primary_parts.specs.declared.parts.Parts.{Parts}
 use Rattle.primary_parts.specs.declared.states.Merging.{Merging}
-use Rattle.primary_parts.specs.declared.states.Out.{Out}
-use Rattle.primary_parts.specs.Cut.{infos_drawn}
-use Rattle.primary_parts.specs.States.{out_of}
 use Rattle.primary_parts.specs.Merges.{merge_of, merges_with, merges_without}
 use Rattle.primary_merges.specs.MergeCalls.{IsFitTask, StartsMerge, IsMadeFor, IsReadied, IsFilledMerge}
-use Rattle.primary_tests.specs.declared.seen.Seen.{Seen}
-use Rattle.primary_tests.specs.Seeing.{IsSeen, tasks_of, unmade_tasks, given_tasks, open_numbers}
+use Rattle.primary_bench.specs.declared.seen.Seen.{Seen}
+use Rattle.primary_bench.specs.Seeing.{IsSeen, tasks_of, unmade_tasks, given_tasks, open_numbers}
 
 -- ---- lists of merges
 none_made : (o : Option Merged) → is_some o ≡ false → o ≡ None

@@ -1,8 +1,8 @@
 use Rattle.std.proofs.Common.{ap, sym, ◌∙◌, List, map}
 use Rattle.copy_state.specs.declared.state.CopyState.{CopyState}
 use Rattle.primary_parts.specs.States.{out_of}
-use Rattle.primary_tests.proofs.Seeing.{first_back, seen_states}
-use Rattle.primary_tests.proofs.calls.give_back.Goals as goal
+use Rattle.primary_bench.proofs.Seeing.{first_back, seen_states}
+use Rattle.primary_bench.proofs.calls.give_back.Goals as goal
 
 pub give_back-requires : goal.give_back-requires
 give_back-requires g c = record { out = (first_back c.args.primary.now.states c.args.seen.now.states _ c.requires.states c.remove-state.ensures.item).0 }

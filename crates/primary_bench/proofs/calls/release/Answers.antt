@@ -1,5 +1,5 @@
-use Rattle.primary_tests.proofs.Seeing.{first_closed, seen_closed}
-use Rattle.primary_tests.proofs.calls.release.Goals as goal
+use Rattle.primary_bench.proofs.Seeing.{first_closed, seen_closed}
+use Rattle.primary_bench.proofs.calls.release.Goals as goal
 
 pub lease-lease-requires : goal.lease-lease-requires
 lease-lease-requires g c = (first_closed c.args.primary.now.searchers.tickets c.args.seen.now.tickets _ c.requires.tickets c.remove-ticket.ensures.item).0

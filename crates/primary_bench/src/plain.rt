@@ -182,18 +182,22 @@ impl Plain {
             let live_gen = u64::from(live_in(self.docs.as_slice(), number) < puts);
             self.segs.push(PlainSeg { number, live_gen })?;
         }
+        let staying = self.staying(alloc)?;
+        self.searched = Vec::from_slice(alloc, staying.as_slice())?;
+        self.segs = staying;
+        self.has_cut_over = false;
+        Ok(())
+    }
+
+    // The segments that have a live row, or that a merge in flight takes.
+    fn staying(&self, alloc: Global) -> Result<Vec<PlainSeg>, NoMemory> {
         let mut staying = Vec::new(alloc);
         for seg in self.segs.iter() {
             if live_in(self.docs.as_slice(), seg.number) > 0 || self.is_held(seg.number) {
                 staying.push(*seg)?;
             }
         }
-        let mut searched = Vec::new(alloc);
-        searched.extend_from_slice(staying.as_slice())?;
-        self.segs = staying;
-        self.searched = searched;
-        self.has_cut_over = false;
-        Ok(())
+        Ok(staying)
     }
 
     // Whether the segment is an input of a merge in flight.

@@ -2,15 +2,12 @@
 use Rattle.std.proofs.Common.{◌≡◌, ◌<◌, ◌==◌, ℕ, Bool, true, false, if◌then◌else◌, List, [], ◌∷◌, ◌++◌, map, length, Option, Some, None, is_some, refl, sym, ap, subst, ◌∙◌, arith, All, true≢false, slice_get}
 use Rattle.std.specs.List.{remove}
 use Rattle.std.proofs.lemmas.Bool.{eq-eqb}
-use Rattle.disk_model.specs.Disk.{Name, Content, Cells, may_leave, same}
-use Rattle.disk_memory.specs.Held.{Held, untouched, cell}
-use Rattle.disk_memory.specs.Table.{Table, cells_of}
+use Rattle.disk_model.specs.Disk.{Name, Cells, same}
 use Rattle.segment_infos.specs.declared.infos.Infos.{Infos}
 use Rattle.segment_infos.specs.declared.infos.SegRecord.{SegRecord}
 use Rattle.segment_infos.specs.Infos.{CanSpell}
 use Rattle.seg_reader.specs.Shown.{Shown}
 use Rattle.seg_reader.specs.Sound.{IsSound}
-use Rattle.commit_steps.specs.Commits.{LeavesNothing, ImagesShowNothing}
 use Rattle.copy_state.specs.declared.state.CopyState.{CopyState}
 use Rattle.searcher_switch.specs.declared.open.Open.{Open}
 use Rattle.searcher_switch.specs.declared.searchers.Searchers.{Searchers}
@@ -24,23 +21,8 @@ use Rattle.primary_parts.specs.States.{out_of, same_out, is_out, states_without}
 use Rattle.primary_parts.specs.Calls.{IsTaskOf, after_start}
 use Rattle.primary_parts.specs.Primary.{IsPrimary}
 use Rattle.primary_parts.proofs.StateLemmas.{same_out_self}
-use Rattle.primary_tests.specs.declared.seen.Seen.{Seen}
-use Rattle.primary_tests.specs.Seeing.{IsEmpty, IsSeen, open_numbers, ticket_numbers, tasks_of}
-
--- ---- a directory in memory
--- a name under which nothing was leaves nothing
-leaves_nothing : (table : Table) → ((q : Name) → table q ≡ untouched) → (q : Name) → LeavesNothing (cells_of table q)
-leaves_nothing table none q o may = none_of o (subst (λ (h : Held). may_leave (cell h) o ≡ true) (none q) may)
-  where
-    none_of : (c : Content) → may_leave (cell untouched) c ≡ true → c ≡ None
-    none_of None m = refl
-    none_of (Some bytes) m = absurd (true≢false (sym m))
-
-shows_nothing : (table : Table) → ((q : Name) → table q ≡ untouched) → ImagesShowNothing (cells_of table)
-shows_nothing table none = record { each = λ image is q named. leaves_nothing table none q (image q) (is q) }
-
-pub empty_table : (table : Table) → ((q : Name) → table q ≡ untouched) → IsEmpty (cells_of table)
-empty_table table none = record { none = λ q. ap (λ (h : Held). (cell h).now) (none q); images = shows_nothing table none }
+use Rattle.primary_bench.specs.declared.seen.Seen.{Seen}
+use Rattle.primary_bench.specs.Seeing.{IsSeen, open_numbers, ticket_numbers, tasks_of}
 
 -- ---- a primary without a segment
 pub no_names : (s : Searchers Shown) → s.point.names ≡ [] → s.tickets ≡ [] → searcher_names s ≡ []

@@ -11,7 +11,7 @@ use Rattle.primary_parts.specs.declared.parts.Parts.{Parts}
 use Rattle.primary_parts.specs.declared.states.Merging.{Merging}
 use Rattle.primary_parts.specs.States.{out_of}
 use Rattle.primary_merges.specs.MergeCalls.{IsFitTask}
-use Rattle.primary_tests.specs.declared.seen.Seen.{Seen}
+use Rattle.primary_bench.specs.declared.seen.Seen.{Seen}
 
 -- no name reads, and no image shows a commit
 pub record IsEmpty (cells : Cells) : Type 0 where

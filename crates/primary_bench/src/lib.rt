@@ -1,0 +1,13 @@
+//! A primary beside a plain model of it, which tests play calls on.
+#![tactic(auto)]
+
+mod bench;
+mod calls;
+mod plain;
+mod reading;
+mod seen;
+
+pub use bench::{Call, MergeStep, run};
+pub use calls::Outcome;
+pub use plain::Step;
+pub use seen::Seen;
