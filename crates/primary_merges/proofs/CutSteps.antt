@@ -27,7 +27,7 @@ use Rattle.commit_steps.proofs.Safe.{among_of}
 use Rattle.segment_steps.specs.declared.next.NextSegments.{NextSegments}
 use Rattle.segment_steps.specs.Next.{Turn, record_by, record_after, stays, is_changed, next_live_gen, live_base, record_generation, IsLiveFileAfter, IsReadBack}
 use Rattle.segment_steps.specs.CutOver.{Part, is_one_of, inputs_in, in_place, part_after, merged_turn, merged_turns, IsMergeOf, IsCutOf}
-use Rattle.primary_merges.proofs.OtherCuts.{cut_over_keeps}
+use Rattle.segment_steps.proofs.Merges.{cut_over_keeps}
 use Rattle.segment_steps.proofs.CuttingOver.{Each, each_in_place, now_in, cut_over_stands, cut_over_stand}
 use Rattle.segment_steps.proofs.AfterPublish.{IsFine}
 use Rattle.segment_steps.proofs.AfterCutOver.{cut_fine, cut_named}

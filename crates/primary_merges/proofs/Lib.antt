@@ -1,4 +1,3 @@
-mod OtherCuts
 mod Carrying
 mod Begun
 mod MergedFiles

@@ -1,6 +1,7 @@
--- The state of a merge whose files are to be written, and the metadata of these; the records of its inputs, one after another.
-use Rattle.std.proofs.Common.{◌≡◌, ◌<◌, ◌+◌, ◌==◌, cond, ℕ, Bool, List, [], ◌∷◌, ◌++◌, Some, None, length, take, get_or, refl, sym, ap, subst, ◌∙◌, All}
+-- A merge in its place; the state of one whose files are to be written, and the metadata of these; the records of its inputs, one after another.
+use Rattle.std.proofs.Common.{◌≡◌, ◌<◌, ◌+◌, ◌==◌, cond, ℕ, Bool, true, List, [], ◌∷◌, ◌++◌, Some, None, is_some, length, take, get_or, slice_set, refl, sym, ap, subst, ◌∙◌, All}
 use Rattle.std.proofs.lemmas.List.{take_more, map-append}
+use Rattle.std.proofs.lemmas.Option.{slice_get_read}
 use Rattle.std.specs.List.{list_any}
 use Rattle.std.proofs.lemmas.List.Elements.{All-push, filter_more}
 use Rattle.nrt_base.specs.declared.numbers.SegNo.{SegNo}
@@ -16,9 +17,10 @@ use Rattle.seg_merge.specs.Merging.{IsMergedOf}
 use Rattle.primary_parts.specs.declared.parts.Parts.{Parts}
 use Rattle.primary_parts.specs.declared.states.Merging.{Merging}
 use Rattle.primary_parts.specs.Cut.{last_number}
-use Rattle.primary_parts.specs.Merges.{merge_of}
+use Rattle.primary_parts.specs.Merges.{merge_of, merge_place, merges_with}
 use Rattle.primary_parts.specs.States.{IsMetaIn}
 use Rattle.primary_parts.specs.Written.{names_of}
+use Rattle.primary_parts.proofs.MergeLists.{merge_at}
 use Rattle.primary_merges.specs.MergeCalls.{records_in, IsStateReady}
 
 abbrev Meta : Type 0
@@ -75,3 +77,18 @@ state_ready_of p merged m found unmade of short_completed written names held w n
   copy = record { infos = p.point_infos; spelled = spelled; files = subst AreShortNames (sym named) short; completed = subst AreShortNames (sym same) short_completed };
   out = ap (λ (ns : List Name). record { version = p.point_infos.version; names = ns }) (h ∙ w ∙ sym named);
 }
+
+-- ---- the merge in its place
+pub found_at : (n : ℕ) (ms : List Merging) (i : ℕ) (x : Merging) → is_some (merge_of n ms) ≡ true → i ≡ merge_place n ms → x ≡ get_or ms i x → Some x ≡ merge_of n ms
+found_at n ms i x there place is =
+    let at = merge_at n ms there in
+    sym (slice_get_read ms (length ms) (merge_place n ms) x refl at.within (is ∙ ap (λ (k : ℕ). get_or ms k x) place)) ∙ at.item
+
+pub place_within : (n : ℕ) (ms : List Merging) (i : ℕ) → is_some (merge_of n ms) ≡ true → i ≡ merge_place n ms → i < length ms
+place_within n ms i there place = subst (λ (k : ℕ). k < length ms) (sym place) (merge_at n ms there).within
+
+pub made_at : (merged : Merged) (names : List Name) (ms : List Merging) (i : ℕ) (x : Merging) → is_some (merge_of merged.files.seg.0 ms) ≡ true → i ≡ merge_place merged.files.seg.0 ms → x ≡ get_or ms i x
+    → slice_set ms i (record x { merged = Some merged; names = names }) ≡ merges_with merged names ms
+made_at merged names ms i x there place is =
+    ap (λ (k : ℕ). slice_set ms k (record x { merged = Some merged; names = names })) place
+    ∙ (merge_at merged.files.seg.0 ms there).set merged names x refl (sym (found_at merged.files.seg.0 ms i x there place is))

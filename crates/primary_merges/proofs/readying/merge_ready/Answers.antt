@@ -1,6 +1,7 @@
-use Rattle.std.proofs.Common.{ap, refl, is_some}
+use Rattle.std.proofs.Common.{ap, refl, sym, ◌∙◌, is_some}
 use Rattle.disk_model.specs.Disk.{reads_of}
 use Rattle.node_files.proofs.Appearing.{keeps_none, only_then_none}
+use Rattle.primary_parts.specs.declared.states.Out.{Out}
 use Rattle.primary_parts.specs.Held.{IsOwnFile}
 use Rattle.primary_parts.specs.Primary.{loose_of}
 use Rattle.primary_merges.proofs.Readied.{fresh, once, ready_appears, ready_unwritten, written_there, written_counted, ready_unheld, primary_ready, ready_draws, ready_fills, ready_stays}
@@ -34,6 +35,10 @@ returns-in-Err-clause-appears g c = ready_appears g.D.Dir.cells c.args.parts.now
 -- the hold of the state
 pub lend-requires-clause-there : goal.lend-requires-clause-there
 lend-requires-clause-there g c = rw (c.as_slice-3.ensures, c.in_ok-ready.ensures.written) (written_there g.D.Dir.cells c.args.parts.now c.requires.whole c.args.merged c.in_ok-ready.ensures.m c.in_ok-ready.ensures.found c.in_ok-ready.ensures.unmade c.in_ok-ready.ensures.of c.write_all.new.dir c.write_all.new.files (rw (c.as_slice.ensures, c.in_ok-ready.ensures.written) at c.in-Ok.ensures.counts) (rw (c.as_slice.ensures, c.in_ok-ready.ensures.written) at c.in-Ok.ensures.keeps))
+
+pub lend-requires-clause-names : goal.lend-requires-clause-names
+lend-requires-clause-names g c = rw c.as_slice-3.ensures
+    (ap (λ (o : Out). o.names) c.in_ok-ready.ensures.out ∙ (c.in_ok-ready.ensures.state (reads_of (g.D.Dir.cells c.write_all.new.dir)) (rw c.as_slice-2.ensures at c.in-Ok.ensures.reads)).names_are ∙ sym c.in_ok-ready.ensures.written)
 
 pub release-requires : goal.release-requires
 release-requires g c = rw (c.as_slice-in-Err-lend.ensures, c.in_ok-ready.ensures.written) (record { each = written_counted g.D.Dir.cells c.args.parts.now c.requires.whole c.args.merged c.in_ok-ready.ensures.m c.in_ok-ready.ensures.found c.in_ok-ready.ensures.unmade c.in_ok-ready.ensures.of c.write_all.new.dir c.write_all.new.files (rw (c.as_slice.ensures, c.in_ok-ready.ensures.written) at c.in-Ok.ensures.counts) (rw (c.as_slice.ensures, c.in_ok-ready.ensures.written) at c.in-Ok.ensures.keeps) })
