@@ -1,7 +1,8 @@
 //! Jobs that begin.
 
-ghost use Rattle.std.specs.Prelude.{◌≡◌, ◌+◌, ◌<◌, Some, None, IsSome, IfSome, OnOk, OnErr, IfOk, IfErr, Ok, ◌^◌};
+ghost use Rattle.std.specs.Prelude.{◌≡◌, ◌+◌, ◌<◌, ℕ, List, Some, None, IsSome, IfSome, OnOk, OnErr, IfOk, IfErr, Ok, ◌^◌};
 ghost use Rattle.disk_model.specs.Disk.{reads_of};
+ghost use Rattle.file_deleter.specs.Holdings.{count_of};
 ghost use Rattle.segment_infos.specs.declared.infos.Infos.{Infos};
 ghost use Rattle.replica_parts.specs.Replica.{IsPointState, IsWholeReplica, AreStanding, IsWanted};
 ghost use Rattle.std.specs.List.{All, AllByRecursion};
@@ -66,6 +67,7 @@ pub fn start_job<D: Dir>(
     ensures standing { AreStanding D.cells parts.old → AreStanding D.cells parts.new }
     ensures sourced { KeepsSource D.cells parts.old parts.new }
     ensures held { HoldsOnly parts.old parts.new }
+    ensures reused { (q : List ℕ) → 0 < count_of parts.new.files q → 0 < count_of parts.old.files q }
     ensures stays { KeepsBytes parts.old.files parts.new.files
         (D.cells parts.old.dir) (D.cells parts.new.dir) }
     ensures others { parts.new ≡ record parts.old {

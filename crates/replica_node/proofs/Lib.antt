@@ -1,3 +1,4 @@
+mod Mids
 mod Numbered
 mod Sourced
 mod Started

@@ -1,35 +1,38 @@
 -- The job or the copy of a merged segment with a number, before and after a call.
 use Rattle.std.proofs.Common.{◌≡◌, ℕ, Bool, true, false, Option, Some, None, is_some, refl, sym, ap, subst, ◌∙◌, arith, true≢false}
-use Rattle.std.specs.Prelude.{if◌then◌else◌, IsSome, IfSome, OnOk, OnErr, Result, Ok, Err}
+use Rattle.std.specs.Prelude.{◌==◌, if◌then◌else◌, IsSome, IfSome, OnOk, OnErr, Result, Ok, Err}
 use Rattle.std.specs.Option.{option_map}
-use Rattle.disk_model.specs.Disk.{Name}
+use Rattle.std.specs.List.{AllByRecursion}
+use Rattle.disk_model.specs.Disk.{Name, Cells}
 use Rattle.copy_job.specs.Jobs.{Job, with_part}
 use Rattle.replica_parts.specs.declared.job.PointJob.{PointJob}
 use Rattle.replica_parts.specs.declared.merges.MergeCopies.{MergeCopies}
 use Rattle.replica_parts.specs.declared.parts.Parts.{Parts}
-use Rattle.replica_parts.specs.Merges.{copy_at, copies_with, copies_without}
-use Rattle.replica_node.specs.Running.{is_point, running_job, with_job, without_job}
+use Rattle.replica_parts.specs.Merges.{copy_at, copies_with, copies_without, CopyApart}
+use Rattle.replica_parts.specs.Replica.{IsWholeReplica}
+use Rattle.replica_parts.proofs.Merging.{all_at, number_at}
+use Rattle.replica_node.specs.Running.{is_job_number, running_job, with_job, without_job}
 
-no_point : (number : ℕ) → is_point number None ≡ true → ⊥
+no_point : (number : ℕ) → is_job_number number None ≡ true → ⊥
 no_point number e = true≢false (sym e)
 
 -- ---- what is asked of the one there is
-pub point_number : (number : ℕ) (job : Option PointJob) → is_point number job ≡ true → IfSome job (λ j. j.copy.number ≡ number)
+pub point_number : (number : ℕ) (job : Option PointJob) → is_job_number number job ≡ true → IfSome job (λ j. j.copy.number ≡ number)
 point_number number None e = tt
 point_number number (Some j) e = grind (arith, nat_tests, e)
 
-pub point_some : (number : ℕ) (job : Option PointJob) → is_point number job ≡ true → IsSome job
+pub point_some : (number : ℕ) (job : Option PointJob) → is_job_number number job ≡ true → IsSome job
 point_some number None e = absurd (no_point number e)
 point_some number (Some j) e = record {}
 
-pub point_all : (P : Job → Type 0) (number : ℕ) (job : Option PointJob) (other : Option Job) → is_point number job ≡ true → IfSome (if is_point number job then option_map (λ j. j.copy) job else other) P → IfSome job (λ j. P j.copy)
+pub point_all : (P : Job → Type 0) (number : ℕ) (job : Option PointJob) (other : Option Job) → is_job_number number job ≡ true → IfSome (if is_job_number number job then option_map (λ j. j.copy) job else other) P → IfSome job (λ j. P j.copy)
 point_all P number None other e h = tt
 point_all P number (Some j) other e h = subst (λ (b : Bool). IfSome (if b then Some j.copy else other) P) e h
 
-pub copy_all : (P : Job → Type 0) (number : ℕ) (job : Option PointJob) (other : Option Job) → is_point number job ≡ false → IfSome (if is_point number job then option_map (λ j. j.copy) job else other) P → IfSome other P
+pub copy_all : (P : Job → Type 0) (number : ℕ) (job : Option PointJob) (other : Option Job) → is_job_number number job ≡ false → IfSome (if is_job_number number job then option_map (λ j. j.copy) job else other) P → IfSome other P
 copy_all P number job other e h = subst (λ (b : Bool). IfSome (if b then option_map (λ j. j.copy) job else other) P) e h
 
-pub copy_some : (number : ℕ) (job : Option PointJob) (other : Option Job) → is_point number job ≡ false → IsSome (if is_point number job then option_map (λ j. j.copy) job else other) → is_some other ≡ true
+pub copy_some : (number : ℕ) (job : Option PointJob) (other : Option Job) → is_job_number number job ≡ false → IsSome (if is_job_number number job then option_map (λ j. j.copy) job else other) → is_some other ≡ true
 copy_some number job other e h = some_is other (subst (λ (b : Bool). IsSome (if b then option_map (λ j. j.copy) job else other)) e h)
   where
     some_is : (o : Option Job) → IsSome o → is_some o ≡ true
@@ -45,8 +48,16 @@ on_err : {T E : Type 0} {P Q : Type 0} (result : Result T E) → (P → Q) → O
 on_err (Ok x) turns h = tt
 on_err (Err x) turns h = turns h
 
-point_made : (number : ℕ) (name : Name) (now job : Option PointJob) (other : Option Job) → is_point number job ≡ true → IfSome job (λ j. now ≡ Some (record j { copy = with_part j.copy name }))
-    → IfSome (if is_point number job then option_map (λ j. j.copy) job else other) (λ k. now ≡ option_map (λ (j : PointJob). record j { copy = with_part k name }) job)
+-- what is said under the job's number is said under the number
+pub point_named : {T E : Type 0} (P : ℕ → Type 0) (number : ℕ) (job : Option PointJob) (result : Result T E) → is_job_number number job ≡ true → OnOk result (IfSome job (λ j. P j.copy.number)) → OnOk result (P number)
+point_named P number job result e = on_ok result (named job e)
+  where
+    named : (o : Option PointJob) → is_job_number number o ≡ true → IfSome o (λ j. P j.copy.number) → P number
+    named None f h = absurd (no_point number f)
+    named (Some j) f h = subst P (point_number number (Some j) f) h
+
+point_made : (number : ℕ) (name : Name) (now job : Option PointJob) (other : Option Job) → is_job_number number job ≡ true → IfSome job (λ j. now ≡ Some (record j { copy = with_part j.copy name }))
+    → IfSome (if is_job_number number job then option_map (λ j. j.copy) job else other) (λ k. now ≡ option_map (λ (j : PointJob). record j { copy = with_part k name }) job)
 point_made number name now None other e h = absurd (no_point number e)
 point_made number name now (Some j) other e h =
     subst (λ (b : Bool). IfSome (if b then Some j.copy else other) (λ k. now ≡ option_map (λ (i : PointJob). record i { copy = with_part k name }) (Some j))) (sym e) h
@@ -56,7 +67,7 @@ if_map None turns h = tt
 if_map (Some k) turns h = turns k h
 
 module _ {D : Type 0} (number : ℕ) (old new : Parts D) where
-  module _ (e : is_point number old.job ≡ true) (others : new ≡ record old { dir = new.dir; files = new.files; job = new.job }) where
+  module _ (e : is_job_number number old.job ≡ true) (others : new ≡ record old { dir = new.dir; files = new.files; job = new.job }) where
     pub point_ok : {T E : Type 0} (result : Result T E) (name : Name) → OnOk result (IfSome old.job (λ j. new.job ≡ Some (record j { copy = with_part j.copy name })))
         → OnOk result (IfSome (running_job number old) (λ j. new ≡ record (with_job number (with_part j name) old) { dir = new.dir; files = new.files }))
     point_ok result name = on_ok result (λ h. if_map (running_job number old) (λ k made.
@@ -71,7 +82,7 @@ module _ {D : Type 0} (number : ℕ) (old new : Parts D) where
     point_gone none = others ∙ ap (λ (j : Option PointJob). record old { dir = new.dir; files = new.files; job = j }) none
         ∙ sym (ap (λ (b : Bool). record (if b then record old { job = None } else record old { copies = record old.copies { running = copies_without number old.copies.running } }) { dir = new.dir; files = new.files }) e)
 
-  module _ (e : is_point number old.job ≡ false) (others : new ≡ record old { dir = new.dir; files = new.files; copies = new.copies }) where
+  module _ (e : is_job_number number old.job ≡ false) (others : new ≡ record old { dir = new.dir; files = new.files; copies = new.copies }) where
     pub copy_ok : {T E : Type 0} (result : Result T E) (name : Name) → OnOk result (IfSome (copy_at number old.copies.running) (λ c. new.copies ≡ record old.copies { running = copies_with number (with_part c name) old.copies.running }))
         → OnOk result (IfSome (running_job number old) (λ j. new ≡ record (with_job number (with_part j name) old) { dir = new.dir; files = new.files }))
     copy_ok result name = on_ok result (λ h. subst (λ (b : Bool). IfSome (if b then option_map (λ (j : PointJob). j.copy) old.job else copy_at number old.copies.running) (λ j. new ≡ record (with_job number (with_part j name) old) { dir = new.dir; files = new.files })) (sym e)
@@ -89,9 +100,27 @@ module _ {D : Type 0} (number : ℕ) (old new : Parts D) where
 -- ---- for those who know which one it is
 pub point_runs : {D : Type 0} (number : ℕ) (p : Parts D) (j : PointJob) → p.job ≡ Some j → j.copy.number ≡ number → (running_job number p ≡ Some j.copy) × ((k : Job) → with_job number k p ≡ record p { job = Some (record j { copy = k }) }) × (without_job number p ≡ record p { job = None })
 point_runs number p j e same =
-    let test : is_point number p.job ≡ true = ap (is_point number) e ∙ grind (arith, nat_tests, same) in (
+    let test : is_job_number number p.job ≡ true = ap (is_job_number number) e ∙ grind (arith, nat_tests, same) in (
       ap (λ (b : Bool). if b then option_map (λ (i : PointJob). i.copy) p.job else copy_at number p.copies.running) test ∙ ap (option_map (λ (i : PointJob). i.copy)) e,
       (λ k. ap (λ (b : Bool). if b then record p { job = option_map (λ (i : PointJob). record i { copy = k }) p.job } else record p { copies = record p.copies { running = copies_with number k p.copies.running } }) test
           ∙ ap (λ (o : Option PointJob). record p { job = option_map (λ (i : PointJob). record i { copy = k }) o }) e),
       ap (λ (b : Bool). if b then record p { job = None } else record p { copies = record p.copies { running = copies_without number p.copies.running } }) test,
     )
+
+pub copy_runs : {D : Type 0} (cells : D → Cells) (number : ℕ) (p : Parts D) (c : Job) → IsWholeReplica cells p → copy_at number p.copies.running ≡ Some c
+    → (running_job number p ≡ Some c) × ((k : Job) → with_job number k p ≡ record p { copies = record p.copies { running = copies_with number k p.copies.running } })
+    × (without_job number p ≡ record p { copies = record p.copies { running = copies_without number p.copies.running } })
+copy_runs cells number p c is e =
+    let test : is_job_number number p.job ≡ false = not_point p.job is.merges.beside_job in (
+      ap (λ (b : Bool). if b then option_map (λ (i : PointJob). i.copy) p.job else copy_at number p.copies.running) test ∙ e,
+      (λ k. ap (λ (b : Bool). if b then record p { job = option_map (λ (i : PointJob). record i { copy = k }) p.job } else record p { copies = record p.copies { running = copies_with number k p.copies.running } }) test),
+      ap (λ (b : Bool). if b then record p { job = None } else record p { copies = record p.copies { running = copies_without number p.copies.running } }) test,
+    )
+  where
+    not_point : (o : Option PointJob) → IfSome o (λ j. AllByRecursion (CopyApart j.copy) p.copies.running) → is_job_number number o ≡ false
+    not_point None h = refl
+    not_point (Some j) h = by (j.copy.number == number) refl
+      where
+        by : (b : Bool) → (j.copy.number == number) ≡ b → (j.copy.number == number) ≡ false
+        by false f = f
+        by true f = absurd ((all_at (CopyApart j.copy) number p.copies.running c e h).numbers (grind (arith, nat_tests, f, number_at number p.copies.running c e)))

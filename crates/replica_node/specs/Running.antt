@@ -7,19 +7,19 @@ use Rattle.replica_parts.specs.declared.parts.Parts.{Parts}
 use Rattle.replica_parts.specs.Merges.{copy_at, copies_with, copies_without}
 
 -- the test whether the number is that of the job of a newer point
-abbrev pub is_point : ℕ → Option PointJob → Bool
-is_point number None = false
-is_point number (Some j) = j.copy.number == number
+abbrev pub is_job_number : ℕ → Option PointJob → Bool
+is_job_number number None = false
+is_job_number number (Some j) = j.copy.number == number
 
 module _ {D : Type 0} where
   -- the job of a newer point where it has the number, else the copy that has it
   abbrev pub running_job : ℕ → Parts D → Option Job
-  running_job number p = if is_point number p.job then option_map (λ j. j.copy) p.job else copy_at number p.copies.running
+  running_job number p = if is_job_number number p.job then option_map (λ j. j.copy) p.job else copy_at number p.copies.running
 
   -- with this one in its place
   abbrev pub with_job : ℕ → Job → Parts D → Parts D
-  with_job number job p = if is_point number p.job then record p { job = option_map (λ j. record j { copy = job }) p.job } else record p { copies = record p.copies { running = copies_with number job p.copies.running } }
+  with_job number job p = if is_job_number number p.job then record p { job = option_map (λ j. record j { copy = job }) p.job } else record p { copies = record p.copies { running = copies_with number job p.copies.running } }
 
   -- without it
   abbrev pub without_job : ℕ → Parts D → Parts D
-  without_job number p = if is_point number p.job then record p { job = None } else record p { copies = record p.copies { running = copies_without number p.copies.running } }
+  without_job number p = if is_job_number number p.job then record p { job = None } else record p { copies = record p.copies { running = copies_without number p.copies.running } }

@@ -14,7 +14,7 @@ ghost use Rattle.copy_job.specs.Jobs.{with_part};
 ghost use Rattle.replica_parts.specs.Sources.{IsSourced, KeepsSource, HoldsOnly};
 ghost use Rattle.replica_parts.specs.Replica.{IsWholeReplica, AreStanding, IsWanted};
 ghost use Rattle.replica_precopies.specs.Overlapping.{StartsBeside, copies_beside};
-ghost use Rattle.replica_node.specs.Running.{is_point, running_job, with_job, without_job};
+ghost use Rattle.replica_node.specs.Running.{is_job_number, running_job, with_job, without_job};
 
 use copy_job::{JobFault, Part};
 use copy_state::CopyState;
@@ -27,7 +27,7 @@ use std::alloc::Global;
 
 // Whether the job of a newer point has this number.
 fn copies_point<D: Dir>(parts: &Parts<D>, job: u64) -> bool
-    ensures { result ≡ is_point job parts.now.job }
+    ensures { result ≡ is_job_number job parts.now.job }
 {
     match &parts.job {
         Some(point) => point.copy.number() == job,

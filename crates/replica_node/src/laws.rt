@@ -3,7 +3,7 @@
 ghost use Rattle.std.specs.Prelude.{◌≡◌, ◌<◌, ℕ, List, [], Some, None, Contains};
 ghost use Rattle.std.specs.List.{All, flat_map};
 ghost use Rattle.nrt_base.specs.declared.doc.Doc.{Doc};
-ghost use Rattle.disk_model.specs.Disk.{Name, Content, Image, restarted};
+ghost use Rattle.disk_model.specs.Disk.{Name, Content, Cells, Image, restarted};
 ghost use Rattle.file_deleter.specs.Holdings.{Holdings, count_of};
 ghost use Rattle.segment_infos.specs.declared.infos.Infos.{Infos};
 ghost use Rattle.segment_infos.specs.Files.{files_of_segment, AreFilesOf};
@@ -19,6 +19,8 @@ ghost use Rattle.replica_opening.specs.Opened.{IsSettledOn};
 ghost use Rattle.replica_parts.specs.Jobs.{IsStartingFault};
 ghost use Rattle.replica_parts.specs.declared.job.PointJob.{PointJob};
 ghost use Rattle.replica_parts.specs.declared.parts.Parts.{Parts};
+ghost use Rattle.replica_parts.specs.Merges.{copy_at, copies_with, copies_without};
+ghost use Rattle.replica_parts.specs.Replica.{IsWholeReplica};
 ghost use Rattle.replica_parts.specs.Sources.{CopiesFrom};
 ghost use Rattle.replica_node.specs.Running.{running_job, with_job, without_job};
 
@@ -62,4 +64,17 @@ pub fn point_runs<D>()
         → (running_job number p ≡ Some j.copy)
         × ((k : Job) → with_job number k p ≡ record p { job = Some (record j { copy = k }) })
         × (without_job number p ≡ record p { job = None }) }
+{}
+
+/// Where a copy of a merged segment has the number, it is the one that the calls by number are about.
+pub fn copy_runs<D>()
+    ensures { (cells : D → Cells) (number : ℕ) (p : Parts D) (c : Job) → IsWholeReplica cells p
+        → copy_at number p.copies.running ≡ Some c
+        → (running_job number p ≡ Some c)
+        × ((k : Job) → with_job number k p ≡ record p { copies = record p.copies {
+          running = copies_with number k p.copies.running;
+        } })
+        × (without_job number p ≡ record p { copies = record p.copies {
+          running = copies_without number p.copies.running;
+        } }) }
 {}

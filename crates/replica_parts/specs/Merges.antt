@@ -55,7 +55,7 @@ abbrev pub copied_names : Job → List Name
 copied_names j = j.missing ++ own_names j.parts
 
 -- the job lacks the part, which has the metadata that is wanted, and nobody holds a file of the part's temporary name
-pub record TakesPart (part : Part) (holdings : Holdings) (j : Job) : Type 0 where
+pub record CanTakePart (part : Part) (holdings : Holdings) (j : Job) : Type 0 where
   pub missing : 0 < times j.missing part.name
   pub meta : meta_in j.want.files part.name ≡ Some part.meta
   pub free : count_of holdings (temp_name_of part.name j.number) ≡ 0

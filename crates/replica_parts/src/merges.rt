@@ -9,7 +9,7 @@ ghost use Rattle.file_deleter.specs.Moves.{MovesCounts, HoldsFiles};
 ghost use Rattle.copy_job.specs.Parts.{ArePlaceable};
 ghost use Rattle.copy_job.specs.Placing.{IsPlacingFault};
 ghost use Rattle.replica_parts.specs.Merges.{copy_at, copies_without, copy_place, running_names};
-ghost use Rattle.replica_parts.specs.Merges.{TakesPart};
+ghost use Rattle.replica_parts.specs.Merges.{CanTakePart};
 ghost use Rattle.replica_parts.specs.Moving.{PartComes, PartsPlaced, SetsCopy, ChangesCopy};
 
 use crate::job::told;
@@ -82,7 +82,7 @@ fn arrive_at<D: Dir>(
     dir: &mut D,
 ) -> Result<(), JobFault>
     requires within { at < length copies.old }
-    requires takes { IfSome (slice_get copies.old at) (TakesPart part files.old) }
+    requires takes { IfSome (slice_get copies.old at) (CanTakePart part files.old) }
     requires whole { IsWhole (D.cells dir.old) files.old }
     ensures copy { IfSome (slice_get copies.old at) (λ c.
         SetsCopy (λ k. PartComes c k part.name part.bytes files.old files.new
@@ -127,7 +127,7 @@ fn arrive_in<D: Dir>(
     dir: &mut D,
 ) -> Result<(), JobFault>
     requires runs { is_some (copy_at number copies.old.items) ≡ true }
-    requires takes { IfSome (copy_at number copies.old.items) (TakesPart part files.old) }
+    requires takes { IfSome (copy_at number copies.old.items) (CanTakePart part files.old) }
     requires whole { IsWhole (D.cells dir.old) files.old }
     ensures copy { IfSome (copy_at number copies.old.items) (λ c.
         ChangesCopy (λ k. PartComes c k part.name part.bytes files.old files.new
@@ -246,7 +246,7 @@ impl RunningCopies {
         dir: &mut D,
     ) -> Result<(), JobFault>
         requires runs { is_some (copy_at number self.old) ≡ true }
-        requires takes { IfSome (copy_at number self.old) (TakesPart part files.old) }
+        requires takes { IfSome (copy_at number self.old) (CanTakePart part files.old) }
         requires whole { IsWhole (D.cells dir.old) files.old }
         ensures copy { IfSome (copy_at number self.old) (λ c.
             ChangesCopy (λ k. PartComes c k part.name part.bytes files.old files.new

@@ -21,7 +21,7 @@ use Rattle.replica_opening.specs.Known.{IsLasting}
 use Rattle.replica_parts.specs.declared.job.PointJob.{PointJob}
 use Rattle.replica_parts.specs.declared.parts.Parts.{Parts}
 use Rattle.copy_job.specs.declared.copying.Part.{Part}
-use Rattle.replica_parts.specs.Merges.{copy_at, copies_with, copies_without, running_names, copies_names, copied_names, CopyApart, TakesPart}
+use Rattle.replica_parts.specs.Merges.{copy_at, copies_with, copies_without, running_names, copies_names, copied_names, CopyApart, CanTakePart}
 use Rattle.replica_parts.specs.Moving.{PartComes}
 use Rattle.replica_parts.specs.Sources.{CopiesFrom, IsSourced, HoldsOnly}
 use Rattle.replica_parts.specs.Replica.{IsWholeReplica, IsMergeCopy, names_of_job, copying_names, replica_names}
@@ -278,9 +278,9 @@ on_ok (Err x) turns h = tt
 
 -- what RunningCopies::arrived asks for
 pub takes_all : {D : Type 0} (cells : D → Cells) (p : Parts D) → IsWholeReplica cells p → (number : ℕ) (part : Part) → IfSome (copy_at number p.copies.running) (λ c. 0 < times c.missing part.name)
-    → IfSome (copy_at number p.copies.running) (λ c. meta_in c.want.files part.name ≡ Some part.meta) → IfSome (copy_at number p.copies.running) (TakesPart part p.files)
+    → IfSome (copy_at number p.copies.running) (λ c. meta_in c.want.files part.name ≡ Some part.meta) → IfSome (copy_at number p.copies.running) (CanTakePart part p.files)
 takes_all cells p is number part missing wanted = by (copy_at number p.copies.running) refl missing wanted
   where
-    by : (o : Option Job) → copy_at number p.copies.running ≡ o → IfSome o (λ c. 0 < times c.missing part.name) → IfSome o (λ c. meta_in c.want.files part.name ≡ Some part.meta) → IfSome o (TakesPart part p.files)
+    by : (o : Option Job) → copy_at number p.copies.running ≡ o → IfSome o (λ c. 0 < times c.missing part.name) → IfSome o (λ c. meta_in c.want.files part.name ≡ Some part.meta) → IfSome o (CanTakePart part p.files)
     by None e a b = tt
     by (Some c) e a b = record { missing = a; meta = b; free = free_copy cells p is number c e part.name a }

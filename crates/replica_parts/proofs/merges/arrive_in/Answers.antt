@@ -1,7 +1,7 @@
 use Rattle.std.proofs.Common.{subst, sym, Option}
 use Rattle.std.specs.Prelude.{IfSome}
 use Rattle.copy_job.specs.Jobs.{Job}
-use Rattle.replica_parts.specs.Merges.{TakesPart}
+use Rattle.replica_parts.specs.Merges.{CanTakePart}
 use Rattle.replica_parts.specs.Moving.{PartComes}
 use Rattle.replica_parts.proofs.Merging.{item_is, within_slice, change_in}
 use Rattle.replica_parts.proofs.merges.arrive_in.Goals as goal
@@ -11,7 +11,7 @@ arrive_at-requires-clause-within g c = within_slice c.args.number c.args.copies.
 
 pub arrive_at-requires-clause-takes : goal.arrive_at-requires-clause-takes
 arrive_at-requires-clause-takes g c =
-    subst (λ (o : Option Job). IfSome o (TakesPart c.args.part c.args.files.now)) (sym (item_is c.args.number c.args.copies.now.items c.as_mut_slice.result.now c.as_slice.result.now c.place_of-at.result c.as_mut_slice.ensures.value c.as_slice.ensures.value c.place_of-at.ensures)) c.requires.takes
+    subst (λ (o : Option Job). IfSome o (CanTakePart c.args.part c.args.files.now)) (sym (item_is c.args.number c.args.copies.now.items c.as_mut_slice.result.now c.as_slice.result.now c.place_of-at.result c.as_mut_slice.ensures.value c.as_slice.ensures.value c.place_of-at.ensures)) c.requires.takes
 
 pub returns-clause-copy : goal.returns-clause-copy
 returns-clause-copy g c =
