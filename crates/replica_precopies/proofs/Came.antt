@@ -1,7 +1,8 @@
 -- A part of a merge copy arrives, or does not.
-use Rattle.std.proofs.Common.{◌≡◌, ◌≢◌, ℕ, ◌+◌, ◌<◌, ◌^◌, Bool, true, false, List, [], ◌∷◌, ◌++◌, Option, Some, None, is_some, true≢false, cond, refl, sym, ap, subst, ◌∙◌, arith}
+use Rattle.std.proofs.Common.{◌≡◌, ◌≢◌, ℕ, ◌+◌, ◌<◌, ◌^◌, Bool, true, false, List, [], ◌∷◌, ◌++◌, Option, Some, None, is_some, true≢false, cond, refl, sym, ap, subst, ◌∙◌, arith, inl, inr}
 use Rattle.std.specs.Prelude.{◌==◌, if◌then◌else◌, IfSome, OnOk, OnErr, Result, Ok, Err}
 use Rattle.std.specs.List.{AllByRecursion}
+use Rattle.std.proofs.lemmas.Bool.{or_cases}
 use Rattle.file_names.specs.Names.{temp_name_of, is_pending_name}
 use Rattle.disk_model.specs.Disk.{Name, Content, Cells, same, is_among, reads_of}
 use Rattle.disk_model.proofs.CellLemmas.{same_true}
@@ -9,6 +10,8 @@ use Rattle.file_deleter.specs.Holdings.{Holdings, count_of, times}
 use Rattle.file_deleter.specs.Moves.{MovesCounts}
 use Rattle.file_deleter.proofs.NameLemmas.{times-append, times_one, among_times, once}
 use Rattle.segment_infos.specs.Files.{AreFilesOf}
+use Rattle.node_files.specs.Appearing.{AppearsOnly}
+use Rattle.node_files.proofs.Appearing.{keeps_only}
 use Rattle.node_files.specs.Node.{IsApart, KeepsBytes}
 use Rattle.node_files.proofs.Carry.{unheld_apart}
 use Rattle.commit_steps.specs.Book.{book_names}
@@ -263,6 +266,17 @@ module _ {D : Type 0} (cells : D → Cells) (p : Parts D) (is : IsWholeReplica c
   pub comes_reads : (result : Result T E) → PartComes c now name bytes p.files files (cells p.dir) (cells dir) result → OnOk result ((cells dir (temp_name_of name number)).now ≡ Some bytes)
   comes_reads (Ok x) comes = subst (λ (k : ℕ). (cells dir (temp_name_of name k)).now ≡ Some bytes) (number_at number p.copies.running c e) comes.reads
   comes_reads (Err x) comes = tt
+
+  -- the temporary name alone comes to stand
+  one_name : (x q : Name) → is_among (x ∷ []) q ≡ true → x ≡ q
+  one_name x q there = elim (or_cases (same x q) false there) [ inl here ↦ same_true x q here | inr more ↦ absurd (true≢false (sym more)) ]
+
+  pub comes_appears : (result : Result T E) → PartComes c now name bytes p.files files (cells p.dir) (cells dir) result → AppearsOnly (λ q. q ≡ temp_name_of name number) (cells p.dir) (cells dir)
+  comes_appears result comes = keeps_only (λ q. q ≡ temp_name_of name number) (temp_name_of name c.number ∷ []) p.files files (cells p.dir) (cells dir) comes.moves.keeps
+      (λ q there none. sym (one_name (temp_name_of name c.number) q there) ∙ ap (temp_name_of name) (number_at number p.copies.running c e))
+
+  pub comes_stays : (result : Result T E) → PartComes c now name bytes p.files files (cells p.dir) (cells dir) result → KeepsBytes p.files files (cells p.dir) (cells dir)
+  comes_stays result comes = record { held = comes.moves.keeps.reads }
 
 -- the one there is
 pub some_at : {P : Job → Type 0} (o : Option Job) → is_some o ≡ true → IfSome o P → (c : Job) × (o ≡ Some c) × P c

@@ -1,6 +1,9 @@
 mod Came
+mod Finishing
 mod Launched
 mod Moved
-mod Overlaps
+mod Naming
+pub mod Overlaps
 mod Placed
 mod Settled
+mod Wanted

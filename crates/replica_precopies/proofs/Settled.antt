@@ -1,6 +1,7 @@
 -- A merge copy whose files come to be pending.
-use Rattle.std.proofs.Common.{◌≡◌, ℕ, ◌+◌, Bool, true, false, ◌||◌, List, [], ◌∷◌, ◌++◌, length, Some, cond, refl, sym, ap, subst, ◌∙◌, arith}
-use Rattle.std.specs.Prelude.{◌==◌, not, if◌then◌else◌, filter}
+use Rattle.std.proofs.Common.{◌≡◌, ℕ, ◌+◌, Bool, true, false, ◌||◌, List, [], ◌∷◌, ◌++◌, length, Option, Some, cond, refl, sym, ap, subst, ◌∙◌, arith}
+use Rattle.std.specs.Prelude.{◌==◌, not, if◌then◌else◌, filter, IfSome, is_some}
+use Rattle.std.proofs.lemmas.Bool.Decides.{nat_tests}
 use Rattle.std.proofs.lemmas.List.{map-append}
 use Rattle.nrt_base.specs.declared.numbers.SegNo.{SegNo}
 use Rattle.file_names.specs.Names.{temp_name_of}
@@ -16,7 +17,7 @@ use Rattle.copy_job.specs.declared.part.JobPart.{JobPart}
 use Rattle.copy_job.specs.Parts.{present_names, own_names, placed, placed_to}
 use Rattle.copy_job.specs.Jobs.{Job, job_names, present_of}
 use Rattle.copy_job.proofs.Points.{all_placed}
-use Rattle.merge_precopy.specs.Pending.{is_expected}
+use Rattle.merge_precopy.specs.Pending.{Pending, is_expected, with_files}
 use Rattle.replica_parts.specs.declared.merges.MergeCopies.{MergeCopies}
 use Rattle.replica_parts.specs.declared.parts.Parts.{Parts}
 use Rattle.replica_parts.specs.Merges.{copy_at, copies_with, copies_without, running_names, copies_names, CopyApart}
@@ -26,6 +27,8 @@ use Rattle.replica_parts.proofs.Keeping.{some_map}
 use Rattle.replica_parts.proofs.Merging.{all_at, all_dropped, apart_without, names-without}
 use Rattle.replica_parts.proofs.Segments.{segment_infos, segment_files}
 use Rattle.replica_parts.proofs.Temporary.{files_no_temporary}
+use Rattle.replica_precopies.specs.Settling.{SettlesCopy}
+use Rattle.replica_precopies.proofs.Came.{some_at}
 
 -- ---- a segment that is expected, and no more
 pub struck : (seg : SegNo) (es : List SegNo) → es ≡ [] → filter (λ s. not (s.0 == seg.0)) (es ++ seg ∷ []) ≡ []
@@ -41,6 +44,17 @@ expected seg es e = ap (λ (xs : List SegNo). is_expected (xs ++ seg ∷ []) seg
     by : (b : Bool) → (seg.0 == seg.0) ≡ b → ((seg.0 == seg.0) || false) ≡ true
     by true f = ap (λ b. b || false) f
     by false f = absurd (grind (arith, nat_tests, f))
+
+-- a segment's files come to be pending, and the segment is expected no more
+pub pending_settled : (p mid last : Pending) (seg : SegNo) (files want : List (Name × FileMetaData)) → p.expected ≡ [] → mid ≡ record p { expected = p.expected ++ seg ∷ [] } → last ≡ with_files mid seg files → files ≡ want
+    → last ≡ record p { files = p.files ++ want }
+pending_settled p mid last seg files want none mid_is last_is files_are = last_is ∙ ap (λ (x : Pending). with_files x seg files) mid_is
+    ∙ ap (λ (es : List SegNo). record { expected = es; files = p.files ++ files }) (struck seg p.expected none ∙ sym none) ∙ ap (λ (fs : List (Name × FileMetaData)). record p { files = p.files ++ fs }) files_are
+
+-- it was expected in vain
+pub pending_forgotten : (p mid done last : Pending) (seg : SegNo) → p.expected ≡ [] → mid ≡ record p { expected = p.expected ++ seg ∷ [] } → done ≡ mid → last ≡ record done { expected = filter (λ s. not (s.0 == seg.0)) done.expected } → last ≡ p
+pending_forgotten p mid done last seg none mid_is done_is last_is = last_is ∙ ap (λ (x : Pending). record x { expected = filter (λ s. not (s.0 == seg.0)) x.expected }) (done_is ∙ mid_is)
+    ∙ ap (λ (es : List SegNo). record p { expected = es }) (struck seg p.expected none ∙ sym none)
 
 -- ---- the parts have their own names
 pub present_all : (ps : List JobPart) (q : Name) → present_of (placed_to (length ps) ps) q ≡ q
@@ -129,3 +143,33 @@ module _ {D : Type 0} (cells : D → Cells) (p : Parts D) (is : IsWholeReplica c
   pub settled_sourced : (left : MergeCopies) → left ≡ next → (source : Name → Content) → IsSourced source cells p → IsSourced source cells (record p { copies = left })
   settled_sourced left made source h = subst (λ (x : MergeCopies). IsSourced source cells (record p { copies = x })) (sym made)
       (record { held = h.held; job = h.job; merges = all_dropped (CopiesFrom source (reads_of (cells p.dir))) number p.copies.running h.merges })
+
+-- ---- by what the calls say
+-- a claim of the parts, where the pending files are what they were
+pub with_pending : {D : Type 0} (p : Parts D) (P : Parts D → Type 0) → P p → (x : Pending) → x ≡ p.copies.pending → P (record p { copies = record p.copies { pending = x } })
+with_pending p P h x e = subst (λ (y : Pending). P (record p { copies = record p.copies { pending = y } })) (sym e) h
+
+module _ {D : Type 0} (cells : D → Cells) (p : Parts D) (is : IsWholeReplica cells p) (number : ℕ) (runs : is_some (copy_at number p.copies.running) ≡ true) (complete : IfSome (copy_at number p.copies.running) (λ k. k.missing ≡ []))
+    (own : IfSome (copy_at number p.copies.running) (λ k. k.parts ≡ placed_to (length k.parts) k.parts)) (files : List (Name × FileMetaData)) (files_are : IfSome (copy_at number p.copies.running) (λ k. files ≡ k.want.files)) (seg : SegNo) (mid last : Pending)
+    (mid_is : mid ≡ record p.copies.pending { expected = p.copies.pending.expected ++ seg ∷ [] }) (last_is : last ≡ with_files mid seg files) (running : List Job) (running_is : running ≡ copies_without number p.copies.running) where
+  one : (c : Job) × (copy_at number p.copies.running ≡ Some c) × (c.missing ≡ [])
+  one = some_at (copy_at number p.copies.running) runs complete
+
+  own_one : one.0.parts ≡ placed_to (length one.0.parts) one.0.parts
+  own_one = subst (λ (o : Option Job). IfSome o (λ k. k.parts ≡ placed_to (length k.parts) k.parts)) one.1 own
+
+  files_one : files ≡ one.0.want.files
+  files_one = subst (λ (o : Option Job). IfSome o (λ k. files ≡ k.want.files)) one.1 files_are
+
+  made : ◌≡◌ {A = MergeCopies} (record { running = running; pending = last }) (record { running = copies_without number p.copies.running; pending = record p.copies.pending { files = p.copies.pending.files ++ one.0.want.files } })
+  made = ap (λ (cs : List Job). record { running = cs; pending = last }) running_is
+      ∙ ap (λ (x : Pending). record { running = copies_without number p.copies.running; pending = x }) (pending_settled p.copies.pending mid last seg files one.0.want.files is.merges.unexpected mid_is last_is files_one)
+
+  pub settles_whole : IsWholeReplica cells (record p { copies = record { running = running; pending = last } })
+  settles_whole = settled_whole cells p is number one.0 one.1 one.2 own_one (record { running = running; pending = last }) made
+
+  pub settles_sourced : (source : Name → Content) → IsSourced source cells p → IsSourced source cells (record p { copies = record { running = running; pending = last } })
+  settles_sourced = settled_sourced cells p is number one.0 one.1 one.2 own_one (record { running = running; pending = last }) made
+
+  pub settles_copy : IfSome (copy_at number p.copies.running) (λ k. SettlesCopy number k p (record p { copies = record { running = running; pending = last } }))
+  settles_copy = subst (λ (o : Option Job). IfSome o (λ k. SettlesCopy number k p (record p { copies = record { running = running; pending = last } }))) (sym one.1) (record { copies = made })

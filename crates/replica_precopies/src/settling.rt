@@ -4,9 +4,9 @@ ghost use Rattle.std.specs.Prelude.{◌≡◌, ◌<◌, ◌≤◌, [], true, is_
 ghost use Rattle.nrt_base.specs.Causes.{Rose};
 ghost use Rattle.nrt_base.specs.declared.numbers.SegNo.{SegNo};
 ghost use Rattle.disk_model.specs.Disk.{Name, reads_of};
-ghost use Rattle.file_deleter.specs.Holdings.{times};
+ghost use Rattle.file_deleter.specs.Holdings.{times, count_of};
 ghost use Rattle.node_files.specs.Node.{KeepsBytes};
-ghost use Rattle.node_files.specs.Appearing.{AppearsOnly};
+ghost use Rattle.node_files.specs.Appearing.{AppearsOnly, NoneAppears};
 ghost use Rattle.copy_state.specs.States.{meta_names};
 ghost use Rattle.copy_job.specs.Parts.{placed_to};
 ghost use Rattle.copy_job.specs.Placing.{IsPlacingFault};
@@ -25,6 +25,21 @@ use replica_calls::end_copy;
 use replica_parts::{Parts, note_wanted};
 use std::alloc::Global;
 
+// The files with their metadata, once more.
+fn shared_files(
+    alloc: Global,
+    files: &[(FileName, FileMetaData)],
+) -> Result<Vec<(FileName, FileMetaData)>, NoMemory>
+    ensures { IfOk result (λ again. again.items ≡ files.now) }
+{
+    let mut again = Vec::new(alloc);
+    for file in files {
+        let meta = file.1.share(alloc)?;
+        again.push((file.0, meta))?;
+    }
+    Ok(again)
+}
+
 // The files of a copy's state, and its segment.
 fn wanted_of<D: Dir>(
     alloc: Global,
@@ -39,11 +54,7 @@ fn wanted_of<D: Dir>(
     let Some(copy) = parts.copies.running.copy(job) else {
         unreachable!();
     };
-    let mut files = Vec::new(alloc);
-    for file in copy.want().files.as_slice() {
-        let meta = file.1.share(alloc)?;
-        files.push((file.0, meta))?;
-    }
+    let files = shared_files(alloc, copy.want().files.as_slice())?;
     let Some(first) = files.first() else {
         unreachable!();
     };
@@ -61,10 +72,15 @@ fn place_copy<D: Dir>(alloc: Global, parts: &mut Parts<D>, job: u64) -> Result<(
     ensures whole { IsWholeReplica D.cells parts.new }
     ensures standing { AreStanding D.cells parts.old → AreStanding D.cells parts.new }
     ensures sourced { KeepsSource D.cells parts.old parts.new }
+    ensures held { IfSome (copy_at job parts.old.copies.running) (λ c.
+        HoldsOnlyWanted c.want parts.old parts.new) }
     ensures places { IfSome (copy_at job parts.old.copies.running) (λ c.
         PlacesCopy D.cells job c parts.old parts.new result) }
     ensures stays { KeepsBytes parts.old.files parts.new.files
         (D.cells parts.old.dir) (D.cells parts.new.dir) }
+    ensures appears { IfSome (copy_at job parts.old.copies.running) (λ c.
+        AppearsOnly (λ q. 0 < times (meta_names c.want.files) q)
+        (D.cells parts.old.dir) (D.cells parts.new.dir)) }
     ensures fault { IfErr result IsPlacingFault }
     ensures failed { IsErrOf result JobFault.DirFailed
         → Rose (D.faults parts.old.dir) (D.faults parts.new.dir) }
@@ -127,6 +143,40 @@ fn settle_copy<D: Dir>(
     }
 }
 
+// Ends the copy where the disk failed. Out of memory it runs on.
+fn give_up<D: Dir>(parts: &mut Parts<D>, job: u64, fault: JobFault) -> JobFault
+    requires whole { IsWholeReplica D.cells parts.old }
+    requires runs { is_some (copy_at job parts.old.copies.running) ≡ true }
+    requires fault { IsPlacingFault fault }
+    ensures whole { IsWholeReplica D.cells parts.new }
+    ensures standing { AreStanding D.cells parts.old → AreStanding D.cells parts.new }
+    ensures sourced { KeepsSource D.cells parts.old parts.new }
+    ensures same { result ≡ fault }
+    ensures failed { fault ≡ JobFault.DirFailed → EndsCopy job parts.old parts.new }
+    ensures memory { fault ≡ JobFault.Memory → parts.new ≡ parts.old }
+    ensures fewer { (q : Name) → count_of parts.new.files q ≤ count_of parts.old.files q }
+    ensures stays { KeepsBytes parts.old.files parts.new.files
+        (D.cells parts.old.dir) (D.cells parts.new.dir) }
+    ensures appears { NoneAppears (D.cells parts.old.dir) (D.cells parts.new.dir) }
+    ensures later { D.faults parts.old.dir ≤ D.faults parts.new.dir }
+    ensures others { parts.new ≡ record parts.old {
+      dir = parts.new.dir;
+      files = parts.new.files;
+      copies = parts.new.copies;
+    } }
+{
+    match fault {
+        JobFault::Memory => JobFault::Memory,
+        JobFault::DirFailed => {
+            end_copy(parts, job);
+            JobFault::DirFailed
+        }
+        JobFault::LinkFailed | JobFault::Damaged { .. } | JobFault::NameClash { .. } => {
+            unreachable!()
+        }
+    }
+}
+
 /// The files of a copy of a merged segment, of which nothing is missing, get their own names and are pending from now on. Where
 /// the disk fails the copy has ended, and its parts were given back; out of memory, it runs on with what it has.
 pub fn finish_precopy<D: Dir>(alloc: Global, parts: &mut Parts<D>, job: u64) -> Result<(), JobFault>
@@ -174,10 +224,6 @@ pub fn finish_precopy<D: Dir>(alloc: Global, parts: &mut Parts<D>, job: u64) -> 
             Ok(()) => Ok(()),
             Err(_) => Err(JobFault::Memory),
         },
-        Err(JobFault::DirFailed) => {
-            end_copy(parts, job);
-            Err(JobFault::DirFailed)
-        }
-        Err(fault) => Err(fault),
+        Err(fault) => Err(give_up(parts, job, fault)),
     }
 }

@@ -93,7 +93,8 @@ pub fn advance<D: Dir>(
     ensures job { copy.new ≡ record copy.old { parts = copy.new.parts } }
     ensures parts { (n : ℕ) × (copy.new.parts ≡ placed_to n copy.old.parts) }
 
-    ensures ok { IfOk result (λ point. TakesInHand copy.old copy.new wanted.now olds.now.names dropped.now point
+    ensures ok { IfOk result (λ point. TakesInHand copy.old copy.new wanted.now
+        olds.now.names dropped.now point
         files.old files.new (D.cells dir.old) (D.cells dir.new)) }
     ensures err { OnErr result (MovesCounts (written_names copy.old.parts)
         (job_names copy.old) (job_names copy.new)

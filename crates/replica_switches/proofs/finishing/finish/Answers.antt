@@ -2,7 +2,7 @@ use Rattle.std.proofs.Common.{◌∙◌, ap, sym, refl, Some, inl}
 use Rattle.replica_switches.proofs.Finished.{ready, gone_counted}
 use Rattle.replica_parts.proofs.Beside.{standing_jobs}
 use Rattle.replica_parts.proofs.Keeping.{core_of}
-use Rattle.replica_switches.proofs.Parted.{copies_split, left_settled, left_unexpected}
+use Rattle.replica_switches.proofs.Parted.{copies_split, left_settled, left_unexpected, pending_parted}
 use Rattle.replica_switches.proofs.Switched.{noted_whole, noted_still, want_slice, refused_core, refused_whole, refused_sourced, refused_held, done_whole, done_sourced, done_held, done_stands, done_standing}
 use Rattle.node_files.proofs.Appearing.{keeps_none, only_then_none}
 use Rattle.replica_parts.specs.Sources.{IsWantedName}
@@ -78,6 +78,24 @@ returns-in_default-note_wanted-clause-held g c q lasting some = inl some
 
 pub returns-in_default-note_wanted-clause-err : goal.returns-in_default-note_wanted-clause-err
 returns-in_default-note_wanted-clause-err g c = noted_still c.args.parts.now c.note_wanted.new.known
+
+pub returns-in_default-part_pending-clause-whole : goal.returns-in_default-part_pending-clause-whole
+returns-in_default-part_pending-clause-whole g c = noted_whole g.D.Dir.cells c.args.parts.now c.requires.whole c.in-Some.job c.in-Some.is c.requires.complete c.requires.standing c.as_slice.result.now c.note_wanted.new.known (c.as_slice.ensures ∙ ap (λ w. w.files) c.want.ensures) c.note_wanted.ensures.some
+
+pub returns-in_default-part_pending-clause-standing : goal.returns-in_default-part_pending-clause-standing
+returns-in_default-part_pending-clause-standing g c h = record { point = h.point; commits = h.commits }
+
+pub returns-in_default-part_pending-clause-sourced : goal.returns-in_default-part_pending-clause-sourced
+returns-in_default-part_pending-clause-sourced g c source h = record { held = h.held; job = h.job; merges = h.merges }
+
+pub returns-in_default-part_pending-clause-held : goal.returns-in_default-part_pending-clause-held
+returns-in_default-part_pending-clause-held g c q lasting some = inl some
+
+pub returns-in_default-part_pending-clause-err : goal.returns-in_default-part_pending-clause-err
+returns-in_default-part_pending-clause-err g c = noted_still c.args.parts.now c.note_wanted.new.known
+
+pub returns-in-Ok-advance-clause-pending : goal.returns-in-Ok-advance-clause-pending
+returns-in-Ok-advance-clause-pending g c = pending_parted c.args.parts.now.copies c.args.parts.now.job c.in-Some.job c.in-Some.is c.want-2.result.now c.want-2.ensures c.in-Ok-part_pending.left c.in-Ok-part_pending.ensures
 
 pub returns-in-Ok-advance-clause-appears : goal.returns-in-Ok-advance-clause-appears
 returns-in-Ok-advance-clause-appears g c =
