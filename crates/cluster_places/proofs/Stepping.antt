@@ -1,15 +1,16 @@
 -- What calls of a primary and of a replica make of jobs, put together.
 use Rattle.std.proofs.Common.{◌≡◌, ◌≤◌, ◌<◌, ◌+◌, ◌^◌, ℕ, zero, suc, Bool, true, false, true≢false, List, [], ◌∷◌, ◌++◌, Some, None, Option, max, refl, ap, ◌∙◌, sym, subst, arith, if◌then◌else◌}
-use Rattle.std.specs.Prelude.{IfSome, IsSome, IsSomeAnd}
+use Rattle.std.specs.Prelude.{IfSome, IsSome, IsSomeAnd, nat_lt}
 use Rattle.nrt_base.specs.declared.numbers.Gen.{Gen}
 use Rattle.nrt_base.specs.declared.doc.Doc.{Doc}
 use Rattle.disk_model.specs.Disk.{Name, Content, Cells, reads_of}
-use Rattle.file_deleter.specs.Holdings.{count_of, times}
+use Rattle.file_deleter.specs.Holdings.{Holdings, count_of, times}
 use Rattle.file_names.specs.Names.{temp_name_of}
 use Rattle.node_files.specs.Appearing.{NoneAppears, AppearsOnly}
 use Rattle.node_files.proofs.Appearing.{only_none}
 use Rattle.seg_reader.specs.Stands.{StandsFor}
 use Rattle.copy_state.specs.declared.state.CopyState.{CopyState}
+use Rattle.copy_state.specs.States.{meta_names}
 use Rattle.copy_job.specs.declared.copying.Part.{Part}
 use Rattle.copy_job.specs.Jobs.{Job, reads_under, with_part}
 use Rattle.primary_parts.specs.declared.parts.Parts.{Parts as PrimaryParts}
@@ -19,12 +20,17 @@ use Rattle.primary_parts.specs.Held.{IsUndrawn}
 use Rattle.primary_parts.specs.Calls.{HoldsNoNew}
 use Rattle.primary_parts.specs.States.{out_of, states_without, is_out, same_out, IsStateOf}
 use Rattle.replica_parts.specs.declared.job.PointJob.{PointJob}
+use Rattle.replica_parts.specs.declared.merges.MergeCopies.{MergeCopies}
 use Rattle.replica_parts.specs.declared.parts.Parts.{Parts as ReplicaParts}
+use Rattle.replica_parts.specs.Merges.{copies_seen, no_copies}
 use Rattle.replica_parts.specs.Replica.{IsWholeReplica, AreStanding}
 use Rattle.replica_parts.specs.Jobs.{IsPointJob}
 use Rattle.replica_parts.specs.Sources.{IsSourced, KeepsSource, IsWantedName}
+use Rattle.replica_precopies.specs.Overlapping.{copies_beside}
+use Rattle.replica_switches.specs.Parting.{pending_after}
 use Rattle.cluster_places.specs.Outs.{want_of}
-use Rattle.cluster_places.specs.JobChanges.{given_back, AltersStates, AltersJob, BeginsAt, FinishesAt, TakesPart, IsTemporaryIn}
+use Rattle.cluster_places.specs.JobChanges.{given_back, copies_begun, AltersStates, AltersJob, BeginsAt, FinishesAt, TakesPart, IsTemporaryIn}
+use Rattle.cluster_places.specs.Ends.{EndsJob, TakesBack}
 
 pub out_push : (s t : Out) (ts : List Out) → is_out s ts ≡ true → is_out s (ts ++ t ∷ []) ≡ true
 out_push s t [] out = absurd (true≢false (sym out))
@@ -82,7 +88,7 @@ module _ {D : Type 0} (cells : D → Cells) where
 
   pub job_then : (r s t : ReplicaParts D) → AltersJob cells r s → AltersJob cells s t → AltersJob cells r t
   job_then r s t a b = record {
-    others = b.others ∙ ap (λ (x : ReplicaParts D). record x { dir = t.dir; files = t.files; seen = t.seen; jobs = t.jobs; job = t.job }) a.others;
+    others = b.others ∙ ap (λ (x : ReplicaParts D). record x { dir = t.dir; files = t.files; seen = t.seen; jobs = t.jobs; job = t.job; copies = t.copies }) a.others;
     whole = λ w. b.whole (a.whole w);
     standing = λ w. b.standing (a.standing w);
     sourced = λ source was. b.sourced source (a.sourced source was);
@@ -90,22 +96,25 @@ module _ {D : Type 0} (cells : D → Cells) where
   }
 
   -- the replica has seen another generation
-  pub job_seen : (r s : ReplicaParts D) → s ≡ record r { seen = s.seen } → (IsWholeReplica cells r → IsWholeReplica cells s) → AltersJob cells r s
-  job_seen r s is whole = record {
-    others = is ∙ ap (λ (x : ReplicaParts D). record r { dir = x.dir; files = x.files; seen = s.seen; jobs = x.jobs; job = x.job }) (sym is);
-    whole = whole;
-    standing = λ w. subst (λ (x : ReplicaParts D). AreStanding cells x) (sym is) (record { point = w.point; commits = w.commits });
-    sourced = λ source w. subst (λ (x : ReplicaParts D). IsSourced source cells x) (sym is) (record { held = w.held; job = w.job });
-    appears = record { each = λ name none. ap (λ (x : ReplicaParts D). (cells x.dir name).now) is ∙ none };
-  }
-
-  pub job_by : (r s : ReplicaParts D) → s ≡ record r { files = s.files; jobs = s.jobs; job = s.job } → (IsWholeReplica cells r → IsWholeReplica cells s) → (AreStanding cells r → AreStanding cells s) → KeepsSource cells r s → AltersJob cells r s
-  job_by r s is whole standing sourced = record {
-    others = is ∙ ap (λ (x : ReplicaParts D). record r { dir = x.dir; files = s.files; seen = x.seen; jobs = s.jobs; job = s.job }) (sym is);
+  pub job_seen : (r s : ReplicaParts D) → s ≡ record r { dir = s.dir; files = s.files; seen = s.seen; copies = s.copies } → (IsWholeReplica cells r → IsWholeReplica cells s) → (AreStanding cells r → AreStanding cells s) → KeepsSource cells r s
+      → NoneAppears (cells r.dir) (cells s.dir) → AltersJob cells r s
+  job_seen r s is whole standing sourced appears = record {
+    others = is ∙ ap (λ (x : ReplicaParts D). record r { dir = s.dir; files = s.files; seen = s.seen; jobs = x.jobs; job = x.job; copies = s.copies }) (sym is);
     whole = whole;
     standing = standing;
     sourced = sourced;
-    appears = record { each = λ name none. ap (λ (x : ReplicaParts D). (cells x.dir name).now) is ∙ none };
+    appears = appears;
+  }
+
+  -- a job of it began
+  pub job_by : (r s : ReplicaParts D) → s ≡ record r { dir = s.dir; files = s.files; jobs = s.jobs; job = s.job; copies = s.copies } → (IsWholeReplica cells r → IsWholeReplica cells s) → (AreStanding cells r → AreStanding cells s) → KeepsSource cells r s
+      → NoneAppears (cells r.dir) (cells s.dir) → AltersJob cells r s
+  job_by r s is whole standing sourced appears = record {
+    others = is ∙ ap (λ (x : ReplicaParts D). record r { dir = s.dir; files = s.files; seen = x.seen; jobs = s.jobs; job = s.job; copies = s.copies }) (sym is);
+    whole = whole;
+    standing = standing;
+    sourced = sourced;
+    appears = appears;
   }
 
   -- ---- a job that begins
@@ -114,22 +123,22 @@ module _ {D : Type 0} (cells : D → Cells) where
   some_job None number state holdings is some = absurd (true≢false (sym some))
   some_job (Some j) number state holdings is some = (j, refl, is)
 
-  pub begins : (p q t : PrimaryParts D) (r s u v : ReplicaParts D) (state : CopyState) (number last : ℕ) (completed : List Name)
+  pub begins : (p q t : PrimaryParts D) (r s u v : ReplicaParts D) (state : CopyState) (number last : ℕ) (completed : List Name) (holdings : Holdings)
       → IsStateOf (reads_of (cells p.dir)) p.point_infos p.searchers.point.names last completed state
-      → q.states ≡ p.states ++ out_of state ∷ [] → AltersStates cells p q → AltersStates cells q t → t.states ≡ given_back (want_of r.job) q.states
-      → AltersJob cells r s → s.seen ≡ r.seen → s.jobs ≡ r.jobs
-      → u.seen.0 ≡ max s.seen.0 state.primary_gen.0 → AltersJob cells s u → u.jobs ≡ s.jobs
-      → AltersJob cells u v → v.seen ≡ u.seen → number ≡ u.jobs + 1 → v.jobs ≡ u.jobs + 1 → IfSome v.job (IsPointJob (u.jobs + 1) state u.files) → IsSome v.job
+      → q.states ≡ p.states ++ out_of state ∷ [] → AltersStates cells p q → TakesBack cells (want_of r.job) q t → EndsJob cells r s
+      → u.seen.0 ≡ max s.seen.0 state.primary_gen.0 → AltersJob cells s u → u.jobs ≡ s.jobs → u.copies ≡ copies_seen s.seen.0 state.primary_gen.0 s.copies
+      → AltersJob cells u v → v.seen ≡ u.seen → number ≡ u.jobs + 1 → v.jobs ≡ u.jobs + 1 → IfSome v.job (IsPointJob (u.jobs + 1) state holdings) → IsSome v.job
+      → v.copies ≡ record u.copies { running = copies_beside (meta_names state.files) u.copies.running }
       → r.seen.0 ≤ p.point_infos.generation.0
       → BeginsAt cells number p t r v
-  begins p q t r s u v state number last completed of_point pushed taken altered back dropped seen jobs top looked kept began seen_now next jobs_now job some low =
-      let j = some_job v.job (u.jobs + 1) state u.files job some in
+  begins p q t r s u v state number last completed holdings of_point pushed taken back dropped top looked kept left began seen_now next jobs_now job some beside low =
+      let j = some_job v.job (u.jobs + 1) state holdings job some in
       let gen : state.primary_gen.0 ≡ p.point_infos.generation.0 = ap (λ (g : Gen). g.0) of_point.primary_gen in
-      let was : s.seen.0 ≡ r.seen.0 = ap (λ (g : Gen). g.0) seen in
+      let was : s.seen.0 ≡ r.seen.0 = ap (λ (g : Gen). g.0) dropped.seen in
       let is : v.seen.0 ≡ p.point_infos.generation.0 = (let now : v.seen.0 ≡ u.seen.0 = ap (λ (g : Gen). g.0) seen_now in omega (arith, now, top, gen, was, low)) in
       record {
-        primary = alters_then p q t taken altered;
-        replica = job_then r s v dropped (job_then s u v looked began);
+        primary = alters_then p q t taken back.alters;
+        replica = job_then r s v dropped.alters (job_then s u v looked began);
         state = state;
         of_point = record { infos = of_point.infos_file; version = of_point.version; generation = of_point.primary_gen; names = of_point.names_are; metas = of_point.metas };
         job = j.0;
@@ -137,11 +146,28 @@ module _ {D : Type 0} (cells : D → Cells) where
         want = ap (λ (x : _). x.want) j.2.copy;
         infos = j.2.state_is.spelled;
         number_is = ap (λ (x : _). x.number) j.2.copy ∙ sym next;
-        next = next ∙ ap (λ (k : ℕ). k + 1) (kept ∙ jobs);
-        jobs = jobs_now ∙ ap (λ (k : ℕ). k + 1) (kept ∙ jobs);
+        next = next ∙ ap (λ (k : ℕ). k + 1) (kept ∙ dropped.jobs);
+        jobs = jobs_now ∙ ap (λ (k : ℕ). k + 1) (kept ∙ dropped.jobs);
         seen = λ i. record { 0 = is i };
-        states = back ∙ ap (given_back (want_of r.job)) pushed;
+        states = back.states ∙ ap (given_back (want_of r.job)) pushed;
+        copies = beside ∙ ap (λ (c : MergeCopies). record c { running = copies_beside (meta_names state.files) c.running })
+            (left ∙ (λ i. copies_seen (was i) state.primary_gen.0 (dropped.copies i)));
       }
+
+  -- ---- no copies of merged segments, where there were none
+
+  none_left : (seen : ℕ) (state : CopyState) → copies_begun seen state no_copies ≡ no_copies
+  none_left seen state = tests (nat_lt seen state.primary_gen.0)
+    where
+      tests : (b : Bool) → record (if b then no_copies else no_copies) { running = copies_beside (meta_names state.files) (if b then no_copies else no_copies).running } ≡ no_copies
+      tests true = refl
+      tests false = refl
+
+  pub none_begun : (number : ℕ) (p q : PrimaryParts D) (r s : ReplicaParts D) → r.copies ≡ no_copies → BeginsAt cells number p q r s → s.copies ≡ no_copies
+  none_begun number p q r s none b = b.copies ∙ (ap (copies_begun r.seen.0 b.state) none ∙ none_left r.seen.0 b.state)
+
+  pub none_finished : (j : PointJob) (p q : PrimaryParts D) (r s : ReplicaParts D) → r.copies ≡ no_copies → FinishesAt cells j p q r s → s.copies ≡ no_copies
+  none_finished j p q r s none f = f.copies ∙ ap (λ (c : MergeCopies). record c { pending = pending_after (meta_names j.copy.want.files) j.copy.want.completed c.pending }) none
 
   -- ---- a part
 
@@ -156,45 +182,37 @@ module _ {D : Type 0} (cells : D → Cells) where
       same None = tt
       same (Some j) = (refl, refl, refl)
 
-  pub takes_in : (part : Part) (r s : ReplicaParts D) → s ≡ record r { dir = s.dir; files = s.files; job = s.job } → IsWholeReplica cells s → (AreStanding cells r → AreStanding cells s)
-      → ((source : Name → Content) → source part.name ≡ Some part.bytes → IsSourced source cells r → IsSourced source cells s)
-      → IfSome r.job (λ j. s.job ≡ Some (record j { copy = with_part j.copy part.name })) → (c : Job) (number : ℕ) → IfSome r.job (λ j. c ≡ j.copy) → number ≡ c.number → number < 2 ^ 64
-      → IfSome r.job (λ j. 0 < times j.copy.missing part.name) → AppearsOnly (λ q. q ≡ temp_name_of part.name number) (cells r.dir) (cells s.dir) → TakesPart cells part r s
-  takes_in part r s is whole standing sourced with c number copies runs small lacks appears = record {
-    others = is;
+  pub takes_in : (part : Part) (r s : ReplicaParts D) (j : PointJob) (number : ℕ) → r.job ≡ Some j → s ≡ record r { dir = s.dir; files = s.files; job = Some (record j { copy = with_part j.copy part.name }) } → IsWholeReplica cells s
+      → (AreStanding cells r → AreStanding cells s) → ((source : Name → Content) → source part.name ≡ Some part.bytes → IsSourced source cells r → IsSourced source cells s) → number ≡ j.copy.number → number < 2 ^ 64
+      → 0 < times j.copy.missing part.name → AppearsOnly (λ q. q ≡ temp_name_of part.name number) (cells r.dir) (cells s.dir) → TakesPart cells part r s
+  takes_in part r s j number there is whole standing sourced same small lacks appears = record {
+    others = is ∙ ap (λ (x : ReplicaParts D). record r { dir = s.dir; files = s.files; job = x.job }) (sym is);
     whole = λ w. whole;
     standing = standing;
     sourced = sourced;
-    job = same r.job with;
-    appears = wrote r.job copies lacks;
+    job = subst (λ (o : Option PointJob). IfSome o (λ i. IsSomeAnd s.job (λ k. (k.copy.number ≡ i.copy.number) × (k.copy.want ≡ i.copy.want) × (k.infos ≡ i.infos)))) (sym there)
+        (subst (λ (o : Option PointJob). IsSomeAnd o (λ k. (k.copy.number ≡ j.copy.number) × (k.copy.want ≡ j.copy.want) × (k.infos ≡ j.infos))) (sym (ap (λ (x : ReplicaParts D). x.job) is)) (refl, refl, refl));
+    appears = subst (λ (o : Option PointJob). IfSome o (λ i. AppearsOnly (IsTemporaryIn i part.name) (cells r.dir) (cells s.dir))) (sym there)
+        (record { each = λ q none stands. (lacks, (omega (arith, same, small)), appears.each q none stands ∙ ap (temp_name_of part.name) same) });
   }
-    where
-      wrote : (o : Option PointJob) → IfSome o (λ j. c ≡ j.copy) → IfSome o (λ j. 0 < times j.copy.missing part.name) → IfSome o (λ j. AppearsOnly (IsTemporaryIn j part.name) (cells r.dir) (cells s.dir))
-      wrote None is lacked = tt
-      wrote (Some j) is lacked =
-          let same : number ≡ j.copy.number = runs ∙ ap (λ (x : Job). x.number) is in
-          record { each = λ q none there. (lacked, (omega (arith, same, small)), appears.each q none there ∙ ap (temp_name_of part.name) same) }
-
-      same : (o : Option PointJob) → IfSome o (λ j. s.job ≡ Some (record j { copy = with_part j.copy part.name }))
-          → IfSome o (λ j. IsSomeAnd s.job (λ k. (k.copy.number ≡ j.copy.number) × (k.copy.want ≡ j.copy.want) × (k.infos ≡ j.infos)))
-      same None now = tt
-      same (Some j) now = subst (λ (o : Option PointJob). IsSomeAnd o (λ k. (k.copy.number ≡ j.copy.number) × (k.copy.want ≡ j.copy.want) × (k.infos ≡ j.infos))) (sym now) (refl, refl, refl)
 
   -- ---- a job that ends
 
   pub finishes : (p q : PrimaryParts D) (r s : ReplicaParts D) (state : CopyState) (c : Job) → IfSome r.job (λ j. c ≡ j.copy) → state ≡ c.want
       → AltersStates cells p q → q.states ≡ states_without (out_of state) p.states
-      → s ≡ record r { dir = s.dir; files = s.files; searchers = s.searchers; infos = s.infos; segs = s.segs; job = s.job; known = s.known } → IsWholeReplica cells s → (AreStanding cells r → AreStanding cells s) → KeepsSource cells r s
+      → s ≡ record r { dir = s.dir; files = s.files; searchers = s.searchers; infos = s.infos; segs = s.segs; job = s.job; copies = s.copies; known = s.known } → IsWholeReplica cells s → (AreStanding cells r → AreStanding cells s) → KeepsSource cells r s
       → AppearsOnly (IsWantedName r.job) (cells r.dir) (cells s.dir) → IfSome r.job (λ j. s.infos ≡ j.infos) → s.job ≡ None → s.searchers.tickets ≡ r.searchers.tickets
+      → IfSome r.job (λ j. s.copies ≡ record r.copies { pending = pending_after (meta_names j.copy.want.files) j.copy.want.completed r.copies.pending })
       → IfSome r.job (λ j. (docs : List Doc) → StandsFor (reads_under j.copy.parts (reads_of (cells r.dir))) j.infos docs → StandsFor (reads_of (cells s.dir)) s.infos docs)
       → IfSome r.job (λ j. FinishesAt cells j p q r s)
-  finishes p q r s state c is want altered back others whole standing sourced appears infos none tickets stands = by r.job is appears infos stands
+  finishes p q r s state c is want altered back others whole standing sourced appears infos none tickets pending stands = by r.job is appears infos pending stands
     where
       by : (o : Option PointJob) → IfSome o (λ j. c ≡ j.copy) → AppearsOnly (IsWantedName o) (cells r.dir) (cells s.dir) → IfSome o (λ j. s.infos ≡ j.infos)
+          → IfSome o (λ j. s.copies ≡ record r.copies { pending = pending_after (meta_names j.copy.want.files) j.copy.want.completed r.copies.pending })
           → IfSome o (λ j. (docs : List Doc) → StandsFor (reads_under j.copy.parts (reads_of (cells r.dir))) j.infos docs → StandsFor (reads_of (cells s.dir)) s.infos docs)
           → IfSome o (λ j. FinishesAt cells j p q r s)
-      by None is appears infos stands = tt
-      by (Some j) is appears infos stands = record {
+      by None is appears infos pending stands = tt
+      by (Some j) is appears infos pending stands = record {
         primary = altered;
         states = back ∙ ap (λ (x : CopyState). states_without (out_of x) p.states) (want ∙ ap (λ (x : Job). x.want) is);
         others = others;
@@ -205,5 +223,6 @@ module _ {D : Type 0} (cells : D → Cells) where
         infos = infos;
         job = none;
         tickets = tickets;
+        copies = pending;
         stands = stands;
       }

@@ -62,6 +62,7 @@ module _ {D : Type 0} (cells : D → Cells) where
     infos = ap (λ (z : ReplicaParts D). z.infos) others;
     job = ap (λ (z : ReplicaParts D). z.job) others;
     jobs = ap (λ (z : ReplicaParts D). z.jobs) others;
+    copies = ap (λ (z : ReplicaParts D). z.copies) others;
     version = ap (λ (z : Point Shown). z.version) point;
   })
 
@@ -79,5 +80,5 @@ module _ {D : Type 0} (cells : D → Cells) where
     },
     refl,
   )
-  node_alone (Replica r) = record { sourced = λ source is. is; appears = record { each = λ q none. none }; commits = refl; infos = refl; job = refl; jobs = refl; version = refl }
+  node_alone (Replica r) = record { sourced = λ source is. is; appears = record { each = λ q none. none }; commits = refl; infos = refl; job = refl; jobs = refl; copies = refl; version = refl }
   node_alone (Down d) = refl

@@ -18,12 +18,13 @@ use Rattle.cluster_places.specs.JobChanges.{given_back, AltersStates, AltersJob}
 use Rattle.cluster_places.specs.JobPlaces.{IsPrimaryAt, MovesOne}
 
 module _ {D : Type 0} where
-  -- the replica has no job any more, and is as before otherwise
+  -- the replica has no job of a point any more, and is as before otherwise
   pub record EndsJob (cells : D → Cells) (old new : ReplicaParts D) : Type 0 where
     pub alters : AltersJob cells old new
     pub none : new.job ≡ None
     pub jobs : new.jobs ≡ old.jobs
     pub seen : new.seen ≡ old.seen
+    pub copies : new.copies ≡ old.copies
 
   -- so it is of a node that is a replica, and any other is as before
   abbrev pub EndsNodeJob : (D → Cells) → Node D → Node D → Type 0

@@ -18,9 +18,13 @@ use Rattle.primary_parts.specs.declared.states.Out.{Out}
 use Rattle.primary_parts.specs.Primary.{IsPrimary}
 use Rattle.primary_parts.specs.States.{out_of, states_without, IsMetaIn}
 use Rattle.replica_parts.specs.declared.job.PointJob.{PointJob}
+use Rattle.replica_parts.specs.declared.merges.MergeCopies.{MergeCopies}
 use Rattle.replica_parts.specs.declared.parts.Parts.{Parts as ReplicaParts}
+use Rattle.replica_parts.specs.Merges.{copies_seen}
 use Rattle.replica_parts.specs.Replica.{IsWholeReplica, AreStanding}
 use Rattle.replica_parts.specs.Sources.{IsSourced, KeepsSource, IsWantedName}
+use Rattle.replica_precopies.specs.Overlapping.{copies_beside}
+use Rattle.replica_switches.specs.Parting.{pending_after}
 use Rattle.cluster_places.specs.declared.nodes.Place.{Place}
 use Rattle.cluster_places.specs.declared.nodes.Node.TheVariants.{Primary, Replica, Down}
 use Rattle.cluster_places.specs.Outs.{want_of}
@@ -30,6 +34,11 @@ use Rattle.cluster_places.specs.KeptFiles.{KeepsPrimaryFiles}
 abbrev pub given_back : Option Out → List Out → List Out
 given_back None states = states
 given_back (Some s) states = states_without s states
+
+-- what is left of the copies of merged segments and of pending files where a job begins on this state: nothing of an older generation, and no copy that
+-- copies a file of the state
+abbrev pub copies_begun : (seen : ℕ) → CopyState → MergeCopies → MergeCopies
+copies_begun seen state c = record (copies_seen seen state.primary_gen.0 c) { running = copies_beside (meta_names state.files) (copies_seen seen state.primary_gen.0 c).running }
 
 -- the next file of a job that is still to come, with the metadata that is wanted of it; none where it lacks none
 abbrev pub IsNextToFetch : Job → Option (Name × FileMetaData) → Type 0
@@ -74,9 +83,9 @@ module _ {D : Type 0} where
     pub whole : IsPrimary cells old → IsPrimary cells new
     pub files : KeepsPrimaryFiles cells old new
 
-  -- the replica is as before, but for its directory, where it wrote no name, its counts, what it has seen and its job
+  -- the replica is as before, but for its directory, where it wrote no name, its counts, what it has seen, its job and its copies of merged segments
   pub record AltersJob (cells : D → Cells) (old new : ReplicaParts D) : Type 0 where
-    pub others : new ≡ record old { dir = new.dir; files = new.files; seen = new.seen; jobs = new.jobs; job = new.job }
+    pub others : new ≡ record old { dir = new.dir; files = new.files; seen = new.seen; jobs = new.jobs; job = new.job; copies = new.copies }
     pub whole : IsWholeReplica cells old → IsWholeReplica cells new
     pub standing : AreStanding cells old → AreStanding cells new
     pub sourced : KeepsSource cells old new
@@ -97,13 +106,14 @@ module _ {D : Type 0} where
     pub jobs : s.jobs ≡ r.jobs + 1
     pub seen : s.seen ≡ p.point_infos.generation
     pub states : q.states ≡ given_back (want_of r.job) (p.states ++ out_of state ∷ [])
+    pub copies : s.copies ≡ copies_begun r.seen.0 state r.copies
 
   -- the replica searches the point of its job, which has ended, and the job's state was given back; what it wrote are names that the
   -- job wanted
   pub record FinishesAt (cells : D → Cells) (j : PointJob) (p q : PrimaryParts D) (r s : ReplicaParts D) : Type 0 where
     pub primary : AltersStates cells p q
     pub states : q.states ≡ states_without (out_of j.copy.want) p.states
-    pub others : s ≡ record r { dir = s.dir; files = s.files; searchers = s.searchers; infos = s.infos; segs = s.segs; job = s.job; known = s.known }
+    pub others : s ≡ record r { dir = s.dir; files = s.files; searchers = s.searchers; infos = s.infos; segs = s.segs; job = s.job; copies = s.copies; known = s.known }
     pub whole : IsWholeReplica cells s
     pub standing : AreStanding cells r → AreStanding cells s
     pub sourced : KeepsSource cells r s
@@ -111,6 +121,7 @@ module _ {D : Type 0} where
     pub infos : s.infos ≡ j.infos
     pub job : s.job ≡ None
     pub tickets : s.searchers.tickets ≡ r.searchers.tickets
+    pub copies : s.copies ≡ record r.copies { pending = pending_after (meta_names j.copy.want.files) j.copy.want.completed r.copies.pending }
     pub stands : (docs : List Doc) → StandsFor (reads_under j.copy.parts (reads_of (cells r.dir))) j.infos docs → StandsFor (reads_of (cells s.dir)) s.infos docs
 
   -- the part is in, or the job did not lack it: the replica is as before, but for its directory, where it wrote the part's temporary

@@ -37,7 +37,8 @@ module _ {D : Type 0} where
     pub point : new.point_infos ≡ new.infos
     pub states : new.states ≡ old.states
 
-  -- the replica wrote no name, its files read as at the source where they did, and its job and its point's version are those from before
+  -- the replica wrote no name, its files read as at the source where they did, and its jobs, the copies of merged segments and its point's
+  -- version are those from before
   pub record KeepsReplicaFiles (cells : D → Cells) (old new : ReplicaParts D) : Type 0 where
     pub sourced : KeepsSource cells old new
     pub appears : NoneAppears (cells old.dir) (cells new.dir)
@@ -45,6 +46,7 @@ module _ {D : Type 0} where
     pub infos : new.infos ≡ old.infos
     pub job : new.job ≡ old.job
     pub jobs : new.jobs ≡ old.jobs
+    pub copies : new.copies ≡ old.copies
     pub version : new.searchers.point.version ≡ old.searchers.point.version
 
   -- a call of a node left its files and its job as they were

@@ -1,6 +1,5 @@
 -- The files that a job lacks, and their metadata.
 use Rattle.std.proofs.Common.{◌≡◌, ◌≤◌, ◌<◌, ◌+◌, ℕ, zero, suc, Bool, true, false, true≢false, List, [], ◌∷◌, Some, None, Option, length, drop, get_or, slice_get, refl, ap, ◌∙◌, sym, subst, arith, if◌then◌else◌}
-use Rattle.std.specs.Prelude.{IfSome}
 use Rattle.disk_model.specs.Disk.{Name, same, is_among}
 use Rattle.disk_model.proofs.CellLemmas.{same_true}
 use Rattle.file_deleter.specs.Holdings.{times}
@@ -8,7 +7,6 @@ use Rattle.file_deleter.proofs.NameLemmas.{same_self, times-cons, among_times}
 use Rattle.copy_state.specs.declared.meta.FileMetaData.{FileMetaData}
 use Rattle.copy_state.specs.States.{meta_names, meta_in}
 use Rattle.copy_job.specs.Jobs.{Job, IsJob}
-use Rattle.replica_parts.specs.declared.job.PointJob.{PointJob}
 use Rattle.replica_parts.proofs.Metas.{some_meta}
 
 pub first_counted : (names : List Name) (q : Name) → Some q ≡ slice_get names 0 → 0 < times names q
@@ -60,18 +58,11 @@ meta_end [] (suc i) q low = refl
 meta_end (x ∷ xs) zero q low = absurd (omega (arith, low))
 meta_end (x ∷ xs) (suc i) q low = meta_end xs i q (omega (arith, low))
 
-pub part_lacked : (o : Option PointJob) (c : Job) (q : Name) → IfSome o (λ j. c ≡ j.copy) → is_among c.missing q ≡ true → IfSome o (λ j. 0 < times j.copy.missing q)
-part_lacked None c q is lacks = tt
-part_lacked (Some j) c q is lacks = subst (λ (x : Job). 0 < times x.missing q) is (among_times c.missing q lacks)
-
 -- a part that a job lacks has the metadata that is wanted of it, where that is of these bytes
-pub part_wanted : (o : Option PointJob) (c : Job) (q : Name) (meta : FileMetaData) → IfSome o (λ j. c ≡ j.copy) → IsJob c → is_among c.missing q ≡ true
-    → IfSome o (λ j. (m : FileMetaData) → meta_in j.copy.want.files q ≡ Some m → m ≡ meta) → IfSome o (λ j. meta_in j.copy.want.files q ≡ Some meta)
-part_wanted None c q meta is job lacks wanted = tt
-part_wanted (Some j) c q meta is job lacks wanted =
+pub part_wanted : (c : Job) (q : Name) (meta : FileMetaData) → IsJob c → is_among c.missing q ≡ true → ((m : FileMetaData) → meta_in c.want.files q ≡ Some m → m ≡ meta) → meta_in c.want.files q ≡ Some meta
+part_wanted c q meta job lacks wanted =
     let m = wanted_meta c q job (among_times c.missing q lacks) in
-    let there : meta_in j.copy.want.files q ≡ Some m.0 = ap (λ (x : Job). meta_in x.want.files q) (sym is) ∙ m.1 in
-    there ∙ ap Some (wanted m.0 there)
+    m.1 ∙ ap Some (wanted m.0 m.1)
 
 -- the metadata of the first file that a job lacks is there
 pub first_meta : (j : Job) (names : List Name) (files : List (Name × FileMetaData)) (q : Name) → IsJob j → names ≡ j.missing → Some q ≡ slice_get names 0 → files ≡ j.want.files → None ≡ meta_in files q → ⊥

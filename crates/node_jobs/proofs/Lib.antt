@@ -1,1 +1,2 @@
 mod JobFiles
+mod JobNumbers

@@ -1,6 +1,6 @@
 //! Jobs that copy the primary's point to a replica, in the terms of these two: begun, and ended.
 
-ghost use Rattle.std.specs.Prelude.{◌≡◌, ◌≤◌, ◌<◌, ◌+◌, ◌^◌, None, Some, true, IsSome, IfSome, IfOk, OnOk, []};
+ghost use Rattle.std.specs.Prelude.{◌≡◌, ◌≤◌, ◌<◌, ◌+◌, ◌^◌, Some, true, IsSome, IfSome, IfOk, OnOk, []};
 ghost use Rattle.disk_model.specs.Disk.{reads_of};
 ghost use Rattle.copy_state.specs.declared.meta.FileMetaData.{FileMetaData};
 ghost use Rattle.copy_state.specs.States.{meta_in};
@@ -9,7 +9,8 @@ ghost use Rattle.copy_job.specs.Jobs.{reads_under};
 ghost use Rattle.node_files.specs.Standing.{StandsForSome};
 ghost use Rattle.primary_parts.specs.States.{is_out};
 ghost use Rattle.cluster_places.specs.Outs.{want_of};
-ghost use Rattle.cluster_places.specs.JobChanges.{given_back, AltersStates, AltersJob, BeginsAt, FinishesAt, TakesPart};
+ghost use Rattle.cluster_places.specs.JobChanges.{BeginsAt, FinishesAt, TakesPart};
+ghost use Rattle.cluster_places.specs.Ends.{EndsJob, TakesBack};
 
 use crate::states::{lacks, share_state};
 use copy_job::Part;
@@ -17,7 +18,18 @@ use disk_model::Dir;
 use index_primary::Primary;
 use nrt_base::NoMemory;
 use replica_node::Replica;
+use replica_node::laws::point_runs;
 use std::alloc::{AllocError, Global};
+
+/// Ends the job of a replica that copies a point, where it has one.
+pub fn end_job<D: Dir + Drop>(replica: &mut Replica<D>)
+    ensures { EndsJob D.cells replica.old replica.new }
+{
+    let Some(job) = replica.job() else { return };
+    let number = job.number();
+    point_runs::<D>();
+    replica.fail(number);
+}
 
 // Ends the job of a replica, where it has one, and gives back the copy state that it was begun with.
 fn drop_job<D: Dir + Drop>(
@@ -26,20 +38,15 @@ fn drop_job<D: Dir + Drop>(
     replica: &mut Replica<D>,
 ) -> Result<(), NoMemory>
     requires { IfSome (want_of replica.old.job) (λ s. is_out s primary.old.states ≡ true) }
-    ensures primary { OnOk result (AltersStates D.cells primary.old primary.new) }
-    ensures states { OnOk result (primary.new.states
-        ≡ given_back (want_of replica.old.job) primary.old.states) }
-    ensures replica { OnOk result (AltersJob D.cells replica.old replica.new) }
-    ensures job { OnOk result (replica.new.job ≡ None) }
-    ensures seen { OnOk result (replica.new.seen ≡ replica.old.seen) }
-    ensures jobs { OnOk result (replica.new.jobs ≡ replica.old.jobs) }
+    ensures primary { OnOk result
+        (TakesBack D.cells (want_of replica.old.job) primary.old primary.new) }
+    ensures replica { OnOk result (EndsJob D.cells replica.old replica.new) }
 {
     let Some(job) = replica.job() else {
         return Ok(());
     };
     let state = share_state(alloc, job.want())?;
-    let number = job.number();
-    replica.fail(number);
+    end_job(replica);
     primary.give_back(state);
     Ok(())
 }
@@ -113,6 +120,7 @@ pub fn take_part<D: Dir + Drop>(replica: &mut Replica<D>, part: Part) -> Result<
         return Ok(());
     }
     let number = job.number();
+    point_runs::<D>();
     let Ok(()) = replica.arrived(number, part) else {
         return Err(AllocError);
     };

@@ -11,20 +11,16 @@ use Rattle.copy_state.specs.declared.state.CopyState.{CopyState}
 use Rattle.primary_parts.specs.declared.parts.Parts.{Parts as PrimaryParts}
 use Rattle.primary_parts.specs.declared.states.Out.{Out}
 use Rattle.primary_parts.specs.States.{is_out, out_of, states_without}
-use Rattle.replica_parts.specs.declared.parts.Parts.{Parts as ReplicaParts}
-use Rattle.replica_parts.specs.Replica.{IsWholeReplica, AreStanding}
-use Rattle.replica_parts.specs.Sources.{KeepsSource}
-use Rattle.node_files.specs.Appearing.{NoneAppears}
 use Rattle.cluster_places.specs.declared.held.Held.{Held}
 use Rattle.cluster_places.specs.declared.nodes.Node.{Node}
 use Rattle.cluster_places.specs.declared.nodes.Node.TheVariants.{Primary, Replica, Down}
 use Rattle.cluster_places.specs.declared.nodes.Place.{Place}
 use Rattle.cluster_places.specs.Places.{place_of, IsSlot, HasPrimary}
 use Rattle.cluster_places.specs.Outs.{want_at}
-use Rattle.cluster_places.specs.JobChanges.{given_back, AltersStates, AltersJob}
+use Rattle.cluster_places.specs.JobChanges.{given_back, AltersStates}
 use Rattle.cluster_places.specs.JobPlaces.{MovesOne}
-use Rattle.cluster_places.specs.Ends.{EndsJob, EndsNodeJob, EndsPlaceJob, TakesBack, CanTakeBack, TakesBackIn, Outlives, PlaceOutlives, EndsWith}
-use Rattle.cluster_places.proofs.Stepping.{alters_none, job_none}
+use Rattle.cluster_places.specs.Ends.{EndsNodeJob, EndsPlaceJob, TakesBack, CanTakeBack, TakesBackIn, Outlives, PlaceOutlives, EndsWith}
+use Rattle.cluster_places.proofs.Stepping.{alters_none}
 use Rattle.cluster_places.proofs.Slots.{place_set}
 use Rattle.cluster_places.proofs.Taking.{moved_one}
 
@@ -34,26 +30,6 @@ no_state None state none is = sym is
 no_state (Some s) state none is = absurd (none s refl)
 
 module _ {D : Type 0} (cells : D → Cells) where
-  -- ---- one replica
-
-  pub no_job_ends : (r : ReplicaParts D) → r.job ≡ None → EndsJob cells r r
-  no_job_ends r none = record { alters = job_none cells r; none = none; jobs = refl; seen = refl }
-
-  pub job_ends : (r s : ReplicaParts D) → s ≡ record r { dir = s.dir; files = s.files; job = s.job } → s.job ≡ None → IsWholeReplica cells s → (AreStanding cells r → AreStanding cells s) → KeepsSource cells r s
-      → NoneAppears (cells r.dir) (cells s.dir) → EndsJob cells r s
-  job_ends r s others none whole standing sourced appears = record {
-    alters = record {
-      others = others ∙ ap (λ (x : ReplicaParts D). record r { dir = s.dir; files = s.files; seen = x.seen; jobs = x.jobs; job = s.job }) (sym others);
-      whole = λ w. whole;
-      standing = standing;
-      sourced = sourced;
-      appears = appears;
-    };
-    none = none;
-    jobs = ap (λ (x : ReplicaParts D). x.jobs) others;
-    seen = ap (λ (x : ReplicaParts D). x.seen) others;
-  }
-
   -- ---- all places
 
   -- the first places have ended their jobs, and the others are as before

@@ -5,26 +5,17 @@ ghost use Rattle.std.specs.Option.{option_map};
 ghost use Rattle.primary_parts.specs.States.{out_of};
 ghost use Rattle.cluster_places.specs.Outs.{want_of, want_at};
 ghost use Rattle.cluster_places.specs.Places.{place_of, IsSlot};
-ghost use Rattle.cluster_places.specs.Ends.{EndsJob, EndsNodeJob, EndsPlaceJob, CanTakeBack, TakesBackIn, CanEnd, EndsWith};
+ghost use Rattle.cluster_places.specs.Ends.{EndsNodeJob, EndsPlaceJob, CanTakeBack, TakesBackIn, CanEnd, EndsWith};
 
 use cluster_places::{Node, Place, primary_in, put, take};
 use copy_state::CopyState;
 use disk_model::Dir;
-use node_jobs::share_state;
+use node_jobs::{end_job, share_state};
 use nrt_base::{NoMemory, NodeNo};
 use replica_node::Replica;
 use std::alloc::Global;
 
-// Ends the job of a replica, where it has one.
-fn end_job<D: Dir + Drop>(replica: &mut Replica<D>)
-    ensures { EndsJob D.cells replica.old replica.new }
-{
-    let Some(job) = replica.job() else { return };
-    let number = job.number();
-    replica.fail(number);
-}
-
-// The same of a node, where it is a replica.
+// Ends the job of a node that copies a point, where it is a replica and has one.
 fn end_node_job<D: Dir + Drop>(node: &mut Node<D>)
     ensures { EndsNodeJob D.cells node.old node.new }
 {

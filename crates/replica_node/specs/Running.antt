@@ -18,7 +18,7 @@ module _ {D : Type 0} where
 
   -- with this one in its place
   abbrev pub with_job : ℕ → Job → Parts D → Parts D
-  with_job number job p = if is_job_number number p.job then record p { job = option_map (λ j. record j { copy = job }) p.job } else record p { copies = record p.copies { running = copies_with number job p.copies.running } }
+  with_job number job p = if is_job_number number p.job then record p { job = option_map (λ (j : PointJob). record j { copy = job }) p.job } else record p { copies = record p.copies { running = copies_with number job p.copies.running } }
 
   -- without it
   abbrev pub without_job : ℕ → Parts D → Parts D

@@ -12,17 +12,18 @@ pub start_job-requires-clause-few : goal.start_job-requires-clause-few
 start_job-requires-clause-few g c =
     let low = c.if-begun.false in
     let now = c.jobs-begun.ensures in
-    let dropped = c.in_ok-drop_job.ensures.jobs in
+    let dropped = c.in_ok-drop_job.ensures.replica.jobs in
     let noted = ap (λ (r : ReplicaParts _). r.jobs) c.new_point.ensures.others in
     omega (arith, low, now, dropped, noted)
 
 pub returns : goal.returns
-returns g c = begins g.D.Dir.cells c.args.primary.now c.take_state.new.self c.drop_job.new.primary c.args.replica.now c.drop_job.new.replica c.new_point.new.self c.start_job.new.self c.in-Ok.state _ _ _
+returns g c = begins g.D.Dir.cells c.args.primary.now c.take_state.new.self c.drop_job.new.primary c.args.replica.now c.drop_job.new.replica c.new_point.new.self c.start_job.new.self c.in-Ok.state _ _ _ c.in-Ok-start_job.ensures.starts.mid.files
     c.in-Ok.ensures.state c.in-Ok.ensures.out
     (alters_by g.D.Dir.cells c.args.primary.now c.take_state.new.self c.take_state.ensures.stays c.take_state.ensures.no_new (none_by c.take_state.ensures.cells) c.take_state.ensures.others (λ w. c.take_state.ensures.whole))
-    c.in_ok-drop_job.ensures.primary c.in_ok-drop_job.ensures.states
-    c.in_ok-drop_job.ensures.replica c.in_ok-drop_job.ensures.seen c.in_ok-drop_job.ensures.jobs
-    c.new_point.ensures.seen (job_seen g.D.Dir.cells c.drop_job.new.replica c.new_point.new.self c.new_point.ensures.others (λ w. c.new_point.ensures.whole)) (ap (λ (r : ReplicaParts _). r.jobs) c.new_point.ensures.others)
-    (job_by g.D.Dir.cells c.new_point.new.self c.start_job.new.self c.start_job.ensures.others (λ w. c.start_job.ensures.whole) c.start_job.ensures.standing c.start_job.ensures.sourced)
+    c.in_ok-drop_job.ensures.primary c.in_ok-drop_job.ensures.replica
+    c.new_point.ensures.seen
+    (job_seen g.D.Dir.cells c.drop_job.new.replica c.new_point.new.self c.new_point.ensures.others (λ w. c.new_point.ensures.whole) c.new_point.ensures.standing c.new_point.ensures.sourced c.new_point.ensures.appears)
+    (ap (λ (r : ReplicaParts _). r.jobs) c.new_point.ensures.others) c.new_point.ensures.copies
+    (job_by g.D.Dir.cells c.new_point.new.self c.start_job.new.self c.start_job.ensures.others (λ w. c.start_job.ensures.whole) c.start_job.ensures.standing c.start_job.ensures.sourced c.start_job.ensures.appears)
     (ap (λ (r : ReplicaParts _). r.seen) c.start_job.ensures.others)
-    c.in-Ok-start_job.ensures.number c.in-Ok-start_job.ensures.jobs c.in-Ok-start_job.ensures.begun c.in-Ok-start_job.ensures.some c.requires.seen
+    c.in-Ok-start_job.ensures.number c.in-Ok-start_job.ensures.jobs c.in-Ok-start_job.ensures.starts.begun c.in-Ok-start_job.ensures.some c.start_job.ensures.copies c.requires.seen

@@ -1,13 +1,35 @@
-use Rattle.std.proofs.Common.{sym, arith}
-use Rattle.node_jobs.proofs.JobFiles.{part_lacked, part_wanted}
+use Rattle.std.proofs.Common.{◌≡◌, ◌<◌, sym, subst, arith, Some}
+use Rattle.file_deleter.specs.Holdings.{times}
+use Rattle.file_deleter.proofs.NameLemmas.{among_times}
+use Rattle.copy_state.specs.declared.meta.FileMetaData.{FileMetaData}
+use Rattle.copy_state.specs.States.{meta_in}
+use Rattle.copy_job.specs.Jobs.{Job}
+use Rattle.node_jobs.proofs.JobFiles.{part_wanted}
+use Rattle.node_jobs.proofs.JobNumbers.{runs_point, some_runs, all_runs, copy_has, point_arrived}
 use Rattle.cluster_places.proofs.Stepping.{takes_in}
 use Rattle.node_jobs.proofs.jobs.take_part.Goals as goal
 
+pub arrived-requires-clause-runs : goal.arrived-requires-clause-runs
+arrived-requires-clause-runs g c = some_runs c.number-number.result c.in-Some.job.now c.args.replica.now (runs_point c.point_runs.ensures c.number-number.result c.in-Some.job.now c.args.replica.now c.requires.some c.in-Some.ensures.job c.number-number.ensures)
+
 pub arrived-requires-clause-missing : goal.arrived-requires-clause-missing
-arrived-requires-clause-missing g c = part_lacked c.args.replica.now.job c.in-Some.job.now c.args.part.name c.in-Some.ensures.job (sym c.if-not-lacks.ensures.is)
+arrived-requires-clause-missing g c =
+    all_runs (λ (j : Job). 0 < times j.missing c.args.part.name) c.number-number.result c.in-Some.job.now c.args.replica.now
+    (runs_point c.point_runs.ensures c.number-number.result c.in-Some.job.now c.args.replica.now c.requires.some c.in-Some.ensures.job c.number-number.ensures)
+    (among_times c.in-Some.job.now.missing c.args.part.name (sym c.if-not-lacks.ensures.is))
 
 pub arrived-requires-clause-wanted : goal.arrived-requires-clause-wanted
-arrived-requires-clause-wanted g c = part_wanted c.args.replica.now.job c.in-Some.job.now c.args.part.name c.args.part.meta c.in-Some.ensures.job c.lacks.ensures.job (sym c.if-not-lacks.ensures.is) c.requires.wanted
+arrived-requires-clause-wanted g c =
+    let is = runs_point c.point_runs.ensures c.number-number.result c.in-Some.job.now c.args.replica.now c.requires.some c.in-Some.ensures.job c.number-number.ensures in
+    all_runs (λ (j : Job). meta_in j.want.files c.args.part.name ≡ Some c.args.part.meta) c.number-number.result c.in-Some.job.now c.args.replica.now is
+    (part_wanted c.in-Some.job.now c.args.part.name c.args.part.meta c.lacks.ensures.job (sym c.if-not-lacks.ensures.is)
+    (copy_has (λ (j : Job). (m : FileMetaData) → meta_in j.want.files c.args.part.name ≡ Some m → m ≡ c.args.part.meta) c.number-number.result c.in-Some.job.now c.args.replica.now is c.requires.wanted))
 
 pub returns : goal.returns
-returns g c = takes_in g.D.Dir.cells c.args.part c.args.replica.now c.arrived.new.self c.in-Ok.ensures.others c.in-Ok.ensures.whole c.in-Ok.ensures.standing c.in-Ok.ensures.sourced c.in-Ok.ensures.ok c.in-Some.job.now c.number-number.result c.in-Some.ensures.job c.number-number.ensures (omega (arith, c.number-number.type_inv)) (part_lacked c.args.replica.now.job c.in-Some.job.now c.args.part.name c.in-Some.ensures.job (sym c.if-not-lacks.ensures.is)) c.in-Ok.ensures.appears
+returns g c =
+    let is = runs_point c.point_runs.ensures c.number-number.result c.in-Some.job.now c.args.replica.now c.requires.some c.in-Some.ensures.job c.number-number.ensures in
+    takes_in g.D.Dir.cells c.args.part c.args.replica.now c.arrived.new.self is.job c.number-number.result is.there
+    (point_arrived c.number-number.result c.in-Some.job.now c.args.replica.now c.arrived.new.self c.args.part.name is c.in-Ok.ensures.ok)
+    c.in-Ok.ensures.whole c.in-Ok.ensures.standing c.in-Ok.ensures.sourced is.number_is (omega (arith, c.number-number.type_inv))
+    (subst (λ (j : Job). 0 < times j.missing c.args.part.name) is.copy (among_times c.in-Some.job.now.missing c.args.part.name (sym c.if-not-lacks.ensures.is)))
+    c.in-Ok.ensures.appears
