@@ -1,15 +1,17 @@
 -- The merges in flight once one has started, gone on or ended, and how many tasks may still come.
-use Rattle.std.proofs.Common.{◌≡◌, ◌≢◌, ◌≤◌, ◌<◌, ◌+◌, ◌++◌, ◌==◌, ◌&&◌, ◌||◌, ℕ, zero, suc, Bool, true, false, List, [], ◌∷◌, Some, None, Option, length, refl, ap, ◌∙◌, sym, subst, arith, if◌then◌else◌}
-use Rattle.std.specs.Prelude.{not, slice_set}
+use Rattle.std.proofs.Common.{◌≡◌, ◌≢◌, ◌≤◌, ◌<◌, ◌+◌, ◌++◌, ◌==◌, ◌&&◌, ◌||◌, ℕ, zero, suc, Bool, true, false, List, [], ◌∷◌, Some, None, Option, length, get_or, refl, ap, ◌∙◌, sym, subst, arith, if◌then◌else◌}
+use Rattle.std.specs.Prelude.{not, slice_set, IsSome, is_some}
+use Rattle.std.proofs.lemmas.Bool.{false≢true}
 use Rattle.std.specs.List.{filter, slice_get}
 use Rattle.std.specs.Option.{option_map}
 use Rattle.std.proofs.lemmas.Bool.Decides.{nat_tests}
+use Rattle.std.proofs.lemmas.Option.{slice_get-get_or}
 use Rattle.nrt_base.specs.declared.numbers.LineNo.{LineNo}
 use Rattle.history_tables.proofs.RowLemmas.{by_test}
 use Rattle.cluster_tasks.specs.declared.tasks.OpenMerge.{OpenMerge}
 use Rattle.cluster_tasks.specs.declared.tasks.Sent.{Sent}
 use Rattle.cluster_tasks.specs.declared.tasks.Spread.{Spread}
-use Rattle.cluster_tasks.specs.Board.{open_merge, merge_at, spread_at, with_spread, without_merge, is_sent_in, without_sent, due_of, due_all}
+use Rattle.cluster_tasks.specs.Board.{open_merge, merge_at, spread_at, with_spread, without_merge, is_sent_in, without_sent, settled, due_of, due_all}
 
 -- the line of a merge
 abbrev pub line_told : Option OpenMerge → Option LineNo
@@ -145,3 +147,30 @@ place_set (q ∷ rows) seg spread r is =
     (λ here is. let same : q ≡ r = cc in ap (λ (z : OpenMerge). record z { spread = spread } ∷ rows) (sym same))
     (λ apart is. ap (λ (l : List OpenMerge). q ∷ l) (place_set rows seg spread r is))
     is
+
+-- the row that is read at its place
+pub row_read : (rows : List OpenMerge) (seg at : ℕ) (v d : OpenMerge) → open_merge seg rows ≢ None → at ≡ merge_at seg rows → v ≡ get_or rows at d → open_merge seg rows ≡ Some v
+row_read rows seg at v d there is value =
+    let within = place_inside rows seg there in
+    sym (place_get rows seg) ∙ (slice_get-get_or rows (merge_at seg rows) d within ∙ ap Some (ap (λ (k : ℕ). get_or rows k d) (sym is) ∙ sym value))
+
+-- and the rows once it is written
+pub row_written : (rows : List OpenMerge) (seg at : ℕ) (v d : OpenMerge) (spread : Option Spread) → open_merge seg rows ≢ None → at ≡ merge_at seg rows → v ≡ get_or rows at d
+    → slice_set rows at (record { seg = v.seg; line = v.line; spread = spread }) ≡ with_spread seg spread rows
+row_written rows seg at v d spread there is value =
+    ap (λ (k : ℕ). slice_set rows k (record { seg = v.seg; line = v.line; spread = spread })) is ∙ place_set rows seg spread v (row_read rows seg at v d there is value)
+
+-- a merge of which something is written is in flight
+pub some_open : (rows : List OpenMerge) (seg : ℕ) → IsSome (spread_at (open_merge seg rows)) → open_merge seg rows ≢ None
+some_open rows seg some none = absurd (false≢true (sym (ap (λ (o : Option OpenMerge). is_some (spread_at o)) none) ∙ some))
+
+-- it is there also once that was taken
+pub taken_open : (rows taken : List OpenMerge) (seg : ℕ) → IsSome (spread_at (open_merge seg rows)) → taken ≡ with_spread seg None rows → open_merge seg taken ≢ None
+taken_open rows taken seg some is = λ none. there_with rows seg None (some_open rows seg some) (sym (ap (open_merge seg) is) ∙ none)
+
+-- a copy of it has ended
+pub settled_rows : (rows taken new : List OpenMerge) (seg n job : ℕ) (spread : Spread) (left : List Sent) → taken ≡ with_spread seg None rows → Some spread ≡ spread_at (open_merge seg rows) → left ≡ without_sent n job spread.left
+    → new ≡ with_spread seg (Some (record { state = spread.state; left = left })) taken → new ≡ with_spread seg (settled n job (spread_at (open_merge seg rows))) rows
+settled_rows rows taken new seg n job spread left took was less is =
+    is ∙ (ap (λ (l : List OpenMerge). with_spread seg (Some (record { state = spread.state; left = left })) l) took ∙ (with_last rows seg (Some (record { state = spread.state; left = left })) None
+    ∙ (ap (λ (l : List Sent). with_spread seg (Some (record { state = spread.state; left = l })) rows) less ∙ ap (λ (o : Option Spread). with_spread seg (settled n job o) rows) was)))

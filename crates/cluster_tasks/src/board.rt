@@ -176,11 +176,12 @@ impl Tasks {
         let Spread { state, left } = spread;
         let mut left = left.into_vec();
         leave_sent(&mut left, n, job);
-        if left.is_empty() {
-            self.post_cut(seg, line)?;
-        }
+        let is_last = left.is_empty();
         let left = List::from_vec(left);
         set_spread(&mut self.rows, seg, Some(Spread { state, left }));
+        if is_last {
+            self.post_cut(seg, line)?;
+        }
         Ok(())
     }
 

@@ -42,7 +42,7 @@ fn place_of(rows: &[OpenMerge], seg: SegNo) -> usize
 }
 
 /// The merge into a segment has these files written, or none.
-#[tactic(auto, using(crate::proofs::BoardRows::place_inside, crate::proofs::BoardRows::place_get, crate::proofs::BoardRows::place_set))]
+#[tactic(auto, using(crate::proofs::BoardRows::place_inside))]
 pub(crate) fn set_spread(rows: &mut Vec<OpenMerge>, seg: SegNo, spread: Option<Spread>)
     requires { open_merge seg.0 rows.old.items ≢ None }
     ensures { rows.new.items ≡ with_spread seg.0 spread rows.old.items }
@@ -52,7 +52,7 @@ pub(crate) fn set_spread(rows: &mut Vec<OpenMerge>, seg: SegNo, spread: Option<S
 }
 
 /// Takes what was written of the merge into a segment, and leaves nothing of it.
-#[tactic(auto, using(crate::proofs::BoardRows::place_inside, crate::proofs::BoardRows::place_get, crate::proofs::BoardRows::place_set))]
+#[tactic(auto, using(crate::proofs::BoardRows::place_inside))]
 pub(crate) fn take_spread(rows: &mut Vec<OpenMerge>, seg: SegNo) -> Option<Spread>
     requires { open_merge seg.0 rows.old.items ≢ None }
     ensures spread { result ≡ spread_at (open_merge seg.0 rows.old.items) }
