@@ -34,7 +34,7 @@ use Rattle.searcher_switch.specs.declared.searchers.Searchers.{Searchers}
 use Rattle.searcher_switch.specs.Tickets.{ticket_at, ticket_names}
 use Rattle.searcher_switch.specs.Searching.{searcher_names}
 use Rattle.primary_parts.specs.Primary.{primary_names, rest_names, loose_of}
-use Rattle.replica_parts.specs.Replica.{replica_names, names_of_job}
+use Rattle.replica_parts.specs.Replica.{replica_names, copying_names}
 use Rattle.history_entries.specs.declared.entry.Event.TheVariants.{Files}
 use Rattle.history_entries.specs.Nodes.{Past, IsNode, is_running, version_of}
 use Rattle.history_entries.specs.Points.{documents_at}
@@ -204,7 +204,7 @@ module _ {D : Type 0} (cells : D → Cells) where
   node_lists source size log at n (Replica r) held names node running shows holds shown disk told spared =
       may_list (printed log) (cells r.dir) names told size at n r.searchers held [] node running shown (replica_named cells r shows.whole) shows.point holds
       (λ q some. counted_there (cells r.dir) r.files (replica_names r) r.commits q shows.whole.node
-      (let all : times (replica_names r) q ≡ times (searcher_names r.searchers) q + times (names_of_job r.job) q = times-append (searcher_names r.searchers) (names_of_job r.job) q in omega (arith, all, some)))
+      (let all : times (replica_names r) q ≡ times (searcher_names r.searchers) q + times (copying_names r) q = times-append (searcher_names r.searchers) (copying_names r) q in omega (arith, all, some)))
       (λ is. commit_there (cells r.dir) r.files (replica_names r) r.commits shows.whole.node (disk.book.has is)) spared
   node_lists source size log at n (Down d) held names node running shows holds shown disk told spared = absurd (true≢false (sym running ∙ shows.down))
 

@@ -1,7 +1,7 @@
 -- What files mean, where names get a meaning that had none.
 use Rattle.std.proofs.Common.{◌≡◌, ◌≤◌, ◌<◌, ℕ, zero, suc, Bool, true, false, true≢false, List, [], ◌∷◌, Some, None, Option, is_some, refl, ap, ◌∙◌, sym, subst, arith, if◌then◌else◌}
 use Rattle.std.specs.Prelude.{IfSome, nat_lt}
-use Rattle.std.specs.List.{All, AllZip}
+use Rattle.std.specs.List.{All, AllZip, AllByRecursion}
 use Rattle.std.specs.Option.{option_or}
 use Rattle.std.proofs.lemmas.List.Elements.{All-contains}
 use Rattle.std.proofs.lemmas.Bool.{lt-ltb}
@@ -15,13 +15,14 @@ use Rattle.seg_reader.specs.Shown.{Shown}
 use Rattle.seg_reader.specs.Stands.{IsLiveFileIn, IsSegmentIn, StandsFor}
 use Rattle.copy_state.specs.declared.meta.FileMetaData.{FileMetaData}
 use Rattle.copy_state.specs.States.{meta_in}
+use Rattle.copy_job.specs.Jobs.{Job as CopyingJob}
 use Rattle.primary_parts.specs.declared.parts.Parts.{Parts as PrimaryParts}
 use Rattle.primary_parts.specs.declared.states.Out.{Out}
 use Rattle.primary_parts.specs.Primary.{IsPrimary}
 use Rattle.replica_opening.specs.Known.{IsLasting, HasMeta}
 use Rattle.replica_parts.specs.declared.job.PointJob.{PointJob}
 use Rattle.replica_parts.specs.declared.parts.Parts.{Parts as ReplicaParts}
-use Rattle.replica_parts.specs.Replica.{IsWholeReplica, HasMetas}
+use Rattle.replica_parts.specs.Replica.{IsWholeReplica, HasMetas, IsMergeCopy}
 use Rattle.replica_parts.specs.Sources.{CopiesFrom, HeldReadAs, IsSourced}
 use Rattle.replica_parts.proofs.Metas.{listed_meta, some_meta}
 use Rattle.history_entries.specs.Nodes.{Past}
@@ -105,20 +106,28 @@ module _ {D : Type 0} (cells : D → Cells) (source wider : Name → Content) (m
         is ∙ sym (some_wider source wider q more there);
   }
 
-  job_wider : (reads : Name → Content) (o : Option PointJob) → IfSome o (λ j. HasMetas reads j.copy) → IfSome o (λ j. CopiesFrom source reads j.copy) → IfSome o (λ j. CopiesFrom wider reads j.copy)
-  job_wider reads None has was = was
-  job_wider reads (Some j) has was = record {
+  copies_wider : (reads : Name → Content) (j : CopyingJob) → HasMetas reads j → CopiesFrom source reads j → CopiesFrom wider reads j
+  copies_wider reads j has was = record {
     each = λ q wanted here.
         let is = was.each q wanted here in
-        let meta = some_meta j.copy.want.files q wanted in
+        let meta = some_meta j.want.files q wanted in
         let h = has.each q meta.0 meta.1 here in
         is ∙ sym (some_wider source wider q more (ap is_some (sym is ∙ h.there)));
   }
+
+  job_wider : (reads : Name → Content) (o : Option PointJob) → IfSome o (λ j. HasMetas reads j.copy) → IfSome o (λ j. CopiesFrom source reads j.copy) → IfSome o (λ j. CopiesFrom wider reads j.copy)
+  job_wider reads None has was = was
+  job_wider reads (Some j) has was = copies_wider reads j.copy has was
+
+  merges_wider : (at : Cells) (holdings : Holdings) (jobs : ℕ) (cs : List CopyingJob) → AllByRecursion (IsMergeCopy at holdings jobs) cs → AllByRecursion (CopiesFrom source (reads_of at)) cs → AllByRecursion (CopiesFrom wider (reads_of at)) cs
+  merges_wider at holdings jobs [] are was = was
+  merges_wider at holdings jobs (c ∷ cs) are was = (copies_wider (reads_of at) c are.0.copied was.0, merges_wider at holdings jobs cs are.1 was.1)
 
   pub sourced_wider : (r : ReplicaParts D) → IsWholeReplica cells r → IsSourced source cells r → IsSourced wider cells r
   sourced_wider r whole was = record {
     held = held_wider r whole was.held;
     job = job_wider (reads_of (cells r.dir)) r.job whole.copied was.job;
+    merges = merges_wider (cells r.dir) r.files r.jobs r.copies.running whole.merges.each was.merges;
   }
 
 -- what the log shows of a job
