@@ -7,11 +7,12 @@ use Rattle.std.specs.Option.{option_map}
 use Rattle.std.proofs.lemmas.Bool.Decides.{nat_tests}
 use Rattle.std.proofs.lemmas.Option.{slice_get-get_or}
 use Rattle.nrt_base.specs.declared.numbers.LineNo.{LineNo}
+use Rattle.nrt_base.specs.declared.numbers.NodeNo.{NodeNo}
 use Rattle.history_tables.proofs.RowLemmas.{by_test}
 use Rattle.cluster_tasks.specs.declared.tasks.OpenMerge.{OpenMerge}
 use Rattle.cluster_tasks.specs.declared.tasks.Sent.{Sent}
 use Rattle.cluster_tasks.specs.declared.tasks.Spread.{Spread}
-use Rattle.cluster_tasks.specs.Board.{open_merge, merge_at, spread_at, with_spread, without_merge, is_sent_in, without_sent, settled, due_of, due_all}
+use Rattle.cluster_tasks.specs.Board.{open_merge, merge_at, spread_at, with_spread, without_merge, is_sent_in, without_sent, sent_more, all_sent, settled, due_of, due_all}
 
 -- the line of a merge
 abbrev pub line_told : Option OpenMerge → Option LineNo
@@ -168,9 +169,71 @@ some_open rows seg some none = absurd (false≢true (sym (ap (λ (o : Option Ope
 pub taken_open : (rows taken : List OpenMerge) (seg : ℕ) → IsSome (spread_at (open_merge seg rows)) → taken ≡ with_spread seg None rows → open_merge seg taken ≢ None
 taken_open rows taken seg some is = λ none. there_with rows seg None (some_open rows seg some) (sym (ap (open_merge seg) is) ∙ none)
 
--- a copy of it has ended
+-- what was taken is put back so
+pub put_again : (rows taken new : List OpenMerge) (seg : ℕ) (spread : Option Spread) → taken ≡ with_spread seg None rows → new ≡ with_spread seg spread taken → new ≡ with_spread seg spread rows
+put_again rows taken new seg spread took is = is ∙ (ap (λ (l : List OpenMerge). with_spread seg spread l) took ∙ with_last rows seg spread None)
+
+-- one copy more has begun
+pub sent_rows : (rows taken new : List OpenMerge) (seg : ℕ) (n : NodeNo) (job : ℕ) (spread : Spread) (left : List Sent) → taken ≡ with_spread seg None rows → Some spread ≡ spread_at (open_merge seg rows)
+    → left ≡ spread.left ++ record { node = n; job = job } ∷ [] → new ≡ with_spread seg (Some (record spread { left = left })) taken → new ≡ with_spread seg (sent_more n job (spread_at (open_merge seg rows))) rows
+sent_rows rows taken new seg n job spread left took was more is =
+    put_again rows taken new seg (Some (record spread { left = left })) took is
+    ∙ (ap (λ (l : List Sent). with_spread seg (Some (record spread { left = l })) rows) more ∙ ap (λ (o : Option Spread). with_spread seg (sent_more n job o) rows) was)
+
+-- all copies have begun
+pub all_rows : (rows taken new : List OpenMerge) (seg : ℕ) (spread : Spread) → taken ≡ with_spread seg None rows → Some spread ≡ spread_at (open_merge seg rows)
+    → new ≡ with_spread seg (Some (record spread { all = true })) taken → new ≡ with_spread seg (all_sent (spread_at (open_merge seg rows))) rows
+all_rows rows taken new seg spread took was is = put_again rows taken new seg (Some (record spread { all = true })) took is ∙ ap (λ (o : Option Spread). with_spread seg (all_sent o) rows) was
+
+-- a copy has ended
 pub settled_rows : (rows taken new : List OpenMerge) (seg n job : ℕ) (spread : Spread) (left : List Sent) → taken ≡ with_spread seg None rows → Some spread ≡ spread_at (open_merge seg rows) → left ≡ without_sent n job spread.left
-    → new ≡ with_spread seg (Some (record { state = spread.state; left = left })) taken → new ≡ with_spread seg (settled n job (spread_at (open_merge seg rows))) rows
+    → new ≡ with_spread seg (Some (record spread { left = left })) taken → new ≡ with_spread seg (settled n job (spread_at (open_merge seg rows))) rows
 settled_rows rows taken new seg n job spread left took was less is =
-    is ∙ (ap (λ (l : List OpenMerge). with_spread seg (Some (record { state = spread.state; left = left })) l) took ∙ (with_last rows seg (Some (record { state = spread.state; left = left })) None
-    ∙ (ap (λ (l : List Sent). with_spread seg (Some (record { state = spread.state; left = l })) rows) less ∙ ap (λ (o : Option Spread). with_spread seg (settled n job o) rows) was)))
+    put_again rows taken new seg (Some (record spread { left = left })) took is
+    ∙ (ap (λ (l : List Sent). with_spread seg (Some (record spread { left = l })) rows) less ∙ ap (λ (o : Option Spread). with_spread seg (settled n job o) rows) was)
+
+-- ---- what is due once a copy has begun, all have, or one has ended
+
+pub due_written : (size : ℕ) (rows : List OpenMerge) (seg : ℕ) (r : OpenMerge) (s : Spread) → open_merge seg rows ≡ Some r → r.spread ≡ None → s.all ≡ false → due_all size (with_spread seg (Some s) rows) ≡ due_all size rows
+due_written size rows seg r s is none all =
+    let move = due_with size rows seg (Some s) r is in
+    let was : due_of size r.spread ≡ size + 1 = ap (due_of size) none in
+    let now : due_of size (Some s) ≡ size + 1 = ap (λ (b : Bool). if b then length s.left + 1 else size + 1) all in
+    omega (arith, move, was, now)
+
+pub due_sent : (size : ℕ) (rows : List OpenMerge) (seg : ℕ) (r : OpenMerge) (s : Spread) (n : NodeNo) (job : ℕ) → open_merge seg rows ≡ Some r → r.spread ≡ Some s → s.all ≡ false
+    → due_all size (with_spread seg (sent_more n job r.spread) rows) ≡ due_all size rows
+due_sent size rows seg r s n job is some all =
+    let move = due_with size rows seg (sent_more n job r.spread) r is in
+    let was : due_of size r.spread ≡ size + 1 = ap (due_of size) some ∙ ap (λ (b : Bool). if b then length s.left + 1 else size + 1) all in
+    let now : due_of size (sent_more n job r.spread) ≡ size + 1 =
+    ap (λ (o : Option Spread). due_of size (sent_more n job o)) some ∙ ap (λ (b : Bool). if b then length (s.left ++ record { node = n; job = job } ∷ []) + 1 else size + 1) all in
+    omega (arith, move, was, now)
+
+-- the task to build ends, where fewer copies were sent than there are nodes
+pub due_posted : (size : ℕ) (rows : List OpenMerge) (seg : ℕ) (r : OpenMerge) (s : Spread) → open_merge seg rows ≡ Some r → r.spread ≡ Some s → s.all ≡ false → length s.left < size
+    → 1 + due_all size (with_spread seg (all_sent r.spread) rows) ≤ due_all size rows
+due_posted size rows seg r s is some all few =
+    let move = due_with size rows seg (all_sent r.spread) r is in
+    let was : due_of size r.spread ≡ size + 1 = ap (due_of size) some ∙ ap (λ (b : Bool). if b then length s.left + 1 else size + 1) all in
+    let now : due_of size (all_sent r.spread) ≡ length s.left + 1 = ap (λ (o : Option Spread). due_of size (all_sent o)) some in
+    omega (arith, move, was, now, few)
+
+-- a copy ends that was among those of a merge
+pub due_settled : (size : ℕ) (rows : List OpenMerge) (seg : ℕ) (r : OpenMerge) (s : Spread) (n job : ℕ) → open_merge seg rows ≡ Some r → r.spread ≡ Some s → s.all ≡ true → is_sent_in n job s.left ≡ true
+    → 1 + due_all size (with_spread seg (settled n job r.spread) rows) ≤ due_all size rows
+due_settled size rows seg r s n job is some all sent =
+    let move = due_with size rows seg (settled n job r.spread) r is in
+    let less = sent_less s.left n job sent in
+    let was : due_of size r.spread ≡ length s.left + 1 = ap (due_of size) some ∙ ap (λ (b : Bool). if b then length s.left + 1 else size + 1) all in
+    let now : due_of size (settled n job r.spread) ≡ length (without_sent n job s.left) + 1 =
+    ap (λ (o : Option Spread). due_of size (settled n job o)) some ∙ ap (λ (b : Bool). if b then length (without_sent n job s.left) + 1 else size + 1) all in
+    omega (arith, move, was, now, less)
+
+-- a merge is cut over
+pub due_closed : (size : ℕ) (rows : List OpenMerge) (seg : ℕ) (r : OpenMerge) → open_merge seg rows ≡ Some r → 1 + due_all size (without_merge seg rows) ≤ due_all size rows
+due_closed size rows seg r is = let less = due_without size rows seg r is in let one = at_least r.spread in omega (arith, less, one)
+  where
+    at_least : (o : Option Spread) → 1 ≤ due_of size o
+    at_least None = omega arith
+    at_least (Some s) = elim s.all as (λ b. 1 ≤ (if b then length s.left + 1 else size + 1)) [ true ↦ omega arith | false ↦ omega arith ]

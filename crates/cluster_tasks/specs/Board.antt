@@ -4,6 +4,7 @@ use Rattle.std.specs.List.{All, filter, list_any}
 use Rattle.std.specs.Option.{option_map}
 use Rattle.nrt_base.specs.declared.numbers.At.{At}
 use Rattle.nrt_base.specs.declared.numbers.LineNo.{LineNo}
+use Rattle.nrt_base.specs.declared.numbers.NodeNo.{NodeNo}
 use Rattle.nrt_base.specs.declared.numbers.SegNo.{SegNo}
 use Rattle.seg_merge.specs.declared.task.MergeTask.{MergeTask}
 use Rattle.history_entries.specs.Tasks.{merge_count, drained_count}
@@ -71,15 +72,30 @@ abbrev pub left_at : Option Spread → List Sent
 left_at None = []
 left_at (Some s) = s.left
 
--- files are written, and all their copies have ended
+-- none of these copies is left
+abbrev pub is_none_left : List Sent → Bool
+is_none_left [] = true
+is_none_left (s ∷ left) = false
+
+-- files are written, and all their copies have begun and ended
 abbrev pub is_copied : Option Spread → Bool
 is_copied None = false
-is_copied (Some s) = elim s.left [ [] ↦ true | a ∷ more ↦ false ]
+is_copied (Some s) = s.all && is_none_left s.left
+
+-- a copy has begun
+abbrev pub sent_more : NodeNo → ℕ → Option Spread → Option Spread
+sent_more n job None = None
+sent_more n job (Some s) = Some (record s { left = s.left ++ record { node = n; job = job } ∷ [] })
+
+-- all have begun
+abbrev pub all_sent : Option Spread → Option Spread
+all_sent None = None
+all_sent (Some s) = Some (record s { all = true })
 
 -- a copy has ended
 abbrev pub settled : ℕ → ℕ → Option Spread → Option Spread
 settled n job None = None
-settled n job (Some s) = Some (record { state = s.state; left = without_sent n job s.left })
+settled n job (Some s) = Some (record s { left = without_sent n job s.left })
 
 -- the task to build a merged segment
 abbrev pub posted_merge : SegNo → LineNo → MergeTask → Posted
@@ -100,10 +116,10 @@ step_of (Merge task) = MergeStep
 step_of (PreCopy n job) = PreCopyStep n job
 step_of Cut = CutStep
 
--- how many tasks of a merge may still come: before its files are written one to build it, one for each node and one to cut over
+-- how many tasks of a merge may still come: before its copies have begun one to build it, one for each node and one to cut over
 abbrev pub due_of : ℕ → Option Spread → ℕ
 due_of size None = size + 1
-due_of size (Some s) = length s.left + 1
+due_of size (Some s) = if s.all then length s.left + 1 else size + 1
 
 -- the same of all merges in flight
 abbrev pub due_all : ℕ → List OpenMerge → ℕ

@@ -1,7 +1,8 @@
 //! The tasks that are posted, and the merges in flight.
 
-ghost use Rattle.std.specs.Prelude.{◌≡◌, ◌≢◌, ◌∷◌, ◌++◌, [], true, None, Some, IsSome, OnOk, MatchOption};
-ghost use Rattle.cluster_tasks.specs.Board.{open_merge, spread_at, with_spread, without_merge, is_sent_to, is_unwritten, is_copied, left_at, settled, posts_of, post_after, posted_merge};
+ghost use Rattle.std.specs.Prelude.{◌≡◌, ◌≢◌, ◌∷◌, ◌++◌, [], true, false, None, Some, IsSome, OnOk, MatchOption};
+ghost use Rattle.std.specs.Option.{option_map};
+ghost use Rattle.cluster_tasks.specs.Board.{open_merge, spread_at, with_spread, without_merge, is_sent_to, is_unwritten, is_copied, left_at, sent_more, all_sent, settled, posts_of, post_after, posted_merge};
 
 use crate::rows::{is_among, leave_out, leave_sent, merge_in, set_spread, take_spread};
 use crate::tasks::{OpenMerge, Posted, Sent, Spread, TaskKind};
@@ -102,7 +103,7 @@ impl Tasks {
         }
     }
 
-    /// Whether a merge is in flight whose files are written and whose copies have all ended.
+    /// Whether a merge is in flight whose files are written, and whose copies have all begun and ended.
     pub fn is_copied(&self, seg: SegNo) -> bool
         ensures { result ≡ is_copied (spread_at (open_merge seg.0 self.now.rows)) }
     {
@@ -110,7 +111,7 @@ impl Tasks {
             None => false,
             Some(row) => match &row.spread {
                 None => false,
-                Some(spread) => spread.left.as_slice().is_empty(),
+                Some(spread) => spread.all && spread.left.as_slice().is_empty(),
             },
         }
     }
@@ -137,26 +138,68 @@ impl Tasks {
         Ok(())
     }
 
-    /// The files of a merge are written, and copies of them have begun: a task is posted for each, or, where there is none, the one to
-    /// cut over.
-    pub fn spread(
-        &mut self,
-        seg: SegNo,
-        line: LineNo,
-        state: CopyState,
-        left: List<Sent>,
-    ) -> Result<(), NoMemory>
+    /// The files of a merge are written, as this copy state says, and no copy of them has begun.
+    pub fn write(&mut self, alloc: Global, seg: SegNo, state: CopyState)
         requires { open_merge seg.0 self.old.rows ≢ None }
-        ensures rows { OnOk result (self.new.rows ≡ with_spread seg.0
-            (Some (record { state = state; left = left })) self.old.rows) }
-        ensures posted { OnOk result (self.new.posted ≡ (self.old.posted
-            ++ posts_of seg line left) ++ post_after seg line left) }
+        ensures rows { self.new.rows ≡ with_spread seg.0
+            (Some (record { state = state; left = []; all = false })) self.old.rows }
+        ensures posted { self.new.posted ≡ self.old.posted }
     {
+        let left = List::new(alloc);
+        let all = false;
+        set_spread(&mut self.rows, seg, Some(Spread { state, left, all }));
+    }
+
+    /// The copy state of a merge whose files are written.
+    pub fn state(&self, seg: SegNo) -> Option<&CopyState>
+        ensures { option_map (λ s. s.now) result
+            ≡ option_map (λ s. s.state) (spread_at (open_merge seg.0 self.now.rows)) }
+    {
+        match merge_in(self.rows.as_slice(), seg) {
+            None => None,
+            Some(row) => match &row.spread {
+                None => None,
+                Some(spread) => Some(&spread.state),
+            },
+        }
+    }
+
+    /// A copy of a merged segment to a node has begun.
+    pub fn send(&mut self, seg: SegNo, node: NodeNo, job: u64) -> Result<(), NoMemory>
+        requires { IsSome (spread_at (open_merge seg.0 self.old.rows)) }
+        ensures rows { OnOk result (self.new.rows ≡ with_spread seg.0
+            (sent_more node job (spread_at (open_merge seg.0 self.old.rows))) self.old.rows) }
+        ensures posted { self.new.posted ≡ self.old.posted }
+    {
+        let Some(spread) = take_spread(&mut self.rows, seg) else {
+            unreachable!()
+        };
+        let Spread { state, left, all } = spread;
+        let mut left = left;
+        left.push(Sent { node, job })?;
+        set_spread(&mut self.rows, seg, Some(Spread { state, left, all }));
+        Ok(())
+    }
+
+    /// A copy to each replica has begun: a task is posted for each, or, where there is none, the one to cut over.
+    pub fn post(&mut self, seg: SegNo, line: LineNo) -> Result<(), NoMemory>
+        requires { IsSome (spread_at (open_merge seg.0 self.old.rows)) }
+        ensures rows { OnOk result (self.new.rows ≡ with_spread seg.0
+            (all_sent (spread_at (open_merge seg.0 self.old.rows))) self.old.rows) }
+        ensures posted { OnOk result (self.new.posted ≡ (self.old.posted
+            ++ posts_of seg line (left_at (spread_at (open_merge seg.0 self.old.rows))))
+            ++ post_after seg line (left_at (spread_at (open_merge seg.0 self.old.rows)))) }
+    {
+        let Some(spread) = take_spread(&mut self.rows, seg) else {
+            unreachable!()
+        };
+        let Spread { state, left, .. } = spread;
         self.post_copies(seg, line, left.as_slice())?;
         if left.as_slice().is_empty() {
             self.post_cut(seg, line)?;
         }
-        set_spread(&mut self.rows, seg, Some(Spread { state, left }));
+        let all = true;
+        set_spread(&mut self.rows, seg, Some(Spread { state, left, all }));
         Ok(())
     }
 
@@ -173,12 +216,12 @@ impl Tasks {
         let Some(spread) = take_spread(&mut self.rows, seg) else {
             unreachable!()
         };
-        let Spread { state, left } = spread;
+        let Spread { state, left, all } = spread;
         let mut left = left.into_vec();
         leave_sent(&mut left, n, job);
         let is_last = left.is_empty();
         let left = List::from_vec(left);
-        set_spread(&mut self.rows, seg, Some(Spread { state, left }));
+        set_spread(&mut self.rows, seg, Some(Spread { state, left, all }));
         if is_last {
             self.post_cut(seg, line)?;
         }

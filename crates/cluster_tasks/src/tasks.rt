@@ -44,6 +44,8 @@ pub struct Sent {
 pub struct Spread {
     pub state: CopyState,
     pub left: List<Sent>,
+    /// Whether a copy to each replica has begun.
+    pub all: bool,
 }
 
 /// A merge in flight: the segment that it makes, its line, and once its files are written its copies.
