@@ -94,7 +94,7 @@ module _ {D : Type 0} where
   pub record MergesStand (log : Log) (cut : Bool) (size : ℕ) (board : Board) (places : List (Option (Place D))) : Type 0 where
     pub tasks : TasksShow size log board
     pub each : (n : ℕ) → IsNode size n → IsSomeAnd (place_of places n) (λ place. NodeMerges log cut (λ s. jobs_like places s size) board.rows n place.node)
-    pub vacant : primary_of (printed log) ≡ None → (cut ≡ false) × (board ≡ record { posted = []; rows = [] })
+    pub vacant : primary_of (printed log) ≡ None → (cut ≡ false) × ((board.posted ≡ []) × (board.rows ≡ []))
 
   -- The primary's merges and what it cut over stay, and its copy states grow at least as its jobs do.
   pub record KeepsPrimaryMerges (jobs now : Out → ℕ) (p q : PrimaryParts D) : Type 0 where

@@ -1,2 +1,3 @@
 pub mod BoardRows
+pub mod Counts
 pub mod TaskFrames

@@ -30,8 +30,9 @@ use Rattle.cluster_tasks.specs.declared.tasks.TaskKind.TheVariants.{Merge, PreCo
 use Rattle.cluster_tasks.specs.declared.tasks.Posted.{Posted}
 use Rattle.cluster_tasks.specs.declared.tasks.OpenMerge.{OpenMerge}
 use Rattle.cluster_tasks.specs.TaskLog.{or_first, inputs_by, inputs_out, merge_task, ends_task, ended_count, ends_task_by, counted_by, counted_for, is_drained, have_drained, starts_merge, has_started, leaves_merges, leaves_tasks}
-use Rattle.cluster_tasks.specs.Board.{Board, open_merge, with_spread, without_merge, posted_merge, due_of, due_all, IsToldKind, IsToldTask, TasksShow}
+use Rattle.cluster_tasks.specs.Board.{Board, open_merge, with_spread, without_merge, posted_merge, done_under, without_count, due_of, due_all, IsToldKind, IsToldTask, TasksShow}
 use Rattle.cluster_tasks.proofs.BoardRows.{line_told, open_end, open_without, due_end}
+use Rattle.cluster_tasks.proofs.Counts.{other_counts}
 
 -- ---- tasks that are told stay told
 
@@ -82,6 +83,7 @@ tasks_still size log b x e leaves s = record {
       let low = s.drains lines (or_parts (is_drained e && lines x) (have_drained lines (printed log)) none).1 in
       let same = drained_left x e (printed log) (primary_of (printed log)) leaves in
       omega (arith, low, same);
+  counts = λ at none. s.counts at (or_parts (is_drained e && same_at x at) (have_drained (λ b. same_at b at) (printed log)) none).1;
 }
 
 -- so does a fault of a merge's task
@@ -92,6 +94,7 @@ tasks_faulted size log b x n kind s = record {
   noted = s.noted;
   paid = s.paid;
   drains = s.drains;
+  counts = s.counts;
 }
 
 -- ---- entries of inner work
@@ -107,6 +110,7 @@ tasks_kept size log b i leaves s = record {
   noted = s.noted;
   paid = let paid = s.paid in omega (arith, paid);
   drains = λ lines none. let low = s.drains lines none in omega (arith, low);
+  counts = λ at none. (let is = s.counts at none in omega (arith, is));
 }
 
 -- the inputs of a merge that was started are handed out
@@ -117,6 +121,7 @@ tasks_noted size log b line seg inputs started s = record {
   noted = λ n some. by n (seg.0 == n) refl some;
   paid = let paid = s.paid in omega (arith, paid);
   drains = λ lines none. let low = s.drains lines none in omega (arith, low);
+  counts = λ at none. (let is = s.counts at none in omega (arith, is));
 }
   where
     by : (n : ℕ) (t : Bool) → (seg.0 == n) ≡ t → or_first (inputs_out n log) (if t then Some inputs else None) ≢ None → has_started n (printed log) ≡ true
@@ -124,14 +129,15 @@ tasks_noted size log b line seg inputs started s = record {
     by n false apart some = s.noted n some
 
 -- the board as it is now shows the same, where each merge has its line, tasks that are posted are told, and no more may still come
-pub tasks_on : (size : ℕ) (log : Log) (b new : Board) → ((seg : ℕ) → line_told (open_merge seg new.rows) ≡ line_told (open_merge seg b.rows)) → All (IsToldTask log) new.posted → due_all size new.rows ≤ due_all size b.rows
+pub tasks_on : (size : ℕ) (log : Log) (b new : Board) → ((seg : ℕ) → line_told (open_merge seg new.rows) ≡ line_told (open_merge seg b.rows)) → All (IsToldTask log) new.posted → due_all size new.rows ≤ due_all size b.rows → new.counts ≡ b.counts
     → TasksShow size log b → TasksShow size log new
-tasks_on size log b new lines told less s = record {
+tasks_on size log b new lines told less counts s = record {
   lines = λ seg. lines seg ∙ s.lines seg;
   posted = told;
   noted = s.noted;
   paid = let paid = s.paid in omega (arith, paid, less);
   drains = s.drains;
+  counts = λ at none. ap (done_under at) counts ∙ s.counts at none;
 }
 
 ends_most : (lines : At → Bool) (line : LineNo) (seg : SegNo) (taker : Option At) (step : Step) (counts : Bool) → ends_task_by lines (TaskEnd line seg taker step counts) ≤ ends_task (TaskEnd line seg taker step counts)
@@ -143,34 +149,37 @@ ends_most lines line seg (Some at) step true = elim (lines at) as (λ b. (if b t
 -- a task has ended, and one less may still come where it counts
 pub tasks_ended : (size : ℕ) (log : Log) (b new : Board) (line : LineNo) (seg : SegNo) (taker : Option At) (step : Step) (counts : Bool)
     → ((n : ℕ) → line_told (open_merge n new.rows) ≡ line_told (open_merge n b.rows)) → All (IsToldTask log) new.posted → ends_task (TaskEnd line seg taker step counts) + due_all size new.rows ≤ due_all size b.rows
+    → ((x : At) → done_under x new.counts ≡ done_under x b.counts + ends_task_by (λ y. same_at y x) (TaskEnd line seg taker step counts))
     → TasksShow size log b → TasksShow size (kept (TaskEnd line seg taker step counts) ∷ log) new
-tasks_ended size log b new line seg taker step counts lines told less s = record {
+tasks_ended size log b new line seg taker step counts lines told less done s = record {
   lines = λ n. lines n ∙ s.lines n;
   posted = told_all log (kept (TaskEnd line seg taker step counts) ∷ log) (λ n inputs is. is) new.posted told;
   noted = s.noted;
   paid = let paid = s.paid in omega (arith, paid, less);
   drains = λ lines none. let low = s.drains lines none in let most = ends_most lines line seg taker step counts in omega (arith, low, most);
+  counts = λ at none. let was = s.counts at none in let more = done at in omega (arith, was, more);
 }
 
 -- ---- merges
 
 -- a merge starts under a number that was not drawn before, its inputs are handed out, and the task to build its segment is posted
 pub tasks_begun : (size : ℕ) (log : Log) (b new : Board) (x : At) (seg : SegNo) (inputs : List Shown) → open_merge seg.0 b.rows ≡ None → inputs_out seg.0 log ≡ None
-    → new.rows ≡ b.rows ++ record { seg = seg; line = x.line; spread = None } ∷ [] → new.posted ≡ b.posted ++ posted_merge seg x.line (merge_task seg inputs) ∷ []
+    → new.rows ≡ b.rows ++ record { seg = seg; line = x.line; spread = None } ∷ [] → new.posted ≡ b.posted ++ posted_merge seg x.line (merge_task seg inputs) ∷ [] → new.counts ≡ b.counts
     → TasksShow size log b → TasksShow size (kept (MergeOut x.line seg inputs) ∷ shown x (Merging seg) ∷ log) new
-tasks_begun size log b new x seg inputs fresh unnoted rows posted s =
-    let begun : TasksShow size (shown x (Merging seg) ∷ log) (record { posted = b.posted; rows = new.rows }) = record {
+tasks_begun size log b new x seg inputs fresh unnoted rows posted counts s =
+    let begun : TasksShow size (shown x (Merging seg) ∷ log) (record { posted = b.posted; rows = new.rows; counts = b.counts }) = record {
       lines = λ n. ap (λ (l : List OpenMerge). line_told (open_merge n l)) rows ∙ (ap line_told (open_end b.rows row n fresh) ∙ by n (seg.0 == n));
       posted = told_all log (shown x (Merging seg) ∷ log) (λ n i is. is) b.posted s.posted;
       noted = λ n some. or_right (seg.0 == n) (has_started n (printed log)) (s.noted n some);
       paid = paid;
       drains = s.drains;
+      counts = s.counts;
     } in
-    let handed : TasksShow size now (record { posted = b.posted; rows = new.rows }) = tasks_noted size (shown x (Merging seg) ∷ log) (record { posted = b.posted; rows = new.rows }) x.line seg inputs
+    let handed : TasksShow size now (record { posted = b.posted; rows = new.rows; counts = b.counts }) = tasks_noted size (shown x (Merging seg) ∷ log) (record { posted = b.posted; rows = new.rows; counts = b.counts }) x.line seg inputs
     (or_left (seg.0 == seg.0) (has_started seg.0 (printed log)) (eq-eqb seg.0 seg.0 refl)) begun in
-    tasks_on size now (record { posted = b.posted; rows = new.rows }) new (λ n. refl)
+    tasks_on size now (record { posted = b.posted; rows = new.rows; counts = b.counts }) new (λ n. refl)
     (subst (λ (l : List Posted). All (IsToldTask now) l) (sym posted) (All-push (IsToldTask now) b.posted (posted_merge seg x.line (merge_task seg inputs)) handed.posted (out, refl)))
-    (omega arith) handed
+    (omega arith) counts handed
   where
     now : Log
     now = kept (MergeOut x.line seg inputs) ∷ shown x (Merging seg) ∷ log
@@ -189,14 +198,15 @@ tasks_begun size log b new x seg inputs fresh unnoted rows posted s =
     paid = let old = s.paid in let due : due_all size new.rows ≡ due_all size b.rows + (size + 1) = ap (due_all size) rows ∙ due_end size b.rows row in omega (arith, old, due)
 
 -- a merge ends
-pub tasks_closed : (size : ℕ) (log : Log) (b new : Board) (seg : SegNo) → new.rows ≡ without_merge seg.0 b.rows → new.posted ≡ b.posted → due_all size new.rows ≤ due_all size b.rows
+pub tasks_closed : (size : ℕ) (log : Log) (b new : Board) (seg : SegNo) → new.rows ≡ without_merge seg.0 b.rows → new.posted ≡ b.posted → new.counts ≡ b.counts → due_all size new.rows ≤ due_all size b.rows
     → TasksShow size log b → TasksShow size (kept (MergeEnd seg) ∷ log) new
-tasks_closed size log b new seg rows posted less s = record {
+tasks_closed size log b new seg rows posted counts less s = record {
   lines = λ n. ap (λ (l : List OpenMerge). line_told (open_merge n l)) rows ∙ (ap line_told (open_without b.rows seg.0 n) ∙ by n (seg.0 == n));
   posted = subst (λ (l : List Posted). All (IsToldTask (kept (MergeEnd seg) ∷ log)) l) (sym posted) (told_all log (kept (MergeEnd seg) ∷ log) (λ n inputs is. is) b.posted s.posted);
   noted = s.noted;
   paid = let paid = s.paid in omega (arith, paid, less);
   drains = λ lines none. let low = s.drains lines none in omega (arith, low);
+  counts = λ at none. (let is = s.counts at none in let same : done_under at new.counts ≡ done_under at b.counts = ap (done_under at) counts in omega (arith, is, same));
 }
   where
     by : (n : ℕ) (t : Bool) → line_told (if t then None else open_merge n b.rows) ≡ option_map (λ (at : At). at.line) (if t then None else merge_on n log)
@@ -204,13 +214,14 @@ tasks_closed size log b new seg rows posted less s = record {
     by n false = s.lines n
 
 -- the primary crashes: its merges have ended, and their tasks are gone
-pub tasks_fallen : (size : ℕ) (log : Log) (b new : Board) (x : At) (m : NodeNo) → is_at (primary_of (printed log)) m.0 ≡ true → new.rows ≡ [] → new.posted ≡ [] → TasksShow size log b → TasksShow size (shown x (Crashed m) ∷ log) new
-tasks_fallen size log b new x m falls rows posted s = record {
+pub tasks_fallen : (size : ℕ) (log : Log) (b new : Board) (x : At) (m : NodeNo) → is_at (primary_of (printed log)) m.0 ≡ true → new.rows ≡ [] → new.posted ≡ [] → new.counts ≡ b.counts → TasksShow size log b → TasksShow size (shown x (Crashed m) ∷ log) new
+tasks_fallen size log b new x m falls rows posted counts s = record {
   lines = λ n. ap (λ (l : List OpenMerge). line_told (open_merge n l)) rows ∙ ap (λ (t : Bool). option_map (λ (at : At). at.line) (if t then None else merge_on n log)) (sym falls);
   posted = subst (λ (l : List Posted). All (IsToldTask (shown x (Crashed m) ∷ log)) l) (sym posted) (All-nil (IsToldTask (shown x (Crashed m) ∷ log)));
   noted = s.noted;
   paid = let paid = s.paid in let none : due_all size new.rows ≡ 0 = ap (due_all size) rows in omega (arith, paid, none);
   drains = s.drains;
+  counts = λ at none. ap (done_under at) counts ∙ s.counts at none;
 }
 
 -- ---- drains
@@ -258,15 +269,19 @@ module _ (at : At) (lines : At → Bool) (other : lines at ≡ false) where
       neither false t u a b = refl
 
 -- a drain has its reply
-pub tasks_drained : (size : ℕ) (log : Log) (b : Board) (x : At) (done most : ℕ) → entries_of_line x (printed log) ≡ [] → done ≡ counted_for x log → TasksShow size log b → TasksShow size (shown x (Drained done most) ∷ log) b
-tasks_drained size log b x done most fresh is s = record {
-  lines = s.lines;
-  posted = told_all log (shown x (Drained done most) ∷ log) (λ n inputs same. same) b.posted s.posted;
+pub tasks_drained : (size : ℕ) (log : Log) (b new : Board) (x : At) (done most : ℕ) → entries_of_line x (printed log) ≡ [] → done ≡ counted_for x log → new.rows ≡ b.rows → new.posted ≡ b.posted → new.counts ≡ without_count x b.counts
+    → TasksShow size log b → TasksShow size (shown x (Drained done most) ∷ log) new
+tasks_drained size log b new x done most fresh is rows posted counts s = record {
+  lines = λ n. ap (λ (l : List OpenMerge). line_told (open_merge n l)) rows ∙ s.lines n;
+  posted = subst (λ (l : List Posted). All (IsToldTask (shown x (Drained done most) ∷ log)) l) (sym posted) (told_all log (shown x (Drained done most) ∷ log) (λ n inputs same. same) b.posted s.posted);
   noted = s.noted;
-  paid = s.paid;
+  paid = let paid = s.paid in let due : due_all size new.rows ≡ due_all size b.rows = ap (due_all size) rows in omega (arith, paid, due);
   drains = λ lines none.
       let parts = or_parts (lines x) (have_drained lines (printed log)) none in
       let low = s.drains (λ y. lines y || same_at y x) (drained_apart x lines parts.0 (printed log) parts.1 (undrained x (printed log) fresh)) in
       let split = counted_apart x lines parts.0 log in
       omega (arith, low, split, is);
+  counts = λ at none.
+      let parts = or_parts (same_at x at) (have_drained (λ b. same_at b at) (printed log)) none in
+      ap (done_under at) counts ∙ (other_counts b.counts x at parts.0 ∙ s.counts at parts.1);
 }

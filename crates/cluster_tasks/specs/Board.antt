@@ -7,23 +7,40 @@ use Rattle.nrt_base.specs.declared.numbers.LineNo.{LineNo}
 use Rattle.nrt_base.specs.declared.numbers.NodeNo.{NodeNo}
 use Rattle.nrt_base.specs.declared.numbers.SegNo.{SegNo}
 use Rattle.seg_merge.specs.declared.task.MergeTask.{MergeTask}
+use Rattle.history_entries.specs.Lines.{same_at}
 use Rattle.history_entries.specs.Tasks.{merge_count, drained_count}
 use Rattle.history_book.specs.Log.{Log, printed}
 use Rattle.history_book.specs.declared.inner.Step.{Step}
 use Rattle.history_book.specs.declared.inner.Step.TheVariants.{Merge as MergeStep, PreCopy as PreCopyStep, Cut as CutStep}
 use Rattle.history_merges.specs.Merging.{merge_on}
+use Rattle.cluster_tasks.specs.declared.drains.Counted.{Counted}
 use Rattle.cluster_tasks.specs.declared.tasks.TaskKind.{TaskKind}
 use Rattle.cluster_tasks.specs.declared.tasks.TaskKind.TheVariants.{Merge, PreCopy, Cut}
 use Rattle.cluster_tasks.specs.declared.tasks.Posted.{Posted}
 use Rattle.cluster_tasks.specs.declared.tasks.Sent.{Sent}
 use Rattle.cluster_tasks.specs.declared.tasks.Spread.{Spread}
 use Rattle.cluster_tasks.specs.declared.tasks.OpenMerge.{OpenMerge}
-use Rattle.cluster_tasks.specs.TaskLog.{inputs_out, merge_task, ended_count, counted_by, have_drained, has_started}
+use Rattle.cluster_tasks.specs.TaskLog.{inputs_out, merge_task, ended_count, counted_by, counted_for, have_drained, has_started}
 
--- the tasks that are posted, the first in first, and the merges in flight
+-- the tasks that are posted, the first in first, the merges in flight, and how many tasks count for drain lines
 pub record Board : Type 0 where
   pub posted : List Posted
   pub rows : List OpenMerge
+  pub counts : List Counted
+
+-- how many tasks count for a line
+abbrev pub done_under : At → List Counted → ℕ
+done_under at [] = 0
+done_under at (r ∷ counts) = if same_at r.at at then r.done else done_under at counts
+
+-- one more for this line, where it is the drain line
+abbrev pub counts_one : At → Option At → ℕ
+counts_one at None = 0
+counts_one at (Some by) = if same_at by at then 1 else 0
+
+-- none for a line any more
+abbrev pub without_count : At → List Counted → List Counted
+without_count at counts = filter (λ r. not (same_at r.at at)) counts
 
 -- the merge in flight into a segment
 abbrev pub open_merge : ℕ → List OpenMerge → Option OpenMerge
@@ -137,10 +154,12 @@ abbrev pub IsToldTask : Log → Posted → Type 0
 IsToldTask log p = IsToldKind log p.seg p.kind
 
 -- What the entries show of tasks: each merge in flight has its row, of its line; a task to build a segment is what was handed out; what was
--- handed out of a merge was started; no more tasks have ended than merges have; and all drains together did no more than have ended.
+-- handed out of a merge was started; no more tasks have ended than merges have; all drains together did no more than have ended; and of a drain
+-- line without a reply it is noted how many count for it.
 pub record TasksShow (size : ℕ) (log : Log) (b : Board) : Type 0 where
   pub lines : (seg : ℕ) → option_map (λ r. r.line) (open_merge seg b.rows) ≡ option_map (λ at. at.line) (merge_on seg log)
   pub posted : All (IsToldTask log) b.posted
   pub noted : (seg : ℕ) → inputs_out seg log ≢ None → has_started seg (printed log) ≡ true
   pub paid : ended_count log + due_all size b.rows ≤ (size + 1) * merge_count (printed log)
   pub drains : (lines : At → Bool) → have_drained lines (printed log) ≡ false → drained_count (printed log) + counted_by lines log ≤ ended_count log
+  pub counts : (at : At) → have_drained (λ b. same_at b at) (printed log) ≡ false → done_under at b.counts ≡ counted_for at log

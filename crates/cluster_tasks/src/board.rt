@@ -1,13 +1,14 @@
 //! The tasks that are posted, and the merges in flight.
 
-ghost use Rattle.std.specs.Prelude.{◌≡◌, ◌≢◌, ◌∷◌, ◌++◌, [], true, false, None, Some, IsSome, OnOk, MatchOption};
+ghost use Rattle.std.specs.Prelude.{◌≡◌, ◌≢◌, ◌+◌, ◌∷◌, ◌++◌, [], true, false, None, Some, IsSome, OnOk, MatchOption};
 ghost use Rattle.std.specs.Option.{option_map};
-ghost use Rattle.cluster_tasks.specs.Board.{open_merge, spread_at, with_spread, without_merge, is_sent_to, is_unwritten, is_copied, left_at, sent_more, all_sent, settled, posts_of, post_after, posted_merge};
+ghost use Rattle.cluster_tasks.specs.Board.{open_merge, spread_at, with_spread, without_merge, is_sent_to, is_unwritten, is_copied, left_at, sent_more, all_sent, settled, posts_of, post_after, posted_merge, done_under, counts_one, without_count};
 
+use crate::drains::{Counted, count_one, done_in, forget};
 use crate::rows::{is_among, leave_out, leave_sent, merge_in, set_spread, take_spread};
 use crate::tasks::{OpenMerge, Posted, Sent, Spread, TaskKind};
 use copy_state::CopyState;
-use nrt_base::{LineNo, List, NoMemory, NodeNo, SegNo};
+use nrt_base::{At, LineNo, List, NoMemory, NodeNo, SegNo};
 use seg_merge::MergeTask;
 use std::alloc::Global;
 use std::marker::Model;
@@ -17,6 +18,7 @@ use std::marker::Model;
 pub struct Tasks {
     posted: Vec<Posted>,
     rows: Vec<OpenMerge>,
+    counts: Vec<Counted>,
 }
 
 impl Model for Tasks {
@@ -24,7 +26,39 @@ impl Model for Tasks {
 
     ghost Value = { Board };
 
-    ghost view = { λ t. record { posted = t.posted.items; rows = t.rows.items } };
+    ghost view = { λ t. record { posted = t.posted.items; rows = t.rows.items; counts = t.counts.items } };
+}
+
+// Posts a task for each copy, in their order.
+fn post_copies(
+    posted: &mut Vec<Posted>,
+    seg: SegNo,
+    line: LineNo,
+    sent: &[Sent],
+) -> Result<(), NoMemory>
+    ensures { OnOk result (posted.new.items ≡ posted.old.items ++ posts_of seg line sent.now) }
+{
+    for s in sent {
+        let kind = TaskKind::PreCopy(s.node, s.job);
+        posted.push(Posted { seg, line, kind })?;
+    }
+    Ok(())
+}
+
+// Posts the task to cut a merge over, where no copy is left.
+fn post_cut(
+    posted: &mut Vec<Posted>,
+    seg: SegNo,
+    line: LineNo,
+    left: &[Sent],
+) -> Result<(), NoMemory>
+    ensures { OnOk result (posted.new.items ≡ posted.old.items ++ post_after seg line left.now) }
+{
+    if left.is_empty() {
+        let kind = TaskKind::Cut;
+        posted.push(Posted { seg, line, kind })?;
+    }
+    Ok(())
 }
 
 impl Tasks {
@@ -32,10 +66,12 @@ impl Tasks {
     pub fn new(alloc: Global) -> Self
         ensures posted { result.posted ≡ [] }
         ensures rows { result.rows ≡ [] }
+        ensures counts { result.counts ≡ [] }
     {
         Tasks {
             posted: Vec::new(alloc),
             rows: Vec::new(alloc),
+            counts: Vec::new(alloc),
         }
     }
 
@@ -53,6 +89,7 @@ impl Tasks {
             ++ record { seg = seg; line = line; spread = None } ∷ []) }
         ensures posted { OnOk result (self.new.posted ≡ self.old.posted
             ++ posted_merge seg line task ∷ []) }
+        ensures counts { self.new.counts ≡ self.old.counts }
     {
         self.rows.push(OpenMerge {
             seg,
@@ -73,6 +110,7 @@ impl Tasks {
             (λ p. self.old.posted ≡ p ∷ self.new.posted) }
         ensures none { result ≡ None → self.new.posted ≡ self.old.posted }
         ensures rows { self.new.rows ≡ self.old.rows }
+        ensures counts { self.new.counts ≡ self.old.counts }
     {
         if self.posted.is_empty() {
             return None;
@@ -116,34 +154,13 @@ impl Tasks {
         }
     }
 
-    // Posts a task for each copy, in their order.
-    fn post_copies(&mut self, seg: SegNo, line: LineNo, sent: &[Sent]) -> Result<(), NoMemory>
-        ensures rows { self.new.rows ≡ self.old.rows }
-        ensures posted { OnOk result (self.new.posted ≡ self.old.posted ++ posts_of seg line sent.now) }
-    {
-        for s in sent {
-            let kind = TaskKind::PreCopy(s.node, s.job);
-            self.posted.push(Posted { seg, line, kind })?;
-        }
-        Ok(())
-    }
-
-    // Posts the task to cut a merge over.
-    fn post_cut(&mut self, seg: SegNo, line: LineNo) -> Result<(), NoMemory>
-        ensures rows { self.new.rows ≡ self.old.rows }
-        ensures posted { OnOk result (self.new.posted ≡ self.old.posted ++ post_after seg line []) }
-    {
-        let kind = TaskKind::Cut;
-        self.posted.push(Posted { seg, line, kind })?;
-        Ok(())
-    }
-
     /// The files of a merge are written, as this copy state says, and no copy of them has begun.
     pub fn write(&mut self, alloc: Global, seg: SegNo, state: CopyState)
         requires { open_merge seg.0 self.old.rows ≢ None }
         ensures rows { self.new.rows ≡ with_spread seg.0
             (Some (record { state = state; left = []; all = false })) self.old.rows }
         ensures posted { self.new.posted ≡ self.old.posted }
+        ensures counts { self.new.counts ≡ self.old.counts }
     {
         let left = List::new(alloc);
         let all = false;
@@ -170,6 +187,7 @@ impl Tasks {
         ensures rows { OnOk result (self.new.rows ≡ with_spread seg.0
             (sent_more node job (spread_at (open_merge seg.0 self.old.rows))) self.old.rows) }
         ensures posted { self.new.posted ≡ self.old.posted }
+        ensures counts { self.new.counts ≡ self.old.counts }
     {
         let Some(spread) = take_spread(&mut self.rows, seg) else {
             unreachable!()
@@ -189,15 +207,14 @@ impl Tasks {
         ensures posted { OnOk result (self.new.posted ≡ (self.old.posted
             ++ posts_of seg line (left_at (spread_at (open_merge seg.0 self.old.rows))))
             ++ post_after seg line (left_at (spread_at (open_merge seg.0 self.old.rows)))) }
+        ensures counts { self.new.counts ≡ self.old.counts }
     {
         let Some(spread) = take_spread(&mut self.rows, seg) else {
             unreachable!()
         };
         let Spread { state, left, .. } = spread;
-        self.post_copies(seg, line, left.as_slice())?;
-        if left.as_slice().is_empty() {
-            self.post_cut(seg, line)?;
-        }
+        post_copies(&mut self.posted, seg, line, left.as_slice())?;
+        post_cut(&mut self.posted, seg, line, left.as_slice())?;
         let all = true;
         set_spread(&mut self.rows, seg, Some(Spread { state, left, all }));
         Ok(())
@@ -212,6 +229,7 @@ impl Tasks {
         ensures posted { OnOk result (self.new.posted ≡ self.old.posted
             ++ post_after seg line (left_at (settled n.0 job
             (spread_at (open_merge seg.0 self.old.rows))))) }
+        ensures counts { self.new.counts ≡ self.old.counts }
     {
         let Some(spread) = take_spread(&mut self.rows, seg) else {
             unreachable!()
@@ -219,12 +237,9 @@ impl Tasks {
         let Spread { state, left, all } = spread;
         let mut left = left.into_vec();
         leave_sent(&mut left, n, job);
-        let is_last = left.is_empty();
+        post_cut(&mut self.posted, seg, line, left.as_slice())?;
         let left = List::from_vec(left);
         set_spread(&mut self.rows, seg, Some(Spread { state, left, all }));
-        if is_last {
-            self.post_cut(seg, line)?;
-        }
         Ok(())
     }
 
@@ -234,6 +249,7 @@ impl Tasks {
         ensures spread { result ≡ spread_at (open_merge seg.0 self.old.rows) }
         ensures rows { self.new.rows ≡ without_merge seg.0 self.old.rows }
         ensures posted { self.new.posted ≡ self.old.posted }
+        ensures counts { self.new.counts ≡ self.old.counts }
     {
         let spread = take_spread(&mut self.rows, seg);
         leave_out(&mut self.rows, seg);
@@ -244,8 +260,38 @@ impl Tasks {
     pub fn clear(&mut self)
         ensures rows { self.new.rows ≡ [] }
         ensures posted { self.new.posted ≡ [] }
+        ensures counts { self.new.counts ≡ self.old.counts }
     {
         self.rows.clear();
         self.posted.clear();
+    }
+
+    /// How many tasks count for a drain line.
+    pub fn counted(&self, at: At) -> u32
+        ensures { result ≡ done_under at self.now.counts }
+    {
+        done_in(self.counts.as_slice(), at)
+    }
+
+    /// A task has ended that counts, for a drain line or for none.
+    pub fn count(&mut self, by: Option<At>) -> Result<(), NoMemory>
+        ensures counts { OnOk result ((x : _) → done_under x self.new.counts
+            ≡ done_under x self.old.counts + counts_one x by) }
+        ensures posted { self.new.posted ≡ self.old.posted }
+        ensures rows { self.new.rows ≡ self.old.rows }
+    {
+        match by {
+            None => Ok(()),
+            Some(at) => count_one(&mut self.counts, at),
+        }
+    }
+
+    /// A drain line has its reply.
+    pub fn drain(&mut self, at: At)
+        ensures counts { self.new.counts ≡ without_count at self.old.counts }
+        ensures posted { self.new.posted ≡ self.old.posted }
+        ensures rows { self.new.rows ≡ self.old.rows }
+    {
+        forget(&mut self.counts, at);
     }
 }

@@ -2,8 +2,10 @@
 #![tactic(auto)]
 
 mod board;
+mod drains;
 mod rows;
 mod tasks;
 
 pub use board::Tasks;
+pub use drains::Counted;
 pub use tasks::{OpenMerge, Posted, Sent, Spread, Task, TaskKind};

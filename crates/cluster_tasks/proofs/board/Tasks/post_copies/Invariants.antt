@@ -1,7 +1,0 @@
-use Rattle.std.proofs.Common.{◌≡◌, ◌++◌, drop}
-use Rattle.cluster_tasks.specs.Board.{posts_of}
-use Rattle.cluster_tasks.proofs.board.Tasks.post_copies.Given as goal
-
-abbrev pub invariant-loop-s : goal.invariant-loop-s
-invariant-loop-s l = (l.self-inside.posted.items ++ posts_of l.seg l.line (drop l.s-index l.sent) ≡ l.initial.self-inside.posted.items ++ posts_of l.seg l.line l.sent)
-    × (l.self-inside.rows ≡ l.initial.self-inside.rows)
