@@ -8,4 +8,4 @@ mod tasks;
 
 pub use board::Tasks;
 pub use drains::Counted;
-pub use tasks::{OpenMerge, Posted, Sent, Spread, Task, TaskKind};
+pub use tasks::{OpenMerge, Posted, Sent, Spread, Task, TaskKind, step_of};

@@ -1,6 +1,10 @@
 //! Tasks, and merges in flight.
 
+ghost use Rattle.std.specs.Prelude.{◌≡◌};
+ghost use Rattle.cluster_tasks.specs.Board.{step_of};
+
 use copy_state::CopyState;
+use history_book::Step;
 use nrt_base::{At, LineNo, List, NodeNo, SegNo};
 use seg_merge::MergeTask;
 
@@ -54,4 +58,15 @@ pub struct OpenMerge {
     pub seg: SegNo,
     pub line: LineNo,
     pub spread: Option<Spread>,
+}
+
+/// The step of a merge that a task is.
+pub fn step_of(kind: &TaskKind) -> Step
+    ensures { result ≡ step_of kind.now }
+{
+    match kind {
+        TaskKind::Merge(_) => Step::Merge,
+        TaskKind::PreCopy(n, job) => Step::PreCopy(*n, *job),
+        TaskKind::Cut => Step::Cut,
+    }
 }
