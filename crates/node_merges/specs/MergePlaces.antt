@@ -1,5 +1,5 @@
 -- Merges in the terms of places.
-use Rattle.std.specs.Prelude.{ℕ, ◌≡◌, List, Option, Some, None, Result, Vec, IsSome}
+use Rattle.std.specs.Prelude.{ℕ, ◌≡◌, true, List, Option, Some, None, Result, Vec, IsSome, IsSomeAnd}
 use Rattle.std.specs.Global.{Global}
 use Rattle.nrt_base.specs.declared.numbers.SegNo.{SegNo}
 use Rattle.disk_model.specs.Disk.{Cells}
@@ -20,7 +20,7 @@ use Rattle.cluster_places.specs.JobChanges.{HasReplica}
 use Rattle.cluster_places.specs.JobPlaces.{IsPrimaryAt, IsReplicaAt, MovesOne}
 use Rattle.node_merges.specs.declared.copies.CopyStep.{CopyStep}
 use Rattle.node_merges.specs.declared.copies.CopyStep.TheVariants.{Gone}
-use Rattle.node_merges.specs.MergeChanges.{AsksMerge, ReadiesMerge, MayCut, CutsMerge, MaySend, SendsMerged, IsStepOf, MayTakeMerged, TakesMerged, MaySettle, SettlesMerged, DropsMerged}
+use Rattle.node_merges.specs.MergeChanges.{is_copy_of, AsksMerge, ReadiesMerge, MayCut, CutsMerge, MaySend, SendsMerged, IsStepOf, MayTakeMerged, TakesMerged, MaySettle, SettlesMerged, DropsMerged}
 
 module _ {D : Type 0} where
   -- the primary stands in this place, and whatever it is, this is so
@@ -53,3 +53,8 @@ module _ {D : Type 0} where
   abbrev pub IsStepAt : ℕ → ℕ → Option (Place D) → CopyStep → Type 0
   IsStepAt seg number None step = step ≡ Gone
   IsStepAt seg number (Some place) step = elim place.node [ Primary p ↦ step ≡ Gone | Replica r ↦ IsStepOf seg number r step | Down d ↦ step ≡ Gone ]
+
+  -- a copy of this segment runs there under this number
+  abbrev pub RunsCopyOf : ℕ → ℕ → Option (Place D) → Type 0
+  RunsCopyOf seg number None = ⊥
+  RunsCopyOf seg number (Some place) = elim place.node [ Primary p ↦ ⊥ | Replica r ↦ IsSomeAnd (copy_at number r.copies.running) (λ c. is_copy_of seg c ≡ true) | Down d ↦ ⊥ ]

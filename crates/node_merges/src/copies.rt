@@ -7,7 +7,7 @@ ghost use Rattle.replica_parts.specs.Merges.{copy_at};
 ghost use Rattle.cluster_places.specs.Places.{place_of, IsSlot};
 ghost use Rattle.cluster_places.specs.JobChanges.{HasReplica};
 ghost use Rattle.node_merges.specs.MergeChanges.{is_copy_of, MaySend, SendsMerged, IsStepOf, MayTakeMerged, TakesMerged, MaySettle, SettlesMerged, DropsMerged};
-ghost use Rattle.node_merges.specs.MergePlaces.{IsReplicaIn, MovesReplica, IsStepAt};
+ghost use Rattle.node_merges.specs.MergePlaces.{IsReplicaIn, MovesReplica, IsStepAt, RunsCopyOf};
 
 use cluster_places::{Node, Place, put};
 use copy_job::{CopyJob, Part};
@@ -129,6 +129,30 @@ pub fn step_in<D: Dir + Drop>(
             Node::Replica(replica) => step_of(alloc, replica, job, seg),
             Node::Primary(_) => Ok(CopyStep::Gone),
             Node::Down(_) => Ok(CopyStep::Gone),
+        },
+    }
+}
+
+/// Whether a copy of this segment runs at the node in this place, under this number.
+pub fn runs_in<D: Dir + Drop>(
+    places: &Vec<Option<Place<D>>>,
+    n: NodeNo,
+    job: u64,
+    seg: SegNo,
+) -> bool
+    requires { IsSlot places.now.items n.0 }
+    ensures runs { result ≡ true → RunsCopyOf seg.0 job (place_of places.now.items n.0) }
+    ensures gone { result ≡ false → IsStepAt seg.0 job (place_of places.now.items n.0) CopyStep.Gone }
+{
+    match &places[n.0 as usize - 1] {
+        None => false,
+        Some(place) => match &place.node {
+            Node::Replica(replica) => match replica.precopy(job) {
+                None => false,
+                Some(copy) => is_copy_of(copy, seg),
+            },
+            Node::Primary(_) => false,
+            Node::Down(_) => false,
         },
     }
 }
