@@ -1,6 +1,6 @@
 -- A job that begins.
 use Rattle.std.proofs.Common.{◌≡◌, ℕ, zero, suc, ◌+◌, ◌<◌, ◌^◌, List, [], ◌++◌, Option, Some, None, refl, sym, ap, subst, arith, inl}
-use Rattle.std.specs.List.{All}
+use Rattle.std.specs.List.{All, AllByRecursion}
 use Rattle.disk_model.specs.Disk.{Name, Cells, reads_of}
 use Rattle.file_deleter.specs.Holdings.{Holdings, times}
 use Rattle.file_deleter.specs.Moves.{HoldsFiles}
@@ -67,13 +67,13 @@ module _ {D : Type 0} (cells : D → Cells) (p : Parts D) (is : IsWholeReplica c
   begun_apart shares = all_map (λ c. IsMergeCopy (cells p.dir) p.files p.jobs c × SharesNone (copied_names c) (meta_names state.files)) (CopyApart copy) p.copies.running
       (λ c h. record {
         numbers = λ same. absurd (omega (arith, same, number_is, last, h.0.given));
-        files = λ q some. none c h.1 q some (times (copied_names c) q) refl;
+        files = λ q some. unshared c h.1 q some (times (copied_names c) q) refl;
       })
       (all_both (IsMergeCopy (cells p.dir) p.files p.jobs) (λ c. SharesNone (copied_names c) (meta_names state.files)) p.copies.running is.merges.each shares)
     where
-      none : (c : Job) → SharesNone (copied_names c) (meta_names state.files) → (q : Name) → 0 < times (copied_names copy) q → (n : ℕ) → times (copied_names c) q ≡ n → times (copied_names c) q ≡ 0
-      none c h q some zero z = z
-      none c h q some (suc n) z =
+      unshared : (c : Job) → SharesNone (copied_names c) (meta_names state.files) → (q : Name) → 0 < times (copied_names copy) q → (n : ℕ) → times (copied_names c) q ≡ n → times (copied_names c) q ≡ 0
+      unshared c h q some zero z = z
+      unshared c h q some (suc n) z =
           let wanted : 0 < times (meta_names state.files) q = subst (λ (s : CopyState). 0 < times (meta_names s.files) q) state_is (copied_wanted copy is_job q some) in
           absurd (omega (arith, wanted, h q (omega (arith, z))))
 

@@ -23,21 +23,17 @@ point_number number (Some j) e = grind (arith, nat_tests, e)
 
 pub point_some : (number : ℕ) (job : Option PointJob) → is_job_number number job ≡ true → IsSome job
 point_some number None e = absurd (no_point number e)
-point_some number (Some j) e = record {}
+point_some number (Some j) e = refl
 
-pub point_all : (P : Job → Type 0) (number : ℕ) (job : Option PointJob) (other : Option Job) → is_job_number number job ≡ true → IfSome (if is_job_number number job then option_map (λ j. j.copy) job else other) P → IfSome job (λ j. P j.copy)
+pub point_all : (P : Job → Type 0) (number : ℕ) (job : Option PointJob) (other : Option Job) → is_job_number number job ≡ true → IfSome (if is_job_number number job then option_map (λ (j : PointJob). j.copy) job else other) P → IfSome job (λ j. P j.copy)
 point_all P number None other e h = tt
 point_all P number (Some j) other e h = subst (λ (b : Bool). IfSome (if b then Some j.copy else other) P) e h
 
-pub copy_all : (P : Job → Type 0) (number : ℕ) (job : Option PointJob) (other : Option Job) → is_job_number number job ≡ false → IfSome (if is_job_number number job then option_map (λ j. j.copy) job else other) P → IfSome other P
-copy_all P number job other e h = subst (λ (b : Bool). IfSome (if b then option_map (λ j. j.copy) job else other) P) e h
+pub copy_all : (P : Job → Type 0) (number : ℕ) (job : Option PointJob) (other : Option Job) → is_job_number number job ≡ false → IfSome (if is_job_number number job then option_map (λ (j : PointJob). j.copy) job else other) P → IfSome other P
+copy_all P number job other e h = subst (λ (b : Bool). IfSome (if b then option_map (λ (j : PointJob). j.copy) job else other) P) e h
 
-pub copy_some : (number : ℕ) (job : Option PointJob) (other : Option Job) → is_job_number number job ≡ false → IsSome (if is_job_number number job then option_map (λ j. j.copy) job else other) → is_some other ≡ true
-copy_some number job other e h = some_is other (subst (λ (b : Bool). IsSome (if b then option_map (λ j. j.copy) job else other)) e h)
-  where
-    some_is : (o : Option Job) → IsSome o → is_some o ≡ true
-    some_is None h = absurd h
-    some_is (Some c) h = refl
+pub copy_some : (number : ℕ) (job : Option PointJob) (other : Option Job) → is_job_number number job ≡ false → IsSome (if is_job_number number job then option_map (λ (j : PointJob). j.copy) job else other) → is_some other ≡ true
+copy_some number job other e h = subst (λ (b : Bool). IsSome (if b then option_map (λ (j : PointJob). j.copy) job else other)) e h
 
 -- ---- what the call makes of it
 on_ok : {T E : Type 0} {P Q : Type 0} (result : Result T E) → (P → Q) → OnOk result P → OnOk result Q
@@ -57,7 +53,7 @@ point_named P number job result e = on_ok result (named job e)
     named (Some j) f h = subst P (point_number number (Some j) f) h
 
 point_made : (number : ℕ) (name : Name) (now job : Option PointJob) (other : Option Job) → is_job_number number job ≡ true → IfSome job (λ j. now ≡ Some (record j { copy = with_part j.copy name }))
-    → IfSome (if is_job_number number job then option_map (λ j. j.copy) job else other) (λ k. now ≡ option_map (λ (j : PointJob). record j { copy = with_part k name }) job)
+    → IfSome (if is_job_number number job then option_map (λ (j : PointJob). j.copy) job else other) (λ k. now ≡ option_map (λ (j : PointJob). record j { copy = with_part k name }) job)
 point_made number name now None other e h = absurd (no_point number e)
 point_made number name now (Some j) other e h =
     subst (λ (b : Bool). IfSome (if b then Some j.copy else other) (λ k. now ≡ option_map (λ (i : PointJob). record i { copy = with_part k name }) (Some j))) (sym e) h

@@ -14,7 +14,7 @@ is_job_number number (Some j) = j.copy.number == number
 module _ {D : Type 0} where
   -- the job of a newer point where it has the number, else the copy that has it
   abbrev pub running_job : ℕ → Parts D → Option Job
-  running_job number p = if is_job_number number p.job then option_map (λ j. j.copy) p.job else copy_at number p.copies.running
+  running_job number p = if is_job_number number p.job then option_map (λ (j : PointJob). j.copy) p.job else copy_at number p.copies.running
 
   -- with this one in its place
   abbrev pub with_job : ℕ → Job → Parts D → Parts D

@@ -27,10 +27,11 @@ use Rattle.copy_job.specs.declared.copying.Part.{Part}
 use Rattle.replica_parts.specs.Merges.{copy_at, copies_with, copies_without, running_names, copies_names, copied_names, CopyApart, CanTakePart}
 use Rattle.replica_parts.specs.Moving.{PartComes}
 use Rattle.replica_parts.specs.Sources.{CopiesFrom, IsSourced, HoldsOnly}
-use Rattle.replica_parts.specs.Replica.{IsWholeReplica, IsMergeCopy, names_of_job, copying_names, replica_names}
+use Rattle.replica_parts.specs.Replica.{IsWholeReplica, AreStanding, IsMergeCopy, names_of_job, copying_names, replica_names}
+use Rattle.replica_parts.proofs.Beside.{standing_on}
 use Rattle.replica_parts.proofs.Carried.{JobReads, HoldsNoOther, held_along, job_arrives}
 use Rattle.replica_parts.proofs.Foreign.{other_temporary, merge_foreign, point_foreign, running_foreign}
-use Rattle.replica_parts.proofs.Keeping.{Knows, HasWanted, Matches, knows_reads, reads_known, as_reads, reads_as, copies_reads, reads_copies, metas_reads, reads_metas, holds_beside, merge_spared, source_spared}
+use Rattle.replica_parts.proofs.Keeping.{core_of, Knows, HasWanted, Matches, knows_reads, reads_known, as_reads, reads_as, copies_reads, reads_copies, metas_reads, reads_metas, holds_beside, merge_spared, source_spared}
 use Rattle.replica_parts.proofs.Merging.{all_at, all_map, all_without, names-without, number_at}
 use Rattle.replica_parts.proofs.Parting.{part_added, temp_plain, temp_none, temp_lasting}
 use Rattle.replica_parts.proofs.Segments.{segment_infos, segment_files}
@@ -42,11 +43,14 @@ use Rattle.replica_precopies.proofs.Moved.{moved_whole, moved_sourced}
 -- a copy in its own place
 pub with_same : (number : ℕ) (cs : List Job) (c : Job) → copy_at number cs ≡ Some c → copies_with number c cs ≡ cs
 with_same number [] c e = refl
-with_same number (x ∷ xs) c e = by (x.number == number) refl e
+with_same number (x ∷ xs) c e = by (with_same number xs c) (x.number == number) e
   where
-    by : (b : Bool) → (x.number == number) ≡ b → (if b then Some x else copy_at number xs) ≡ Some c → (if b then c ∷ xs else x ∷ copies_with number c xs) ≡ x ∷ xs
-    by true f g = let same : x ≡ c = cc in ap (λ (y : Job). y ∷ xs) (sym same)
-    by false f g = ap (λ (ys : List Job). x ∷ ys) (with_same number xs c g)
+    by : (copy_at number xs ≡ Some c → copies_with number c xs ≡ xs) → (b : Bool) → (if b then Some x else copy_at number xs) ≡ Some c → (if b then c ∷ xs else x ∷ copies_with number c xs) ≡ x ∷ xs
+    by more true g = let here : x ≡ c = cc in ap (λ (y : Job). y ∷ xs) (sym here)
+    by more false g = ap (λ (ys : List Job). x ∷ ys) (more g)
+
+one_name : (x q : Name) → is_among (x ∷ []) q ≡ true → x ≡ q
+one_name x q there = elim (or_cases (same x q) false there) [ inl here ↦ same_true x q here | inr none ↦ absurd (true≢false (sym none)) ]
 
 module _ {D : Type 0} (cells : D → Cells) (p : Parts D) (is : IsWholeReplica cells p) (number : ℕ) (c : Job) (e : copy_at number p.copies.running ≡ Some c) (name : Name) (missing : 0 < times c.missing name) where
   m : IsMergeCopy (cells p.dir) p.files p.jobs c
@@ -62,7 +66,7 @@ module _ {D : Type 0} (cells : D → Cells) (p : Parts D) (is : IsWholeReplica c
   same_number = number_at number p.copies.running c e
 
   -- ---- nobody holds a file of the part's temporary name
-  others : List Name
+  abbrev others : List Name
   others = (searcher_names p.searchers ++ book_names p.commits) ++ (names_of_job p.job ++ (running_names (copies_without number p.copies.running) ++ meta_names p.copies.pending.files))
 
   counts_c : (q : Name) → count_of p.files q ≡ times others q + times (job_names c) q
@@ -249,7 +253,7 @@ module _ {D : Type 0} (cells : D → Cells) (p : Parts D) (is : IsWholeReplica c
 
   pub comes_held : (result : Result T E) → PartComes c now name bytes p.files files (cells p.dir) (cells dir) result → (running : List Job) → running ≡ copies_with number now p.copies.running
       → HoldsOnly p (record p { dir = dir; files = files; copies = record p.copies { running = running } })
-  comes_held (Ok x) comes running made = came_held cells p is number c e name missing dir files now comes.moves comes.is comes.ok bytes comes.reads
+  comes_held (Ok x) comes running made = came_held cells p is number c e name missing dir files now comes.moves comes.is comes.ok
   comes_held (Err x) comes running made = out_held cells p is number c e name missing dir files now comes.moves comes.is comes.err
 
   -- what the copies are
@@ -268,9 +272,6 @@ module _ {D : Type 0} (cells : D → Cells) (p : Parts D) (is : IsWholeReplica c
   comes_reads (Err x) comes = tt
 
   -- the temporary name alone comes to stand
-  one_name : (x q : Name) → is_among (x ∷ []) q ≡ true → x ≡ q
-  one_name x q there = elim (or_cases (same x q) false there) [ inl here ↦ same_true x q here | inr more ↦ absurd (true≢false (sym more)) ]
-
   pub comes_appears : (result : Result T E) → PartComes c now name bytes p.files files (cells p.dir) (cells dir) result → AppearsOnly (λ q. q ≡ temp_name_of name number) (cells p.dir) (cells dir)
   comes_appears result comes = keeps_only (λ q. q ≡ temp_name_of name number) (temp_name_of name c.number ∷ []) p.files files (cells p.dir) (cells dir) comes.moves.keeps
       (λ q there none. sym (one_name (temp_name_of name c.number) q there) ∙ ap (temp_name_of name) (number_at number p.copies.running c e))
@@ -278,13 +279,18 @@ module _ {D : Type 0} (cells : D → Cells) (p : Parts D) (is : IsWholeReplica c
   pub comes_stays : (result : Result T E) → PartComes c now name bytes p.files files (cells p.dir) (cells dir) result → KeepsBytes p.files files (cells p.dir) (cells dir)
   comes_stays result comes = record { held = comes.moves.keeps.reads }
 
+  pub comes_standing : (result : Result T E) → PartComes c now name bytes p.files files (cells p.dir) (cells dir) result → (running : List Job) → running ≡ copies_with number now p.copies.running
+      → AreStanding cells p → AreStanding cells (record p { dir = dir; files = files; copies = record p.copies { running = running } })
+  comes_standing result comes running made = standing_on cells p (record p { dir = dir; files = files; copies = record p.copies { running = running } }) (core_of cells p is)
+      (core_of cells (record p { dir = dir; files = files; copies = record p.copies { running = running } }) (comes_whole result comes running made)) refl refl (comes_stays result comes)
+
 -- the one there is
 pub some_at : {P : Job → Type 0} (o : Option Job) → is_some o ≡ true → IfSome o P → (c : Job) × (o ≡ Some c) × P c
 some_at None there h = absurd (true≢false (sym there))
 some_at (Some c) there h = (c, refl, h)
 
-pub some_here : {P : Job → Type 0} (o : Option Job) (c : Job) → o ≡ Some c → P c → IfSome o P
-some_here {P} o c e h = subst (λ (x : Option Job). IfSome x P) (sym e) h
+pub some_here : (P : Job → Type 0) (o : Option Job) (c : Job) → o ≡ Some c → P c → IfSome o P
+some_here P o c e h = subst (λ (x : Option Job). IfSome x P) (sym e) h
 
 pub on_ok : {T E P Q : Type 0} (result : Result T E) → (P → Q) → OnOk result P → OnOk result Q
 on_ok (Ok x) turns h = turns h

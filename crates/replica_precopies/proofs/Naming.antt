@@ -20,7 +20,9 @@ use Rattle.replica_parts.specs.Merges.{copy_at, copies_with}
 use Rattle.replica_parts.specs.Moving.{PartsPlaced, ChangesCopy}
 use Rattle.replica_parts.specs.Sources.{IsSourced, HoldsOnlyWanted}
 use Rattle.replica_parts.specs.Waiting.{IsLoose}
-use Rattle.replica_parts.specs.Replica.{IsWholeReplica, IsMergeCopy}
+use Rattle.replica_parts.specs.Replica.{IsWholeReplica, AreStanding, IsMergeCopy}
+use Rattle.replica_parts.proofs.Beside.{standing_on}
+use Rattle.replica_parts.proofs.Keeping.{core_of}
 use Rattle.replica_parts.proofs.Merging.{all_at}
 use Rattle.replica_parts.proofs.Segments.{segment_infos, segment_files}
 use Rattle.replica_parts.proofs.Waiting.{own_wanted}
@@ -83,6 +85,10 @@ module _ {D : Type 0} (cells : D → Cells) (p : Parts D) (is : IsWholeReplica c
 
     pub placing_stays : KeepsBytes p.files files (cells p.dir) (cells dir)
     placing_stays = placed_stays cells p is number c e complete noted slice slice_is noted_some noted_all_of dir files changes.copy count.0 count.1 changes.is.same changes.is.able changes.is.is
+
+    pub placing_standing : AreStanding cells p → AreStanding cells (record p { dir = dir; files = files; known = noted; copies = record p.copies { running = running } })
+    placing_standing = standing_on cells p (record p { dir = dir; files = files; known = noted; copies = record p.copies { running = running } }) (core_of cells p is)
+        (core_of cells (record p { dir = dir; files = files; known = noted; copies = record p.copies { running = running } }) placing_whole) refl refl placing_stays
 
     pub placing_places : IfSome (copy_at number p.copies.running) (λ k. PlacesCopy cells number k p (record p { dir = dir; files = files; known = noted; copies = record p.copies { running = running } }) result)
     placing_places = subst (λ (o : Option Job). IfSome o (λ k. PlacesCopy cells number k p (record p { dir = dir; files = files; known = noted; copies = record p.copies { running = running } }) result)) (sym e) (record {

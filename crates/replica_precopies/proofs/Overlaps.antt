@@ -17,71 +17,79 @@ use Rattle.replica_precopies.specs.Overlapping.{overlaps, first_overlapping, cop
 -- ---- the first one runs
 pub first_runs : (names : List Name) (cs : List Job) (number : ℕ) → first_overlapping names cs ≡ Some number → is_some (copy_at number cs) ≡ true
 first_runs names [] number e = cc
-first_runs names (x ∷ xs) number e = by (overlaps names x) refl e
+first_runs names (x ∷ xs) number e = by (first_runs names xs number) (overlaps names x) e
   where
     here : (b : Bool) → (x.number == number) ≡ b → (is_some (copy_at number xs) ≡ true) → is_some (if b then Some x else copy_at number xs) ≡ true
     here true f more = refl
     here false f more = more
 
-    by : (b : Bool) → overlaps names x ≡ b → (if b then Some x.number else first_overlapping names xs) ≡ Some number → is_some (copy_at number (x ∷ xs)) ≡ true
-    by true f g = let same : x.number ≡ number = cc in grind (arith, nat_tests, same)
-    by false f g = here (x.number == number) refl (first_runs names xs number g)
+    first : x.number ≡ number → (b : Bool) → (x.number == number) ≡ b → is_some (if b then Some x else copy_at number xs) ≡ true
+    first named true f = refl
+    first named false f = absurd (grind (arith, nat_tests, named, f))
+
+    by : (first_overlapping names xs ≡ Some number → is_some (copy_at number xs) ≡ true) → (b : Bool) → (if b then Some x.number else first_overlapping names xs) ≡ Some number → is_some (copy_at number (x ∷ xs)) ≡ true
+    by more true g = let named : x.number ≡ number = cc in first named (x.number == number) refl
+    by more false g = here (x.number == number) refl (more g)
 
 -- ---- the others are the same without it
 -- a copy of the number in a list of which each is apart from this one
 not_number : (c : Job) (number : ℕ) (cs : List Job) → AllByRecursion (CopyApart c) cs → is_some (copy_at number cs) ≡ true → (c.number == number) ≡ true → ⊥
 not_number c number [] h there e = true≢false (sym there)
-not_number c number (x ∷ xs) h there e = by (x.number == number) refl there
+not_number c number (x ∷ xs) h there e = by (λ g. not_number c number xs h.1 g e) (x.number == number) refl there
   where
-    by : (b : Bool) → (x.number == number) ≡ b → is_some (if b then Some x else copy_at number xs) ≡ true → ⊥
-    by true f g = h.0.numbers (grind (arith, nat_tests, e, f))
-    by false f g = not_number c number xs h.1 g e
+    by : (is_some (copy_at number xs) ≡ true → ⊥) → (b : Bool) → (x.number == number) ≡ b → is_some (if b then Some x else copy_at number xs) ≡ true → ⊥
+    by more true f g = h.0.numbers (grind (arith, nat_tests, e, f))
+    by more false f g = more g
 
 pub beside_without : (names : List Name) (cs : List Job) (number : ℕ) → AreCopiesApart cs → first_overlapping names cs ≡ Some number → copies_beside names (copies_without number cs) ≡ copies_beside names cs
 beside_without names [] number apart e = cc
-beside_without names (x ∷ xs) number apart e = by (overlaps names x) refl e
+beside_without names (x ∷ xs) number apart e = by (beside_without names xs number apart.1) (overlaps names x) refl e
   where
-    kept : (b : Bool) → overlaps names x ≡ b → copies_beside names (copies_without number xs) ≡ copies_beside names xs → copies_beside names (x ∷ copies_without number xs) ≡ copies_beside names (x ∷ xs)
-    kept b f more = ap (λ (ys : List Job). cond (not (overlaps names x)) (x ∷ ys) ys) more
-
-    later : (b : Bool) → (x.number == number) ≡ b → overlaps names x ≡ false → first_overlapping names xs ≡ Some number → copies_beside names (if b then xs else x ∷ copies_without number xs) ≡ copies_beside names (x ∷ xs)
-    later true f none g = absurd (not_number x number xs apart.0 (first_runs names xs number g) f)
-    later false f none g = kept false none (beside_without names xs number apart.1 g)
+    later : (first_overlapping names xs ≡ Some number → copies_beside names (copies_without number xs) ≡ copies_beside names xs) → (b : Bool) → (x.number == number) ≡ b → first_overlapping names xs ≡ Some number
+        → copies_beside names (if b then xs else x ∷ copies_without number xs) ≡ copies_beside names (x ∷ xs)
+    later more true f g = absurd (not_number x number xs apart.0 (first_runs names xs number g) f)
+    later more false f g = ap (λ (ys : List Job). cond (not (overlaps names x)) (x ∷ ys) ys) (more g)
 
     here : (b : Bool) → (x.number == number) ≡ b → x.number ≡ number → overlaps names x ≡ true → copies_beside names (if b then xs else x ∷ copies_without number xs) ≡ copies_beside names (x ∷ xs)
     here true f same one = sym (ap (λ b. cond (not b) (x ∷ copies_beside names xs) (copies_beside names xs)) one)
     here false f same one = absurd (grind (arith, nat_tests, f, same))
 
-    by : (b : Bool) → overlaps names x ≡ b → (if b then Some x.number else first_overlapping names xs) ≡ Some number → copies_beside names (copies_without number (x ∷ xs)) ≡ copies_beside names (x ∷ xs)
-    by true f g = let same : x.number ≡ number = cc in here (x.number == number) refl same f
-    by false f g = later (x.number == number) refl f g
+    by : (first_overlapping names xs ≡ Some number → copies_beside names (copies_without number xs) ≡ copies_beside names xs) → (b : Bool) → overlaps names x ≡ b → (if b then Some x.number else first_overlapping names xs) ≡ Some number
+        → copies_beside names (copies_without number (x ∷ xs)) ≡ copies_beside names (x ∷ xs)
+    by more true f g = let named : x.number ≡ number = cc in here (x.number == number) refl named f
+    by more false f g = later more (x.number == number) refl g
 
 pub fewer_without : (number : ℕ) (cs : List Job) → is_some (copy_at number cs) ≡ true → length (copies_without number cs) < length cs
 fewer_without number [] there = absurd (true≢false (sym there))
-fewer_without number (x ∷ xs) there = by (x.number == number) refl there
+fewer_without number (x ∷ xs) there = by (fewer_without number xs) (x.number == number) there
   where
-    by : (b : Bool) → (x.number == number) ≡ b → is_some (if b then Some x else copy_at number xs) ≡ true → length (if b then xs else x ∷ copies_without number xs) < length (x ∷ xs)
-    by true f g = omega arith
-    by false f g = omega (arith, fewer_without number xs g)
+    by : (is_some (copy_at number xs) ≡ true → length (copies_without number xs) < length xs) → (b : Bool) → is_some (if b then Some x else copy_at number xs) ≡ true → length (if b then xs else x ∷ copies_without number xs) < length (x ∷ xs)
+    by more true g = omega arith
+    by more false g = let few : length (copies_without number xs) < length xs = more g in omega (arith, few)
 
 -- ---- where there is none
+pub not_none : (n : ℕ) → ◌≡◌ {A = Option ℕ} (Some n) None → ⊥
+not_none n e = cc
+
 pub none_beside : (names : List Name) (cs : List Job) → first_overlapping names cs ≡ None → copies_beside names cs ≡ cs
 none_beside names [] e = refl
-none_beside names (x ∷ xs) e = by (overlaps names x) refl e
+none_beside names (x ∷ xs) e = by (none_beside names xs) (overlaps names x) refl e
   where
-    by : (b : Bool) → overlaps names x ≡ b → (if b then Some x.number else first_overlapping names xs) ≡ None → copies_beside names (x ∷ xs) ≡ x ∷ xs
-    by true f g = cc
-    by false f g = ap (λ b. cond (not b) (x ∷ copies_beside names xs) (copies_beside names xs)) f ∙ ap (λ (ys : List Job). x ∷ ys) (none_beside names xs g)
+    by : (first_overlapping names xs ≡ None → copies_beside names xs ≡ xs) → (b : Bool) → overlaps names x ≡ b → (if b then Some x.number else first_overlapping names xs) ≡ None → copies_beside names (x ∷ xs) ≡ x ∷ xs
+    by more true f g = absurd (not_none x.number g)
+    by more false f g = ap (λ (b : Bool). cond (not b) (x ∷ copies_beside names xs) (copies_beside names xs)) f ∙ ap (λ (ys : List Job). x ∷ ys) (more g)
 
 -- ---- those that stay share no name
 none_any : (names others : List Name) → list_any (is_among names) others ≡ false → (q : Name) → 0 < times others q → times names q ≡ 0
 none_any names [] e q some = absurd (let n : times [] q ≡ 0 = refl in omega (arith, some, n))
-none_any names (x ∷ xs) e q some = by (is_among names x) refl (same x q) refl e
+none_any names (x ∷ xs) e q some = by (λ h. none_any names xs h q) (is_among names x) refl (same x q) refl e
   where
-    by : (b : Bool) → is_among names x ≡ b → (t : Bool) → same x q ≡ t → (b || list_any (is_among names) xs) ≡ false → times names q ≡ 0
-    by true f t g h = absurd (true≢false h)
-    by false f true g h = subst (λ (y : Name). times names y ≡ 0) (same_true x q g) (not_among_times names x f)
-    by false f false g h = none_any names xs h q (omega (arith, some, times-append (x ∷ []) xs q, times_one x q ∙ ap (λ t. cond t 1 0) g))
+    by : (list_any (is_among names) xs ≡ false → 0 < times xs q → times names q ≡ 0) → (b : Bool) → is_among names x ≡ b → (t : Bool) → same x q ≡ t → (b || list_any (is_among names) xs) ≡ false → times names q ≡ 0
+    by more true f t g h = absurd (true≢false h)
+    by more false f true g h = subst (λ (y : Name). times names y ≡ 0) (same_true x q g) (not_among_times names x f)
+    by more false f false g h =
+        let one : times (x ∷ []) q ≡ 0 = times_one x q ∙ ap (λ t. cond t 1 0) g in
+        more h (omega (arith, some, one, times-append (x ∷ []) xs q))
 
 none_own : (names : List Name) (ps : List JobPart) → list_any (λ p. is_among names p.own) ps ≡ list_any (is_among names) (own_names ps)
 none_own names [] = refl
@@ -100,14 +108,12 @@ shares_none names c e = by (list_any (is_among names) c.missing) refl e
 
 pub beside_apart : (names : List Name) (cs : List Job) → AllByRecursion (λ c. SharesNone (copied_names c) names) (copies_beside names cs)
 beside_apart names [] = tt
-beside_apart names (x ∷ xs) = by (overlaps names x) refl
+beside_apart names (x ∷ xs) = by (beside_apart names xs) (overlaps names x) refl
   where
-    by : (b : Bool) → overlaps names x ≡ b → AllByRecursion (λ c. SharesNone (copied_names c) names) (copies_beside names (x ∷ xs))
-    by true f = subst (λ b. AllByRecursion (λ c. SharesNone (copied_names c) names) (cond (not b) (x ∷ copies_beside names xs) (copies_beside names xs))) (sym f) (beside_apart names xs)
-    by false f = subst (λ b. AllByRecursion (λ c. SharesNone (copied_names c) names) (cond (not b) (x ∷ copies_beside names xs) (copies_beside names xs))) (sym f) (shares_none names x f, beside_apart names xs)
-
-pub not_none : (n : ℕ) → ◌≡◌ {A = Option ℕ} (Some n) None → ⊥
-not_none n e = cc
+    by : AllByRecursion (λ c. SharesNone (copied_names c) names) (copies_beside names xs) → (b : Bool) → overlaps names x ≡ b
+        → AllByRecursion (λ c. SharesNone (copied_names c) names) (cond (not b) (x ∷ copies_beside names xs) (copies_beside names xs))
+    by more true f = more
+    by more false f = (shares_none names x f, more)
 
 -- two calls in a row, of which the second holds no more than the first
 pub bytes_then : (h0 h1 h2 : Holdings) (a b c : Cells) → KeepsBytes h0 h1 a b → KeepsBytes h1 h2 b c → ((q : Name) → count_of h2 q ≤ count_of h1 q) → KeepsBytes h0 h2 a c

@@ -59,11 +59,11 @@ pending_forgotten p mid done last seg none mid_is done_is last_is = last_is ∙ 
 -- ---- the parts have their own names
 pub present_all : (ps : List JobPart) (q : Name) → present_of (placed_to (length ps) ps) q ≡ q
 present_all [] q = refl
-present_all (y ∷ ys) q = by (same y.own q) refl
+present_all (y ∷ ys) q = by (present_all ys q) (same y.own q) refl
   where
-    by : (b : Bool) → same y.own q ≡ b → cond (same y.own q) y.own (present_of (placed_to (length ys) ys) q) ≡ q
-    by true f = ap (λ b. cond b y.own (present_of (placed_to (length ys) ys) q)) f ∙ same_true y.own q f
-    by false f = ap (λ b. cond b y.own (present_of (placed_to (length ys) ys) q)) f ∙ present_all ys q
+    by : present_of (placed_to (length ys) ys) q ≡ q → (b : Bool) → same y.own q ≡ b → cond b y.own (present_of (placed_to (length ys) ys) q) ≡ q
+    by more true f = same_true y.own q f
+    by more false f = more
 
 pub placed_twice : (ps : List JobPart) → placed_to (length ps) ps ≡ placed_to (length (placed_to (length ps) ps)) (placed_to (length ps) ps)
 placed_twice [] = refl
@@ -72,19 +72,20 @@ placed_twice (y ∷ ys) = ap (λ (xs : List JobPart). placed y ∷ xs) (placed_t
 -- ---- a copy that was changed, and one that is out
 pub at_with : (number : ℕ) (cs : List Job) (c now : Job) → copy_at number cs ≡ Some c → (now.number == number) ≡ true → copy_at number (copies_with number now cs) ≡ Some now
 at_with number [] c now e same = cc
-at_with number (x ∷ xs) c now e here = by (x.number == number) refl e
+at_with number (x ∷ xs) c now e here = by (λ g. at_with number xs c now g here) (x.number == number) refl e
   where
-    by : (b : Bool) → (x.number == number) ≡ b → (if b then Some x else copy_at number xs) ≡ Some c → copy_at number (if b then now ∷ xs else x ∷ copies_with number now xs) ≡ Some now
-    by true f g = ap (λ b. if b then Some now else copy_at number xs) here
-    by false f g = ap (λ b. if b then Some x else copy_at number (copies_with number now xs)) f ∙ at_with number xs c now g here
+    by : (copy_at number xs ≡ Some c → copy_at number (copies_with number now xs) ≡ Some now) → (b : Bool) → (x.number == number) ≡ b → (if b then Some x else copy_at number xs) ≡ Some c
+        → copy_at number (if b then now ∷ xs else x ∷ copies_with number now xs) ≡ Some now
+    by more true f g = ap (λ (b : Bool). if b then Some now else copy_at number xs) here
+    by more false f g = ap (λ (b : Bool). if b then Some x else copy_at number (copies_with number now xs)) f ∙ more g
 
 pub without_with : (number : ℕ) (cs : List Job) (now : Job) → (now.number == number) ≡ true → copies_without number (copies_with number now cs) ≡ copies_without number cs
 without_with number [] now here = refl
-without_with number (x ∷ xs) now here = by (x.number == number) refl
+without_with number (x ∷ xs) now here = by (without_with number xs now here) (x.number == number) refl
   where
-    by : (b : Bool) → (x.number == number) ≡ b → copies_without number (if b then now ∷ xs else x ∷ copies_with number now xs) ≡ (if b then xs else x ∷ copies_without number xs)
-    by true f = ap (λ b. if b then xs else now ∷ copies_without number xs) here
-    by false f = ap (λ b. if b then copies_with number now xs else x ∷ copies_without number (copies_with number now xs)) f ∙ ap (λ (ys : List Job). x ∷ ys) (without_with number xs now here)
+    by : copies_without number (copies_with number now xs) ≡ copies_without number xs → (b : Bool) → (x.number == number) ≡ b → copies_without number (if b then now ∷ xs else x ∷ copies_with number now xs) ≡ (if b then xs else x ∷ copies_without number xs)
+    by more true f = ap (λ (b : Bool). if b then xs else now ∷ copies_without number xs) here
+    by more false f = ap (λ (b : Bool). if b then copies_with number now xs else x ∷ copies_without number (copies_with number now xs)) f ∙ ap (λ (ys : List Job). x ∷ ys) more
 
 -- ---- the files come to be pending
 module _ {D : Type 0} (cells : D → Cells) (p : Parts D) (is : IsWholeReplica cells p) (number : ℕ) (c : Job) (e : copy_at number p.copies.running ≡ Some c) (complete : c.missing ≡ []) (own : c.parts ≡ placed_to (length c.parts) c.parts) where

@@ -42,8 +42,10 @@ module _ (p : Pending) (state : CopyState) (l : Left) (is : AreLeft p state l) w
   left_unexpected was = ap (λ (k : Pending). k.expected) is.pending ∙ was
 
 -- the names that copies hold, where the pending files are parted
-pub copies_split : (c : MergeCopies) (state : CopyState) (l : Left) → AreLeft c.pending state l → (q : Name) → times (copies_names c) q ≡ times (copies_names (record { running = c.running; pending = l.pending })) q + times l.dropped.items q
-copies_split c state l is q = omega (arith, left_split c.pending state l is q, times-append (running_names c.running) (meta_names c.pending.files) q, times-append (running_names c.running) (meta_names l.pending.files) q)
+pub copies_split : (c : MergeCopies) (state : CopyState) (l : Left) → AreLeft c.pending state l → (dropped : List Name) → dropped ≡ l.dropped.items → (q : Name) → times (copies_names c) q ≡ times (copies_names (record { running = c.running; pending = l.pending })) q + times dropped q
+copies_split c state l is dropped same q =
+    let e : times dropped q ≡ times l.dropped.items q = ap (λ (ns : List Name). times ns q) same in
+    omega (arith, e, left_split c.pending state l is q, times-append (running_names c.running) (meta_names c.pending.files) q, times-append (running_names c.running) (meta_names l.pending.files) q)
 
 -- the files that two lists of names take out, one after the other
 pub left_of : (p first mid last : Pending) (state : CopyState) (names completed taken more : List Name) → first ≡ p → names ≡ meta_names state.files → completed ≡ state.completed → mid ≡ record first { files = files_not_named names first.files }

@@ -15,36 +15,36 @@ advance-requires-clause-ready g c = ready g.D.Dir.cells c.args.parts.now (core_o
 pub release-requires : goal.release-requires
 release-requires g c =
     gone_counted g.D.Dir.cells c.args.parts.now (core_of g.D.Dir.cells c.args.parts.now c.requires.whole) c.in-Some-take.field-0 (sym c.in-Some-take.ensures.value) c.requires.complete c.requires.standing c.advance.new.dir c.advance.new.files c.advance.new.copy c.in-Ok-advance.ensures.job c.in-Ok-advance.ensures.parts
-    (record { running = c.args.parts.now.copies.running; pending = c.in-Ok-part_pending.left.pending }) c.in-Ok-part_pending.left.dropped.items (copies_split c.args.parts.now.copies c.want-2.result.now c.in-Ok-part_pending.left (c.in-Ok-part_pending.ensures)) c.in-Ok-advance.point c.in-Ok-advance.ensures.ok c.as_slice-in-Ok-advance.result.now c.as_slice-in-Ok-advance.ensures
+    (record { running = c.args.parts.now.copies.running; pending = c.in-Ok-part_pending.left.pending }) c.as_slice-2.result.now (copies_split c.args.parts.now.copies c.want-2.result.now c.in-Ok-part_pending.left c.in-Ok-part_pending.ensures c.as_slice-2.result.now c.as_slice-2.ensures.value) c.in-Ok-advance.point c.in-Ok-advance.ensures.ok c.as_slice-in-Ok-advance.result.now c.as_slice-in-Ok-advance.ensures
 
 pub returns-in-Ok-advance-clause-whole : goal.returns-in-Ok-advance-clause-whole
 returns-in-Ok-advance-clause-whole g c =
     done_whole g.D.Dir.cells c.args.parts.now c.requires.whole c.in-Some-take.field-0 (sym c.in-Some-take.ensures.value) c.requires.complete c.requires.standing c.as_slice.result.now c.note_wanted.new.known (want_slice c.args.parts.now.job c.in-Some.job c.in-Some-take.field-0 c.as_slice.result.now c.in-Some.is (sym c.in-Some-take.ensures.value) (c.as_slice.ensures ∙ ap (λ w. w.files) c.want.ensures)) c.note_wanted.ensures.some c.in-Ok.ensures.all c.advance.new.dir c.advance.new.files c.advance.new.copy c.in-Ok-advance.ensures.job c.in-Ok-advance.ensures.parts
-    (record { running = c.args.parts.now.copies.running; pending = c.in-Ok-part_pending.left.pending }) c.in-Ok-part_pending.left.dropped.items (copies_split c.args.parts.now.copies c.want-2.result.now c.in-Ok-part_pending.left (c.in-Ok-part_pending.ensures)) refl (left_settled c.args.parts.now.copies.pending c.want-2.result.now c.in-Ok-part_pending.left (c.in-Ok-part_pending.ensures) c.requires.whole.merges.pending) (left_unexpected c.args.parts.now.copies.pending c.want-2.result.now c.in-Ok-part_pending.left (c.in-Ok-part_pending.ensures) c.requires.whole.merges.unexpected) c.in-Ok-advance.point c.in-Ok-advance.ensures.ok c.as_slice-in-Ok-advance.result.now c.as_slice-in-Ok-advance.ensures c.release.new.dir c.release.new.self c.replace.new.self c.take.new.self c.release.ensures.lets_go c.replace.ensures.point c.replace.ensures.tickets c.take.ensures.after
+    (record { running = c.args.parts.now.copies.running; pending = c.in-Ok-part_pending.left.pending }) c.as_slice-2.result.now (copies_split c.args.parts.now.copies c.want-2.result.now c.in-Ok-part_pending.left c.in-Ok-part_pending.ensures c.as_slice-2.result.now c.as_slice-2.ensures.value) refl (left_settled c.args.parts.now.copies.pending c.want-2.result.now c.in-Ok-part_pending.left c.in-Ok-part_pending.ensures c.requires.whole.merges.pending) (left_unexpected c.args.parts.now.copies.pending c.want-2.result.now c.in-Ok-part_pending.left c.in-Ok-part_pending.ensures c.requires.whole.merges.unexpected) c.in-Ok-advance.point c.in-Ok-advance.ensures.ok c.as_slice-in-Ok-advance.result.now c.as_slice-in-Ok-advance.ensures c.release.new.dir c.release.new.self c.replace.new.self c.take.new.self c.release.ensures.lets_go c.replace.ensures.point c.replace.ensures.tickets c.take.ensures.after
     c.keep_held.new.self c.keep_held.ensures
 
 pub returns-in-Ok-advance-clause-sourced : goal.returns-in-Ok-advance-clause-sourced
 returns-in-Ok-advance-clause-sourced g c =
     done_sourced g.D.Dir.cells c.args.parts.now c.requires.whole c.in-Some-take.field-0 (sym c.in-Some-take.ensures.value) c.requires.complete c.requires.standing c.as_slice.result.now c.note_wanted.new.known (want_slice c.args.parts.now.job c.in-Some.job c.in-Some-take.field-0 c.as_slice.result.now c.in-Some.is (sym c.in-Some-take.ensures.value) (c.as_slice.ensures ∙ ap (λ w. w.files) c.want.ensures)) c.note_wanted.ensures.some c.in-Ok.ensures.all c.advance.new.dir c.advance.new.files c.advance.new.copy c.in-Ok-advance.ensures.job c.in-Ok-advance.ensures.parts
-    (record { running = c.args.parts.now.copies.running; pending = c.in-Ok-part_pending.left.pending }) c.in-Ok-part_pending.left.dropped.items (copies_split c.args.parts.now.copies c.want-2.result.now c.in-Ok-part_pending.left (c.in-Ok-part_pending.ensures)) refl (left_settled c.args.parts.now.copies.pending c.want-2.result.now c.in-Ok-part_pending.left (c.in-Ok-part_pending.ensures) c.requires.whole.merges.pending) (left_unexpected c.args.parts.now.copies.pending c.want-2.result.now c.in-Ok-part_pending.left (c.in-Ok-part_pending.ensures) c.requires.whole.merges.unexpected) c.in-Ok-advance.point c.in-Ok-advance.ensures.ok c.as_slice-in-Ok-advance.result.now c.as_slice-in-Ok-advance.ensures c.release.new.dir c.release.new.self c.replace.new.self c.take.new.self c.release.ensures.lets_go c.replace.ensures.point c.replace.ensures.tickets c.take.ensures.after
+    (record { running = c.args.parts.now.copies.running; pending = c.in-Ok-part_pending.left.pending }) c.as_slice-2.result.now (copies_split c.args.parts.now.copies c.want-2.result.now c.in-Ok-part_pending.left c.in-Ok-part_pending.ensures c.as_slice-2.result.now c.as_slice-2.ensures.value) refl (left_settled c.args.parts.now.copies.pending c.want-2.result.now c.in-Ok-part_pending.left c.in-Ok-part_pending.ensures c.requires.whole.merges.pending) (left_unexpected c.args.parts.now.copies.pending c.want-2.result.now c.in-Ok-part_pending.left c.in-Ok-part_pending.ensures c.requires.whole.merges.unexpected) c.in-Ok-advance.point c.in-Ok-advance.ensures.ok c.as_slice-in-Ok-advance.result.now c.as_slice-in-Ok-advance.ensures c.release.new.dir c.release.new.self c.replace.new.self c.take.new.self c.release.ensures.lets_go c.replace.ensures.point c.replace.ensures.tickets c.take.ensures.after
     c.keep_held.new.self c.keep_held.ensures
 
 pub returns-in-Ok-advance-clause-held : goal.returns-in-Ok-advance-clause-held
 returns-in-Ok-advance-clause-held g c =
     done_held g.D.Dir.cells c.args.parts.now c.requires.whole c.in-Some-take.field-0 (sym c.in-Some-take.ensures.value) c.requires.complete c.requires.standing c.as_slice.result.now c.note_wanted.new.known (want_slice c.args.parts.now.job c.in-Some.job c.in-Some-take.field-0 c.as_slice.result.now c.in-Some.is (sym c.in-Some-take.ensures.value) (c.as_slice.ensures ∙ ap (λ w. w.files) c.want.ensures)) c.note_wanted.ensures.some c.in-Ok.ensures.all c.advance.new.dir c.advance.new.files c.advance.new.copy c.in-Ok-advance.ensures.job c.in-Ok-advance.ensures.parts
-    (record { running = c.args.parts.now.copies.running; pending = c.in-Ok-part_pending.left.pending }) c.in-Ok-part_pending.left.dropped.items (copies_split c.args.parts.now.copies c.want-2.result.now c.in-Ok-part_pending.left (c.in-Ok-part_pending.ensures)) refl (left_settled c.args.parts.now.copies.pending c.want-2.result.now c.in-Ok-part_pending.left (c.in-Ok-part_pending.ensures) c.requires.whole.merges.pending) (left_unexpected c.args.parts.now.copies.pending c.want-2.result.now c.in-Ok-part_pending.left (c.in-Ok-part_pending.ensures) c.requires.whole.merges.unexpected) c.in-Ok-advance.point c.in-Ok-advance.ensures.ok c.as_slice-in-Ok-advance.result.now c.as_slice-in-Ok-advance.ensures c.release.new.dir c.release.new.self c.replace.new.self c.take.new.self c.release.ensures.lets_go c.replace.ensures.point c.replace.ensures.tickets c.take.ensures.after
+    (record { running = c.args.parts.now.copies.running; pending = c.in-Ok-part_pending.left.pending }) c.as_slice-2.result.now (copies_split c.args.parts.now.copies c.want-2.result.now c.in-Ok-part_pending.left c.in-Ok-part_pending.ensures c.as_slice-2.result.now c.as_slice-2.ensures.value) refl (left_settled c.args.parts.now.copies.pending c.want-2.result.now c.in-Ok-part_pending.left c.in-Ok-part_pending.ensures c.requires.whole.merges.pending) (left_unexpected c.args.parts.now.copies.pending c.want-2.result.now c.in-Ok-part_pending.left c.in-Ok-part_pending.ensures c.requires.whole.merges.unexpected) c.in-Ok-advance.point c.in-Ok-advance.ensures.ok c.as_slice-in-Ok-advance.result.now c.as_slice-in-Ok-advance.ensures c.release.new.dir c.release.new.self c.replace.new.self c.take.new.self c.release.ensures.lets_go c.replace.ensures.point c.replace.ensures.tickets c.take.ensures.after
     c.keep_held.new.self c.keep_held.ensures
 
 pub returns-in-Ok-advance-clause-stands : goal.returns-in-Ok-advance-clause-stands
 returns-in-Ok-advance-clause-stands g c =
     done_stands g.D.Dir.cells c.args.parts.now c.requires.whole c.in-Some-take.field-0 (sym c.in-Some-take.ensures.value) c.requires.complete c.requires.standing c.as_slice.result.now c.note_wanted.new.known (want_slice c.args.parts.now.job c.in-Some.job c.in-Some-take.field-0 c.as_slice.result.now c.in-Some.is (sym c.in-Some-take.ensures.value) (c.as_slice.ensures ∙ ap (λ w. w.files) c.want.ensures)) c.note_wanted.ensures.some c.in-Ok.ensures.all c.advance.new.dir c.advance.new.files c.advance.new.copy c.in-Ok-advance.ensures.job c.in-Ok-advance.ensures.parts
-    (record { running = c.args.parts.now.copies.running; pending = c.in-Ok-part_pending.left.pending }) c.in-Ok-part_pending.left.dropped.items (copies_split c.args.parts.now.copies c.want-2.result.now c.in-Ok-part_pending.left (c.in-Ok-part_pending.ensures)) refl (left_settled c.args.parts.now.copies.pending c.want-2.result.now c.in-Ok-part_pending.left (c.in-Ok-part_pending.ensures) c.requires.whole.merges.pending) (left_unexpected c.args.parts.now.copies.pending c.want-2.result.now c.in-Ok-part_pending.left (c.in-Ok-part_pending.ensures) c.requires.whole.merges.unexpected) c.in-Ok-advance.point c.in-Ok-advance.ensures.ok c.as_slice-in-Ok-advance.result.now c.as_slice-in-Ok-advance.ensures c.release.new.dir c.release.new.self c.replace.new.self c.take.new.self c.release.ensures.lets_go c.replace.ensures.point c.replace.ensures.tickets c.take.ensures.after
+    (record { running = c.args.parts.now.copies.running; pending = c.in-Ok-part_pending.left.pending }) c.as_slice-2.result.now (copies_split c.args.parts.now.copies c.want-2.result.now c.in-Ok-part_pending.left c.in-Ok-part_pending.ensures c.as_slice-2.result.now c.as_slice-2.ensures.value) refl (left_settled c.args.parts.now.copies.pending c.want-2.result.now c.in-Ok-part_pending.left c.in-Ok-part_pending.ensures c.requires.whole.merges.pending) (left_unexpected c.args.parts.now.copies.pending c.want-2.result.now c.in-Ok-part_pending.left c.in-Ok-part_pending.ensures c.requires.whole.merges.unexpected) c.in-Ok-advance.point c.in-Ok-advance.ensures.ok c.as_slice-in-Ok-advance.result.now c.as_slice-in-Ok-advance.ensures c.release.new.dir c.release.new.self c.replace.new.self c.take.new.self c.release.ensures.lets_go c.replace.ensures.point c.replace.ensures.tickets c.take.ensures.after
     c.keep_held.new.self c.keep_held.ensures
 
 pub returns-in-Ok-advance-clause-standing : goal.returns-in-Ok-advance-clause-standing
 returns-in-Ok-advance-clause-standing g c =
     done_standing g.D.Dir.cells c.args.parts.now c.requires.whole c.in-Some-take.field-0 (sym c.in-Some-take.ensures.value) c.requires.complete c.requires.standing c.as_slice.result.now c.note_wanted.new.known (want_slice c.args.parts.now.job c.in-Some.job c.in-Some-take.field-0 c.as_slice.result.now c.in-Some.is (sym c.in-Some-take.ensures.value) (c.as_slice.ensures ∙ ap (λ w. w.files) c.want.ensures)) c.note_wanted.ensures.some c.in-Ok.ensures.all c.advance.new.dir c.advance.new.files c.advance.new.copy c.in-Ok-advance.ensures.job c.in-Ok-advance.ensures.parts
-    (record { running = c.args.parts.now.copies.running; pending = c.in-Ok-part_pending.left.pending }) c.in-Ok-part_pending.left.dropped.items (copies_split c.args.parts.now.copies c.want-2.result.now c.in-Ok-part_pending.left (c.in-Ok-part_pending.ensures)) refl (left_settled c.args.parts.now.copies.pending c.want-2.result.now c.in-Ok-part_pending.left (c.in-Ok-part_pending.ensures) c.requires.whole.merges.pending) (left_unexpected c.args.parts.now.copies.pending c.want-2.result.now c.in-Ok-part_pending.left (c.in-Ok-part_pending.ensures) c.requires.whole.merges.unexpected) c.in-Ok-advance.point c.in-Ok-advance.ensures.ok c.as_slice-in-Ok-advance.result.now c.as_slice-in-Ok-advance.ensures c.release.new.dir c.release.new.self c.replace.new.self c.take.new.self c.release.ensures.lets_go c.replace.ensures.point c.replace.ensures.tickets c.take.ensures.after
+    (record { running = c.args.parts.now.copies.running; pending = c.in-Ok-part_pending.left.pending }) c.as_slice-2.result.now (copies_split c.args.parts.now.copies c.want-2.result.now c.in-Ok-part_pending.left c.in-Ok-part_pending.ensures c.as_slice-2.result.now c.as_slice-2.ensures.value) refl (left_settled c.args.parts.now.copies.pending c.want-2.result.now c.in-Ok-part_pending.left c.in-Ok-part_pending.ensures c.requires.whole.merges.pending) (left_unexpected c.args.parts.now.copies.pending c.want-2.result.now c.in-Ok-part_pending.left c.in-Ok-part_pending.ensures c.requires.whole.merges.unexpected) c.in-Ok-advance.point c.in-Ok-advance.ensures.ok c.as_slice-in-Ok-advance.result.now c.as_slice-in-Ok-advance.ensures c.release.new.dir c.release.new.self c.replace.new.self c.take.new.self c.release.ensures.lets_go c.replace.ensures.point c.replace.ensures.tickets c.take.ensures.after
     c.keep_held.new.self c.keep_held.ensures
 
 pub returns-in-Err-clause-whole : goal.returns-in-Err-clause-whole
