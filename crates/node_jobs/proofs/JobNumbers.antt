@@ -1,5 +1,5 @@
 -- The job of a point at a replica, for calls that name it by its number, and what is left where it ends.
-use Rattle.std.proofs.Common.{◌≡◌, ◌∙◌, ℕ, false, Some, None, Option, is_some, true≢false, refl, ap, sym, subst}
+use Rattle.std.proofs.Common.{◌≡◌, ◌∙◌, ℕ, Some, None, Option, is_some, true≢false, refl, ap, sym, subst}
 use Rattle.std.specs.Prelude.{IfSome, IsSome}
 use Rattle.disk_model.specs.Disk.{Name, Cells}
 use Rattle.node_files.specs.Appearing.{NoneAppears}
@@ -18,21 +18,23 @@ use Rattle.cluster_places.specs.JobChanges.{given_back, AltersStates}
 use Rattle.cluster_places.specs.Ends.{EndsJob, TakesBack}
 use Rattle.cluster_places.proofs.Stepping.{alters_none, job_none}
 
--- there is no job
-no_job : (o : Option PointJob) → is_some o ≡ false → o ≡ None
-no_job None none = refl
-no_job (Some j) none = absurd (true≢false none)
+-- there is no job, where a call answers none
+pub none_answered : {A : Type 0} (answer : Option A) (o : Option PointJob) → is_some answer ≡ is_some o → ((x : A) → answer ≡ Some x → ⊥) → o ≡ None
+none_answered answer None same none = refl
+none_answered None (Some j) same none = absurd (true≢false (sym same))
+none_answered (Some x) (Some j) same none = absurd (none x refl)
 
 -- the copy state that a job was begun with
 pub want_is : (o : Option PointJob) (c : Job) (state : CopyState) → IsSome o → IfSome o (λ j. c ≡ j.copy) → state ≡ c.want → want_of o ≡ Some (out_of state)
 want_is None c state some copy is = absurd (true≢false (sym some))
 want_is (Some j) c state some copy is = ap (λ (s : CopyState). Some (out_of s)) (sym (is ∙ ap (λ (x : Job). x.want) copy))
 
-module _ {D : Type 0} where
-  -- what the law on numbers says
-  abbrev pub NumberLaw : Type 0
-  NumberLaw = (number : ℕ) (p : ReplicaParts D) (j : PointJob) → p.job ≡ Some j → j.copy.number ≡ number → (running_job number p ≡ Some j.copy) × ((k : Job) → with_job number k p ≡ record p { job = Some (record j { copy = k }) }) × (without_job number p ≡ record p { job = None })
+-- what the law on numbers says
+abbrev pub NumberLaw : (D : Type 0) → Type 0
+NumberLaw D = (number : ℕ) (p : ReplicaParts D) (j : PointJob) → p.job ≡ Some j → j.copy.number ≡ number
+    → (running_job number p ≡ Some j.copy) × ((k : Job) → with_job number k p ≡ record p { job = Some (record j { copy = k }) }) × (without_job number p ≡ record p { job = None })
 
+module _ {D : Type 0} where
   -- the job of a point, which has this number: the calls by number are about it
   pub record RunsPoint (number : ℕ) (c : Job) (r : ReplicaParts D) : Type 0 where
     pub job : PointJob
@@ -43,7 +45,7 @@ module _ {D : Type 0} where
     pub changes : (k : Job) → with_job number k r ≡ record r { job = Some (record job { copy = k }) }
     pub ends : without_job number r ≡ record r { job = None }
 
-  pub runs_point : NumberLaw → (number : ℕ) (c : Job) (r : ReplicaParts D) → IsSome r.job → IfSome r.job (λ j. c ≡ j.copy) → number ≡ c.number → RunsPoint number c r
+  pub runs_point : NumberLaw D → (number : ℕ) (c : Job) (r : ReplicaParts D) → IsSome r.job → IfSome r.job (λ j. c ≡ j.copy) → number ≡ c.number → RunsPoint number c r
   runs_point law number c r some copy is = by r.job refl some copy
     where
       by : (o : Option PointJob) → r.job ≡ o → IsSome o → IfSome o (λ j. c ≡ j.copy) → RunsPoint number c r
@@ -51,7 +53,7 @@ module _ {D : Type 0} where
       by (Some j) e some copy =
           let same : number ≡ j.copy.number = is ∙ ap (λ (x : Job). x.number) copy in
           let all = law number r j e (sym same) in
-          record { job = j; there = e; copy = copy; number_is = same; runs = all.0; changes = all.1.0; ends = all.1.1 }
+          record { job = j; there = e; copy = copy; number_is = same; runs = all.0; changes = all.1; ends = all.2 }
 
   -- it runs
   pub some_runs : (number : ℕ) (c : Job) (r : ReplicaParts D) → RunsPoint number c r → IsSome (running_job number r)
@@ -77,11 +79,8 @@ module _ {D : Type 0} where
     pub none_ends : (r : ReplicaParts D) → r.job ≡ None → EndsJob cells r r
     none_ends r none = record { alters = job_none cells r; none = none; jobs = refl; seen = refl; copies = refl }
 
-    pub nothing_ends : (r : ReplicaParts D) → is_some r.job ≡ false → EndsJob cells r r
-    nothing_ends r none = none_ends r (no_job r.job none)
-
-    pub nothing_back : (p : PrimaryParts D) (r : ReplicaParts D) → is_some r.job ≡ false → TakesBack cells (want_of r.job) p p
-    nothing_back p r none = record { alters = alters_none cells p; states = ap (λ (o : Option PointJob). given_back (want_of o) p.states) (sym (no_job r.job none)) }
+    pub nothing_back : (p : PrimaryParts D) (r : ReplicaParts D) → r.job ≡ None → TakesBack cells (want_of r.job) p p
+    nothing_back p r none = record { alters = alters_none cells p; states = ap (λ (o : Option PointJob). given_back (want_of o) p.states) (sym none) }
 
     -- the job ends
     pub point_ends : (number : ℕ) (c : Job) (r s : ReplicaParts D) → RunsPoint number c r → s ≡ record (without_job number r) { dir = s.dir; files = s.files } → IsWholeReplica cells s → (AreStanding cells r → AreStanding cells s) → KeepsSource cells r s
