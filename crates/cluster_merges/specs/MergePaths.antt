@@ -33,6 +33,7 @@ use Rattle.cluster_tasks.specs.Board.{Board, open_merge, spread_at, with_spread,
 use Rattle.cluster_places.specs.declared.tasks.FileTask.{FileTask}
 use Rattle.cluster_state.specs.Run.{Run, IsNow}
 use Rattle.cluster_state.specs.Settles.{AreReplicas}
+use Rattle.cluster_state.specs.Merging.{IsFitKind}
 
 -- the call has ended well, and these are the log, the merges in flight and the posted tasks now
 pub record IsBoard (old new : Run) (now : Log) (rows : List OpenMerge) (posted : List Posted) : Type 0 where
@@ -68,6 +69,7 @@ pub record HandsTask (by : Option At) (old new : Run) (task : Task) : Type 0 whe
   pub first : old.rest.tasks.posted ≡ record { seg = task.seg; line = task.line; kind = task.kind } ∷ rest
   pub taker : task.by ≡ by
   pub told : IsToldKind new.log task.seg task.kind
+  pub fit : IsFitKind task.kind
   pub taken : IsBoard old new (kept (TaskOut task.line task.seg by (step_of task.kind)) ∷ old.log) old.rest.tasks.rows rest
 
 -- a task was taken, or none is posted

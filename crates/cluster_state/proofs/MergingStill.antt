@@ -32,7 +32,7 @@ use Rattle.cluster_places.specs.JobPlaces.{MovesOne, MovesBoth}
 use Rattle.cluster_places.proofs.OutCounts.{jobs_same}
 use Rattle.history_tables.proofs.RowLemmas.{by_test}
 use Rattle.cluster_state.specs.Merging.{AreMergedAlike, AreSentCopies, IsSentCopy, RunsNoOther, PrimaryMerges, NodeMerges, MergesStand, KeepsPrimaryMerges, KeepsMerges, PlaceKeepsMerges, KeepAllMerges}
-use Rattle.cluster_state.proofs.FileFrames.{this_place, other_place, wants_same}
+use Rattle.cluster_state.proofs.FileFrames.{other_place, wants_same}
 
 -- what was handed out of merges stays so
 abbrev pub InputsStay : Log → Log → Type 0
@@ -107,6 +107,7 @@ module _ {D : Type 0} where
       → KeepAllMerges size old new → MergesStand log cut size board old → MergesStand now cut size board new
   stand_moved log now cut size board old new more tasks vacant keeps s = record {
     tasks = tasks;
+    fit = s.fit;
     each = λ n node. place_stands log now cut (λ s. jobs_like old s size) (λ s. jobs_like new s size) board.rows n more (place_of old n) (place_of new n) (keeps n node) (s.each n node);
     vacant = λ none. s.vacant (vacant none);
   }

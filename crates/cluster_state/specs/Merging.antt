@@ -15,6 +15,9 @@ use Rattle.replica_parts.specs.declared.parts.Parts.{Parts as ReplicaParts}
 use Rattle.replica_parts.specs.Merges.{copy_at}
 use Rattle.history_entries.specs.Nodes.{IsNode, primary_of}
 use Rattle.history_book.specs.Log.{Log, printed}
+use Rattle.primary_merges.specs.MergeCalls.{IsFitTask}
+use Rattle.cluster_tasks.specs.declared.tasks.TaskKind.{TaskKind}
+use Rattle.cluster_tasks.specs.declared.tasks.TaskKind.TheVariants.{Merge, PreCopy, Cut}
 use Rattle.cluster_tasks.specs.declared.tasks.Spread.{Spread}
 use Rattle.cluster_tasks.specs.declared.tasks.OpenMerge.{OpenMerge}
 use Rattle.cluster_tasks.specs.TaskLog.{inputs_out, merge_task}
@@ -75,6 +78,12 @@ AreSentCopies rows n running = (k : ℕ) (c : Job) → copy_at k running ≡ Som
 abbrev pub RunsNoOther : List Job → List Job → Type 0
 RunsNoOther old new = (k : ℕ) (c : Job) → copy_at k new ≡ Some c → IsSomeAnd (copy_at k old) (λ d. c.want ≡ d.want)
 
+-- a task to build a segment is fit to be merged
+abbrev pub IsFitKind : TaskKind → Type 0
+IsFitKind (Merge task) = IsFitTask task
+IsFitKind (PreCopy n job) = ⊤
+IsFitKind Cut = ⊤
+
 module _ {D : Type 0} where
   -- The primary's merges in flight are those of the rows, and it was cut over where the ledger says so; of each copy state as many are out as
   -- there are jobs and merges with one like it.
@@ -89,10 +98,11 @@ module _ {D : Type 0} where
   NodeMerges log cut jobs rows n (Replica r) = AreSentCopies rows n r.copies.running
   NodeMerges log cut jobs rows n (Down d) = ⊤
 
-  -- All that is true of merges: the log shows the tasks, each node has what it has to do with them, and without a primary nothing is in flight
-  -- or cut over.
+  -- All that is true of merges: the log shows the tasks, and those that are posted are fit; each node has what it has to do with them; and
+  -- without a primary nothing is in flight or cut over.
   pub record MergesStand (log : Log) (cut : Bool) (size : ℕ) (board : Board) (places : List (Option (Place D))) : Type 0 where
     pub tasks : TasksShow size log board
+    pub fit : All (λ p. IsFitKind p.kind) board.posted
     pub each : (n : ℕ) → IsNode size n → IsSomeAnd (place_of places n) (λ place. NodeMerges log cut (λ s. jobs_like places s size) board.rows n place.node)
     pub vacant : primary_of (printed log) ≡ None → (cut ≡ false) × ((board.posted ≡ []) × (board.rows ≡ []))
 
