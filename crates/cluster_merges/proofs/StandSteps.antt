@@ -90,7 +90,7 @@ alike_begun log ms rows m row same is fresh alike seg =
     unmade (Some x) e = absurd (clash x (subst (λ (p : Option OpenMerge). AreMergedAlike log (merge_of m.task.seg.0 ms) p) (ap (λ (k : ℕ). open_merge k rows) (sym same) ∙ fresh) (alike m.task.seg.0)) e)
       where
         clash : (x : Merging) → AreMergedAlike log (merge_of m.task.seg.0 ms) None → merge_of m.task.seg.0 ms ≡ Some x → ⊥
-        clash x no e = subst (λ (o : Option Merging). AreMergedAlike log o None) e no
+        clash x alone e = subst (λ (o : Option Merging). AreMergedAlike log o None) e alone
 
     by : (b : Bool) → AreMergedAlike log (if b then Some m else merge_of seg ms) (if b then Some row else open_merge seg rows)
     by true = is
@@ -119,11 +119,11 @@ alike_copied log ms rows seg row s t there some same alike n =
     subst (λ (o : Option OpenMerge). AreMergedAlike log (merge_of n ms) o) (sym (open_with rows seg (Some t) row there n)) (by (seg == n) refl)
   where
     of_row : (o : Option Merging) → AreMergedAlike log o (Some row) → AreMergedAlike log o (Some (record row { spread = Some t }))
-    of_row None no = absurd no
+    of_row None alone = absurd alone
     of_row (Some m) is = record { inputs = is.inputs; task = is.task; written = written m.merged (subst (λ (x : Option Spread). AreWrittenAlike m.merged x) some is.written) }
       where
         written : (o : Option Merged) → AreWrittenAlike o (Some s) → AreWrittenAlike o (Some t)
-        written None no = absurd no
+        written None alone = absurd alone
         written (Some merged) is = record {
           names = ap (λ (c : CopyState). meta_names c.files) same ∙ is.names;
           metas = λ reads written. subst (λ (c : CopyState). All (IsMetaIn reads) c.files) (sym same) (is.metas reads written);

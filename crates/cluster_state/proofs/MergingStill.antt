@@ -153,8 +153,8 @@ vacant_left (Promoted m g f v) p leaves none = absurd (cc)
 vacant_left (Crashed m) p leaves none = by (is_at p m.0) leaves none
   where
     by : (b : Bool) → not b ≡ true → (if b then None else p) ≡ None → p ≡ None
-    by true no none = absurd (true≢false (sym no))
-    by false yes none = none
+    by true e none = absurd (true≢false (sym e))
+    by false e none = none
 vacant_left e p leaves none = none
 
 inputs_kept : (log : Log) (i : Inner) → leaves_tasks i ≡ true → InputsStay log (kept i ∷ log)
@@ -170,7 +170,7 @@ module _ {D : Type 0} (board : Board) (old new : List (Option (Place D))) where
       (stand_moved b0.log (shown x e ∷ b0.log) b0.cut b0.nodes board old new (λ seg inputs is. is) (tasks_still b0.nodes b0.log board x e leaves s.tasks)
       (vacant_left e (primary_of (printed b0.log)) leaves) keeps s)
     where
-      stand_is : {now then : Log} {cut was : Bool} {size many : ℕ} → now ≡ then → cut ≡ was → size ≡ many → MergesStand then was many board new → MergesStand now cut size board new
+      stand_is : {now before : Log} {cut was : Bool} {size many : ℕ} → now ≡ before → cut ≡ was → size ≡ many → MergesStand before was many board new → MergesStand now cut size board new
       stand_is l c n is = subst (λ (z : Log × (Bool × ℕ)). MergesStand z.0 z.1.0 z.1.1 board new) (λ i. (sym l i, (sym c i, sym n i))) is
 
   -- and over one of inner work

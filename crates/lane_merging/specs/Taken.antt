@@ -1,5 +1,5 @@
 -- What a lane or a worker knows of a task that it took, and what it does with it.
-use Rattle.std.specs.Prelude.{ℕ, ◌≡◌, ◌≢◌, ◌<◌, ◌++◌, Bool, false, true, Option, Some, None, ⊤}
+use Rattle.std.specs.Prelude.{ℕ, ◌≡◌, ◌≢◌, ◌++◌, Bool, false, true, Option, Some, None, ⊤}
 use Rattle.std.specs.List.{AllByRecursion}
 use Rattle.nrt_base.specs.declared.numbers.At.{At}
 use Rattle.copy_state.specs.Meta.{IsMetaOf}
@@ -46,9 +46,9 @@ pub record GrowsSilently (lane : ℕ) (old new : Log) : Type 0 where
   pub silent : AllByRecursion (IsSilent lane) more
   pub faults : FaultsFit false new
 
--- whoever takes tasks in the lane of this line takes them for the line, or is a worker and takes them for none
+-- whoever takes tasks takes them for this line, or for none
 abbrev pub IsTakerAt : At → Option At → Type 0
-IsTakerAt at None = 8 < at.lane.0
+IsTakerAt at None = ⊤
 IsTakerAt at (Some by) = by ≡ at
 
 module _ {g : Ghosts Run Mark} where

@@ -150,7 +150,11 @@ fn copy<R: Wait, D: FaultDir + Drop, G: Gate>(
             Turn::Done => return Ok(()),
             Turn::Busy => give_way(halt)?,
             Turn::Work(file) => {
-                let part = carry(alloc, gate, task.line, n, file)?;
+                let line = At {
+                    lane: at.lane,
+                    line: task.line,
+                };
+                let part = carry(alloc, gate, line, n, &file)?;
                 match bring(rt, lock, nodes, seat, at, task, part)? {
                     Turn::Done => return Ok(()),
                     Turn::Work(()) => {}
