@@ -1,1 +1,2 @@
 pub mod StandSteps
+pub mod InsideSteps
