@@ -13,8 +13,7 @@ is_run (Drain most) = false
 is_run (Fault n plan) = false
 is_run command = true
 
--- a script without workers and without a log, of lines that are run
+-- a script without a log, of lines that are run
 pub record IsPlainScript (script : Script) : Type 0 where
-  pub workers : script.workers ≡ 0
   pub log : script.log ≡ false
   pub commands : IsTrue (list_all (λ line. is_run line.command) (lines_of script))

@@ -55,7 +55,9 @@ impl<D: Dir> Model for Primary<D> {
 impl<D: Dir> Primary<D> {
     ghost use Rattle.primary_parts.specs.Merges.{merges_without};
     ghost use Rattle.primary_parts.specs.Written.{names_of, ReadsSo};
-    ghost use Rattle.primary_merges.specs.MergeCalls.{IsFitTask, AnswersMerge, IsMadeFor, IsReadied, IsFilledMerge, IsCutOver, KeepsDocuments};
+    ghost use Rattle.primary_starts.specs.StartCalls.{IsFitTask, AnswersMerge};
+    ghost use Rattle.primary_merges.specs.MergeCalls.{IsMadeFor, IsReadied};
+    ghost use Rattle.primary_cut_overs.specs.CutOverCalls.{IsFilledMerge, IsCutOver, KeepsDocuments};
     ghost use Rattle.primary_parts.specs.Primary.{IsPrimary, KeepsHeldBytes, loose_of};
     ghost use Rattle.primary_parts.specs.Held.{IsHeld, IsOwnFile, AreUndrawn, AreNumbered};
     ghost use Rattle.primary_parts.specs.Calls.{IsOpenedOn, IsTaskOf, after_start, IsPublished, KeepsPoint, KeepsOthers, HasSameCounts, FillsUndrawn, DrawsOnly, HoldsNoNew};
@@ -160,7 +162,7 @@ impl<D: Dir> Primary<D> {
         ensures drawn { DrawsOnly self.old self.new }
         ensures whole { IsPrimary D.cells self.new }
     {
-        primary_merges::merge_start(alloc, &mut self.parts, factor)
+        primary_starts::merge_start(alloc, &mut self.parts, factor)
     }
 
     /// Writes the files of a merge in flight, of which the merged segment was made, and holds them. Answers a copy state that
@@ -233,7 +235,7 @@ impl<D: Dir> Primary<D> {
         ensures later { D.faults self.old.dir ≤ D.faults self.new.dir }
         ensures whole { IsPrimary D.cells self.new }
     {
-        primary_merges::merge_cut(alloc, &mut self.parts, seg)
+        primary_cut_overs::merge_cut(alloc, &mut self.parts, seg)
     }
 
     /// The copy state of the point that is searched: one load for each of its files, ascending. It holds these files until

@@ -1,6 +1,6 @@
 //! Phases in which nothing is asked for, by eight lanes and two workers in threads.
 
-ghost use Rattle.std.specs.Prelude.{◌≡◌, [], ◌∷◌, false, IfOk, refl};
+ghost use Rattle.std.specs.Prelude.{◌≡◌, [], ◌∷◌, false, true, IfOk, refl};
 ghost use Rattle.history_book.specs.Log.{name_of};
 ghost use Rattle.script_serving.specs.Form.{IsInForm};
 ghost use Rattle.script_serving.specs.Lines.{lines_of};
@@ -13,7 +13,7 @@ use lane_parts::RunsLines;
 use lane_seats::{Halt, LaneRun, Setup};
 use nrt_base::{LaneNo, List, NoMemory};
 use script_serving::{Line, LineCommand, Phase, Script};
-use std::alloc::Global;
+use std::alloc::{AllocError, Global};
 use std::sync::Wait;
 use std::test::Fail;
 
@@ -51,7 +51,7 @@ impl LaneRun for Silent {
     ghost named = { refl };
 }
 
-/// Runs no line.
+/// Finds no memory for any line.
 #[derive(Drop)]
 struct RunsNothing {
     setup: Setup,
@@ -60,7 +60,7 @@ struct RunsNothing {
 impl RunsLines<Silent> for RunsNothing {
     ghost set_up = { λ runner. runner.setup };
 
-    ghost runs = { λ runner command. false };
+    ghost runs = { λ runner command. true };
 
     fn run_line<R: Wait>(
         &self,
@@ -70,7 +70,7 @@ impl RunsLines<Silent> for RunsNothing {
         seat: &mut LaneSeat<Silent>,
         line: &Line,
     ) -> Result<(), NoMemory> {
-        unreachable!()
+        Err(AllocError)
     }
 }
 

@@ -1,8 +1,7 @@
--- A script of which the program runs every statement is built: it has no workers and no log, and its lines are such as are run.
+-- A script of which the program runs every statement is built: it has no log, and its lines are such as are run.
 use Rattle.std.proofs.Common.{◌≡◌, ◌<◌, ◌≤◌, ◌^◌, ◌==◌, ◌&&◌, ◌||◌, ◌++◌, ℕ, zero, suc, ◌+◌, Bool, true, false, List, [], ◌∷◌, length, map, filter, Some, None, Option, refl, ap, ◌∙◌, sym, subst, arith, inl, inr, if◌then◌else◌}
 use Rattle.std.specs.Prelude.{codes, bytes_eq, IsTrue}
 use Rattle.std.specs.List.{list_all, flat_map}
-use Rattle.std.specs.Cmp.Lexicographic.{same_text}
 use Rattle.std.specs.Fmt.{decimal}
 use Rattle.std.proofs.lemmas.Bool.{false≢true, cases_Bool, and_from, and_parts}
 use Rattle.std.proofs.lemmas.List.Folds.{list_all-append}
@@ -14,16 +13,12 @@ use Rattle.script_serving.specs.declared.script.Phase.{Phase}
 use Rattle.script_serving.specs.declared.script.Script.{Script}
 use Rattle.script_serving.specs.Lines.{lines_of, lines_of_phase}
 use Rattle.script_text.specs.Grammar.{Statement, statements_of, words_in, word_at, command_words, Ends, SpellsPhases, SpellsLogged, SpellsBody, SpellsStatements, of_lane, lane_entry, lanes_from, phase_of}
-use Rattle.script_text.specs.Refused.{is_digit, value_of}
-use Rattle.script_text.proofs.NumberLaws.{value_of-decimal, digits_of-decimal, other_word}
+use Rattle.script_text.specs.Refused.{is_digit}
+use Rattle.script_text.proofs.NumberLaws.{digits_of-decimal, other_word}
 use Rattle.script_text.proofs.RightLines.{between_high}
 use Rattle.cluster_run.specs.Built.{is_run, IsPlainScript}
 use Rattle.nrt_main.specs.Built.{is_built_command, is_built, first_unbuilt}
 use Rattle.nrt_main.specs.Headline.{IsRunnable}
-
--- the word spells the number, so the number has its value
-number_of : (word : List ℕ) (n : ℕ) → bytes_eq word (decimal n) ≡ true → n < 2 ^ 64 → n ≡ value_of word
-number_of word n same narrow = sym (value_of-decimal n narrow) ∙ ap value_of (sym (same_text word (decimal n) (sym same)))
 
 -- a line is run by its command
 by_command : (lane : List ℕ) (words : List (List ℕ)) → list_all is_digit lane ≡ true → is_built (lane ∷ words) ≡ is_built_command (word_at 0 words)
@@ -31,7 +26,7 @@ by_command lane words digits =
     let workers : bytes_eq (codes "workers") lane ≡ false = other_word 119 (codes "orkers") lane refl digits in
     let nodes : bytes_eq (codes "nodes") lane ≡ false = other_word 110 (codes "odes") lane refl digits in
     let join : bytes_eq (codes "join") lane ≡ false = other_word 106 (codes "oin") lane refl digits in
-    rw (workers, nodes, join) refl
+    rw (nodes, workers, join) refl
 
 module _ (line : List ℕ) (lane : ℕ) (narrow : lane < 2 ^ 64) (built : is_built (words_in line) ≡ true) where
   -- the command of a line that is run is one that is
@@ -120,27 +115,20 @@ built_logged size log (statement ∷ statements) phases (inl spells) built =
     absurd (false≢true (ap is_built (sym spells.1) ∙ (built_parts statement statements built).first))
 built_logged size log (statement ∷ statements) phases (inr spells) built = record { none = spells.0; run = built_phases size (statement ∷ statements) phases spells.1 built }
 
-no_workers : (statement : Statement) (workers : ℕ) → words_in statement.line ≡ codes "workers" ∷ decimal workers ∷ [] → workers ≤ 8 → is_built (words_in statement.line) ≡ true → workers ≡ 0
-no_workers statement workers words few built =
-    let said : bytes_eq (codes "0") (decimal workers) ≡ true = ap is_built (sym words) ∙ built in
-    number_of (codes "0") workers said (omega (arith, few))
-
 built_body : (size workers : ℕ) (log : Bool) (statements : List Statement) (phases : List (List Line)) → SpellsBody size workers log statements phases → first_unbuilt statements ≡ None
-    → (workers ≡ 0) × IsBuiltBody log phases
-built_body size workers log [] phases spells built = (spells.0, built_logged size log [] phases spells.1 built)
+    → IsBuiltBody log phases
+built_body size workers log [] phases spells built = built_logged size log [] phases spells.1 built
 built_body size workers log (statement ∷ statements) phases (inl spells) built =
-    let parts = built_parts statement statements built in
-    (no_workers statement workers spells.0.0 spells.0.1 parts.first, built_logged size log statements phases spells.1 parts.others)
-built_body size workers log (statement ∷ statements) phases (inr spells) built = (spells.0, built_logged size log (statement ∷ statements) phases spells.1 built)
+    built_logged size log statements phases spells.1 (built_parts statement statements built).others
+built_body size workers log (statement ∷ statements) phases (inr spells) built = built_logged size log (statement ∷ statements) phases spells.1 built
 
 built_statements : (statements : List Statement) (script : Script) → SpellsStatements statements script → first_unbuilt statements ≡ None → IsPlainScript script
 built_statements [] script spells built = absurd spells
 built_statements (statement ∷ statements) script spells built =
     let body = built_body script.nodes script.workers script.log statements spells.1.0 spells.1.1 (built_parts statement statements built).others in
     record {
-      workers = body.0;
-      log = body.1.none;
-      commands = ap (λ (phases : List Phase). all_run (flat_map lines_of_phase phases)) spells.1.2 ∙ lines_run spells.1.0 body.1.run;
+      log = body.none;
+      commands = ap (λ (phases : List Phase). all_run (flat_map lines_of_phase phases)) spells.1.2 ∙ lines_run spells.1.0 body.run;
     }
 
 -- the script is built

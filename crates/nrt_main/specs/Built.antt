@@ -19,12 +19,12 @@ is_built_for_nodes name =
 abbrev pub is_built_command : List ℕ → Bool
 is_built_command name = is_built_for_documents name || is_built_for_nodes name
 
--- the program runs a statement of these words: it asks for no workers, says how many nodes there are, ends a phase, or is a line
--- of such a command
+-- the program runs a statement of these words: it says how many nodes or workers there are, ends a phase, or is a line of such a
+-- command
 abbrev pub is_built : List (List ℕ) → Bool
 is_built words =
-    if bytes_eq (codes "workers") (word_at 0 words) then bytes_eq (codes "0") (word_at 1 words)
-    else (bytes_eq (codes "nodes") (word_at 0 words) || bytes_eq (codes "join") (word_at 0 words) || is_built_command (word_at 1 words))
+    bytes_eq (codes "nodes") (word_at 0 words) || bytes_eq (codes "workers") (word_at 0 words) || bytes_eq (codes "join") (word_at 0 words)
+    || is_built_command (word_at 1 words)
 
 -- the line number of the first of these statements that the program does not run
 abbrev pub first_unbuilt : List Statement → Option ℕ

@@ -49,10 +49,8 @@ fn is_built(line: &[u8]) -> bool
     ensures { result ≡ is_built_lem (words_in line.now) }
 {
     let words = first_words(line);
-    if is_word(b"workers", words.first) {
-        return is_word(b"0", words.second);
-    }
     is_word(b"nodes", words.first)
+        || is_word(b"workers", words.first)
         || is_word(b"join", words.first)
         || is_built_command(words.second)
 }

@@ -1,11 +1,14 @@
 use crate::gate::OpenGate;
 use crate::status::Status;
-use crate::top::run_nrt;
+use crate::top::{read_script, run_nrt};
+use cluster_run::run_script;
+use lane_sections::{Gate, Place};
 use nrt_base::LineNo;
 use nrt_streams::{Arg, MemSink, MemSource};
 use script_text::{LONGEST, LineFault};
 use std::alloc::Global;
 use std::sync::Wait;
+use std::sync::atomic::{AtomicU64, Ordering};
 use std::test::Fail;
 use std::thread::Threads;
 use text_query::QueryFault;
@@ -32,6 +35,19 @@ fn run<R: Threads + Wait + Sync>(
     reads: &[u64],
     writes: &[u64],
 ) -> Result<(Status, Vec<u8>), Fail> {
+    run_gated(rt, alloc, &OpenGate, texts, script, reads, writes)
+}
+
+/// Such a run past a gate.
+fn run_gated<R: Threads + Wait + Sync, G: Gate + Sync>(
+    rt: &R,
+    alloc: Global,
+    gate: &G,
+    texts: &[&[u8]],
+    script: &[u8],
+    reads: &[u64],
+    writes: &[u64],
+) -> Result<(Status, Vec<u8>), Fail> {
     let words = words(alloc, texts)?;
     let mut source = MemSource::new(script.to_vec(alloc)?, 3, reads.to_vec(alloc)?);
     let mut sink = MemSink::new(alloc, 4096, 3, writes.to_vec(alloc)?)?;
@@ -42,7 +58,7 @@ fn run<R: Threads + Wait + Sync>(
         words.as_slice(),
         &mut source,
         &mut sink,
-        &OpenGate,
+        gate,
         &mut kept,
     );
     Ok((status, sink.bytes().to_vec(alloc)?))
@@ -191,7 +207,6 @@ fn refused_lines(rt: HostRuntime) -> Result<(), Fail> {
 #[test]
 fn lines_not_built(rt: HostRuntime) -> Result<(), Fail> {
     let rows: &[(&[u8], u32)] = &[
-        (b"nodes 2\nworkers 1", 2),
         (b"nodes 2\nlog", 2),
         (b"nodes 2\n1 crash 1 0\n1 promote 2 auto\n1 merge 2", 4),
         (b"nodes 3\n8 commit 3\njoin\n2 fault stop 1 1", 4),
@@ -350,5 +365,63 @@ fn each_prefix(rt: HostRuntime) -> Result<(), Fail> {
             _ => assert!(rt; false),
         }
     }
+    Ok(())
+}
+
+/// Holds the copy of a file until a search is about to be evaluated.
+struct HoldsCopies {
+    searched: AtomicU64,
+    late: AtomicU64,
+}
+
+impl HoldsCopies {
+    fn new() -> Self {
+        HoldsCopies {
+            searched: AtomicU64::new(0),
+            late: AtomicU64::new(0),
+        }
+    }
+
+    // Waits for the search, 10,000,000 turns at most.
+    fn wait_for_search(&self) {
+        for _ in 0..10_000_000 {
+            if self.searched.load(Ordering::SeqCst) == 1 {
+                return;
+            }
+        }
+        self.late.store(1, Ordering::SeqCst);
+    }
+
+    fn was_in_time(&self) -> bool {
+        self.searched.load(Ordering::SeqCst) == 1 && self.late.load(Ordering::SeqCst) == 0
+    }
+}
+
+impl Gate for HoldsCopies {
+    fn pass(&self, place: Place) {
+        match place {
+            Place::Evaluate(..) => self.searched.store(1, Ordering::SeqCst),
+            Place::Chunk(..) => self.wait_for_search(),
+            Place::Build(_) | Place::Merge(_) => {}
+        }
+    }
+}
+
+// A copy in one lane, a search in another.
+const BESIDE: &[u8] = b"nodes 2\n1 put a x\n1 publish\njoin\n1 copy 2\n2 search 2 x\n";
+
+#[test]
+#[tactic(auto, using(crate::proofs::BuiltScripts::is_built_script))]
+fn search_beside_copy(rt: HostRuntime) -> Result<(), Fail> {
+    let alloc = rt.alloc();
+    let gate = HoldsCopies::new();
+    let (status, _) = run_gated(&rt, alloc, &gate, &[b"run"], BESIDE, &[], &[])?;
+    assert!(rt; status == Status::Done && gate.was_in_time());
+    let gate = HoldsCopies::new();
+    let Ok(script) = read_script(alloc, BESIDE) else {
+        return Err(Fail::from("it is a script"));
+    };
+    run_script(&rt, alloc, &gate, &script)?;
+    assert!(rt; gate.was_in_time());
     Ok(())
 }

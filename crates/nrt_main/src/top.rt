@@ -30,7 +30,7 @@ use std::thread::Threads;
 
 /// The script that the bytes are, where the program runs its every statement; else the answer to them.
 #[tactic(auto, using(crate::proofs::AnswerLaws::refused_line))]
-fn read_script(alloc: Global, bytes: &[u8]) -> Result<Script, Status>
+pub fn read_script(alloc: Global, bytes: &[u8]) -> Result<Script, Status>
     requires { length bytes.now ≤ longest }
     ensures script { IfOk result (IsRunnable bytes.now) }
     ensures form { IfOk result IsInForm }

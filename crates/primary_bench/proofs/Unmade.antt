@@ -4,16 +4,22 @@ use Rattle.std.specs.List.{remove}
 use Rattle.std.specs.Option.{IsSomeAnd, IsSome}
 use Rattle.std.proofs.lemmas.Bool.{eq-eqb}
 use Rattle.std.proofs.lemmas.List.{map-append}
-use Rattle.std.proofs.lemmas.List.Elements.{All-append, All-cons, All-nil}
+use Rattle.std.proofs.lemmas.List.Elements.{All-append, All-cons, All-head, All-nil, All-tail}
 use Rattle.nrt_base.specs.declared.numbers.SegNo.{SegNo}
+use Rattle.nrt_base.specs.declared.numbers.Version.{Version}
 use Rattle.disk_model.specs.Disk.{Name}
 use Rattle.seg_merge.specs.declared.task.MergeTask.{MergeTask}
 use Rattle.seg_merge.specs.declared.task.Merged.{Merged}
 use Rattle.seg_merge.specs.Merging.{IsMergedOf}
 use Rattle.primary_parts.specs.declared.parts.Parts.{Parts}
 use Rattle.primary_parts.specs.declared.states.Merging.{Merging}
+use Rattle.primary_parts.specs.declared.states.Out.{Out}
+use Rattle.copy_state.specs.declared.state.CopyState.{CopyState}
+use Rattle.primary_parts.specs.States.{out_of}
 use Rattle.primary_parts.specs.Merges.{merge_of, merges_with, merges_without}
-use Rattle.primary_merges.specs.MergeCalls.{IsFitTask, StartsMerge, IsMadeFor, IsReadied, IsFilledMerge}
+use Rattle.primary_starts.specs.StartCalls.{IsFitTask, StartsMerge}
+use Rattle.primary_merges.specs.MergeCalls.{IsMadeFor, IsReadied}
+use Rattle.primary_cut_overs.specs.CutOverCalls.{IsFilledMerge}
 use Rattle.primary_bench.specs.declared.seen.Seen.{Seen}
 use Rattle.primary_bench.specs.Seeing.{IsSeen, tasks_of, unmade_tasks, given_tasks, open_numbers}
 
@@ -21,10 +27,6 @@ use Rattle.primary_bench.specs.Seeing.{IsSeen, tasks_of, unmade_tasks, given_tas
 none_made : (o : Option Merged) → is_some o ≡ false → o ≡ None
 none_made None e = refl
 none_made (Some merged) e = absurd (true≢false e)
-
-some_made : (o : Option Merged) → is_some o ≡ true → IsSome o
-some_made None e = absurd (true≢false (sym e))
-some_made (Some merged) e = merged
 
 -- the first merge and those behind it, where the first one's files are written or not
 pub record StartsWith (b : Bool) (ms : List Merging) (task : MergeTask) (behind : List (MergeTask × Bool)) : Type 0 where
@@ -47,6 +49,11 @@ first_unmade [] task first = absurd (true≢false (ap (λ (o : Option MergeTask)
 first_unmade (t ∷ ts) task first =
     let e : task ≡ t = cc in
     ap (λ (x : MergeTask). (x, false) ∷ unmade_tasks ts) (sym e)
+
+-- the first one is fit to be merged, and so are the others
+pub fit_split : (tasks : List MergeTask) (task : MergeTask) → All IsFitTask tasks → Some task ≡ slice_get tasks 0 → IsFitTask task × All IsFitTask (remove tasks 0)
+fit_split [] task all first = absurd (true≢false (ap (λ (o : Option MergeTask). is_some o) first))
+fit_split (t ∷ ts) task all first = let e : t ≡ task = cc in (subst IsFitTask e (All-head IsFitTask t ts all), All-tail IsFitTask t ts all)
 
 given_behind : (ready : Option MergeTask) (tasks : List MergeTask) (task : MergeTask) → given_tasks ready tasks ++ (task, false) ∷ [] ≡ given_tasks ready (tasks ++ task ∷ [])
 given_behind None tasks task = sym (map-append (λ (t : MergeTask). (t, false)) tasks (task ∷ []))
@@ -119,7 +126,7 @@ module _ {D : Type 0} (old new : Parts D) (seen : Seen) (is : IsSeen old seen) w
       let at = ready_at task ready in
       let number : at.m.task.seg.0 ≡ task.seg.0 = ap (λ (t : MergeTask). t.seg.0) at.task_is in
       let found : merge_of task.seg.0 old.merges ≡ Some at.m = ap (λ (ms : List Merging). merge_of task.seg.0 ms) at.is ∙ at_first at.m at.rest task.seg.0 number in
-      subst (λ (o : Option Merging). IsSomeAnd o (λ m. IsSome m.merged)) (sym found) (some_made at.m.merged at.made)
+      subst (λ (o : Option Merging). IsSomeAnd o (λ m. IsSome m.merged)) (sym found) at.made
 
   -- what the merges are once the first one's files are written
   pub tasks_readied : (task : MergeTask) (merged : Merged) → seen.ready ≡ None → Some task ≡ slice_get seen.merges 0 → IsMergedOf task merged → IsReadied merged old new
@@ -144,3 +151,50 @@ module _ {D : Type 0} (old new : Parts D) (seen : Seen) (is : IsSeen old seen) w
   tasks_cut task ready gone =
       let at = ready_at task ready in
       ap (λ (ms : List Merging). tasks_of ms) (gone ∙ ap (λ (ms : List Merging). merges_without task.seg.0 ms) at.is ∙ without_first at.m at.rest task.seg.0 (ap (λ (t : MergeTask). t.seg.0) at.task_is)) ∙ at.others
+
+  -- what is seen once the files of the first merge are written
+  pub seen_readied : (task : MergeTask) (merged : Merged) (s : CopyState) (states : List CopyState) (rest : List MergeTask) → seen.ready ≡ None → Some task ≡ slice_get seen.merges 0 → rest ≡ remove seen.merges 0 → IsMergedOf task merged
+      → new ≡ record old { dir = new.dir; files = new.files; states = new.states; merges = new.merges } → IsReadied merged old new → new.states ≡ old.states ++ out_of s ∷ [] → states ≡ seen.states ++ s ∷ []
+      → IsSeen new (record seen { states = states; ready = Some task; merges = rest })
+  seen_readied task merged s states rest none first rest_is of e readied out pushed = record {
+    accepted = ap (λ (p : Parts D). p.accepted) e ∙ is.accepted;
+    version = ap (λ (p : Parts D). p.infos.version.0) e ∙ is.version;
+    next = ap (λ (p : Parts D). p.commits.next) e ∙ is.next;
+    publish = ap (λ (p : Parts D). p.publish) e ∙ is.publish;
+    in_flight = ap (λ (p : Parts D). is_some p.commits.stage) e ∙ is.in_flight;
+    tickets = ap (λ (p : Parts D). open_numbers p.searchers.tickets) e ∙ is.tickets;
+    states = out ∙ ap (λ (l : List Out). l ++ out_of s ∷ []) is.states ∙ sym (map-append out_of seen.states (s ∷ [])) ∙ ap (λ (l : List CopyState). map out_of l) (sym pushed);
+    merges = tasks_readied task merged none first of readied ∙ ap (λ (l : List MergeTask). given_tasks (Some task) l) (sym rest_is);
+    fit = subst (λ (l : List MergeTask). All IsFitTask l) (sym rest_is) (fit_split seen.merges task is.fit first).1;
+  }
+
+  -- and once it has ended
+  pub seen_ended : (task : MergeTask) (merged : Merged) (rest : List MergeTask) → seen.ready ≡ None → Some task ≡ slice_get seen.merges 0 → rest ≡ remove seen.merges 0 → IsMergedOf task merged
+      → new ≡ record old { dir = new.dir; files = new.files; states = new.states; merges = new.merges } → new.states ≡ old.states → new.merges ≡ merges_without merged.files.seg.0 old.merges → IsSeen new (record seen { merges = rest })
+  seen_ended task merged rest none first rest_is of e out gone = record {
+    accepted = ap (λ (p : Parts D). p.accepted) e ∙ is.accepted;
+    version = ap (λ (p : Parts D). p.infos.version.0) e ∙ is.version;
+    next = ap (λ (p : Parts D). p.commits.next) e ∙ is.next;
+    publish = ap (λ (p : Parts D). p.publish) e ∙ is.publish;
+    in_flight = ap (λ (p : Parts D). is_some p.commits.stage) e ∙ is.in_flight;
+    tickets = ap (λ (p : Parts D). open_numbers p.searchers.tickets) e ∙ is.tickets;
+    states = out ∙ is.states;
+    merges = tasks_ended task merged.files.seg.0 none first (ap (λ (seg : SegNo). seg.0) (sym of.number)) gone ∙ ap (λ (l : List MergeTask). given_tasks None l) (sym rest_is) ∙ ap (λ (o : Option MergeTask). given_tasks o rest) (sym none);
+    fit = subst (λ (l : List MergeTask). All IsFitTask l) (sym rest_is) (fit_split seen.merges task is.fit first).1;
+  }
+
+  -- once the one whose files are written was cut over, or has ended
+  pub seen_cut : (task : MergeTask) → seen.ready ≡ Some task → new.infos.version ≡ old.infos.version
+      → new ≡ record old { dir = new.dir; files = new.files; infos = new.infos; segs = new.segs; names = new.names; merges = new.merges; has_cut_over = new.has_cut_over; completed = new.completed }
+      → new.merges ≡ merges_without task.seg.0 old.merges → IsSeen new (record seen { ready = None })
+  seen_cut task ready same e gone = record {
+    accepted = ap (λ (p : Parts D). p.accepted) e ∙ is.accepted;
+    version = ap (λ (v : Version). v.0) same ∙ is.version;
+    next = ap (λ (p : Parts D). p.commits.next) e ∙ is.next;
+    publish = ap (λ (p : Parts D). p.publish) e ∙ is.publish;
+    in_flight = ap (λ (p : Parts D). is_some p.commits.stage) e ∙ is.in_flight;
+    tickets = ap (λ (p : Parts D). open_numbers p.searchers.tickets) e ∙ is.tickets;
+    states = ap (λ (p : Parts D). p.states) e ∙ is.states;
+    merges = tasks_cut task ready gone;
+    fit = is.fit;
+  }

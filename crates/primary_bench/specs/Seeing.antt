@@ -10,7 +10,7 @@ use Rattle.seg_merge.specs.declared.task.MergeTask.{MergeTask}
 use Rattle.primary_parts.specs.declared.parts.Parts.{Parts}
 use Rattle.primary_parts.specs.declared.states.Merging.{Merging}
 use Rattle.primary_parts.specs.States.{out_of}
-use Rattle.primary_merges.specs.MergeCalls.{IsFitTask}
+use Rattle.primary_starts.specs.StartCalls.{IsFitTask}
 use Rattle.primary_bench.specs.declared.seen.Seen.{Seen}
 
 -- no name reads, and no image shows a commit

@@ -1,12 +1,12 @@
--- A merge that is given up.
-use Rattle.std.proofs.Common.{◌≡◌, ◌<◌, ◌+◌, ℕ, List, ◌++◌, inl, inr, Option, Some, None, sym, subst, arith}
+-- A merge that is given up, and calls that are refused on their way.
+use Rattle.std.proofs.Common.{◌≡◌, ◌<◌, ◌+◌, ℕ, List, ◌++◌, inl, inr, Option, Some, None, sym, subst, ◌∙◌, arith}
 use Rattle.std.specs.Prelude.{IfSome}
 use Rattle.std.specs.List.{Contains}
 use Rattle.std.proofs.lemmas.List.Elements.{Contains-append_cases, Contains-append_left, Contains-append_right}
 use Rattle.nrt_base.specs.declared.numbers.SegNo.{SegNo}
 use Rattle.disk_model.specs.Disk.{Name, Cells, reads_of}
 use Rattle.file_deleter.specs.Holdings.{Holdings, count_of, times, AreCounted}
-use Rattle.file_deleter.specs.Moves.{LetsGo}
+use Rattle.file_deleter.specs.Moves.{KeepsFiles, LetsGo}
 use Rattle.file_deleter.proofs.NameLemmas.{times-append}
 use Rattle.searcher_switch.specs.Searching.{searcher_names}
 use Rattle.node_files.specs.Node.{IsWholeNode}
@@ -17,8 +17,8 @@ use Rattle.primary_parts.specs.declared.states.Merging.{Merging}
 use Rattle.primary_parts.specs.Held.{IsUnused}
 use Rattle.primary_parts.specs.States.{state_names}
 use Rattle.primary_parts.specs.Merges.{merge_names, merge_loose, merge_of, merges_without, IsMerging}
-use Rattle.primary_parts.specs.Primary.{loose_in, publish_loose, rest_loose, loose_of, filled_of, rest_names, primary_names, IsUnwritten, IsPrimary}
-use Rattle.primary_parts.specs.Calls.{DrawsOnly, HoldsNoNew}
+use Rattle.primary_parts.specs.Primary.{loose_in, publish_loose, rest_loose, loose_of, filled_of, rest_names, primary_names, IsUnwritten, IsPrimary, KeepsHeldBytes}
+use Rattle.primary_parts.specs.Calls.{FillsUndrawn, DrawsOnly, HoldsNoNew}
 use Rattle.primary_parts.proofs.Drawing.{numbered_within}
 use Rattle.primary_parts.proofs.NewFiles.{undrawn_of}
 use Rattle.primary_parts.proofs.MergeLists.{names_split, loose_at, loose_without, loose_gone, filled_or, all_without, apart_without}
@@ -123,3 +123,14 @@ module _ {D : Type 0} (cells : D → Cells) (p : Parts D) (is : IsPrimary cells 
 
     pub abandon_no_new : HoldsNoNew p after
     abandon_no_new = record { each = λ q zero. omega (arith, zero, lets.counts q) }
+
+-- ---- a call that is refused on its way, where each file is counted as before
+module _ {D : Type 0} (cells : D → Cells) (p m n : Parts D) (same : (q : Name) → count_of m.files q ≡ count_of p.files q) where
+  pub refused_no_new : HoldsNoNew m n → HoldsNoNew p n
+  refused_no_new h = record { each = λ q zero. h.each q (same q ∙ zero) }
+
+  pub refused_fills : HoldsNoNew m n → FillsUndrawn p n
+  refused_fills h = record { each = λ q zero some. let none : count_of n.files q ≡ 0 = h.each q (same q ∙ zero) in absurd (omega (arith, some, none)) }
+
+  pub refused_stays : (written : List Name) → KeepsFiles written p.files m.files (cells p.dir) (cells m.dir) → KeepsHeldBytes cells m n → KeepsHeldBytes cells p n
+  refused_stays written keeps h = record { held = λ q had has. let mid : 0 < count_of m.files q = omega (arith, had, same q) in h.held q mid has ∙ keeps.reads q had mid }

@@ -1,5 +1,5 @@
 -- A primary whose holders change beside its searchers and its writer's infos: what it searches, writes and has committed stays.
-use Rattle.std.proofs.Common.{◌≡◌, ◌<◌, ◌+◌, List, ◌++◌}
+use Rattle.std.proofs.Common.{◌≡◌, ◌<◌, List, ◌++◌}
 use Rattle.std.specs.List.{AllByRecursion}
 use Rattle.disk_model.specs.Disk.{Name, Cells, reads_of}
 use Rattle.file_deleter.specs.Holdings.{Holdings, count_of, times}

@@ -1,10 +1,5 @@
 mod Carrying
-mod Begun
-mod MergedFiles
+pub mod MergedFiles
 mod Readied
-mod Abandoned
-mod CutSteps
-mod CutPlaced
-mod Begins
-mod CutMaking
+pub mod Abandoned
 mod Making

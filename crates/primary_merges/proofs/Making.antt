@@ -1,12 +1,10 @@
--- A merge in its place; the state of one whose files are to be written, and the metadata of these; the records of its inputs, one after another.
-use Rattle.std.proofs.Common.{◌≡◌, ◌<◌, ◌+◌, ◌==◌, cond, ℕ, Bool, true, List, [], ◌∷◌, ◌++◌, Some, None, is_some, length, take, get_or, slice_set, refl, sym, ap, subst, ◌∙◌, All}
+-- A merge in its place; the state of one whose files are to be written, and the metadata of these.
+use Rattle.std.proofs.Common.{◌≡◌, ◌<◌, ◌+◌, ℕ, true, List, [], ◌∷◌, ◌++◌, Option, Some, None, is_some, length, take, get_or, slice_set, refl, sym, ap, subst, ◌∙◌, All}
+use Rattle.std.specs.Option.{IsSomeAnd}
 use Rattle.std.proofs.lemmas.List.{take_more, map-append}
 use Rattle.std.proofs.lemmas.Option.{slice_get_read}
-use Rattle.std.specs.List.{list_any}
-use Rattle.std.proofs.lemmas.List.Elements.{All-push, filter_more}
-use Rattle.nrt_base.specs.declared.numbers.SegNo.{SegNo}
+use Rattle.std.proofs.lemmas.List.Elements.{All-push}
 use Rattle.disk_model.specs.Disk.{Name, Content}
-use Rattle.segment_infos.specs.declared.infos.SegRecord.{SegRecord}
 use Rattle.segment_infos.specs.Infos.{IsInfosFile}
 use Rattle.seg_build.specs.Built.{File}
 use Rattle.copy_state.specs.declared.meta.FileMetaData.{FileMetaData}
@@ -21,7 +19,7 @@ use Rattle.primary_parts.specs.Merges.{merge_of, merge_place, merges_with}
 use Rattle.primary_parts.specs.States.{IsMetaIn}
 use Rattle.primary_parts.specs.Written.{names_of}
 use Rattle.primary_parts.proofs.MergeLists.{merge_at}
-use Rattle.primary_merges.specs.MergeCalls.{records_in, IsStateReady}
+use Rattle.primary_merges.specs.MergeCalls.{IsStateReady}
 
 abbrev Meta : Type 0
 Meta = Name × FileMetaData
@@ -36,16 +34,6 @@ pub told_metas : (files : List File) (i : ℕ) (file : File) (metas more : List 
     → ((reads : Name → Content) → All (λ (f : File). reads f.0 ≡ Some f.1) files → All (IsMetaIn reads) metas) → (reads : Name → Content) → All (λ (f : File). reads f.0 ≡ Some f.1) files → All (IsMetaIn reads) more
 told_metas files i file metas more meta lt is e of sofar reads all = subst (All (IsMetaIn reads)) (sym e)
     (All-push (IsMetaIn reads) metas (file.0, meta) (sofar reads all) (record { bytes = file.1; there = subst (λ (f : File). reads f.0 ≡ Some f.1) (sym is) (all i file lt); meta = of }))
-
--- ---- records that are chosen
--- where the next record is chosen it is put at the end, and else nothing is
-pub chosen_more : (inputs : List SegNo) (rs : List SegRecord) (i : ℕ) (r : SegRecord) (found more : List SegRecord) (b : Bool) → i < length rs → r ≡ get_or rs i r → list_any (λ (seg : SegNo). seg.0 == r.seg.0) inputs ≡ b
-    → found ≡ records_in inputs (take i rs) → more ≡ found ++ cond b (r ∷ []) [] → more ≡ records_in inputs (take (i + 1) rs)
-chosen_more inputs rs i r found more b lt is test sofar e =
-    e ∙ ap (λ (l : List SegRecord). l ++ cond b (r ∷ []) []) sofar
-    ∙ ap (λ (x : Bool). records_in inputs (take i rs) ++ cond x (r ∷ []) []) (sym test)
-    ∙ ap (λ (x : SegRecord). records_in inputs (take i rs) ++ cond (list_any (λ (seg : SegNo). seg.0 == x.seg.0) inputs) (x ∷ []) []) is
-    ∙ sym (filter_more (λ (x : SegRecord). list_any (λ (seg : SegNo). seg.0 == x.seg.0) inputs) rs i r lt)
 
 -- ---- all that is made before the first write
 pub state_ready_of : {D : Type 0} (p : Parts D) (merged : Merged) (m : Merging) → merge_of merged.files.seg.0 p.merges ≡ Some m → m.merged ≡ None → IsMergedOf m.task merged → AreShortNames p.completed → (written names held : List Name)
@@ -79,6 +67,11 @@ state_ready_of p merged m found unmade of short_completed written names held w n
 }
 
 -- ---- the merge in its place
+-- what is true of the merge that is found
+pub so_at : {X : Type 0} (P : X → Type 0) (o : Option X) (x : X) → Some x ≡ o → IsSomeAnd o P → P x
+so_at P None x e h = absurd h
+so_at P (Some y) x e h = let same : y ≡ x = cc in subst P same h
+
 pub found_at : (n : ℕ) (ms : List Merging) (i : ℕ) (x : Merging) → is_some (merge_of n ms) ≡ true → i ≡ merge_place n ms → x ≡ get_or ms i x → Some x ≡ merge_of n ms
 found_at n ms i x there place is =
     let at = merge_at n ms there in

@@ -57,14 +57,14 @@ parts_once n small q = by (same (part_name_of n Docs) q) (same (part_name_of n P
     apart : (a b : SegPart) → same (part_name_of n a) q ≡ true → same (part_name_of n b) q ≡ true → a ≡ b
     apart a b e f = (part_name_apart n n a b small small (same_true (part_name_of n a) q e ∙ sym (same_true (part_name_of n b) q f))).1
 
-    one : (which : SegPart) (b : Bool) → same (part_name_of n which) q ≡ b → cond (same (part_name_of n which) q) 1 0 ≡ cond b 1 0
+    one : (which : SegPart) (b : Bool) → same (part_name_of n which) q ≡ b → ◌≡◌ {A = ℕ} (cond (same (part_name_of n which) q) 1 0) (cond b 1 0)
     one which b e = ap (λ (x : Bool). cond x 1 0) e
 
-    none : (which : SegPart) → same (part_name_of n which) q ≡ false → cond (same (part_name_of n which) q) 1 0 ≡ 0
+    none : (which : SegPart) → same (part_name_of n which) q ≡ false → ◌≡◌ {A = ℕ} (cond (same (part_name_of n which) q) 1 0) 0
     none which e = one which false e
 
     most : (which : SegPart) (b : Bool) → same (part_name_of n which) q ≡ b → cond (same (part_name_of n which) q) 1 0 ≤ 1
-    most which true e = let f : cond (same (part_name_of n which) q) 1 0 ≡ 1 = one which true e in omega (arith, f)
+    most which true e = let f : ◌≡◌ {A = ℕ} (cond (same (part_name_of n which) q) 1 0) 1 = one which true e in omega (arith, f)
     most which false e = omega (arith, none which e)
 
     by : (a b c : Bool) → same (part_name_of n Docs) q ≡ a → same (part_name_of n Post) q ≡ b → same (part_name_of n Info) q ≡ c → times (part_names n) q ≤ 1

@@ -98,11 +98,15 @@ module _ {D : Type 0} (cells : D → Cells) (p : Parts D) (is : IsPrimary cells 
     reads_mid q had = keeps.reads q had (omega (arith, had, counts q))
 
     -- the hold is refused, and what was written is given back
-    pub ready_unheld : (end : D) (files : Holdings) → LetsGo written mid files (cells dir) (cells end) → IsPrimary cells (record p { dir = end; files = files })
-    ready_unheld end files lets = primary_same cells p is end files
-        (node_lets_go (cells dir) (cells end) mid files (primary_names p) written p.commits node_written lets)
-        (λ q had has. let c : 0 < count_of mid q = omega (arith, had, counts q) in lets.keeps.reads q c has ∙ reads_mid q had)
-        (λ q. omega (arith, counts q, lets.counts q))
+    module _ (end : D) (files : Holdings) (lets : LetsGo written mid files (cells dir) (cells end)) where
+      pub unheld_counts : (q : Name) → count_of files q ≡ count_of p.files q
+      unheld_counts q = omega (arith, counts q, lets.counts q)
+
+      pub unheld_stays : KeepsBytes p.files files (cells p.dir) (cells end)
+      unheld_stays = record { held = λ q had has. let c : 0 < count_of mid q = omega (arith, had, counts q) in lets.keeps.reads q c has ∙ reads_mid q had }
+
+      pub ready_unheld : IsPrimary cells (record p { dir = end; files = files })
+      ready_unheld = primary_same cells p is end files (node_lets_go (cells dir) (cells end) mid files (primary_names p) written p.commits node_written lets) unheld_stays.held unheld_counts
 
     -- ---- the state is out, and the merge is made
     module _ (files : Holdings) (states : List Out) (moves : MovesCounts [] (state_names p.states) (state_names states) mid files (cells dir) (cells dir)) (only : AddsOnly written (state_names p.states) (state_names states))

@@ -25,7 +25,7 @@ pub(crate) fn place_of(merges: &[Merging], seg: SegNo) -> usize
 
 /// The merge of a number.
 #[tactic(auto, using(primary_parts::proofs::MergeLists::merge_at))]
-pub(crate) fn merge_in(merges: &[Merging], seg: SegNo) -> &Merging
+pub fn merge_in(merges: &[Merging], seg: SegNo) -> &Merging
     requires { is_some (merge_of seg.0 merges.now) ≡ true }
     ensures { Some result.now ≡ merge_of seg.0 merges.now }
 {
@@ -35,7 +35,7 @@ pub(crate) fn merge_in(merges: &[Merging], seg: SegNo) -> &Merging
 
 /// Takes the merge of a number out.
 #[tactic(auto, using(primary_parts::proofs::MergeLists::merge_at))]
-pub(crate) fn take_merge(merges: &mut List<Merging>, seg: SegNo) -> Merging
+pub fn take_merge(merges: &mut List<Merging>, seg: SegNo) -> Merging
     requires { is_some (merge_of seg.0 merges.old) ≡ true }
     ensures rest { merges.new ≡ merges_without seg.0 merges.old }
     ensures item { Some result ≡ merge_of seg.0 merges.old }
@@ -45,7 +45,7 @@ pub(crate) fn take_merge(merges: &mut List<Merging>, seg: SegNo) -> Merging
 }
 
 /// The merge has ended: what it held is given back, and its inputs can be chosen again.
-pub(crate) fn abandon<D: Dir>(parts: &mut Parts<D>, seg: SegNo)
+pub fn abandon<D: Dir>(parts: &mut Parts<D>, seg: SegNo)
     requires whole { IsPrimary D.cells parts.old }
     requires there { is_some (merge_of seg.0 parts.old.merges) ≡ true }
     ensures merges { parts.new.merges ≡ merges_without seg.0 parts.old.merges }

@@ -1,11 +1,8 @@
-//! Merges of a primary: they start, their files are written, and they are cut over. No row that is live is lost.
+//! Merges of a primary that are in flight: their files are written, or they end.
 #![tactic(auto)]
 
-mod cutting;
 mod finding;
 mod readying;
-mod starting;
 
-pub use cutting::{CutReady, merge_cut};
-pub use readying::merge_ready;
-pub use starting::merge_start;
+pub use finding::{abandon, merge_in, take_merge};
+pub use readying::{StateReady, merge_ready};

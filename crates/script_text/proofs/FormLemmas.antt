@@ -16,7 +16,7 @@ use Rattle.script_serving.specs.Form.{is_command, is_under, are_apart, is_phase,
 use Rattle.script_text.specs.Grammar.{Statement, statements_from, statements_of, lines_of_text, is_statement, SpellsPhases, SpellsLogged, SpellsBody, SpellsStatements, SpellsScript, of_lane, lane_entry, lanes_from, phase_of}
 
 -- what holds of all lines holds of those that a test keeps
-all_kept : (p q : Line → Bool) (lines : List Line) → list_all p lines ≡ true → list_all p (filter q lines) ≡ true
+pub all_kept : (p q : Line → Bool) (lines : List Line) → list_all p lines ≡ true → list_all p (filter q lines) ≡ true
 all_kept p q [] h = refl
 all_kept p q (line ∷ lines) h = let k = and_parts (p line) (list_all p lines) h in by_test (q line) refl k.0 (all_kept p q lines k.1)
   where
@@ -25,10 +25,10 @@ all_kept p q (line ∷ lines) h = let k = and_parts (p line) (list_all p lines) 
     by_test false e f ih = rw e ih
 
 -- the lines under these lanes
-abbrev under : List (LaneNo × List Line) → List Line
+abbrev pub under : List (LaneNo × List Line) → List Line
 under lanes = flat_map (λ lane. lane.1) lanes
 
-under_entry : (k : ℕ) (lines : List Line) (rest : List (LaneNo × List Line)) → under (lane_entry k lines ++ rest) ≡ lines ++ under rest
+pub under_entry : (k : ℕ) (lines : List Line) (rest : List (LaneNo × List Line)) → under (lane_entry k lines ++ rest) ≡ lines ++ under rest
 under_entry k [] rest = refl
 under_entry k (line ∷ lines) rest = refl
 
@@ -40,11 +40,11 @@ all_under p (suc more) k lines h =
     ∙ and_from (list_all p (of_lane k lines)) (list_all p (under (lanes_from more (k + 1) lines))) (all_kept p (λ line. line.at.lane.0 == k) lines h) (all_under p more (k + 1) lines h))
 
 -- the lines of a phase are those of its statements
-all_of_phase : (p : Line → Bool) (lines : List Line) → list_all p lines ≡ true → list_all p (lines_of_phase (phase_of lines)) ≡ true
+pub all_of_phase : (p : Line → Bool) (lines : List Line) → list_all p lines ≡ true → list_all p (lines_of_phase (phase_of lines)) ≡ true
 all_of_phase p lines h = all_under p 8 1 lines h
 
 -- the number of a line
-abbrev number_of : Line → ℕ
+abbrev pub number_of : Line → ℕ
 number_of line = line.at.line.0
 
 -- no line of these has the number of this one
@@ -142,11 +142,11 @@ distinct_under (suc more) k lines d =
     (lane_apart k more (k + 1) lines (omega arith) d)
 
 -- the numbers ascend from this one on
-abbrev AscendFrom : ℕ → List Line → Type 0
+abbrev pub AscendFrom : ℕ → List Line → Type 0
 AscendFrom n [] = Unit {0}
 AscendFrom n (line ∷ lines) = (n ≤ number_of line) × AscendFrom (number_of line + 1) lines
 
-lower : (m n : ℕ) (lines : List Line) → m ≤ n → AscendFrom n lines → AscendFrom m lines
+pub lower : (m n : ℕ) (lines : List Line) → m ≤ n → AscendFrom n lines → AscendFrom m lines
 lower m n [] h a = tt
 lower m n (line ∷ lines) h a = (omega (arith, a.0), a.1)
 
@@ -157,7 +157,7 @@ all_above n (line ∷ lines) a =
     let here : nat_lt n (number_of line) ≡ true = grind (arith, nat_tests) in
     and_from (nat_lt n (number_of line)) (list_all (λ later. nat_lt n (number_of later)) lines) here (all_above n lines (lower (n + 1) (number_of line + 1) lines (omega arith) a.1))
 
-ascending : (n : ℕ) (lines : List Line) → AscendFrom n lines → are_ascending lines ≡ true
+pub ascending : (n : ℕ) (lines : List Line) → AscendFrom n lines → are_ascending lines ≡ true
 ascending n [] a = refl
 ascending n (line ∷ lines) a =
     and_from (list_all (λ later. nat_lt (number_of line) (number_of later)) lines) (are_ascending lines) (all_above (number_of line) lines a.1) (ascending (number_of line + 1) lines a.1)
@@ -174,11 +174,11 @@ distinct_from n [] a = refl
 distinct_from n (line ∷ lines) a = and_from (is_apart line lines) (are_distinct lines) (apart_above line (number_of line + 1) lines (omega arith) a.1) (distinct_from (number_of line + 1) lines a.1)
 
 -- the first of two lists, where and_from together ascend
-front_from : (n : ℕ) (xs ys : List Line) → AscendFrom n (xs ++ ys) → AscendFrom n xs
+pub front_from : (n : ℕ) (xs ys : List Line) → AscendFrom n (xs ++ ys) → AscendFrom n xs
 front_from n [] ys a = tt
 front_from n (x ∷ xs) ys a = (a.0, front_from (number_of x + 1) xs ys a.1)
 
-back_from : (n : ℕ) (xs ys : List Line) → AscendFrom n (xs ++ ys) → AscendFrom n ys
+pub back_from : (n : ℕ) (xs ys : List Line) → AscendFrom n (xs ++ ys) → AscendFrom n ys
 back_from n [] ys a = a
 back_from n (x ∷ xs) ys a = lower n (number_of x + 1) ys (omega (arith, a.0)) (back_from (number_of x + 1) xs ys a.1)
 
@@ -191,7 +191,7 @@ kept_from q n (x ∷ xs) ys ys' f a = by_test (q x) refl (kept_from q (number_of
     by_test true e ih = rw e (a.0, ih)
     by_test false e ih = rw e (lower n (number_of x + 1) (filter q xs ++ ys') (omega (arith, a.0)) ih)
 
-under-append : (lane : ℕ) (xs ys : List (LaneNo × List Line)) → lines_under lane (xs ++ ys) ≡ lines_under lane xs ++ lines_under lane ys
+pub under-append : (lane : ℕ) (xs ys : List (LaneNo × List Line)) → lines_under lane (xs ++ ys) ≡ lines_under lane xs ++ lines_under lane ys
 under-append lane [] ys = refl
 under-append lane (x ∷ xs) ys = by_test (x.0.0 == lane) refl (under-append lane xs ys)
   where
@@ -201,7 +201,7 @@ under-append lane (x ∷ xs) ys = by_test (x.0.0 == lane) refl (under-append lan
     by_test false e ih = rw e ih
 
 -- a lane before these has no lines under them
-none_under : (lane more k : ℕ) (lines : List Line) → lane < k → lines_under lane (lanes_from more k lines) ≡ []
+pub none_under : (lane more k : ℕ) (lines : List Line) → lane < k → lines_under lane (lanes_from more k lines) ≡ []
 none_under lane zero k lines h = refl
 none_under lane (suc more) k lines h =
     under-append lane (lane_entry k (of_lane k lines)) (lanes_from more (k + 1) lines) ∙ (ap (λ (ls : List Line). ls ++ lines_under lane (lanes_from more (k + 1) lines)) (entry (of_lane k lines)) ∙ none_under lane more (k + 1) lines (omega arith))
@@ -214,7 +214,7 @@ none_under lane (suc more) k lines h =
     entry (l ∷ ls) = rw other refl
 
 -- the lines under a lane are its lines, or the lane is none of these
-some_under : (lane more k : ℕ) (lines : List Line) → (lines_under lane (lanes_from more k lines) ≡ of_lane lane lines) ⊎ (lines_under lane (lanes_from more k lines) ≡ [])
+pub some_under : (lane more k : ℕ) (lines : List Line) → (lines_under lane (lanes_from more k lines) ≡ of_lane lane lines) ⊎ (lines_under lane (lanes_from more k lines) ≡ [])
 some_under lane zero k lines = inr refl
 some_under lane (suc more) k lines = by_test (k == lane) refl (some_under lane more (k + 1) lines)
   where
@@ -295,25 +295,25 @@ lanes_are_apart (suc more) k lines = entry (of_lane k lines) (lanes_are_apart mo
 phase_is : (lines : List Line) → is_phase (phase_of lines) ≡ true
 phase_is lines = and_from (list_all is_under (lanes_from 8 1 lines)) (are_apart (lanes_from 8 1 lines)) (under_own 8 1 lines (omega arith) (omega arith)) (lanes_are_apart 8 1 lines)
 
-phases_are : (phases : List (List Line)) → list_all is_phase (map phase_of phases) ≡ true
+pub phases_are : (phases : List (List Line)) → list_all is_phase (map phase_of phases) ≡ true
 phases_are [] = refl
 phases_are (lines ∷ phases) = and_from (is_phase (phase_of lines)) (list_all is_phase (map phase_of phases)) (phase_is lines) (phases_are phases)
 
 -- the lines of all phases, in the order of the statements
-abbrev all_lines : List (List Line) → List Line
+abbrev pub all_lines : List (List Line) → List Line
 all_lines [] = []
 all_lines (lines ∷ phases) = lines ++ all_lines phases
 
 -- the lines of a script whose phases are these
-abbrev lines_in : List (List Line) → List Line
-lines_in phases = flat_map lines_of_phase (map phase_of phases)
+abbrev pub lines_of_phases : List (List Line) → List Line
+lines_of_phases phases = flat_map lines_of_phase (map phase_of phases)
 
-all_of_phases : (p : Line → Bool) (phases : List (List Line)) → list_all p (all_lines phases) ≡ true → list_all p (lines_in phases) ≡ true
+pub all_of_phases : (p : Line → Bool) (phases : List (List Line)) → list_all p (all_lines phases) ≡ true → list_all p (lines_of_phases phases) ≡ true
 all_of_phases p [] h = refl
 all_of_phases p (lines ∷ phases) h =
     let k = and_parts (list_all p lines) (list_all p (all_lines phases)) (sym (list_all-append p lines (all_lines phases)) ∙ h) in
-    list_all-append p (lines_of_phase (phase_of lines)) (lines_in phases)
-    ∙ and_from (list_all p (lines_of_phase (phase_of lines))) (list_all p (lines_in phases)) (all_of_phase p lines k.0) (all_of_phases p phases k.1)
+    list_all-append p (lines_of_phase (phase_of lines)) (lines_of_phases phases)
+    ∙ and_from (list_all p (lines_of_phase (phase_of lines))) (list_all p (lines_of_phases phases)) (all_of_phase p lines k.0) (all_of_phases p phases k.1)
 
 -- a line before others, where all ascend, is apart from them
 apart_later : (n : ℕ) (xs ys : List Line) → AscendFrom n (xs ++ ys) → are_apart_from xs ys ≡ true
@@ -322,20 +322,20 @@ apart_later n (x ∷ xs) ys a =
     and_from (is_apart x ys) (are_apart_from xs ys) (apart_above x (number_of x + 1) ys (omega arith) (back_from (number_of x + 1) xs ys a.1)) (apart_later (number_of x + 1) xs ys a.1)
 
 -- what is apart from lines is so where and_from are put under lanes
-apart_all : (xs : List Line) (phases : List (List Line)) → are_apart_from xs (all_lines phases) ≡ true → are_apart_from xs (lines_in phases) ≡ true
+apart_all : (xs : List Line) (phases : List (List Line)) → are_apart_from xs (all_lines phases) ≡ true → are_apart_from xs (lines_of_phases phases) ≡ true
 apart_all [] phases h = refl
 apart_all (x ∷ xs) phases h =
     let k = and_parts (is_apart x (all_lines phases)) (are_apart_from xs (all_lines phases)) h in
-    and_from (is_apart x (lines_in phases)) (are_apart_from xs (lines_in phases)) (all_of_phases (λ other. not (number_of other == number_of x)) phases k.0) (apart_all xs phases k.1)
+    and_from (is_apart x (lines_of_phases phases)) (are_apart_from xs (lines_of_phases phases)) (all_of_phases (λ other. not (number_of other == number_of x)) phases k.0) (apart_all xs phases k.1)
 
-distinct_phases : (n : ℕ) (phases : List (List Line)) → AscendFrom n (all_lines phases) → are_distinct (lines_in phases) ≡ true
+pub distinct_phases : (n : ℕ) (phases : List (List Line)) → AscendFrom n (all_lines phases) → are_distinct (lines_of_phases phases) ≡ true
 distinct_phases n [] a = refl
 distinct_phases n (lines ∷ phases) a =
-    distinct-append (lines_of_phase (phase_of lines)) (lines_in phases) (distinct_under 8 1 lines (distinct_from n lines (front_from n lines (all_lines phases) a)))
+    distinct-append (lines_of_phase (phase_of lines)) (lines_of_phases phases) (distinct_under 8 1 lines (distinct_from n lines (front_from n lines (all_lines phases) a)))
     (distinct_phases n phases (back_from n lines (all_lines phases) a))
-    (all_of_phase (λ x. is_apart x (lines_in phases)) lines (apart_all lines phases (apart_later n lines (all_lines phases) a)))
+    (all_of_phase (λ x. is_apart x (lines_of_phases phases)) lines (apart_all lines phases (apart_later n lines (all_lines phases) a)))
 
-lane_ascends : (lane n : ℕ) (phases : List (List Line)) → AscendFrom n (all_lines phases) → AscendFrom n (flat_map (λ phase. lines_under lane phase.lanes) (map phase_of phases))
+pub lane_ascends : (lane n : ℕ) (phases : List (List Line)) → AscendFrom n (all_lines phases) → AscendFrom n (flat_map (λ phase. lines_under lane phase.lanes) (map phase_of phases))
 lane_ascends lane n [] a = a
 lane_ascends lane n (lines ∷ phases) a = told (some_under lane 8 1 lines) (λ m b. lane_ascends lane m phases b)
   where

@@ -2,7 +2,7 @@ mod AnswerLaws
 mod CauseLemmas
 mod CommandLemmas
 mod DropLemmas
-mod FormLemmas
+pub mod FormLemmas
 mod HeaderLemmas
 mod LaneLineLemmas
 mod LineLemmas

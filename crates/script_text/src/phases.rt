@@ -46,7 +46,7 @@ fn push_lane(
 }
 
 /// The phase of these lines.
-fn phase_of(alloc: Global, lines: Vec<Line>) -> Result<Phase, NoMemory>
+pub fn phase_of(alloc: Global, lines: Vec<Line>) -> Result<Phase, NoMemory>
     ensures { IfOk result (λ phase. phase ≡ phase_of_lem lines.items) }
 {
     let mut lanes = Vec::new(alloc);

@@ -1,4 +1,5 @@
-use Rattle.std.proofs.Common.{◌≡◌, refl, ap, []}
+use Rattle.std.proofs.Common.{◌≡◌, ℕ, refl, ap, subst, []}
+use Rattle.cluster_state.specs.Settles.{AreReplicas}
 use Rattle.history_entries.specs.Nodes.{newest_version}
 use Rattle.history_book.specs.Laws.{IsFresh}
 use Rattle.cluster_state.specs.FileChanges.{is_commit_line}
@@ -22,7 +23,8 @@ note-requires-clause-rule g c = record {
 pub returns-clause-settling : goal.returns-clause-settling
 returns-clause-settling g c =
     settle_begun c.args.cluster.now c.note.new.self _ c.cluster.inside.ledger c.args.at (record { 0 = c.newest.result }) (record { version = record { 0 = c.newest.result }; left = c.in-Ok.left })
-    c.cluster.view_is c.in_ok-note.ensures.ok refl c.in-Ok.ensures
+    c.cluster.view_is c.in_ok-note.ensures.ok refl
+    (subst (λ (x : ℕ × Log). AreReplicas x.0 (printed x.1) c.in-Ok.left.items) (λ i. (c.book-book.ensures.nodes i, c.book-book.ensures.log i)) c.in-Ok.ensures)
 
 pub is_fresh-requires : goal.is_fresh-requires
 is_fresh-requires g c = asked_of (λ (l : Log). entries_of_line c.args.at (printed l) ≡ []) c.cluster.view_is c.book-book.ensures.log c.requires.fresh

@@ -1,4 +1,4 @@
-use Rattle.std.proofs.Common.{◌≡◌, ◌∷◌, ◌<◌, ◌≤◌, drop, refl, sym, subst}
+use Rattle.std.proofs.Common.{◌≡◌, ◌==◌, ◌∷◌, ◌<◌, ◌≤◌, drop, refl, sym, subst}
 use Rattle.std.specs.List.{All, AllPairs}
 use Rattle.nrt_base.specs.declared.numbers.NodeNo.{NodeNo}
 use Rattle.history_book.specs.Log.{printed}

@@ -1,10 +1,12 @@
-use Rattle.std.proofs.Common.{ap, refl, sym, ◌∙◌, is_some}
+use Rattle.std.proofs.Common.{List, ap, refl, sym, subst, ◌∙◌, is_some}
 use Rattle.disk_model.specs.Disk.{reads_of}
 use Rattle.node_files.proofs.Appearing.{keeps_none, only_then_none}
 use Rattle.primary_parts.specs.declared.states.Out.{Out}
 use Rattle.primary_parts.specs.Held.{IsOwnFile}
-use Rattle.primary_parts.specs.Primary.{loose_of}
-use Rattle.primary_merges.proofs.Readied.{fresh, once, ready_appears, ready_unwritten, written_there, written_counted, ready_unheld, primary_ready, ready_draws, ready_fills, ready_stays}
+use Rattle.primary_parts.specs.Primary.{loose_of, IsPrimary}
+use Rattle.primary_parts.proofs.NewFiles.{same_no_new}
+use Rattle.primary_merges.proofs.Abandoned.{refused_no_new, refused_fills, refused_stays}
+use Rattle.primary_merges.proofs.Readied.{fresh, once, ready_appears, ready_unwritten, written_there, written_counted, unheld_counts, unheld_stays, ready_unheld, primary_ready, ready_draws, ready_fills, ready_stays}
 use Rattle.primary_merges.proofs.readying.merge_ready.Goals as goal
 
 pub write_all-requires-clause-fresh : goal.write_all-requires-clause-fresh
@@ -26,6 +28,21 @@ returns-in-Err-Failed-clause-appears g c =
     only_then_none (IsOwnFile p.infos (loose_of p)) (g.D.Dir.cells p.dir) (g.D.Dir.cells c.write_all.new.dir) (g.D.Dir.cells c.abandon.new.parts.dir)
     (ready_appears g.D.Dir.cells c.args.parts.now c.requires.whole c.args.merged c.in_ok-ready.ensures.m c.in_ok-ready.ensures.found c.in_ok-ready.ensures.unmade c.in_ok-ready.ensures.of c.write_all.new.dir c.write_all.new.files (rw (c.as_slice.ensures, c.in_ok-ready.ensures.written) at c.in-Err-Failed.ensures.keeps)) c.abandon.ensures.appears
 
+pub returns-in-Err-Failed-clause-given_back : goal.returns-in-Err-Failed-clause-given_back
+returns-in-Err-Failed-clause-given_back g c = refused_no_new g.D.Dir.cells c.args.parts.now (record c.args.parts.now { dir = c.write_all.new.dir; files = c.write_all.new.files }) c.abandon.new.parts c.in-Err-Failed.ensures.same c.abandon.ensures.no_new
+
+pub returns-in-Err-Failed-clause-fresh : goal.returns-in-Err-Failed-clause-fresh
+returns-in-Err-Failed-clause-fresh g c = refused_fills g.D.Dir.cells c.args.parts.now (record c.args.parts.now { dir = c.write_all.new.dir; files = c.write_all.new.files }) c.abandon.new.parts c.in-Err-Failed.ensures.same c.abandon.ensures.no_new
+
+pub returns-in-Err-Failed-clause-stays : goal.returns-in-Err-Failed-clause-stays
+returns-in-Err-Failed-clause-stays g c = refused_stays g.D.Dir.cells c.args.parts.now (record c.args.parts.now { dir = c.write_all.new.dir; files = c.write_all.new.files }) c.abandon.new.parts c.in-Err-Failed.ensures.same _ c.in-Err-Failed.ensures.keeps c.abandon.ensures.stays
+
+pub returns-in-Err-clause-given_back : goal.returns-in-Err-clause-given_back
+returns-in-Err-clause-given_back g c = refused_no_new g.D.Dir.cells c.args.parts.now (record c.args.parts.now { dir = c.write_all.new.dir; files = c.write_all.new.files }) (record c.args.parts.now { dir = c.write_all.new.dir; files = c.write_all.new.files }) c.in-Err.ensures.same (same_no_new (record c.args.parts.now { dir = c.write_all.new.dir; files = c.write_all.new.files }))
+
+pub returns-in-Err-clause-fresh : goal.returns-in-Err-clause-fresh
+returns-in-Err-clause-fresh g c = refused_fills g.D.Dir.cells c.args.parts.now (record c.args.parts.now { dir = c.write_all.new.dir; files = c.write_all.new.files }) (record c.args.parts.now { dir = c.write_all.new.dir; files = c.write_all.new.files }) c.in-Err.ensures.same (same_no_new (record c.args.parts.now { dir = c.write_all.new.dir; files = c.write_all.new.files }))
+
 pub returns-in-Err-clause-whole : goal.returns-in-Err-clause-whole
 returns-in-Err-clause-whole g c = ready_unwritten g.D.Dir.cells c.args.parts.now c.requires.whole c.args.merged c.in_ok-ready.ensures.m c.in_ok-ready.ensures.found c.in_ok-ready.ensures.unmade c.in_ok-ready.ensures.of c.write_all.new.dir c.write_all.new.files c.in-Err.ensures.same (rw (c.as_slice.ensures, c.in_ok-ready.ensures.written) at c.in-Err.ensures.keeps)
 
@@ -41,11 +58,28 @@ lend-requires-clause-names g c = rw c.as_slice-3.ensures
     (ap (λ (o : Out). o.names) c.in_ok-ready.ensures.out ∙ (c.in_ok-ready.ensures.state (reads_of (g.D.Dir.cells c.write_all.new.dir)) (rw c.as_slice-2.ensures at c.in-Ok.ensures.reads)).names_are ∙ sym c.in_ok-ready.ensures.written)
 
 pub release-requires : goal.release-requires
-release-requires g c = rw (c.as_slice-in-Err-lend.ensures, c.in_ok-ready.ensures.written) (record { each = written_counted g.D.Dir.cells c.args.parts.now c.requires.whole c.args.merged c.in_ok-ready.ensures.m c.in_ok-ready.ensures.found c.in_ok-ready.ensures.unmade c.in_ok-ready.ensures.of c.write_all.new.dir c.write_all.new.files (rw (c.as_slice.ensures, c.in_ok-ready.ensures.written) at c.in-Ok.ensures.counts) (rw (c.as_slice.ensures, c.in_ok-ready.ensures.written) at c.in-Ok.ensures.keeps) })
+release-requires g c = rw (c.as_slice-in-Err-lend.ensures, c.in_ok-ready.ensures.written, c.in-Err-lend.ensures.err.1) (record { each = written_counted g.D.Dir.cells c.args.parts.now c.requires.whole c.args.merged c.in_ok-ready.ensures.m c.in_ok-ready.ensures.found c.in_ok-ready.ensures.unmade c.in_ok-ready.ensures.of c.write_all.new.dir c.write_all.new.files (rw (c.as_slice.ensures, c.in_ok-ready.ensures.written) at c.in-Ok.ensures.counts) (rw (c.as_slice.ensures, c.in_ok-ready.ensures.written) at c.in-Ok.ensures.keeps) })
 
 pub returns-in-Err-lend-clause-whole : goal.returns-in-Err-lend-clause-whole
-returns-in-Err-lend-clause-whole g c = ready_unheld g.D.Dir.cells c.args.parts.now c.requires.whole c.args.merged c.in_ok-ready.ensures.m c.in_ok-ready.ensures.found c.in_ok-ready.ensures.unmade c.in_ok-ready.ensures.of c.write_all.new.dir c.write_all.new.files (rw (c.as_slice.ensures, c.in_ok-ready.ensures.written) at c.in-Ok.ensures.counts) (rw (c.as_slice.ensures, c.in_ok-ready.ensures.written) at c.in-Ok.ensures.keeps) c.release.new.dir c.release.new.self
-    (rw (c.as_slice-in-Err-lend.ensures, c.in_ok-ready.ensures.written) at c.release.ensures.lets_go)
+returns-in-Err-lend-clause-whole g c = subst (λ (ss : List Out). IsPrimary g.D.Dir.cells (record c.args.parts.now { dir = c.release.new.dir; files = c.release.new.self; states = ss })) (sym c.in-Err-lend.ensures.err.0)
+    (ready_unheld g.D.Dir.cells c.args.parts.now c.requires.whole c.args.merged c.in_ok-ready.ensures.m c.in_ok-ready.ensures.found c.in_ok-ready.ensures.unmade c.in_ok-ready.ensures.of c.write_all.new.dir c.write_all.new.files (rw (c.as_slice.ensures, c.in_ok-ready.ensures.written) at c.in-Ok.ensures.counts) (rw (c.as_slice.ensures, c.in_ok-ready.ensures.written) at c.in-Ok.ensures.keeps) c.release.new.dir c.release.new.self
+    (rw (c.as_slice-in-Err-lend.ensures, c.in_ok-ready.ensures.written, c.in-Err-lend.ensures.err.1) at c.release.ensures.lets_go))
+
+pub returns-in-Err-lend-clause-given_back : goal.returns-in-Err-lend-clause-given_back
+returns-in-Err-lend-clause-given_back g c =
+    let n = record c.args.parts.now { dir = c.release.new.dir; files = c.release.new.self; states = c.lend.new.states } in
+    refused_no_new g.D.Dir.cells c.args.parts.now n n (unheld_counts g.D.Dir.cells c.args.parts.now c.requires.whole c.args.merged c.in_ok-ready.ensures.m c.in_ok-ready.ensures.found c.in_ok-ready.ensures.unmade c.in_ok-ready.ensures.of c.write_all.new.dir c.write_all.new.files (rw (c.as_slice.ensures, c.in_ok-ready.ensures.written) at c.in-Ok.ensures.counts) (rw (c.as_slice.ensures, c.in_ok-ready.ensures.written) at c.in-Ok.ensures.keeps) c.release.new.dir c.release.new.self
+    (rw (c.as_slice-in-Err-lend.ensures, c.in_ok-ready.ensures.written, c.in-Err-lend.ensures.err.1) at c.release.ensures.lets_go)) (same_no_new n)
+
+pub returns-in-Err-lend-clause-fresh : goal.returns-in-Err-lend-clause-fresh
+returns-in-Err-lend-clause-fresh g c =
+    let n = record c.args.parts.now { dir = c.release.new.dir; files = c.release.new.self; states = c.lend.new.states } in
+    refused_fills g.D.Dir.cells c.args.parts.now n n (unheld_counts g.D.Dir.cells c.args.parts.now c.requires.whole c.args.merged c.in_ok-ready.ensures.m c.in_ok-ready.ensures.found c.in_ok-ready.ensures.unmade c.in_ok-ready.ensures.of c.write_all.new.dir c.write_all.new.files (rw (c.as_slice.ensures, c.in_ok-ready.ensures.written) at c.in-Ok.ensures.counts) (rw (c.as_slice.ensures, c.in_ok-ready.ensures.written) at c.in-Ok.ensures.keeps) c.release.new.dir c.release.new.self
+    (rw (c.as_slice-in-Err-lend.ensures, c.in_ok-ready.ensures.written, c.in-Err-lend.ensures.err.1) at c.release.ensures.lets_go)) (same_no_new n)
+
+pub returns-in-Err-lend-clause-stays : goal.returns-in-Err-lend-clause-stays
+returns-in-Err-lend-clause-stays g c = unheld_stays g.D.Dir.cells c.args.parts.now c.requires.whole c.args.merged c.in_ok-ready.ensures.m c.in_ok-ready.ensures.found c.in_ok-ready.ensures.unmade c.in_ok-ready.ensures.of c.write_all.new.dir c.write_all.new.files (rw (c.as_slice.ensures, c.in_ok-ready.ensures.written) at c.in-Ok.ensures.counts) (rw (c.as_slice.ensures, c.in_ok-ready.ensures.written) at c.in-Ok.ensures.keeps) c.release.new.dir c.release.new.self
+    (rw (c.as_slice-in-Err-lend.ensures, c.in_ok-ready.ensures.written, c.in-Err-lend.ensures.err.1) at c.release.ensures.lets_go)
 
 pub returns-in-Err-lend-clause-appears : goal.returns-in-Err-lend-clause-appears
 returns-in-Err-lend-clause-appears g c =

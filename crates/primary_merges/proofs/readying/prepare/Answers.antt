@@ -1,8 +1,7 @@
 use Rattle.std.proofs.Common.{rules, ◌≡◌, None, sym}
 use Rattle.primary_parts.specs.declared.states.Merging.{Merging}
 use Rattle.seg_merge.specs.Merging.{IsMergedOf}
-use Rattle.primary_merges.proofs.CutMaking.{so_at}
-use Rattle.primary_merges.proofs.Making.{state_ready_of}
+use Rattle.primary_merges.proofs.Making.{so_at, state_ready_of}
 use Rattle.primary_merges.proofs.MergedFiles.{merged_framed, merged_short}
 use Rattle.primary_merges.proofs.Readied.{small}
 use Rattle.primary_merges.proofs.readying.prepare.Goals as goal

@@ -1,0 +1,7 @@
+mod CalmPasts
+mod FewNames
+mod KeyedOps
+mod LaneSplits
+mod LastLines
+mod LoadTurns
+mod Searching

@@ -1,0 +1,3 @@
+pub mod LoadCounts
+pub mod LoadForm
+pub mod LoadLines

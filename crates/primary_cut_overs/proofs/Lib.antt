@@ -1,0 +1,3 @@
+mod CutSteps
+mod CutPlaced
+mod CutMaking
