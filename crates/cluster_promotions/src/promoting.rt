@@ -1,6 +1,7 @@
 //! A replica that becomes the primary of the next generation.
 
 ghost use Rattle.std.specs.Prelude.{◌≡◌, ◌≤◌, ◌<◌, ◌+◌, ◌^◌, ◌∷◌, [], None, false, true, OnOk, OnErr};
+ghost use Rattle.history_entries.specs.declared.entry.Event.{Event};
 ghost use Rattle.history_entries.specs.Nodes.{IsNode, is_running, primary_of, generation_of, newest_version};
 ghost use Rattle.history_entries.specs.Lines.{entries_of_line};
 ghost use Rattle.history_book.specs.Log.{printed, shown};

@@ -15,7 +15,7 @@ use Rattle.replica_parts.specs.declared.parts.Parts.{Parts as ReplicaParts}
 use Rattle.replica_parts.specs.Merges.{copy_at}
 use Rattle.history_entries.specs.Nodes.{IsNode, primary_of}
 use Rattle.history_book.specs.Log.{Log, printed}
-use Rattle.primary_merges.specs.MergeCalls.{IsFitTask}
+use Rattle.primary_starts.specs.StartCalls.{IsFitTask}
 use Rattle.cluster_tasks.specs.declared.tasks.TaskKind.{TaskKind}
 use Rattle.cluster_tasks.specs.declared.tasks.TaskKind.TheVariants.{Merge, PreCopy, Cut}
 use Rattle.cluster_tasks.specs.declared.tasks.Spread.{Spread}

@@ -13,7 +13,7 @@ use Rattle.primary_parts.specs.Held.{IsOwnFile}
 use Rattle.primary_parts.specs.States.{out_of, is_out, states_without}
 use Rattle.primary_parts.specs.Primary.{IsPrimary, KeepsHeldBytes, IsUnwritten, loose_of}
 use Rattle.primary_parts.specs.Calls.{FillsUndrawn, DrawsOnly, HoldsNoNew}
-use Rattle.primary_merges.specs.MergeCalls.{IsCutOver, KeepsDocuments}
+use Rattle.primary_cut_overs.specs.CutOverCalls.{IsCutOver, KeepsDocuments}
 use Rattle.replica_parts.specs.declared.parts.Parts.{Parts as ReplicaParts}
 use Rattle.cluster_places.specs.declared.held.Held.{Held}
 use Rattle.cluster_places.specs.declared.nodes.Node.TheVariants.{Primary, Replica}

@@ -23,7 +23,9 @@ use Rattle.primary_parts.specs.States.{out_of, is_out, states_without, IsStateOf
 use Rattle.primary_parts.specs.Written.{names_of, ReadsSo}
 use Rattle.primary_parts.specs.Primary.{IsPrimary, KeepsHeldBytes, loose_of}
 use Rattle.primary_parts.specs.Calls.{FillsUndrawn, DrawsOnly, HoldsNoNew}
-use Rattle.primary_merges.specs.MergeCalls.{AnswersMerge, IsFitTask, IsFilledMerge, IsReadied, IsCutOver, KeepsDocuments}
+use Rattle.primary_starts.specs.StartCalls.{AnswersMerge, IsFitTask}
+use Rattle.primary_merges.specs.MergeCalls.{IsReadied}
+use Rattle.primary_cut_overs.specs.CutOverCalls.{IsFilledMerge, IsCutOver, KeepsDocuments}
 use Rattle.replica_parts.specs.declared.parts.Parts.{Parts as ReplicaParts}
 use Rattle.replica_parts.specs.Merges.{copy_at, copies_with, copies_without, copies_seen, IsSegmentState, SharesNone}
 use Rattle.replica_parts.specs.Jobs.{merge_job_on}

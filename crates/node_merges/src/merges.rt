@@ -2,7 +2,7 @@
 
 ghost use Rattle.std.specs.Prelude.{◌≡◌, ◌≤◌, true, IfOk, OnOk};
 ghost use Rattle.primary_parts.specs.States.{out_of, is_out};
-ghost use Rattle.primary_merges.specs.MergeCalls.{IsFilledMerge, IsMadeFor};
+ghost use Rattle.primary_merges.specs.MergeCalls.{IsMadeFor};
 ghost use Rattle.cluster_places.specs.Places.{place_of, IsSlot, HasPrimary};
 ghost use Rattle.node_merges.specs.MergeChanges.{AsksMerge, ReadiesMerge, MayCut, CutsMerge};
 ghost use Rattle.node_merges.specs.MergePlaces.{IsPrimaryIn, MovesPrimary};
