@@ -7,10 +7,4 @@ mod transfers;
 
 pub use jobs::end_job;
 pub use states::{lacks, next_file, share_state};
-<<<<<<< HEAD
-pub use transfers::{
-    begin_in, finish_in, next_in, read_in, take_in, take_primary, take_replica,
-};
-=======
 pub use transfers::{begin_in, finish_in, next_in, read_in, take_in, take_primary, take_replica};
->>>>>>> 892aa57078c3195d537ebe2f800dbff7cd6336d9
