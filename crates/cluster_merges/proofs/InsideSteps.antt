@@ -80,21 +80,30 @@ module _ {D : Type 0} (cells : D → Cells) where
       (λ z is. subst (λ (l : List OpenMerge). NodeMerges now cut (λ s. jobs_like places s size) l n z.node) (sym same)
       (node_stands log now cut (λ s. jobs_like places s size) (λ s. jobs_like places s size) rows n more z.node z.node (node_keeps (λ s. jobs_like places s size) (λ s. jobs_like places s size) z.node (λ s. omega arith)) is))
 
-  -- an entry of inner work of merges that moves no node
-  pub inside_path : (b0 b2 : Sheet) (places : List (Option (Place D))) (board new : Board) (i : Inner) → b2.log ≡ kept i ∷ b0.log → b2.nodes ≡ b0.nodes → b2.cut ≡ b0.cut
-      → IsOfJob i → ((n : ℕ) → SameJob b0.log (kept i ∷ b0.log) n) → InputsStay b0.log (kept i ∷ b0.log) → TasksShow b0.nodes (kept i ∷ b0.log) new → new.rows ≡ board.rows → All (λ p. IsFitKind p.kind) new.posted
-      → ((board.posted ≡ []) × (board.rows ≡ []) → new.posted ≡ []) → AllShown b0 board places → AllShown b2 new places
-  inside_path b0 b2 places board new i log nodes cut of_job same more tasks rows fit empty all = (
+  -- an entry of inner work of merges that moves no node, beside the board as it is now
+  pub inside_all : (b0 b2 : Sheet) (places : List (Option (Place D))) (board new : Board) (i : Inner) → b2.log ≡ kept i ∷ b0.log → b2.nodes ≡ b0.nodes → b2.cut ≡ b0.cut
+      → IsOfJob i → ((n : ℕ) → SameJob b0.log (kept i ∷ b0.log) n) → TasksShow b0.nodes (kept i ∷ b0.log) new → All (λ p. IsFitKind p.kind) new.posted
+      → ((n : ℕ) → IsNode b0.nodes n → IsSomeAnd (place_of places n) (λ z. NodeMerges (kept i ∷ b0.log) b0.cut (λ s. jobs_like places s b0.nodes) new.rows n z.node))
+      → ((board.posted ≡ []) × (board.rows ≡ []) → (new.posted ≡ []) × (new.rows ≡ [])) → AllShown b0 board places → AllShown b2 new places
+  inside_all b0 b2 places board new i log nodes cut of_job same tasks fit each empty all = (
     now_is cells (kept i ∷ b0.log) b2.log b0.nodes b2.nodes places log nodes (shows_kept cells b0.nodes b0.log i places of_job all.0),
     files_is cells (kept i ∷ b0.log) b2.log b0.nodes b2.nodes places log nodes
         (files_still cells b0.nodes b0.log (kept i ∷ b0.log) places (grows_none (printed b0.log)) (λ m other. same m) (λ m. commits_alone (printed b0.log) m) all.0 all.1.0),
     subst (λ (z : Log × (Bool × ℕ)). MergesStand z.0 z.1.0 z.1.1 new places) (λ j. (sym log j, (sym cut j, sym nodes j))) (record {
       tasks = tasks;
       fit = fit;
-      each = each_still b0.log (kept i ∷ b0.log) b0.cut b0.nodes board.rows new.rows places more rows all.1.1.each;
-      vacant = λ none. let was = all.1.1.vacant none in (was.0, (empty was.1, rows ∙ was.1.1));
+      each = each;
+      vacant = λ none. let was = all.1.1.vacant none in (was.0, empty was.1);
     }),
   )
+
+  -- the same where the merges in flight are as they were
+  pub inside_path : (b0 b2 : Sheet) (places : List (Option (Place D))) (board new : Board) (i : Inner) → b2.log ≡ kept i ∷ b0.log → b2.nodes ≡ b0.nodes → b2.cut ≡ b0.cut
+      → IsOfJob i → ((n : ℕ) → SameJob b0.log (kept i ∷ b0.log) n) → InputsStay b0.log (kept i ∷ b0.log) → TasksShow b0.nodes (kept i ∷ b0.log) new → new.rows ≡ board.rows → All (λ p. IsFitKind p.kind) new.posted
+      → ((board.posted ≡ []) × (board.rows ≡ []) → new.posted ≡ []) → AllShown b0 board places → AllShown b2 new places
+  inside_path b0 b2 places board new i log nodes cut of_job same more tasks rows fit empty all =
+      inside_all b0 b2 places board new i log nodes cut of_job same tasks fit (each_still b0.log (kept i ∷ b0.log) b0.cut b0.nodes board.rows new.rows places more rows all.1.1.each)
+      (λ none. (empty none, rows ∙ none.1)) all
 
   -- ---- a task that is taken
 
