@@ -1,0 +1,3 @@
+pub mod StandSteps
+pub mod InsideSteps
+pub mod CopyRows
