@@ -1,6 +1,7 @@
 //! The cluster.
 
 use cluster_places::Place;
+use cluster_tasks::Tasks;
 use disk_model::FaultDir;
 use history_book::Book;
 use history_entries::Event;
@@ -12,6 +13,7 @@ use std::marker::Model;
 #[derive(Drop)]
 pub struct ClusterState<D: FaultDir> {
     pub ledger: Ledger,
+    pub tasks: Tasks,
     pub places: Vec<Option<Place<D>>>,
     pub ended: bool,
 }
@@ -28,17 +30,25 @@ impl<D: FaultDir> Model for ClusterState<D> {
 
     ghost use Rattle.cluster_state.specs.State.{Shows};
     ghost use Rattle.cluster_state.specs.Files.{FilesShow};
+    ghost use Rattle.cluster_state.specs.Merging.{MergesStand};
     ghost use Rattle.cluster_state.specs.CallsLeft.{calls_in};
+    ghost use Rattle.cluster_state.specs.Sizes.{sizes_in};
 
     ghost view = { λ c. record {
       ended = c.ended;
       nodes = c.ledger.nodes;
       log = c.ledger.log;
-      calls_left = calls_in c.places.items;
+      rest = record {
+        calls_left = calls_in c.places.items;
+        cut = c.ledger.cut;
+        sizes = sizes_in c.places.items;
+        tasks = c.tasks;
+      };
     } };
 
     ghost invariant = { λ c. c.ended ≡ false → Shows D.cells c.ledger.log c.ledger.nodes c.places.items
-        × FilesShow D.cells c.ledger.log c.ledger.nodes c.places.items };
+        × FilesShow D.cells c.ledger.log c.ledger.nodes c.places.items
+        × MergesStand c.ledger.log c.ledger.cut c.ledger.nodes c.tasks c.places.items };
 }
 
 impl<D: FaultDir + Drop> ClusterState<D> {

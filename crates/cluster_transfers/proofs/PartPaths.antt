@@ -23,7 +23,7 @@ use Rattle.history_book.specs.Jobs.{job_at, LaneJobShows}
 use Rattle.cluster_places.specs.declared.held.Held.{Held}
 use Rattle.cluster_places.specs.declared.nodes.Node.TheVariants.{Replica}
 use Rattle.cluster_places.specs.declared.nodes.Place.{Place}
-use Rattle.cluster_state.specs.Run.{Run}
+use Rattle.cluster_state.specs.Run.{Rest, Run}
 use Rattle.cluster_places.specs.Places.{place_of}
 use Rattle.cluster_state.specs.State.{IsPointAt, HoldsTickets, PlaceShows, Shows}
 use Rattle.cluster_places.specs.Outs.{want_of, jobs_like}
@@ -198,7 +198,7 @@ module _ {D : Type 0} (cells : D → Cells) where
 
   -- ---- in the terms of a call
 
-  pub can_take : (r : Run) (ended : Bool) (size : ℕ) (log : Log) (places : List (Option (Place D))) (row : JobRow) (part : Part) → {left : List ℕ} → record { ended = ended; nodes = size; log = log; calls_left = left } ≡ r → r.ended ≡ false
+  pub can_take : (r : Run) (ended : Bool) (size : ℕ) (log : Log) (places : List (Option (Place D))) (row : JobRow) (part : Part) → {left : Rest} → record { ended = ended; nodes = size; log = log; rest = left } ≡ r → r.ended ≡ false
       → (ended ≡ false → Shows cells log size places × FilesShow cells log size places) → JobRuns r.log row → LaneJobShows size (printed log) row → IsReplica (printed log) row.job.node.0
       → file_out row.job.at row.job.node.0 row.job.number part.name r.log ≡ Some part.bytes → IsMetaOf part.bytes part.meta → CanTake row.job.node.0 part places
   can_take r ended size log places row part view running pair runs lane replica out meta_is =
@@ -208,7 +208,7 @@ module _ {D : Type 0} (cells : D → Cells) where
       can_take_of r.log r.nodes places row.job part (was cells r ended size log places view running (λ e. (pair e).0)) (files_was cells r ended size log places view running (λ e. (pair e).1))
       lane_now.node (subst (λ (l : Log). IsReplica (printed l) row.job.node.0) same_log replica) (runs_at r.nodes r.log row runs lane_now) out meta_is
 
-  pub part_path : (r : Run) (ended : Bool) (size : ℕ) (log : Log) (old new : List (Option (Place D))) (row : JobRow) (part : Part) → {left : List ℕ} → record { ended = ended; nodes = size; log = log; calls_left = left } ≡ r → r.ended ≡ false
+  pub part_path : (r : Run) (ended : Bool) (size : ℕ) (log : Log) (old new : List (Option (Place D))) (row : JobRow) (part : Part) → {left : Rest} → record { ended = ended; nodes = size; log = log; rest = left } ≡ r → r.ended ≡ false
       → (ended ≡ false → Shows cells log size old × FilesShow cells log size old) → FilesLast → JobRuns r.log row → LaneJobShows size (printed log) row
       → file_out row.job.at row.job.node.0 row.job.number part.name r.log ≡ Some part.bytes → TakesIn cells row.job.node.0 part old new → Shows cells log size new × FilesShow cells log size new
   part_path r ended size log old new row part view running pair lasting runs lane out b =
