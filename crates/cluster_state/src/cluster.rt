@@ -63,6 +63,7 @@ impl<D: FaultDir + Drop> ClusterState<D> {
     ghost use Rattle.cluster_state.specs.Run.{IsNow, IsEnded};
     ghost use Rattle.cluster_state.specs.Moves.{moves, moves_tickets};
     ghost use Rattle.cluster_state.specs.FileChanges.{keeps_jobs, is_commit_line, keeps_commits};
+    ghost use Rattle.cluster_tasks.specs.TaskLog.{is_drained};
 
     /// What happened, for readers.
     pub fn book(&self) -> &Book
@@ -125,8 +126,8 @@ impl<D: FaultDir + Drop> ClusterState<D> {
         book.is_legal();
     }
 
-    /// Appends an entry that moves no node, starts no copy and no commit, and opens no ticket, of a line whose publish or commit is not in
-    /// flight. `Err` is want of memory: the cluster has ended, and the history is as before.
+    /// Appends an entry that moves no node, starts no copy and no commit, opens no ticket and is no drain's reply, of a line whose publish
+    /// or commit is not in flight. `Err` is want of memory: the cluster has ended, and the history is as before.
     pub fn note(&mut self, at: At, event: Event) -> Result<(), NoMemory>
         requires running { self.old.ended ≡ false }
         requires rule { KeepsRule self.old.nodes (printed self.old.log) at event }
@@ -138,6 +139,7 @@ impl<D: FaultDir + Drop> ClusterState<D> {
         requires commits { (m : ℕ) → keeps_commits event m ≡ true }
         requires flights { (m : ℕ) → commit_in_flight m (printed self.old.log) ≢ Some at }
         requires tickets { opens_ticket event ≡ false }
+        requires drains { is_drained event ≡ false }
         ensures ok { OnOk result (IsNow self.old self.new (shown at event ∷ self.old.log)) }
         ensures err { OnErr result (IsEnded self.old self.new) }
     {

@@ -6,10 +6,11 @@ use Rattle.history_book.specs.declared.inner.Inner.TheVariants.{JobBegun}
 use Rattle.cluster_state.specs.Run.{Run}
 use Rattle.cluster_copies.proofs.CopyPaths.{can_begin_settling, settle_path, settle_turn, settle_job_begun}
 use Rattle.cluster_state.proofs.Ledgers.{legal_of, told_of}
+use Rattle.cluster_state.proofs.MergingPaths.{two_parts}
 use Rattle.cluster_copies.proofs.copies.begin_settling.Goals as goal
 
 pub begin_in-requires : goal.begin_in-requires
-begin_in-requires g c = can_begin_settling g.D.Dir.cells c.args.cluster.now _ _ _ _ c.args.at c.args.p c.args.n c.args.v c.cluster.view_is c.requires.running c.cluster.invariant (legal_of c.book-book.ensures.nodes c.book-book.ensures.log c.is_legal.ensures.legal) c.requires.started c.requires.waits c.requires.source c.requires.primary
+begin_in-requires g c = can_begin_settling g.D.Dir.cells c.args.cluster.now _ _ _ _ c.args.at c.args.p c.args.n c.args.v c.cluster.view_is c.requires.running (two_parts c.cluster.invariant) (legal_of c.book-book.ensures.nodes c.book-book.ensures.log c.is_legal.ensures.legal) c.requires.started c.requires.waits c.requires.source c.requires.primary
 
 pub keep-requires-clause-turn : goal.keep-requires-clause-turn
 keep-requires-clause-turn g c = (
@@ -21,7 +22,7 @@ keep-requires-clause-turn g c = (
 
 pub invariant_of-cluster-2 : goal.invariant_of-cluster-2
 invariant_of-cluster-2 g c = λ running. settle_path g.D.Dir.cells c.args.cluster.now _ c.cluster.inside.ledger c.reserve.new.self c.keep.new.self _ _ c.args.at c.args.p c.args.n (record { 0 = c.newest-newest.result }) c.args.v c.in_ok-job.job
-    c.cluster.view_is c.requires.running c.cluster.invariant c.in_ok-reserve.ensures.log c.in_ok-reserve.ensures.nodes c.keep.ensures.log c.keep.ensures.nodes (legal_of c.book-book.ensures.nodes c.book-book.ensures.log c.is_legal.ensures.legal)
+    c.cluster.view_is c.requires.running (two_parts c.cluster.invariant) c.in_ok-reserve.ensures.log c.in_ok-reserve.ensures.nodes c.keep.ensures.log c.keep.ensures.nodes (legal_of c.book-book.ensures.nodes c.book-book.ensures.log c.is_legal.ensures.legal)
     c.files_last.ensures (told_of c.book-book.ensures.log newest_version c.newest-newest.ensures) c.requires.started c.requires.waits c.requires.source c.requires.primary c.requires.older c.in_ok-job.ensures
 
 pub returns-clause-ok : goal.returns-clause-ok

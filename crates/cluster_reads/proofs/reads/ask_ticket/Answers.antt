@@ -28,7 +28,7 @@ invariant_of-cluster-2 g c = λ running. (
       c.cluster.view_is c.requires.running (λ e. (c.cluster.invariant e).0) c.in_ok-reserve.ensures.log c.in_ok-reserve.ensures.nodes c.show.ensures.log c.show.ensures.nodes (legal_of c.book-book.ensures.nodes c.book-book.ensures.log c.is_legal.ensures.legal) (turns_of c.book-book.ensures.log c.is_legal.ensures.turns)
       c.show.ensures.legal c.show.ensures.turns (fresh_of c.book-book.ensures.log c.is_fresh.ensures) c.requires.held,
   ask_files g.D.Dir.cells c.args.cluster.now _ c.cluster.inside.ledger c.reserve.new.self c.show.new.self c.cluster.inside.places.items c.args.at c.args.t c.args.opening
-      c.cluster.view_is c.requires.running (λ e. (c.cluster.invariant e).0) (λ e. (c.cluster.invariant e).1) c.in_ok-reserve.ensures.log c.in_ok-reserve.ensures.nodes c.show.ensures.log c.show.ensures.nodes (legal_of c.book-book.ensures.nodes c.book-book.ensures.log c.is_legal.ensures.legal) c.show.ensures.legal c.show.ensures.turns (fresh_of c.book-book.ensures.log c.is_fresh.ensures) c.requires.held,
+      c.cluster.view_is c.requires.running (λ e. (c.cluster.invariant e).0) (λ e. (c.cluster.invariant e).1.0) c.in_ok-reserve.ensures.log c.in_ok-reserve.ensures.nodes c.show.ensures.log c.show.ensures.nodes (legal_of c.book-book.ensures.nodes c.book-book.ensures.log c.is_legal.ensures.legal) c.show.ensures.legal c.show.ensures.turns (fresh_of c.book-book.ensures.log c.is_fresh.ensures) c.requires.held,
 )
 
 pub returns-clause-lease : goal.returns-clause-lease

@@ -35,7 +35,7 @@ invariant_of-cluster-2 g c = λ running. (
       (record { count = c.take-place.ensures.count; taken = c.take-place.ensures.places; again = c.put.ensures.count; there = c.put.ensures.places })
       c.take-place.ensures.place c.give_ticket_back.ensures.keeps c.give_ticket_back.ensures.less,
   files_moved g.D.Dir.cells c.args.cluster.now _ c.cluster.inside.ledger c.reserve.new.self c.show.new.self c.cluster.inside.places.items c.take-place.new.places.items c.put.new.places.items c.args.at c.args.event c.args.n.0 c.give_ticket_back.new.place c.take-place.result
-      c.cluster.view_is c.requires.running (λ e. (c.cluster.invariant e).0) (λ e. (c.cluster.invariant e).1) c.in_ok-reserve.ensures.log c.in_ok-reserve.ensures.nodes c.show.ensures.log c.show.ensures.nodes c.show.ensures.legal c.show.ensures.turns c.requires.rule c.requires.turn c.requires.jobs c.requires.commits c.requires.flights
+      c.cluster.view_is c.requires.running (λ e. (c.cluster.invariant e).0) (λ e. (c.cluster.invariant e).1.0) c.in_ok-reserve.ensures.log c.in_ok-reserve.ensures.nodes c.show.ensures.log c.show.ensures.nodes c.show.ensures.legal c.show.ensures.turns c.requires.rule c.requires.turn c.requires.jobs c.requires.commits c.requires.flights
       (record { count = c.take-place.ensures.count; taken = c.take-place.ensures.places; again = c.put.ensures.count; there = c.put.ensures.places }) c.requires.node c.take-place.ensures.place c.give_ticket_back.ensures.files
       (closed_holds g.D.Dir.cells (printed (shown c.args.at c.args.event ∷ c.args.cluster.now.log)) c.args.key c.take-place.result c.give_ticket_back.new.place c.give_ticket_back.ensures.keeps c.give_ticket_back.ensures.less),
 )

@@ -41,7 +41,7 @@ invariant_of-cluster-2 g c = λ running. (
       c.take-place.ensures.place c.in_ok-holding.ensures.keeps c.in_ok-holding.ensures.holds,
   opened_files g.D.Dir.cells c.args.cluster.now _ c.cluster.inside.ledger c.reserve.new.self c.show.new.self c.cluster.inside.places.items c.take-place.new.places.items c.put.new.places.items
       c.args.at c.args.n c.args.t (record { 0 = c.version.result }) c.take-place.result c.hold_ticket-holding.new.place
-      c.cluster.view_is c.requires.running (λ e. (c.cluster.invariant e).0) (λ e. (c.cluster.invariant e).1) c.in_ok-reserve.ensures.log c.in_ok-reserve.ensures.nodes c.show.ensures.log c.show.ensures.nodes c.show.ensures.legal c.show.ensures.turns (fresh_of c.book-book.ensures.log c.is_fresh.ensures)
+      c.cluster.view_is c.requires.running (λ e. (c.cluster.invariant e).0) (λ e. (c.cluster.invariant e).1.0) c.in_ok-reserve.ensures.log c.in_ok-reserve.ensures.nodes c.show.ensures.log c.show.ensures.nodes c.show.ensures.legal c.show.ensures.turns (fresh_of c.book-book.ensures.log c.is_fresh.ensures)
       (may_open c.args.cluster.now _ c.cluster.inside.ledger c.args.at c.args.n c.args.t (record { 0 = c.version.result }) c.cluster.view_is (fresh_of c.book-book.ensures.log c.is_fresh.ensures) c.requires.node c.requires.up (told_of c.book-book.ensures.log (version_of c.args.n.0) c.version.ensures) c.requires.free)
       (record { count = c.take-place.ensures.count; taken = c.take-place.ensures.places; again = c.put.ensures.count; there = c.put.ensures.places }) c.take-place.ensures.place c.in_ok-holding.ensures.files c.in_ok-holding.ensures.keeps (Ticket c.args.at.lane c.args.t) c.in_ok-holding.ensures.holds,
 )

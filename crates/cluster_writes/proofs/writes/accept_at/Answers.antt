@@ -39,7 +39,7 @@ invariant_of-cluster-2 g c = λ running. (
       c.take.ensures.place c.primary_in-primary.ensures
       c.in_ok-copy.ensures c.in_ok-place.ensures.waits c.accept-place.ensures.whole,
   accept_files g.D.Dir.cells c.args.cluster.now _ c.cluster.inside.ledger c.reserve.new.self _ c.take.new.places.items _ c.args.p c.take.result c.primary_in-primary.result.0 c.accept-place.new.self c.primary_in-primary.result.1
-      c.cluster.view_is c.requires.running (λ e. (c.cluster.invariant e).0) (λ e. (c.cluster.invariant e).1) c.in_ok-reserve.ensures.log c.in_ok-reserve.ensures.nodes c.requires.node
+      c.cluster.view_is c.requires.running (λ e. (c.cluster.invariant e).0) (λ e. (c.cluster.invariant e).1.0) c.in_ok-reserve.ensures.log c.in_ok-reserve.ensures.nodes c.requires.node
       (record { count = c.take.ensures.count; taken = c.take.ensures.places; again = c.put.ensures.count; there = c.put.ensures.places })
       c.take.ensures.place c.primary_in-primary.ensures
       c.show.new.self c.args.at c.show.ensures.legal c.show.ensures.turns c.in-Some.seq c.args.op c.in_ok-copy.copy c.show.ensures.log c.show.ensures.nodes (fresh_of c.book-book.ensures.log c.is_fresh.ensures)

@@ -54,7 +54,7 @@ invariant_of-cluster-2 g c = λ running. (
       c.take.ensures.place c.primary_in-primary.ensures c.requires.work c.in-Ok.ensures.point c.in-Ok.ensures.documents
       (ap (λ (z : PrimaryParts _). z.accepted) c.publish_end-ended.ensures.others) (ap (λ (z : PrimaryParts _). z.merges) c.publish_end-ended.ensures.others) c.publish_end-ended.ensures.whole,
   end_files g.D.Dir.cells c.args.cluster.now _ c.cluster.inside.ledger c.reserve.new.self _ c.take.new.places.items _ c.args.p c.take.result c.primary_in-primary.result.0 c.publish_end-ended.new.self c.primary_in-primary.result.1
-      c.cluster.view_is c.requires.running (λ e. (c.cluster.invariant e).0) (λ e. (c.cluster.invariant e).1) c.in_ok-reserve.ensures.log c.in_ok-reserve.ensures.nodes c.requires.node
+      c.cluster.view_is c.requires.running (λ e. (c.cluster.invariant e).0) (λ e. (c.cluster.invariant e).1.0) c.in_ok-reserve.ensures.log c.in_ok-reserve.ensures.nodes c.requires.node
       (record { count = c.take.ensures.count; taken = c.take.ensures.places; again = c.put.ensures.count; there = c.put.ensures.places })
       c.take.ensures.place c.primary_in-primary.ensures
       c.show_published.new.self c.args.at c.show_published.ensures.legal c.show_published.ensures.turns (record { 0 = c.generation.result }) c.in-Ok.v c.args.work c.show_published.ensures.log c.show_published.ensures.nodes

@@ -61,7 +61,7 @@ invariant_of-cluster-in-Err g c = λ running. (
       (record { count = c.take.ensures.count; taken = c.take.ensures.places; again = c.put.ensures.count; there = c.put.ensures.places })
       c.take.ensures.place c.primary_in-primary.ensures (on_err _ _ c.in-Err.is c.publish_start-started.ensures.err),
   back_files g.D.Dir.cells c.args.cluster.now _ c.cluster.inside.ledger c.reserve.new.self _ c.take.new.places.items _ c.args.p c.take.result c.primary_in-primary.result.0 c.publish_start-started.new.self c.primary_in-primary.result.1
-      c.cluster.view_is c.requires.running (λ e. (c.cluster.invariant e).0) (λ e. (c.cluster.invariant e).1) c.in_ok-reserve.ensures.log c.in_ok-reserve.ensures.nodes c.requires.node
+      c.cluster.view_is c.requires.running (λ e. (c.cluster.invariant e).0) (λ e. (c.cluster.invariant e).1.0) c.in_ok-reserve.ensures.log c.in_ok-reserve.ensures.nodes c.requires.node
       (record { count = c.take.ensures.count; taken = c.take.ensures.places; again = c.put.ensures.count; there = c.put.ensures.places })
       c.take.ensures.place c.primary_in-primary.ensures
       (on_err _ _ c.in-Err.is c.publish_start-started.ensures.err),
@@ -93,7 +93,7 @@ invariant_of-cluster-2 g c = λ running.
           (record { count = c.take.ensures.count; taken = c.take.ensures.places; again = c.put.ensures.count; there = c.put.ensures.places })
           c.take.ensures.place c.primary_in-primary.ensures (c.in-Ok.ensures ∙ task.0.segs) task.1 c.publish_start-started.ensures.whole,
       start_files g.D.Dir.cells c.args.cluster.now _ c.cluster.inside.ledger c.reserve.new.self _ c.take.new.places.items _ c.args.p c.take.result c.primary_in-primary.result.0 c.publish_start-started.new.self c.primary_in-primary.result.1
-          c.cluster.view_is c.requires.running (λ e. (c.cluster.invariant e).0) (λ e. (c.cluster.invariant e).1) c.in_ok-reserve.ensures.log c.in_ok-reserve.ensures.nodes c.requires.node
+          c.cluster.view_is c.requires.running (λ e. (c.cluster.invariant e).0) (λ e. (c.cluster.invariant e).1.0) c.in_ok-reserve.ensures.log c.in_ok-reserve.ensures.nodes c.requires.node
           (record { count = c.take.ensures.count; taken = c.take.ensures.places; again = c.put.ensures.count; there = c.put.ensures.places })
           c.take.ensures.place c.primary_in-primary.ensures
           c.show_publishing.new.self c.args.at c.show_publishing.ensures.legal c.show_publishing.ensures.turns c.keep.new.self c.in-Ok-Some.task.seg c.in-Ok.segs c.show_publishing.ensures.log c.show_publishing.ensures.nodes c.keep.ensures.log c.keep.ensures.nodes
