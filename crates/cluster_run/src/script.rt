@@ -16,6 +16,7 @@ use cluster_core::Cluster;
 use cluster_places::Place;
 use cluster_state::ClusterState;
 use disk_memory::MemDir;
+use history_merges::Ledger;
 use lane_sections::Gate;
 use nrt_base::NoMemory;
 use script_serving::Script;
@@ -59,6 +60,7 @@ pub fn run_script<R: Threads + Wait + Sync, G: Gate + Sync>(
     ensures serves { IfOk result (λ c. Serves script.now (history_of c)) }
 {
     book_crosses();
+    sent::<Ledger>();
     sent::<Vec<Option<Place<MemDir>>>>();
     sent::<ClusterState<MemDir>>();
     let nodes = script.nodes;

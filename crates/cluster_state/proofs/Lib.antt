@@ -19,3 +19,4 @@ pub mod Points
 pub mod Reigning
 pub mod Ledgers
 pub mod MergingStill
+pub mod MergingPaths

@@ -15,3 +15,4 @@ pub mod Copies
 pub mod Settles
 pub mod Lists
 pub mod Merging
+pub mod Sizes

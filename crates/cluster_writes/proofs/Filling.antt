@@ -1,7 +1,7 @@
 -- How many segments a publish leaves, and that each has a live row; when there may be as many as there may be.
 use Rattle.std.proofs.Common.{◌≡◌, ◌≤◌, ◌<◌, ◌+◌, ◌||◌, ◌&&◌, nat_lt, nat_le, ℕ, zero, suc, Bool, true, false, cond, if◌then◌else◌, List, [], ◌∷◌, length, map, Option, Some, None, refl, ap, ◌∙◌, sym, subst, arith, length-append}
 use Rattle.std.specs.List.{All, AllZip, filter, zip, list_any}
-use Rattle.std.proofs.lemmas.Bool.{ltb-true}
+use Rattle.std.proofs.lemmas.Bool.{ltb-true, lt-ltb}
 use Rattle.std.proofs.lemmas.Bool.Decides.{nat_tests}
 use Rattle.std.proofs.lemmas.List.{length-replicate}
 use Rattle.std.proofs.lemmas.List.Elements.{All-nil, All-cons, All-head, All-tail, All-append}
@@ -170,4 +170,4 @@ is_full past reads records segs each live few are many = by (merge_count past) r
         ends : (b : Bool) → (b || true) ≡ true
         ends true = refl
         ends false = refl
-    by (suc k) some = both (nat_le 256 (put_publishes past)) (nat_lt 0 (merge_count past)) (nat_le 256 (length (documents_at past (newest_version past)))) made (ap (λ (b : Bool). b || nat_le 256 (length (documents_at past (newest_version past)))) (ap (nat_lt 0) some))
+    by (suc k) some = both (nat_le 256 (put_publishes past)) (nat_lt 0 (merge_count past)) (nat_le 256 (length (documents_at past (newest_version past)))) made (ap (λ (b : Bool). b || nat_le 256 (length (documents_at past (newest_version past)))) (lt-ltb 0 (merge_count past) (omega (arith, some))))

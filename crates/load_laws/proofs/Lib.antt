@@ -4,4 +4,4 @@ mod KeyedOps
 mod LaneSplits
 mod LastLines
 mod LoadTurns
-mod Searching
+pub mod Searching

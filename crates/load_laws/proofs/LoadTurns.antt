@@ -53,7 +53,7 @@ pub calm_lines : (n : ℕ) → list_all (λ line. is_calm_command line.command) 
 calm_lines n =
     let p : Line → Bool = λ line. is_calm_command line.command in
     let first : list_all p (load_lines n) ≡ true =
-        load_all p n (λ i k low high. lines_all is_calm_command k (load_lane i) (load_commands i) (commands_all is_calm_command i refl (λ is. refl) refl refl refl)) in
+        load_all p n (λ i k low high. lines_all is_calm_command k (load_lane i) (load_commands i) (commands_all is_calm_command i refl (λ is. refl) refl refl (λ is. refl))) in
     list_all-append p (load_lines n) (last_of n ++ []) ∙ and_from (list_all p (load_lines n)) (list_all p (last_of n ++ [])) first refl
 
 -- the operation that a command asks for is one of this lane
@@ -78,7 +78,7 @@ owned_turn i low high =
     commands_all (asks_for (load_lane i)) i
     (and_from (owner_of (load_key i) == load_lane i) true (eq-eqb (owner_of (load_key i)) (load_lane i) (key_owner i (omega (arith, high)))) refl)
     (λ is. and_from (owner_of (load_key (i - 4)) == load_lane i) true (eq-eqb (owner_of (load_key (i - 4))) (load_lane i) (key_owner (i - 4) (omega (arith, high)) ∙ four_before is)) refl)
-    refl refl refl
+    refl refl (λ is. refl)
   where
     four_before : (i % 10 == 0) ≡ true → load_lane (i - 4) ≡ load_lane i
     four_before is = let ten : i % 10 ≡ 0 = eqb-true (i % 10) 0 is in omega (arith, ten, low)

@@ -83,13 +83,13 @@ multiple_all p k i c is = by_test (i % k == 0) is
 
 -- what holds of what the lane may do with a document holds of what it does
 pub commands_all : (p : LineCommand → Bool) (i : ℕ) → p (Put (record { key = load_key i; text = load_text i })) ≡ true → ((i % 10 == 0) ≡ true → p (Delete (load_key (i - 4))) ≡ true)
-    → p Publish ≡ true → p (Copy (record { 0 = 2 })) ≡ true → p (Merge 4) ≡ true → list_all p (load_commands i) ≡ true
+    → p Publish ≡ true → p (Copy (record { 0 = 2 })) ≡ true → ((i % 200 == 0) ≡ true → p (Merge 4) ≡ true) → list_all p (load_commands i) ≡ true
 commands_all p i puts deletes publishes copies merges =
     let c4 : List LineCommand = at_multiple 100 i (Copy (record { 0 = 2 })) in
     let c5 : List LineCommand = at_multiple 200 i (Merge 4) in
     let c3 : List LineCommand = at_multiple 50 i Publish in
     let c2 : List LineCommand = at_multiple 10 i (Delete (load_key (i - 4))) in
-    let last : list_all p (c4 ++ c5) ≡ true = list_all-append p c4 c5 ∙ and_from (list_all p c4) (list_all p c5) (multiple_all p 100 i (Copy (record { 0 = 2 })) (λ is. copies)) (multiple_all p 200 i (Merge 4) (λ is. merges)) in
+    let last : list_all p (c4 ++ c5) ≡ true = list_all-append p c4 c5 ∙ and_from (list_all p c4) (list_all p c5) (multiple_all p 100 i (Copy (record { 0 = 2 })) (λ is. copies)) (multiple_all p 200 i (Merge 4) merges) in
     let more : list_all p (c3 ++ (c4 ++ c5)) ≡ true = list_all-append p c3 (c4 ++ c5) ∙ and_from (list_all p c3) (list_all p (c4 ++ c5)) (multiple_all p 50 i Publish (λ is. publishes)) last in
     let rest : list_all p (c2 ++ (c3 ++ (c4 ++ c5))) ≡ true = list_all-append p c2 (c3 ++ (c4 ++ c5)) ∙ and_from (list_all p c2) (list_all p (c3 ++ (c4 ++ c5))) (multiple_all p 10 i (Delete (load_key (i - 4))) deletes) more in
     and_from (p (Put (record { key = load_key i; text = load_text i }))) (list_all p (c2 ++ (c3 ++ (c4 ++ c5)))) puts rest
@@ -111,7 +111,7 @@ commands_are n few =
     let p : Line → Bool = λ line. is_command 3 line.command in
     let first : list_all p (load_lines n) ≡ true =
     load_all p n (λ i k low high. lines_all (is_command 3) k (load_lane i) (load_commands i)
-    (commands_all (is_command 3) i (and_from _ _ (key_is i (omega (arith, few, high))) (text_is i)) (λ is. key_is (i - 4) (omega (arith, few, high))) refl refl refl)) in
+    (commands_all (is_command 3) i (and_from _ _ (key_is i (omega (arith, few, high))) (text_is i)) (λ is. key_is (i - 4) (omega (arith, few, high))) refl refl (λ is. refl))) in
     let second : list_all p (last_of n ++ []) ≡ true =
         list_all-append p (last_of n) [] ∙ and_from (list_all p (last_of n)) true (lines_all (is_command 3) (4 + length (load_lines n)) 1 last_commands last_are) refl in
     list_all-append p (load_lines n) (last_of n ++ []) ∙ and_from (list_all p (load_lines n)) (list_all p (last_of n ++ [])) first second

@@ -1,6 +1,7 @@
 mod Writes
 mod BuiltScripts
 mod Leaving
+mod Loads
 mod AnswerLaws
 mod FrameAnswers
 mod CheckAnswers

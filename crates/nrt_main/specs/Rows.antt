@@ -3,7 +3,8 @@ use Rattle.std.specs.Prelude.{ℕ, ◌⊎◌, List}
 use Rattle.nrt_main.specs.Headline.{IsRun}
 use Rattle.nrt_main.specs.Frames.{IsFrames}
 use Rattle.nrt_main.specs.Check.{IsCheck}
+use Rattle.nrt_main.specs.Load.{IsLoad}
 
--- the words are a row of the table: `run`, `frames` or `check`
+-- the words are a row of the table: `run`, `frames`, `check` or `load N`
 abbrev pub IsKnownRow : List (List ℕ) → Type 0
-IsKnownRow words = IsRun words ⊎ (IsFrames words ⊎ IsCheck words)
+IsKnownRow words = IsRun words ⊎ (IsFrames words ⊎ (IsCheck words ⊎ IsLoad words))

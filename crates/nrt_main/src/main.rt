@@ -1,4 +1,5 @@
-//! The program: it runs a script and writes its report, or tells the messages of a stream, or checks an image.
+//! The program: it runs a script and writes its report, or tells the messages of a stream, or checks an image, or runs the generated
+//! script and writes its summary.
 #![tactic(auto)]
 
 ghost use Rattle.std.specs.Prelude.{◌≡◌};
@@ -7,6 +8,7 @@ ghost use Rattle.nrt_main.specs.Statuses.{cause_number};
 mod built;
 mod checking;
 mod gate;
+mod loading;
 mod message;
 mod reading;
 mod standard;
@@ -89,7 +91,8 @@ fn explain(rt: &HostRuntime, status: Status, script: &[u8]) -> io::Result<()> {
         Status::Usage => {
             eprintln!(rt; "usage: nrt run < SCRIPT")?;
             eprintln!(rt; "       nrt frames < STREAM")?;
-            eprintln!(rt; "       nrt check < IMAGE")
+            eprintln!(rt; "       nrt check < IMAGE")?;
+            eprintln!(rt; "       nrt load N, N from 1 to 10000")
         }
         Status::BadScript(line, cause) => {
             eprintln!(rt; "line {} cause {}", line.0, cause_number(cause))?;

@@ -6,11 +6,13 @@ ghost use Rattle.nrt_main.specs.Headline.{Ran, Answers, RanInPart, AnswersInPart
 ghost use Rattle.frames_run.specs.Runs.{GaveBadStream, GaveMore};
 ghost use Rattle.nrt_main.specs.Frames.{IsFrames, RanFrames, RanFramesInPart, IsFramesAnswer};
 ghost use Rattle.nrt_main.specs.Check.{IsCheck, RanCheck, FoundWrong, RanCheckInPart, GaveNoImage, AnswersCheck};
+ghost use Rattle.nrt_main.specs.Load.{IsLoad, IsLoadOf, LeavesSummary, LeavesSummaryInPart, IsUnrun, IsLoadAnswer};
 ghost use Rattle.nrt_main.specs.Rows.{IsKnownRow};
 ghost use Rattle.nrt_main.specs.TopCalls.{IsRefusal, IsReport, LeavesText, LeavesFront};
 
 use crate::built::first_not_built;
 use crate::checking::check_source;
+use crate::loading::{load, load_asked};
 use crate::reading::{ReadEnd, read_all};
 use crate::status::Status;
 use crate::writing::write_all;
@@ -222,6 +224,10 @@ fn frames_source<S: Source, K: Sink>(alloc: Global, source: &mut S, sink: &mut K
 /// sink. Where it is done, the source was read to its end, and the directory has no commit, or stands for the documents of
 /// the newest. `BadIndex` names the first thing that is wrong with it, and `BadImage` says that the bytes are no image.
 ///
+/// `load N`: it runs the generated script of N documents, N from 1 to 10,000, and writes its summary to the sink; it reads nothing. Where
+/// it is done, the totals that the sink gained are those of the scan over the documents that the script leaves, whatever the lanes'
+/// threads did in between, and `kept` has the cluster that ran it. `BadScript` names the first line that the program does not run yet.
+///
 /// On every answer but `Done`, `WriteFault` and `BadIndex` the sink is as before.
 pub fn run_nrt<R: Threads + Wait + Sync, S: Source, K: Sink, G: Gate + Sync>(
     rt: &R,
@@ -245,8 +251,9 @@ pub fn run_nrt<R: Threads + Wait + Sync, S: Source, K: Sink, G: Gate + Sync>(
         (S.left source.new) (K.held sink.old) (K.held sink.new) }
     ensures part { IsRun words.now → result ≡ Status.WriteFault → RanInPart (S.left source.old)
         (S.left source.new) (K.held sink.old) (K.held sink.new) }
-    ensures bad { (n : LineNo) (cause : LineFault) → result ≡ Status.BadScript n cause → Refuses
-        (S.left source.old) (S.left source.new) n.0 cause }
+    ensures bad { (n : LineNo) (cause : LineFault) → IsRun words.now
+        → result ≡ Status.BadScript n cause
+        → Refuses (S.left source.old) (S.left source.new) n.0 cause }
     ensures answers { IsRun words.now → result ≢ Status.ReadFault → result ≢ Status.TooLarge
         → result ≢ Status.Memory → AnswersWhole (S.left source.old) (S.left source.new) result }
 
@@ -256,7 +263,7 @@ pub fn run_nrt<R: Threads + Wait + Sync, S: Source, K: Sink, G: Gate + Sync>(
     ensures leaves_part { IsRun words.now → result ≡ Status.WriteFault → IsSomeAnd kept.new
         (LeavesRunInPart (S.left source.old) (S.left source.new) (K.held sink.old) (K.held sink.new)) }
     ensures leaves_none { result ≢ Status.Done → result ≢ Status.WriteFault → kept.new ≡ None }
-    ensures leaves_run { ¬ IsRun words.now → kept.new ≡ None }
+    ensures leaves_run { ¬ IsRun words.now → ¬ IsLoad words.now → kept.new ≡ None }
 
     // `frames`.
     ensures frames_done { IsFrames words.now → result ≡ Status.Done → RanFrames (S.left source.old)
@@ -284,7 +291,18 @@ pub fn run_nrt<R: Threads + Wait + Sync, S: Source, K: Sink, G: Gate + Sync>(
         → result ≢ Status.TooLarge → result ≢ Status.Memory
         → AnswersCheck (S.left source.old) (S.left source.new) result }
 
-    // All three.
+    // `load`.
+    ensures load_done { (n : ℕ) → IsLoadOf words.now n → result ≡ Status.Done
+        → IsSomeAnd kept.new (LeavesSummary n (K.held sink.old) (K.held sink.new)) }
+    ensures load_part { (n : ℕ) → IsLoadOf words.now n → result ≡ Status.WriteFault
+        → IsSomeAnd kept.new (LeavesSummaryInPart n (K.held sink.old) (K.held sink.new)) }
+    ensures load_bad { (n : ℕ) (line : LineNo) (cause : LineFault) → IsLoadOf words.now n
+        → result ≡ Status.BadScript line cause → IsUnrun n line.0 cause }
+    ensures load_answers { (n : ℕ) → IsLoadOf words.now n → result ≢ Status.Memory
+        → IsLoadAnswer n result }
+    ensures load_unread { IsLoad words.now → source.new ≡ source.old }
+
+    // All four.
     ensures read { result ≡ Status.ReadFault → S.fault_count source.old < S.fault_count source.new }
     ensures write { result ≡ Status.WriteFault → K.fault_count sink.old < K.fault_count sink.new }
     ensures large { result ≡ Status.TooLarge → TakesMore (S.left source.old) (S.left source.new) }
@@ -300,6 +318,9 @@ pub fn run_nrt<R: Threads + Wait + Sync, S: Source, K: Sink, G: Gate + Sync>(
     } else if is_word(words, b"check") {
         check_source(alloc, source, sink)
     } else {
-        Status::Usage
+        match load_asked(words) {
+            Some(n) => load(rt, alloc, gate, n, sink, kept),
+            None => Status::Usage,
+        }
     }
 }

@@ -16,6 +16,7 @@ use Rattle.primary_parts.specs.declared.states.Merging.{Merging}
 use Rattle.primary_parts.specs.declared.states.Out.{Out}
 use Rattle.copy_state.specs.declared.state.CopyState.{CopyState}
 use Rattle.primary_parts.specs.States.{out_of}
+use Rattle.primary_parts.specs.Written.{names_of}
 use Rattle.primary_parts.specs.Merges.{merge_of, merges_with, merges_without}
 use Rattle.primary_starts.specs.StartCalls.{IsFitTask, StartsMerge}
 use Rattle.primary_merges.specs.MergeCalls.{IsMadeFor, IsReadied}
@@ -27,6 +28,10 @@ use Rattle.primary_bench.specs.Seeing.{IsSeen, tasks_of, unmade_tasks, given_tas
 none_made : (o : Option Merged) → is_some o ≡ false → o ≡ None
 none_made None e = refl
 none_made (Some merged) e = absurd (true≢false e)
+
+pub not_ready : (o : Option MergeTask) (b : Bool) → b ≡ is_some o → b ≡ false → o ≡ None
+not_ready None b is no = refl
+not_ready (Some task) b is no = absurd (true≢false (sym is ∙ no))
 
 -- the first merge and those behind it, where the first one's files are written or not
 pub record StartsWith (b : Bool) (ms : List Merging) (task : MergeTask) (behind : List (MergeTask × Bool)) : Type 0 where
@@ -40,7 +45,7 @@ pub record StartsWith (b : Bool) (ms : List Merging) (task : MergeTask) (behind 
 starts_with : (b : Bool) (ms : List Merging) (task : MergeTask) (behind : List (MergeTask × Bool)) → tasks_of ms ≡ (task, b) ∷ behind → StartsWith b ms task behind
 starts_with b [] task behind same = absurd (omega (arith, ap (λ (l : List (MergeTask × Bool)). length l) same))
 starts_with b (m ∷ ms) task behind same =
-    let head : (m.task, is_some m.merged) ≡ (task, b) = cc in
+    let head : ◌≡◌ {A = MergeTask × Bool} (m.task, is_some m.merged) (task, b) = cc in
     let tail : tasks_of ms ≡ behind = cc in
     record { m = m; rest = ms; is = refl; task_is = ap (λ (p : MergeTask × Bool). p.0) head; made = ap (λ (p : MergeTask × Bool). p.1) head; others = tail }
 
@@ -133,10 +138,11 @@ module _ {D : Type 0} (old new : Parts D) (seen : Seen) (is : IsSeen old seen) w
       → tasks_of new.merges ≡ given_tasks (Some task) (remove seen.merges 0)
   tasks_readied task merged none first of readied =
       let at = first_at task none first in
+      let names : List Name = readied.m.names ++ names_of merged.files.files in
       let number : at.m.task.seg.0 ≡ merged.files.seg.0 = ap (λ (t : MergeTask). t.seg.0) at.task_is ∙ ap (λ (seg : SegNo). seg.0) (sym of.number) in
       ap (λ (ms : List Merging). tasks_of ms) readied.merges
-      ∙ ap (λ (ms : List Merging). tasks_of (merges_with merged _ ms)) at.is
-      ∙ ap (λ (ms : List Merging). tasks_of ms) (with_first at.m at.rest merged _ number)
+      ∙ ap (λ (ms : List Merging). tasks_of (merges_with merged names ms)) at.is
+      ∙ ap (λ (ms : List Merging). tasks_of ms) (with_first at.m at.rest merged names number)
       ∙ ap (λ (t : MergeTask). (t, true) ∷ tasks_of at.rest) at.task_is
       ∙ ap (λ (l : List (MergeTask × Bool)). (task, true) ∷ l) at.others
 
@@ -184,10 +190,10 @@ module _ {D : Type 0} (old new : Parts D) (seen : Seen) (is : IsSeen old seen) w
   }
 
   -- once the one whose files are written was cut over, or has ended
-  pub seen_cut : (task : MergeTask) → seen.ready ≡ Some task → new.infos.version ≡ old.infos.version
+  pub seen_cut : (task : MergeTask) (left : Option MergeTask) → seen.ready ≡ Some task → left ≡ None → new.infos.version ≡ old.infos.version
       → new ≡ record old { dir = new.dir; files = new.files; infos = new.infos; segs = new.segs; names = new.names; merges = new.merges; has_cut_over = new.has_cut_over; completed = new.completed }
-      → new.merges ≡ merges_without task.seg.0 old.merges → IsSeen new (record seen { ready = None })
-  seen_cut task ready same e gone = record {
+      → new.merges ≡ merges_without task.seg.0 old.merges → IsSeen new (record seen { ready = left })
+  seen_cut task left ready none same e gone = record {
     accepted = ap (λ (p : Parts D). p.accepted) e ∙ is.accepted;
     version = ap (λ (v : Version). v.0) same ∙ is.version;
     next = ap (λ (p : Parts D). p.commits.next) e ∙ is.next;
@@ -195,6 +201,6 @@ module _ {D : Type 0} (old new : Parts D) (seen : Seen) (is : IsSeen old seen) w
     in_flight = ap (λ (p : Parts D). is_some p.commits.stage) e ∙ is.in_flight;
     tickets = ap (λ (p : Parts D). open_numbers p.searchers.tickets) e ∙ is.tickets;
     states = ap (λ (p : Parts D). p.states) e ∙ is.states;
-    merges = tasks_cut task ready gone;
+    merges = tasks_cut task ready gone ∙ ap (λ (o : Option MergeTask). given_tasks o seen.merges) (sym none);
     fit = is.fit;
   }

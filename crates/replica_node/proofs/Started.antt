@@ -18,6 +18,8 @@ use Rattle.searcher_switch.specs.Tickets.{ticket_names}
 use Rattle.searcher_switch.specs.Searching.{searcher_names}
 use Rattle.replica_opening.specs.Known.{IsLasting}
 use Rattle.replica_opening.specs.Opening.{FindsPoint, number_of_last}
+use Rattle.replica_parts.specs.declared.merges.MergeCopies.{MergeCopies}
+use Rattle.replica_parts.specs.declared.parts.Parts.{Parts}
 use Rattle.replica_parts.specs.Merges.{no_copies}
 use Rattle.replica_parts.specs.Sources.{IsSourced}
 use Rattle.replica_parts.proofs.Named.{among_file, some_among}
@@ -147,7 +149,7 @@ last_stood before (Some d) infos q finds of none = stands (some_same d of.0 of.1
         cc
 
 module _ {D : Type 0} (cells : D → Cells) (dir : D) (o : Opened) (node : IsWholeNode (cells dir) o.files (searcher_names o.searchers) o.commits) (is : IsNodeOpened (reads_of (cells dir)) o) (seen : Gen) where
-  pub just_opened : IsWholeReplica cells (record { dir = dir; files = o.files; searchers = o.searchers; commits = o.commits; infos = o.infos; segs = o.segs; seen = seen; jobs = 0; job = None; copies = no_copies; known = o.known })
+  just_opened : IsWholeReplica cells (record { dir = dir; files = o.files; searchers = o.searchers; commits = o.commits; infos = o.infos; segs = o.segs; seen = seen; jobs = 0; job = None; copies = no_copies; known = o.known })
   just_opened = record {
     node = node_same_names (cells dir) o.files (searcher_names o.searchers) (searcher_names o.searchers ++ ([] ++ ([] ++ []))) o.commits node (λ q. let none : times [] q ≡ 0 = refl in omega (arith, none, times-append (searcher_names o.searchers) [] q));
     point = record { version = is.version; names = is.names; readers = is.readers };
@@ -162,7 +164,7 @@ module _ {D : Type 0} (cells : D → Cells) (dir : D) (o : Opened) (node : IsWho
     merges = record { each = tt; apart = tt; beside_job = tt; job_given = tt; pending = record { each = λ name job. refl }; unexpected = refl };
   }
 
-  pub just_sourced : (before : Cells) (number : Option ℕ) → IsHandedBack before (cells dir) → FindsPoint (reads_of before) number o.infos → (source : Name → Content)
+  just_sourced : (before : Cells) (number : Option ℕ) → IsHandedBack before (cells dir) → FindsPoint (reads_of before) number o.infos → (source : Name → Content)
       → ((q : Name) → Contains (flat_map files_of_segment o.infos.segs) q → (before q).now ≡ source q)
       → IsSourced source cells (record { dir = dir; files = o.files; searchers = o.searchers; commits = o.commits; infos = o.infos; segs = o.segs; seen = seen; jobs = 0; job = None; copies = no_copies; known = o.known })
   just_sourced before number back finds source reads = record {
@@ -179,7 +181,7 @@ module _ {D : Type 0} (cells : D → Cells) (dir : D) (o : Opened) (node : IsWho
         subst (λ (l : Option Commit). IsSomeAnd l (λ c. (is_commit_name q ≡ true) × (commit_number q ≡ c.number))) (sym of.1)
         (sym (ap is_commit_name name) ∙ own_is c of.2, sym (ap commit_number name) ∙ number_of_own c of.2)
 
-    pub just_its : HasJustItsFiles cells (record { dir = dir; files = o.files; searchers = o.searchers; commits = o.commits; infos = o.infos; segs = o.segs; seen = seen; jobs = 0; job = None; copies = no_copies; known = o.known })
+    just_its : HasJustItsFiles cells (record { dir = dir; files = o.files; searchers = o.searchers; commits = o.commits; infos = o.infos; segs = o.segs; seen = seen; jobs = 0; job = None; copies = no_copies; known = o.known })
     just_its = record {
       each = λ q there. elim (name_opened (cells dir) o node is listed q there) [ inl file ↦ inl file | inr of ↦ inr (last_name o.commits.last q of) ];
     }
@@ -193,3 +195,18 @@ module _ {D : Type 0} (cells : D → Cells) (dir : D) (o : Opened) (node : IsWho
           | inl file ↦ back.files (number_of_last o.commits.last) o.infos finds q file ∙ none
           | inr of ↦ absurd (last_stood (reads_of before) o.commits.last o.infos q finds of none)
         ]
+
+-- ---- as an opening makes the copies
+abbrev opened_parts : {D : Type 0} → D → Opened → Gen → MergeCopies → Parts D
+opened_parts dir o seen copies = record { dir = dir; files = o.files; searchers = o.searchers; commits = o.commits; infos = o.infos; segs = o.segs; seen = seen; jobs = 0; job = None; copies = copies; known = o.known }
+
+module _ {D : Type 0} (cells : D → Cells) (dir : D) (o : Opened) (node : IsWholeNode (cells dir) o.files (searcher_names o.searchers) o.commits) (is : IsNodeOpened (reads_of (cells dir)) o) (seen : Gen) (copies : MergeCopies) (empty : copies ≡ no_copies) where
+  pub whole_opened : IsWholeReplica cells (opened_parts dir o seen copies)
+  whole_opened = subst (λ (k : MergeCopies). IsWholeReplica cells (opened_parts dir o seen k)) (sym empty) (just_opened cells dir o node is seen)
+
+  pub sourced_opened : (before : Cells) (number : Option ℕ) → IsHandedBack before (cells dir) → FindsPoint (reads_of before) number o.infos → (source : Name → Content)
+      → ((q : Name) → Contains (flat_map files_of_segment o.infos.segs) q → (before q).now ≡ source q) → IsSourced source cells (opened_parts dir o seen copies)
+  sourced_opened before number back finds source reads = subst (λ (k : MergeCopies). IsSourced source cells (opened_parts dir o seen k)) (sym empty) (just_sourced cells dir o node is seen before number back finds source reads)
+
+  pub its_opened : ((q : Name) → is_some (cells dir q).now ≡ is_among (searcher_names o.searchers ++ book_names o.commits) q) → HasJustItsFiles cells (opened_parts dir o seen copies)
+  its_opened listed = subst (λ (k : MergeCopies). HasJustItsFiles cells (opened_parts dir o seen k)) (sym empty) (just_its cells dir o node is seen listed)

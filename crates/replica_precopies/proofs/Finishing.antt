@@ -1,11 +1,9 @@
 -- A merge copy of which nothing is missing, over the calls of its finish.
-use Rattle.std.proofs.Common.{◌≡◌, ◌==◌, ◌<◌, ◌≤◌, ℕ, true, List, [], ◌++◌, Option, Some, None, is_some, refl, sym, ap, subst, ◌∙◌, arith, inl, inr, length}
-use Rattle.std.specs.Prelude.{IfSome, Result}
+use Rattle.std.proofs.Common.{◌≡◌, ◌==◌, ◌<◌, ◌≤◌, ℕ, true, List, [], ◌++◌, Option, Some, None, is_some, refl, sym, ap, subst, ◌∙◌, arith, length}
+use Rattle.std.specs.Prelude.{IfSome, Result, Err, IsErrOf}
 use Rattle.std.proofs.lemmas.Bool.Decides.{nat_tests}
 use Rattle.disk_model.specs.Disk.{Name, Cells, reads_of}
 use Rattle.file_deleter.specs.Holdings.{count_of, times}
-use Rattle.node_files.specs.Appearing.{AppearsOnly, NoneAppears}
-use Rattle.node_files.proofs.Appearing.{only_none, only_then_none}
 use Rattle.copy_state.specs.declared.meta.FileMetaData.{FileMetaData}
 use Rattle.copy_state.specs.States.{meta_names}
 use Rattle.copy_job.specs.Parts.{placed_to}
@@ -23,6 +21,9 @@ use Rattle.replica_precopies.proofs.Settled.{at_with, without_with, present_all,
 tests_same : (m n : ℕ) → m ≡ n → (m == n) ≡ true
 tests_same m n e = grind (arith, nat_tests, e)
 
+pub same_fault : (T E : Type 0) (a b : E) → IsErrOf {T = T} {E = E} (Err a) b → a ≡ b
+same_fault T E a b e = cc
+
 -- ---- nothing was done
 -- memory was wanting before anything was done
 pub still_whole : {D : Type 0} (p : Parts D) (number : ℕ) → IfSome (copy_at number p.copies.running) (λ c. StillCopies number c p p)
@@ -32,22 +33,10 @@ still_whole p number = by (copy_at number p.copies.running) refl
     by None e = tt
     by (Some c) e = record { placed = 0; copies = sym (ap (λ (cs : List Job). record p.copies { running = cs }) (with_same number p.copies.running c e)) }
 
-pub holds_still : {D : Type 0} (p : Parts D) (o : Option Job) → IfSome o (λ c. HoldsOnlyWanted c.want p p)
-holds_still p None = tt
-holds_still p (Some c) = λ q lasting some. inl some
-
-pub appears_still : (o : Option Job) (cells : Cells) → IfSome o (λ c. AppearsOnly (λ q. 0 < times (meta_names c.want.files) q) cells cells)
-appears_still None cells = tt
-appears_still (Some c) cells = only_none (λ q. 0 < times (meta_names c.want.files) q) cells cells (record { each = λ q none. none })
-
 -- ---- after parts were renamed
 pub holds_then : {D : Type 0} (p mid last : Parts D) (o : Option Job) → IfSome o (λ c. HoldsOnlyWanted c.want p mid) → ((q : Name) → count_of last.files q ≤ count_of mid.files q) → IfSome o (λ c. HoldsOnlyWanted c.want p last)
 holds_then p mid last None h fewer = tt
 holds_then p mid last (Some c) h fewer = λ q lasting some. h q lasting (omega (arith, some, fewer q))
-
-pub appears_then : (o : Option Job) (a b c : Cells) → IfSome o (λ k. AppearsOnly (λ q. 0 < times (meta_names k.want.files) q) a b) → NoneAppears b c → IfSome o (λ k. AppearsOnly (λ q. 0 < times (meta_names k.want.files) q) a c)
-appears_then None a b c h none = tt
-appears_then (Some k) a b c h none = only_then_none (λ q. 0 < times (meta_names k.want.files) q) a b c h none
 
 module _ {D : Type 0} (cells : D → Cells) (p mid : Parts D) (number : ℕ) (c : Job) (e : copy_at number p.copies.running ≡ Some c) {T E : Type 0} (result : Result T E) (places : PlacesCopy cells number c p mid result) where
   abbrev now : Job

@@ -14,7 +14,6 @@ use Rattle.copy_state.specs.States.{meta_names, IsCopyState}
 use Rattle.copy_job.specs.declared.part.JobKind.TheVariants.{Merge as MergeKind}
 use Rattle.copy_job.specs.Jobs.{Job, IsJob}
 use Rattle.replica_parts.specs.declared.job.PointJob.{PointJob}
-use Rattle.replica_parts.specs.declared.merges.MergeCopies.{MergeCopies}
 use Rattle.replica_parts.specs.declared.parts.Parts.{Parts}
 use Rattle.replica_parts.specs.Jobs.{Agrees, merge_job_on}
 use Rattle.replica_parts.specs.Merges.{running_names, copies_names, copied_names, SharesNone, CopyApart}
@@ -53,9 +52,6 @@ module _ {D : Type 0} (cells : D → Cells) (p : Parts D) (is : IsWholeReplica c
           absurd (omega (arith, wanted, shares q some))
 
   module _ (slice : List Name) (slice_is : slice ≡ copy.reused) (files : Holdings) (holds : HoldsFiles slice p.files files (cells p.dir)) where
-    abbrev pub launched_copies : MergeCopies
-    launched_copies = record { running = p.copies.running ++ copy ∷ []; pending = p.copies.pending }
-
     copies_more : (q : Name) → times (copies_names (record { running = p.copies.running ++ copy ∷ []; pending = p.copies.pending })) q ≡ times (copies_names p.copies) q + times copy.reused q
     copies_more q = omega (
       arith,

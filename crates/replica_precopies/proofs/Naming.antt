@@ -28,7 +28,7 @@ use Rattle.replica_parts.proofs.Segments.{segment_infos, segment_files}
 use Rattle.replica_parts.proofs.Waiting.{own_wanted}
 use Rattle.replica_precopies.specs.Settling.{PlacesCopy}
 use Rattle.replica_precopies.proofs.Came.{with_same}
-use Rattle.replica_precopies.proofs.Placed.{placeable, noted_whole, noted_sourced, placed_whole, placed_sourced, placed_held, placed_stays, placed_reads}
+use Rattle.replica_precopies.proofs.Placed.{placeable, noted_whole, placed_whole, placed_sourced, placed_held, placed_stays, placed_reads}
 
 -- how many parts have their own names
 placed_of : {T E : Type 0} (c now : Job) (old new : Holdings) (before after : Cells) (result : Result T E) → PartsPlaced c now old new before after result → (n : ℕ) × Places n c.parts now.parts old new before after × OnOk result (n ≡ length c.parts)
@@ -52,11 +52,8 @@ module _ {D : Type 0} (cells : D → Cells) (p : Parts D) (is : IsWholeReplica c
   pub unplaced_whole : IsWholeReplica cells (record p { known = noted })
   unplaced_whole = noted_whole cells p is number c e complete noted slice slice_is noted_some
 
-  pub unplaced_sourced : (source : Name → Content) → IsSourced source cells p → IsSourced source cells (record p { known = noted })
-  unplaced_sourced = noted_sourced cells p is number c e complete noted slice slice_is noted_some
-
-  pub unplaced_places : {T E : Type 0} (x : E) → IfSome (copy_at number p.copies.running) (λ k. PlacesCopy {T = T} {E = E} cells number k p (record p { known = noted }) (Err x))
-  unplaced_places {T} {E} x = subst (λ (o : Option Job). IfSome o (λ k. PlacesCopy {T = T} {E = E} cells number k p (record p { known = noted }) (Err x))) (sym e) (record {
+  pub unplaced_places : (T E : Type 0) (x : E) → IfSome (copy_at number p.copies.running) (λ k. PlacesCopy {T = T} {E = E} cells number k p (record p { known = noted }) (Err x))
+  unplaced_places T E x = subst (λ (o : Option Job). IfSome o (λ k. PlacesCopy {T = T} {E = E} cells number k p (record p { known = noted }) (Err x))) (sym e) (record {
     placed = 0;
     copies = sym (ap (λ (cs : List Job). record p.copies { running = cs }) (with_same number p.copies.running c e));
     all = tt;

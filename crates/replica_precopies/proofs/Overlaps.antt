@@ -1,5 +1,5 @@
 -- Copies that end because they copy a file which a newer point copies.
-use Rattle.std.proofs.Common.{◌≡◌, ℕ, zero, suc, ◌<◌, ◌≤◌, Bool, true, false, ◌||◌, List, [], ◌∷◌, length, Option, Some, None, is_some, cond, refl, sym, ap, subst, ◌∙◌, arith, true≢false}
+use Rattle.std.proofs.Common.{◌≡◌, ℕ, zero, suc, ◌<◌, ◌≤◌, Bool, true, false, ◌||◌, List, [], ◌∷◌, length, get_or, Option, Some, None, is_some, cond, refl, sym, ap, subst, ◌∙◌, arith, true≢false}
 use Rattle.std.specs.Prelude.{◌==◌, not, if◌then◌else◌}
 use Rattle.std.specs.List.{AllByRecursion, list_any}
 use Rattle.std.proofs.lemmas.Bool.Decides.{nat_tests}
@@ -8,11 +8,23 @@ use Rattle.disk_model.proofs.CellLemmas.{same_true}
 use Rattle.file_deleter.specs.Holdings.{Holdings, count_of, times}
 use Rattle.file_deleter.proofs.NameLemmas.{times-append, times_one, not_among_times}
 use Rattle.node_files.specs.Node.{KeepsBytes}
+use Rattle.copy_state.specs.declared.meta.FileMetaData.{FileMetaData}
+use Rattle.copy_state.specs.States.{meta_names}
 use Rattle.copy_job.specs.declared.part.JobPart.{JobPart}
 use Rattle.copy_job.specs.Parts.{own_names}
 use Rattle.copy_job.specs.Jobs.{Job}
 use Rattle.replica_parts.specs.Merges.{copy_at, copies_without, copied_names, SharesNone, CopyApart, AreCopiesApart}
 use Rattle.replica_precopies.specs.Overlapping.{overlaps, first_overlapping, copies_beside}
+
+-- ---- the names of files
+pub named_there : (files : List (Name × FileMetaData)) (i : ℕ) (d : Name × FileMetaData) → i < length files → d ≡ get_or files i d → (q : Name) → same d.0 q ≡ true → true ≡ is_among (meta_names files) q
+named_there [] i d lt e q t = absurd (omega (arith, lt))
+named_there (x ∷ xs) zero d lt e q t = sym (ap (λ b. b || is_among (meta_names xs) q) (ap (λ (f : Name × FileMetaData). same f.0 q) (sym e) ∙ t))
+named_there (x ∷ xs) (suc i) d lt e q t = by (named_there xs i d (omega (arith, lt)) e q t) (same x.0 q)
+  where
+    by : true ≡ is_among (meta_names xs) q → (b : Bool) → true ≡ (b || is_among (meta_names xs) q)
+    by more true = refl
+    by more false = more
 
 -- ---- the first one runs
 pub first_runs : (names : List Name) (cs : List Job) (number : ℕ) → first_overlapping names cs ≡ Some number → is_some (copy_at number cs) ≡ true

@@ -90,9 +90,6 @@ module _ {D : Type 0} (cells : D → Cells) (p : Parts D) (is : IsWholeReplica c
     pub noted_whole : IsWholeReplica cells (record p { known = noted })
     noted_whole = record { node = is.node; point = is.point; spelled = is.spelled; segs = is.segs; known = noted_known; lasting = is.lasting; newer = is.newer; waits = is.waits; copied = is.copied; few = is.few; merges = is.merges }
 
-    pub noted_sourced : (source : Name → Content) → IsSourced source cells p → IsSourced source cells (record p { known = noted })
-    noted_sourced source h = record { held = h.held; job = h.job; merges = h.merges }
-
     module _ (noted_all_of : LearnsAll slice noted) (dir : D) (files : Holdings) (now : Job) (n : ℕ) (done : Places n c.parts now.parts p.files files (cells p.dir) (cells dir)) (same : now ≡ record c { parts = now.parts })
         (able : ArePlaceable files now.parts) (is_job : IsJob now) where
       all_noted : (q : Name) (meta : FileMetaData) → meta_in c.want.files q ≡ Some meta → meta_in noted q ≡ Some meta

@@ -27,7 +27,6 @@ use Rattle.replica_parts.proofs.Keeping.{some_map}
 use Rattle.replica_parts.proofs.Merging.{all_at, all_dropped, apart_without, names-without}
 use Rattle.replica_parts.proofs.Segments.{segment_infos, segment_files}
 use Rattle.replica_parts.proofs.Temporary.{files_no_temporary}
-use Rattle.replica_precopies.specs.Settling.{SettlesCopy}
 use Rattle.replica_precopies.proofs.Came.{some_at}
 
 -- ---- a segment that is expected, and no more
@@ -50,11 +49,6 @@ pub pending_settled : (p mid last : Pending) (seg : SegNo) (files want : List (N
     → last ≡ record p { files = p.files ++ want }
 pending_settled p mid last seg files want none mid_is last_is files_are = last_is ∙ ap (λ (x : Pending). with_files x seg files) mid_is
     ∙ ap (λ (es : List SegNo). record { expected = es; files = p.files ++ files }) (struck seg p.expected none ∙ sym none) ∙ ap (λ (fs : List (Name × FileMetaData)). record p { files = p.files ++ fs }) files_are
-
--- it was expected in vain
-pub pending_forgotten : (p mid done last : Pending) (seg : SegNo) → p.expected ≡ [] → mid ≡ record p { expected = p.expected ++ seg ∷ [] } → done ≡ mid → last ≡ record done { expected = filter (λ s. not (s.0 == seg.0)) done.expected } → last ≡ p
-pending_forgotten p mid done last seg none mid_is done_is last_is = last_is ∙ ap (λ (x : Pending). record x { expected = filter (λ s. not (s.0 == seg.0)) x.expected }) (done_is ∙ mid_is)
-    ∙ ap (λ (es : List SegNo). record p { expected = es }) (struck seg p.expected none ∙ sym none)
 
 -- ---- the parts have their own names
 pub present_all : (ps : List JobPart) (q : Name) → present_of (placed_to (length ps) ps) q ≡ q
@@ -146,10 +140,6 @@ module _ {D : Type 0} (cells : D → Cells) (p : Parts D) (is : IsWholeReplica c
       (record { held = h.held; job = h.job; merges = all_dropped (CopiesFrom source (reads_of (cells p.dir))) number p.copies.running h.merges })
 
 -- ---- by what the calls say
--- a claim of the parts, where the pending files are what they were
-pub with_pending : {D : Type 0} (p : Parts D) (P : Parts D → Type 0) → P p → (x : Pending) → x ≡ p.copies.pending → P (record p { copies = record p.copies { pending = x } })
-with_pending p P h x e = subst (λ (y : Pending). P (record p { copies = record p.copies { pending = y } })) (sym e) h
-
 module _ {D : Type 0} (cells : D → Cells) (p : Parts D) (is : IsWholeReplica cells p) (number : ℕ) (runs : is_some (copy_at number p.copies.running) ≡ true) (complete : IfSome (copy_at number p.copies.running) (λ k. k.missing ≡ []))
     (own : IfSome (copy_at number p.copies.running) (λ k. k.parts ≡ placed_to (length k.parts) k.parts)) (files : List (Name × FileMetaData)) (files_are : IfSome (copy_at number p.copies.running) (λ k. files ≡ k.want.files)) (seg : SegNo) (mid last : Pending)
     (mid_is : mid ≡ record p.copies.pending { expected = p.copies.pending.expected ++ seg ∷ [] }) (last_is : last ≡ with_files mid seg files) (running : List Job) (running_is : running ≡ copies_without number p.copies.running) where
@@ -171,6 +161,3 @@ module _ {D : Type 0} (cells : D → Cells) (p : Parts D) (is : IsWholeReplica c
 
   pub settles_sourced : (source : Name → Content) → IsSourced source cells p → IsSourced source cells (record p { copies = record { running = running; pending = last } })
   settles_sourced = settled_sourced cells p is number one.0 one.1 one.2 own_one (record { running = running; pending = last }) made
-
-  pub settles_copy : IfSome (copy_at number p.copies.running) (λ k. SettlesCopy number k p (record p { copies = record { running = running; pending = last } }))
-  settles_copy = subst (λ (o : Option Job). IfSome o (λ k. SettlesCopy number k p (record p { copies = record { running = running; pending = last } }))) (sym one.1) (record { copies = made })

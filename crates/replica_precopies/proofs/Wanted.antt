@@ -1,6 +1,5 @@
 -- The files of a merge copy's state, and their segment.
-use Rattle.std.proofs.Common.{◌≡◌, ℕ, List, [], ◌∷◌, Option, Some, None, refl, sym, ap, subst, ◌∙◌, inl, slice_get}
-use Rattle.std.specs.Prelude.{IfSome}
+use Rattle.std.proofs.Common.{◌≡◌, ℕ, List, [], ◌∷◌, Some, None, sym, ap, ◌∙◌, inl, slice_get}
 use Rattle.nrt_base.specs.declared.numbers.SegNo.{SegNo}
 use Rattle.file_names.specs.Names.{part_name_of, IsFileOfSegment}
 use Rattle.file_names.specs.declared.composed.SegPart.TheVariants.{Docs, Post, Info}
@@ -12,10 +11,6 @@ use Rattle.replica_parts.specs.declared.parts.Parts.{Parts}
 use Rattle.replica_parts.specs.Merges.{copy_at, IsSegmentState}
 use Rattle.replica_parts.specs.Replica.{IsWholeReplica, IsMergeCopy}
 use Rattle.replica_parts.proofs.Merging.{all_at}
-
--- the files of the copy that was looked at
-pub wanted_files : (o : Option Job) (k : Job) → o ≡ Some k → (files : List (Name × FileMetaData)) → files ≡ k.want.files → IfSome o (λ c. files ≡ c.want.files)
-wanted_files o k e files same = subst (λ (x : Option Job). IfSome x (λ c. files ≡ c.want.files)) (sym e) same
 
 first_named : (files : List (Name × FileMetaData)) (q : Name) (rest : List Name) → meta_names files ≡ q ∷ rest → (f : Name × FileMetaData) → slice_get files 0 ≡ Some f → f.0 ≡ q
 first_named [] q rest e f g = cc

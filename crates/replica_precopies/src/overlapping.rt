@@ -1,6 +1,7 @@
 //! Copies of merged segments that end because a newer point copies one of their files.
 
 ghost use Rattle.std.specs.Prelude.{◌≡◌, ◌≤◌, ℕ, List};
+ghost use Rattle.std.specs.List.{list_any};
 ghost use Rattle.disk_model.specs.Disk.{is_among};
 ghost use Rattle.file_deleter.specs.Holdings.{count_of};
 ghost use Rattle.node_files.specs.Node.{KeepsBytes};
@@ -10,7 +11,7 @@ ghost use Rattle.replica_parts.specs.Sources.{KeepsSource, HoldsOnly};
 ghost use Rattle.replica_parts.specs.Replica.{IsWholeReplica, AreStanding};
 ghost use Rattle.replica_precopies.specs.Overlapping.{overlaps, first_overlapping, EndsOverlapping};
 
-use copy_job::CopyJob;
+use copy_job::{CopyJob, JobPart};
 use copy_state::FileMetaData;
 use disk_model::Dir;
 use file_names::FileName;
@@ -29,12 +30,25 @@ fn is_wanted(files: &[(FileName, FileMetaData)], name: &FileName) -> bool
     false
 }
 
+// Whether one of the files has one of these names.
+fn names_one(files: &[(FileName, FileMetaData)], names: &[FileName]) -> bool
+    ensures { result ≡ list_any (is_among (meta_names files.now)) names.now }
+{
+    names.iter().any(|name| is_wanted(files, name))
+}
+
+// Whether one of the files has the own name of a part.
+fn has_one(files: &[(FileName, FileMetaData)], parts: &[JobPart]) -> bool
+    ensures { result ≡ list_any (λ p. is_among (meta_names files.now) p.own) parts.now }
+{
+    parts.iter().any(|part| is_wanted(files, &part.own))
+}
+
 // Whether a copy copies one of the files.
 fn copies_one(files: &[(FileName, FileMetaData)], copy: &CopyJob) -> bool
     ensures { result ≡ overlaps (meta_names files.now) copy.now }
 {
-    copy.missing().iter().any(|name| is_wanted(files, name))
-        || copy.parts().iter().any(|part| is_wanted(files, &part.own))
+    names_one(files, copy.missing()) || has_one(files, copy.parts())
 }
 
 // The number of the first copy that copies one of the files.

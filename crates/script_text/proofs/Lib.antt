@@ -7,7 +7,7 @@ mod HeaderLemmas
 mod LaneLineLemmas
 mod LineLemmas
 pub mod NumberLaws
-mod NumberLemmas
+pub mod NumberLemmas
 mod OneLine
 mod PhaseLemmas
 pub mod RefusalLaws

@@ -14,3 +14,6 @@ returns-clause-script c = generated_is c.args.n c.loop-i.i _ c.loop-i.lines.item
     c.loop-i.invariant.lines (let test = c.loop-i-test.false in let end = c.loop-i.auto.i-end in omega (arith, test, end)) c.in_ok-last.ensures
     (let len = c.len.ensures in let few = c.loop-i.invariant.few in let most = c.requires.most in let test = c.loop-i-test.false in let end = c.loop-i.auto.i-end in omega (arith, len, few, most, test, end))
     c.in_ok-phase_of.ensures c.in_ok-phase_of-2.ensures c.new-phases.ensures.items c.in_ok-push.ensures.items c.in_ok-push-2.ensures.items c.from_vec.ensures
+
+pub returns-clause-form : goal.returns-clause-form
+returns-clause-form c = form_of c.args.n _ c.requires.most (returns-clause-script c)

@@ -1,6 +1,6 @@
 use Rattle.disk_model.specs.Disk.{reads_of}
 use Rattle.replica_parts.proofs.Documents.{readers_search, stands_back}
-use Rattle.replica_node.proofs.Started.{book_stands, file_opened, just_opened, just_sourced, just_its, none_opened}
+use Rattle.replica_node.proofs.Started.{book_stands, file_opened, whole_opened, sourced_opened, its_opened, none_opened}
 use Rattle.replica_node.proofs.replica.start.Goals as goal
 
 pub returns-in-Ok-clause-documents : goal.returns-in-Ok-clause-documents
@@ -16,11 +16,14 @@ returns-in-Ok-clause-documents g c docs h =
     }
 
 pub returns-in-Ok-clause-whole : goal.returns-in-Ok-clause-whole
-returns-in-Ok-clause-whole g c = just_opened g.D.Dir.cells c.open.new.dir c.in-Ok.opened (c.in-Ok.ensures.node c.requires) c.in-Ok.ensures.opened c.in-Ok.opened.infos.generation
+returns-in-Ok-clause-whole g c =
+    whole_opened g.D.Dir.cells c.open.new.dir c.in-Ok.opened (c.in-Ok.ensures.node c.requires) c.in-Ok.ensures.opened c.in-Ok.opened.infos.generation
+    (record { running = c.new.result; pending = c.none.result }) (λ i. record { running = c.new.ensures i; pending = c.none.ensures i })
 
 pub returns-in-Ok-clause-sourced : goal.returns-in-Ok-clause-sourced
 returns-in-Ok-clause-sourced g c =
-    just_sourced g.D.Dir.cells c.open.new.dir c.in-Ok.opened (c.in-Ok.ensures.node c.requires) c.in-Ok.ensures.opened c.in-Ok.opened.infos.generation (g.D.Dir.cells c.args.dir) _ c.in-Ok.ensures.kept c.in-Ok.ensures.found
+    sourced_opened g.D.Dir.cells c.open.new.dir c.in-Ok.opened (c.in-Ok.ensures.node c.requires) c.in-Ok.ensures.opened c.in-Ok.opened.infos.generation
+    (record { running = c.new.result; pending = c.none.result }) (λ i. record { running = c.new.ensures i; pending = c.none.ensures i }) (g.D.Dir.cells c.args.dir) _ c.in-Ok.ensures.kept c.in-Ok.ensures.found
 
 pub returns-in-Ok-clause-held : goal.returns-in-Ok-clause-held
 returns-in-Ok-clause-held g c = file_opened (g.D.Dir.cells c.open.new.dir) c.in-Ok.opened (c.in-Ok.ensures.node c.requires) c.in-Ok.ensures.opened
@@ -30,4 +33,6 @@ returns-in-Ok-clause-appears g c =
     none_opened g.D.Dir.cells c.open.new.dir c.in-Ok.opened (c.in-Ok.ensures.node c.requires) c.in-Ok.ensures.opened c.in-Ok.opened.infos.generation c.in-Ok.ensures.names (g.D.Dir.cells c.args.dir) c.in-Ok.ensures.kept c.in-Ok.ensures.found
 
 pub returns-in-Ok-clause-only : goal.returns-in-Ok-clause-only
-returns-in-Ok-clause-only g c = just_its g.D.Dir.cells c.open.new.dir c.in-Ok.opened (c.in-Ok.ensures.node c.requires) c.in-Ok.ensures.opened c.in-Ok.opened.infos.generation c.in-Ok.ensures.names
+returns-in-Ok-clause-only g c =
+    its_opened g.D.Dir.cells c.open.new.dir c.in-Ok.opened (c.in-Ok.ensures.node c.requires) c.in-Ok.ensures.opened c.in-Ok.opened.infos.generation
+    (record { running = c.new.result; pending = c.none.result }) (λ i. record { running = c.new.ensures i; pending = c.none.ensures i }) c.in-Ok.ensures.names

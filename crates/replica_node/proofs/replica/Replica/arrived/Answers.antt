@@ -3,4 +3,4 @@ use Rattle.replica_parts.specs.Sources.{HoldsOnly}
 use Rattle.replica_node.proofs.replica.Replica.arrived.Goals as goal
 
 pub returns-clause-held : goal.returns-clause-held
-returns-clause-held g c = subst (λ p. HoldsOnly p c.arrived.new.parts) c.self.view_is c.arrived.ensures.held
+returns-clause-held g c = subst (λ p. HoldsOnly p c.arrive.new.parts) c.self.view_is c.arrive.ensures.held

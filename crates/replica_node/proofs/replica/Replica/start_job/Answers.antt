@@ -1,7 +1,10 @@
-use Rattle.std.proofs.Common.{subst, IfErr}
-use Rattle.disk_model.specs.Disk.{reads_of}
-use Rattle.replica_parts.specs.Jobs.{IsStartingFault}
+use Rattle.std.proofs.Common.{subst}
+use Rattle.replica_parts.specs.Sources.{HoldsOnly}
+use Rattle.replica_precopies.specs.Overlapping.{StartsBeside}
 use Rattle.replica_node.proofs.replica.Replica.start_job.Goals as goal
 
-pub returns-clause-fault : goal.returns-clause-fault
-returns-clause-fault g c = subst (λ p. IfErr c.start_job.result (IsStartingFault (reads_of (g.D.Dir.cells p.dir)) p.files c.args.state.files)) c.self.view_is c.start_job.ensures.fault
+pub returns-clause-starts : goal.returns-clause-starts
+returns-clause-starts g c = subst (λ p. StartsBeside g.D.Dir.cells c.args.state p c.begin.new.parts c.begin.result) c.self.view_is c.begin.ensures.starts
+
+pub returns-clause-held : goal.returns-clause-held
+returns-clause-held g c = subst (λ p. HoldsOnly p c.begin.new.parts) c.self.view_is c.begin.ensures.held
