@@ -131,7 +131,7 @@ module _ {D : Type 0} (cells : D → Cells) where
       inside_all cells b0 b2 places board new i log nodes cut (λ at. refl) (λ n. same_inner b0.log i n refl) tasks
       (subst (λ (l : List Posted). All (λ p. IsFitKind p.kind) l) (sym posted)
       (All-append (λ (p : Posted). IsFitKind p.kind) (board.posted ++ posts_of seg line left) (post_after seg line left)
-      (All-append (λ (p : Posted). IsFitKind p.kind) board.posted (posts_of seg line left) all.1.1.fit (posts_fit seg line left)) (after_fit seg line left)))
+      (All-append (λ (p : Posted). IsFitKind p.kind) board.posted (posts_of seg line left) all.2.fit (posts_fit seg line left)) (after_fit seg line left)))
       each empty all
     where
       i : Inner
@@ -157,8 +157,8 @@ module _ {D : Type 0} (cells : D → Cells) where
           (λ n. ap (λ (l : List OpenMerge). line_told (open_merge n l)) rows ∙ lines_with board.rows seg.0 (all_sent (spread_at (open_merge seg.0 board.rows))) n)
           (subst (λ (l : List Posted). All (IsToldTask b0.log) l) (sym posted)
           (All-append (IsToldTask b0.log) (board.posted ++ posts_of seg line left) (post_after seg line left)
-          (All-append (IsToldTask b0.log) board.posted (posts_of seg line left) all.1.1.tasks.posted (posts_told b0.log seg line left)) (after_told b0.log seg line left)))
-          due (λ x. counts x ∙ ap (λ (k : ℕ). done_under x board.counts + k) (counts_ends x line seg by MergeStep)) all.1.1.tasks
+          (All-append (IsToldTask b0.log) board.posted (posts_of seg line left) all.2.tasks.posted (posts_told b0.log seg line left)) (after_told b0.log seg line left)))
+          due (λ x. counts x ∙ ap (λ (k : ℕ). done_under x board.counts + k) (counts_ends x line seg by MergeStep)) all.2.tasks
         where
           due : 1 + due_all b0.nodes new.rows ≤ due_all b0.nodes board.rows
           due = let less = due_posted b0.nodes board.rows seg.0 found.0.row found.0.spread found.0.there found.0.some found.1.0 found.1.1 in
@@ -167,7 +167,7 @@ module _ {D : Type 0} (cells : D → Cells) where
               omega (arith, less, same)
 
       each : (n : ℕ) → IsNode b0.nodes n → IsSomeAnd (place_of places n) (λ z. NodeMerges (kept i ∷ b0.log) b0.cut (λ s. jobs_like places s b0.nodes) new.rows n z.node)
-      each n node = some_then (place_of places n) (all.1.1.each n node)
+      each n node = some_then (place_of places n) (all.2.each n node)
           (λ z is. subst (λ (l : List OpenMerge). NodeMerges (kept i ∷ b0.log) b0.cut (λ s. jobs_like places s b0.nodes) l n z.node) (sym rows_are)
           (node_copied seg.0 board.rows found.0 t refl (kept i ∷ b0.log) b0.cut (λ s. jobs_like places s b0.nodes) n z.node (λ k sent. sent)
           (node_stands b0.log (kept i ∷ b0.log) b0.cut (λ s. jobs_like places s b0.nodes) (λ s. jobs_like places s b0.nodes) board.rows n (λ seg inputs is. is) z.node z.node

@@ -1,3 +1,4 @@
 pub mod StandSteps
 pub mod InsideSteps
 pub mod CopyRows
+pub mod TaskPaths
