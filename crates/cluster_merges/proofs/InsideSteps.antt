@@ -10,6 +10,10 @@ use Rattle.nrt_base.specs.declared.numbers.SegNo.{SegNo}
 use Rattle.disk_model.specs.Disk.{Name, Cells}
 use Rattle.primary_parts.specs.declared.states.Out.{Out}
 use Rattle.history_entries.specs.Nodes.{IsNode, primary_of}
+use Rattle.history_tables.specs.declared.jobs.JobRow.{JobRow}
+use Rattle.history_tables.specs.declared.jobs.JobStep.TheVariants.{Passes}
+use Rattle.history_tables.specs.JobRows.{row_if_some, while_going}
+use Rattle.history_book.specs.Jobs.{last_job}
 use Rattle.history_book.specs.Log.{Log, printed, kept}
 use Rattle.history_book.specs.declared.inner.Inner.{Inner}
 use Rattle.history_book.specs.declared.inner.Inner.TheVariants.{JobBegun, FileOut, TaskOut}
@@ -36,10 +40,14 @@ use Rattle.cluster_state.proofs.JobMoves.{IsOfJob, shows_kept}
 use Rattle.cluster_state.proofs.JobFrames.{same_inner, job_stays}
 use Rattle.cluster_state.proofs.MergingStill.{InputsStay, node_stands, node_keeps}
 
+passes : (o : Option JobRow) → row_if_some Passes o ≡ o
+passes None = refl
+passes (Some row) = refl
+
 -- the beginning of a copy of a merged segment is about no job of a point
 pub same_sent : (log : Log) (line : LineNo) (m : NodeNo) (k n : ℕ) → SameJob log (kept (JobBegun line m k None None) ∷ log) n
 same_sent log line m k n = record {
-  job = refl;
+  job = ap (while_going n (printed log)) (passes (last_job false n log));
   points = points_alone (printed log);
   latest = omega arith;
   version = refl;
@@ -51,7 +59,7 @@ same_sent log line m k n = record {
 -- nor is a file of one
 pub same_carried : (log : Log) (line : LineNo) (m : NodeNo) (k : ℕ) (name : Name) (bytes : List ℕ) (n : ℕ) → SameJob log (kept (FileOut line m k name bytes None) ∷ log) n
 same_carried log line m k name bytes n = record {
-  job = refl;
+  job = ap (while_going n (printed log)) (passes (last_job false n log));
   points = points_alone (printed log);
   latest = omega arith;
   version = refl;
