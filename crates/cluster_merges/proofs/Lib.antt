@@ -2,3 +2,5 @@ pub mod StandSteps
 pub mod InsideSteps
 pub mod CopyRows
 pub mod TaskPaths
+pub mod BegunShows
+pub mod BegunStands
