@@ -1,86 +1,57 @@
 -- What the nodes of a cluster lose where the merges in flight end: their copies of merged segments.
-use Rattle.std.specs.Prelude.{ℕ, ◌≡◌, ◌++◌, ◌⊎◌, true, List, [], ◌∷◌, Option, Some, None, IsSome, length, ⊤}
-use Rattle.std.specs.List.{All}
+use Rattle.std.specs.Prelude.{ℕ, ◌≡◌, true, Bool, List, [], Option, Some, None, IsSomeAnd, length}
+use Rattle.std.specs.List.{list_any}
 use Rattle.disk_model.specs.Disk.{Cells}
-use Rattle.copy_job.specs.Jobs.{Job}
 use Rattle.node_files.specs.Appearing.{NoneAppears}
 use Rattle.replica_parts.specs.declared.parts.Parts.{Parts as ReplicaParts}
 use Rattle.replica_parts.specs.Merges.{copy_at}
 use Rattle.replica_parts.specs.Replica.{IsWholeReplica, AreStanding}
 use Rattle.replica_parts.specs.Sources.{KeepsSource}
 use Rattle.cluster_tasks.specs.declared.tasks.OpenMerge.{OpenMerge}
-use Rattle.cluster_tasks.specs.declared.tasks.Sent.{Sent}
-use Rattle.cluster_tasks.specs.Board.{left_at, is_sent_in}
+use Rattle.cluster_tasks.specs.Board.{Board, is_sent_to}
 use Rattle.cluster_places.specs.declared.nodes.Node.{Node}
 use Rattle.cluster_places.specs.declared.nodes.Node.TheVariants.{Primary, Replica, Down}
 use Rattle.cluster_places.specs.declared.nodes.Place.{Place}
-use Rattle.cluster_places.specs.Places.{place_of, IsSlot}
-use Rattle.cluster_state.specs.Merging.{IsSentCopy, AreSentCopies, RunsNoOther}
+use Rattle.cluster_places.specs.Places.{place_of}
+use Rattle.cluster_state.specs.Merging.{RunsNoOther}
 
--- the copies of all merges in flight that have not ended
-abbrev pub rows_left : List OpenMerge → List Sent
-rows_left [] = []
-rows_left (r ∷ rows) = left_at r.spread ++ rows_left rows
+-- one of these merges sent a copy under this number to the node
+abbrev pub are_sent : ℕ → ℕ → List OpenMerge → Bool
+are_sent n job rows = list_any (λ r. is_sent_to n job r.spread) rows
 
 module _ {D : Type 0} where
-  -- each of these copies is to a node of the cluster
-  abbrev pub AreSlots : List (Option (Place D)) → List Sent → Type 0
-  AreSlots places left = All (λ s. IsSlot places s.node.0) left
-
-  -- a copy runs there under this number
-  abbrev pub RunsUnder : ℕ → Option (Place D) → Type 0
-  RunsUnder number None = ⊥
-  RunsUnder number (Some place) = elim place.node [ Primary p ↦ ⊥ | Replica r ↦ IsSome (copy_at number r.copies.running) | Down d ↦ ⊥ ]
-
-  -- none does
-  abbrev pub RunsNone : ℕ → Option (Place D) → Type 0
-  RunsNone number None = ⊤
-  RunsNone number (Some place) = elim place.node [ Primary p ↦ ⊤ | Replica r ↦ copy_at number r.copies.running ≡ None | Down d ↦ ⊤ ]
-
   -- a replica lost copies of merged segments, and nothing else
   pub record LosesCopies (cells : D → Cells) (old new : ReplicaParts D) : Type 0 where
     pub others : new ≡ record old { dir = new.dir; files = new.files; copies = new.copies }
-    pub pending : new.copies.pending ≡ old.copies.pending
     pub runs : RunsNoOther old.copies.running new.copies.running
     pub whole : IsWholeReplica cells new
     pub standing : AreStanding cells old → AreStanding cells new
     pub sourced : KeepsSource cells old new
     pub appears : NoneAppears (cells old.dir) (cells new.dir)
 
-  abbrev pub NodeLoses : (D → Cells) → Node D → Node D → Type 0
-  NodeLoses cells (Primary p) (Primary q) = q ≡ p
-  NodeLoses cells (Replica r) (Replica s) = LosesCopies cells r s
-  NodeLoses cells (Down d) (Down e) = e ≡ d
-  NodeLoses cells x y = ⊥
+  -- no copy that these merges sent to the replica runs any more, and it lost nothing but copies
+  pub record EndsCopies (cells : D → Cells) (n : ℕ) (rows : List OpenMerge) (old new : ReplicaParts D) : Type 0 where
+    pub loses : LosesCopies cells old new
+    pub gone : (k : ℕ) → are_sent n k rows ≡ true → copy_at k new.copies.running ≡ None
 
-  abbrev pub PlaceLoses : (D → Cells) → Option (Place D) → Option (Place D) → Type 0
-  PlaceLoses cells None None = ⊤
-  PlaceLoses cells (Some x) (Some y) = NodeLoses cells x.node y.node × (y.held ≡ x.held)
-  PlaceLoses cells x y = ⊥
+  -- so it is of a node that is a replica, and any other is as before
+  abbrev pub NodeLoses : (D → Cells) → ℕ → List OpenMerge → Node D → Node D → Type 0
+  NodeLoses cells n rows (Replica r) (Replica s) = EndsCopies cells n rows r s
+  NodeLoses cells n rows old new = new ≡ old
 
-  -- each replica lost copies or none, and no other node changed
-  pub record AllLose (cells : D → Cells) (old new : List (Option (Place D))) : Type 0 where
+  -- so it is of the node that is there; what is held of it is held
+  abbrev pub PlaceLoses : (D → Cells) → ℕ → List OpenMerge → Option (Place D) → Option (Place D) → Type 0
+  PlaceLoses cells n rows None new = new ≡ None
+  PlaceLoses cells n rows (Some x) new = IsSomeAnd new (λ y. (y.held ≡ x.held) × NodeLoses cells n rows x.node y.node)
+
+  -- the same of all nodes
+  pub record AllLose (cells : D → Cells) (rows : List OpenMerge) (old new : List (Option (Place D))) : Type 0 where
     pub count : length new ≡ length old
-    pub each : (m : ℕ) → PlaceLoses cells (place_of old m) (place_of new m)
+    pub each : (m : ℕ) → PlaceLoses cells m rows (place_of old m) (place_of new m)
 
-  -- what runs at a node are copies that these merges sent there
-  abbrev pub RunsJust : List OpenMerge → ℕ → Option (Place D) → Type 0
-  RunsJust rows m None = ⊤
-  RunsJust rows m (Some place) = elim place.node [ Primary p ↦ ⊤ | Replica r ↦ AreSentCopies rows m r.copies.running | Down d ↦ ⊤ ]
-
-  -- the same of all nodes
-  abbrev pub RunJust : List OpenMerge → List (Option (Place D)) → Type 0
-  RunJust rows places = (m : ℕ) → RunsJust rows m (place_of places m)
-
-  -- what runs at a node are copies that are left, or that these merges sent there
-  abbrev pub RunsLeft : List Sent → List OpenMerge → ℕ → Option (Place D) → Type 0
-  RunsLeft left rows m None = ⊤
-  RunsLeft left rows m (Some place) = elim place.node [
-    Primary p ↦ ⊤
-    | Replica r ↦ (k : ℕ) (c : Job) → copy_at k r.copies.running ≡ Some c → (is_sent_in m k left ≡ true) ⊎ IsSentCopy rows m k c
-    | Down d ↦ ⊤
-  ]
-
-  -- the same of all nodes
-  abbrev pub RunLeft : List Sent → List OpenMerge → List (Option (Place D)) → Type 0
-  RunLeft left rows places = (m : ℕ) → RunsLeft left rows m (place_of places m)
+  -- no merge is in flight any more, no task is posted, and no copy of a merge runs
+  pub record Falls (cells : D → Cells) (board now : Board) (old new : List (Option (Place D))) : Type 0 where
+    pub lose : AllLose cells board.rows old new
+    pub rows : now.rows ≡ []
+    pub posted : now.posted ≡ []
+    pub counts : now.counts ≡ board.counts

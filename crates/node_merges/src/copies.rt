@@ -233,8 +233,8 @@ pub fn settle_in<D: Dir + Drop>(
     settled
 }
 
-// Ends a copy of a merged segment.
-fn drop_copy<D: Dir + Drop>(replica: &mut Replica<D>, job: u64)
+/// Ends a copy of a merged segment. Takes no memory.
+pub fn drop_copy<D: Dir + Drop>(replica: &mut Replica<D>, job: u64)
     requires { IsSome (copy_at job replica.old.copies.running) }
     ensures { DropsMerged D.cells job replica.old replica.new }
 {
