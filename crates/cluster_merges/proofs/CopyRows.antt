@@ -40,7 +40,8 @@ use Rattle.cluster_state.proofs.Frames.{some_then}
 use Rattle.cluster_state.proofs.JobFrames.{same_inner}
 use Rattle.cluster_state.proofs.MergingStill.{node_stands, node_keeps}
 use Rattle.cluster_merges.proofs.StandSteps.{alike_copied, sent_still, spreads_with}
-use Rattle.cluster_merges.proofs.InsideSteps.{AllShown, inside_all}
+use Rattle.cluster_merges.specs.Sending.{AllShown}
+use Rattle.cluster_merges.proofs.InsideSteps.{inside_all}
 
 number_is : (a b : ℕ) → (a == b) ≡ true → a ≡ b
 number_is a b e = grind (arith, nat_tests, e)

@@ -26,6 +26,7 @@ use Rattle.cluster_state.specs.State.{Shows}
 use Rattle.cluster_state.specs.Files.{FilesShow}
 use Rattle.cluster_state.specs.FileChanges.{SameJob}
 use Rattle.cluster_state.specs.Merging.{IsFitKind, NodeMerges, MergesStand}
+use Rattle.cluster_merges.specs.Sending.{AllShown}
 use Rattle.cluster_state.proofs.Points.{points_alone}
 use Rattle.cluster_state.proofs.Disks.{commits_alone}
 use Rattle.cluster_state.proofs.Drawn.{grows_none}
@@ -60,11 +61,7 @@ same_carried log line m k name bytes n = record {
 }
 
 module _ {D : Type 0} (cells : D → Cells) where
-  -- all that is true of a cluster that runs
-  abbrev pub AllShown : Sheet → Board → List (Option (Place D)) → Type 0
-  AllShown b board places = Shows cells b.log b.nodes places × FilesShow cells b.log b.nodes places × MergesStand b.log b.cut b.nodes board places
-
-  pub all_is : (b now : Sheet) (board : Board) (places : List (Option (Place D))) → now.log ≡ b.log → now.nodes ≡ b.nodes → now.cut ≡ b.cut → AllShown b board places → AllShown now board places
+  pub all_is : (b now : Sheet) (board : Board) (places : List (Option (Place D))) → now.log ≡ b.log → now.nodes ≡ b.nodes → now.cut ≡ b.cut → AllShown cells b board places → AllShown cells now board places
   all_is b now board places log nodes cut all = (
     now_is cells b.log now.log b.nodes now.nodes places log nodes all.0,
     files_is cells b.log now.log b.nodes now.nodes places log nodes all.1.0,
@@ -84,7 +81,7 @@ module _ {D : Type 0} (cells : D → Cells) where
   pub inside_all : (b0 b2 : Sheet) (places : List (Option (Place D))) (board new : Board) (i : Inner) → b2.log ≡ kept i ∷ b0.log → b2.nodes ≡ b0.nodes → b2.cut ≡ b0.cut
       → IsOfJob i → ((n : ℕ) → SameJob b0.log (kept i ∷ b0.log) n) → TasksShow b0.nodes (kept i ∷ b0.log) new → All (λ p. IsFitKind p.kind) new.posted
       → ((n : ℕ) → IsNode b0.nodes n → IsSomeAnd (place_of places n) (λ z. NodeMerges (kept i ∷ b0.log) b0.cut (λ s. jobs_like places s b0.nodes) new.rows n z.node))
-      → ((board.posted ≡ []) × (board.rows ≡ []) → (new.posted ≡ []) × (new.rows ≡ [])) → AllShown b0 board places → AllShown b2 new places
+      → ((board.posted ≡ []) × (board.rows ≡ []) → (new.posted ≡ []) × (new.rows ≡ [])) → AllShown cells b0 board places → AllShown cells b2 new places
   inside_all b0 b2 places board new i log nodes cut of_job same tasks fit each empty all = (
     now_is cells (kept i ∷ b0.log) b2.log b0.nodes b2.nodes places log nodes (shows_kept cells b0.nodes b0.log i places of_job all.0),
     files_is cells (kept i ∷ b0.log) b2.log b0.nodes b2.nodes places log nodes
@@ -100,7 +97,7 @@ module _ {D : Type 0} (cells : D → Cells) where
   -- the same where the merges in flight are as they were
   pub inside_path : (b0 b2 : Sheet) (places : List (Option (Place D))) (board new : Board) (i : Inner) → b2.log ≡ kept i ∷ b0.log → b2.nodes ≡ b0.nodes → b2.cut ≡ b0.cut
       → IsOfJob i → ((n : ℕ) → SameJob b0.log (kept i ∷ b0.log) n) → InputsStay b0.log (kept i ∷ b0.log) → TasksShow b0.nodes (kept i ∷ b0.log) new → new.rows ≡ board.rows → All (λ p. IsFitKind p.kind) new.posted
-      → ((board.posted ≡ []) × (board.rows ≡ []) → new.posted ≡ []) → AllShown b0 board places → AllShown b2 new places
+      → ((board.posted ≡ []) × (board.rows ≡ []) → new.posted ≡ []) → AllShown cells b0 board places → AllShown cells b2 new places
   inside_path b0 b2 places board new i log nodes cut of_job same more tasks rows fit empty all =
       inside_all b0 b2 places board new i log nodes cut of_job same tasks fit (each_still b0.log (kept i ∷ b0.log) b0.cut b0.nodes board.rows new.rows places more rows all.1.1.each)
       (λ none. (empty none, rows ∙ none.1)) all
@@ -108,7 +105,7 @@ module _ {D : Type 0} (cells : D → Cells) where
   -- ---- a task that is taken
 
   pub take_path : (b0 b2 : Sheet) (places : List (Option (Place D))) (board new : Board) (p : Posted) (by : Option At) → b2.log ≡ kept (TaskOut p.line p.seg by (step_of p.kind)) ∷ b0.log → b2.nodes ≡ b0.nodes → b2.cut ≡ b0.cut
-      → board.posted ≡ p ∷ new.posted → new.rows ≡ board.rows → new.counts ≡ board.counts → AllShown b0 board places → AllShown b2 new places
+      → board.posted ≡ p ∷ new.posted → new.rows ≡ board.rows → new.counts ≡ board.counts → AllShown cells b0 board places → AllShown cells b2 new places
   take_path b0 b2 places board new p by log nodes cut first rows counts all =
       inside_path b0 b2 places board new i log nodes cut (λ at. refl) (λ n. same_inner b0.log i n refl) (λ seg inputs is. is) tasks rows
       (All-tail (λ (q : Posted). IsFitKind q.kind) p new.posted (subst (λ (l : List Posted). All (λ q. IsFitKind q.kind) l) first all.1.1.fit)) (λ none. none_left (sym first ∙ none.0)) all
