@@ -54,16 +54,16 @@ use Rattle.cluster_state.proofs.MergingStill.{alike_more, runs_same, primary_kee
 -- ---- the parts of what is true of a cluster
 
 -- what its nodes are, and their files
-pub two_parts : {X A B C : Type 0} → (X → A × (B × C)) → X → A × B
-two_parts all x = ((all x).0, (all x).1.0)
+pub two_parts : {X A B C : Type 0} → (X → A × B × C) → X → A × B
+two_parts all x = ((all x).0, (all x).1)
 
 -- these, and what is true of merges
-pub three_parts : {A B C : Type 0} → A × B → C → A × (B × C)
-three_parts both merges = (both.0, (both.1, merges))
+pub three_parts : {A B C : Type 0} → A × B → C → A × B × C
+three_parts both merges = (both.0, both.1, merges)
 
 -- what was true of merges of a cluster that ran
-pub third_at : {A B C : Type 0} {r : Run} {ended : Bool} {nodes : ℕ} {log : Log} {rest : Rest} → record { ended = ended; nodes = nodes; log = log; rest = rest } ≡ r → r.ended ≡ false → (ended ≡ false → A × (B × C)) → C
-third_at view running all = (all (ap (λ (x : Run). x.ended) view ∙ running)).1.1
+pub third_at : {A B C : Type 0} {r : Run} {ended : Bool} {nodes : ℕ} {log : Log} {rest : Rest} → record { ended = ended; nodes = nodes; log = log; rest = rest } ≡ r → r.ended ≡ false → (ended ≡ false → A × B × C) → C
+third_at view running all = (all (ap (λ (x : Run). x.ended) view ∙ running)).2
 
 -- an entry that moves no node and is no drain's reply leaves merges
 pub still_leaves : (e : Event) (p : Option NodeNo) → ((q : Option NodeNo) (m : ℕ) → moves e q m ≡ false) → is_drained e ≡ false → leaves_merges e p ≡ true

@@ -11,7 +11,7 @@ invariant_of-self-2 g c = λ running. (
       c.self.view_is c.requires.running (λ e. (c.self.invariant e).0) c.in_ok-reserve.ensures.log c.in_ok-reserve.ensures.nodes c.show.ensures.log c.show.ensures.nodes c.show.ensures.legal c.show.ensures.turns
       c.requires.rule c.requires.line c.requires.still c.requires.apart,
   files_noted g.D.Dir.cells c.args.self.now _ c.self.inside.ledger c.reserve.new.self c.show.new.self _ c.args.at c.args.event
-      c.self.view_is c.requires.running (λ e. (c.self.invariant e).0) (λ e. (c.self.invariant e).1.0) c.in_ok-reserve.ensures.log c.in_ok-reserve.ensures.nodes c.show.ensures.log c.show.ensures.nodes
+      c.self.view_is c.requires.running (λ e. (c.self.invariant e).0) (λ e. (c.self.invariant e).1) c.in_ok-reserve.ensures.log c.in_ok-reserve.ensures.nodes c.show.ensures.log c.show.ensures.nodes
       c.show.ensures.legal c.show.ensures.turns c.requires.rule c.requires.turn c.requires.jobs c.requires.commits c.requires.flights,
   (let was = third_at c.self.view_is c.requires.running c.self.invariant in
   stand_shown c.self.inside.tasks _ _ c.self.inside.ledger c.reserve.new.self c.show.new.self c.args.at c.args.event c.in_ok-reserve.ensures.log c.in_ok-reserve.ensures.nodes c.in_ok-reserve.ensures.cut
