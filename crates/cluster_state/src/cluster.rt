@@ -141,6 +141,7 @@ impl<D: FaultDir + Drop> ClusterState<D> {
         requires tickets { opens_ticket event ≡ false }
         requires drains { is_drained event ≡ false }
         ensures ok { OnOk result (IsNow self.old self.new (shown at event ∷ self.old.log)) }
+        ensures tasks { OnOk result (self.new.rest.tasks ≡ self.old.rest.tasks) }
         ensures err { OnErr result (IsEnded self.old self.new) }
     {
         self.ended = true;
