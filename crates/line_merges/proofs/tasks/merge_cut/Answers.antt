@@ -18,9 +18,11 @@ returns-then-not-is_copied-clause-ok g c =
 
 pub returns-then-is_some-clause-ok : goal.returns-then-is_some-clause-ok
 returns-then-is_some-clause-ok g c =
-    let tasks : c.state.inside.tasks ≡ c.args.state.now.rest.tasks = ap (λ (r : Run). r.rest.tasks) c.state.view_is in
-    (as_before c.args.state.now c.requires.running, ap (λ (b : Board). is_copied (spread_at (open_merge c.args.seg.0 b.rows))) (sym tasks) ∙ sym c.if-not-is_copied.ensures,
-    λ none. some_of c.publishing.result c.if-is_some.ensures (c.publishing.ensures ∙ ap (λ (l : Log). publish_in_flight (printed l)) c.book.ensures.log ∙ none))
+    let tasks : c.state.inside.tasks ≡ c.args.state.now.rest.tasks = ap (λ (r : Run). r.rest.tasks) c.state.view_is in (
+      as_before c.args.state.now c.requires.running,
+      ap (λ (b : Board). is_copied (spread_at (open_merge c.args.seg.0 b.rows))) (sym tasks) ∙ sym c.if-not-is_copied.ensures,
+      λ none. some_of c.publishing.result c.if-is_some.ensures (c.publishing.ensures ∙ ap (λ (l : Log). publish_in_flight (printed l)) c.book.ensures.log ∙ none),
+    )
 
 pub unreachable-requires : goal.unreachable-requires
 unreachable-requires g c =
