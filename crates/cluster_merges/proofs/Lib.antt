@@ -4,3 +4,4 @@ pub mod CopyRows
 pub mod TaskPaths
 pub mod BegunShows
 pub mod BegunStands
+pub mod StartPaths
