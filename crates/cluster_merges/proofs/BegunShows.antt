@@ -86,9 +86,6 @@ begun_writer past at seg infos segs documents was = record {
 }
 
 module _ {D : Type 0} (cells : D → Cells) (size : ℕ) (log : Log) (at : At) (seg : SegNo) (legal : IsLegalPast size (printed log)) (turns : AreInTurn (printed log)) (rule : KeepsRule size (printed log) at (MergingEvent seg)) (fresh : IsFresh at (printed log)) where
-  now : Log
-  now = shown at (MergingEvent seg) ∷ log
-
   line : publish_in_flight (printed log) ≢ Some at
   line = not_flying size (printed log) at legal turns (fresh_line (printed log) at fresh)
 
@@ -188,5 +185,5 @@ module _ {D : Type 0} (cells : D → Cells) (size : ℕ) (log : Log) (at : At) (
           (λ k. commits_shown (printed log) at k size (MergingEvent seg) legal turns rule (fresh_turn (printed log) at (MergingEvent seg) fresh tt) refl (fresh_flights size (printed log) at legal turns fresh.begun k))
           moves node there (begun_alone stays no_new draws) shows files)
         where
-          log' : Log
+          abbrev log' : Log
           log' = shown at (MergingEvent seg) ∷ log

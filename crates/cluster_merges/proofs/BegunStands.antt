@@ -122,10 +122,10 @@ module _ {D : Type 0} (cells : D → Cells) (size : ℕ) (log : Log) (cut : Bool
     (primary : is_at (primary_of (printed log)) n ≡ true) (others : (k : ℕ) → (n == k) ≡ false → is_at (primary_of (printed log)) k ≡ false)
     (rows : new_board.rows ≡ board.rows ++ record { seg = seg; line = at.line; spread = None } ∷ []) (posted : new_board.posted ≡ board.posted ++ posted_merge seg at.line (merge_task seg task.inputs) ∷ []) (counts : new_board.counts ≡ board.counts)
     (was : MergesStand log cut size board old) where
-  row : OpenMerge
+  abbrev row : OpenMerge
   row = record { seg = seg; line = at.line; spread = None }
 
-  now : Log
+  abbrev now : Log
   now = kept (MergeOut at.line seg task.inputs) ∷ shown at (MergingEvent seg) ∷ log
 
   unnoted : inputs_out seg.0 log ≡ None

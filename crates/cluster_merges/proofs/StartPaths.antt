@@ -133,10 +133,10 @@ module _ {D : Type 0} (cells : D → Cells) (r : Run) (old new : List (Option (P
   was : AllShown cells b0 board old
   was = all (ap (λ (x : Run). x.ended) view ∙ running)
 
-  q : PrimaryParts D
+  abbrev q : PrimaryParts D
   q = asked.at.parts
 
-  s : PrimaryParts D
+  abbrev s : PrimaryParts D
   s = asked.primary
 
   node0 : IsNode b0.nodes p.0
@@ -225,7 +225,7 @@ module _ {D : Type 0} (cells : D → Cells) (r : Run) (old new : List (Option (P
     module _ (b2 b3 : Sheet) (inputs : List Shown) (after : Board) (shared : inputs ≡ task.inputs) (e2 : b2.log ≡ shown at (MergingEvent task.seg) ∷ b1.log) (n2 : b2.nodes ≡ b1.nodes) (c2 : b2.cut ≡ b1.cut)
       (e3 : b3.log ≡ kept (MergeOut at.line task.seg inputs) ∷ b2.log) (n3 : b3.nodes ≡ b2.nodes) (c3 : b3.cut ≡ b2.cut)
       (rows : after.rows ≡ board.rows ++ record { seg = task.seg; line = at.line; spread = None } ∷ []) (posted : after.posted ≡ board.posted ++ posted_merge task.seg at.line task ∷ []) (counts : after.counts ≡ board.counts) where
-      now : Log
+      abbrev now : Log
       now = kept (MergeOut at.line task.seg task.inputs) ∷ shown at (MergingEvent task.seg) ∷ b0.log
 
       log_now : b3.log ≡ now
@@ -234,7 +234,7 @@ module _ {D : Type 0} (cells : D → Cells) (r : Run) (old new : List (Option (P
       told : after.posted ≡ board.posted ++ posted_merge task.seg at.line (merge_task task.seg task.inputs) ∷ []
       told = posted ∙ ap (λ (t : MergeTask). board.posted ++ posted_merge task.seg at.line t ∷ []) of
 
-      sheet : Sheet
+      abbrev sheet : Sheet
       sheet = record b0 { log = now }
 
       pub started_all : AllShown cells b3 after new
