@@ -3,7 +3,7 @@ use Rattle.std.proofs.Common.{◌≡◌, ◌≤◌, ◌<◌, ◌+◌, ◌++◌, 
 use Rattle.std.specs.Prelude.{IsSomeAnd}
 use Rattle.std.specs.List.{All}
 use Rattle.std.proofs.lemmas.List.Elements.{All-nil, All-cons, All-append}
-use Rattle.std.proofs.lemmas.Bool.Decides.{nat_tests}
+use Rattle.std.proofs.lemmas.Bool.{eqb-true}
 use Rattle.nrt_base.specs.declared.numbers.At.{At}
 use Rattle.nrt_base.specs.declared.numbers.LineNo.{LineNo}
 use Rattle.nrt_base.specs.declared.numbers.SegNo.{SegNo}
@@ -41,9 +41,6 @@ use Rattle.cluster_state.proofs.MergingStill.{node_stands, node_keeps}
 use Rattle.cluster_merges.proofs.StandSteps.{alike_copied, sent_still, spreads_with}
 use Rattle.cluster_merges.specs.Sending.{AllShown}
 use Rattle.cluster_merges.proofs.InsideSteps.{inside_all}
-
-number_is : (a b : ℕ) → (a == b) ≡ true → a ≡ b
-number_is a b e = grind (arith, nat_tests, e)
 
 -- a merge in flight whose files are written
 pub record IsSpreadRow (seg : ℕ) (rows : List OpenMerge) : Type 0 where
@@ -83,7 +80,7 @@ module _ (seg : ℕ) (rows : List OpenMerge) (z : IsSpreadRow seg rows) (t : Spr
       keeps seg' k s there sent =
           subst (λ (o : Option OpenMerge). IsSomeAnd (spread_at o) (λ u. (is_sent_in n k u.left ≡ true) × (u.state ≡ s.state))) (sym (open_with rows seg (Some t) z.row z.there seg'))
           (by_test (seg == seg') (λ b. (seg == seg') ≡ b → IsSomeAnd (spread_at (if b then Some (record z.row { spread = Some t }) else open_merge seg' rows)) (λ u. (is_sent_in n k u.left ≡ true) × (u.state ≡ s.state)))
-          (λ here e. let is : z.spread ≡ s = of_some s (sym (ap (λ (o : Option OpenMerge). spread_at o) (ap (λ (q : ℕ). open_merge q rows) (sym (number_is seg seg' e)) ∙ z.there)) ∙ there) in
+          (λ here e. let is : z.spread ≡ s = of_some s (sym (ap (λ (o : Option OpenMerge). spread_at o) (ap (λ (q : ℕ). open_merge q rows) (sym (eqb-true seg seg' e)) ∙ z.there)) ∙ there) in
           (more k (ap (λ (x : Spread). is_sent_in n k x.left) is ∙ sent), same ∙ ap (λ (x : Spread). x.state) is))
           (λ apart e. subst (λ (o : Option Spread). IsSomeAnd o (λ u. (is_sent_in n k u.left ≡ true) × (u.state ≡ s.state))) (sym there) (sent, refl))
           refl)

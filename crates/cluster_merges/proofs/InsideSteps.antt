@@ -1,13 +1,19 @@
 -- Entries of inner work of merges leave what is shown of nodes and of their files.
-use Rattle.std.proofs.Common.{◌≡◌, ℕ, Bool, List, [], ◌∷◌, None, Option, refl, ap, ◌∙◌, sym, subst, arith}
+use Rattle.std.proofs.Common.{◌≡◌, ◌≤◌, ℕ, Bool, List, [], ◌∷◌, Some, None, Option, refl, ap, ◌∙◌, sym, subst, arith}
 use Rattle.std.specs.Prelude.{IsSomeAnd}
 use Rattle.std.specs.List.{All}
 use Rattle.std.proofs.lemmas.List.Elements.{All-tail}
 use Rattle.nrt_base.specs.declared.numbers.At.{At}
 use Rattle.nrt_base.specs.declared.numbers.LineNo.{LineNo}
 use Rattle.nrt_base.specs.declared.numbers.NodeNo.{NodeNo}
+use Rattle.nrt_base.specs.declared.numbers.SegNo.{SegNo}
 use Rattle.disk_model.specs.Disk.{Name, Cells}
-use Rattle.history_entries.specs.Nodes.{IsNode}
+use Rattle.primary_parts.specs.declared.states.Out.{Out}
+use Rattle.history_entries.specs.Nodes.{IsNode, primary_of}
+use Rattle.history_tables.specs.declared.jobs.JobRow.{JobRow}
+use Rattle.history_tables.specs.declared.jobs.JobStep.TheVariants.{Passes}
+use Rattle.history_tables.specs.JobRows.{row_if_some, while_going}
+use Rattle.history_book.specs.Jobs.{last_job}
 use Rattle.history_book.specs.Log.{Log, printed, kept}
 use Rattle.history_book.specs.declared.inner.Inner.{Inner}
 use Rattle.history_book.specs.declared.inner.Inner.TheVariants.{JobBegun, FileOut, TaskOut}
@@ -16,10 +22,12 @@ use Rattle.cluster_tasks.specs.declared.tasks.OpenMerge.{OpenMerge}
 use Rattle.cluster_tasks.specs.declared.tasks.Posted.{Posted}
 use Rattle.cluster_tasks.specs.Board.{Board, open_merge, due_all, step_of, TasksShow, IsToldTask}
 use Rattle.cluster_tasks.proofs.BoardRows.{line_told}
-use Rattle.cluster_tasks.proofs.TaskFrames.{tasks_kept, tasks_on}
+use Rattle.cluster_tasks.proofs.TaskFrames.{tasks_kept, tasks_on, told_all}
 use Rattle.cluster_places.specs.declared.nodes.Place.{Place}
 use Rattle.cluster_places.specs.Places.{place_of}
 use Rattle.cluster_places.specs.Outs.{jobs_like}
+use Rattle.cluster_state.specs.State.{Shows}
+use Rattle.cluster_state.specs.Files.{FilesShow}
 use Rattle.cluster_state.specs.FileChanges.{SameJob}
 use Rattle.cluster_state.specs.Merging.{IsFitKind, NodeMerges, MergesStand}
 use Rattle.cluster_merges.specs.Sending.{AllShown}
@@ -29,13 +37,17 @@ use Rattle.cluster_state.proofs.Drawn.{grows_none}
 use Rattle.cluster_state.proofs.Frames.{some_then, now_is}
 use Rattle.cluster_state.proofs.FileFrames.{files_still, files_is}
 use Rattle.cluster_state.proofs.JobMoves.{IsOfJob, shows_kept}
-use Rattle.cluster_state.proofs.JobFrames.{same_inner}
+use Rattle.cluster_state.proofs.JobFrames.{same_inner, job_stays}
 use Rattle.cluster_state.proofs.MergingStill.{InputsStay, node_stands, node_keeps}
+
+passes : (o : Option JobRow) → row_if_some Passes o ≡ o
+passes None = refl
+passes (Some row) = refl
 
 -- the beginning of a copy of a merged segment is about no job of a point
 pub same_sent : (log : Log) (line : LineNo) (m : NodeNo) (k n : ℕ) → SameJob log (kept (JobBegun line m k None None) ∷ log) n
 same_sent log line m k n = record {
-  job = refl;
+  job = ap (while_going n (printed log)) (passes (last_job false n log));
   points = points_alone (printed log);
   latest = omega arith;
   version = refl;
@@ -47,7 +59,7 @@ same_sent log line m k n = record {
 -- nor is a file of one
 pub same_carried : (log : Log) (line : LineNo) (m : NodeNo) (k : ℕ) (name : Name) (bytes : List ℕ) (n : ℕ) → SameJob log (kept (FileOut line m k name bytes None) ∷ log) n
 same_carried log line m k name bytes n = record {
-  job = refl;
+  job = ap (while_going n (printed log)) (passes (last_job false n log));
   points = points_alone (printed log);
   latest = omega arith;
   version = refl;

@@ -105,7 +105,7 @@ module _ {D : Type 0} (cells : D → Cells) (places : List (Option (Place D))) (
       (record {
         tasks = tasks_drained b0.nodes b0.log board new at done most fresh is rows posted counts was.tasks;
         fit = subst (λ (l : List Posted). All (λ p. IsFitKind p.kind) l) (sym posted) was.fit;
-        each = each_still b0.log (shown at (Drained done most) ∷ b0.log) b0.cut b0.nodes board.rows new.rows places (λ seg inputs i. i) rows was.each;
+        each = each_still cells b0.log (shown at (Drained done most) ∷ b0.log) b0.cut b0.nodes board.rows new.rows places (λ seg inputs i. i) rows was.each;
         vacant = λ none. let empty = was.vacant none in (empty.0, (posted ∙ empty.1.0, rows ∙ empty.1.1));
       })
 
