@@ -5,3 +5,4 @@ pub mod TaskPaths
 pub mod BegunShows
 pub mod BegunStands
 pub mod StartPaths
+pub mod FilesMore
