@@ -1,5 +1,5 @@
 -- The primary wrote files that its point does not name: those of a merged segment, or its first live file.
-use Rattle.std.proofs.Common.{◌≡◌, ◌≤◌, ◌<◌, ◌==◌, inl, inr, nat_lt, ℕ, zero, suc, Bool, true, false, List, ◌∷◌, Some, None, Option, is_some, Vec, Global, refl, ap, ◌∙◌, sym, subst, arith, if◌then◌else◌}
+use Rattle.std.proofs.Common.{◌≡◌, ◌≤◌, ◌<◌, ◌==◌, inl, inr, nat_lt, ℕ, zero, suc, Bool, true, false, List, Some, None, Option, is_some, Vec, Global, refl, ap, ◌∙◌, sym, subst, arith, if◌then◌else◌}
 use Rattle.std.specs.Option.{option_or}
 use Rattle.std.proofs.lemmas.Bool.{lt-ltb}
 use Rattle.disk_model.specs.Disk.{Name, Content, Cells}
@@ -26,7 +26,7 @@ use Rattle.cluster_places.proofs.OutCounts.{jobs_same}
 use Rattle.cluster_state.specs.Disks.{IsPastPoint}
 use Rattle.cluster_state.specs.Names.{NamesShow}
 use Rattle.cluster_state.specs.State.{Shows}
-use Rattle.cluster_state.specs.Files.{NodeFiles, PrimaryFiles, FilesShow}
+use Rattle.cluster_state.specs.Files.{NodeFiles, FilesShow}
 use Rattle.cluster_state.proofs.Wider.{widened, widened_more, some_wider, point_wider, test_none}
 use Rattle.cluster_state.proofs.Drawn.{grows_none}
 use Rattle.cluster_state.proofs.Disks.{commits_alone, disk_moved, disk_same, disks_kept}

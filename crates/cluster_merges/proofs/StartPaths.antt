@@ -59,6 +59,7 @@ use Rattle.cluster_merges.specs.Sending.{AllShown}
 use Rattle.cluster_merges.proofs.BegunShows.{HasStarted, begun_shows, begun_files}
 use Rattle.cluster_merges.proofs.BegunStands.{begun_stands}
 use Rattle.cluster_merges.proofs.InsideSteps.{all_is}
+use Rattle.cluster_merges.proofs.TaskPaths.{as_before}
 
 -- ---- the sizes that are told are those of the primary
 
@@ -126,6 +127,13 @@ module _ {D : Type 0} (cells : D → Cells) where
 
 -- ---- the call
 
+module _ {D : Type 0} (cells : D → Cells) where
+  pub has_primary_at : (r : Run) (b : Sheet) (places : List (Option (Place D))) (p : NodeNo) {ended : Bool} {left : Rest} → record { ended = ended; nodes = b.nodes; log = b.log; rest = left } ≡ r → r.ended ≡ false → (ended ≡ false → Shows cells b.log b.nodes places)
+      → IsNode r.nodes p.0 → primary_of (printed r.log) ≡ Some p → HasPrimary (place_of places p.0)
+  has_primary_at r b places p view running shows node primary =
+      primary_in_place cells b.log b.nodes p.0 places (ap (λ (o : Option NodeNo). is_at o p.0) (ap (λ (x : Run). primary_of (printed x.log)) view ∙ primary) ∙ eq-eqb p.0 p.0 refl)
+      (subst (λ (k : ℕ). IsNode k p.0) (sym (ap (λ (x : Run). x.nodes) view)) node) (shows (ap (λ (x : Run). x.ended) view ∙ running))
+
 module _ {D : Type 0} (cells : D → Cells) (r : Run) (old new : List (Option (Place D))) (b0 b1 : Sheet) (board : Board) (at : At) (p : NodeNo) (factor : ℕ) (result : Result (Option MergeTask) PublishFault) {ended cut : Bool} {calls : List ℕ}
   (view : record { ended = ended; nodes = b0.nodes; log = b0.log; rest = record { calls_left = calls; cut = cut; sizes = sizes_in old; tasks = board } } ≡ r) (running : r.ended ≡ false) (all : ended ≡ false → AllShown cells b0 board old)
   (e1 : b1.log ≡ b0.log) (n1 : b1.nodes ≡ b0.nodes) (c1 : b1.cut ≡ b0.cut) (legal : IsLegalPast b0.nodes (printed b0.log)) (turns : AreInTurn (printed b0.log)) (fresh : IsFresh at (printed b0.log)) (node : IsNode r.nodes p.0) (primary : primary_of (printed r.log) ≡ Some p)
@@ -177,14 +185,38 @@ module _ {D : Type 0} (cells : D → Cells) (r : Run) (old new : List (Option (P
           (λ jobs count low. primary_keeps jobs count q s (ap (λ (z : PrimaryParts D). z.merges) same) (ap (λ (z : PrimaryParts D). z.has_cut_over) same) (ap (λ (z : PrimaryParts D). z.states) same) low) was.2) was.2,
     )
 
-  pub no_range : HasNoRange factor (merge_sizes q) → HasNoRange factor r.rest.sizes
+  -- what was answered
+  answered : (x : Result (Option MergeTask) PublishFault) → result ≡ x → AnswersMerge factor q s x
+  answered x is = subst (λ (y : Result (Option MergeTask) PublishFault). AnswersMerge factor q s y) is asked.step.answers
+
+  pub not_many : (fault : PublishFault) → result ≡ Err fault → fault ≢ TooManySegments
+  not_many fault is many = answered (Err TooManySegments) (is ∙ ap Err many)
+
+  pub none_all : result ≡ Ok None → AllShown cells b1 board new
+  none_all is = unasked_all (answered (Ok None) is).1
+
+  pub spent_all : (fault : PublishFault) → result ≡ Err fault → fault ≡ Spent → AllShown cells b1 board new
+  spent_all fault is spent = unasked_all (answered (Err Spent) (is ∙ ap Err spent)).2
+
+  no_range : HasNoRange factor (merge_sizes q) → HasNoRange factor r.rest.sizes
   no_range none = subst (λ (l : List (Option ℕ)). HasNoRange factor l) (sym sizes) none
 
-  pub some_range : ((from : ℕ) × IsFirstRange factor (merge_sizes q) from) → (from : ℕ) × IsFirstRange factor r.rest.sizes from
+  some_range : ((from : ℕ) × IsFirstRange factor (merge_sizes q) from) → (from : ℕ) × IsFirstRange factor r.rest.sizes from
   some_range is = (is.0, subst (λ (l : List (Option ℕ)). IsFirstRange factor l is.0) (sym sizes) is.1)
 
-  pub all_drawn : q.infos.counter ≡ segments_of_generation → names_drawn (printed r.log) ≡ segments_of_generation
+  all_drawn : q.infos.counter ≡ segments_of_generation → names_drawn (printed r.log) ≡ segments_of_generation
   all_drawn full = sym (ap (λ (x : Run). names_drawn (printed x.log)) view) ∙ (sym shows.writer.counter ∙ full)
+
+  pub none_starts : result ≡ Ok None → {calls1 : List ℕ} {cut1 : Bool} {sizes1 : List (Option ℕ)}
+      → StartsMergeFor at factor r (record { ended = false; nodes = b1.nodes; log = b1.log; rest = record { calls_left = calls1; cut = cut1; sizes = sizes1; tasks = board } }) (Some Nothing)
+  none_starts is {calls1} {cut1} {sizes1} = (as_before r b0 b1 board view e1 n1 board calls1 cut1 sizes1 refl refl, no_range (answered (Ok None) is).0)
+
+  pub spent_starts : (fault : PublishFault) (cause : Cause) → result ≡ Err fault → fault ≡ Spent → cause ≡ NamesSpent → {calls1 : List ℕ} {cut1 : Bool} {sizes1 : List (Option ℕ)}
+      → StartsMergeFor at factor r (record { ended = false; nodes = b1.nodes; log = b1.log; rest = record { calls_left = calls1; cut = cut1; sizes = sizes1; tasks = board } }) (Some cause)
+  spent_starts fault cause is spent named {calls1} {cut1} {sizes1} =
+      let all = answered (Err Spent) (is ∙ ap Err spent) in
+      subst (λ (c : Cause). StartsMergeFor at factor r (record { ended = false; nodes = b1.nodes; log = b1.log; rest = record { calls_left = calls1; cut = cut1; sizes = sizes1; tasks = board } }) (Some c)) (sym named)
+      (as_before r b0 b1 board view e1 n1 board calls1 cut1 sizes1 refl refl, some_range all.0, all_drawn all.1)
 
   -- ---- a merge starts
 
