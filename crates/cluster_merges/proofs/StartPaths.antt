@@ -1,5 +1,5 @@
 -- A merge that starts, and one that does not, in the terms of the call.
-use Rattle.std.proofs.Common.{◌≡◌, ◌≢◌, ◌≤◌, ◌<◌, ◌+◌, ◌==◌, ◌++◌, ℕ, zero, suc, Bool, true, false, true≢false, List, [], ◌∷◌, map, length, Some, None, Option, Ok, Result, Vec, Global, slice_get, refl, ap, ◌∙◌, sym, subst, arith}
+use Rattle.std.proofs.Common.{◌≡◌, ◌≢◌, ◌≤◌, ◌<◌, ◌+◌, ◌==◌, ◌++◌, ℕ, zero, suc, Bool, true, false, true≢false, List, [], ◌∷◌, map, length, Some, None, Option, Ok, Err, Result, Vec, Global, slice_get, refl, ap, ◌∙◌, sym, subst, arith}
 use Rattle.std.specs.Prelude.{IsSomeAnd, IfSome, ⊤}
 use Rattle.std.specs.Result.{IfOk}
 use Rattle.std.proofs.lemmas.Bool.{eq-eqb}
@@ -15,6 +15,8 @@ use Rattle.seg_merge.specs.declared.task.MergeTask.{MergeTask}
 use Rattle.merge_choice.specs.Choice.{IsFirstRange, HasNoRange}
 use Rattle.script_serving.specs.Refusals.{put_publishes}
 use Rattle.segment_steps.specs.Starting.{size_by}
+use Rattle.history_entries.specs.declared.cause.Cause.{Cause}
+use Rattle.history_entries.specs.declared.cause.Cause.TheVariants.{Nothing, NamesSpent}
 use Rattle.history_entries.specs.declared.entry.Event.TheVariants.{Merging as MergingEvent}
 use Rattle.history_entries.specs.Nodes.{IsNode, is_at, primary_of}
 use Rattle.history_entries.specs.Points.{names_drawn}
@@ -27,6 +29,7 @@ use Rattle.history_book.specs.Turns.{AreInTurn}
 use Rattle.history_merges.specs.Merging.{Sheet, next_name}
 use Rattle.primary_parts.specs.declared.parts.Parts.{Parts as PrimaryParts}
 use Rattle.primary_parts.specs.declared.parts.PublishFault.{PublishFault}
+use Rattle.primary_parts.specs.declared.parts.PublishFault.TheVariants.{NamesSpent as Spent, TooManySegments}
 use Rattle.primary_parts.specs.Cut.{infos_drawn}
 use Rattle.primary_parts.specs.Held.{drawn_to}
 use Rattle.primary_parts.specs.Merges.{merge_inputs}
@@ -54,7 +57,7 @@ use Rattle.cluster_state.proofs.Naming.{holds_same}
 use Rattle.cluster_state.proofs.MergingStill.{primary_keeps, one_keeps, stand_same}
 use Rattle.node_merges.specs.MergeChanges.{AsksMerge}
 use Rattle.node_merges.specs.MergePlaces.{MovesPrimary}
-use Rattle.cluster_merges.specs.MergePaths.{BeginsMerge}
+use Rattle.cluster_merges.specs.MergePaths.{BeginsMerge, StartsMergeFor}
 use Rattle.cluster_merges.specs.Sending.{AllShown}
 use Rattle.cluster_merges.proofs.BegunShows.{HasStarted, begun_shows, begun_files}
 use Rattle.cluster_merges.proofs.BegunStands.{begun_stands}
