@@ -4,3 +4,5 @@ pub mod CopyRows
 pub mod TaskPaths
 pub mod BegunShows
 pub mod BegunStands
+pub mod StartPaths
+pub mod FilesMore
