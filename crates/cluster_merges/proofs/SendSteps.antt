@@ -1,7 +1,7 @@
 -- A copy of a merged segment that began at a replica: what is shown of nodes, of files and of merges is shown still.
-use Rattle.std.proofs.Common.{◌≡◌, ◌⊎◌, inl, inr, ◌≤◌, ◌<◌, ◌+◌, ◌==◌, ◌||◌, ◌&&◌, ℕ, Bool, true, false, true≢false, List, [], ◌∷◌, ◌++◌, Some, None, Option, Vec, Global, refl, ap, ◌∙◌, sym, subst, arith, if◌then◌else◌, nat_lt}
+use Rattle.std.proofs.Common.{◌≡◌, ◌⊎◌, inl, inr, ◌≤◌, ◌+◌, ◌==◌, ◌||◌, ◌&&◌, ℕ, Bool, true, false, true≢false, List, [], ◌∷◌, ◌++◌, Some, None, Option, Vec, Global, refl, ap, ◌∙◌, sym, subst, arith, nat_lt}
 use Rattle.std.specs.Prelude.{IsSomeAnd}
-use Rattle.std.specs.List.{All, Contains, list_any}
+use Rattle.std.specs.List.{All, Contains}
 use Rattle.std.proofs.lemmas.Bool.{eqb-true, eq-eqb}
 use Rattle.nrt_base.specs.declared.numbers.Gen.{Gen}
 use Rattle.nrt_base.specs.declared.numbers.LineNo.{LineNo}
@@ -9,7 +9,6 @@ use Rattle.nrt_base.specs.declared.numbers.NodeNo.{NodeNo}
 use Rattle.nrt_base.specs.declared.numbers.SegNo.{SegNo}
 use Rattle.disk_model.specs.Disk.{Name, Content, Cells}
 use Rattle.node_files.proofs.Appearing.{only_none}
-use Rattle.file_deleter.specs.Holdings.{Holdings}
 use Rattle.copy_state.specs.declared.state.CopyState.{CopyState}
 use Rattle.copy_job.specs.Jobs.{Job}
 use Rattle.segment_infos.specs.declared.infos.Infos.{Infos}
@@ -22,8 +21,7 @@ use Rattle.replica_parts.specs.declared.parts.Parts.{Parts as ReplicaParts}
 use Rattle.replica_parts.specs.declared.merges.MergeCopies.{MergeCopies}
 use Rattle.replica_parts.specs.Merges.{copy_at, copies_seen, no_copies}
 use Rattle.replica_parts.specs.Jobs.{merge_job_on}
-use Rattle.history_entries.specs.Nodes.{IsNode, is_at, primary_of, generation_of, version_of}
-use Rattle.history_tables.proofs.RowLemmas.{by_test}
+use Rattle.history_entries.specs.Nodes.{IsNode, generation_of, version_of}
 use Rattle.history_book.specs.Log.{Log, printed, kept}
 use Rattle.history_book.specs.Jobs.{job_at}
 use Rattle.history_book.specs.declared.inner.Inner.{Inner}
@@ -45,15 +43,14 @@ use Rattle.cluster_places.specs.Outs.{want_of, jobs_like}
 use Rattle.cluster_places.specs.JobPlaces.{MovesOne}
 use Rattle.cluster_places.proofs.OutCounts.{jobs_same}
 use Rattle.node_merges.specs.MergeChanges.{SendsMerged}
-use Rattle.cluster_state.specs.State.{IsPointAt, HoldsTickets, ReplicaShows, PlaceShows, Shows}
+use Rattle.cluster_state.specs.State.{IsPointAt, HoldsTickets, PlaceShows, Shows}
 use Rattle.cluster_state.specs.Files.{JobShows, ReplicaFiles, NodeFiles, FilesShow}
-use Rattle.cluster_state.specs.Names.{NamesShow}
 use Rattle.cluster_state.specs.Disks.{IsPastPoint}
 use Rattle.cluster_state.specs.Merging.{IsFitKind, IsSentCopy, AreSentCopies, NodeMerges, MergesStand}
 use Rattle.cluster_state.proofs.Disks.{commits_alone, disk_moved, disk_same, disks_kept}
 use Rattle.cluster_state.proofs.Drawn.{grows_none}
 use Rattle.cluster_state.proofs.Frames.{now_is, some_at}
-use Rattle.cluster_state.proofs.FileFrames.{Both, both_of, some_both, one_each, names_one, node_files, wants_same, files_still, files_is}
+use Rattle.cluster_state.proofs.FileFrames.{Both, both_of, one_each, names_one, node_files, wants_same, files_still, files_is}
 use Rattle.cluster_state.proofs.JobFrames.{job_stays}
 use Rattle.cluster_state.proofs.JobMoves.{shows_kept}
 use Rattle.cluster_state.proofs.MergingStill.{node_stands, node_keeps}
