@@ -1,6 +1,6 @@
 -- A copy of a merged segment that began at a replica: what is shown of nodes, of files and of merges is shown still.
 use Rattle.std.proofs.Common.{◌≡◌, ◌⊎◌, inl, inr, ◌≤◌, ◌+◌, ◌==◌, ◌||◌, ◌&&◌, ℕ, Bool, true, false, true≢false, List, [], ◌∷◌, ◌++◌, Some, None, Option, Vec, Global, refl, ap, ◌∙◌, sym, subst, arith, nat_lt, if◌then◌else◌}
-use Rattle.std.specs.Prelude.{IsSomeAnd}
+use Rattle.std.specs.Prelude.{IsSome, IsSomeAnd}
 use Rattle.std.specs.List.{All, Contains}
 use Rattle.std.proofs.lemmas.Bool.{eqb-true, eq-eqb}
 use Rattle.nrt_base.specs.declared.numbers.Gen.{Gen}
@@ -59,6 +59,10 @@ use Rattle.cluster_state.proofs.Points.{points_alone}
 use Rattle.cluster_merges.specs.Sending.{AllShown}
 use Rattle.cluster_merges.proofs.CopyRows.{IsSpreadRow, spread_row, node_copied}
 use Rattle.cluster_merges.proofs.InsideSteps.{same_sent}
+
+pub some_of : {A : Type 0} {P : A → Type 0} (o : Option A) → IsSomeAnd o P → IsSome o
+some_of None none = absurd none
+some_of (Some x) is = refl
 
 -- a copy that is the last of a list, or one before it
 last_or : (xs : List Job) (j : Job) (k : ℕ) (c : Job) → copy_at k (xs ++ j ∷ []) ≡ Some c → (copy_at k xs ≡ Some c) ⊎ ((j.number ≡ k) × (j ≡ c))
