@@ -6,3 +6,6 @@ pub mod BegunShows
 pub mod BegunStands
 pub mod StartPaths
 pub mod FilesMore
+pub mod ReadyFiles
+pub mod WrittenStand
+pub mod SendSteps
