@@ -76,7 +76,7 @@ use Rattle.cluster_state.specs.FileChanges.{SameJob}
 use Rattle.cluster_state.specs.Names.{NamesShow}
 use Rattle.cluster_state.specs.Disks.{IsPastPoint, MayFindPoint, LastShows, StageShows, BookShows, DirShows, DiskShows, DisksShow, PointsStay, CommitsStay}
 use Rattle.cluster_state.proofs.Growing.{lasts, same, fewer, not_flying}
-use Rattle.cluster_state.specs.Run.{Run}
+use Rattle.cluster_state.specs.Run.{Rest, Run}
 use Rattle.cluster_state.proofs.Frames.{some_at, some_then, place_same, was, now_is}
 use Rattle.cluster_state.proofs.JobFrames.{begun_still}
 use Rattle.cluster_state.proofs.Drawn.{Grows, grows_shown}
@@ -551,13 +551,13 @@ module _ {D : Type 0} (cells : D → Cells) where
           mine has = some_at (λ z. elim z.node [ Primary k ↦ is_out s k.states ≡ true | Replica r ↦ ⊥ | Down d ↦ ⊥ ]) (place_of places p.0) (record { node = Primary q; held = held }) there
               (subst (λ (o : Option (Place D)). IsSomeAnd o (λ z. elim z.node [ Primary k ↦ is_out s k.states ≡ true | Replica r ↦ ⊥ | Down d ↦ ⊥ ])) (sym here.at.there) has)
 
-  pub can_end : (r : Run) (ended : Bool) (b : Sheet) (places : List (Option (Place D))) (primary : Option NodeNo) (n : NodeNo) → {left : List ℕ} → record { ended = ended; nodes = b.nodes; log = b.log; calls_left = left } ≡ r → r.ended ≡ false
+  pub can_end : (r : Run) (ended : Bool) (b : Sheet) (places : List (Option (Place D))) (primary : Option NodeNo) (n : NodeNo) → {left : Rest} → record { ended = ended; nodes = b.nodes; log = b.log; rest = left } ≡ r → r.ended ≡ false
       → (ended ≡ false → Shows cells b.log b.nodes places × FilesShow cells b.log b.nodes places) → primary ≡ primary_of (printed r.log) → IfSome primary (λ p. IsNode r.nodes p.0) → IsNode r.nodes n.0 → CanEnd primary n.0 places
   can_end r ended b places None n view running pair is reigns node = tt
   can_end r ended b places (Some p) n view running pair is reigns node =
       can_take_back r.log r.nodes places p n (was cells r ended b.nodes b.log places view running (λ e. (pair e).0)) (files_was cells r ended b.nodes b.log places view running (λ e. (pair e).1)) (sym is) reigns node
 
-  pub crash_path : (r : Run) (ended : Bool) (b0 b1 b2 : Sheet) (old new : List (Option (Place D))) (at : At) (n : NodeNo) (reigning : Option NodeNo) → {left : List ℕ} → record { ended = ended; nodes = b0.nodes; log = b0.log; calls_left = left } ≡ r → r.ended ≡ false
+  pub crash_path : (r : Run) (ended : Bool) (b0 b1 b2 : Sheet) (old new : List (Option (Place D))) (at : At) (n : NodeNo) (reigning : Option NodeNo) → {left : Rest} → record { ended = ended; nodes = b0.nodes; log = b0.log; rest = left } ≡ r → r.ended ≡ false
       → (ended ≡ false → Shows cells b0.log b0.nodes old × FilesShow cells b0.log b0.nodes old) → b1.log ≡ b0.log → b1.nodes ≡ b0.nodes → b2.log ≡ shown at (Crashed n) ∷ b1.log → b2.nodes ≡ b1.nodes
       → IsLegalPast b1.nodes (printed b1.log) → AreInTurn (printed b1.log) → FilesLast → ((m : ℕ) → primary_of (printed b2.log) ≡ None → job_at m b2.log ≡ None) → IsFresh at (printed b0.log) → IsNode r.nodes n.0
       → is_running n.0 (printed r.log) ≡ true → reigning ≡ primary_of (printed r.log) → CrashesIn cells reigning n.0 old new → Shows cells b2.log b2.nodes new × FilesShow cells b2.log b2.nodes new
