@@ -1,1 +1,2 @@
 pub mod MergePaths
+pub mod Sending

@@ -83,15 +83,6 @@ pub record IsMergedOut (log : Log) (seg : SegNo) (merged : Merged) : Type 0 wher
   pub out : inputs_out seg.0 log ≡ Some inputs
   pub of : IsMergedOf (merge_task seg inputs) merged
 
--- the files of a merge are written, and no copy of them has begun
-pub record IsWritten (seg : SegNo) (old new : Run) : Type 0 where
-  pub state : CopyState
-  pub writes : IsBoard old new old.log (with_spread seg.0 (Some (record { state = state; left = []; all = false })) old.rest.tasks.rows) old.rest.tasks.posted
-
--- a merge is written, its copies begin, and none to this node has begun
-abbrev pub IsSending : SegNo → ℕ → Board → Type 0
-IsSending seg n board = IsSomeAnd (spread_at (open_merge seg.0 board.rows)) (λ s. (s.all ≡ false) × All (λ one. one.node.0 ≢ n) s.left)
-
 -- the copies of a merged segment begin, in order
 abbrev pub begun_log : LineNo → List Sent → Log → Log
 begun_log line [] log = log

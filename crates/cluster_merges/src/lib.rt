@@ -9,4 +9,4 @@ mod writes;
 pub use cuts::cut_merge;
 pub use drains::note_drained;
 pub use starts::{start_merge, take_task};
-pub use writes::{post_copies, send_merge, write_merge};
+pub use writes::ready_merge;

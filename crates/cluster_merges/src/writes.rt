@@ -1,18 +1,25 @@
 //! A merged segment that is written, and copied to replicas.
 
-ghost use Rattle.std.specs.Prelude.{◌≡◌, ◌<◌, ◌∷◌, ◌++◌, [], true, false, None, Some, length, IsSomeAnd, IfOk, OnOk, OnErr};
+ghost use Rattle.std.specs.Prelude.{◌≡◌, ◌≢◌, ◌==◌, ◌∷◌, ◌++◌, [], true, false, Some, IfOk, OnOk, OnErr, map};
+ghost use Rattle.std.specs.List.{All, AllPairs};
+ghost use Rattle.copy_state.specs.States.{IsCopyState};
 ghost use Rattle.history_entries.specs.Nodes.{IsNode, IsReplica, primary_of};
 ghost use Rattle.history_book.specs.Log.{printed, kept};
-ghost use Rattle.history_book.specs.declared.inner.Inner.TheVariants.{JobBegun, TaskEnd};
-ghost use Rattle.history_book.specs.declared.inner.Step.TheVariants.{Merge as MergeStep};
-ghost use Rattle.copy_state.specs.declared.state.CopyState.{CopyState};
-ghost use Rattle.cluster_tasks.specs.Board.{open_merge, spread_at, with_spread, is_unwritten, sent_more, all_sent, left_at, posts_of, post_after};
+ghost use Rattle.history_book.specs.declared.inner.Inner.TheVariants.{JobBegun};
+ghost use Rattle.cluster_places.specs.Places.{place_of};
+ghost use Rattle.cluster_tasks.specs.Board.{open_merge, spread_at, with_spread, is_unwritten, sent_more};
 ghost use Rattle.cluster_state.specs.Run.{IsEnded};
-ghost use Rattle.cluster_merges.specs.MergePaths.{IsBoard, IsMergedOut, IsWritten, IsSending};
+ghost use Rattle.cluster_merges.specs.MergePaths.{IsMergedOut, WritesMerge};
+ghost use Rattle.cluster_merges.specs.Sending.{AllShown, IsSending, MaySendTo, SendsOn};
 
+use cluster_copies::replicas;
+use cluster_places::Place;
 use cluster_state::ClusterState;
+use cluster_tasks::Tasks;
+use copy_state::CopyState;
 use disk_model::FaultDir;
 use history_book::{Inner, Step};
+use history_merges::Ledger;
 use node_jobs::share_state;
 use node_merges::{ready_in, send_in};
 use nrt_base::{At, LineNo, NoMemory, NodeNo, SegNo};
@@ -20,13 +27,63 @@ use replica_node::laws::files_last;
 use seg_merge::Merged;
 use std::alloc::Global;
 
-/// Writes the files of a merge of which none is written. No copy of it has begun. `Err` is want of memory, or a disk that failed: the
-/// cluster has ended, and the history is as before.
-pub fn write_merge<D: FaultDir + Drop>(
+// Begins a copy of a merge that is written to a replica that may have it. What is true of a cluster that runs is true again.
+fn send_one<D: FaultDir + Drop>(
+    alloc: Global,
+    ledger: &mut Ledger,
+    tasks: &mut Tasks,
+    places: &mut Vec<Option<Place<D>>>,
+    line: LineNo,
+    seg: SegNo,
+    state: &CopyState,
+    n: NodeNo,
+) -> Result<(), NoMemory>
+    requires shown { AllShown D.cells ledger.old tasks.old places.old.items }
+    requires sending { IsSending seg.0 state.now (printed ledger.old.log) n.0 tasks.old }
+    requires may { MaySendTo state.now (printed ledger.old.log) ledger.old.nodes n.0 places.old.items }
+    ensures { OnOk result (SendsOn D.cells line seg state.now n ledger.old ledger.new
+        tasks.old tasks.new places.old.items places.new.items) }
+{
+    ledger.reserve(1)?;
+    let job = send_in(alloc, places, n, state)?;
+    tasks.send(seg, n, job)?;
+    ledger.keep(Inner::JobBegun {
+        line,
+        node: n,
+        job,
+        version: None,
+        by: None,
+    });
+    Ok(())
+}
+
+// Begins a copy of a merge that is written to each of these replicas.
+fn send_all<D: FaultDir + Drop>(
+    alloc: Global,
+    ledger: &mut Ledger,
+    tasks: &mut Tasks,
+    places: &mut Vec<Option<Place<D>>>,
+    line: LineNo,
+    seg: SegNo,
+    state: &CopyState,
+    nodes: &[NodeNo],
+) -> Result<(), NoMemory> {
+    for n in nodes {
+        send_one(alloc, ledger, tasks, places, line, seg, state, *n)?;
+    }
+    Ok(())
+}
+
+/// Writes the files of a merge of which none is written, and begins a copy of them to each replica that runs: the task to build its segment
+/// ends, and a task is posted for each copy, or, where there is none, the one to cut over. `Err` is want of memory, or a disk that
+/// failed: the cluster has ended, and the history is as before.
+pub fn ready_merge<D: FaultDir + Drop>(
     alloc: Global,
     cluster: &mut ClusterState<D>,
     p: NodeNo,
+    line: LineNo,
     seg: SegNo,
+    by: Option<At>,
     merged: Merged,
 ) -> Result<(), NoMemory>
     requires running { cluster.old.ended ≡ false }
@@ -34,77 +91,25 @@ pub fn write_merge<D: FaultDir + Drop>(
     requires primary { primary_of (printed cluster.old.log) ≡ Some p }
     requires unwritten { is_unwritten (open_merge seg.0 cluster.old.rest.tasks.rows) ≡ true }
     requires merged { IsMergedOut cluster.old.log seg merged }
-    ensures ok { OnOk result (IsWritten seg cluster.old cluster.new) }
+    ensures ok { OnOk result (WritesMerge line seg by cluster.old cluster.new) }
     ensures err { OnErr result (IsEnded cluster.old cluster.new) }
 {
     files_last();
     cluster.ended = true;
+    let nodes = replicas(alloc, cluster.ledger.book())?;
     let state = ready_in(alloc, &mut cluster.places, p, merged)?;
+    let copy = share_state(alloc, &state)?;
     cluster.tasks.write(alloc, seg, state);
-    cluster.ended = false;
-    Ok(())
-}
-
-/// Begins a copy of a merge that is written to a replica. `Err` is want of memory, or of a number below 2^63: the cluster has ended,
-/// and the history is as before.
-pub fn send_merge<D: FaultDir + Drop>(
-    alloc: Global,
-    cluster: &mut ClusterState<D>,
-    line: LineNo,
-    seg: SegNo,
-    n: NodeNo,
-) -> Result<u64, NoMemory>
-    requires running { cluster.old.ended ≡ false }
-    requires node { IsNode cluster.old.nodes n.0 }
-    requires replica { IsReplica (printed cluster.old.log) n.0 }
-    requires sending { IsSending seg n.0 cluster.old.rest.tasks }
-    ensures ok { IfOk result (λ job. IsBoard cluster.old cluster.new
-        (kept (JobBegun line n job None None) ∷ cluster.old.log)
-        (with_spread seg.0 (sent_more n job (spread_at (open_merge seg.0 cluster.old.rest.tasks.rows)))
-        cluster.old.rest.tasks.rows) cluster.old.rest.tasks.posted) }
-    ensures err { OnErr result (IsEnded cluster.old cluster.new) }
-{
-    files_last();
-    cluster.ended = true;
-    cluster.ledger.reserve(1)?;
-    let state = match cluster.tasks.state(seg) {
-        Some(state) => share_state(alloc, state)?,
-        None => unreachable!(),
-    };
-    let job = send_in(alloc, &mut cluster.places, n, &state)?;
-    cluster.tasks.send(seg, n, job)?;
-    cluster.ledger.keep(Inner::JobBegun {
+    send_all(
+        alloc,
+        &mut cluster.ledger,
+        &mut cluster.tasks,
+        &mut cluster.places,
         line,
-        node: n,
-        job,
-        version: None,
-        by: None,
-    });
-    cluster.ended = false;
-    Ok(job)
-}
-
-/// A copy of a merge that is written has begun to each replica: the task to build its segment ends, and a task is posted for each copy,
-/// or, where there is none, the one to cut over.
-pub fn post_copies<D: FaultDir + Drop>(
-    cluster: &mut ClusterState<D>,
-    line: LineNo,
-    seg: SegNo,
-    by: Option<At>,
-) -> Result<(), NoMemory>
-    requires running { cluster.old.ended ≡ false }
-    requires written { IsSomeAnd (spread_at (open_merge seg.0 cluster.old.rest.tasks.rows))
-        (λ s. (s.all ≡ false) × (length s.left < cluster.old.nodes)) }
-    ensures ok { OnOk result (IsBoard cluster.old cluster.new
-        (kept (TaskEnd line seg by MergeStep true) ∷ cluster.old.log)
-        (with_spread seg.0 (all_sent (spread_at (open_merge seg.0 cluster.old.rest.tasks.rows)))
-        cluster.old.rest.tasks.rows)
-        ((cluster.old.rest.tasks.posted ++ posts_of seg line
-        (left_at (spread_at (open_merge seg.0 cluster.old.rest.tasks.rows))))
-        ++ post_after seg line (left_at (spread_at (open_merge seg.0 cluster.old.rest.tasks.rows))))) }
-    ensures err { OnErr result (IsEnded cluster.old cluster.new) }
-{
-    cluster.ended = true;
+        seg,
+        &copy,
+        nodes.as_slice(),
+    )?;
     cluster.ledger.reserve(1)?;
     cluster.tasks.post(seg, line)?;
     cluster.tasks.count(by)?;

@@ -32,6 +32,7 @@ tasks_none size = record {
   lines = λ seg. refl;
   posted = All-nil (IsToldTask []);
   noted = λ seg some. absurd (some refl);
+  low = tt;
   paid = omega arith;
   drains = λ lines none. omega arith;
   counts = λ at none. refl;

@@ -11,8 +11,7 @@ ghost use Rattle.cluster_state.specs.Run.{IsEnded};
 ghost use Rattle.cluster_merges.specs.MergePaths.{IsMergedOut, EndsBuild, TakesTask};
 ghost use Rattle.line_merges.specs.TaskCalls.{MergeLine, PrecopyTurns, PartTurns, CutTurns};
 
-use cluster_copies::replicas;
-use cluster_merges::{cut_merge, post_copies, send_merge, start_merge, take_task, write_merge};
+use cluster_merges::{cut_merge, ready_merge, start_merge, take_task};
 use cluster_places::FileTask;
 use cluster_precopies::{CopyTurn, next_merged, take_merged};
 use cluster_state::ClusterState;
@@ -59,26 +58,6 @@ pub fn task_take<D: FaultDir + Drop>(
     take_task(state, by)
 }
 
-// Begins a copy of a merge that is written to each replica that runs.
-fn send_all<D: FaultDir + Drop>(
-    state: &mut ClusterState<D>,
-    alloc: Global,
-    line: LineNo,
-    seg: SegNo,
-) -> Result<(), NoMemory> {
-    let nodes = match replicas(alloc, state.book()) {
-        Ok(nodes) => nodes,
-        Err(fault) => {
-            state.end();
-            return Err(fault);
-        }
-    };
-    for n in nodes.as_slice() {
-        send_merge(alloc, state, line, seg, *n)?;
-    }
-    Ok(())
-}
-
 /// Writes the merged segment of a merge of which nothing is written, and begins a copy of it to each replica that runs. Else the task has
 /// ended, and nothing changes.
 pub fn merge_ready<D: FaultDir + Drop>(
@@ -101,9 +80,7 @@ pub fn merge_ready<D: FaultDir + Drop>(
     let Some(p) = state.primary() else {
         unreachable!()
     };
-    write_merge(alloc, state, p, seg, merged)?;
-    send_all(state, alloc, line, seg)?;
-    post_copies(state, line, seg, by)
+    ready_merge(alloc, state, p, line, seg, by, merged)
 }
 
 /// Goes on with a copy of a merged segment. Done says that its task has ended.
