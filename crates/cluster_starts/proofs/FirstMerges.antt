@@ -45,7 +45,7 @@ module _ {D : Type 0} (cells : D → Cells) where
     merges = λ seg. subst (λ (ms : List Merging). AreMergedAlike [] (merge_of seg ms) None) (sym (shows.calm refl)) tt;
     outs = λ s. let no = none s in omega (arith, no);
   }
-  first_node jobs n (Replica r) none shows uncopied k c at = let no : ◌≡◌ {A = Option Job} None (Some c) = sym (ap (copy_at k) uncopied) ∙ at in absurd (cc)
+  first_node jobs n (Replica r) none shows uncopied = λ k c at. let no : ◌≡◌ {A = Option Job} None (Some c) = sym (ap (copy_at k) uncopied) ∙ at in absurd (cc)
   first_node jobs n (Down d) none shows uncopied = tt
 
   none_merges : (size : ℕ) (places : List (Option (Place D))) → ((n : ℕ) → IsNode size n → IsSomeAnd (place_of places n) (OpensPlace cells n)) → MergesStand [] false size no_tasks places
