@@ -1,7 +1,7 @@
 -- A merge that starts: what the nodes of a cluster show, and their files.
-use Rattle.std.proofs.Common.{◌≡◌, ◌≢◌, ◌≤◌, ◌<◌, ◌+◌, ◌==◌, ◌++◌, ◌⊎◌, ◌||◌, inl, inr, nat_lt, ℕ, Bool, true, false, true≢false, List, [], ◌∷◌, Some, None, Option, Vec, Global, refl, ap, ◌∙◌, sym, subst, arith, if◌then◌else◌, length}
+use Rattle.std.proofs.Common.{◌≡◌, ◌≢◌, ◌<◌, ◌+◌, ◌==◌, ◌++◌, ◌⊎◌, inl, inr, nat_lt, ℕ, Bool, true, false, List, [], ◌∷◌, Some, Option, Vec, Global, refl, ap, ◌∙◌, sym, subst, arith, if◌then◌else◌}
 use Rattle.std.specs.List.{Contains}
-use Rattle.std.proofs.lemmas.Bool.{eq-eqb, eqb-true}
+use Rattle.std.proofs.lemmas.Bool.{eq-eqb}
 use Rattle.std.proofs.lemmas.Bool.Decides.{nat_tests}
 use Rattle.std.proofs.lemmas.List.Elements.{Contains-append_cases, Contains-append_left, Contains-append_right}
 use Rattle.nrt_base.specs.SegNumbers.{segment_number, segment_place, segment_generation, segments_of_generation}
@@ -16,22 +16,19 @@ use Rattle.searcher_switch.specs.declared.open.Open.{Open}
 use Rattle.searcher_switch.specs.declared.open.Point.{Point}
 use Rattle.node_files.specs.Appearing.{NoneAppears}
 use Rattle.history_entries.specs.declared.entry.Entry.{Entry}
-use Rattle.history_entries.specs.declared.entry.Event.{Event}
-use Rattle.history_entries.specs.declared.entry.Event.TheVariants.{Publishing, Merging as MergingEvent}
+use Rattle.history_entries.specs.declared.entry.Event.TheVariants.{Merging as MergingEvent}
 use Rattle.history_entries.specs.Nodes.{Past, IsNode, is_at, primary_of, newest_version, version_of, generation_of}
-use Rattle.history_entries.specs.Lines.{start_entry, publish_in_flight, commit_in_flight}
+use Rattle.history_entries.specs.Lines.{publish_in_flight}
 use Rattle.history_entries.specs.Points.{documents_at, names_drawn, names_drawn_in, is_drawn}
 use Rattle.history_entries.specs.Tasks.{merge_count}
 use Rattle.history_entries.specs.Legal.{KeepsRule, IsLegalPast}
 use Rattle.history_book.specs.Log.{Log, printed, shown, kept}
-use Rattle.history_book.specs.declared.inner.Inner.{Inner}
 use Rattle.history_book.specs.declared.inner.Inner.TheVariants.{MergeOut}
 use Rattle.history_book.specs.Laws.{IsFresh}
-use Rattle.history_book.specs.Turns.{AreInTurn, InTurn}
+use Rattle.history_book.specs.Turns.{AreInTurn}
 use Rattle.primary_parts.specs.declared.parts.Parts.{Parts as PrimaryParts}
 use Rattle.primary_parts.specs.declared.parts.Publish.{Publish}
 use Rattle.primary_parts.specs.declared.states.Merging.{Merging}
-use Rattle.primary_parts.specs.declared.states.Out.{Out}
 use Rattle.primary_parts.specs.Cut.{infos_drawn}
 use Rattle.primary_parts.specs.Held.{drawn_to}
 use Rattle.primary_parts.specs.Merges.{merge_loose}
@@ -89,9 +86,6 @@ begun_writer past at seg infos segs documents was = record {
 }
 
 module _ {D : Type 0} (cells : D → Cells) (size : ℕ) (log : Log) (at : At) (seg : SegNo) (legal : IsLegalPast size (printed log)) (turns : AreInTurn (printed log)) (rule : KeepsRule size (printed log) at (MergingEvent seg)) (fresh : IsFresh at (printed log)) where
-  now : Log
-  now = shown at (MergingEvent seg) ∷ log
-
   line : publish_in_flight (printed log) ≢ Some at
   line = not_flying size (printed log) at legal turns (fresh_line (printed log) at fresh)
 
@@ -191,5 +185,5 @@ module _ {D : Type 0} (cells : D → Cells) (size : ℕ) (log : Log) (at : At) (
           (λ k. commits_shown (printed log) at k size (MergingEvent seg) legal turns rule (fresh_turn (printed log) at (MergingEvent seg) fresh tt) refl (fresh_flights size (printed log) at legal turns fresh.begun k))
           moves node there (begun_alone stays no_new draws) shows files)
         where
-          log' : Log
+          abbrev log' : Log
           log' = shown at (MergingEvent seg) ∷ log

@@ -1,11 +1,10 @@
 -- A merge that starts: what is true of merges once its inputs are handed out and its task is posted.
-use Rattle.std.proofs.Common.{◌≡◌, ◌≢◌, ◌≤◌, ◌<◌, ◌+◌, ◌==◌, ◌++◌, ◌||◌, nat_lt, ℕ, Bool, true, false, true≢false, List, [], ◌∷◌, map, Some, None, Option, Vec, Global, refl, ap, ◌∙◌, sym, subst, arith, if◌then◌else◌}
+use Rattle.std.proofs.Common.{◌≡◌, ◌≢◌, ◌<◌, ◌+◌, ◌==◌, ◌++◌, ◌||◌, ℕ, Bool, true, false, true≢false, List, [], ◌∷◌, Some, None, Option, Vec, Global, refl, ap, ◌∙◌, sym, subst, arith, if◌then◌else◌}
 use Rattle.std.specs.Prelude.{IsSomeAnd, ⊤}
-use Rattle.std.specs.List.{All, list_any}
-use Rattle.std.proofs.lemmas.Bool.{eq-eqb, eqb-true, lt-ltb, ltb-true}
-use Rattle.std.proofs.lemmas.Bool.Decides.{nat_tests}
+use Rattle.std.specs.List.{All}
+use Rattle.std.proofs.lemmas.Bool.{eq-eqb, eqb-true, ltb-true}
 use Rattle.std.proofs.lemmas.List.Elements.{All-push}
-use Rattle.nrt_base.specs.SegNumbers.{segment_number, segment_place, segment_generation, segments_of_generation}
+use Rattle.nrt_base.specs.SegNumbers.{segment_place, segment_generation, segments_of_generation}
 use Rattle.nrt_base.specs.declared.numbers.At.{At}
 use Rattle.nrt_base.specs.declared.numbers.NodeNo.{NodeNo}
 use Rattle.nrt_base.specs.declared.numbers.SegNo.{SegNo}
@@ -43,7 +42,7 @@ use Rattle.cluster_places.specs.Outs.{one_like, states_like, jobs_like}
 use Rattle.cluster_places.specs.JobPlaces.{MovesOne}
 use Rattle.cluster_places.proofs.OutCounts.{jobs_same}
 use Rattle.cluster_state.specs.State.{NodeShows, PlaceShows, Shows}
-use Rattle.cluster_state.specs.Merging.{AreWrittenAlike, IsMergeOfRow, AreMergedAlike, state_at, spreads_like, AreSentCopies, IsFitKind, PrimaryMerges, NodeMerges, MergesStand}
+use Rattle.cluster_state.specs.Merging.{AreWrittenAlike, IsMergeOfRow, AreMergedAlike, spreads_like, AreSentCopies, IsFitKind, PrimaryMerges, NodeMerges, MergesStand}
 use Rattle.cluster_state.proofs.Drawn.{grows_shown, present_drawn}
 use Rattle.cluster_state.proofs.FileFrames.{some_both, one_each, wants_same}
 use Rattle.cluster_state.proofs.Frames.{some_at}
@@ -123,10 +122,10 @@ module _ {D : Type 0} (cells : D → Cells) (size : ℕ) (log : Log) (cut : Bool
     (primary : is_at (primary_of (printed log)) n ≡ true) (others : (k : ℕ) → (n == k) ≡ false → is_at (primary_of (printed log)) k ≡ false)
     (rows : new_board.rows ≡ board.rows ++ record { seg = seg; line = at.line; spread = None } ∷ []) (posted : new_board.posted ≡ board.posted ++ posted_merge seg at.line (merge_task seg task.inputs) ∷ []) (counts : new_board.counts ≡ board.counts)
     (was : MergesStand log cut size board old) where
-  row : OpenMerge
+  abbrev row : OpenMerge
   row = record { seg = seg; line = at.line; spread = None }
 
-  now : Log
+  abbrev now : Log
   now = kept (MergeOut at.line seg task.inputs) ∷ shown at (MergingEvent seg) ∷ log
 
   unnoted : inputs_out seg.0 log ≡ None

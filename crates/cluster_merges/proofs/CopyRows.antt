@@ -1,12 +1,11 @@
 -- Merges whose copies begin: what nodes have to do with the rows, and the paths of these steps.
-use Rattle.std.proofs.Common.{◌≡◌, ◌≢◌, ◌≤◌, ◌<◌, ◌+◌, ◌++◌, ◌==◌, ◌||◌, ◌&&◌, ℕ, Bool, true, false, true≢false, List, [], ◌∷◌, Some, None, Option, length, refl, ap, ◌∙◌, sym, subst, arith, if◌then◌else◌}
-use Rattle.std.specs.Prelude.{IsSomeAnd, map}
-use Rattle.std.specs.List.{All, list_any}
+use Rattle.std.proofs.Common.{◌≡◌, ◌≤◌, ◌<◌, ◌+◌, ◌++◌, ◌==◌, ℕ, Bool, true, false, List, [], ◌∷◌, Some, None, Option, length, refl, ap, ◌∙◌, sym, subst, arith, if◌then◌else◌}
+use Rattle.std.specs.Prelude.{IsSomeAnd}
+use Rattle.std.specs.List.{All}
 use Rattle.std.proofs.lemmas.List.Elements.{All-nil, All-cons, All-append}
 use Rattle.std.proofs.lemmas.Bool.{eqb-true}
 use Rattle.nrt_base.specs.declared.numbers.At.{At}
 use Rattle.nrt_base.specs.declared.numbers.LineNo.{LineNo}
-use Rattle.nrt_base.specs.declared.numbers.NodeNo.{NodeNo}
 use Rattle.nrt_base.specs.declared.numbers.SegNo.{SegNo}
 use Rattle.disk_model.specs.Disk.{Cells}
 use Rattle.copy_state.specs.declared.state.CopyState.{CopyState}
@@ -16,7 +15,7 @@ use Rattle.primary_parts.specs.States.{out_of}
 use Rattle.history_entries.specs.Nodes.{IsNode}
 use Rattle.history_entries.specs.Lines.{same_at}
 use Rattle.history_tables.proofs.RowLemmas.{by_test}
-use Rattle.history_book.specs.Log.{Log, printed, kept}
+use Rattle.history_book.specs.Log.{Log, kept}
 use Rattle.history_book.specs.declared.inner.Inner.{Inner}
 use Rattle.history_book.specs.declared.inner.Inner.TheVariants.{TaskEnd}
 use Rattle.history_book.specs.declared.inner.Step.{Step}
@@ -35,7 +34,7 @@ use Rattle.cluster_places.specs.declared.nodes.Node.TheVariants.{Primary, Replic
 use Rattle.cluster_places.specs.declared.nodes.Place.{Place}
 use Rattle.cluster_places.specs.Places.{place_of}
 use Rattle.cluster_places.specs.Outs.{one_like, jobs_like}
-use Rattle.cluster_state.specs.Merging.{AreSentCopies, NodeMerges, PrimaryMerges, IsFitKind, state_at, spreads_like, AreMergedAlike}
+use Rattle.cluster_state.specs.Merging.{AreSentCopies, NodeMerges, IsFitKind, state_at, spreads_like}
 use Rattle.cluster_state.proofs.Frames.{some_then}
 use Rattle.cluster_state.proofs.JobFrames.{same_inner}
 use Rattle.cluster_state.proofs.MergingStill.{node_stands, node_keeps}

@@ -1,15 +1,13 @@
 -- Entries of inner work of merges leave what is shown of nodes and of their files.
-use Rattle.std.proofs.Common.{◌≡◌, ◌≤◌, ℕ, Bool, List, [], ◌∷◌, Some, None, Option, refl, ap, ◌∙◌, sym, subst, arith}
+use Rattle.std.proofs.Common.{◌≡◌, ℕ, Bool, List, [], ◌∷◌, Some, None, Option, refl, ap, ◌∙◌, sym, subst, arith}
 use Rattle.std.specs.Prelude.{IsSomeAnd}
 use Rattle.std.specs.List.{All}
 use Rattle.std.proofs.lemmas.List.Elements.{All-tail}
 use Rattle.nrt_base.specs.declared.numbers.At.{At}
 use Rattle.nrt_base.specs.declared.numbers.LineNo.{LineNo}
 use Rattle.nrt_base.specs.declared.numbers.NodeNo.{NodeNo}
-use Rattle.nrt_base.specs.declared.numbers.SegNo.{SegNo}
 use Rattle.disk_model.specs.Disk.{Name, Cells}
-use Rattle.primary_parts.specs.declared.states.Out.{Out}
-use Rattle.history_entries.specs.Nodes.{IsNode, primary_of}
+use Rattle.history_entries.specs.Nodes.{IsNode}
 use Rattle.history_tables.specs.declared.jobs.JobRow.{JobRow}
 use Rattle.history_tables.specs.declared.jobs.JobStep.TheVariants.{Passes}
 use Rattle.history_tables.specs.JobRows.{row_if_some, while_going}
@@ -22,12 +20,10 @@ use Rattle.cluster_tasks.specs.declared.tasks.OpenMerge.{OpenMerge}
 use Rattle.cluster_tasks.specs.declared.tasks.Posted.{Posted}
 use Rattle.cluster_tasks.specs.Board.{Board, open_merge, due_all, step_of, TasksShow, IsToldTask}
 use Rattle.cluster_tasks.proofs.BoardRows.{line_told}
-use Rattle.cluster_tasks.proofs.TaskFrames.{tasks_kept, tasks_on, told_all}
+use Rattle.cluster_tasks.proofs.TaskFrames.{tasks_kept, tasks_on}
 use Rattle.cluster_places.specs.declared.nodes.Place.{Place}
 use Rattle.cluster_places.specs.Places.{place_of}
 use Rattle.cluster_places.specs.Outs.{jobs_like}
-use Rattle.cluster_state.specs.State.{Shows}
-use Rattle.cluster_state.specs.Files.{FilesShow}
 use Rattle.cluster_state.specs.FileChanges.{SameJob}
 use Rattle.cluster_state.specs.Merging.{IsFitKind, NodeMerges, MergesStand}
 use Rattle.cluster_merges.specs.Sending.{AllShown}
@@ -37,7 +33,7 @@ use Rattle.cluster_state.proofs.Drawn.{grows_none}
 use Rattle.cluster_state.proofs.Frames.{some_then, now_is}
 use Rattle.cluster_state.proofs.FileFrames.{files_still, files_is}
 use Rattle.cluster_state.proofs.JobMoves.{IsOfJob, shows_kept}
-use Rattle.cluster_state.proofs.JobFrames.{same_inner, job_stays}
+use Rattle.cluster_state.proofs.JobFrames.{same_inner}
 use Rattle.cluster_state.proofs.MergingStill.{InputsStay, node_stands, node_keeps}
 
 passes : (o : Option JobRow) → row_if_some Passes o ≡ o

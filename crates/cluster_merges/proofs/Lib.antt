@@ -4,3 +4,8 @@ pub mod CopyRows
 pub mod TaskPaths
 pub mod BegunShows
 pub mod BegunStands
+pub mod StartPaths
+pub mod FilesMore
+pub mod ReadyFiles
+pub mod WrittenStand
+pub mod SendSteps

@@ -1,11 +1,9 @@
 -- What is true of merges once one has started, is written, is copied, or has been cut over.
-use Rattle.std.proofs.Common.{◌≡◌, ◌≢◌, ◌≤◌, ◌<◌, ◌+◌, ◌++◌, ◌==◌, ◌&&◌, ℕ, Bool, true, false, true≢false, List, [], ◌∷◌, Some, None, Option, length, refl, ap, ◌∙◌, sym, subst, arith, if◌then◌else◌}
-use Rattle.std.specs.Prelude.{not, is_some, IsSomeAnd}
-use Rattle.std.specs.List.{All, filter}
+use Rattle.std.proofs.Common.{◌≡◌, ◌≤◌, ◌+◌, ◌++◌, ◌==◌, ℕ, Bool, true, false, List, [], ◌∷◌, Some, None, Option, refl, ap, ◌∙◌, sym, subst, arith, if◌then◌else◌}
+use Rattle.std.specs.Prelude.{not, IsSomeAnd}
+use Rattle.std.specs.List.{All}
 use Rattle.std.proofs.lemmas.Bool.{eqb-true}
 use Rattle.std.proofs.lemmas.Bool.Decides.{nat_tests}
-use Rattle.nrt_base.specs.declared.numbers.NodeNo.{NodeNo}
-use Rattle.nrt_base.specs.declared.numbers.SegNo.{SegNo}
 use Rattle.disk_model.specs.Disk.{Name}
 use Rattle.seg_merge.specs.declared.task.Merged.{Merged}
 use Rattle.copy_state.specs.declared.state.CopyState.{CopyState}
@@ -14,15 +12,12 @@ use Rattle.copy_job.specs.Jobs.{Job}
 use Rattle.primary_parts.specs.declared.states.Merging.{Merging}
 use Rattle.primary_parts.specs.declared.states.Out.{Out}
 use Rattle.primary_parts.specs.Merges.{merge_of, merges_with, merges_without}
-use Rattle.primary_parts.specs.States.{out_of, IsMetaIn}
-use Rattle.replica_parts.specs.Merges.{copy_at}
+use Rattle.primary_parts.specs.States.{IsMetaIn}
 use Rattle.history_tables.proofs.RowLemmas.{by_test}
 use Rattle.history_book.specs.Log.{Log}
 use Rattle.cluster_tasks.specs.declared.tasks.OpenMerge.{OpenMerge}
 use Rattle.cluster_tasks.specs.declared.tasks.Spread.{Spread}
-use Rattle.cluster_tasks.specs.declared.tasks.Sent.{Sent}
-use Rattle.cluster_tasks.specs.TaskLog.{inputs_out}
-use Rattle.cluster_tasks.specs.Board.{open_merge, spread_at, with_spread, without_merge, is_sent_in, without_sent, sent_more, all_sent, settled}
+use Rattle.cluster_tasks.specs.Board.{open_merge, spread_at, with_spread, without_merge, is_sent_in}
 use Rattle.cluster_tasks.proofs.BoardRows.{open_end, open_without, open_with}
 use Rattle.cluster_places.specs.Outs.{one_like}
 use Rattle.cluster_state.specs.Merging.{IsStateOfMerged, AreWrittenAlike, IsMergeOfRow, AreMergedAlike, state_at, spreads_like, IsSentCopy, AreSentCopies}

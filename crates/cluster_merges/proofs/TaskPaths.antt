@@ -1,10 +1,9 @@
 -- Tasks that are taken, and drains that have their reply: what the calls answer, and that all is true again.
-use Rattle.std.proofs.Common.{◌≡◌, ◌≢◌, ◌≤◌, ◌+◌, ◌*◌, ℕ, Bool, true, false, List, [], ◌∷◌, Some, None, Option, refl, ap, ◌∙◌, sym, subst}
+use Rattle.std.proofs.Common.{◌≡◌, ◌≢◌, ◌≤◌, ◌+◌, ◌*◌, ℕ, Bool, false, List, [], ◌∷◌, Some, Option, refl, ap, ◌∙◌, sym, subst}
 use Rattle.std.specs.List.{All}
 use Rattle.std.proofs.lemmas.List.Elements.{All-head}
 use Rattle.nrt_base.specs.declared.numbers.At.{At}
 use Rattle.disk_model.specs.Disk.{Cells}
-use Rattle.history_entries.specs.declared.entry.Event.{Event}
 use Rattle.history_entries.specs.declared.entry.Event.TheVariants.{Drained}
 use Rattle.history_entries.specs.Lines.{entries_of_line, publish_in_flight, commit_in_flight}
 use Rattle.history_entries.specs.Legal.{KeepsRule, IsLegalPast}
@@ -15,10 +14,9 @@ use Rattle.history_book.specs.Log.{Log, printed, kept, shown}
 use Rattle.history_book.specs.declared.inner.Inner.TheVariants.{TaskOut}
 use Rattle.history_book.specs.declared.inner.Step.{Step}
 use Rattle.history_merges.specs.Merging.{Sheet}
-use Rattle.cluster_tasks.specs.declared.tasks.OpenMerge.{OpenMerge}
 use Rattle.cluster_tasks.specs.declared.tasks.Posted.{Posted}
 use Rattle.cluster_tasks.specs.TaskLog.{counted_for}
-use Rattle.cluster_tasks.specs.Board.{Board, step_of, TasksShow, IsToldKind, IsToldTask, without_count}
+use Rattle.cluster_tasks.specs.Board.{Board, step_of, IsToldKind, IsToldTask, without_count}
 use Rattle.cluster_tasks.proofs.TaskFrames.{tasks_drained, told_all, may_drain_most}
 use Rattle.cluster_places.specs.declared.nodes.Place.{Place}
 use Rattle.cluster_state.specs.Run.{Run, Rest}

@@ -1,6 +1,5 @@
 -- What the steps of a merge make of a cluster.
-use Rattle.std.specs.Prelude.{ℕ, ◌≡◌, ◌≢◌, ◌≤◌, ◌<◌, ◌∷◌, ◌++◌, [], List, map, Bool, true, false, Option, Some, None, IsSome, IsSomeAnd}
-use Rattle.std.specs.List.{All}
+use Rattle.std.specs.Prelude.{ℕ, ◌≡◌, ◌≤◌, ◌∷◌, ◌++◌, [], List, map, Bool, true, false, Option, Some, None}
 use Rattle.nrt_base.specs.SegNumbers.{segments_of_generation}
 use Rattle.nrt_base.specs.declared.numbers.At.{At}
 use Rattle.nrt_base.specs.declared.numbers.LineNo.{LineNo}
@@ -16,20 +15,18 @@ use Rattle.seg_merge.specs.Merging.{IsMergedOf}
 use Rattle.script_serving.specs.Refusals.{put_publishes}
 use Rattle.history_entries.specs.declared.cause.Cause.{Cause}
 use Rattle.history_entries.specs.declared.cause.Cause.TheVariants.{Nothing, NamesSpent}
-use Rattle.history_entries.specs.declared.entry.Event.TheVariants.{Merging, Drained}
-use Rattle.history_entries.specs.Lines.{publish_in_flight}
+use Rattle.history_entries.specs.declared.entry.Event.TheVariants.{Merging}
 use Rattle.history_entries.specs.Points.{names_drawn}
 use Rattle.history_book.specs.declared.inner.Inner.TheVariants.{MergeOut, MergeEnd, JobBegun, FileOut, TaskOut, TaskEnd}
 use Rattle.history_book.specs.declared.inner.Step.TheVariants.{Merge as MergeStep, PreCopy as PreCopyStep, Cut as CutStep}
 use Rattle.history_book.specs.Log.{Log, printed, shown, kept}
-use Rattle.history_book.specs.Jobs.{job_at}
 use Rattle.history_merges.specs.Merging.{next_name}
 use Rattle.cluster_tasks.specs.declared.tasks.OpenMerge.{OpenMerge}
 use Rattle.cluster_tasks.specs.declared.tasks.Posted.{Posted}
 use Rattle.cluster_tasks.specs.declared.tasks.Task.{Task}
 use Rattle.cluster_tasks.specs.declared.tasks.Sent.{Sent}
-use Rattle.cluster_tasks.specs.TaskLog.{inputs_out, merge_task, carried_out, counted_for}
-use Rattle.cluster_tasks.specs.Board.{Board, open_merge, spread_at, with_spread, without_merge, is_unwritten, is_sent_to, is_copied, left_at, settled, posts_of, post_after, posted_merge, step_of, IsToldKind, without_count}
+use Rattle.cluster_tasks.specs.TaskLog.{inputs_out, merge_task, carried_out}
+use Rattle.cluster_tasks.specs.Board.{open_merge, spread_at, with_spread, without_merge, left_at, settled, posts_of, post_after, posted_merge, step_of, IsToldKind}
 use Rattle.cluster_places.specs.declared.tasks.FileTask.{FileTask}
 use Rattle.cluster_state.specs.Run.{Run, IsNow}
 use Rattle.cluster_state.specs.Settles.{AreReplicas}

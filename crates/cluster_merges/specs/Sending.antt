@@ -1,5 +1,5 @@
 -- The sending of a merged segment to replicas, in the terms of a cluster's parts.
-use Rattle.std.specs.Prelude.{ℕ, ◌≡◌, ◌≢◌, ◌==◌, ◌∷◌, false, Bool, List, Option, None, IsSomeAnd}
+use Rattle.std.specs.Prelude.{ℕ, ◌≡◌, ◌≢◌, ◌==◌, ◌∷◌, false, List, Option, None, IsSomeAnd}
 use Rattle.std.specs.List.{All}
 use Rattle.nrt_base.specs.declared.numbers.LineNo.{LineNo}
 use Rattle.nrt_base.specs.declared.numbers.NodeNo.{NodeNo}
@@ -7,7 +7,7 @@ use Rattle.nrt_base.specs.declared.numbers.SegNo.{SegNo}
 use Rattle.disk_model.specs.Disk.{Cells}
 use Rattle.copy_state.specs.declared.state.CopyState.{CopyState}
 use Rattle.history_entries.specs.Nodes.{Past, IsNode, IsReplica, generation_of}
-use Rattle.history_book.specs.Log.{printed, kept}
+use Rattle.history_book.specs.Log.{kept}
 use Rattle.history_book.specs.declared.inner.Inner.TheVariants.{JobBegun}
 use Rattle.history_merges.specs.Merging.{Sheet}
 use Rattle.cluster_tasks.specs.Board.{Board, open_merge, spread_at, with_spread, sent_more}

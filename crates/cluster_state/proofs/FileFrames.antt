@@ -270,7 +270,7 @@ module _ {D : Type 0} (cells : D → Cells) where
       }
 
   -- a node at a wider source
-  node_wider : (source wider : Name → Content) (log now : Log) (jobs : Out → ℕ) (n : ℕ) (x : Node D) → ((q : Name) (bytes : List ℕ) → source q ≡ Some bytes → wider q ≡ Some bytes)
+  pub node_wider : (source wider : Name → Content) (log now : Log) (jobs : Out → ℕ) (n : ℕ) (x : Node D) → ((q : Name) (bytes : List ℕ) → source q ≡ Some bytes → wider q ≡ Some bytes)
       → (is_at (primary_of (printed log)) n ≡ false) → ((m : ℕ) → is_at (primary_of (printed log)) m ≡ false → SameJob log now m) → NodeShows cells log n x → NodeFiles source cells log jobs n x → NodeFiles wider cells now jobs n x
   node_wider source wider log now jobs n (Primary p) more other same shows was = absurd (true≢false (sym shows.primary ∙ other))
   node_wider source wider log now jobs n (Replica r) more other same shows was =

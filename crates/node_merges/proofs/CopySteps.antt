@@ -1,5 +1,5 @@
 -- What a replica is once a copy of a merged segment has begun there, has taken a part, or has ended.
-use Rattle.std.proofs.Common.{◌≡◌, ◌≢◌, ◌≤◌, ◌<◌, ◌+◌, ◌^◌, ◌++◌, ◌==◌, ℕ, Bool, true, false, true≢false, List, [], ◌∷◌, Some, None, Option, Result, Vec, Global, refl, ap, ◌∙◌, sym, subst, arith, if◌then◌else◌, nat_lt}
+use Rattle.std.proofs.Common.{◌≡◌, ◌≢◌, ◌≤◌, ◌<◌, ◌+◌, ◌^◌, ◌++◌, ◌==◌, ℕ, Bool, true, false, true≢false, List, [], ◌∷◌, Some, None, Option, Result, refl, ap, ◌∙◌, sym, subst, arith, if◌then◌else◌, nat_lt}
 use Rattle.std.specs.Prelude.{IfSome, IfOk, IsSome, IsSomeAnd, max, is_some}
 use Rattle.std.specs.Option.{option_map}
 use Rattle.std.specs.List.{All, AllByRecursion}
@@ -25,8 +25,9 @@ use Rattle.replica_parts.specs.Sources.{IsSourced, KeepsSource}
 use Rattle.replica_node.specs.Running.{running_job, with_job, without_job}
 use Rattle.history_tables.proofs.RowLemmas.{by_test}
 use Rattle.node_jobs.proofs.JobFiles.{wanted_meta}
-use Rattle.cluster_places.specs.declared.held.Held.{Held}
-use Rattle.cluster_places.specs.declared.nodes.Node.TheVariants.{Replica}
+use Rattle.primary_parts.specs.declared.parts.Parts.{Parts as PrimaryParts}
+use Rattle.cluster_places.specs.declared.nodes.Node.{Node}
+use Rattle.cluster_places.specs.declared.nodes.Node.TheVariants.{Primary, Replica, Down}
 use Rattle.cluster_places.specs.declared.nodes.Place.{Place}
 use Rattle.cluster_places.specs.JobChanges.{IsNextToFetch}
 use Rattle.node_merges.specs.declared.copies.CopyStep.{CopyStep}
@@ -135,12 +136,15 @@ CopyLaw D = (cells : D → Cells) (number : ℕ) (p : ReplicaParts D) (c : Job) 
 
 module _ {D : Type 0} where
   -- what is next to do at the node that is there
-  pub step_there : {E : Type 0} (result : Result CopyStep E) (seg number : ℕ) (o : Option (Place D)) (r : ReplicaParts D) (held : Vec Held Global) → o ≡ Some (record { node = Replica r; held = held })
+  pub step_there : {E : Type 0} (result : Result CopyStep E) (seg number : ℕ) (o : Option (Place D)) (place : Place D) (r : ReplicaParts D) → o ≡ Some place → place.node ≡ Replica r
       → IfOk result (IsStepOf seg number r) → IfOk result (IsStepAt seg number o)
-  step_there result seg number o r held is step = subst (λ (x : Option (Place D)). IfOk result (IsStepAt seg number x)) (sym is) step
+  step_there result seg number o place r is there step = subst (λ (x : Option (Place D)). IfOk result (IsStepAt seg number x)) (sym (is ∙ ap (λ (z : Node D). Some (record place { node = z })) there)) step
 
-  pub gone_there : (seg number : ℕ) (o : Option (Place D)) (place : Place D) → o ≡ Some place → IsStepAt seg number (Some place) Gone → IsStepAt seg number o Gone
-  gone_there seg number o place is gone = subst (λ (x : Option (Place D)). IsStepAt seg number x Gone) (sym is) gone
+  pub gone_primary : (seg number : ℕ) (o : Option (Place D)) (place : Place D) (p : PrimaryParts D) → o ≡ Some place → place.node ≡ Primary p → IsStepAt seg number o Gone
+  gone_primary seg number o place p is there = subst (λ (x : Option (Place D)). IsStepAt seg number x Gone) (sym (is ∙ ap (λ (z : Node D). Some (record place { node = z })) there)) refl
+
+  pub gone_down : (seg number : ℕ) (o : Option (Place D)) (place : Place D) (d : D) → o ≡ Some place → place.node ≡ Down d → IsStepAt seg number o Gone
+  gone_down seg number o place d is there = subst (λ (x : Option (Place D)). IsStepAt seg number x Gone) (sym (is ∙ ap (λ (z : Node D). Some (record place { node = z })) there)) refl
 
 module _ {D : Type 0} (cells : D → Cells) where
   -- a copy that lacks the part, of the metadata that is wanted

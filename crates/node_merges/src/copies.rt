@@ -102,11 +102,11 @@ fn step_of<D: Dir + Drop>(
     }
     match next_file(alloc, copy)? {
         None => Ok(CopyStep::Complete),
-        Some((name, meta)) => {
+        Some(file) => {
             if replica.job().is_some() {
                 Ok(CopyStep::Waits)
             } else {
-                Ok(CopyStep::Wants(name, meta))
+                Ok(CopyStep::Wants(file.0, file.1))
             }
         }
     }
