@@ -121,21 +121,21 @@ module _ {D : Type 0} (cells : D → Cells) where
   pub none_sent : (n : ℕ) (left : List Sent) (r : ReplicaParts D) → IsWholeReplica cells r → SentEnd n left 0 r r
   none_sent n left r whole = record { loses = loses_none r whole; gone = λ k sent. inl sent }
 
-  is_next : (n k : ℕ) (left : List Sent) (i : ℕ) (x : Sent) → i < length left → x ≡ get_or left i x → is_sent_in n k (drop i left) ≡ true → (((x.node.0 == n) && (x.job == k)) ≡ true) ⊎ (is_sent_in n k (drop (i + 1) left) ≡ true)
-  is_next n k left i x within is sent = subst (λ (j : ℕ). (((x.node.0 == n) && (x.job == k)) ≡ true) ⊎ (is_sent_in n k (drop j left) ≡ true)) (let e : suc i ≡ i + 1 = omega arith in e) (by left i within is sent)
+  is_next : (n k : ℕ) (left : List Sent) (i : ℕ) (x d : Sent) → i < length left → x ≡ get_or left i d → is_sent_in n k (drop i left) ≡ true → (((x.node.0 == n) && (x.job == k)) ≡ true) ⊎ (is_sent_in n k (drop (i + 1) left) ≡ true)
+  is_next n k left i x d within is sent = subst (λ (j : ℕ). (((x.node.0 == n) && (x.job == k)) ≡ true) ⊎ (is_sent_in n k (drop j left) ≡ true)) (let e : suc i ≡ i + 1 = omega arith in e) (by left i within is sent)
     where
       tests : (b : Bool) (rest : List Sent) → (b || is_sent_in n k rest) ≡ true → (b ≡ true) ⊎ (is_sent_in n k rest ≡ true)
       tests true rest e = inl refl
       tests false rest e = inr e
 
-      by : (xs : List Sent) (j : ℕ) → j < length xs → x ≡ get_or xs j x → is_sent_in n k (drop j xs) ≡ true → (((x.node.0 == n) && (x.job == k)) ≡ true) ⊎ (is_sent_in n k (drop (suc j) xs) ≡ true)
+      by : (xs : List Sent) (j : ℕ) → j < length xs → x ≡ get_or xs j d → is_sent_in n k (drop j xs) ≡ true → (((x.node.0 == n) && (x.job == k)) ≡ true) ⊎ (is_sent_in n k (drop (suc j) xs) ≡ true)
       by [] j lt is sent = absurd (omega (arith, lt))
       by (y ∷ ys) zero lt is sent = subst (λ (z : Sent). (((z.node.0 == n) && (z.job == k)) ≡ true) ⊎ (is_sent_in n k ys ≡ true)) (sym is) (tests ((y.node.0 == n) && (y.job == k)) ys sent)
       by (y ∷ ys) (suc j) lt is sent = by ys j (omega (arith, lt)) is sent
 
   -- the next one has ended
-  pub sent_next : (n : ℕ) (left : List Sent) (i : ℕ) (x : Sent) (old mid new : ReplicaParts D) → i < length left → x ≡ get_or left i x → SentEnd n left i old mid → EndsSent cells n x mid new → SentEnd n left (i + 1) old new
-  sent_next n left i x old mid new within is was one = record { loses = loses_then old mid new was.loses one.loses; gone = λ k sent. after k (was.gone k sent) }
+  pub sent_next : (n : ℕ) (left : List Sent) (i : ℕ) (x d : Sent) (old mid new : ReplicaParts D) → i < length left → x ≡ get_or left i d → SentEnd n left i old mid → EndsSent cells n x mid new → SentEnd n left (i + 1) old new
+  sent_next n left i x d old mid new within is was one = record { loses = loses_then old mid new was.loses one.loses; gone = λ k sent. after k (was.gone k sent) }
     where
       ended : (k : ℕ) → ((x.node.0 == n) && (x.job == k)) ≡ true → copy_at k new.copies.running ≡ None
       ended k same = tests (x.node.0 == n) (x.job == k) refl refl same
@@ -147,7 +147,7 @@ module _ {D : Type 0} (cells : D → Cells) where
 
       after : (k : ℕ) → (is_sent_in n k (drop i left) ≡ true) ⊎ (copy_at k mid.copies.running ≡ None) → (is_sent_in n k (drop (i + 1) left) ≡ true) ⊎ (copy_at k new.copies.running ≡ None)
       after k (inr none) = inr (none_runs mid.copies.running new.copies.running k one.loses.runs none)
-      after k (inl sent) = elim (is_next n k left i x within is sent) [ inl same ↦ inr (ended k same) | inr rest ↦ inl rest ]
+      after k (inl sent) = elim (is_next n k left i x d within is sent) [ inl same ↦ inr (ended k same) | inr rest ↦ inl rest ]
 
   pub other_node : (n : ℕ) (x : Sent) (r : ReplicaParts D) → IsWholeReplica cells r → (x.node.0 == n) ≡ false → EndsSent cells n x r r
   other_node n x r whole apart = record { loses = loses_none r whole; gone = λ here. absurd (true≢false (sym here ∙ apart)) }
