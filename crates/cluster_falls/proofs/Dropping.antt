@@ -1,6 +1,6 @@
 -- Copies of merged segments that end one after the other, at one node after the other.
 use Rattle.std.proofs.Common.{inl, inr, ◌≡◌, ◌≤◌, ◌<◌, ◌+◌, ◌==◌, ◌&&◌, ◌||◌, ℕ, zero, suc, Bool, true, false, true≢false, nat_le, List, [], ◌∷◌, Some, None, Option, is_some, length, take, drop, get_or, refl, ap, ◌∙◌, sym, subst, arith, if◌then◌else◌}
-use Rattle.std.specs.Prelude.{IsSomeAnd, IsSome}
+use Rattle.std.specs.Prelude.{◌⊎◌, IsSomeAnd, IsSome}
 use Rattle.std.specs.List.{list_any}
 use Rattle.std.specs.Option.{option_map}
 use Rattle.std.proofs.lemmas.Bool.{eqb-true, eq-eqb}
@@ -22,7 +22,7 @@ use Rattle.cluster_places.specs.declared.nodes.Place.{Place}
 use Rattle.cluster_places.specs.Places.{place_of}
 use Rattle.node_merges.specs.MergeChanges.{DropsMerged}
 use Rattle.cluster_state.specs.Merging.{RunsNoOther}
-use Rattle.cluster_falls.specs.Falls.{are_sent, LosesCopies, EndsCopies, PlaceLoses, AllLose}
+use Rattle.cluster_falls.specs.Falls.{are_sent, LosesCopies, EndsSent, EndsSpread, EndsCopies, PlaceLoses, AllLose}
 
 -- ---- one copy
 
@@ -47,11 +47,11 @@ gone_without number cs apart = by (copy_at number (copies_without number cs)) re
   where
     first : (xs : List Job) → AreCopiesApart xs → (c : Job) → copy_at number (copies_without number xs) ≡ Some c → ⊥
     first [] apart c at = absurd (cc)
-    first (x ∷ xs) apart c at = tests (x.number == number) refl at
+    first (x ∷ xs) apart c at = tests (x.number == number) refl at (λ d there. first xs apart.1 d there)
       where
-        tests : (b : Bool) → (x.number == number) ≡ b → copy_at number (if b then xs else x ∷ copies_without number xs) ≡ Some c → ⊥
-        tests true e got = (all_at (CopyApart x) number xs c got apart.0).numbers (eqb-true x.number number e ∙ sym (number_at number xs c got))
-        tests false e got = first xs apart.1 c (sym (ap (λ (u : Bool). if u then Some x else copy_at number (copies_without number xs)) e) ∙ got)
+        tests : (b : Bool) → (x.number == number) ≡ b → copy_at number (if b then xs else x ∷ copies_without number xs) ≡ Some c → ((d : Job) → copy_at number (copies_without number xs) ≡ Some d → ⊥) → ⊥
+        tests true e got more = (all_at (CopyApart x) number xs c got apart.0).numbers (eqb-true x.number number e ∙ sym (number_at number xs c got))
+        tests false e got more = more c (sym (ap (λ (u : Bool). if u then Some x else copy_at number (copies_without number xs)) e) ∙ got)
 
     by : (o : Option Job) → copy_at number (copies_without number cs) ≡ o → copy_at number (copies_without number cs) ≡ None
     by None e = e
@@ -121,53 +121,46 @@ module _ {D : Type 0} (cells : D → Cells) where
   pub none_sent : (n : ℕ) (left : List Sent) (r : ReplicaParts D) → IsWholeReplica cells r → SentEnd n left 0 r r
   none_sent n left r whole = record { loses = loses_none r whole; gone = λ k sent. inl sent }
 
-  is_next : (n k : ℕ) (left : List Sent) (i : ℕ) (x : Sent) → i < length left → x ≡ get_or left i x → is_sent_in n k (drop i left) ≡ true → (((x.node.0 == n) && (x.job == k)) ≡ true) ⊎ (is_sent_in n k (drop (i + 1) left) ≡ true)
-  is_next n k left i x within is sent = subst (λ (j : ℕ). (((x.node.0 == n) && (x.job == k)) ≡ true) ⊎ (is_sent_in n k (drop j left) ≡ true)) (let e : suc i ≡ i + 1 = omega arith in e) (by left i within is sent)
+  is_next : (n k : ℕ) (left : List Sent) (i : ℕ) (x d : Sent) → i < length left → x ≡ get_or left i d → is_sent_in n k (drop i left) ≡ true → (((x.node.0 == n) && (x.job == k)) ≡ true) ⊎ (is_sent_in n k (drop (i + 1) left) ≡ true)
+  is_next n k left i x d within is sent = subst (λ (j : ℕ). (((x.node.0 == n) && (x.job == k)) ≡ true) ⊎ (is_sent_in n k (drop j left) ≡ true)) (let e : suc i ≡ i + 1 = omega arith in e) (by left i within is sent)
     where
       tests : (b : Bool) (rest : List Sent) → (b || is_sent_in n k rest) ≡ true → (b ≡ true) ⊎ (is_sent_in n k rest ≡ true)
       tests true rest e = inl refl
       tests false rest e = inr e
 
-      by : (xs : List Sent) (j : ℕ) → j < length xs → x ≡ get_or xs j x → is_sent_in n k (drop j xs) ≡ true → (((x.node.0 == n) && (x.job == k)) ≡ true) ⊎ (is_sent_in n k (drop (suc j) xs) ≡ true)
+      by : (xs : List Sent) (j : ℕ) → j < length xs → x ≡ get_or xs j d → is_sent_in n k (drop j xs) ≡ true → (((x.node.0 == n) && (x.job == k)) ≡ true) ⊎ (is_sent_in n k (drop (suc j) xs) ≡ true)
       by [] j lt is sent = absurd (omega (arith, lt))
       by (y ∷ ys) zero lt is sent = subst (λ (z : Sent). (((z.node.0 == n) && (z.job == k)) ≡ true) ⊎ (is_sent_in n k ys ≡ true)) (sym is) (tests ((y.node.0 == n) && (y.job == k)) ys sent)
       by (y ∷ ys) (suc j) lt is sent = by ys j (omega (arith, lt)) is sent
 
-  -- the next one does not run, or is not this node's
-  pub sent_stays : (n : ℕ) (left : List Sent) (i : ℕ) (x : Sent) (old new : ReplicaParts D) → i < length left → x ≡ get_or left i x → ((x.node.0 == n) && is_some (copy_at x.job new.copies.running)) ≡ false → SentEnd n left i old new → SentEnd n left (i + 1) old new
-  sent_stays n left i x old new within is idle was = record { loses = was.loses; gone = λ k sent. after k (was.gone k sent) }
-    where
-      idle_so : (k : ℕ) → ((x.node.0 == n) && (x.job == k)) ≡ true → copy_at k new.copies.running ≡ None
-      idle_so k same = tests (x.node.0 == n) (x.job == k) refl same idle
-        where
-          tests : (b t : Bool) → (x.job == k) ≡ t → (b && t) ≡ true → (b && is_some (copy_at x.job new.copies.running)) ≡ false → copy_at k new.copies.running ≡ None
-          tests true true e same none = ap (λ (j : ℕ). copy_at j new.copies.running) (sym (eqb-true x.job k e)) ∙ none_is (copy_at x.job new.copies.running) none
-          tests true false e same none = absurd (true≢false (sym same))
-          tests false t e same none = absurd (true≢false (sym same))
-
-      after : (k : ℕ) → (is_sent_in n k (drop i left) ≡ true) ⊎ (copy_at k new.copies.running ≡ None) → (is_sent_in n k (drop (i + 1) left) ≡ true) ⊎ (copy_at k new.copies.running ≡ None)
-      after k (inr none) = inr none
-      after k (inl sent) = elim (is_next n k left i x within is sent) [ inl same ↦ inr (idle_so k same) | inr rest ↦ inl rest ]
-
   -- the next one has ended
-  pub sent_ends : (n : ℕ) (left : List Sent) (i : ℕ) (x : Sent) (old mid new : ReplicaParts D) → i < length left → x ≡ get_or left i x → SentEnd n left i old mid → DropsMerged cells x.job mid new → SentEnd n left (i + 1) old new
-  sent_ends n left i x old mid new within is was drops = record { loses = loses_then old mid new was.loses one; gone = λ k sent. after k (was.gone k sent) }
+  pub sent_next : (n : ℕ) (left : List Sent) (i : ℕ) (x d : Sent) (old mid new : ReplicaParts D) → i < length left → x ≡ get_or left i d → SentEnd n left i old mid → EndsSent cells n x mid new → SentEnd n left (i + 1) old new
+  sent_next n left i x d old mid new within is was one = record { loses = loses_then old mid new was.loses one.loses; gone = λ k sent. after k (was.gone k sent) }
     where
-      one : LosesCopies cells mid new
-      one = loses_one x.job mid new was.loses.whole drops
-
       ended : (k : ℕ) → ((x.node.0 == n) && (x.job == k)) ≡ true → copy_at k new.copies.running ≡ None
-      ended k same = tests (x.node.0 == n) (x.job == k) refl same
+      ended k same = tests (x.node.0 == n) (x.job == k) refl refl same
         where
-          tests : (b t : Bool) → (x.job == k) ≡ t → (b && t) ≡ true → copy_at k new.copies.running ≡ None
-          tests true true e same =
-              ap (λ (j : ℕ). copy_at j new.copies.running) (sym (eqb-true x.job k e)) ∙ (ap (copy_at x.job) (running_now x.job mid new drops) ∙ gone_without x.job mid.copies.running was.loses.whole.merges.apart)
-          tests true false e same = absurd (true≢false (sym same))
-          tests false t e same = absurd (true≢false (sym same))
+          tests : (b t : Bool) → (x.node.0 == n) ≡ b → (x.job == k) ≡ t → (b && t) ≡ true → copy_at k new.copies.running ≡ None
+          tests true true here e same = ap (λ (j : ℕ). copy_at j new.copies.running) (sym (eqb-true x.job k e)) ∙ one.gone here
+          tests true false here e same = absurd (true≢false (sym same))
+          tests false t here e same = absurd (true≢false (sym same))
 
       after : (k : ℕ) → (is_sent_in n k (drop i left) ≡ true) ⊎ (copy_at k mid.copies.running ≡ None) → (is_sent_in n k (drop (i + 1) left) ≡ true) ⊎ (copy_at k new.copies.running ≡ None)
-      after k (inr none) = inr (none_runs mid.copies.running new.copies.running k one.runs none)
-      after k (inl sent) = elim (is_next n k left i x within is sent) [ inl same ↦ inr (ended k same) | inr rest ↦ inl rest ]
+      after k (inr none) = inr (none_runs mid.copies.running new.copies.running k one.loses.runs none)
+      after k (inl sent) = elim (is_next n k left i x d within is sent) [ inl same ↦ inr (ended k same) | inr rest ↦ inl rest ]
+
+  pub other_node : (n : ℕ) (x : Sent) (r : ReplicaParts D) → IsWholeReplica cells r → (x.node.0 == n) ≡ false → EndsSent cells n x r r
+  other_node n x r whole apart = record { loses = loses_none r whole; gone = λ here. absurd (true≢false (sym here ∙ apart)) }
+
+  pub not_running : {A : Type 0} (n : ℕ) (x : Sent) (r : ReplicaParts D) (o : Option A) (f : A → Job) → IsWholeReplica cells r → option_map f o ≡ copy_at x.job r.copies.running → ((a : A) → o ≡ Some a → ⊥) → EndsSent cells n x r r
+  not_running n x r o f whole at none = record { loses = loses_none r whole; gone = λ here. by o at none }
+    where
+      by : (o : Option _) → option_map f o ≡ copy_at x.job r.copies.running → ((a : _) → o ≡ Some a → ⊥) → copy_at x.job r.copies.running ≡ None
+      by None at none = sym at
+      by (Some a) at none = absurd (none a refl)
+
+  pub dropped : (n : ℕ) (x : Sent) (r s : ReplicaParts D) → IsWholeReplica cells r → DropsMerged cells x.job r s → EndsSent cells n x r s
+  dropped n x r s whole drops = record { loses = loses_one x.job r s whole drops; gone = λ here. ap (copy_at x.job) (running_now x.job r s drops) ∙ gone_without x.job r.copies.running whole.merges.apart }
 
   past_end : {A : Type 0} (xs : List A) (i : ℕ) → length xs ≤ i → drop i xs ≡ []
   past_end [] zero low = refl
@@ -203,22 +196,20 @@ module _ {D : Type 0} (cells : D → Cells) where
       by (y ∷ ys) zero lt is sent = subst (λ (z : OpenMerge). (is_sent_to n k z.spread ≡ true) ⊎ (are_sent n k ys ≡ true)) (sym is) (tests (is_sent_to n k y.spread) ys sent)
       by (y ∷ ys) (suc j) lt is sent = by ys j (omega (arith, lt)) is sent
 
-  -- the next merge has sent none
-  pub row_stays : (n : ℕ) (rows : List OpenMerge) (i : ℕ) (x : OpenMerge) (old new : ReplicaParts D) → i < length rows → x ≡ get_or rows i x → x.spread ≡ None → RowsEnd n rows i old new → RowsEnd n rows (i + 1) old new
-  row_stays n rows i x old new within is none was = record { loses = was.loses; gone = λ k sent. after k (was.gone k sent) }
-    where
-      after : (k : ℕ) → (are_sent n k (drop i rows) ≡ true) ⊎ (copy_at k new.copies.running ≡ None) → (are_sent n k (drop (i + 1) rows) ≡ true) ⊎ (copy_at k new.copies.running ≡ None)
-      after k (inr gone) = inr gone
-      after k (inl sent) = elim (next_row n k rows i x within is sent) [ inl same ↦ absurd (true≢false (sym same ∙ ap (is_sent_to n k) none)) | inr rest ↦ inl rest ]
-
   -- those of the next merge have ended
-  pub row_ends : (n : ℕ) (rows : List OpenMerge) (i : ℕ) (x : OpenMerge) (s : Spread) (old mid new : ReplicaParts D) → i < length rows → x ≡ get_or rows i x → x.spread ≡ Some s → RowsEnd n rows i old mid
-      → LosesCopies cells mid new → ((k : ℕ) → is_sent_in n k s.left ≡ true → copy_at k new.copies.running ≡ None) → RowsEnd n rows (i + 1) old new
-  row_ends n rows i x s old mid new within is spread was one ended = record { loses = loses_then old mid new was.loses one; gone = λ k sent. after k (was.gone k sent) }
+  pub row_next : (n : ℕ) (rows : List OpenMerge) (i : ℕ) (x : OpenMerge) (old mid new : ReplicaParts D) → i < length rows → x ≡ get_or rows i x → RowsEnd n rows i old mid → EndsSpread cells n x.spread mid new → RowsEnd n rows (i + 1) old new
+  row_next n rows i x old mid new within is was one = record { loses = loses_then old mid new was.loses one.loses; gone = λ k sent. after k (was.gone k sent) }
     where
       after : (k : ℕ) → (are_sent n k (drop i rows) ≡ true) ⊎ (copy_at k mid.copies.running ≡ None) → (are_sent n k (drop (i + 1) rows) ≡ true) ⊎ (copy_at k new.copies.running ≡ None)
-      after k (inr none) = inr (none_runs mid.copies.running new.copies.running k one.runs none)
-      after k (inl sent) = elim (next_row n k rows i x within is sent) [ inl same ↦ inr (ended k (sym (ap (is_sent_to n k) spread) ∙ same)) | inr rest ↦ inl rest ]
+      after k (inr none) = inr (none_runs mid.copies.running new.copies.running k one.loses.runs none)
+      after k (inl sent) = elim (next_row n k rows i x within is sent) [ inl same ↦ inr (one.gone k same) | inr rest ↦ inl rest ]
+
+  pub no_spread : (n : ℕ) (o : Option Spread) (r : ReplicaParts D) → IsWholeReplica cells r → ((s : Spread) → o ≡ Some s → ⊥) → EndsSpread cells n o r r
+  no_spread n None r whole none = record { loses = loses_none r whole; gone = λ k sent. absurd (true≢false (sym sent)) }
+  no_spread n (Some s) r whole none = absurd (none s refl)
+
+  pub some_spread : (n : ℕ) (o : Option Spread) (s : Spread) (r t : ReplicaParts D) → o ≡ Some s → LosesCopies cells r t → ((k : ℕ) → is_sent_in n k s.left ≡ true → copy_at k t.copies.running ≡ None) → EndsSpread cells n o r t
+  some_spread n o s r t is loses gone = record { loses = loses; gone = λ k sent. gone k (sym (ap (is_sent_to n k) is) ∙ sent) }
 
   pub rows_ended : (n : ℕ) (rows : List OpenMerge) (i : ℕ) (old new : ReplicaParts D) → length rows ≤ i → RowsEnd n rows i old new → EndsCopies cells n rows old new
   rows_ended n rows i old new low was = record { loses = was.loses; gone = λ k sent. by k (was.gone k sent) }

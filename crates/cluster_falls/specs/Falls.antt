@@ -1,5 +1,5 @@
 -- What the nodes of a cluster lose where the merges in flight end: their copies of merged segments.
-use Rattle.std.specs.Prelude.{ℕ, ◌≡◌, true, Bool, List, [], Option, Some, None, IsSomeAnd, length}
+use Rattle.std.specs.Prelude.{ℕ, ◌≡◌, ◌==◌, true, Bool, List, [], Option, Some, None, IsSomeAnd, length}
 use Rattle.std.specs.List.{list_any}
 use Rattle.disk_model.specs.Disk.{Cells}
 use Rattle.node_files.specs.Appearing.{NoneAppears}
@@ -8,6 +8,8 @@ use Rattle.replica_parts.specs.Merges.{copy_at}
 use Rattle.replica_parts.specs.Replica.{IsWholeReplica, AreStanding}
 use Rattle.replica_parts.specs.Sources.{KeepsSource}
 use Rattle.cluster_tasks.specs.declared.tasks.OpenMerge.{OpenMerge}
+use Rattle.cluster_tasks.specs.declared.tasks.Sent.{Sent}
+use Rattle.cluster_tasks.specs.declared.tasks.Spread.{Spread}
 use Rattle.cluster_tasks.specs.Board.{Board, is_sent_to}
 use Rattle.cluster_places.specs.declared.nodes.Node.{Node}
 use Rattle.cluster_places.specs.declared.nodes.Node.TheVariants.{Primary, Replica, Down}
@@ -28,6 +30,16 @@ module _ {D : Type 0} where
     pub standing : AreStanding cells old → AreStanding cells new
     pub sourced : KeepsSource cells old new
     pub appears : NoneAppears (cells old.dir) (cells new.dir)
+
+  -- this copy does not run any more, where it was sent to the replica, which lost nothing but copies
+  pub record EndsSent (cells : D → Cells) (n : ℕ) (sent : Sent) (old new : ReplicaParts D) : Type 0 where
+    pub loses : LosesCopies cells old new
+    pub gone : (sent.node.0 == n) ≡ true → copy_at sent.job new.copies.running ≡ None
+
+  -- so it is of each copy that a merge sent
+  pub record EndsSpread (cells : D → Cells) (n : ℕ) (spread : Option Spread) (old new : ReplicaParts D) : Type 0 where
+    pub loses : LosesCopies cells old new
+    pub gone : (k : ℕ) → is_sent_to n k spread ≡ true → copy_at k new.copies.running ≡ None
 
   -- no copy that these merges sent to the replica runs any more, and it lost nothing but copies
   pub record EndsCopies (cells : D → Cells) (n : ℕ) (rows : List OpenMerge) (old new : ReplicaParts D) : Type 0 where

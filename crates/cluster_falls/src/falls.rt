@@ -5,14 +5,28 @@ ghost use Rattle.history_entries.specs.Nodes.{is_at};
 ghost use Rattle.replica_parts.specs.Merges.{copy_at};
 ghost use Rattle.cluster_places.specs.Places.{place_of, IsSlot};
 ghost use Rattle.cluster_tasks.specs.Board.{is_sent_in};
-ghost use Rattle.cluster_falls.specs.Falls.{are_sent, LosesCopies, EndsCopies, NodeLoses, PlaceLoses, AllLose, Falls};
+ghost use Rattle.cluster_falls.specs.Falls.{LosesCopies, EndsSent, EndsSpread, EndsCopies, NodeLoses, PlaceLoses, AllLose, Falls};
 
 use cluster_places::{Node, Place};
-use cluster_tasks::{OpenMerge, Sent, Tasks};
+use cluster_tasks::{OpenMerge, Sent, Spread, Tasks};
 use disk_model::Dir;
 use node_merges::drop_copy;
 use nrt_base::NodeNo;
 use replica_node::Replica;
+
+// Ends a copy that was sent to this replica, where it runs.
+fn drop_one<D: Dir + Drop>(replica: &mut Replica<D>, n: usize, sent: &Sent)
+    ensures { EndsSent D.cells n sent.now replica.old replica.new }
+{
+    replica.version();
+    if sent.node.0 as usize != n {
+        return;
+    }
+    let Some(_) = replica.precopy(sent.job) else {
+        return;
+    };
+    drop_copy(replica, sent.job);
+}
 
 // Ends those of these copies that were sent to this replica and run.
 fn drop_sent<D: Dir + Drop>(replica: &mut Replica<D>, n: usize, left: &[Sent])
@@ -22,9 +36,17 @@ fn drop_sent<D: Dir + Drop>(replica: &mut Replica<D>, n: usize, left: &[Sent])
 {
     replica.version();
     for sent in left {
-        if sent.node.0 as usize == n && replica.precopy(sent.job).is_some() {
-            drop_copy(replica, sent.job);
-        }
+        drop_one(replica, n, sent);
+    }
+}
+
+// Ends the copies that a merge sent to this replica and that run.
+fn drop_spread<D: Dir + Drop>(replica: &mut Replica<D>, n: usize, spread: &Option<Spread>)
+    ensures { EndsSpread D.cells n spread.now replica.old replica.new }
+{
+    replica.version();
+    if let Some(spread) = spread {
+        drop_sent(replica, n, spread.left.as_slice());
     }
 }
 
@@ -34,9 +56,7 @@ fn drop_copies<D: Dir + Drop>(replica: &mut Replica<D>, n: usize, rows: &[OpenMe
 {
     replica.version();
     for row in rows {
-        if let Some(spread) = &row.spread {
-            drop_sent(replica, n, spread.left.as_slice());
-        }
+        drop_spread(replica, n, &row.spread);
     }
 }
 

@@ -2,3 +2,5 @@ mod Crashing
 mod Outliving
 mod Reopening
 mod ReopenMerges
+mod FallenMerges
+mod CrashMerges

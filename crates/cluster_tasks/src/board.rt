@@ -258,7 +258,7 @@ impl Tasks {
 
     /// The merges in flight.
     pub fn rows(&self) -> &[OpenMerge]
-        ensures { result ≡ self.now.rows }
+        ensures { result.now ≡ self.now.rows }
     {
         self.rows.as_slice()
     }
