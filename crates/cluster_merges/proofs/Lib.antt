@@ -6,3 +6,4 @@ pub mod BegunShows
 pub mod BegunStands
 pub mod StartPaths
 pub mod FilesMore
+pub mod CutStands
