@@ -9,3 +9,4 @@ pub mod FilesMore
 pub mod ReadyFiles
 pub mod WrittenStand
 pub mod SendSteps
+pub mod CutStands
