@@ -54,7 +54,7 @@ use Rattle.cluster_state.proofs.Disks.{fresh_flights, commits_shown, commits_alo
 use Rattle.cluster_state.proofs.Wider.{primary_stays, primary_kept}
 use Rattle.cluster_state.proofs.Drawn.{Grows, grows_none, grows_shown}
 use Rattle.cluster_state.proofs.Naming.{means_more, altered_steps, altered_job}
-use Rattle.cluster_state.proofs.FileFrames.{names_both, replica_same, both_each, both_of, Both}
+use Rattle.cluster_state.proofs.FileFrames.{names_both, replica_same, both_each, both_of, Both, wants_apart}
 use Rattle.cluster_state.proofs.FileJobs.{job_out}
 use Rattle.cluster_places.proofs.Stepping.{out_pushed}
 use Rattle.cluster_state.proofs.PointStands.{state_metas}
@@ -216,11 +216,7 @@ module _ {D : Type 0} (cells : D → Cells) where
       there_n = b.moves.there n ∙ ap (λ (t : Bool). if t then Some y else if p == n then Some x else place_of old n) (eq-eqb n n refl)
 
       apart_wants : (m : ℕ) → (n == m) ≡ false → want_at (place_of new m) ≡ want_at (place_of old m)
-      apart_wants m apart = ap want_at (b.moves.there m ∙ ap (λ (t : Bool). if t then Some y else if p == m then Some x else place_of old m) apart) ∙ tests (p == m) refl
-        where
-          tests : (t : Bool) → (p == m) ≡ t → want_at (if p == m then Some x else place_of old m) ≡ want_at (place_of old m)
-          tests true here = ap (λ (t : Bool). want_at (if t then Some x else place_of old m)) here ∙ sym (ap (λ (k : ℕ). want_at (place_of old k)) (sym (eqb-true p m here)) ∙ ap want_at b.both.primary.there)
-          tests false here = ap (λ (t : Bool). want_at (if t then Some x else place_of old m)) here
+      apart_wants m apart = wants_apart p n x y (record { node = Primary b.both.primary.parts; held = b.both.primary.held }) old new b.moves b.both.primary.there refl m apart
 
       want_new : want_at (place_of new n) ≡ Some (out_of b.begins.state)
       want_new = ap want_at there_n ∙ (ap want_of b.begins.there ∙ ap (λ (s : CopyState). Some (out_of s)) b.begins.want)

@@ -1,3 +1,4 @@
 mod Crashing
 mod Outliving
 mod Reopening
+mod ReopenMerges

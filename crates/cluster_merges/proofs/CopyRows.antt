@@ -3,7 +3,7 @@ use Rattle.std.proofs.Common.{◌≡◌, ◌≢◌, ◌≤◌, ◌<◌, ◌+◌,
 use Rattle.std.specs.Prelude.{IsSomeAnd, map}
 use Rattle.std.specs.List.{All, list_any}
 use Rattle.std.proofs.lemmas.List.Elements.{All-nil, All-cons, All-append}
-use Rattle.std.proofs.lemmas.Bool.Decides.{nat_tests}
+use Rattle.std.proofs.lemmas.Bool.{eqb-true}
 use Rattle.nrt_base.specs.declared.numbers.At.{At}
 use Rattle.nrt_base.specs.declared.numbers.LineNo.{LineNo}
 use Rattle.nrt_base.specs.declared.numbers.NodeNo.{NodeNo}
@@ -43,9 +43,6 @@ use Rattle.cluster_merges.proofs.StandSteps.{alike_copied, sent_still, spreads_w
 use Rattle.cluster_merges.specs.Sending.{AllShown}
 use Rattle.cluster_merges.proofs.InsideSteps.{inside_all}
 
-number_is : (a b : ℕ) → (a == b) ≡ true → a ≡ b
-number_is a b e = grind (arith, nat_tests, e)
-
 -- a merge in flight whose files are written
 pub record IsSpreadRow (seg : ℕ) (rows : List OpenMerge) : Type 0 where
   pub row : OpenMerge
@@ -84,7 +81,7 @@ module _ (seg : ℕ) (rows : List OpenMerge) (z : IsSpreadRow seg rows) (t : Spr
       keeps seg' k s there sent =
           subst (λ (o : Option OpenMerge). IsSomeAnd (spread_at o) (λ u. (is_sent_in n k u.left ≡ true) × (u.state ≡ s.state))) (sym (open_with rows seg (Some t) z.row z.there seg'))
           (by_test (seg == seg') (λ b. (seg == seg') ≡ b → IsSomeAnd (spread_at (if b then Some (record z.row { spread = Some t }) else open_merge seg' rows)) (λ u. (is_sent_in n k u.left ≡ true) × (u.state ≡ s.state)))
-          (λ here e. let is : z.spread ≡ s = of_some s (sym (ap (λ (o : Option OpenMerge). spread_at o) (ap (λ (q : ℕ). open_merge q rows) (sym (number_is seg seg' e)) ∙ z.there)) ∙ there) in
+          (λ here e. let is : z.spread ≡ s = of_some s (sym (ap (λ (o : Option OpenMerge). spread_at o) (ap (λ (q : ℕ). open_merge q rows) (sym (eqb-true seg seg' e)) ∙ z.there)) ∙ there) in
           (more k (ap (λ (x : Spread). is_sent_in n k x.left) is ∙ sent), same ∙ ap (λ (x : Spread). x.state) is))
           (λ apart e. subst (λ (o : Option Spread). IsSomeAnd o (λ u. (is_sent_in n k u.left ≡ true) × (u.state ≡ s.state))) (sym there) (sent, refl))
           refl)
@@ -131,7 +128,7 @@ module _ {D : Type 0} (cells : D → Cells) where
       inside_all cells b0 b2 places board new i log nodes cut (λ at. refl) (λ n. same_inner b0.log i n refl) tasks
       (subst (λ (l : List Posted). All (λ p. IsFitKind p.kind) l) (sym posted)
       (All-append (λ (p : Posted). IsFitKind p.kind) (board.posted ++ posts_of seg line left) (post_after seg line left)
-      (All-append (λ (p : Posted). IsFitKind p.kind) board.posted (posts_of seg line left) all.1.1.fit (posts_fit seg line left)) (after_fit seg line left)))
+      (All-append (λ (p : Posted). IsFitKind p.kind) board.posted (posts_of seg line left) all.2.fit (posts_fit seg line left)) (after_fit seg line left)))
       each empty all
     where
       i : Inner
@@ -157,8 +154,8 @@ module _ {D : Type 0} (cells : D → Cells) where
           (λ n. ap (λ (l : List OpenMerge). line_told (open_merge n l)) rows ∙ lines_with board.rows seg.0 (all_sent (spread_at (open_merge seg.0 board.rows))) n)
           (subst (λ (l : List Posted). All (IsToldTask b0.log) l) (sym posted)
           (All-append (IsToldTask b0.log) (board.posted ++ posts_of seg line left) (post_after seg line left)
-          (All-append (IsToldTask b0.log) board.posted (posts_of seg line left) all.1.1.tasks.posted (posts_told b0.log seg line left)) (after_told b0.log seg line left)))
-          due (λ x. counts x ∙ ap (λ (k : ℕ). done_under x board.counts + k) (counts_ends x line seg by MergeStep)) all.1.1.tasks
+          (All-append (IsToldTask b0.log) board.posted (posts_of seg line left) all.2.tasks.posted (posts_told b0.log seg line left)) (after_told b0.log seg line left)))
+          due (λ x. counts x ∙ ap (λ (k : ℕ). done_under x board.counts + k) (counts_ends x line seg by MergeStep)) all.2.tasks
         where
           due : 1 + due_all b0.nodes new.rows ≤ due_all b0.nodes board.rows
           due = let less = due_posted b0.nodes board.rows seg.0 found.0.row found.0.spread found.0.there found.0.some found.1.0 found.1.1 in
@@ -167,7 +164,7 @@ module _ {D : Type 0} (cells : D → Cells) where
               omega (arith, less, same)
 
       each : (n : ℕ) → IsNode b0.nodes n → IsSomeAnd (place_of places n) (λ z. NodeMerges (kept i ∷ b0.log) b0.cut (λ s. jobs_like places s b0.nodes) new.rows n z.node)
-      each n node = some_then (place_of places n) (all.1.1.each n node)
+      each n node = some_then (place_of places n) (all.2.each n node)
           (λ z is. subst (λ (l : List OpenMerge). NodeMerges (kept i ∷ b0.log) b0.cut (λ s. jobs_like places s b0.nodes) l n z.node) (sym rows_are)
           (node_copied seg.0 board.rows found.0 t refl (kept i ∷ b0.log) b0.cut (λ s. jobs_like places s b0.nodes) n z.node (λ k sent. sent)
           (node_stands b0.log (kept i ∷ b0.log) b0.cut (λ s. jobs_like places s b0.nodes) (λ s. jobs_like places s b0.nodes) board.rows n (λ seg inputs is. is) z.node z.node

@@ -2,6 +2,7 @@
 use Rattle.std.proofs.Common.{◌≡◌, ◌≢◌, ◌≤◌, ◌<◌, ◌+◌, ◌++◌, ◌==◌, ◌&&◌, ℕ, Bool, true, false, true≢false, List, [], ◌∷◌, Some, None, Option, length, refl, ap, ◌∙◌, sym, subst, arith, if◌then◌else◌}
 use Rattle.std.specs.Prelude.{not, is_some, IsSomeAnd}
 use Rattle.std.specs.List.{All, filter}
+use Rattle.std.proofs.lemmas.Bool.{eqb-true}
 use Rattle.std.proofs.lemmas.Bool.Decides.{nat_tests}
 use Rattle.nrt_base.specs.declared.numbers.NodeNo.{NodeNo}
 use Rattle.nrt_base.specs.declared.numbers.SegNo.{SegNo}
@@ -25,9 +26,6 @@ use Rattle.cluster_tasks.specs.Board.{open_merge, spread_at, with_spread, withou
 use Rattle.cluster_tasks.proofs.BoardRows.{open_end, open_without, open_with}
 use Rattle.cluster_places.specs.Outs.{one_like}
 use Rattle.cluster_state.specs.Merging.{IsStateOfMerged, AreWrittenAlike, IsMergeOfRow, AreMergedAlike, state_at, spreads_like, IsSentCopy, AreSentCopies}
-
-eqb_is : (a b : ℕ) → (a == b) ≡ true → a ≡ b
-eqb_is a b e = grind (arith, nat_tests, e)
 
 -- ---- the primary's merges by their numbers
 
@@ -59,7 +57,7 @@ pub merge_numbered : (ms : List Merging) (seg : ℕ) (m : Merging) → merge_of 
 merge_numbered [] seg m is = absurd (cc)
 merge_numbered (x ∷ ms) seg m is =
     by_test (x.task.seg.0 == seg) (λ b. (x.task.seg.0 == seg) ≡ b → (if b then Some x else merge_of seg ms) ≡ Some m → m.task.seg.0 ≡ seg)
-    (λ here e is. let same : x ≡ m = cc in sym (ap (λ (z : Merging). z.task.seg.0) same) ∙ eqb_is x.task.seg.0 seg e)
+    (λ here e is. let same : x ≡ m = cc in sym (ap (λ (z : Merging). z.task.seg.0) same) ∙ eqb-true x.task.seg.0 seg e)
     (λ apart e is. merge_numbered ms seg m is)
     refl is
 
@@ -131,7 +129,7 @@ alike_copied log ms rows seg row s t there some same alike n =
         }
 
     by : (b : Bool) → (seg == n) ≡ b → AreMergedAlike log (merge_of n ms) (if b then Some (record row { spread = Some t }) else open_merge n rows)
-    by true here = of_row (merge_of n ms) (subst (λ (o : Option OpenMerge). AreMergedAlike log (merge_of n ms) o) (ap (λ (k : ℕ). open_merge k rows) (sym (eqb_is seg n here)) ∙ there) (alike n))
+    by true here = of_row (merge_of n ms) (subst (λ (o : Option OpenMerge). AreMergedAlike log (merge_of n ms) o) (ap (λ (k : ℕ). open_merge k rows) (sym (eqb-true seg n here)) ∙ there) (alike n))
     by false apart = alike n
 
 -- it has been cut over
@@ -141,7 +139,7 @@ alike_closed log ms rows seg gone alike n =
     subst (λ (o : Option OpenMerge). AreMergedAlike log (merge_of n (merges_without seg ms)) o) (sym (open_without rows seg n)) (by (seg == n) refl)
   where
     by : (b : Bool) → (seg == n) ≡ b → AreMergedAlike log (merge_of n (merges_without seg ms)) (if b then None else open_merge n rows)
-    by true here = subst (λ (o : Option Merging). AreMergedAlike log o None) (sym (ap (λ (k : ℕ). merge_of k (merges_without seg ms)) (sym (eqb_is seg n here)) ∙ gone)) tt
+    by true here = subst (λ (o : Option Merging). AreMergedAlike log o None) (sym (ap (λ (k : ℕ). merge_of k (merges_without seg ms)) (sym (eqb-true seg n here)) ∙ gone)) tt
     by false apart = subst (λ (o : Option Merging). AreMergedAlike log o (open_merge n rows)) (sym (merge_other ms seg n apart)) (alike n)
 
 -- ---- copies that run

@@ -29,6 +29,7 @@ pub fn note_drained<D: FaultDir + Drop>(
 {
     let book = cluster.ledger.book();
     book.is_fresh(at);
+    book.is_legal();
     cluster.ended = true;
     cluster.ledger.reserve(1)?;
     cluster.tasks.drain(at);

@@ -84,23 +84,27 @@ pub fn take_task<D: FaultDir + Drop>(
 {
     cluster.ended = true;
     cluster.ledger.reserve(1)?;
-    let Some(posted) = cluster.tasks.take() else {
-        cluster.ended = false;
-        return Ok(None);
-    };
-    let Posted { seg, line, kind } = posted;
-    let step = step_of(&kind);
-    cluster.ledger.keep(Inner::TaskOut {
-        line,
-        seg,
-        by,
-        step,
-    });
-    cluster.ended = false;
-    Ok(Some(Task {
-        line,
-        seg,
-        by,
-        kind,
-    }))
+    match cluster.tasks.take() {
+        None => {
+            cluster.ended = false;
+            Ok(None)
+        }
+        Some(posted) => {
+            let Posted { seg, line, kind } = posted;
+            let step = step_of(&kind);
+            cluster.ledger.keep(Inner::TaskOut {
+                line,
+                seg,
+                by,
+                step,
+            });
+            cluster.ended = false;
+            Ok(Some(Task {
+                line,
+                seg,
+                by,
+                kind,
+            }))
+        }
+    }
 }

@@ -110,6 +110,14 @@ module _ {D : Type 0} where
       (λ apart q. ap want_at (moves.there m ∙ ap (λ (b : Bool). if b then Some x else place_of old m) apart))
       refl
 
+  -- the primary and a node were moved: the jobs of the others are as they were
+  pub wants_apart : (p n : ℕ) (x y u : Place D) (old new : List (Option (Place D))) → MovesBoth p n x y old new → place_of old p ≡ Some u → want_at (Some x) ≡ want_at (Some u) → (m : ℕ) → (n == m) ≡ false → want_at (place_of new m) ≡ want_at (place_of old m)
+  wants_apart p n x y u old new moves there same m apart = ap want_at (moves.there m ∙ ap (λ (b : Bool). if b then Some y else if p == m then Some x else place_of old m) apart) ∙ tests (p == m) refl
+    where
+      tests : (b : Bool) → (p == m) ≡ b → want_at (if p == m then Some x else place_of old m) ≡ want_at (place_of old m)
+      tests true here = ap (λ (b : Bool). want_at (if b then Some x else place_of old m)) here ∙ (same ∙ (ap want_at (sym there) ∙ ap (λ (k : ℕ). want_at (place_of old k)) (eqb-true p m here)))
+      tests false away = ap (λ (b : Bool). want_at (if b then Some x else place_of old m)) away
+
 -- ---- names
 
 module _ {D : Type 0} (cells : D → Cells) where

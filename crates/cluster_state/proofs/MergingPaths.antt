@@ -180,10 +180,10 @@ module _ {D : Type 0} (cells : D → Cells) where
 
   module _ (size : ℕ) (log : Log) (cut : Bool) (board : Board) (old new : List (Option (Place D))) (n : ℕ) (q : PrimaryParts D) (held : Vec Held Global) (moves_one : MovesOne n (record { node = Primary q; held = held }) old new) (node : IsNode size n)
     (shows : Shows cells log size old) (was : MergesStand log cut size board old) where
-    jobs_was : Out → ℕ
+    abbrev jobs_was : Out → ℕ
     jobs_was s = jobs_like old s size
 
-    jobs_are : Out → ℕ
+    abbrev jobs_are : Out → ℕ
     jobs_are s = jobs_like new s size
 
     others_stand : (now : Log) (after : Bool) (m : ℕ) (x : Node D) → is_at (primary_of (printed log)) m ≡ false → NodeShows cells log m x → NodeMerges log cut jobs_was board.rows m x → NodeMerges now after jobs_are board.rows m x

@@ -16,6 +16,8 @@ use Rattle.history_entries.specs.declared.entry.Entry.{Entry}
 use Rattle.history_entries.specs.declared.entry.Event.{Event}
 use Rattle.history_entries.specs.declared.entry.Event.TheVariants.{Crashed, Merging, Drained, Fault}
 use Rattle.history_entries.specs.Nodes.{Past, is_at, primary_of}
+use Rattle.history_entries.specs.Points.{names_drawn}
+use Rattle.nrt_base.specs.SegNumbers.{segments_of_generation}
 use Rattle.history_entries.specs.Lines.{same_at, entries_of_line}
 use Rattle.history_entries.specs.Tasks.{merge_count, drained_count}
 use Rattle.history_tables.proofs.RowLemmas.{by_test, same_at_self, same_at_is}
@@ -29,7 +31,7 @@ use Rattle.cluster_tasks.specs.declared.tasks.TaskKind.{TaskKind}
 use Rattle.cluster_tasks.specs.declared.tasks.TaskKind.TheVariants.{Merge, PreCopy, Cut}
 use Rattle.cluster_tasks.specs.declared.tasks.Posted.{Posted}
 use Rattle.cluster_tasks.specs.declared.tasks.OpenMerge.{OpenMerge}
-use Rattle.cluster_tasks.specs.TaskLog.{or_first, inputs_by, inputs_out, merge_task, ends_task, ended_count, ends_task_by, counted_by, counted_for, is_drained, have_drained, starts_merge, has_started, leaves_merges, leaves_tasks}
+use Rattle.cluster_tasks.specs.TaskLog.{or_first, inputs_by, inputs_out, merge_task, ends_task, ended_count, ends_task_by, counted_by, counted_for, is_drained, have_drained, starts_merge, has_started, StartWithNames, leaves_merges, leaves_tasks}
 use Rattle.cluster_tasks.specs.Board.{Board, open_merge, with_spread, without_merge, posted_merge, done_under, without_count, due_of, due_all, IsToldKind, IsToldTask, TasksShow}
 use Rattle.cluster_tasks.proofs.BoardRows.{line_told, open_end, open_without, due_end}
 use Rattle.cluster_tasks.proofs.Counts.{other_counts}
@@ -72,12 +74,17 @@ drained_left : (x : At) (e : Event) (past : Past) (p : Option NodeNo) → leaves
 drained_left x (Drained done most) past p leaves = absurd (true≢false (sym leaves))
 drained_left x e past p leaves = refl
 
+low_left : (x : At) (e : Event) (past : Past) (p : Option NodeNo) → leaves_merges e p ≡ true → StartWithNames past → StartWithNames (record { at = x; event = e } ∷ past)
+low_left x (Merging s) past p leaves low = absurd (true≢false (sym leaves))
+low_left x e past p leaves low = (tt, low)
+
 -- most printed entries leave tasks as they are
 pub tasks_still : (size : ℕ) (log : Log) (b : Board) (x : At) (e : Event) → leaves_merges e (primary_of (printed log)) ≡ true → TasksShow size log b → TasksShow size (shown x e ∷ log) b
 tasks_still size log b x e leaves s = record {
   lines = λ seg. s.lines seg ∙ ap (λ (o : Option At). option_map (λ (at : At). at.line) o) (sym (merge_left seg x e (primary_of (printed log)) (merge_on seg log) leaves));
   posted = told_all log (shown x e ∷ log) (λ seg inputs is. is) b.posted s.posted;
   noted = λ seg some. or_right (starts_merge seg e) (has_started seg (printed log)) (s.noted seg some);
+  low = low_left x e (printed log) (primary_of (printed log)) leaves s.low;
   paid = let paid = s.paid in subst (λ (k : ℕ). ended_count log + due_all size b.rows ≤ (size + 1) * k) (sym (count_left x e (printed log) (primary_of (printed log)) leaves)) paid;
   drains = λ lines none.
       let low = s.drains lines (or_parts (is_drained e && lines x) (have_drained lines (printed log)) none).1 in
@@ -92,6 +99,7 @@ tasks_faulted size log b x n kind s = record {
   lines = s.lines;
   posted = told_all log (mark_for true (record { at = x; event = Fault n kind }) ∷ log) (λ seg inputs is. is) b.posted s.posted;
   noted = s.noted;
+  low = (tt, s.low);
   paid = s.paid;
   drains = s.drains;
   counts = s.counts;
@@ -108,6 +116,7 @@ tasks_kept size log b i leaves s = record {
   lines = s.lines;
   posted = told_all log (kept i ∷ log) (λ seg inputs is. is) b.posted s.posted;
   noted = s.noted;
+  low = s.low;
   paid = let paid = s.paid in omega (arith, paid);
   drains = λ lines none. let low = s.drains lines none in omega (arith, low);
   counts = λ at none. (let is = s.counts at none in omega (arith, is));
@@ -119,6 +128,7 @@ tasks_noted size log b line seg inputs started s = record {
   lines = s.lines;
   posted = told_all log (kept (MergeOut line seg inputs) ∷ log) (λ n x is. first_stays (inputs_out n log) (inputs_by n (MergeOut line seg inputs)) x is) b.posted s.posted;
   noted = λ n some. by n (seg.0 == n) refl some;
+  low = s.low;
   paid = let paid = s.paid in omega (arith, paid);
   drains = λ lines none. let low = s.drains lines none in omega (arith, low);
   counts = λ at none. (let is = s.counts at none in omega (arith, is));
@@ -135,6 +145,7 @@ tasks_on size log b new lines told less counts s = record {
   lines = λ seg. lines seg ∙ s.lines seg;
   posted = told;
   noted = s.noted;
+  low = s.low;
   paid = let paid = s.paid in omega (arith, paid, less);
   drains = s.drains;
   counts = λ at none. ap (done_under at) counts ∙ s.counts at none;
@@ -155,6 +166,7 @@ tasks_ended size log b new line seg taker step counts lines told less done s = r
   lines = λ n. lines n ∙ s.lines n;
   posted = told_all log (kept (TaskEnd line seg taker step counts) ∷ log) (λ n inputs is. is) new.posted told;
   noted = s.noted;
+  low = s.low;
   paid = let paid = s.paid in omega (arith, paid, less);
   drains = λ lines none. let low = s.drains lines none in let most = ends_most lines line seg taker step counts in omega (arith, low, most);
   counts = λ at none. let was = s.counts at none in let more = done at in omega (arith, was, more);
@@ -163,14 +175,15 @@ tasks_ended size log b new line seg taker step counts lines told less done s = r
 -- ---- merges
 
 -- a merge starts under a number that was not drawn before, its inputs are handed out, and the task to build its segment is posted
-pub tasks_begun : (size : ℕ) (log : Log) (b new : Board) (x : At) (seg : SegNo) (inputs : List Shown) → open_merge seg.0 b.rows ≡ None → inputs_out seg.0 log ≡ None
+pub tasks_begun : (size : ℕ) (log : Log) (b new : Board) (x : At) (seg : SegNo) (inputs : List Shown) → open_merge seg.0 b.rows ≡ None → inputs_out seg.0 log ≡ None → names_drawn (printed log) < segments_of_generation
     → new.rows ≡ b.rows ++ record { seg = seg; line = x.line; spread = None } ∷ [] → new.posted ≡ b.posted ++ posted_merge seg x.line (merge_task seg inputs) ∷ [] → new.counts ≡ b.counts
     → TasksShow size log b → TasksShow size (kept (MergeOut x.line seg inputs) ∷ shown x (Merging seg) ∷ log) new
-tasks_begun size log b new x seg inputs fresh unnoted rows posted counts s =
+tasks_begun size log b new x seg inputs fresh unnoted low rows posted counts s =
     let begun : TasksShow size (shown x (Merging seg) ∷ log) (record { posted = b.posted; rows = new.rows; counts = b.counts }) = record {
       lines = λ n. ap (λ (l : List OpenMerge). line_told (open_merge n l)) rows ∙ (ap line_told (open_end b.rows row n fresh) ∙ by n (seg.0 == n));
       posted = told_all log (shown x (Merging seg) ∷ log) (λ n i is. is) b.posted s.posted;
       noted = λ n some. or_right (seg.0 == n) (has_started n (printed log)) (s.noted n some);
+      low = (low, s.low);
       paid = paid;
       drains = s.drains;
       counts = s.counts;
@@ -204,6 +217,7 @@ tasks_closed size log b new seg rows posted counts less s = record {
   lines = λ n. ap (λ (l : List OpenMerge). line_told (open_merge n l)) rows ∙ (ap line_told (open_without b.rows seg.0 n) ∙ by n (seg.0 == n));
   posted = subst (λ (l : List Posted). All (IsToldTask (kept (MergeEnd seg) ∷ log)) l) (sym posted) (told_all log (kept (MergeEnd seg) ∷ log) (λ n inputs is. is) b.posted s.posted);
   noted = s.noted;
+  low = s.low;
   paid = let paid = s.paid in omega (arith, paid, less);
   drains = λ lines none. let low = s.drains lines none in omega (arith, low);
   counts = λ at none. (let is = s.counts at none in let same : done_under at new.counts ≡ done_under at b.counts = ap (done_under at) counts in omega (arith, is, same));
@@ -219,6 +233,7 @@ tasks_fallen size log b new x m falls rows posted counts s = record {
   lines = λ n. ap (λ (l : List OpenMerge). line_told (open_merge n l)) rows ∙ ap (λ (t : Bool). option_map (λ (at : At). at.line) (if t then None else merge_on n log)) (sym falls);
   posted = subst (λ (l : List Posted). All (IsToldTask (shown x (Crashed m) ∷ log)) l) (sym posted) (All-nil (IsToldTask (shown x (Crashed m) ∷ log)));
   noted = s.noted;
+  low = (tt, s.low);
   paid = let paid = s.paid in let none : due_all size new.rows ≡ 0 = ap (due_all size) rows in omega (arith, paid, none);
   drains = s.drains;
   counts = λ at none. ap (done_under at) counts ∙ s.counts at none;
@@ -275,6 +290,7 @@ tasks_drained size log b new x done most fresh is rows posted counts s = record 
   lines = λ n. ap (λ (l : List OpenMerge). line_told (open_merge n l)) rows ∙ s.lines n;
   posted = subst (λ (l : List Posted). All (IsToldTask (shown x (Drained done most) ∷ log)) l) (sym posted) (told_all log (shown x (Drained done most) ∷ log) (λ n inputs same. same) b.posted s.posted);
   noted = s.noted;
+  low = (tt, s.low);
   paid = let paid = s.paid in let due : due_all size new.rows ≡ due_all size b.rows = ap (due_all size) rows in omega (arith, paid, due);
   drains = λ lines none.
       let parts = or_parts (lines x) (have_drained lines (printed log)) none in

@@ -20,7 +20,7 @@ use Rattle.cluster_tasks.specs.declared.tasks.Posted.{Posted}
 use Rattle.cluster_tasks.specs.declared.tasks.Sent.{Sent}
 use Rattle.cluster_tasks.specs.declared.tasks.Spread.{Spread}
 use Rattle.cluster_tasks.specs.declared.tasks.OpenMerge.{OpenMerge}
-use Rattle.cluster_tasks.specs.TaskLog.{inputs_out, merge_task, ended_count, counted_by, counted_for, have_drained, has_started}
+use Rattle.cluster_tasks.specs.TaskLog.{inputs_out, merge_task, ended_count, counted_by, counted_for, have_drained, has_started, StartWithNames}
 
 -- the tasks that are posted, the first in first, the merges in flight, and how many tasks count for drain lines
 pub record Board : Type 0 where
@@ -154,12 +154,13 @@ abbrev pub IsToldTask : Log → Posted → Type 0
 IsToldTask log p = IsToldKind log p.seg p.kind
 
 -- What the entries show of tasks: each merge in flight has its row, of its line; a task to build a segment is what was handed out; what was
--- handed out of a merge was started; no more tasks have ended than merges have; all drains together did no more than have ended; and of a drain
+-- handed out of a merge was started, under one of its generation's names; no more tasks have ended than merges have; all drains together did no more than have ended; and of a drain
 -- line without a reply it is noted how many count for it.
 pub record TasksShow (size : ℕ) (log : Log) (b : Board) : Type 0 where
   pub lines : (seg : ℕ) → option_map (λ r. r.line) (open_merge seg b.rows) ≡ option_map (λ at. at.line) (merge_on seg log)
   pub posted : All (IsToldTask log) b.posted
   pub noted : (seg : ℕ) → inputs_out seg log ≢ None → has_started seg (printed log) ≡ true
+  pub low : StartWithNames (printed log)
   pub paid : ended_count log + due_all size b.rows ≤ (size + 1) * merge_count (printed log)
   pub drains : (lines : At → Bool) → have_drained lines (printed log) ≡ false → drained_count (printed log) + counted_by lines log ≤ ended_count log
   pub counts : (at : At) → have_drained (λ b. same_at b at) (printed log) ≡ false → done_under at b.counts ≡ counted_for at log

@@ -1,6 +1,7 @@
 -- What the entries of inner work show of merges and of their tasks.
-use Rattle.std.specs.Prelude.{ℕ, ◌≡◌, ◌+◌, ◌==◌, ◌&&◌, List, [], ◌∷◌, map, Bool, true, false, Option, Some, None, not, if◌then◌else◌}
+use Rattle.std.specs.Prelude.{ℕ, ◌≡◌, ◌<◌, ◌+◌, ◌==◌, ◌&&◌, List, [], ◌∷◌, map, Bool, true, false, Option, Some, None, not, if◌then◌else◌, ⊤}
 use Rattle.std.specs.List.{list_any}
+use Rattle.nrt_base.specs.SegNumbers.{segments_of_generation}
 use Rattle.nrt_base.specs.declared.numbers.At.{At}
 use Rattle.nrt_base.specs.declared.numbers.NodeNo.{NodeNo}
 use Rattle.nrt_base.specs.declared.numbers.SegNo.{SegNo}
@@ -11,6 +12,7 @@ use Rattle.history_entries.specs.declared.entry.Event.{Event}
 use Rattle.history_entries.specs.declared.entry.Event.TheVariants.{Merging, Drained, Crashed}
 use Rattle.history_entries.specs.Nodes.{Past, is_at}
 use Rattle.history_entries.specs.Lines.{same_at}
+use Rattle.history_entries.specs.Points.{names_drawn}
 use Rattle.history_book.specs.Log.{Log}
 use Rattle.history_book.specs.declared.inner.Inner.{Inner}
 use Rattle.history_book.specs.declared.inner.Inner.TheVariants.{MergeOut, MergeEnd, FileOut, TaskEnd}
@@ -91,6 +93,11 @@ starts_merge seg e = false
 -- a merge into the segment was started
 abbrev pub has_started : ℕ → Past → Bool
 has_started seg past = list_any (λ e. starts_merge seg e.event) past
+
+-- each merge that was started drew one of its generation's names
+abbrev pub StartWithNames : Past → Type 0
+StartWithNames [] = ⊤
+StartWithNames (e ∷ past) = elim e.event [ Merging seg ↦ names_drawn past < segments_of_generation | _ ↦ ⊤ ] × StartWithNames past
 
 -- the entry starts no merge, is no drain's reply, and the primary does not crash
 abbrev pub leaves_merges : Event → Option NodeNo → Bool

@@ -256,6 +256,13 @@ impl Tasks {
         spread
     }
 
+    /// The merges in flight.
+    pub fn rows(&self) -> &[OpenMerge]
+        ensures { result ≡ self.now.rows }
+    {
+        self.rows.as_slice()
+    }
+
     /// The primary has crashed: no merge is in flight, and no task is posted.
     pub fn clear(&mut self)
         ensures rows { self.new.rows ≡ [] }

@@ -1,2 +1,2 @@
-mod JobFiles
+pub mod JobFiles
 mod JobNumbers

@@ -1,6 +1,6 @@
 -- What a replica is once a copy of a merged segment has begun there, has taken a part, or has ended.
-use Rattle.std.proofs.Common.{◌≡◌, ◌≢◌, ◌≤◌, ◌<◌, ◌+◌, ◌^◌, ◌++◌, ◌==◌, ℕ, Bool, true, false, true≢false, List, [], ◌∷◌, Some, None, Option, refl, ap, ◌∙◌, sym, subst, arith, if◌then◌else◌, nat_lt}
-use Rattle.std.specs.Prelude.{IfSome, IsSome, IsSomeAnd, max, is_some}
+use Rattle.std.proofs.Common.{◌≡◌, ◌≢◌, ◌≤◌, ◌<◌, ◌+◌, ◌^◌, ◌++◌, ◌==◌, ℕ, Bool, true, false, true≢false, List, [], ◌∷◌, Some, None, Option, Result, Vec, Global, refl, ap, ◌∙◌, sym, subst, arith, if◌then◌else◌, nat_lt}
+use Rattle.std.specs.Prelude.{IfSome, IfOk, IsSome, IsSomeAnd, max, is_some}
 use Rattle.std.specs.Option.{option_map}
 use Rattle.std.specs.List.{All, AllByRecursion}
 use Rattle.std.proofs.lemmas.Bool.Decides.{nat_tests}
@@ -25,7 +25,14 @@ use Rattle.replica_parts.specs.Sources.{IsSourced, KeepsSource}
 use Rattle.replica_node.specs.Running.{running_job, with_job, without_job}
 use Rattle.history_tables.proofs.RowLemmas.{by_test}
 use Rattle.node_jobs.proofs.JobFiles.{wanted_meta}
-use Rattle.node_merges.specs.MergeChanges.{MaySend, SendsMerged, TakesMerged, DropsMerged}
+use Rattle.cluster_places.specs.declared.held.Held.{Held}
+use Rattle.cluster_places.specs.declared.nodes.Node.TheVariants.{Replica}
+use Rattle.cluster_places.specs.declared.nodes.Place.{Place}
+use Rattle.cluster_places.specs.JobChanges.{IsNextToFetch}
+use Rattle.node_merges.specs.declared.copies.CopyStep.{CopyStep}
+use Rattle.node_merges.specs.declared.copies.CopyStep.TheVariants.{Gone}
+use Rattle.node_merges.specs.MergeChanges.{is_copy_of, MaySend, SendsMerged, IsStepOf, TakesMerged, DropsMerged}
+use Rattle.node_merges.specs.MergePlaces.{IsStepAt}
 
 -- what is told of the generation leaves the copies, or none of them
 seen_copies : (P : MergeCopies → Type 0) (seen generation : ℕ) (c : MergeCopies) → P c → P no_copies → P (copies_seen seen generation c)
@@ -61,7 +68,9 @@ module _ {D : Type 0} where
     jobs = jobs ∙ ap (λ (k : ℕ). k + 1) before;
     seen = ap (λ (z : ReplicaParts D). z.seen) launched ∙ gen_same s.seen state.primary_gen (let low = may.seen in omega (arith, seen, low));
     holdings = s.files;
-    copies = begun ∙ λ i. record (copies i) { running = (copies i).running ++ merge_job_on (next (~ i)) (same i) s.files ∷ [] };
+    copies = begun ∙ ap (λ (m : MergeCopies). record m { running = m.running ++ merge_job_on (s.jobs + 1) copy s.files ∷ [] }) copies
+        ∙ ap (λ (k : ℕ). record (copies_seen r.seen.0 state.primary_gen.0 r.copies) { running = (copies_seen r.seen.0 state.primary_gen.0 r.copies).running ++ merge_job_on k copy s.files ∷ [] }) (sym next)
+        ∙ ap (λ (z : CopyState). record (copies_seen r.seen.0 state.primary_gen.0 r.copies) { running = (copies_seen r.seen.0 state.primary_gen.0 r.copies).running ++ merge_job_on number z s.files ∷ [] }) same;
     others = launched ∙ ap (λ (z : ReplicaParts D). record z { files = t.files; jobs = t.jobs; copies = t.copies }) (told ∙ ap (λ (g : Gen). record r { dir = s.dir; files = s.files; seen = g; copies = s.copies }) (sym (ap (λ (z : ReplicaParts D). z.seen) launched))) ∙ dirs;
     whole = whole;
     standing = λ is. standing2 (standing is);
@@ -109,15 +118,67 @@ number_at (x ∷ cs) number c is =
     hit : (a b : ℕ) → (a == b) ≡ true → a ≡ b
     hit a b e = grind (arith, nat_tests, e)
 
+pub wants : (o : Option Job) (c : Job) (seg : ℕ) (answer : Option (Name × FileMetaData)) (f : Name × FileMetaData) → o ≡ Some c → is_copy_of seg c ≡ true → answer ≡ Some f → IsNextToFetch c answer
+    → IsSomeAnd o (λ j. (is_copy_of seg j ≡ true) × ((0 < times j.missing f.0) × (meta_in j.want.files f.0 ≡ Some f.1)))
+wants o c seg answer f at is same next = subst (λ (x : Option Job). IsSomeAnd x (λ j. (is_copy_of seg j ≡ true) × ((0 < times j.missing f.0) × (meta_in j.want.files f.0 ≡ Some f.1)))) (sym at)
+    (is, subst (IsNextToFetch c) same next)
+
+pub no_job : {A : Type 0} (answer : Option A) (o : Option PointJob) → is_some answer ≡ is_some o → is_some answer ≡ false → o ≡ None
+no_job answer None same none = refl
+no_job answer (Some j) same none = absurd (true≢false (sym same ∙ none))
+
+-- what the law on numbers says
+abbrev pub CopyLaw : (D : Type 0) → Type 0
+CopyLaw D = (cells : D → Cells) (number : ℕ) (p : ReplicaParts D) (c : Job) → IsWholeReplica cells p → copy_at number p.copies.running ≡ Some c
+    → (running_job number p ≡ Some c) × ((k : Job) → with_job number k p ≡ record p { copies = record p.copies { running = copies_with number k p.copies.running } })
+    × (without_job number p ≡ record p { copies = record p.copies { running = copies_without number p.copies.running } })
+
+module _ {D : Type 0} where
+  -- what is next to do at the node that is there
+  pub step_there : {E : Type 0} (result : Result CopyStep E) (seg number : ℕ) (o : Option (Place D)) (r : ReplicaParts D) (held : Vec Held Global) → o ≡ Some (record { node = Replica r; held = held })
+      → IfOk result (IsStepOf seg number r) → IfOk result (IsStepAt seg number o)
+  step_there result seg number o r held is step = subst (λ (x : Option (Place D)). IfOk result (IsStepAt seg number x)) (sym is) step
+
+  pub gone_there : (seg number : ℕ) (o : Option (Place D)) (place : Place D) → o ≡ Some place → IsStepAt seg number (Some place) Gone → IsStepAt seg number o Gone
+  gone_there seg number o place is gone = subst (λ (x : Option (Place D)). IsStepAt seg number x Gone) (sym is) gone
+
 module _ {D : Type 0} (cells : D → Cells) where
   -- a copy that lacks the part, of the metadata that is wanted
-  pub part_fits : (o : Option Job) (c : Job) (q : Name) (meta : FileMetaData) → o ≡ Some c → IsJob c → is_among c.missing q ≡ true → IfSome o (λ j. (m : FileMetaData) → meta_in j.want.files q ≡ Some m → m ≡ meta)
+  pub part_fits : (o p : Option Job) (c : Job) (q : Name) (meta : FileMetaData) → o ≡ Some c → p ≡ Some c → IsJob c → is_among c.missing q ≡ true → IfSome p (λ j. (m : FileMetaData) → meta_in j.want.files q ≡ Some m → m ≡ meta)
       → IfSome o (λ j. meta_in j.want.files q ≡ Some meta)
-  part_fits o c q meta is job lacks wanted = subst (λ (x : Option Job). IfSome x (λ j. meta_in j.want.files q ≡ Some meta)) (sym is)
-      (let m = wanted_meta c q job (among_times c.missing q lacks) in m.1 ∙ ap Some (subst (λ (x : Option Job). IfSome x (λ j. (m : FileMetaData) → meta_in j.want.files q ≡ Some m → m ≡ meta)) is wanted m.0 m.1))
+  part_fits o p c q meta is at job lacks wanted = subst (λ (x : Option Job). IfSome x (λ j. meta_in j.want.files q ≡ Some meta)) (sym is)
+      (let m = wanted_meta c q job (among_times c.missing q lacks) in m.1 ∙ ap Some (subst (λ (x : Option Job). IfSome x (λ j. (m : FileMetaData) → meta_in j.want.files q ≡ Some m → m ≡ meta)) at wanted m.0 m.1))
 
   pub part_lacks : (o : Option Job) (c : Job) (q : Name) → o ≡ Some c → is_among c.missing q ≡ true → IfSome o (λ j. 0 < times j.missing q)
   part_lacks o c q is lacks = subst (λ (x : Option Job). IfSome x (λ j. 0 < times j.missing q)) (sym is) (among_times c.missing q lacks)
+
+  -- what a part that came in makes of the copy
+  pub part_is : (number : ℕ) (q : Name) (r s : ReplicaParts D) (c : Job) → CopyLaw D → IsWholeReplica cells r → copy_at number r.copies.running ≡ Some c
+      → IfSome (running_job number r) (λ j. s ≡ record (with_job number (with_part j q) r) { dir = s.dir; files = s.files })
+      → s ≡ record (record r { copies = record r.copies { running = copies_with number (with_part c q) r.copies.running } }) { dir = s.dir; files = s.files }
+  part_is number q r s c law whole at is =
+      let all = law cells number r c whole at in
+      subst (λ (o : Option Job). IfSome o (λ j. s ≡ record (with_job number (with_part j q) r) { dir = s.dir; files = s.files })) all.0 is
+      ∙ ap (λ (z : ReplicaParts D). record z { dir = s.dir; files = s.files }) (all.1 (with_part c q))
+
+  -- the copy ended
+  pub drops : (number : ℕ) (r s : ReplicaParts D) → CopyLaw D → IsWholeReplica cells r → IsSome (copy_at number r.copies.running) → s ≡ record (without_job number r) { dir = s.dir; files = s.files }
+      → IsWholeReplica cells s → (AreStanding cells r → AreStanding cells s) → KeepsSource cells r s → NoneAppears (cells r.dir) (cells s.dir) → DropsMerged cells number r s
+  drops number r s law whole some gone whole2 standing sourced appears = by (copy_at number r.copies.running) refl some
+    where
+      by : (o : Option Job) → copy_at number r.copies.running ≡ o → IsSome o → DropsMerged cells number r s
+      by None none some = absurd (true≢false (sym some))
+      by (Some c) at some =
+          let all = law cells number r c whole at in
+          let is : s ≡ record (record r { copies = record r.copies { running = copies_without number r.copies.running } }) { dir = s.dir; files = s.files } = gone ∙ ap (λ (z : ReplicaParts D). record z { dir = s.dir; files = s.files }) all.2 in
+          record {
+            others = is ∙ ap (λ (m : MergeCopies). record r { dir = s.dir; files = s.files; copies = m }) (sym (ap (λ (z : ReplicaParts D). z.copies) is));
+            copies = ap (λ (z : ReplicaParts D). z.copies) is;
+            whole = whole2;
+            standing = standing;
+            sourced = sourced;
+            appears = appears;
+          }
 
   -- the replica as it was: the copy did not lack the part
   pub takes_none : (number : ℕ) (part : Part) (r : ReplicaParts D) (c : Job) → IsWholeReplica cells r → copy_at number r.copies.running ≡ Some c → TakesMerged cells number part r r

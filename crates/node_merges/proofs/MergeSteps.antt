@@ -23,6 +23,16 @@ use Rattle.cluster_places.proofs.Taking.{moved_one}
 use Rattle.node_merges.specs.MergeChanges.{CutsMerge}
 use Rattle.node_merges.specs.MergePlaces.{MovesPrimary, MovesReplica}
 
+appears_over : (P : Name → Type 0) (a b c : Cells) → AppearsOnly P a b → NoneAppears b c → AppearsOnly P a c
+appears_over P a b c first second = record { each = λ q none some. first.each q none (between q some) }
+  where
+    between : (q : Name) → IsThere c q → IsThere b q
+    between q some = by (b q).now refl
+      where
+        by : (o : Option (List ℕ)) → (b q).now ≡ o → is_some (b q).now ≡ true
+        by None gone = absurd (false≢true (sym (ap is_some (second.each q gone)) ∙ some))
+        by (Some x) here = ap is_some here
+
 module _ {D : Type 0} where
   pub primary_moved : (Step : PrimaryParts D → PrimaryParts D → Type 0) (old mid new : List (Option (Place D))) (p : ℕ) (q r : PrimaryParts D) (held : Vec Held Global) → IsSlot old p
       → length mid ≡ length old → ((m : ℕ) → place_of mid m ≡ (if p == m then None else place_of old m)) → length new ≡ length mid → ((m : ℕ) → place_of new m ≡ (if p == m then Some (record { node = Primary r; held = held }) else place_of mid m))
@@ -79,16 +89,6 @@ module _ {D : Type 0} where
 
     fresh_over : FillsUndrawn old mid → FillsUndrawn old new
     fresh_over fresh = record { each = λ q none some. fresh.each q none (held_between q some) }
-
-  appears_over : (P : Name → Type 0) (a b c : Cells) → AppearsOnly P a b → NoneAppears b c → AppearsOnly P a c
-  appears_over P a b c first second = record { each = λ q none some. first.each q none (between q some) }
-    where
-      between : (q : Name) → IsThere c q → IsThere b q
-      between q some = by (b q).now refl
-        where
-          by : (o : Option (List ℕ)) → (b q).now ≡ o → is_some (b q).now ≡ true
-          by None gone = absurd (false≢true (sym (ap is_some (second.each q gone)) ∙ some))
-          by (Some x) here = ap is_some here
 
   drawn_over : (old mid new : PrimaryParts D) → DrawsOnly old mid → ((q : Name) → IsUnwritten new q → IsUnwritten mid q) → DrawsOnly old new
   drawn_over old mid new first second = record { each = λ q is. first.each q (second q is) }

@@ -167,6 +167,7 @@ fn take_merged<D: Dir + Drop>(
     requires meta { IsMetaOf part.bytes part.meta }
     ensures { OnOk result (TakesMerged D.cells job part replica.old replica.new) }
 {
+    replica.version();
     copy_runs::<D>();
     let Some(copy) = replica.precopy(job) else {
         unreachable!()
@@ -237,6 +238,7 @@ fn drop_copy<D: Dir + Drop>(replica: &mut Replica<D>, job: u64)
     requires { IsSome (copy_at job replica.old.copies.running) }
     ensures { DropsMerged D.cells job replica.old replica.new }
 {
+    replica.version();
     copy_runs::<D>();
     replica.fail(job);
 }

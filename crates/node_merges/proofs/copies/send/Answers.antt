@@ -1,5 +1,7 @@
-use Rattle.std.proofs.Common.{ap, arith}
+use Rattle.std.proofs.Common.{ap, sym, subst, arith}
+use Rattle.copy_state.specs.declared.state.CopyState.{CopyState}
 use Rattle.replica_parts.specs.declared.parts.Parts.{Parts as ReplicaParts}
+use Rattle.replica_parts.specs.Replica.{MayLaunch}
 use Rattle.node_merges.proofs.CopySteps.{may_launch, sends}
 use Rattle.node_merges.proofs.copies.send.Goals as goal
 
@@ -11,7 +13,8 @@ launch_precopy-requires-clause-few g c =
     omega (arith, low, now, noted)
 
 pub launch_precopy-requires-clause-launch : goal.launch_precopy-requires-clause-launch
-launch_precopy-requires-clause-launch g c = may_launch c.in_ok-copy.copy c.args.replica.now c.new_point.new.self c.requires.may c.new_point.ensures.seen c.new_point.ensures.copies (ap (λ (r : ReplicaParts _). r.job) c.new_point.ensures.others)
+launch_precopy-requires-clause-launch g c = subst (λ (s : CopyState). MayLaunch c.new_point.new.self s) (sym c.in_ok-copy.ensures)
+    (may_launch c.args.state.now c.args.replica.now c.new_point.new.self c.requires.may c.new_point.ensures.seen c.new_point.ensures.copies (ap (λ (r : ReplicaParts _). r.job) c.new_point.ensures.others))
 
 pub returns : goal.returns
 returns g c = sends g.D.Dir.cells c.args.state.now c.in_ok-copy.copy c.in-Ok.job c.args.replica.now c.new_point.new.self c.launch_precopy.new.self c.in_ok-copy.ensures c.requires.may

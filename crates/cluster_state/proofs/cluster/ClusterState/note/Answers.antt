@@ -1,3 +1,5 @@
+use Rattle.std.proofs.Common.{ap}
+use Rattle.cluster_state.specs.Run.{Run}
 use Rattle.cluster_state.proofs.Frames.{noted, rule_at}
 use Rattle.cluster_state.proofs.FileFrames.{files_noted}
 use Rattle.cluster_state.proofs.Ledgers.{still_apart, still_reigns}
@@ -26,3 +28,6 @@ show-requires-clause-apart g c = still_apart c.args.event c.requires.still
 
 pub show-requires-clause-reigns : goal.show-requires-clause-reigns
 show-requires-clause-reigns g c = still_reigns c.args.event _ c.requires.still
+
+pub returns-clause-tasks : goal.returns-clause-tasks
+returns-clause-tasks g c = ap (λ (r : Run). r.rest.tasks) c.self.view_is
