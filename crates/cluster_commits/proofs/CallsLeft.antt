@@ -74,7 +74,7 @@ module _ {D : Type 0} (cells : D → Cells) where
   told None = refl
   told (Some place) = refl
 
-  calls_are : (n : ℕ) (r : Run) (places : List (Option (Place D))) → r.calls_left ≡ calls_in places → calls_at n r ≡ place_calls (place_of places n)
+  calls_are : (n : ℕ) (r : Run) (places : List (Option (Place D))) → r.rest.calls_left ≡ calls_in places → calls_at n r ≡ place_calls (place_of places n)
   calls_are zero r places is = refl
   calls_are (suc k) r places is =
       ap (λ (l : List ℕ). unwrap_or (slice_get l k) 0) is ∙ (ap (λ (o : Option ℕ). unwrap_or o 0) (slice_get-map place_calls places k) ∙ told (slice_get places k))
@@ -83,16 +83,16 @@ module _ {D : Type 0} (cells : D → Cells) where
   there_now n x old new moves = moves.there n ∙ ap (λ (b : Bool). if b then Some x else place_of old n) (eq-eqb n n refl)
 
   module _ (n : ℕ) (r : Run) (old new : List (Option (Place D))) where
-    pub begun_calls : r.calls_left ≡ calls_in new → CommitsIn HasBegun cells n old new → calls_at n r ≡ 6
+    pub begun_calls : r.rest.calls_left ≡ calls_in new → CommitsIn HasBegun cells n old new → calls_at n r ≡ 6
     begun_calls is b =
         calls_are n r new is
         ∙ (ap place_calls (there_now n (record { node = b.node; held = b.place.held }) old new b.moves) ∙ node_begins b.place.node b.node b.alters)
 
-  module _ (n : ℕ) (r : Run) (old new : List (Option (Place D))) (done : Bool) (was : r.calls_left ≡ calls_in old) (b : CommitsIn (StepsBook done) cells n old new) where
+  module _ (n : ℕ) (r : Run) (old new : List (Option (Place D))) (done : Bool) (was : r.rest.calls_left ≡ calls_in old) (b : CommitsIn (StepsBook done) cells n old new) where
     before : calls_at n r ≡ book_calls (disk_of b.place.node).book
     before = calls_are n r old was ∙ ap place_calls b.there
 
-    pub made_call : done ≡ false → HasStageAt IsSome (place_of old n) → (now : Run) → now.calls_left ≡ calls_in new → MakesCall n r now
+    pub made_call : done ≡ false → HasStageAt IsSome (place_of old n) → (now : Run) → now.rest.calls_left ≡ calls_in new → MakesCall n r now
     made_call going flies now is =
         let here : Flies b.place.node = subst (HasStageAt IsSome) b.there flies in
         let falls = node_goes done b.place.node b.node going here b.alters in
@@ -107,5 +107,5 @@ module _ {D : Type 0} (cells : D → Cells) where
     made_last last = before ∙ node_ends done b.place.node b.node last b.alters
 
 -- in the terms of a call, whose cluster has this state
-pub calls_was : (r x : Run) → x ≡ r → r.calls_left ≡ x.calls_left
-calls_was r x view = sym (ap (λ (y : Run). y.calls_left) view)
+pub calls_was : (r x : Run) → x ≡ r → r.rest.calls_left ≡ x.rest.calls_left
+calls_was r x view = sym (ap (λ (y : Run). y.rest.calls_left) view)

@@ -49,7 +49,7 @@ use Rattle.cluster_places.specs.Places.{Disk, place_of, disk_of, disk_at, ticket
 use Rattle.cluster_places.specs.Outs.{want_of, want_at, jobs_like, states_like}
 use Rattle.cluster_places.specs.Commits.{HasStageAt, StepsBook, AltersPrimaryCommits, AltersReplicaCommits, AltersCommits, CommitsIn}
 use Rattle.cluster_places.proofs.OutCounts.{jobs_same}
-use Rattle.cluster_state.specs.Run.{Run, IsNow}
+use Rattle.cluster_state.specs.Run.{Rest, Run, IsNow}
 use Rattle.cluster_state.specs.Lookups.{flush_out}
 use Rattle.cluster_state.specs.State.{IsPointAt, FlightShows, WritesAt, NodeShows, PlaceShows, Shows, HoldsTickets}
 use Rattle.cluster_state.specs.Files.{JobShows, IsJobFor, ReplicaFiles, PrimaryFiles, NodeFiles, FilesShow}
@@ -394,18 +394,18 @@ module _ {D : Type 0} (cells : D → Cells) where
 -- ---- in the terms of a call
 
 -- what the book tells of what a node searches
-pub version_at : (r : Run) (ended : Bool) (b0 : Sheet) (n : NodeNo) (v : ℕ) → {left : List ℕ} → record { ended = ended; nodes = b0.nodes; log = b0.log; calls_left = left } ≡ r → v ≡ version_of n.0 (printed b0.log) → v ≡ version_of n.0 (printed r.log)
+pub version_at : (r : Run) (ended : Bool) (b0 : Sheet) (n : NodeNo) (v : ℕ) → {left : Rest} → record { ended = ended; nodes = b0.nodes; log = b0.log; rest = left } ≡ r → v ≡ version_of n.0 (printed b0.log) → v ≡ version_of n.0 (printed r.log)
 version_at r ended b0 n v view is = is ∙ ap (λ (x : Run). version_of n.0 (printed x.log)) view
 
 -- and of a commit that ends
-pub may_at : (r : Run) (ended : Bool) (b0 : Sheet) (at : At) (n : NodeNo) (v : Version) → {left : List ℕ} → record { ended = ended; nodes = b0.nodes; log = b0.log; calls_left = left } ≡ r → MayCommit b0.nodes (printed b0.log) at n v → KeepsRule r.nodes (printed r.log) at (Committed n v)
+pub may_at : (r : Run) (ended : Bool) (b0 : Sheet) (at : At) (n : NodeNo) (v : Version) → {left : Rest} → record { ended = ended; nodes = b0.nodes; log = b0.log; rest = left } ≡ r → MayCommit b0.nodes (printed b0.log) at n v → KeepsRule r.nodes (printed r.log) at (Committed n v)
 may_at r ended b0 at n v view may = subst (λ (x : Run). MayCommit x.nodes (printed x.log) at n v) view may
 
-pub turn_at : (r : Run) (ended : Bool) (b0 b1 : Sheet) (at : At) (n : NodeNo) (v : Version) → {left : List ℕ} → record { ended = ended; nodes = b0.nodes; log = b0.log; calls_left = left } ≡ r → b1.log ≡ b0.log → commit_in_flight n.0 (printed r.log) ≡ Some at → InTurn (printed b1.log) at (Committed n v)
+pub turn_at : (r : Run) (ended : Bool) (b0 b1 : Sheet) (at : At) (n : NodeNo) (v : Version) → {left : Rest} → record { ended = ended; nodes = b0.nodes; log = b0.log; rest = left } ≡ r → b1.log ≡ b0.log → commit_in_flight n.0 (printed r.log) ≡ Some at → InTurn (printed b1.log) at (Committed n v)
 turn_at r ended b0 b1 at n v view e1 flight = record { once = tt; flight = ap (λ (l : Log). commit_in_flight n.0 (printed l)) (e1 ∙ ap (λ (x : Run). x.log) view) ∙ flight }
 
 module _ {D : Type 0} (cells : D → Cells) (r : Run) (ended : Bool) (b0 : Sheet) (old : List (Option (Place D))) (at : At) (n : NodeNo)
-    {left : List ℕ} (view : record { ended = ended; nodes = b0.nodes; log = b0.log; calls_left = left } ≡ r) (running : r.ended ≡ false) (pair : ended ≡ false → Shows cells b0.log b0.nodes old × FilesShow cells b0.log b0.nodes old)
+    {left : Rest} (view : record { ended = ended; nodes = b0.nodes; log = b0.log; rest = left } ≡ r) (running : r.ended ≡ false) (pair : ended ≡ false → Shows cells b0.log b0.nodes old × FilesShow cells b0.log b0.nodes old)
     (node : IsNode r.nodes n.0) (up : is_running n.0 (printed r.log) ≡ true) where
   shows : Shows cells r.log r.nodes old
   shows = was cells r ended b0.nodes b0.log old view running (λ e. (pair e).0)
@@ -521,5 +521,5 @@ module _ {D : Type 0} (cells : D → Cells) (r : Run) (ended : Bool) (b0 : Sheet
 
     -- ---- what is now
 
-    pub entry_now : {now : List ℕ} (e : Event) (b1 b2 : Sheet) → b1.log ≡ b0.log → b1.nodes ≡ b0.nodes → b2.log ≡ shown at e ∷ b1.log → b2.nodes ≡ b1.nodes → IsNow r (record { ended = false; nodes = b2.nodes; log = b2.log; calls_left = now }) (shown at e ∷ r.log)
+    pub entry_now : {now : Rest} (e : Event) (b1 b2 : Sheet) → b1.log ≡ b0.log → b1.nodes ≡ b0.nodes → b2.log ≡ shown at e ∷ b1.log → b2.nodes ≡ b1.nodes → IsNow r (record { ended = false; nodes = b2.nodes; log = b2.log; rest = now }) (shown at e ∷ r.log)
     entry_now e b1 b2 e1 n1 e2 n2 = record { running = refl; nodes = size_is b1 b2 n1 n2; log = log_is b1 b2 e e1 e2 }

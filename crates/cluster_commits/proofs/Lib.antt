@@ -1,2 +1,3 @@
 mod Committing
 mod CallsLeft
+mod CommitMerges

@@ -54,7 +54,7 @@ use Rattle.cluster_state.proofs.Disks.{fresh_flights, commits_shown, commits_alo
 use Rattle.cluster_state.proofs.Wider.{primary_stays, primary_kept}
 use Rattle.cluster_state.proofs.Drawn.{Grows, grows_none, grows_shown}
 use Rattle.cluster_state.proofs.Naming.{means_more, altered_steps, altered_job}
-use Rattle.cluster_state.proofs.FileFrames.{names_both, replica_same, both_each, both_of, Both}
+use Rattle.cluster_state.proofs.FileFrames.{names_both, replica_same, both_each, both_of, Both, wants_apart}
 use Rattle.cluster_state.proofs.FileJobs.{job_out}
 use Rattle.cluster_places.proofs.Stepping.{out_pushed}
 use Rattle.cluster_state.proofs.PointStands.{state_metas}
@@ -195,6 +195,32 @@ module _ {D : Type 0} (cells : D → Cells) where
           let all = counted t in
           omega (arith, now, given, pushed, was_low, all)
 
+  -- ---- how many jobs there are
+
+  -- one of the state with which the job began, and none of the state of the job before it
+  pub begun_counted : (size : ℕ) (old new : List (Option (Place D))) (p n number : ℕ) (b : BeginsIn cells p n number old new) → IsNode size n → (t : Out)
+      → jobs_like new t size + one_like t (want_of b.both.replica.parts.job) ≡ jobs_like old t size + one_like t (Some (out_of b.begins.state))
+  begun_counted size old new p n number b node t =
+      let moved = jobs_moved old new t n size node.0 node.1 apart_wants in
+      let was : one_like t (want_at (place_of old n)) ≡ one_like t (want_of b.both.replica.parts.job) = ap (λ (o : Option (Place D)). one_like t (want_at o)) b.both.replica.there in
+      let is : one_like t (want_at (place_of new n)) ≡ one_like t (Some (out_of b.begins.state)) = ap (one_like t) want_new in
+      omega (arith, moved, was, is)
+    where
+      x : Place D
+      x = record { node = Primary b.primary; held = b.both.primary.held }
+
+      y : Place D
+      y = record { node = Replica b.replica; held = b.both.replica.held }
+
+      there_n : place_of new n ≡ Some y
+      there_n = b.moves.there n ∙ ap (λ (t : Bool). if t then Some y else if p == n then Some x else place_of old n) (eq-eqb n n refl)
+
+      apart_wants : (m : ℕ) → (n == m) ≡ false → want_at (place_of new m) ≡ want_at (place_of old m)
+      apart_wants m apart = wants_apart p n x y (record { node = Primary b.both.primary.parts; held = b.both.primary.held }) old new b.moves b.both.primary.there refl m apart
+
+      want_new : want_at (place_of new n) ≡ Some (out_of b.begins.state)
+      want_new = ap want_at there_n ∙ (ap want_of b.begins.there ∙ ap (λ (s : CopyState). Some (out_of s)) b.begins.want)
+
   -- ---- all of them
 
   pub files_begun : (size : ℕ) (log mid : Log) (old new : List (Option (Place D))) (at : At) (p n : NodeNo) (v : Version) (number : ℕ)
@@ -245,25 +271,8 @@ module _ {D : Type 0} (cells : D → Cells) where
       at_n : Both cells files.source log jobs n.0 (record { node = Replica r; held = b.both.replica.held })
       at_n = some_at (Both cells files.source log jobs n.0) (place_of old n.0) (record { node = Replica r; held = b.both.replica.held }) b.both.replica.there (both_of cells log size old shows files n.0 node_n)
 
-      there_n : place_of new n.0 ≡ Some y
-      there_n = b.moves.there n.0 ∙ ap (λ (t : Bool). if t then Some y else if p.0 == n.0 then Some x else place_of old n.0) (eq-eqb n.0 n.0 refl)
-
-      apart_wants : (m : ℕ) → (n.0 == m) ≡ false → want_at (place_of new m) ≡ want_at (place_of old m)
-      apart_wants m apart = ap want_at (b.moves.there m ∙ ap (λ (t : Bool). if t then Some y else if p.0 == m then Some x else place_of old m) apart) ∙ tests (p.0 == m) refl
-        where
-          tests : (t : Bool) → (p.0 == m) ≡ t → want_at (if p.0 == m then Some x else place_of old m) ≡ want_at (place_of old m)
-          tests true here = ap (λ (t : Bool). want_at (if t then Some x else place_of old m)) here ∙ sym (ap (λ (k : ℕ). want_at (place_of old k)) (sym (eqb-true p.0 m here)) ∙ ap want_at b.both.primary.there)
-          tests false here = ap (λ (t : Bool). want_at (if t then Some x else place_of old m)) here
-
-      want_new : want_at (place_of new n.0) ≡ Some (out_of b.begins.state)
-      want_new = ap want_at there_n ∙ (ap want_of b.begins.there ∙ ap (λ (s : CopyState). Some (out_of s)) b.begins.want)
-
       counted : (t : Out) → count t + one_like t (want_of r.job) ≡ jobs t + one_like t (Some (out_of b.begins.state))
-      counted t =
-          let moved = jobs_moved old new t n.0 size node_n.0 node_n.1 apart_wants in
-          let was : one_like t (want_at (place_of old n.0)) ≡ one_like t (want_of r.job) = ap (λ (o : Option (Place D)). one_like t (want_at o)) b.both.replica.there in
-          let is : one_like t (want_at (place_of new n.0)) ≡ one_like t (Some (out_of b.begins.state)) = ap (one_like t) want_new in
-          omega (arith, moved, was, is)
+      counted t = begun_counted size old new p.0 n.0 number b node_n t
 
       infos : b.begins.job.infos ≡ q.point_infos
       infos = infos_files_one_to_one.one_value b.begins.state.infos b.begins.job.infos q.point_infos b.begins.infos b.begins.of_point.infos

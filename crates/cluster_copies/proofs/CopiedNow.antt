@@ -28,7 +28,7 @@ use Rattle.cluster_places.specs.declared.nodes.Node.TheVariants.{Primary, Replic
 use Rattle.cluster_places.specs.declared.nodes.Place.{Place}
 use Rattle.cluster_places.specs.Places.{place_of}
 use Rattle.cluster_places.specs.Outs.{jobs_like}
-use Rattle.cluster_state.specs.Run.{Run}
+use Rattle.cluster_state.specs.Run.{Rest, Run}
 use Rattle.cluster_state.specs.State.{NodeShows, Shows}
 use Rattle.cluster_state.specs.Files.{JobShows, IsJobFor, ReplicaFiles, NodeFiles, FilesShow}
 use Rattle.cluster_state.specs.Disks.{PointsStay}
@@ -196,7 +196,7 @@ module _ {D : Type 0} (cells : D → Cells) where
   -- ---- in the terms of a call
 
   module _ (r : Run) (ended : Bool) (b0 b1 : Sheet) (places : List (Option (Place D))) (at : At) (n : NodeNo) (v : Version)
-      {left : List ℕ} (view : record { ended = ended; nodes = b0.nodes; log = b0.log; calls_left = left } ≡ r) (running : r.ended ≡ false) (shows : ended ≡ false → Shows cells b0.log b0.nodes places) (files : ended ≡ false → FilesShow cells b0.log b0.nodes places)
+      {left : Rest} (view : record { ended = ended; nodes = b0.nodes; log = b0.log; rest = left } ≡ r) (running : r.ended ≡ false) (shows : ended ≡ false → Shows cells b0.log b0.nodes places) (files : ended ≡ false → FilesShow cells b0.log b0.nodes places)
       (e1 : b1.log ≡ b0.log) (n1 : b1.nodes ≡ b0.nodes) (fresh : IsFresh at (printed b0.log)) (node : IsNode r.nodes n.0) (replica : IsReplica (printed r.log) n.0) (source : primary_of (printed r.log) ≢ None)
       (reached : version_of n.0 (printed r.log) ≡ newest_version (printed r.log)) (newest : v.0 ≡ newest_version (printed b0.log)) where
     log_same : b1.log ≡ r.log
@@ -248,7 +248,7 @@ module _ {D : Type 0} (cells : D → Cells) where
 
         pub copied_shows : Shows cells b3.log b3.nodes places
         copied_shows =
-            noted cells (record { ended = false; nodes = b2.nodes; log = b2.log; calls_left = left }) false b2 b2 b3 places at (Copied n v) refl refl (λ e. shows_between) refl refl e3 n3 later_legal later_turns copied_rule
+            noted cells (record { ended = false; nodes = b2.nodes; log = b2.log; rest = left }) false b2 b2 b3 places at (Copied n v) refl refl (λ e. shows_between) refl refl e3 n3 later_legal later_turns copied_rule
             (not_flying b2.nodes (printed b2.log) at later_legal later_turns copy_line) (λ p m. refl) (λ m. refl)
 
         pub copied_files : FilesShow cells b3.log b3.nodes places

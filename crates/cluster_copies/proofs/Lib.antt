@@ -2,3 +2,4 @@ mod CopiedNow
 mod Beginning
 mod CopyPaths
 mod Settling
+mod JobMerges

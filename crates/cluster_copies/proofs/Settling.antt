@@ -21,7 +21,7 @@ use Rattle.history_book.specs.Log.{Log, printed, shown}
 use Rattle.history_merges.specs.Merging.{Sheet}
 use Rattle.history_book.proofs.ReignLaws.{since_start, reigns_on, start_kept}
 use Rattle.cluster_places.specs.declared.tasks.SettleTask.{SettleTask}
-use Rattle.cluster_state.specs.Run.{Run, IsNow}
+use Rattle.cluster_state.specs.Run.{Rest, Run, IsNow}
 use Rattle.cluster_state.proofs.Turning.{past_has}
 use Rattle.cluster_state.specs.Settles.{AreReplicas, IsLeft, IsSettling, WaitsFor}
 
@@ -178,7 +178,7 @@ settle_started size past at v task same are = record {
     }
 
 -- the same in the terms of a call
-pub settle_begun : (r now : Run) (ended : Bool) (b : Sheet) (at : At) (v : Version) (task : SettleTask) → {left : List ℕ} → record { ended = ended; nodes = b.nodes; log = b.log; calls_left = left } ≡ r → IsNow r now (shown at (Settling v) ∷ r.log)
+pub settle_begun : (r now : Run) (ended : Bool) (b : Sheet) (at : At) (v : Version) (task : SettleTask) → {left : Rest} → record { ended = ended; nodes = b.nodes; log = b.log; rest = left } ≡ r → IsNow r now (shown at (Settling v) ∷ r.log)
     → task.version ≡ v → AreReplicas b.nodes (printed b.log) task.left.items → IsSettling now.nodes (printed now.log) at task
 settle_begun r now ended b at v task view is same are =
     subst (λ (x : ℕ × Log). IsSettling x.0 (printed x.1) at task) (λ i. (sym is.nodes i, sym is.log i))
@@ -206,7 +206,7 @@ none_is items xs o same first is = go xs (sym (ap (λ (ys : List NodeNo). slice_
     go [] got = refl
     go (x ∷ rest) got = absurd (cc)
 
-pub waits_at : (r : Run) (ended : Bool) (b : Sheet) (at : At) (task : SettleTask) (n : NodeNo) (alive : Bool) (version : ℕ) → {left : List ℕ} → record { ended = ended; nodes = b.nodes; log = b.log; calls_left = left } ≡ r → IsLegalPast b.nodes (printed b.log)
+pub waits_at : (r : Run) (ended : Bool) (b : Sheet) (at : At) (task : SettleTask) (n : NodeNo) (alive : Bool) (version : ℕ) → {left : Rest} → record { ended = ended; nodes = b.nodes; log = b.log; rest = left } ≡ r → IsLegalPast b.nodes (printed b.log)
     → SourceSurvives (printed r.log) at → task.left.items ≡ n ∷ drop 1 task.left.items → alive ≡ (crashes n.0 (printed b.log) == crashes n.0 (before_start at (printed b.log))) → alive ≡ true
     → version ≡ version_of n.0 (printed b.log) → version < task.version.0 → IsSettling r.nodes (printed r.log) at task → WaitsFor r.nodes (printed r.log) at task.version.0 n
 waits_at r ended b at task n alive version view legal source is tested lives read behind s =
@@ -216,11 +216,11 @@ waits_at r ended b at task n alive version view legal source is tested lives rea
     (past_has (λ p. version_of n.0 p < task.version.0) r ended b view low) s
 
 -- one that has reached the version may be passed, and one that has crashed
-pub reached_at : (r : Run) (ended : Bool) (b : Sheet) (at : At) (v version : ℕ) (n : NodeNo) → {left : List ℕ} → record { ended = ended; nodes = b.nodes; log = b.log; calls_left = left } ≡ r → version ≡ version_of n.0 (printed b.log) → v ≤ version
+pub reached_at : (r : Run) (ended : Bool) (b : Sheet) (at : At) (v version : ℕ) (n : NodeNo) → {left : Rest} → record { ended = ended; nodes = b.nodes; log = b.log; rest = left } ≡ r → version ≡ version_of n.0 (printed b.log) → v ≤ version
     → NodeSurvives (printed r.log) at n.0 → v ≤ version_of n.0 (printed r.log)
 reached_at r ended b at v version n view read high survives = past_has (λ p. v ≤ version_of n.0 p) r ended b view (let up : v ≤ version_of n.0 (printed b.log) = omega (arith, read) in up)
 
-pub crashed_at : (r : Run) (ended : Bool) (b : Sheet) (at : At) (v : ℕ) (n : NodeNo) (alive : Bool) → {left : List ℕ} → record { ended = ended; nodes = b.nodes; log = b.log; calls_left = left } ≡ r
+pub crashed_at : (r : Run) (ended : Bool) (b : Sheet) (at : At) (v : ℕ) (n : NodeNo) (alive : Bool) → {left : Rest} → record { ended = ended; nodes = b.nodes; log = b.log; rest = left } ≡ r
     → alive ≡ (crashes n.0 (printed b.log) == crashes n.0 (before_start at (printed b.log))) → alive ≡ false → NodeSurvives (printed r.log) at n.0 → v ≤ version_of n.0 (printed r.log)
 crashed_at r ended b at v n alive view tested dead survives =
     let other : (crashes n.0 (printed r.log) == crashes n.0 (before_start at (printed r.log))) ≡ false = past_has (λ p. (crashes n.0 p == crashes n.0 (before_start at p)) ≡ false) r ended b view (sym tested ∙ dead) in

@@ -5,4 +5,4 @@ mod copies;
 mod settles;
 
 pub use copies::{begin_copy, begin_settling, note_copied};
-pub use settles::{begin_settle, next_left};
+pub use settles::{begin_settle, next_left, replicas};

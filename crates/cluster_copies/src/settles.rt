@@ -28,8 +28,8 @@ fn is_node(primary: Option<NodeNo>, n: NodeNo) -> bool
     }
 }
 
-// The replicas that run, ascending.
-fn replicas(alloc: Global, book: &Book) -> Result<Vec<NodeNo>, NoMemory>
+/// The replicas that run, ascending.
+pub fn replicas(alloc: Global, book: &Book) -> Result<Vec<NodeNo>, NoMemory>
     ensures { IfOk result (λ left. AreReplicas book.now.nodes (printed book.now.log) left.items) }
 {
     let primary = book.primary();

@@ -7,6 +7,7 @@ mod calls;
 mod cluster;
 mod copying;
 mod lasting;
+mod merging;
 mod promoting;
 mod shared;
 

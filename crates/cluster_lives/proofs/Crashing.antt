@@ -32,6 +32,7 @@ use Rattle.replica_opening.specs.Opening.{FindsPoint, opening_infos}
 use Rattle.replica_opening.specs.Opened.{IsSettledOn}
 use Rattle.replica_opening.proofs.Settled.{restarted_settled}
 use Rattle.replica_parts.specs.declared.job.PointJob.{PointJob}
+use Rattle.replica_parts.specs.declared.merges.MergeCopies.{MergeCopies}
 use Rattle.replica_parts.specs.declared.parts.Parts.{Parts as ReplicaParts}
 use Rattle.replica_parts.specs.Replica.{replica_names}
 use Rattle.replica_parts.specs.Sources.{HeldReadAs}
@@ -59,6 +60,7 @@ use Rattle.history_book.specs.Jobs.{last_job, job_at}
 use Rattle.history_book.specs.Turns.{InTurn, AreInTurn}
 use Rattle.history_book.proofs.LineLaws.{without_some}
 use Rattle.history_book.proofs.ReignLaws.{node_crashes_rise}
+use Rattle.cluster_tasks.specs.declared.tasks.OpenMerge.{OpenMerge}
 use Rattle.cluster_places.specs.declared.held.Held.{Held}
 use Rattle.cluster_places.specs.declared.nodes.Node.{Node}
 use Rattle.cluster_places.specs.declared.nodes.Node.TheVariants.{Primary, Replica, Down}
@@ -66,17 +68,20 @@ use Rattle.cluster_places.specs.declared.nodes.Place.{Place}
 use Rattle.cluster_places.specs.Places.{Disk, place_of, disk_of, disk_at, dir_of, HasPrimary}
 use Rattle.cluster_places.specs.Outs.{one_like, want_at, jobs_like, states_like}
 use Rattle.cluster_places.specs.JobChanges.{given_back}
-use Rattle.cluster_places.specs.Ends.{EndsJob, TakesBack, CanTakeBack, CanEnd, NodeOutlives, PlaceOutlives}
+use Rattle.cluster_places.specs.Ends.{EndsJob, EndsNodeJob, TakesBack, CanTakeBack, CanEnd, NodeOutlives, PlaceOutlives}
 use Rattle.cluster_places.specs.Lives.{CrashesIn}
 use Rattle.cluster_places.proofs.OutCounts.{jobs_moved, jobs_none, job_counted, states_given, is_there}
 use Rattle.cluster_state.specs.Lookups.{IsSearching}
 use Rattle.cluster_state.specs.State.{NodeShows, PlaceShows, Shows, HoldsTickets}
 use Rattle.cluster_state.specs.Files.{JobShows, IsJobFor, ReplicaFiles, PrimaryFiles, NodeFiles, FilesShow}
 use Rattle.cluster_state.specs.FileChanges.{SameJob}
+use Rattle.cluster_state.specs.Merging.{AreSentCopies, NodeMerges, KeepsMerges, PlaceKeepsMerges, KeepAllMerges}
+use Rattle.cluster_state.proofs.MergingStill.{node_keeps}
+use Rattle.cluster_lives.proofs.FallenMerges.{RunsSent}
 use Rattle.cluster_state.specs.Names.{NamesShow}
 use Rattle.cluster_state.specs.Disks.{IsPastPoint, MayFindPoint, LastShows, StageShows, BookShows, DirShows, DiskShows, DisksShow, PointsStay, CommitsStay}
 use Rattle.cluster_state.proofs.Growing.{lasts, same, fewer, not_flying}
-use Rattle.cluster_state.specs.Run.{Run}
+use Rattle.cluster_state.specs.Run.{Rest, Run}
 use Rattle.cluster_state.proofs.Frames.{some_at, some_then, place_same, was, now_is}
 use Rattle.cluster_state.proofs.JobFrames.{begun_still}
 use Rattle.cluster_state.proofs.Drawn.{Grows, grows_shown}
@@ -527,6 +532,61 @@ module _ {D : Type 0} (cells : D → Cells) where
         disks = disks_left;
       }
 
+      -- ---- merges in flight
+
+      -- a node that is down runs none
+      down_keeps : (x : Node D) (d : D) → KeepsMerges jobs count x (Down d)
+      down_keeps (Primary p) d = tt
+      down_keeps (Replica r) d = tt
+      down_keeps (Down e) d = tt
+
+      -- where another node than the primary crashed, merges go on
+      pub crash_keeps : is_at primary n.0 ≡ false → KeepAllMerges size old new
+      crash_keeps far m here = by_test (n.0 == m) (λ t. (n.0 == m) ≡ t → PlaceKeepsMerges jobs count (place_of old m) (place_of new m))
+          (λ same q. subst (λ (k : ℕ). PlaceKeepsMerges jobs count (place_of old k) (place_of new k)) (eqb-true n.0 m same)
+          (subst (λ (z : Option (Place D) × Option (Place D)). PlaceKeepsMerges jobs count z.0 z.1) (λ i. (sym b.there i, sym b.here i)) (down_keeps b.place.node b.dir)))
+          (λ apart q. others (place_of old m) (place_of new m)
+          (subst (λ (c : Bool). PlaceOutlives cells c (is_at primary m) state (place_of old m) (place_of new m)) far (b.others m apart)) (files.each m here))
+          refl
+        where
+          low : (s : Out) → count s ≤ jobs s
+          low s = let moved = fewer_jobs far s in omega (arith, moved)
+
+          tests : (t : Bool) (u v : Node D) → NodeOutlives cells false t state u v → NodeFiles files.source cells log jobs m u → KeepsMerges jobs count u v
+          tests true (Primary p) (Primary q) out was = record {
+            cut_over = ap (λ (z : PrimaryParts D). z.has_cut_over) out.alters.others;
+            merges = ap (λ (z : PrimaryParts D). z.merges) out.alters.others;
+            outs = λ s.
+                let given = states_given s state p.states (state_out p was state refl) in
+                let same : states_like s q.states ≡ states_like s (given_back state p.states) = ap (states_like s) out.states in
+                let moved = fewer_jobs far s in
+                omega (arith, given, same, moved);
+          }
+          tests true (Primary p) (Replica s) out was = absurd out
+          tests true (Primary p) (Down e) out was = absurd out
+          tests true (Replica r) v out was = absurd out
+          tests true (Down d) v out was = absurd out
+          tests false u v out was = subst (λ (z : Node D). KeepsMerges jobs count u z) (sym out) (node_keeps jobs count u low)
+
+          others : (o k : Option (Place D)) → PlaceOutlives cells false (is_at primary m) state o k → IsSomeAnd o (λ z. NodeFiles files.source cells log jobs m z.node) → PlaceKeepsMerges jobs count o k
+          others None k out none = absurd none
+          others (Some x) None out was = absurd out
+          others (Some x) (Some y) out was = tests (is_at primary m) x.node y.node out.node was
+
+      -- where the primary crashed, the copies that run are those that its merges sent
+      pub crash_sent : (cut : Bool) (rows : List OpenMerge) → is_at primary n.0 ≡ true → ((m : ℕ) → IsNode size m → IsSomeAnd (place_of old m) (λ z. NodeMerges log cut jobs rows m z.node))
+          → (m : ℕ) → IsNode size m → IsSomeAnd (place_of new m) (λ z. RunsSent rows m z.node)
+      crash_sent cut rows here was =
+          each_outlives cells {P = λ m z. NodeMerges log cut jobs rows m z.node} {Q = λ m z. RunsSent rows m z.node} size primary n.0 left old new b.here b.others was
+          (λ m x y at apart out is. tests m x.node y.node (subst (λ (c : Bool). NodeOutlives cells c (is_at primary m) state x.node y.node) here out.node) is) tt
+        where
+          tests : (m : ℕ) (u v : Node D) → EndsNodeJob cells u v → NodeMerges log cut jobs rows m u → RunsSent rows m v
+          tests m (Replica r) (Replica s) ends is = subst (λ (c : MergeCopies). AreSentCopies rows m c.running) (sym ends.copies) is
+          tests m (Replica r) (Primary q) ends is = tt
+          tests m (Replica r) (Down e) ends is = tt
+          tests m (Primary p) v ends is = subst (λ (z : Node D). RunsSent rows m z) (sym ends) tt
+          tests m (Down d) v ends is = subst (λ (z : Node D). RunsSent rows m z) (sym ends) tt
+
   -- ---- in the terms of a call
 
   -- the running primary stands in its place, and the state of the node's job is out there
@@ -551,13 +611,13 @@ module _ {D : Type 0} (cells : D → Cells) where
           mine has = some_at (λ z. elim z.node [ Primary k ↦ is_out s k.states ≡ true | Replica r ↦ ⊥ | Down d ↦ ⊥ ]) (place_of places p.0) (record { node = Primary q; held = held }) there
               (subst (λ (o : Option (Place D)). IsSomeAnd o (λ z. elim z.node [ Primary k ↦ is_out s k.states ≡ true | Replica r ↦ ⊥ | Down d ↦ ⊥ ])) (sym here.at.there) has)
 
-  pub can_end : (r : Run) (ended : Bool) (b : Sheet) (places : List (Option (Place D))) (primary : Option NodeNo) (n : NodeNo) → {left : List ℕ} → record { ended = ended; nodes = b.nodes; log = b.log; calls_left = left } ≡ r → r.ended ≡ false
+  pub can_end : (r : Run) (ended : Bool) (b : Sheet) (places : List (Option (Place D))) (primary : Option NodeNo) (n : NodeNo) → {left : Rest} → record { ended = ended; nodes = b.nodes; log = b.log; rest = left } ≡ r → r.ended ≡ false
       → (ended ≡ false → Shows cells b.log b.nodes places × FilesShow cells b.log b.nodes places) → primary ≡ primary_of (printed r.log) → IfSome primary (λ p. IsNode r.nodes p.0) → IsNode r.nodes n.0 → CanEnd primary n.0 places
   can_end r ended b places None n view running pair is reigns node = tt
   can_end r ended b places (Some p) n view running pair is reigns node =
       can_take_back r.log r.nodes places p n (was cells r ended b.nodes b.log places view running (λ e. (pair e).0)) (files_was cells r ended b.nodes b.log places view running (λ e. (pair e).1)) (sym is) reigns node
 
-  pub crash_path : (r : Run) (ended : Bool) (b0 b1 b2 : Sheet) (old new : List (Option (Place D))) (at : At) (n : NodeNo) (reigning : Option NodeNo) → {left : List ℕ} → record { ended = ended; nodes = b0.nodes; log = b0.log; calls_left = left } ≡ r → r.ended ≡ false
+  pub crash_path : (r : Run) (ended : Bool) (b0 b1 b2 : Sheet) (old new : List (Option (Place D))) (at : At) (n : NodeNo) (reigning : Option NodeNo) → {left : Rest} → record { ended = ended; nodes = b0.nodes; log = b0.log; rest = left } ≡ r → r.ended ≡ false
       → (ended ≡ false → Shows cells b0.log b0.nodes old × FilesShow cells b0.log b0.nodes old) → b1.log ≡ b0.log → b1.nodes ≡ b0.nodes → b2.log ≡ shown at (Crashed n) ∷ b1.log → b2.nodes ≡ b1.nodes
       → IsLegalPast b1.nodes (printed b1.log) → AreInTurn (printed b1.log) → FilesLast → ((m : ℕ) → primary_of (printed b2.log) ≡ None → job_at m b2.log ≡ None) → IsFresh at (printed b0.log) → IsNode r.nodes n.0
       → is_running n.0 (printed r.log) ≡ true → reigning ≡ primary_of (printed r.log) → CrashesIn cells reigning n.0 old new → Shows cells b2.log b2.nodes new × FilesShow cells b2.log b2.nodes new

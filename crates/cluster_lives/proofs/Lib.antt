@@ -1,3 +1,6 @@
 mod Crashing
 mod Outliving
 mod Reopening
+mod ReopenMerges
+mod FallenMerges
+mod CrashMerges

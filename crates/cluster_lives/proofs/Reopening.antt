@@ -57,7 +57,7 @@ use Rattle.cluster_places.specs.Places.{Disk, place_of, disk_of, disk_at, dir_of
 use Rattle.cluster_places.specs.Outs.{want_of, want_at, jobs_like, states_like}
 use Rattle.cluster_places.specs.Lives.{OpensOn, ReopensIn}
 use Rattle.cluster_places.proofs.OutCounts.{jobs_same}
-use Rattle.cluster_state.specs.Run.{Run, IsNow}
+use Rattle.cluster_state.specs.Run.{Rest, Run, IsNow}
 use Rattle.cluster_state.specs.State.{NodeShows, PlaceShows, Shows, HoldsTickets, StandForVersion}
 use Rattle.cluster_state.specs.Files.{JobShows, IsJobFor, ReplicaFiles, PrimaryFiles, NodeFiles, FilesShow, MeansDrawn}
 use Rattle.cluster_state.specs.FileChanges.{SameJob}
@@ -396,7 +396,7 @@ module _ {D : Type 0} (cells : D → Cells) (size : ℕ) (log : Log) (old new : 
 -- ---- in the terms of a call
 
 module _ {D : Type 0} (cells : D → Cells) (r : Run) (ended : Bool) (b0 : Sheet) (old : List (Option (Place D))) (at : At) (n : NodeNo)
-    {left : List ℕ} (view : record { ended = ended; nodes = b0.nodes; log = b0.log; calls_left = left } ≡ r) (running : r.ended ≡ false) (pair : ended ≡ false → Shows cells b0.log b0.nodes old × FilesShow cells b0.log b0.nodes old) (lasting : FilesLast)
+    {left : Rest} (view : record { ended = ended; nodes = b0.nodes; log = b0.log; rest = left } ≡ r) (running : r.ended ≡ false) (pair : ended ≡ false → Shows cells b0.log b0.nodes old × FilesShow cells b0.log b0.nodes old) (lasting : FilesLast)
     (legal : IsLegalPast b0.nodes (printed b0.log)) (turns : AreInTurn (printed b0.log)) (fresh : IsFresh at (printed b0.log)) (node : IsNode r.nodes n.0) (down : is_running n.0 (printed r.log) ≡ false) where
   legal_now : IsLegalPast r.nodes (printed r.log)
   legal_now = subst (λ (x : Run). IsLegalPast x.nodes (printed x.log)) view legal
@@ -434,7 +434,7 @@ module _ {D : Type 0} (cells : D → Cells) (r : Run) (ended : Bool) (b0 : Sheet
           files_is cells (shown at (Reopened n v) ∷ r.log) b2.log r.nodes b2.nodes new log size (reopened_files cells r.nodes r.log old new at n v lasting legal_now turns_now fresh_now node down s f b idle_now none_now),
         )
 
-    pub reopened_now : {now : List ℕ} (b1 b2 : Sheet) → b1.log ≡ b0.log → b1.nodes ≡ b0.nodes → b2.log ≡ shown at (Reopened n v) ∷ b1.log → b2.nodes ≡ b1.nodes → IsNow r (record { ended = false; nodes = b2.nodes; log = b2.log; calls_left = now }) (shown at (Reopened n v) ∷ r.log)
+    pub reopened_now : {now : Rest} (b1 b2 : Sheet) → b1.log ≡ b0.log → b1.nodes ≡ b0.nodes → b2.log ≡ shown at (Reopened n v) ∷ b1.log → b2.nodes ≡ b1.nodes → IsNow r (record { ended = false; nodes = b2.nodes; log = b2.log; rest = now }) (shown at (Reopened n v) ∷ r.log)
     reopened_now b1 b2 e1 n1 e2 n2 = record {
       running = refl;
       nodes = n2 ∙ (n1 ∙ ap (λ (x : Run). x.nodes) view);

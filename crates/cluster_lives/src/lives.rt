@@ -7,6 +7,7 @@ ghost use Rattle.history_book.specs.Log.{printed, shown};
 ghost use Rattle.cluster_state.specs.Run.{IsNow, IsEnded};
 ghost use Rattle.cluster_state.specs.Lives.{Reopens};
 
+use cluster_falls::end_merges;
 use cluster_state::ClusterState;
 use disk_model::FaultDir;
 use history_entries::Event;
@@ -39,6 +40,7 @@ pub fn crash_node<D: FaultDir + Drop>(
     cluster.ended = true;
     cluster.ledger.reserve(1)?;
     crash_in(alloc, &mut cluster.places, primary, n, pick)?;
+    end_merges(&mut cluster.places, &mut cluster.tasks, primary, n);
     cluster.ledger.show_crashed(at, n);
     cluster.ledger.book().is_idle();
     cluster.ended = false;

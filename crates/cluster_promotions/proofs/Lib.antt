@@ -1,1 +1,2 @@
 mod Promotions
+mod PromotedMerges

@@ -56,7 +56,7 @@ use Rattle.cluster_places.specs.Outs.{want_of, want_at, jobs_like}
 use Rattle.cluster_places.specs.JobChanges.{HasReplica}
 use Rattle.cluster_places.proofs.OutCounts.{jobs_none}
 use Rattle.node_promotions.specs.Promoting.{CanPromote, PromotesTo, CanPromoteIn, PromotesIn}
-use Rattle.cluster_state.specs.Run.{Run}
+use Rattle.cluster_state.specs.Run.{Rest, Run}
 use Rattle.cluster_state.specs.State.{StandForVersion, IsPointAt, WritesAt, HoldsTickets, FlightShows, NodeShows, PrimaryShows, ReplicaShows, PlaceShows, Shows}
 use Rattle.cluster_state.specs.Files.{JobShows, ReplicaFiles, PrimaryFiles, NodeFiles, FilesShow, MeansDrawn}
 use Rattle.cluster_state.specs.Names.{AreNamesShown, NamesShow}
@@ -358,7 +358,7 @@ module _ {D : Type 0} (cells : D → Cells) where
     above = above;
   }
 
-  pub can_path : (r : Run) (ended : Bool) (b0 : Sheet) (places : List (Option (Place D))) (n : NodeNo) (g : Gen) (forced : Version) (last : ℕ) → {left : List ℕ} → record { ended = ended; nodes = b0.nodes; log = b0.log; calls_left = left } ≡ r → r.ended ≡ false
+  pub can_path : (r : Run) (ended : Bool) (b0 : Sheet) (places : List (Option (Place D))) (n : NodeNo) (g : Gen) (forced : Version) (last : ℕ) → {left : Rest} → record { ended = ended; nodes = b0.nodes; log = b0.log; rest = left } ≡ r → r.ended ≡ false
       → (ended ≡ false → Shows cells b0.log b0.nodes places × FilesShow cells b0.log b0.nodes places) → IsLegalPast b0.nodes (printed b0.log) → IsNode r.nodes n.0 → is_running n.0 (printed r.log) ≡ true → primary_of (printed r.log) ≡ None
       → last ≡ generation_of (printed r.log) → g.0 ≡ last + 1 → g.0 < 2 ^ 31 → forced.0 < 2 ^ 62 → newest_version (printed r.log) ≤ forced.0 → CanPromoteIn cells g forced n.0 places
   can_path r ended b0 places n g forced last view running pair legal node up vacant is next small low high =
@@ -366,7 +366,7 @@ module _ {D : Type 0} (cells : D → Cells) where
       (was cells r ended b0.nodes b0.log places view running (λ e. (pair e).0)) (files_was cells r ended b0.nodes b0.log places view running (λ e. (pair e).1))
       node up vacant (omega (arith, is, next)) small low high
 
-  pub promote_path : (r : Run) (ended : Bool) (b0 b1 b2 : Sheet) (old new : List (Option (Place D))) (at : At) (n : NodeNo) (g : Gen) (forced v : Version) → {left : List ℕ} → record { ended = ended; nodes = b0.nodes; log = b0.log; calls_left = left } ≡ r → r.ended ≡ false
+  pub promote_path : (r : Run) (ended : Bool) (b0 b1 b2 : Sheet) (old new : List (Option (Place D))) (at : At) (n : NodeNo) (g : Gen) (forced v : Version) → {left : Rest} → record { ended = ended; nodes = b0.nodes; log = b0.log; rest = left } ≡ r → r.ended ≡ false
       → (ended ≡ false → Shows cells b0.log b0.nodes old × FilesShow cells b0.log b0.nodes old) → b1.log ≡ b0.log → b1.nodes ≡ b0.nodes → b2.log ≡ shown at (Promoted n g forced v) ∷ b1.log → b2.nodes ≡ b1.nodes
       → IsLegalPast b1.nodes (printed b1.log) → AreInTurn (printed b1.log) → ((m : ℕ) → primary_of (printed b0.log) ≡ None → job_at m b0.log ≡ None) → IsFresh at (printed b0.log)
       → KeepsRule r.nodes (printed r.log) at (Promoted n g forced v) → PromotesIn cells g forced n.0 old new → Shows cells b2.log b2.nodes new × FilesShow cells b2.log b2.nodes new

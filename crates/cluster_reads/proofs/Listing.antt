@@ -53,7 +53,7 @@ use Rattle.cluster_places.specs.declared.nodes.Place.{Place}
 use Rattle.cluster_places.specs.Held.{held_number}
 use Rattle.cluster_places.specs.Places.{place_of, tickets_of, disk_of, disk_at, HasRunning}
 use Rattle.cluster_places.specs.Listed.{dir_of, AreNamesOf, AreNamesAt}
-use Rattle.cluster_state.specs.Run.{Run}
+use Rattle.cluster_state.specs.Run.{Rest, Run}
 use Rattle.cluster_state.specs.State.{StandForVersion, IsPointAt, HoldsTickets, ticket_key, NodeShows, PlaceShows, Shows}
 use Rattle.cluster_state.specs.Names.{NamesDocuments, AreNamesShown, NamesShow}
 use Rattle.cluster_state.specs.Disks.{DiskShows}
@@ -224,11 +224,11 @@ module _ {D : Type 0} (cells : D → Cells) where
 
   -- ---- in the terms of a call
 
-  pub running_there : (r : Run) (ended : Bool) (size n : ℕ) (log : Log) (places : List (Option (Place D))) → {left : List ℕ} → record { ended = ended; nodes = size; log = log; calls_left = left } ≡ r → r.ended ≡ false
+  pub running_there : (r : Run) (ended : Bool) (size n : ℕ) (log : Log) (places : List (Option (Place D))) → {left : Rest} → record { ended = ended; nodes = size; log = log; rest = left } ≡ r → r.ended ≡ false
       → (ended ≡ false → Shows cells log size places) → IsNode r.nodes n → is_running n (printed r.log) ≡ true → HasRunning (place_of places n)
   running_there r ended size n log places view running shows node up = running_place r.log n (place_of places n) up ((was cells r ended size log places view running shows).each n node)
 
-  pub may_tell : (r : Run) (ended : Bool) (b : Sheet) (places : List (Option (Place D))) (at : At) (n : NodeNo) (names : List Name) → {left : List ℕ} → record { ended = ended; nodes = b.nodes; log = b.log; calls_left = left } ≡ r → r.ended ≡ false
+  pub may_tell : (r : Run) (ended : Bool) (b : Sheet) (places : List (Option (Place D))) (at : At) (n : NodeNo) (names : List Name) → {left : Rest} → record { ended = ended; nodes = b.nodes; log = b.log; rest = left } ≡ r → r.ended ≡ false
       → (ended ≡ false → Shows cells b.log b.nodes places × FilesShow cells b.log b.nodes places) → IsFresh at (printed b.log) → IsNode r.nodes n.0 → is_running n.0 (printed r.log) ≡ true → AreNamesAt cells (place_of places n.0) names
       → KeepsRule r.nodes (printed r.log) at (Files n names)
   may_tell r ended b places at n names view running pair fresh node up told =

@@ -27,7 +27,7 @@ use Rattle.cluster_places.specs.declared.held.Key.TheVariants.{Ticket as TicketK
 use Rattle.cluster_places.specs.declared.nodes.Place.{Place}
 use Rattle.cluster_places.specs.Held.{held_number}
 use Rattle.cluster_places.specs.Places.{place_of, searchers_of, tickets_of}
-use Rattle.cluster_state.specs.Run.{Run}
+use Rattle.cluster_state.specs.Run.{Rest, Run}
 use Rattle.cluster_state.specs.State.{ReadsAt, Shows}
 use Rattle.cluster_places.specs.Changes.{KeepsNode, HoldsMore, HoldsLess, HoldsTicket, IsLeaseUnder}
 use Rattle.cluster_state.specs.Moves.{moves, moves_tickets, EndsKey}
@@ -41,10 +41,10 @@ use Rattle.cluster_state.proofs.Turning.{fresh_line, past_has}
 
 -- ---- rules
 
-legal_is : (r : Run) (ended : Bool) (b : Sheet) → {left : List ℕ} → record { ended = ended; nodes = b.nodes; log = b.log; calls_left = left } ≡ r → IsLegalPast b.nodes (printed b.log) → IsLegalPast r.nodes (printed r.log)
+legal_is : (r : Run) (ended : Bool) (b : Sheet) → {left : Rest} → record { ended = ended; nodes = b.nodes; log = b.log; rest = left } ≡ r → IsLegalPast b.nodes (printed b.log) → IsLegalPast r.nodes (printed r.log)
 legal_is r ended b view legal = subst (λ (x : Run). IsLegalPast x.nodes (printed x.log)) view legal
 
-pub may_open : (r : Run) (ended : Bool) (b : Sheet) (at : At) (n : NodeNo) (t : TicketNo) (v : Version) → {left : List ℕ} → record { ended = ended; nodes = b.nodes; log = b.log; calls_left = left } ≡ r
+pub may_open : (r : Run) (ended : Bool) (b : Sheet) (at : At) (n : NodeNo) (t : TicketNo) (v : Version) → {left : Rest} → record { ended = ended; nodes = b.nodes; log = b.log; rest = left } ≡ r
     → IsFresh at (printed b.log) → IsNode r.nodes n.0 → is_running n.0 (printed r.log) ≡ true → v.0 ≡ version_of n.0 (printed b.log) → has_ticket at.lane.0 t.0 (printed r.log) ≡ false
     → KeepsRule r.nodes (printed r.log) at (Opened n t v)
 may_open r ended b at n t v view fresh node up version free = record {
@@ -55,24 +55,24 @@ may_open r ended b at n t v view fresh node up version free = record {
   spared = (past_has (IsFresh at) r ended b view fresh).spared;
 }
 
-pub ask_node : (r : Run) (ended : Bool) (b : Sheet) (at : At) (t : TicketNo) (o : Opening) → {left : List ℕ} → record { ended = ended; nodes = b.nodes; log = b.log; calls_left = left } ≡ r → IsLegalPast b.nodes (printed b.log)
+pub ask_node : (r : Run) (ended : Bool) (b : Sheet) (at : At) (t : TicketNo) (o : Opening) → {left : Rest} → record { ended = ended; nodes = b.nodes; log = b.log; rest = left } ≡ r → IsLegalPast b.nodes (printed b.log)
     → open_ticket at.lane.0 t.0 (printed r.log) ≡ Some (ticket_of o) → IsNode r.nodes o.node.0
 ask_node r ended b at t o view legal held = ticket_node r.nodes at.lane.0 t.0 (printed r.log) (ticket_of o) (legal_is r ended b view legal) held
 
-pub may_ask : (r : Run) (ended : Bool) (b : Sheet) (at : At) (t : TicketNo) (o : Opening) → {left : List ℕ} → record { ended = ended; nodes = b.nodes; log = b.log; calls_left = left } ≡ r → IsLegalPast b.nodes (printed b.log)
+pub may_ask : (r : Run) (ended : Bool) (b : Sheet) (at : At) (t : TicketNo) (o : Opening) → {left : Rest} → record { ended = ended; nodes = b.nodes; log = b.log; rest = left } ≡ r → IsLegalPast b.nodes (printed b.log)
     → open_ticket at.lane.0 t.0 (printed r.log) ≡ Some (ticket_of o) → KeepsRule r.nodes (printed r.log) at (Asking o.node t o.version)
 may_ask r ended b at t o view legal held = record {
   node = ask_node r ended b at t o view legal held;
   held = ticket_is at.lane.0 t.0 (printed r.log) (ticket_of o) held;
 }
 
-pub asks_at : (r : Run) (ended : Bool) (b0 b1 : Sheet) (at : At) (t : TicketNo) (o : Opening) → {left : List ℕ} → record { ended = ended; nodes = b0.nodes; log = b0.log; calls_left = left } ≡ r → b1.log ≡ b0.log → b1.nodes ≡ b0.nodes
+pub asks_at : (r : Run) (ended : Bool) (b0 b1 : Sheet) (at : At) (t : TicketNo) (o : Opening) → {left : Rest} → record { ended = ended; nodes = b0.nodes; log = b0.log; rest = left } ≡ r → b1.log ≡ b0.log → b1.nodes ≡ b0.nodes
     → IsLegalPast b0.nodes (printed b0.log) → open_ticket at.lane.0 t.0 (printed r.log) ≡ Some (ticket_of o) → KeepsRule b1.nodes (printed b1.log) at (Asking o.node t o.version)
 asks_at r ended b0 b1 at t o view e1 n1 legal held = rule_at r ended b0 b1 at (Asking o.node t o.version) view e1 n1 (may_ask r ended b0 at t o view legal held)
 
 module _ {D : Type 0} (cells : D → Cells) where
   opened_path : (r : Run) (ended : Bool) (b0 b1 b2 : Sheet) (old mid new : List (Option (Place D))) (at : At) (n : NodeNo) (t : TicketNo) (v : Version) (key : Key) (x y : Place D)
-      → {left : List ℕ} → record { ended = ended; nodes = b0.nodes; log = b0.log; calls_left = left } ≡ r → r.ended ≡ false → (ended ≡ false → Shows cells b0.log b0.nodes old)
+      → {left : Rest} → record { ended = ended; nodes = b0.nodes; log = b0.log; rest = left } ≡ r → r.ended ≡ false → (ended ≡ false → Shows cells b0.log b0.nodes old)
       → b1.log ≡ b0.log → b1.nodes ≡ b0.nodes → b2.log ≡ shown at (Opened n t v) ∷ b1.log → b2.nodes ≡ b1.nodes → IsLegalPast b1.nodes (printed b1.log) → AreInTurn (printed b1.log)
       → IsFresh at (printed b0.log) → KeepsRule r.nodes (printed r.log) at (Opened n t v)
       → TicketsAfter (printed r.log) (printed (shown at (Opened n t v) ∷ r.log)) n.0 key v.0 → SearchesAfter (printed r.log) (printed (shown at (Opened n t v) ∷ r.log)) n.0 key v.0
@@ -84,7 +84,7 @@ module _ {D : Type 0} (cells : D → Cells) where
       (λ all order was. opened_place cells r.nodes r.log at n t v key x y all order keeps line keeps.searched same more opened searched was)
 
   pub ticket_path : (r : Run) (ended : Bool) (b0 b1 b2 : Sheet) (old mid new : List (Option (Place D))) (at : At) (n : NodeNo) (t : TicketNo) (v : Version) (x y : Place D)
-      → {left : List ℕ} → record { ended = ended; nodes = b0.nodes; log = b0.log; calls_left = left } ≡ r → r.ended ≡ false → (ended ≡ false → Shows cells b0.log b0.nodes old)
+      → {left : Rest} → record { ended = ended; nodes = b0.nodes; log = b0.log; rest = left } ≡ r → r.ended ≡ false → (ended ≡ false → Shows cells b0.log b0.nodes old)
       → b1.log ≡ b0.log → b1.nodes ≡ b0.nodes → b2.log ≡ shown at (Opened n t v) ∷ b1.log → b2.nodes ≡ b1.nodes → IsLegalPast b1.nodes (printed b1.log) → AreInTurn (printed b1.log)
       → IsFresh at (printed b0.log) → KeepsRule r.nodes (printed r.log) at (Opened n t v) → t.0 ≢ 0
       → PutsBack cells old mid new n.0 y → place_of old n.0 ≡ Some x → KeepsNode cells x.node y.node → HoldsMore (TicketKey at.lane t) x y → Shows cells b2.log b2.nodes new
@@ -94,7 +94,7 @@ module _ {D : Type 0} (cells : D → Cells) where
       (λ lane u w is. ticket_opened (printed r.log) at n t v lane u w some is) (λ a w is. ticket_searched (printed r.log) at n t v a w some is) put there same more
 
   pub search_path : (r : Run) (ended : Bool) (b0 b1 b2 : Sheet) (old mid new : List (Option (Place D))) (at : At) (n : NodeNo) (v : Version) (x y : Place D)
-      → {left : List ℕ} → record { ended = ended; nodes = b0.nodes; log = b0.log; calls_left = left } ≡ r → r.ended ≡ false → (ended ≡ false → Shows cells b0.log b0.nodes old)
+      → {left : Rest} → record { ended = ended; nodes = b0.nodes; log = b0.log; rest = left } ≡ r → r.ended ≡ false → (ended ≡ false → Shows cells b0.log b0.nodes old)
       → b1.log ≡ b0.log → b1.nodes ≡ b0.nodes → b2.log ≡ shown at (Opened n (record { 0 = 0 }) v) ∷ b1.log → b2.nodes ≡ b1.nodes → IsLegalPast b1.nodes (printed b1.log) → AreInTurn (printed b1.log)
       → IsFresh at (printed b0.log) → KeepsRule r.nodes (printed r.log) at (Opened n (record { 0 = 0 }) v)
       → PutsBack cells old mid new n.0 y → place_of old n.0 ≡ Some x → KeepsNode cells x.node y.node → HoldsMore (Search at) x y → Shows cells b2.log b2.nodes new
@@ -104,7 +104,7 @@ module _ {D : Type 0} (cells : D → Cells) where
 
   -- a ticket was given back
   pub without_path : (r : Run) (ended : Bool) (b0 b1 b2 : Sheet) (old mid new : List (Option (Place D))) (at : At) (e : Event) (n : ℕ) (key : Key) (x y : Place D)
-      → {left : List ℕ} → record { ended = ended; nodes = b0.nodes; log = b0.log; calls_left = left } ≡ r → r.ended ≡ false → (ended ≡ false → Shows cells b0.log b0.nodes old)
+      → {left : Rest} → record { ended = ended; nodes = b0.nodes; log = b0.log; rest = left } ≡ r → r.ended ≡ false → (ended ≡ false → Shows cells b0.log b0.nodes old)
       → b1.log ≡ b0.log → b1.nodes ≡ b0.nodes → b2.log ≡ shown at e ∷ b1.log → b2.nodes ≡ b1.nodes → IsLegalPast b1.nodes (printed b1.log) → AreInTurn (printed b1.log)
       → KeepsRule r.nodes (printed r.log) at e → start_entry at (printed r.log) ≢ Some Publishing → ((p : Option NodeNo) (m : ℕ) → moves e p m ≡ false) → ((m : ℕ) → moves_tickets e m ≡ false)
       → IsNode r.nodes n → EndsKey (printed r.log) (printed (shown at e ∷ r.log)) n key
@@ -117,13 +117,13 @@ module _ {D : Type 0} (cells : D → Cells) where
   -- ---- what is at hand
 
   -- a running node has searchers
-  pub running_at : (r : Run) (ended : Bool) (size n : ℕ) (log : Log) (places : List (Option (Place D))) (x : Place D) → {left : List ℕ} → record { ended = ended; nodes = size; log = log; calls_left = left } ≡ r → r.ended ≡ false
+  pub running_at : (r : Run) (ended : Bool) (size n : ℕ) (log : Log) (places : List (Option (Place D))) (x : Place D) → {left : Rest} → record { ended = ended; nodes = size; log = log; rest = left } ≡ r → r.ended ≡ false
       → (ended ≡ false → Shows cells log size places) → IsNode r.nodes n → is_running n (printed r.log) ≡ true → place_of places n ≡ Some x → IsSome (searchers_of x.node)
   running_at r ended size n log places x view running shows node up there =
       running_searches cells r.log n x.node up (place_at cells r ended size n log places x view running shows node there).node_shows
 
   -- what a node holds may be given back
-  pub gives_back_at : (r : Run) (ended : Bool) (size n : ℕ) (log : Log) (places : List (Option (Place D))) (key : Key) (x : Place D) → {left : List ℕ} → record { ended = ended; nodes = size; log = log; calls_left = left } ≡ r → r.ended ≡ false
+  pub gives_back_at : (r : Run) (ended : Bool) (size n : ℕ) (log : Log) (places : List (Option (Place D))) (key : Key) (x : Place D) → {left : Rest} → record { ended = ended; nodes = size; log = log; rest = left } ≡ r → r.ended ≡ false
       → (ended ≡ false → Shows cells log size places) → IsNode r.nodes n → place_of places n ≡ Some x → IfSome (held_number x.held.items key) (λ number. is_some (ticket_at number (tickets_of x.node)) ≡ true)
   gives_back_at r ended size n log places key x view running shows node there = gives_back cells r.log n key x (place_at cells r ended size n log places x view running shows node there)
 
@@ -133,7 +133,7 @@ module _ {D : Type 0} (cells : D → Cells) where
       → HoldsTicket (place_of new n) key
   search_held new mid n key x y there runs more = subst (λ (o : Option (Place D)). HoldsTicket o key) (sym (there_now cells new mid n y there)) (opened_held cells key x y runs more)
 
-  pub search_reads : (r : Run) (ended : Bool) (size n : ℕ) (log : Log) (old mid new : List (Option (Place D))) (key : Key) (x y : Place D) (lease : Lease Shown) → {left : List ℕ} → record { ended = ended; nodes = size; log = log; calls_left = left } ≡ r → r.ended ≡ false
+  pub search_reads : (r : Run) (ended : Bool) (size n : ℕ) (log : Log) (old mid new : List (Option (Place D))) (key : Key) (x y : Place D) (lease : Lease Shown) → {left : Rest} → record { ended = ended; nodes = size; log = log; rest = left } ≡ r → r.ended ≡ false
       → (ended ≡ false → Shows cells log size old) → IsNode r.nodes n → is_running n (printed r.log) ≡ true → place_of old n ≡ Some x
       → ((m : ℕ) → place_of new m ≡ (if n == m then Some y else place_of mid m)) → HoldsMore key x y → IsLeaseUnder (place_of new n) key lease → ReadsAt (printed r.log) (version_of n (printed r.log)) lease
   search_reads r ended size n log old mid new key x y lease view running shows node up here there more under =
@@ -142,13 +142,13 @@ module _ {D : Type 0} (cells : D → Cells) where
 
   -- ---- a search of a ticket
 
-  pub ask_held : (r : Run) (ended : Bool) (b : Sheet) (places : List (Option (Place D))) (at : At) (t : TicketNo) (o : Opening) → {left : List ℕ} → record { ended = ended; nodes = b.nodes; log = b.log; calls_left = left } ≡ r → r.ended ≡ false
+  pub ask_held : (r : Run) (ended : Bool) (b : Sheet) (places : List (Option (Place D))) (at : At) (t : TicketNo) (o : Opening) → {left : Rest} → record { ended = ended; nodes = b.nodes; log = b.log; rest = left } ≡ r → r.ended ≡ false
       → (ended ≡ false → Shows cells b.log b.nodes places) → IsLegalPast b.nodes (printed b.log) → open_ticket at.lane.0 t.0 (printed r.log) ≡ Some (ticket_of o) → HoldsTicket (place_of places o.node.0) (TicketKey at.lane t)
   ask_held r ended b places at t o view running shows legal held =
       ticket_held cells r.log o.node.0 at.lane.0 t.0 o.version.0 (place_of places o.node.0)
       ((was cells r ended b.nodes b.log places view running shows).each o.node.0 (ask_node r ended b at t o view legal held)) (ticket_is at.lane.0 t.0 (printed r.log) (ticket_of o) held)
 
-  pub ask_reads : (r : Run) (ended : Bool) (b : Sheet) (places : List (Option (Place D))) (at : At) (t : TicketNo) (o : Opening) (lease : Lease Shown) → {left : List ℕ} → record { ended = ended; nodes = b.nodes; log = b.log; calls_left = left } ≡ r → r.ended ≡ false
+  pub ask_reads : (r : Run) (ended : Bool) (b : Sheet) (places : List (Option (Place D))) (at : At) (t : TicketNo) (o : Opening) (lease : Lease Shown) → {left : Rest} → record { ended = ended; nodes = b.nodes; log = b.log; rest = left } ≡ r → r.ended ≡ false
       → (ended ≡ false → Shows cells b.log b.nodes places) → IsLegalPast b.nodes (printed b.log) → open_ticket at.lane.0 t.0 (printed r.log) ≡ Some (ticket_of o) → IsLeaseUnder (place_of places o.node.0) (TicketKey at.lane t) lease
       → ReadsAt (printed r.log) o.version.0 lease
   ask_reads r ended b places at t o lease view running shows legal held under =
@@ -156,7 +156,7 @@ module _ {D : Type 0} (cells : D → Cells) where
       ((was cells r ended b.nodes b.log places view running shows).each o.node.0 (ask_node r ended b at t o view legal held)) (ticket_is at.lane.0 t.0 (printed r.log) (ticket_of o) held) under
 
   pub ask_path : (r : Run) (ended : Bool) (b0 b1 b2 : Sheet) (places : List (Option (Place D))) (at : At) (t : TicketNo) (o : Opening)
-      → {left : List ℕ} → record { ended = ended; nodes = b0.nodes; log = b0.log; calls_left = left } ≡ r → r.ended ≡ false → (ended ≡ false → Shows cells b0.log b0.nodes places)
+      → {left : Rest} → record { ended = ended; nodes = b0.nodes; log = b0.log; rest = left } ≡ r → r.ended ≡ false → (ended ≡ false → Shows cells b0.log b0.nodes places)
       → b1.log ≡ b0.log → b1.nodes ≡ b0.nodes → b2.log ≡ shown at (Asking o.node t o.version) ∷ b1.log → b2.nodes ≡ b1.nodes → IsLegalPast b0.nodes (printed b0.log) → AreInTurn (printed b0.log)
       → IsLegalPast b1.nodes (printed b1.log) → AreInTurn (printed b1.log) → IsFresh at (printed b0.log) → open_ticket at.lane.0 t.0 (printed r.log) ≡ Some (ticket_of o) → Shows cells b2.log b2.nodes places
   ask_path r ended b0 b1 b2 places at t o view running shows e1 n1 e2 n2 legal turns later_legal later_turns fresh held =

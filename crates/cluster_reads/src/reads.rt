@@ -13,6 +13,7 @@ ghost use Rattle.cluster_state.specs.Run.{IsNow, IsEnded};
 ghost use Rattle.cluster_state.specs.State.{ReadsAt};
 ghost use Rattle.cluster_state.specs.Moves.{moves, moves_tickets, EndsKey};
 ghost use Rattle.cluster_state.specs.FileChanges.{keeps_jobs, keeps_commits};
+ghost use Rattle.cluster_tasks.specs.TaskLog.{is_drained};
 
 use cluster_places::{Key, give_ticket_back, hold_ticket, lease_in, put, take};
 use cluster_state::ClusterState;
@@ -148,6 +149,7 @@ pub fn note_without<D: FaultDir + Drop>(
     requires still { (p : Option NodeNo) (m : ℕ) → moves event p m ≡ false }
     requires apart { (m : ℕ) → moves_tickets event m ≡ false }
     requires tickets { opens_ticket event ≡ false }
+    requires drains { is_drained event ≡ false }
     requires starts { is_start event ≡ false }
     requires jobs { (m : ℕ) → keeps_jobs event m ≡ true }
     requires commits { (m : ℕ) → keeps_commits event m ≡ true }

@@ -36,6 +36,7 @@ use Rattle.replica_opening.specs.Opened.{IsSettledAt, IsSettledOn}
 use Rattle.replica_parts.specs.declared.parts.Parts.{Parts as ReplicaParts}
 use Rattle.replica_parts.specs.declared.taking.NodeParts.{NodeParts}
 use Rattle.replica_parts.specs.Replica.{IsWholeReplica}
+use Rattle.replica_parts.specs.declared.merges.MergeCopies.{MergeCopies}
 use Rattle.replica_parts.specs.Sources.{IsSourced, IsTakenApart}
 use Rattle.replica_parts.specs.Starting.{IsJustOpened, SearchesJust}
 use Rattle.primary_parts.specs.declared.parts.Parts.{Parts as PrimaryParts}
@@ -155,6 +156,7 @@ module _ {D : Type 0} (cells : D → Cells) where
         sourced = sourced (λ q. None) (λ q named. empty.now q);
         job = opened.job;
         jobs = opened.jobs;
+        copies = ap (λ (c : MergeCopies). c.running) opened.copies;
       }
 
   opening_point : (r : ReplicaParts D) → IsOpening cells r → IsPointAt [] 1 r.searchers.point
@@ -324,12 +326,12 @@ module _ {D : Type 0} (cells : D → Cells) where
   pub opens_primary : (n : ℕ) (p : PrimaryParts D) (held : Vec Held Global) (x : Node D) → n ≡ 1 → x ≡ Primary p → held.items ≡ [] → PrimaryShows cells [] 1 p → PrimaryFiles (λ q. None) cells [] (λ s. 0) p
       → NamesShow cells [] (Primary p) → IsUncommitted p.commits → OpensPlace cells n (record { node = x; held = held })
   opens_primary n p held x one is none shows files named commits =
-      subst (λ (y : ℕ × Node D). OpensPlace cells y.0 (record { node = y.1; held = held })) (λ i. (sym one i, sym is i)) (record { shows = first_place p held none shows; files = files; named = named; disk = no_commits 1 p.commits commits; idle = refl })
+      subst (λ (y : ℕ × Node D). OpensPlace cells y.0 (record { node = y.1; held = held })) (λ i. (sym one i, sym is i)) (record { shows = first_place p held none shows; files = files; named = named; disk = no_commits 1 p.commits commits; idle = refl; uncopied = refl })
 
   pub opens_replica : (n : ℕ) (r : ReplicaParts D) (held : Vec Held Global) (x : Node D) → n ≢ 1 → x ≡ Replica r → held.items ≡ [] → IsOpening cells r → OpensPlace cells n (record { node = x; held = held })
   opens_replica n r held x other is none opening =
       subst (λ (y : Node D). OpensPlace cells n (record { node = y; held = held })) (sym is)
-      (record { shows = first_replica n r held other none opening; files = replica_files n r opening; named = opening_names r opening; disk = no_commits n r.commits opening.commits; idle = ap want_of opening.job })
+      (record { shows = first_replica n r held other none opening; files = replica_files n r opening; named = opening_names r opening; disk = no_commits n r.commits opening.commits; idle = ap want_of opening.job; uncopied = opening.copies })
 
   -- ---- all of them
 
@@ -352,7 +354,7 @@ module _ {D : Type 0} (cells : D → Cells) where
           ]
 
   -- no node of the first ones has a job
-  jobs_none : (places : List (Option (Place D))) (size k : ℕ) (s : Out) → k ≤ size → ((n : ℕ) → IsNode size n → IsSomeAnd (place_of places n) (OpensPlace cells n)) → jobs_like places s k ≡ 0
+  pub jobs_none : (places : List (Option (Place D))) (size k : ℕ) (s : Out) → k ≤ size → ((n : ℕ) → IsNode size n → IsSomeAnd (place_of places n) (OpensPlace cells n)) → jobs_like places s k ≡ 0
   jobs_none places size zero s low each = refl
   jobs_none places size (suc k) s low each = λ i. jobs_none places size k s (omega (arith, low)) each i + one_like s (idle (place_of places (suc k)) (each (suc k) (omega arith, low)) i)
     where

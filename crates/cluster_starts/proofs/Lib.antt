@@ -1,2 +1,3 @@
 mod FirstNodes
 mod FirstPlaces
+mod FirstMerges

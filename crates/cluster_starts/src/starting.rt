@@ -11,6 +11,7 @@ ghost use Rattle.cluster_state.specs.Names.{NamesShow};
 
 use cluster_places::{Node, Place};
 use cluster_state::ClusterState;
+use cluster_tasks::Tasks;
 use disk_model::{Dir, FaultDir};
 use history_merges::Ledger;
 use index_primary::Primary;
@@ -99,6 +100,7 @@ pub fn start_cluster<D: FaultDir + Drop>(
     let ended = false;
     Ok(ClusterState {
         ledger,
+        tasks: Tasks::new(alloc),
         places,
         ended,
     })

@@ -12,7 +12,7 @@ use Rattle.history_book.specs.Log.{printed}
 use Rattle.history_merges.specs.Merging.{Sheet}
 use Rattle.history_book.specs.Turns.{AreInTurn}
 use Rattle.cluster_places.specs.declared.nodes.Place.{Place}
-use Rattle.cluster_state.specs.Run.{Run}
+use Rattle.cluster_state.specs.Run.{Rest, Run}
 use Rattle.cluster_state.specs.State.{Shows}
 use Rattle.cluster_state.proofs.Growing.{not_flying}
 use Rattle.cluster_state.proofs.Frames.{was}
@@ -35,13 +35,13 @@ primary_node size [] p some legal is = let same : ◌≡◌ {A = NodeNo} (record
 primary_node size (e ∷ past) p some legal is = primary_step size past e.at e.event p legal.0 (λ was. primary_node size past p some legal.1 was) is
 
 -- the publish in flight is not that of a line which did not start as one
-pub apart_of : (r : Run) (ended : Bool) (b : Sheet) (at : At) → {left : List ℕ} → record { ended = ended; nodes = b.nodes; log = b.log; calls_left = left } ≡ r → IsLegalPast b.nodes (printed b.log) → AreInTurn (printed b.log)
+pub apart_of : (r : Run) (ended : Bool) (b : Sheet) (at : At) → {left : Rest} → record { ended = ended; nodes = b.nodes; log = b.log; rest = left } ≡ r → IsLegalPast b.nodes (printed b.log) → AreInTurn (printed b.log)
     → start_entry at (printed r.log) ≢ Some Publishing → publish_in_flight (printed r.log) ≢ Some at
 apart_of r ended b at view legal turns line = not_flying r.nodes (printed r.log) at (subst (λ (x : Run). IsLegalPast x.nodes (printed x.log)) view legal) (past_has AreInTurn r ended b view turns) line
 
 -- the primary of the book is a node
 pub primary_is_node : {D : Type 0} (cells : D → Cells) (r : Run) (ended : Bool) (b : Sheet) (places : List (Option (Place D))) (o : Option NodeNo)
-    → {left : List ℕ} → record { ended = ended; nodes = b.nodes; log = b.log; calls_left = left } ≡ r → r.ended ≡ false → (ended ≡ false → Shows cells b.log b.nodes places)
+    → {left : Rest} → record { ended = ended; nodes = b.nodes; log = b.log; rest = left } ≡ r → r.ended ≡ false → (ended ≡ false → Shows cells b.log b.nodes places)
     → IsLegalPast b.nodes (printed b.log) → o ≡ primary_of (printed b.log) → IfSome o (λ p. IsNode r.nodes p.0)
 primary_is_node cells r ended b places None view running shows legal is = tt
 primary_is_node cells r ended b places (Some p) view running shows legal is =

@@ -28,7 +28,7 @@ use Rattle.cluster_places.specs.declared.nodes.Place.{Place}
 use Rattle.cluster_places.specs.Places.{Disk, place_of, disk_of, disk_at}
 use Rattle.cluster_places.specs.KeptFiles.{KeepsNodeFiles}
 use Rattle.cluster_places.specs.JobPlaces.{MovesOne, MovesBoth}
-use Rattle.cluster_state.specs.Run.{Run}
+use Rattle.cluster_state.specs.Run.{Rest, Run}
 use Rattle.cluster_state.specs.Disks.{MayFindPoint, LastShows, StageShows, BookShows, DirShows, DiskShows, DisksShow, CommitsStay}
 use Rattle.cluster_state.specs.FileChanges.{is_commit_line, keeps_commits}
 use Rattle.cluster_state.proofs.Points.{points_alone, points_then, points_shown, point_stays}
@@ -105,7 +105,7 @@ module _ (past : Past) (at : At) (n : ℕ) where
   }
 
 -- in the terms of a call
-pub none_flying : (r : Run) (ended : Bool) (b : Sheet) (at : At) → {left : List ℕ} → record { ended = ended; nodes = b.nodes; log = b.log; calls_left = left } ≡ r → IsLegalPast b.nodes (printed b.log) → AreInTurn (printed b.log) → is_commit_line (start_entry at (printed r.log)) ≡ false
+pub none_flying : (r : Run) (ended : Bool) (b : Sheet) (at : At) → {left : Rest} → record { ended = ended; nodes = b.nodes; log = b.log; rest = left } ≡ r → IsLegalPast b.nodes (printed b.log) → AreInTurn (printed b.log) → is_commit_line (start_entry at (printed r.log)) ≡ false
     → (m : ℕ) → commit_in_flight m (printed r.log) ≢ Some at
 none_flying r ended b at view legal turns line = no_commit r.nodes (printed r.log) at (subst (λ (x : Run). IsLegalPast x.nodes (printed x.log)) view legal) (subst (λ (x : Run). AreInTurn (printed x.log)) view turns) line
 

@@ -25,7 +25,7 @@ none_drawn size g (e ∷ past) legal above =
     ap (λ (b : Bool). if b then names_drawn (e ∷ past) else names_drawn_in g past) other ∙ none_drawn size g past legal.1 (omega (arith, low))
 
 -- the present one has drawn what is counted for it
-present_drawn : (g : ℕ) (past : Past) → generation_of past ≡ g → names_drawn_in g past ≤ names_drawn past
+pub present_drawn : (g : ℕ) (past : Past) → generation_of past ≡ g → names_drawn_in g past ≤ names_drawn past
 present_drawn g [] is = omega arith
 present_drawn g (e ∷ past) is =
     let here : (generation_of (e ∷ past) == g) ≡ true = grind (arith, nat_tests) in

@@ -36,7 +36,7 @@ use Rattle.cluster_places.specs.declared.nodes.Node.{Node}
 use Rattle.cluster_places.specs.declared.nodes.Node.TheVariants.{Primary, Replica, Down}
 use Rattle.cluster_places.specs.declared.nodes.Place.{Place}
 use Rattle.cluster_places.specs.Places.{place_of}
-use Rattle.cluster_state.specs.Run.{Run}
+use Rattle.cluster_state.specs.Run.{Rest, Run}
 use Rattle.cluster_state.specs.State.{PrimaryShows, NodeShows, PlaceShows, Shows}
 use Rattle.cluster_places.specs.Outs.{want_of, want_at, jobs_like, states_like}
 use Rattle.cluster_state.specs.Files.{CopyShows, JobShows, IsJobFor, ReplicaFiles, NodeFiles, FilesShow}
@@ -109,6 +109,14 @@ module _ {D : Type 0} where
       ap want_at (moves.there m ∙ ap (λ (b : Bool). if b then Some x else place_of old m) here) ∙ (same ∙ (ap want_at (sym there) ∙ ap (λ (k : ℕ). want_at (place_of old k)) is)))
       (λ apart q. ap want_at (moves.there m ∙ ap (λ (b : Bool). if b then Some x else place_of old m) apart))
       refl
+
+  -- the primary and a node were moved: the jobs of the others are as they were
+  pub wants_apart : (p n : ℕ) (x y u : Place D) (old new : List (Option (Place D))) → MovesBoth p n x y old new → place_of old p ≡ Some u → want_at (Some x) ≡ want_at (Some u) → (m : ℕ) → (n == m) ≡ false → want_at (place_of new m) ≡ want_at (place_of old m)
+  wants_apart p n x y u old new moves there same m apart = ap want_at (moves.there m ∙ ap (λ (b : Bool). if b then Some y else if p == m then Some x else place_of old m) apart) ∙ tests (p == m) refl
+    where
+      tests : (b : Bool) → (p == m) ≡ b → want_at (if p == m then Some x else place_of old m) ≡ want_at (place_of old m)
+      tests true here = ap (λ (b : Bool). want_at (if b then Some x else place_of old m)) here ∙ (same ∙ (ap want_at (sym there) ∙ ap (λ (k : ℕ). want_at (place_of old k)) (eqb-true p m here)))
+      tests false away = ap (λ (b : Bool). want_at (if b then Some x else place_of old m)) away
 
 -- ---- names
 
@@ -262,7 +270,7 @@ module _ {D : Type 0} (cells : D → Cells) where
       }
 
   -- a node at a wider source
-  node_wider : (source wider : Name → Content) (log now : Log) (jobs : Out → ℕ) (n : ℕ) (x : Node D) → ((q : Name) (bytes : List ℕ) → source q ≡ Some bytes → wider q ≡ Some bytes)
+  pub node_wider : (source wider : Name → Content) (log now : Log) (jobs : Out → ℕ) (n : ℕ) (x : Node D) → ((q : Name) (bytes : List ℕ) → source q ≡ Some bytes → wider q ≡ Some bytes)
       → (is_at (primary_of (printed log)) n ≡ false) → ((m : ℕ) → is_at (primary_of (printed log)) m ≡ false → SameJob log now m) → NodeShows cells log n x → NodeFiles source cells log jobs n x → NodeFiles wider cells now jobs n x
   node_wider source wider log now jobs n (Primary p) more other same shows was = absurd (true≢false (sym shows.primary ∙ other))
   node_wider source wider log now jobs n (Replica r) more other same shows was =
@@ -317,7 +325,7 @@ module _ {D : Type 0} (cells : D → Cells) where
   -- ---- in the terms of a call
 
   pub files_was : (r : Run) (ended : Bool) (size : ℕ) (log : Log) (places : List (Option (Place D)))
-      → {left : List ℕ} → record { ended = ended; nodes = size; log = log; calls_left = left } ≡ r → r.ended ≡ false → (ended ≡ false → FilesShow cells log size places) → FilesShow cells r.log r.nodes places
+      → {left : Rest} → record { ended = ended; nodes = size; log = log; rest = left } ≡ r → r.ended ≡ false → (ended ≡ false → FilesShow cells log size places) → FilesShow cells r.log r.nodes places
   files_was r ended size log places e f g = subst (λ (x : Run). x.ended ≡ false → FilesShow cells x.log x.nodes places) e g f
 
   pub files_is : (log now : Log) (size size' : ℕ) (places : List (Option (Place D))) → now ≡ log → size' ≡ size → FilesShow cells log size places → FilesShow cells now size' places
@@ -330,7 +338,7 @@ module _ {D : Type 0} (cells : D → Cells) where
     pub legal : IsLegalPast r.nodes (printed r.log)
     pub turns : AreInTurn (printed r.log)
 
-  pub before : (r : Run) (ended : Bool) (b0 b1 : Sheet) → {left : List ℕ} → record { ended = ended; nodes = b0.nodes; log = b0.log; calls_left = left } ≡ r → b1.log ≡ b0.log → b1.nodes ≡ b0.nodes → IsLegalPast b1.nodes (printed b1.log) → AreInTurn (printed b1.log) → Before r b1
+  pub before : (r : Run) (ended : Bool) (b0 b1 : Sheet) → {left : Rest} → record { ended = ended; nodes = b0.nodes; log = b0.log; rest = left } ≡ r → b1.log ≡ b0.log → b1.nodes ≡ b0.nodes → IsLegalPast b1.nodes (printed b1.log) → AreInTurn (printed b1.log) → Before r b1
   before r ended b0 b1 view e1 n1 legal turns =
       let log : b1.log ≡ r.log = e1 ∙ ap (λ (x : Run). x.log) view in
       let size : b1.nodes ≡ r.nodes = n1 ∙ ap (λ (x : Run). x.nodes) view in
@@ -342,13 +350,13 @@ module _ {D : Type 0} (cells : D → Cells) where
       }
 
   -- a line that has not started has no commit in flight
-  pub flights_of : (r : Run) (ended : Bool) (b0 b1 : Sheet) (at : At) → {left : List ℕ} → record { ended = ended; nodes = b0.nodes; log = b0.log; calls_left = left } ≡ r → b1.log ≡ b0.log → b1.nodes ≡ b0.nodes → IsLegalPast b1.nodes (printed b1.log) → AreInTurn (printed b1.log)
+  pub flights_of : (r : Run) (ended : Bool) (b0 b1 : Sheet) (at : At) → {left : Rest} → record { ended = ended; nodes = b0.nodes; log = b0.log; rest = left } ≡ r → b1.log ≡ b0.log → b1.nodes ≡ b0.nodes → IsLegalPast b1.nodes (printed b1.log) → AreInTurn (printed b1.log)
       → start_entry at (printed r.log) ≡ None → (m : ℕ) → commit_in_flight m (printed r.log) ≢ Some at
   flights_of r ended b0 b1 at view e1 n1 legal turns none = let b = before r ended b0 b1 view e1 n1 legal turns in fresh_flights r.nodes (printed r.log) at b.legal b.turns none
 
   -- the entry that a call appended moved no place
   pub files_noted : (r : Run) (ended : Bool) (b0 b1 b2 : Sheet) (places : List (Option (Place D))) (at : At) (e : Event)
-      → {left : List ℕ} → record { ended = ended; nodes = b0.nodes; log = b0.log; calls_left = left } ≡ r → r.ended ≡ false → (ended ≡ false → Shows cells b0.log b0.nodes places) → (ended ≡ false → FilesShow cells b0.log b0.nodes places)
+      → {left : Rest} → record { ended = ended; nodes = b0.nodes; log = b0.log; rest = left } ≡ r → r.ended ≡ false → (ended ≡ false → Shows cells b0.log b0.nodes places) → (ended ≡ false → FilesShow cells b0.log b0.nodes places)
       → b1.log ≡ b0.log → b1.nodes ≡ b0.nodes → b2.log ≡ shown at e ∷ b1.log → b2.nodes ≡ b1.nodes → IsLegalPast b1.nodes (printed b1.log) → AreInTurn (printed b1.log)
       → KeepsRule r.nodes (printed r.log) at e → InTurn (printed r.log) at e → ((m : ℕ) → keeps_jobs e m ≡ true)
       → ((m : ℕ) → keeps_commits e m ≡ true) → ((m : ℕ) → commit_in_flight m (printed r.log) ≢ Some at) → FilesShow cells b2.log b2.nodes places
@@ -361,7 +369,7 @@ module _ {D : Type 0} (cells : D → Cells) where
 
   -- it moved one, of which the node's call left the files and the job
   pub files_moved : (r : Run) (ended : Bool) (b0 b1 b2 : Sheet) (old mid new : List (Option (Place D))) (at : At) (e : Event) (n : ℕ) (x y : Place D)
-      → {left : List ℕ} → record { ended = ended; nodes = b0.nodes; log = b0.log; calls_left = left } ≡ r → r.ended ≡ false → (ended ≡ false → Shows cells b0.log b0.nodes old) → (ended ≡ false → FilesShow cells b0.log b0.nodes old)
+      → {left : Rest} → record { ended = ended; nodes = b0.nodes; log = b0.log; rest = left } ≡ r → r.ended ≡ false → (ended ≡ false → Shows cells b0.log b0.nodes old) → (ended ≡ false → FilesShow cells b0.log b0.nodes old)
       → b1.log ≡ b0.log → b1.nodes ≡ b0.nodes → b2.log ≡ shown at e ∷ b1.log → b2.nodes ≡ b1.nodes → IsLegalPast b1.nodes (printed b1.log) → AreInTurn (printed b1.log)
       → KeepsRule r.nodes (printed r.log) at e → InTurn (printed r.log) at e → ((m : ℕ) → keeps_jobs e m ≡ true)
       → ((m : ℕ) → keeps_commits e m ≡ true) → ((m : ℕ) → commit_in_flight m (printed r.log) ≢ Some at) → PutsBack cells old mid new n x → IsNode r.nodes n → place_of old n ≡ Some y → KeepsNodeFiles cells y.node x.node → HoldsFrom cells (printed (shown at e ∷ r.log)) y.node x.node → FilesShow cells b2.log b2.nodes new
@@ -374,7 +382,7 @@ module _ {D : Type 0} (cells : D → Cells) where
 
   -- the start of a publish, which is handed out
   pub files_started : (r : Run) (ended : Bool) (b0 b1 b2 b3 : Sheet) (old mid new : List (Option (Place D))) (at : At) (seg : Option SegNo) (segs : List Shown) (n : ℕ) (x y : Place D)
-      → {left : List ℕ} → record { ended = ended; nodes = b0.nodes; log = b0.log; calls_left = left } ≡ r → r.ended ≡ false → (ended ≡ false → Shows cells b0.log b0.nodes old) → (ended ≡ false → FilesShow cells b0.log b0.nodes old)
+      → {left : Rest} → record { ended = ended; nodes = b0.nodes; log = b0.log; rest = left } ≡ r → r.ended ≡ false → (ended ≡ false → Shows cells b0.log b0.nodes old) → (ended ≡ false → FilesShow cells b0.log b0.nodes old)
       → b1.log ≡ b0.log → b1.nodes ≡ b0.nodes → b2.log ≡ shown at Publishing ∷ b1.log → b2.nodes ≡ b1.nodes → IsLegalPast b1.nodes (printed b1.log) → AreInTurn (printed b1.log)
       → b3.log ≡ kept (FlushOut at seg segs) ∷ b2.log → b3.nodes ≡ b2.nodes
       → KeepsRule r.nodes (printed r.log) at Publishing → InTurn (printed r.log) at Publishing
@@ -392,7 +400,7 @@ module _ {D : Type 0} (cells : D → Cells) where
 
   -- the end of a publish, which wrote files
   pub files_published : (r : Run) (ended : Bool) (b0 b1 b2 : Sheet) (old mid new : List (Option (Place D))) (at : At) (g : Gen) (v : Version) (n : NodeNo) (p q : PrimaryParts D) (held : Vec Held Global)
-      → {left : List ℕ} → record { ended = ended; nodes = b0.nodes; log = b0.log; calls_left = left } ≡ r → r.ended ≡ false → (ended ≡ false → Shows cells b0.log b0.nodes old) → (ended ≡ false → FilesShow cells b0.log b0.nodes old)
+      → {left : Rest} → record { ended = ended; nodes = b0.nodes; log = b0.log; rest = left } ≡ r → r.ended ≡ false → (ended ≡ false → Shows cells b0.log b0.nodes old) → (ended ≡ false → FilesShow cells b0.log b0.nodes old)
       → b1.log ≡ b0.log → b1.nodes ≡ b0.nodes → b2.log ≡ shown at (Published g v) ∷ b1.log → b2.nodes ≡ b1.nodes → IsLegalPast b1.nodes (printed b1.log) → AreInTurn (printed b1.log)
       → KeepsRule r.nodes (printed r.log) at (Published g v) → InTurn (printed r.log) at (Published g v) → primary_of (printed r.log) ≡ Some n
       → PutsBack cells old mid new n.0 (record { node = Primary q; held = held }) → IsNode r.nodes n.0 → place_of old n.0 ≡ Some (record { node = Primary p; held = held })

@@ -34,7 +34,7 @@ use Rattle.cluster_places.specs.declared.nodes.Node.TheVariants.{Primary, Replic
 use Rattle.cluster_places.specs.declared.nodes.Place.{Place}
 use Rattle.cluster_state.specs.Lookups.{Handed, handed_by, or_older, flush_out}
 use Rattle.cluster_places.specs.Places.{place_of, IsSlot, tickets_of}
-use Rattle.cluster_state.specs.Run.{Run}
+use Rattle.cluster_state.specs.Run.{Rest, Run}
 use Rattle.cluster_state.specs.State.{StandForVersion, IsPointAt, HoldsTickets, FlightShows, WritesAt, PrimaryShows, ReplicaShows, NodeShows, PlaceShows, Shows}
 use Rattle.cluster_state.specs.Moves.{moves, moves_tickets, FlightStays, Lasts, Fewer, WritesOn, Same}
 use Rattle.cluster_state.proofs.Growing.{same, fewer, not_flying}
@@ -107,7 +107,7 @@ flight_same log now publish segs s out was =
 -- ---- rules, in the terms of a call
 
 -- the rule of an entry at what a call has of the book after it made room
-pub rule_at : (r : Run) (ended : Bool) (b0 b1 : Sheet) (at : At) (e : Event) → {left : List ℕ} → record { ended = ended; nodes = b0.nodes; log = b0.log; calls_left = left } ≡ r
+pub rule_at : (r : Run) (ended : Bool) (b0 b1 : Sheet) (at : At) (e : Event) → {left : Rest} → record { ended = ended; nodes = b0.nodes; log = b0.log; rest = left } ≡ r
     → b1.log ≡ b0.log → b1.nodes ≡ b0.nodes → KeepsRule r.nodes (printed r.log) at e → KeepsRule b1.nodes (printed b1.log) at e
 rule_at r ended b0 b1 at e view same_log same_size keeps =
     let log : b1.log ≡ r.log = same_log ∙ ap (λ (x : Run). x.log) view in
@@ -202,7 +202,7 @@ module _ {D : Type 0} (cells : D → Cells) where
 
   -- what a cluster that runs shows, in the words of its callers
   pub was : (r : Run) (ended : Bool) (size : ℕ) (log : Log) (places : List (Option (Place D)))
-      → {left : List ℕ} → record { ended = ended; nodes = size; log = log; calls_left = left } ≡ r → r.ended ≡ false → (ended ≡ false → Shows cells log size places) → Shows cells r.log r.nodes places
+      → {left : Rest} → record { ended = ended; nodes = size; log = log; rest = left } ≡ r → r.ended ≡ false → (ended ≡ false → Shows cells log size places) → Shows cells r.log r.nodes places
   was r ended size log places e f g = subst (λ (x : Run). x.ended ≡ false → Shows cells x.log x.nodes places) e g f
 
   pub now_is : (log now : Log) (size size' : ℕ) (places : List (Option (Place D))) → now ≡ log → size' ≡ size → Shows cells log size places → Shows cells now size' places
@@ -210,7 +210,7 @@ module _ {D : Type 0} (cells : D → Cells) where
 
   -- the entry that a call appended moved no place
   pub noted : (r : Run) (ended : Bool) (b0 b1 b2 : Sheet) (places : List (Option (Place D))) (at : At) (e : Event)
-      → {left : List ℕ} → record { ended = ended; nodes = b0.nodes; log = b0.log; calls_left = left } ≡ r → r.ended ≡ false → (ended ≡ false → Shows cells b0.log b0.nodes places)
+      → {left : Rest} → record { ended = ended; nodes = b0.nodes; log = b0.log; rest = left } ≡ r → r.ended ≡ false → (ended ≡ false → Shows cells b0.log b0.nodes places)
       → b1.log ≡ b0.log → b1.nodes ≡ b0.nodes → b2.log ≡ shown at e ∷ b1.log → b2.nodes ≡ b1.nodes → IsLegalPast b1.nodes (printed b1.log) → AreInTurn (printed b1.log)
       → KeepsRule r.nodes (printed r.log) at e → publish_in_flight (printed r.log) ≢ Some at → ((p : Option NodeNo) (m : ℕ) → moves e p m ≡ false) → ((m : ℕ) → moves_tickets e m ≡ false)
       → Shows cells b2.log b2.nodes places
@@ -227,7 +227,7 @@ module _ {D : Type 0} (cells : D → Cells) where
 
   -- the entry that a call appended moved one place
   pub moved_at : (r : Run) (ended : Bool) (b0 b1 b2 : Sheet) (old mid new : List (Option (Place D))) (at : At) (e : Event) (n : ℕ) (x y : Place D)
-      → {left : List ℕ} → record { ended = ended; nodes = b0.nodes; log = b0.log; calls_left = left } ≡ r → r.ended ≡ false → (ended ≡ false → Shows cells b0.log b0.nodes old)
+      → {left : Rest} → record { ended = ended; nodes = b0.nodes; log = b0.log; rest = left } ≡ r → r.ended ≡ false → (ended ≡ false → Shows cells b0.log b0.nodes old)
       → b1.log ≡ b0.log → b1.nodes ≡ b0.nodes → b2.log ≡ shown at e ∷ b1.log → b2.nodes ≡ b1.nodes → IsLegalPast b1.nodes (printed b1.log) → AreInTurn (printed b1.log)
       → KeepsRule r.nodes (printed r.log) at e
       → ((m : ℕ) → (n == m) ≡ false → is_at (primary_of (printed r.log)) m ≡ true → start_entry at (printed r.log) ≢ Some Publishing)
@@ -261,7 +261,7 @@ module _ {D : Type 0} (cells : D → Cells) where
 
   -- the entry that starts a publish moved the primary's place, and what is handed out stands behind it
   pub moved_out : (r : Run) (ended : Bool) (b0 b1 b2 b3 : Sheet) (old mid new : List (Option (Place D))) (at : At) (seg : Option SegNo) (segs : List Shown) (n : ℕ) (x y : Place D)
-      → {left : List ℕ} → record { ended = ended; nodes = b0.nodes; log = b0.log; calls_left = left } ≡ r → r.ended ≡ false → (ended ≡ false → Shows cells b0.log b0.nodes old)
+      → {left : Rest} → record { ended = ended; nodes = b0.nodes; log = b0.log; rest = left } ≡ r → r.ended ≡ false → (ended ≡ false → Shows cells b0.log b0.nodes old)
       → b1.log ≡ b0.log → b1.nodes ≡ b0.nodes → b2.log ≡ shown at Publishing ∷ b1.log → b2.nodes ≡ b1.nodes → IsLegalPast b1.nodes (printed b1.log) → AreInTurn (printed b1.log)
       → b3.log ≡ kept (FlushOut at seg segs) ∷ b2.log → b3.nodes ≡ b2.nodes
       → KeepsRule r.nodes (printed r.log) at Publishing → start_entry at (printed r.log) ≡ None
@@ -296,7 +296,7 @@ module _ {D : Type 0} (cells : D → Cells) where
 
   -- ---- the same in the terms of a call
 
-  pub slot_at : (r : Run) (ended : Bool) (size n : ℕ) (log : Log) (places : List (Option (Place D))) → {left : List ℕ} → record { ended = ended; nodes = size; log = log; calls_left = left } ≡ r → r.ended ≡ false
+  pub slot_at : (r : Run) (ended : Bool) (size n : ℕ) (log : Log) (places : List (Option (Place D))) → {left : Rest} → record { ended = ended; nodes = size; log = log; rest = left } ≡ r → r.ended ≡ false
       → (ended ≡ false → Shows cells log size places) → IsNode r.nodes n → IsSlot places n
   slot_at r ended size n log places view running shows node = slot_of r.log r.nodes n places node (was r ended size log places view running shows)
 
@@ -304,10 +304,10 @@ module _ {D : Type 0} (cells : D → Cells) where
   pub slot_kept : (old mid : List (Option (Place D))) (n : ℕ) → length mid ≡ length old → IsSlot old n → IsSlot mid n
   slot_kept old mid n same slot = (slot.0, subst (λ (k : ℕ). n ≤ k) (sym same) slot.1)
 
-  pub there_at : (r : Run) (ended : Bool) (size n : ℕ) (log : Log) (places : List (Option (Place D))) → {left : List ℕ} → record { ended = ended; nodes = size; log = log; calls_left = left } ≡ r → r.ended ≡ false
+  pub there_at : (r : Run) (ended : Bool) (size n : ℕ) (log : Log) (places : List (Option (Place D))) → {left : Rest} → record { ended = ended; nodes = size; log = log; rest = left } ≡ r → r.ended ≡ false
       → (ended ≡ false → Shows cells log size places) → IsNode r.nodes n → place_of places n ≢ None
   there_at r ended size n log places view running shows node = there_of r.log r.nodes n places node (was r ended size log places view running shows)
 
-  pub place_at : (r : Run) (ended : Bool) (size n : ℕ) (log : Log) (places : List (Option (Place D))) (x : Place D) → {left : List ℕ} → record { ended = ended; nodes = size; log = log; calls_left = left } ≡ r → r.ended ≡ false
+  pub place_at : (r : Run) (ended : Bool) (size n : ℕ) (log : Log) (places : List (Option (Place D))) (x : Place D) → {left : Rest} → record { ended = ended; nodes = size; log = log; rest = left } ≡ r → r.ended ≡ false
       → (ended ≡ false → Shows cells log size places) → IsNode r.nodes n → place_of places n ≡ Some x → PlaceShows cells r.log n x
   place_at r ended size n log places x view running shows node there = place_shows r.log r.nodes n places x node there (was r ended size log places view running shows)

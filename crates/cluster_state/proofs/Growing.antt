@@ -182,7 +182,7 @@ flight_stays past at e other keeps = record {
     stays (Crashed m) keeps = crash (is_at (primary_of past) m.0) keeps
     stays e keeps = reply (is_reply e)
 
-test_apart : (p : Option NodeNo) (m n : ℕ) → (m == n) ≡ false → is_at p m ≡ true → is_at p n ≡ false
+pub test_apart : (p : Option NodeNo) (m n : ℕ) → (m == n) ≡ false → is_at p m ≡ true → is_at p n ≡ false
 test_apart None m n apart here = refl
 test_apart (Some q) m n apart here = grind (arith, nat_tests)
 

@@ -8,7 +8,7 @@ use Rattle.history_book.specs.Log.{Log, printed}
 use Rattle.history_merges.specs.Merging.{Sheet}
 use Rattle.history_book.specs.Jobs.{job_at}
 use Rattle.cluster_places.specs.declared.nodes.Place.{Place}
-use Rattle.cluster_state.specs.Run.{Run}
+use Rattle.cluster_state.specs.Run.{Rest, Run}
 use Rattle.cluster_state.specs.State.{Shows}
 use Rattle.cluster_state.specs.Files.{FilesShow}
 use Rattle.cluster_state.proofs.FileJobs.{replica_here, job_here}
@@ -26,7 +26,7 @@ module _ {D : Type 0} (cells : D → Cells) where
           let known = shows.point.known in
           omega (arith, known, shows.version)
 
-  pub job_below : (r : Run) (ended : Bool) (b : Sheet) (places : List (Option (Place D))) (n : ℕ) → {left : List ℕ} → record { ended = ended; nodes = b.nodes; log = b.log; calls_left = left } ≡ r
+  pub job_below : (r : Run) (ended : Bool) (b : Sheet) (places : List (Option (Place D))) (n : ℕ) → {left : Rest} → record { ended = ended; nodes = b.nodes; log = b.log; rest = left } ≡ r
       → (ended ≡ false → Shows cells b.log b.nodes places × FilesShow cells b.log b.nodes places) → r.ended ≡ false → IsNode r.nodes n → IsReplica (printed r.log) n
       → IfSome (job_at n r.log) (λ job. job.version.0 ≤ newest_version (printed r.log))
   job_below r ended b places n view both =

@@ -16,7 +16,7 @@ use Rattle.history_book.specs.Laws.{IsFresh}
 use Rattle.history_book.specs.Jobs.{job_at, LaneJobShows}
 use Rattle.history_book.specs.Turns.{IsUnbegun, AreInTurn}
 use Rattle.history_merges.specs.Merging.{Sheet, is_apart, ends_reign}
-use Rattle.cluster_state.specs.Run.{Run}
+use Rattle.cluster_state.specs.Run.{Rest, Run}
 use Rattle.cluster_state.specs.Moves.{moves}
 
 -- ---- what the book says
@@ -60,11 +60,11 @@ module _ {k m : ℕ} {a b : Log} (nodes : k ≡ m) (log : a ≡ b) where
   commit_of {at = at} {n = n} {v = v} is = subst (λ (x : ℕ × Log). MayCommit x.0 (printed x.1) at n v) (λ i. (nodes i, log i)) is
 
 -- what a call asks of the book, from what is asked of the cluster
-pub asked_of : {r : Run} {ended : Bool} {nodes : ℕ} {left : List ℕ} {a log : Log} (P : Log → Type 0) → record { ended = ended; nodes = nodes; log = log; calls_left = left } ≡ r → a ≡ log → P r.log → P a
+pub asked_of : {r : Run} {ended : Bool} {nodes : ℕ} {left : Rest} {a log : Log} (P : Log → Type 0) → record { ended = ended; nodes = nodes; log = log; rest = left } ≡ r → a ≡ log → P r.log → P a
 asked_of P view same has = subst P (sym (same ∙ ap (λ (x : Run). x.log) view)) has
 
 -- the same of how many nodes there are
-pub asked_size : {r : Run} {ended : Bool} {nodes k : ℕ} {left : List ℕ} {log : Log} (P : ℕ → Type 0) → record { ended = ended; nodes = nodes; log = log; calls_left = left } ≡ r → k ≡ nodes → P r.nodes → P k
+pub asked_size : {r : Run} {ended : Bool} {nodes k : ℕ} {left : Rest} {log : Log} (P : ℕ → Type 0) → record { ended = ended; nodes = nodes; log = log; rest = left } ≡ r → k ≡ nodes → P r.nodes → P k
 asked_size P view same has = subst P (sym (same ∙ ap (λ (x : Run). x.nodes) view)) has
 
 -- ---- what a ledger shows by itself

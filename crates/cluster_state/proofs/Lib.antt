@@ -18,3 +18,5 @@ mod Living
 pub mod Points
 pub mod Reigning
 pub mod Ledgers
+pub mod MergingStill
+pub mod MergingPaths

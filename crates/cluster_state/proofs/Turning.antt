@@ -9,7 +9,7 @@ use Rattle.history_book.specs.Log.{Log, printed}
 use Rattle.history_merges.specs.Merging.{Sheet}
 use Rattle.history_book.specs.Laws.{IsFresh}
 use Rattle.history_book.specs.Turns.{StartsOnce, EndsFlight, InTurn}
-use Rattle.cluster_state.specs.Run.{Run}
+use Rattle.cluster_state.specs.Run.{Rest, Run}
 
 starts_fresh : (b : Bool) (past : Past) (at : At) → IsFresh at past → StartsOnce b at past
 starts_fresh true past at fresh = record { begun = fresh.begun; replied = fresh.replied }
@@ -33,18 +33,18 @@ fresh_line past at fresh is = none (sym fresh.begun ∙ is)
 -- ---- in the terms of a call
 
 -- the log of the book is that of the cluster
-pub log_is : (r : Run) (ended : Bool) (b : Sheet) → {left : List ℕ} → record { ended = ended; nodes = b.nodes; log = b.log; calls_left = left } ≡ r → b.log ≡ r.log
+pub log_is : (r : Run) (ended : Bool) (b : Sheet) → {left : Rest} → record { ended = ended; nodes = b.nodes; log = b.log; rest = left } ≡ r → b.log ≡ r.log
 log_is r ended b view = ap (λ (x : Run). x.log) view
 
-pub nodes_is : (r : Run) (ended : Bool) (b : Sheet) → {left : List ℕ} → record { ended = ended; nodes = b.nodes; log = b.log; calls_left = left } ≡ r → b.nodes ≡ r.nodes
+pub nodes_is : (r : Run) (ended : Bool) (b : Sheet) → {left : Rest} → record { ended = ended; nodes = b.nodes; log = b.log; rest = left } ≡ r → b.nodes ≡ r.nodes
 nodes_is r ended b view = ap (λ (x : Run). x.nodes) view
 
 -- what the book has of the past the cluster has
-pub past_has : (P : Past → Type 0) (r : Run) (ended : Bool) (b : Sheet) → {left : List ℕ} → record { ended = ended; nodes = b.nodes; log = b.log; calls_left = left } ≡ r → P (printed b.log) → P (printed r.log)
+pub past_has : (P : Past → Type 0) (r : Run) (ended : Bool) (b : Sheet) → {left : Rest} → record { ended = ended; nodes = b.nodes; log = b.log; rest = left } ≡ r → P (printed b.log) → P (printed r.log)
 past_has P r ended b view has = subst (λ (l : Log). P (printed l)) (log_is r ended b view) has
 
 -- the turn of an entry at what a call has of the book after it made room
-pub turn_at : (r : Run) (ended : Bool) (b0 b1 : Sheet) (at : At) (e : Event) → {left : List ℕ} → record { ended = ended; nodes = b0.nodes; log = b0.log; calls_left = left } ≡ r
+pub turn_at : (r : Run) (ended : Bool) (b0 b1 : Sheet) (at : At) (e : Event) → {left : Rest} → record { ended = ended; nodes = b0.nodes; log = b0.log; rest = left } ≡ r
     → b1.log ≡ b0.log → InTurn (printed r.log) at e → InTurn (printed b1.log) at e
 turn_at r ended b0 b1 at e view same turn = subst (λ (l : Log). InTurn (printed l) at e) (sym (same ∙ log_is r ended b0 view)) turn
 

@@ -158,7 +158,7 @@ widened source cells holdings q = option_or (source q) (if nat_lt 0 (count_of ho
 pub widened_more : (source : Name → Content) (cells : Cells) (holdings : Holdings) → Extends source (widened source cells holdings)
 widened_more source cells holdings q bytes is = ap (λ (o : Content). option_or o (if nat_lt 0 (count_of holdings q) then (cells q).now else None)) is
 
-test_none : (k : ℕ) → k ≡ 0 → nat_lt 0 k ≡ false
+pub test_none : (k : ℕ) → k ≡ 0 → nat_lt 0 k ≡ false
 test_none k none = ap (nat_lt 0) none
 
 module _ {D : Type 0} (cells : D → Cells) (source : Name → Content) where

@@ -14,3 +14,5 @@ pub mod FileChanges
 pub mod Copies
 pub mod Settles
 pub mod Lists
+pub mod Merging
+pub mod Sizes

@@ -1,5 +1,8 @@
 -- What the nodes of a cluster are that has just started.
-use Rattle.std.specs.Prelude.{ℕ, ◌≡◌, [], None, Some}
+use Rattle.std.specs.Prelude.{ℕ, ◌≡◌, List, [], None, Some}
+use Rattle.copy_job.specs.Jobs.{Job}
+use Rattle.cluster_places.specs.declared.nodes.Node.{Node}
+use Rattle.cluster_places.specs.declared.nodes.Node.TheVariants.{Primary, Replica, Down}
 use Rattle.disk_model.specs.Disk.{Name, Cells, Image, IsImage, reads_of}
 use Rattle.seg_reader.specs.Stands.{StandsFor, AreSegmentsOf}
 use Rattle.commit_steps.specs.declared.stage.CommitBook.{CommitBook}
@@ -39,12 +42,20 @@ pub record IsOpening {D : Type 0} (cells : D → Cells) (r : ReplicaParts D) : T
   pub sourced : IsSourced (λ q. None) cells r
   pub job : r.job ≡ None
   pub jobs : r.jobs ≡ 0
+  pub copies : r.copies.running ≡ []
+
+-- the copies of merged segments that run at a node
+abbrev pub copies_at : {D : Type 0} → Node D → List Job
+copies_at (Primary p) = []
+copies_at (Replica r) = r.copies.running
+copies_at (Down d) = []
 
 -- a node that has just started: it is what the empty log shows, it has its files as at a source where nothing stands, no name stands
--- there, and it has no commit and no job
+-- there, and it has no commit, no job and no copy of a merged segment
 pub record OpensPlace {D : Type 0} (cells : D → Cells) (n : ℕ) (place : Place D) : Type 0 where
   pub shows : PlaceShows cells [] n place
   pub files : NodeFiles (λ q. None) cells [] (λ s. 0) n place.node
   pub named : NamesShow cells [] place.node
   pub disk : DiskShows (λ q. None) cells [] n (disk_of place.node)
   pub idle : want_at (Some place) ≡ None
+  pub uncopied : copies_at place.node ≡ []

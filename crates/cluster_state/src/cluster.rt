@@ -1,6 +1,7 @@
 //! The cluster.
 
 use cluster_places::Place;
+use cluster_tasks::Tasks;
 use disk_model::FaultDir;
 use history_book::Book;
 use history_entries::Event;
@@ -12,6 +13,7 @@ use std::marker::Model;
 #[derive(Drop)]
 pub struct ClusterState<D: FaultDir> {
     pub ledger: Ledger,
+    pub tasks: Tasks,
     pub places: Vec<Option<Place<D>>>,
     pub ended: bool,
 }
@@ -28,17 +30,25 @@ impl<D: FaultDir> Model for ClusterState<D> {
 
     ghost use Rattle.cluster_state.specs.State.{Shows};
     ghost use Rattle.cluster_state.specs.Files.{FilesShow};
+    ghost use Rattle.cluster_state.specs.Merging.{MergesStand};
     ghost use Rattle.cluster_state.specs.CallsLeft.{calls_in};
+    ghost use Rattle.cluster_state.specs.Sizes.{sizes_in};
 
     ghost view = { λ c. record {
       ended = c.ended;
       nodes = c.ledger.nodes;
       log = c.ledger.log;
-      calls_left = calls_in c.places.items;
+      rest = record {
+        calls_left = calls_in c.places.items;
+        cut = c.ledger.cut;
+        sizes = sizes_in c.places.items;
+        tasks = c.tasks;
+      };
     } };
 
     ghost invariant = { λ c. c.ended ≡ false → Shows D.cells c.ledger.log c.ledger.nodes c.places.items
-        × FilesShow D.cells c.ledger.log c.ledger.nodes c.places.items };
+        × FilesShow D.cells c.ledger.log c.ledger.nodes c.places.items
+        × MergesStand c.ledger.log c.ledger.cut c.ledger.nodes c.tasks c.places.items };
 }
 
 impl<D: FaultDir + Drop> ClusterState<D> {
@@ -53,6 +63,7 @@ impl<D: FaultDir + Drop> ClusterState<D> {
     ghost use Rattle.cluster_state.specs.Run.{IsNow, IsEnded};
     ghost use Rattle.cluster_state.specs.Moves.{moves, moves_tickets};
     ghost use Rattle.cluster_state.specs.FileChanges.{keeps_jobs, is_commit_line, keeps_commits};
+    ghost use Rattle.cluster_tasks.specs.TaskLog.{is_drained};
 
     /// What happened, for readers.
     pub fn book(&self) -> &Book
@@ -115,8 +126,8 @@ impl<D: FaultDir + Drop> ClusterState<D> {
         book.is_legal();
     }
 
-    /// Appends an entry that moves no node, starts no copy and no commit, and opens no ticket, of a line whose publish or commit is not in
-    /// flight. `Err` is want of memory: the cluster has ended, and the history is as before.
+    /// Appends an entry that moves no node, starts no copy and no commit, opens no ticket and is no drain's reply, of a line whose publish
+    /// or commit is not in flight. `Err` is want of memory: the cluster has ended, and the history is as before.
     pub fn note(&mut self, at: At, event: Event) -> Result<(), NoMemory>
         requires running { self.old.ended ≡ false }
         requires rule { KeepsRule self.old.nodes (printed self.old.log) at event }
@@ -128,7 +139,9 @@ impl<D: FaultDir + Drop> ClusterState<D> {
         requires commits { (m : ℕ) → keeps_commits event m ≡ true }
         requires flights { (m : ℕ) → commit_in_flight m (printed self.old.log) ≢ Some at }
         requires tickets { opens_ticket event ≡ false }
+        requires drains { is_drained event ≡ false }
         ensures ok { OnOk result (IsNow self.old self.new (shown at event ∷ self.old.log)) }
+        ensures tasks { OnOk result (self.new.rest.tasks ≡ self.old.rest.tasks) }
         ensures err { OnErr result (IsEnded self.old self.new) }
     {
         self.ended = true;

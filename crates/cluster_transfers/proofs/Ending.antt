@@ -48,7 +48,7 @@ use Rattle.cluster_places.specs.declared.held.Held.{Held}
 use Rattle.cluster_places.specs.declared.nodes.Node.{Node}
 use Rattle.cluster_places.specs.declared.nodes.Node.TheVariants.{Primary, Replica, Down}
 use Rattle.cluster_places.specs.declared.nodes.Place.{Place}
-use Rattle.cluster_state.specs.Run.{Run}
+use Rattle.cluster_state.specs.Run.{Rest, Run}
 use Rattle.cluster_places.specs.Places.{place_of, HasPrimary}
 use Rattle.cluster_state.specs.State.{StandForVersion, HoldsTickets, NodeShows, PlaceShows, Shows}
 use Rattle.cluster_state.specs.Moves.{Lasts}
@@ -410,14 +410,14 @@ module _ {D : Type 0} (cells : D → Cells) where
     pub lane : LaneJobShows r.nodes (printed r.log) row
     pub is : job_at row.job.node.0 r.log ≡ Some row.job
 
-  pub lane_job_runs : (r : Run) (ended : Bool) (size : ℕ) (log : Log) (row : JobRow) → {left : List ℕ} → record { ended = ended; nodes = size; log = log; calls_left = left } ≡ r → JobRuns r.log row → LaneJobShows size (printed log) row → LaneJobRuns r row
+  pub lane_job_runs : (r : Run) (ended : Bool) (size : ℕ) (log : Log) (row : JobRow) → {left : Rest} → record { ended = ended; nodes = size; log = log; rest = left } ≡ r → JobRuns r.log row → LaneJobShows size (printed log) row → LaneJobRuns r row
   lane_job_runs r ended size log row view runs lane =
       let same_log : log ≡ r.log = ap (λ (x : Run). x.log) view in
       let same_size : size ≡ r.nodes = ap (λ (x : Run). x.nodes) view in
       let lane_now : LaneJobShows r.nodes (printed r.log) row = subst (λ (x : Log × ℕ). LaneJobShows x.1 (printed x.0) row) (λ i. (same_log i, same_size i)) lane in
       record { lane = lane_now; is = runs_at r.nodes r.log row runs lane_now }
 
-  pub can_finish : (r : Run) (ended : Bool) (size : ℕ) (log : Log) (places : List (Option (Place D))) (p : NodeNo) (row : JobRow) → {left : List ℕ} → record { ended = ended; nodes = size; log = log; calls_left = left } ≡ r → r.ended ≡ false
+  pub can_finish : (r : Run) (ended : Bool) (size : ℕ) (log : Log) (places : List (Option (Place D))) (p : NodeNo) (row : JobRow) → {left : Rest} → record { ended = ended; nodes = size; log = log; rest = left } ≡ r → r.ended ≡ false
       → (ended ≡ false → Shows cells log size places × FilesShow cells log size places) → SourcedStand → IsNode r.nodes p.0 → primary_of (printed r.log) ≡ Some p → JobRuns r.log row → LaneJobShows size (printed log) row → IsReplica (printed log) row.job.node.0
       → HasNextFile (place_of places row.job.node.0) None → CanFinish cells p.0 row.job.node.0 places
   can_finish r ended size log places p row view running pair stand node primary runs lane replica next =
@@ -426,7 +426,7 @@ module _ {D : Type 0} (cells : D → Cells) where
       (subst (λ (l : Log). IsReplica (printed l) row.job.node.0) (ap (λ (x : Run). x.log) view) replica) h.is next
 
   -- what the log shows of the job, once there is room
-  pub copy_here : (r : Run) (ended : Bool) (b0 b1 : Sheet) (places : List (Option (Place D))) (row : JobRow) → {left : List ℕ} → record { ended = ended; nodes = b0.nodes; log = b0.log; calls_left = left } ≡ r → r.ended ≡ false
+  pub copy_here : (r : Run) (ended : Bool) (b0 b1 : Sheet) (places : List (Option (Place D))) (row : JobRow) → {left : Rest} → record { ended = ended; nodes = b0.nodes; log = b0.log; rest = left } ≡ r → r.ended ≡ false
       → (ended ≡ false → Shows cells b0.log b0.nodes places × FilesShow cells b0.log b0.nodes places) → b1.log ≡ b0.log → JobRuns r.log row → LaneJobShows b0.nodes (printed b0.log) row → IsReplica (printed b0.log) row.job.node.0
       → (version_of row.job.node.0 (printed b1.log) < newest_version (before_start row.job.at (printed b1.log))) × (highest_copy row.job.node.0 (printed b1.log) ≤ row.job.version.0)
   copy_here r ended b0 b1 places row view running pair same_log runs lane replica =
@@ -438,7 +438,7 @@ module _ {D : Type 0} (cells : D → Cells) where
       let job = job_here cells f.source r.log row.job.node.0 row.job here.at.parts h.is here.files in
       subst (λ (l : Log). (version_of row.job.node.0 (printed l) < newest_version (before_start row.job.at (printed l))) × (highest_copy row.job.node.0 (printed l) ≤ row.job.version.0)) (sym log) (job.shows.behind, job.shows.latest)
 
-  pub finish_path : (r : Run) (ended : Bool) (b0 b1 b2 : Sheet) (old new : List (Option (Place D))) (p : NodeNo) (row : JobRow) → {left : List ℕ} → record { ended = ended; nodes = b0.nodes; log = b0.log; calls_left = left } ≡ r → r.ended ≡ false
+  pub finish_path : (r : Run) (ended : Bool) (b0 b1 b2 : Sheet) (old new : List (Option (Place D))) (p : NodeNo) (row : JobRow) → {left : Rest} → record { ended = ended; nodes = b0.nodes; log = b0.log; rest = left } ≡ r → r.ended ≡ false
       → (ended ≡ false → Shows cells b0.log b0.nodes old × FilesShow cells b0.log b0.nodes old) → b1.log ≡ b0.log → b1.nodes ≡ b0.nodes
       → b2.log ≡ ended_log row.job (start_entry row.job.at (printed b1.log)) b1.log → b2.nodes ≡ b1.nodes → IsLegalPast b2.nodes (printed b2.log) → AreInTurn (printed b2.log)
       → SourcedStand → FilesLast → IsNode r.nodes p.0 → primary_of (printed r.log) ≡ Some p → JobRuns r.log row → LaneJobShows b0.nodes (printed b0.log) row → IsReplica (printed b0.log) row.job.node.0

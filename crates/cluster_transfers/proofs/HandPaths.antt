@@ -19,7 +19,7 @@ use Rattle.history_book.specs.Jobs.{job_at, LaneJobShows}
 use Rattle.cluster_places.specs.declared.held.Held.{Held}
 use Rattle.cluster_places.specs.declared.nodes.Node.TheVariants.{Primary}
 use Rattle.cluster_places.specs.declared.nodes.Place.{Place}
-use Rattle.cluster_state.specs.Run.{Run}
+use Rattle.cluster_state.specs.Run.{Rest, Run}
 use Rattle.cluster_places.specs.Places.{place_of, IsSlot, HasPrimary}
 use Rattle.cluster_state.specs.State.{Shows}
 use Rattle.cluster_places.specs.Outs.{jobs_like}
@@ -72,7 +72,7 @@ module _ {D : Type 0} (cells : D → Cells) where
 
   -- ---- in the terms of a call
 
-  module _ (r : Run) (ended : Bool) (b0 : Sheet) (places : List (Option (Place D))) (row : JobRow) {left : List ℕ} (view : record { ended = ended; nodes = b0.nodes; log = b0.log; calls_left = left } ≡ r) (running : r.ended ≡ false)
+  module _ (r : Run) (ended : Bool) (b0 : Sheet) (places : List (Option (Place D))) (row : JobRow) {left : Rest} (view : record { ended = ended; nodes = b0.nodes; log = b0.log; rest = left } ≡ r) (running : r.ended ≡ false)
       (pair : ended ≡ false → Shows cells b0.log b0.nodes places × FilesShow cells b0.log b0.nodes places) (runs : JobRuns r.log row) (lane : LaneJobShows b0.nodes (printed b0.log) row) (replica : IsReplica (printed b0.log) row.job.node.0) where
     same_log : b0.log ≡ r.log
     same_log = ap (λ (x : Run). x.log) view

@@ -14,7 +14,7 @@ use Rattle.history_book.specs.Jobs.{LaneJobShows}
 use Rattle.history_book.proofs.LineLaws.{open_started}
 use Rattle.history_book.proofs.ReignLaws.{reigns_on}
 use Rattle.history_book.proofs.JobLaws.{source_runs}
-use Rattle.cluster_state.specs.Run.{Run}
+use Rattle.cluster_state.specs.Run.{Rest, Run}
 
 -- so one runs while it has not crashed since
 pub source_on : (size : ℕ) (past : Past) (row : JobRow) → IsLegalPast size past → LaneJobShows size past row → SourceSurvives past row.job.at → primary_of past ≢ None
@@ -27,7 +27,7 @@ pub start_is : (at : At) (past : Past) (b : Begun) (s : Start) → open_line at 
 start_is at past b s is same = (open_started at past b is).entry ∙ ap (λ (x : Start). Some (event_of x)) same
 
 -- the same in the terms of a call
-pub source_ends : {X : Type 0} (r : Run) (ended : Bool) (b : Sheet) (row : JobRow) → {left : List ℕ} → record { ended = ended; nodes = b.nodes; log = b.log; calls_left = left } ≡ r → IsLegalPast b.nodes (printed b.log) → LaneJobShows b.nodes (printed b.log) row
+pub source_ends : {X : Type 0} (r : Run) (ended : Bool) (b : Sheet) (row : JobRow) → {left : Rest} → record { ended = ended; nodes = b.nodes; log = b.log; rest = left } ≡ r → IsLegalPast b.nodes (printed b.log) → LaneJobShows b.nodes (printed b.log) row
     → SourceSurvives (printed r.log) row.job.at → primary_of (printed r.log) ≡ None → X
 source_ends r ended b row view legal s source none =
     let log : b.log ≡ r.log = ap (λ (x : Run). x.log) view in

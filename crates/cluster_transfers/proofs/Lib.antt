@@ -3,3 +3,4 @@ mod HandPaths
 mod PartPaths
 mod JobEnds
 mod Ending
+mod TransferMerges

@@ -23,7 +23,7 @@ use Rattle.history_book.specs.Jobs.{job_at, LaneJobShows}
 use Rattle.cluster_places.specs.declared.held.Held.{Held}
 use Rattle.cluster_places.specs.declared.nodes.Node.TheVariants.{Replica}
 use Rattle.cluster_places.specs.declared.nodes.Place.{Place}
-use Rattle.cluster_state.specs.Run.{Run}
+use Rattle.cluster_state.specs.Run.{Rest, Run}
 use Rattle.cluster_places.specs.Places.{place_of}
 use Rattle.cluster_state.specs.State.{IsPointAt, HoldsTickets, PlaceShows, Shows}
 use Rattle.cluster_places.specs.Outs.{want_of, jobs_like}
@@ -45,6 +45,10 @@ use Rattle.cluster_state.proofs.FileJobs.{JobHere, ReplicaHere, job_here, replic
 use Rattle.cluster_state.proofs.JobMoves.{shows_put}
 use Rattle.cluster_state.proofs.Wider.{meta_at_source}
 use Rattle.cluster_state.proofs.JobFrames.{job_stays}
+use Rattle.history_merges.specs.Merging.{Sheet}
+use Rattle.cluster_tasks.specs.Board.{Board}
+use Rattle.cluster_state.specs.Merging.{MergesStand, KeepAllMerges}
+use Rattle.cluster_state.proofs.MergingStill.{one_keeps, replica_keeps}
 
 pub some_job : (o : Option PointJob) (j : PointJob) → o ≡ Some j → IsSome o
 some_job None j is = absurd (cc)
@@ -198,7 +202,7 @@ module _ {D : Type 0} (cells : D → Cells) where
 
   -- ---- in the terms of a call
 
-  pub can_take : (r : Run) (ended : Bool) (size : ℕ) (log : Log) (places : List (Option (Place D))) (row : JobRow) (part : Part) → {left : List ℕ} → record { ended = ended; nodes = size; log = log; calls_left = left } ≡ r → r.ended ≡ false
+  pub can_take : (r : Run) (ended : Bool) (size : ℕ) (log : Log) (places : List (Option (Place D))) (row : JobRow) (part : Part) → {left : Rest} → record { ended = ended; nodes = size; log = log; rest = left } ≡ r → r.ended ≡ false
       → (ended ≡ false → Shows cells log size places × FilesShow cells log size places) → JobRuns r.log row → LaneJobShows size (printed log) row → IsReplica (printed log) row.job.node.0
       → file_out row.job.at row.job.node.0 row.job.number part.name r.log ≡ Some part.bytes → IsMetaOf part.bytes part.meta → CanTake row.job.node.0 part places
   can_take r ended size log places row part view running pair runs lane replica out meta_is =
@@ -208,7 +212,7 @@ module _ {D : Type 0} (cells : D → Cells) where
       can_take_of r.log r.nodes places row.job part (was cells r ended size log places view running (λ e. (pair e).0)) (files_was cells r ended size log places view running (λ e. (pair e).1))
       lane_now.node (subst (λ (l : Log). IsReplica (printed l) row.job.node.0) same_log replica) (runs_at r.nodes r.log row runs lane_now) out meta_is
 
-  pub part_path : (r : Run) (ended : Bool) (size : ℕ) (log : Log) (old new : List (Option (Place D))) (row : JobRow) (part : Part) → {left : List ℕ} → record { ended = ended; nodes = size; log = log; calls_left = left } ≡ r → r.ended ≡ false
+  pub part_path : (r : Run) (ended : Bool) (size : ℕ) (log : Log) (old new : List (Option (Place D))) (row : JobRow) (part : Part) → {left : Rest} → record { ended = ended; nodes = size; log = log; rest = left } ≡ r → r.ended ≡ false
       → (ended ≡ false → Shows cells log size old × FilesShow cells log size old) → FilesLast → JobRuns r.log row → LaneJobShows size (printed log) row
       → file_out row.job.at row.job.node.0 row.job.number part.name r.log ≡ Some part.bytes → TakesIn cells row.job.node.0 part old new → Shows cells log size new × FilesShow cells log size new
   part_path r ended size log old new row part view running pair lasting runs lane out b =
@@ -218,3 +222,22 @@ module _ {D : Type 0} (cells : D → Cells) where
       let now = files_took r.nodes r.log old new row.job part lasting (was cells r ended size log old view running (λ e. (pair e).0)) (files_was cells r ended size log old view running (λ e. (pair e).1))
       lane_now.node (runs_at r.nodes r.log row runs lane_now) out b in
       subst (λ (x : Log × ℕ). Shows cells x.0 x.1 new × FilesShow cells x.0 x.1 new) (λ i. (sym same_log i, sym same_size i)) now
+
+  -- and merges stand
+  pub took_stand : (board : Board) (r : Run) (ended : Bool) (b0 : Sheet) (old new : List (Option (Place D))) (row : JobRow) (part : Part) {rest : Rest} → record { ended = ended; nodes = b0.nodes; log = b0.log; rest = rest } ≡ r → r.ended ≡ false
+      → (ended ≡ false → Shows cells b0.log b0.nodes old × FilesShow cells b0.log b0.nodes old) → JobRuns r.log row → LaneJobShows b0.nodes (printed b0.log) row → TakesIn cells row.job.node.0 part old new → MergesStand b0.log b0.cut b0.nodes board old
+      → KeepAllMerges b0.nodes old new
+  took_stand board r ended b0 old new row part view running pair runs lane b stands =
+      one_keeps b0.nodes board b0.log b0.cut old new row.job.node.0 (record { node = Replica b.replica; held = b.at.held }) (record { node = Replica b.at.parts; held = b.at.held }) b.moves lane.node b.at.there want
+      (λ jobs count low. replica_keeps jobs count b.at.parts b.replica (ap (λ (z : ReplicaParts D). z.copies.running) b.takes.others)) stands
+    where
+      both : Shows cells b0.log b0.nodes old × FilesShow cells b0.log b0.nodes old
+      both = pair (ap (λ (x : Run). x.ended) view ∙ running)
+
+      here : JobHere cells both.1.source b0.log row.job.node.0 row.job b.at.parts
+      here = job_here cells both.1.source b0.log row.job.node.0 row.job b.at.parts
+          (runs_at b0.nodes b0.log row (subst (λ (l : Log). JobRuns l row) (sym (ap (λ (x : Run). x.log) view)) runs) lane)
+          (there_both b0.log b0.nodes row.job.node.0 old both.0 both.1 b.at.parts b.at.held lane.node b.at.there).1
+
+      want : want_of b.replica.job ≡ want_of b.at.parts.job
+      want = let next = next_job part b.at.parts b.replica here.point b.takes here.runs in ap want_of next.there ∙ (ap (λ (w : CopyState). Some (out_of w)) next.goes.want ∙ sym (ap want_of here.runs))

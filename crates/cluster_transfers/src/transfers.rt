@@ -61,6 +61,7 @@ fn show_end(ledger: &mut Ledger, row: JobRow)
     ensures log { ledger.new.log
         ≡ ended_log row.job (start_entry row.job.at (printed ledger.old.log)) ledger.old.log }
     ensures nodes { ledger.new.nodes ≡ ledger.old.nodes }
+    ensures cut { ledger.new.cut ≡ ledger.old.cut }
 {
     let book = ledger.book();
     book.job_shows(row);

@@ -45,7 +45,7 @@ use Rattle.cluster_places.specs.declared.held.Held.{Held}
 use Rattle.cluster_places.specs.declared.nodes.Node.TheVariants.{Primary}
 use Rattle.cluster_places.specs.declared.nodes.Place.{Place}
 use Rattle.cluster_places.specs.Places.{place_of}
-use Rattle.cluster_state.specs.Run.{Run}
+use Rattle.cluster_state.specs.Run.{Rest, Run}
 use Rattle.cluster_state.specs.State.{Shows, PrimaryShows, PlaceShows}
 use Rattle.cluster_state.specs.Files.{FilesShow}
 use Rattle.cluster_places.specs.KeptFiles.{FillsPrimaryFiles, KeepsNodeFiles}
@@ -193,7 +193,7 @@ module _ {D : Type 0} (cells : D → Cells) where
   -- ---- paths
 
   module _ (r : Run) (ended : Bool) (b0 b1 : Sheet) (old mid new : List (Option (Place D))) (n : NodeNo) (x : Place D) (p q : PrimaryParts D) (held : Vec Held Global)
-      {left : List ℕ} (view : record { ended = ended; nodes = b0.nodes; log = b0.log; calls_left = left } ≡ r) (running : r.ended ≡ false) (shows : ended ≡ false → Shows cells b0.log b0.nodes old) (files : ended ≡ false → FilesShow cells b0.log b0.nodes old)
+      {left : Rest} (view : record { ended = ended; nodes = b0.nodes; log = b0.log; rest = left } ≡ r) (running : r.ended ≡ false) (shows : ended ≡ false → Shows cells b0.log b0.nodes old) (files : ended ≡ false → FilesShow cells b0.log b0.nodes old)
       (e1 : b1.log ≡ b0.log) (n1 : b1.nodes ≡ b0.nodes) (node : IsNode r.nodes n.0) (put : PutsBack cells old mid new n.0 (record { node = Primary q; held = held })) (there : place_of old n.0 ≡ Some x) (is : x ≡ record { node = Primary p; held = held }) where
     keeps_at : KeepsNodeFiles cells (Primary p) (Primary q) → KeepsNodeFiles cells x.node (Primary q)
     keeps_at keeps = subst (λ (z : Place D). KeepsNodeFiles cells z.node (Primary q)) (sym is) keeps

@@ -36,7 +36,7 @@ use Rattle.cluster_places.specs.declared.nodes.Node.TheVariants.{Primary}
 use Rattle.cluster_places.specs.declared.nodes.Place.{Place}
 use Rattle.cluster_state.specs.Lookups.{Handed, or_older, flush_out}
 use Rattle.cluster_places.specs.Places.{place_of, HasPrimary}
-use Rattle.cluster_state.specs.Run.{Run, IsNow}
+use Rattle.cluster_state.specs.Run.{Rest, Run, IsNow}
 use Rattle.cluster_state.specs.State.{PrimaryShows, PlaceShows, Shows}
 use Rattle.cluster_state.specs.Writes.{HandsFlush, IsFlushed}
 use Rattle.cluster_state.proofs.Frames.{PutsBack, was, now_is, place_at, moved_at, moved_out}
@@ -58,7 +58,7 @@ on_err {T} {E} {P} r e is holds = subst (λ (q : Result T E). OnErr q P) is hold
 
 -- ---- rules
 
-pub may_accept : (r : Run) (ended : Bool) (b : Sheet) (at : At) (p : NodeNo) (seq : ℕ) (op : Op) → {left : List ℕ} → record { ended = ended; nodes = b.nodes; log = b.log; calls_left = left } ≡ r
+pub may_accept : (r : Run) (ended : Bool) (b : Sheet) (at : At) (p : NodeNo) (seq : ℕ) (op : Op) → {left : Rest} → record { ended = ended; nodes = b.nodes; log = b.log; rest = left } ≡ r
     → IsFresh at (printed b.log) → primary_of (printed r.log) ≡ Some p → seq ≡ accepted_count (printed b.log) + 1 → KeepsRule r.nodes (printed r.log) at (Accepted seq op)
 may_accept r ended b at p seq op view fresh primary next = record {
   running = λ none. some_none (sym primary ∙ none);
@@ -80,15 +80,15 @@ may_start r at p primary free some = record {
     some_none is = absurd (cc)
 
 -- the end of a publish kept its rule, as the ledger says
-pub published_rule : (r : Run) (ended : Bool) (b0 b1 : Sheet) (at : At) (g : Gen) (v : Version) → {left : List ℕ} → record { ended = ended; nodes = b0.nodes; log = b0.log; calls_left = left } ≡ r
+pub published_rule : (r : Run) (ended : Bool) (b0 b1 : Sheet) (at : At) (g : Gen) (v : Version) → {left : Rest} → record { ended = ended; nodes = b0.nodes; log = b0.log; rest = left } ≡ r
     → b1.log ≡ b0.log → b1.nodes ≡ b0.nodes → KeepsRule b1.nodes (printed b1.log) at (Published g v) → KeepsRule r.nodes (printed r.log) at (Published g v)
 published_rule r ended b0 b1 at g v view e1 n1 rule =
     subst (λ (x : ℕ × Log). KeepsRule x.0 (printed x.1) at (Published g v)) (λ i. ((n1 ∙ nodes_is r ended b0 view) i, (e1 ∙ log_is r ended b0 view) i)) rule
 
 -- a publish has ended
-pub ends_now : (r : Run) {now : List ℕ} (ended : Bool) (b0 b1 b2 : Sheet) (at : At) (g : Gen) (v : Version) → {left : List ℕ} → record { ended = ended; nodes = b0.nodes; log = b0.log; calls_left = left } ≡ r
+pub ends_now : (r : Run) {now : Rest} (ended : Bool) (b0 b1 b2 : Sheet) (at : At) (g : Gen) (v : Version) → {left : Rest} → record { ended = ended; nodes = b0.nodes; log = b0.log; rest = left } ≡ r
     → b1.log ≡ b0.log → b1.nodes ≡ b0.nodes → b2.log ≡ shown at (Published g v) ∷ b1.log → b2.nodes ≡ b1.nodes → g.0 ≡ generation_of (printed b0.log) → v.0 ≡ newest_version (printed b0.log) + 1
-    → IsNow r (record { ended = false; nodes = b2.nodes; log = b2.log; calls_left = now }) (shown at (Published (record { 0 = generation_of (printed r.log) }) (record { 0 = newest_version (printed r.log) + 1 })) ∷ r.log)
+    → IsNow r (record { ended = false; nodes = b2.nodes; log = b2.log; rest = now }) (shown at (Published (record { 0 = generation_of (printed r.log) }) (record { 0 = newest_version (printed r.log) + 1 })) ∷ r.log)
 ends_now r ended b0 b1 b2 at g v view e1 n1 e2 n2 present next =
     let gen : g.0 ≡ generation_of (printed r.log) = past_has (λ p. g.0 ≡ generation_of p) r ended b0 view present in
     let version : v.0 ≡ newest_version (printed r.log) + 1 = past_has (λ p. v.0 ≡ newest_version p + 1) r ended b0 view next in
@@ -102,7 +102,7 @@ module _ {D : Type 0} (cells : D → Cells) where
   -- ---- the primary, taken out of its place
 
   module _ (r : Run) (ended : Bool) (b : Sheet) (places : List (Option (Place D))) (n : NodeNo) (x : Place D)
-      {left : List ℕ} (view : record { ended = ended; nodes = b.nodes; log = b.log; calls_left = left } ≡ r) (running : r.ended ≡ false) (shows : ended ≡ false → Shows cells b.log b.nodes places)
+      {left : Rest} (view : record { ended = ended; nodes = b.nodes; log = b.log; rest = left } ≡ r) (running : r.ended ≡ false) (shows : ended ≡ false → Shows cells b.log b.nodes places)
       (node : IsNode r.nodes n.0) (there : place_of places n.0 ≡ Some x) where
     pub primary_stands : primary_of (printed r.log) ≡ Some n → HasPrimary (Some x)
     primary_stands primary = has_primary cells r.log n.0 x (primary_there (primary_of (printed r.log)) n primary) (place_at cells r ended b.nodes n.0 b.log places x view running shows node there)
@@ -150,9 +150,9 @@ module _ {D : Type 0} (cells : D → Cells) where
       next_fits newest is below = let same = past_has (λ q. newest ≡ newest_version q) r ended b view is in let version = primary_at.writer.version in omega (arith, same, version, below)
 
       -- what is handed out stands in the log
-      pub hands_out : {now : List ℕ} (b1 b2 b3 : Sheet) (at : At) (task : FlushTask) (segs : List Shown) → b1.log ≡ b.log → b1.nodes ≡ b.nodes → b2.log ≡ shown at Publishing ∷ b1.log → b2.nodes ≡ b1.nodes
+      pub hands_out : {now : Rest} (b1 b2 b3 : Sheet) (at : At) (task : FlushTask) (segs : List Shown) → b1.log ≡ b.log → b1.nodes ≡ b.nodes → b2.log ≡ shown at Publishing ∷ b1.log → b2.nodes ≡ b1.nodes
           → b3.log ≡ kept (FlushOut at task.seg segs) ∷ b2.log → b3.nodes ≡ b2.nodes → IsFresh at (printed b.log) → segs ≡ task.segs → IsTaskOf p task
-          → HandsFlush at r (record { ended = false; nodes = b3.nodes; log = b3.log; calls_left = now }) task
+          → HandsFlush at r (record { ended = false; nodes = b3.nodes; log = b3.log; rest = now }) task
       hands_out b1 b2 b3 at task segs e1 n1 e2 n2 e3 n3 fresh same t = record {
         now = record { running = refl; nodes = n3 ∙ (n2 ∙ (n1 ∙ nodes_is r ended b view)); log = log };
         out = ap (flush_out at) log ∙ (ap (λ (o : Option Handed). or_older o (if same_at at at then Some mine else None)) none ∙ ap (λ (c : Bool). if c then Some mine else None) (same_at_self at));
@@ -172,7 +172,7 @@ module _ {D : Type 0} (cells : D → Cells) where
 
   -- a place that was taken out and put back as it was
   pub back_path : (r : Run) (ended : Bool) (b0 b1 : Sheet) (old mid new : List (Option (Place D))) (n : ℕ) (x : Place D) (p q : PrimaryParts D) (held : Vec Held Global)
-      → {left : List ℕ} → record { ended = ended; nodes = b0.nodes; log = b0.log; calls_left = left } ≡ r → r.ended ≡ false → (ended ≡ false → Shows cells b0.log b0.nodes old)
+      → {left : Rest} → record { ended = ended; nodes = b0.nodes; log = b0.log; rest = left } ≡ r → r.ended ≡ false → (ended ≡ false → Shows cells b0.log b0.nodes old)
       → b1.log ≡ b0.log → b1.nodes ≡ b0.nodes → PutsBack cells old mid new n (record { node = Primary q; held = held }) → place_of old n ≡ Some x → x ≡ record { node = Primary p; held = held } → q ≡ p
       → Shows cells b1.log b1.nodes new
   back_path r ended b0 b1 old mid new n x p q held view running shows e1 n1 put there is same =
@@ -201,7 +201,7 @@ module _ {D : Type 0} (cells : D → Cells) where
   -- ---- what each path leaves
 
   pub accept_path : (r : Run) (ended : Bool) (b0 b1 b2 : Sheet) (old mid new : List (Option (Place D))) (at : At) (n : NodeNo) (seq : ℕ) (op copy : Op) (x : Place D) (p q : PrimaryParts D) (held : Vec Held Global)
-      → {left : List ℕ} → record { ended = ended; nodes = b0.nodes; log = b0.log; calls_left = left } ≡ r → r.ended ≡ false → (ended ≡ false → Shows cells b0.log b0.nodes old)
+      → {left : Rest} → record { ended = ended; nodes = b0.nodes; log = b0.log; rest = left } ≡ r → r.ended ≡ false → (ended ≡ false → Shows cells b0.log b0.nodes old)
       → b1.log ≡ b0.log → b1.nodes ≡ b0.nodes → b2.log ≡ shown at (Accepted seq op) ∷ b1.log → b2.nodes ≡ b1.nodes → IsLegalPast b1.nodes (printed b1.log) → AreInTurn (printed b1.log)
       → IsFresh at (printed b0.log) → KeepsRule r.nodes (printed r.log) at (Accepted seq op) → IsNode r.nodes n.0 → primary_of (printed r.log) ≡ Some n
       → PutsBack cells old mid new n.0 (record { node = Primary q; held = held }) → place_of old n.0 ≡ Some x → x ≡ record { node = Primary p; held = held }
@@ -214,7 +214,7 @@ module _ {D : Type 0} (cells : D → Cells) where
       (subst (λ (o : Op). q ≡ record p { waiting = p.waiting ++ o ∷ []; accepted = p.accepted + 1 }) same next) whole (subst (PlaceShows cells r.log n.0) is was))
 
   pub start_path : (r : Run) (ended : Bool) (b0 b1 b2 b3 : Sheet) (old mid new : List (Option (Place D))) (at : At) (n : NodeNo) (seg : Option SegNo) (segs : List Shown) (x : Place D) (p q : PrimaryParts D) (held : Vec Held Global)
-      → {left : List ℕ} → record { ended = ended; nodes = b0.nodes; log = b0.log; calls_left = left } ≡ r → r.ended ≡ false → (ended ≡ false → Shows cells b0.log b0.nodes old)
+      → {left : Rest} → record { ended = ended; nodes = b0.nodes; log = b0.log; rest = left } ≡ r → r.ended ≡ false → (ended ≡ false → Shows cells b0.log b0.nodes old)
       → b1.log ≡ b0.log → b1.nodes ≡ b0.nodes → b2.log ≡ shown at Publishing ∷ b1.log → b2.nodes ≡ b1.nodes → IsLegalPast b1.nodes (printed b1.log) → AreInTurn (printed b1.log)
       → b3.log ≡ kept (FlushOut at seg segs) ∷ b2.log → b3.nodes ≡ b2.nodes
       → IsFresh at (printed b0.log) → KeepsRule r.nodes (printed r.log) at Publishing → IsNode r.nodes n.0 → primary_of (printed r.log) ≡ Some n
@@ -226,7 +226,7 @@ module _ {D : Type 0} (cells : D → Cells) where
       (λ all order out was. started_place cells r.nodes r.log at seg segs n.0 p q held all keeps out same next whole (subst (PlaceShows cells r.log n.0) is was))
 
   pub end_path : (r : Run) (ended : Bool) (b0 b1 b2 : Sheet) (old mid new : List (Option (Place D))) (at : At) (n : NodeNo) (g : Gen) (v : Version) (x : Place D) (p q : PrimaryParts D) (work : FlushWork) (held : Vec Held Global)
-      → {left : List ℕ} → record { ended = ended; nodes = b0.nodes; log = b0.log; calls_left = left } ≡ r → r.ended ≡ false → (ended ≡ false → Shows cells b0.log b0.nodes old)
+      → {left : Rest} → record { ended = ended; nodes = b0.nodes; log = b0.log; rest = left } ≡ r → r.ended ≡ false → (ended ≡ false → Shows cells b0.log b0.nodes old)
       → b1.log ≡ b0.log → b1.nodes ≡ b0.nodes → b2.log ≡ shown at (Published g v) ∷ b1.log → b2.nodes ≡ b1.nodes → IsLegalPast b1.nodes (printed b1.log) → AreInTurn (printed b1.log)
       → KeepsRule r.nodes (printed r.log) at (Published g v) → publish_in_flight (printed r.log) ≡ Some at → IsNode r.nodes n.0 → primary_of (printed r.log) ≡ Some n
       → PutsBack cells old mid new n.0 (record { node = Primary q; held = held }) → place_of old n.0 ≡ Some x → x ≡ record { node = Primary p; held = held }

@@ -37,8 +37,8 @@ impl Model for Ledger {
 }
 
 impl Ledger {
-    ghost use Rattle.std.specs.Prelude.{◌≡◌, ◌≢◌, ◌≤◌, ◌<◌, ◌+◌, ◌∷◌, ◌⊎◌, [], false, true, None, Some, IfOk, OnOk, length, reverse};
-    ghost use Rattle.history_entries.specs.Nodes.{IsNode, is_running, primary_of, generation_of, newest_version};
+    ghost use Rattle.std.specs.Prelude.{◌≡◌, ◌≢◌, ◌≤◌, ◌<◌, ◌+◌, ◌∷◌, ◌⊎◌, [], false, true, None, Some, IfOk, OnOk, length, reverse, if◌then◌else◌};
+    ghost use Rattle.history_entries.specs.Nodes.{IsNode, is_at, is_running, primary_of, generation_of, newest_version};
     ghost use Rattle.history_entries.specs.Lines.{is_start, is_free_for, publish_in_flight};
     ghost use Rattle.history_entries.specs.Points.{cut_of};
     ghost use Rattle.history_entries.specs.Rules.{MayStartMerge, MayPromote};
@@ -48,7 +48,7 @@ impl Ledger {
     ghost use Rattle.history_book.specs.Turns.{IsUnbegun, InTurn, AreInTurn};
     ghost use Rattle.history_book.specs.Jobs.{job_step, IsInside};
     ghost use Rattle.history_book.specs.Log.{printed, shown, kept, mark_for, FollowsMerging};
-    ghost use Rattle.history_merges.specs.Merging.{merge_on, is_apart, ends_reign, ends_no_merge};
+    ghost use Rattle.history_merges.specs.Merging.{merge_on, cut_after, is_apart, ends_reign, ends_no_merge};
 
     /// A ledger of so many nodes.
     pub fn new(alloc: Global, nodes: u8) -> Result<Self, AllocError>
@@ -157,6 +157,7 @@ impl Ledger {
         ensures log { self.new.log ≡ kept (Inner.MergeEnd seg) ∷ self.old.log }
         ensures nodes { self.new.nodes ≡ self.old.nodes }
         ensures room { self.old.room ≤ self.new.room + 1 }
+        ensures cut { self.new.cut ≡ cut_after cut self.old.cut }
     {
         self.merges.end(seg, cut);
         self.book.keep(Inner::MergeEnd { seg });
@@ -226,6 +227,8 @@ impl Ledger {
         requires runs { is_running n.0 (printed self.old.log) ≡ true }
         ensures log { self.new.log ≡ shown at (Event.Crashed n) ∷ self.old.log }
         ensures nodes { self.new.nodes ≡ self.old.nodes }
+        ensures cut { self.new.cut ≡ (if is_at (primary_of (printed self.old.log)) n.0 then false
+            else self.old.cut) }
         // what stood there before
         ensures legal { IsLegalPast self.old.nodes (printed self.old.log) }
         ensures turns { AreInTurn (printed self.old.log) }
@@ -244,6 +247,7 @@ impl Ledger {
             ≡ shown at (Event.Promoted n generation forced v) ∷ self.old.log }
         ensures nodes { self.new.nodes ≡ self.old.nodes }
         ensures room { self.new.room + 1 ≡ self.old.room }
+        ensures cut { self.new.cut ≡ self.old.cut }
         // what stood there before
         ensures legal { IsLegalPast self.old.nodes (printed self.old.log) }
         ensures turns { AreInTurn (printed self.old.log) }

@@ -23,6 +23,7 @@ pub fn refuse<D: FaultDir + Drop>(
     requires fresh { entries_of_line at (printed state.old.log) ≡ [] }
     requires cause { is_disk_fault cause ≡ false }
     ensures ok { OnOk result (LineRefused at cause state.old state.new) }
+    ensures tasks { OnOk result (state.new.rest.tasks ≡ state.old.rest.tasks) }
     ensures err { OnErr result (IsEnded state.old state.new) }
 {
     state.is_apart(at);

@@ -3,9 +3,11 @@ use Rattle.cluster_state.proofs.Ledgers.{asked_of, fresh_of, told_of}
 use Rattle.history_entries.specs.Nodes.{newest_version}
 use Rattle.history_entries.specs.Lines.{entries_of_line}
 use Rattle.history_book.specs.Log.{Log, printed}
-use Rattle.std.proofs.Common.{◌≡◌, []}
+use Rattle.std.proofs.Common.{◌≡◌, [], refl}
 use Rattle.cluster_state.proofs.Turning.{fresh_turn_at}
-use Rattle.history_entries.specs.declared.entry.Event.TheVariants.{Copying}
+use Rattle.history_entries.specs.declared.entry.Event.TheVariants.{Copying, Copied}
+use Rattle.cluster_state.proofs.MergingPaths.{third_at}
+use Rattle.cluster_state.proofs.MergingStill.{stand_shown, all_keep}
 use Rattle.cluster_copies.proofs.copies.note_copied.Goals as goal
 
 pub show-requires-clause-rule : goal.show-requires-clause-rule
@@ -30,6 +32,11 @@ invariant_of-cluster-2 g c = λ running. (
       c.cluster.view_is c.requires.running (λ e. (c.cluster.invariant e).0) (λ e. (c.cluster.invariant e).1) c.in_ok-reserve.ensures.log c.in_ok-reserve.ensures.nodes (fresh_of c.book-book.ensures.log c.is_fresh.ensures)
       c.requires.node c.requires.replica c.requires.source c.requires.reached (told_of c.book-book.ensures.log newest_version c.newest.ensures) c.show.new.self c.show.ensures.log c.show.ensures.nodes
       c.show-2.new.self c.show-2.ensures.log c.show-2.ensures.nodes c.show.ensures.legal c.show.ensures.turns c.show-2.ensures.legal c.show-2.ensures.turns,
+  (let was = third_at c.cluster.view_is c.requires.running c.cluster.invariant in
+  let begun = stand_shown c.cluster.inside.tasks _ _ c.cluster.inside.ledger c.reserve.new.self c.show.new.self c.args.at (Copying c.args.n (record { 0 = c.newest.result })) c.in_ok-reserve.ensures.log c.in_ok-reserve.ensures.nodes c.in_ok-reserve.ensures.cut
+  c.show.ensures.log c.show.ensures.nodes c.show.ensures.cut refl (all_keep _ c.cluster.inside.tasks _ _ _ was) was in
+  stand_shown c.cluster.inside.tasks _ _ c.show.new.self c.show.new.self c.show-2.new.self c.args.at (Copied c.args.n (record { 0 = c.newest.result })) refl refl refl c.show-2.ensures.log c.show-2.ensures.nodes c.show-2.ensures.cut refl
+  (all_keep _ c.cluster.inside.tasks _ _ _ begun) begun),
 )
 
 pub is_fresh-requires : goal.is_fresh-requires

@@ -8,10 +8,12 @@ use Rattle.cluster_promotions.proofs.Promotions.{may_promote, can_path, promote_
 use Rattle.cluster_state.proofs.Ledgers.{asked_of, fresh_of, legal_of, told_of, vacant_of}
 use Rattle.history_entries.specs.Lines.{entries_of_line}
 use Rattle.cluster_state.proofs.Turning.{log_is, nodes_is}
+use Rattle.cluster_state.proofs.MergingPaths.{two_parts, three_parts, third_at}
+use Rattle.cluster_promotions.proofs.PromotedMerges.{promoted_stands}
 use Rattle.cluster_promotions.proofs.promoting.promote_node.Goals as goal
 
 pub promote_in-requires : goal.promote_in-requires
-promote_in-requires g c = can_path g.D.Dir.cells c.args.cluster.now _ c.cluster.inside.ledger _ c.args.n _ c.args.forced c.generation-last.result c.cluster.view_is c.requires.running c.cluster.invariant (legal_of c.book-book.ensures.nodes c.book-book.ensures.log c.is_legal.ensures.legal)
+promote_in-requires g c = can_path g.D.Dir.cells c.args.cluster.now _ c.cluster.inside.ledger _ c.args.n _ c.args.forced c.generation-last.result c.cluster.view_is c.requires.running (two_parts c.cluster.invariant) (legal_of c.book-book.ensures.nodes c.book-book.ensures.log c.is_legal.ensures.legal)
     c.requires.node c.requires.up c.requires.vacant ((told_of c.book-book.ensures.log generation_of c.generation-last.ensures) ∙ ap (λ (x : Run). generation_of (printed x.log)) c.cluster.view_is) refl (let low = c.if-last.false in omega (arith, low)) c.requires.low c.requires.high
 
 pub show_promoted-requires-clause-rule : goal.show_promoted-requires-clause-rule
@@ -21,12 +23,16 @@ show_promoted-requires-clause-rule g c = rule_at c.args.cluster.now _ c.cluster.
     ((told_of c.book-book.ensures.log generation_of c.generation-last.ensures) ∙ ap (λ (x : Run). generation_of (printed x.log)) c.cluster.view_is) refl refl)
 
 pub invariant_of-cluster-2 : goal.invariant_of-cluster-2
-invariant_of-cluster-2 g c = λ running. promote_path g.D.Dir.cells c.args.cluster.now _ c.cluster.inside.ledger c.reserve.new.self c.show_promoted.new.self _ _ c.args.at c.args.n _ c.args.forced _
-    c.cluster.view_is c.requires.running c.cluster.invariant c.in_ok-reserve.ensures.log c.in_ok-reserve.ensures.nodes c.show_promoted.ensures.log c.show_promoted.ensures.nodes c.show_promoted.ensures.legal c.show_promoted.ensures.turns
+invariant_of-cluster-2 g c = λ running.
+    let both = promote_path g.D.Dir.cells c.args.cluster.now _ c.cluster.inside.ledger c.reserve.new.self c.show_promoted.new.self _ _ c.args.at c.args.n _ c.args.forced _
+    c.cluster.view_is c.requires.running (two_parts c.cluster.invariant) c.in_ok-reserve.ensures.log c.in_ok-reserve.ensures.nodes c.show_promoted.ensures.log c.show_promoted.ensures.nodes c.show_promoted.ensures.legal c.show_promoted.ensures.turns
     (vacant_of c.book-book.ensures.log c.is_idle.ensures.vacant) (fresh_of c.book-book.ensures.log c.is_fresh.ensures)
     (may_promote g.D.Dir.cells c.args.cluster.now c.args.n _ c.args.forced _ c.generation-last.result c.args.at c.requires.node c.requires.up c.requires.vacant c.requires.low c.requires.high
     ((told_of c.book-book.ensures.log generation_of c.generation-last.ensures) ∙ ap (λ (x : Run). generation_of (printed x.log)) c.cluster.view_is) refl refl)
-    c.in_ok-promote_in.ensures
+    c.in_ok-promote_in.ensures in
+    three_parts both (promoted_stands g.D.Dir.cells _ c.args.cluster.now _ c.cluster.inside.ledger c.reserve.new.self c.show_promoted.new.self _ _ c.args.n c.args.at (record { 0 = c.generation-last.result + 1 }) c.args.forced (record { 0 = c.args.forced.0 + 1 }) c.cluster.view_is c.requires.running
+    (λ e. (c.cluster.invariant e).0) c.in_ok-reserve.ensures.log c.in_ok-reserve.ensures.nodes c.in_ok-reserve.ensures.cut c.show_promoted.ensures.log c.show_promoted.ensures.nodes c.show_promoted.ensures.cut c.requires.node c.requires.vacant c.in_ok-promote_in.ensures both.1
+    (third_at c.cluster.view_is c.requires.running c.cluster.invariant))
 
 pub is_fresh-requires : goal.is_fresh-requires
 is_fresh-requires g c = asked_of (λ (l : Log). entries_of_line c.args.at (printed l) ≡ []) c.cluster.view_is c.book-book.ensures.log c.requires.fresh

@@ -4,6 +4,7 @@ use Rattle.cluster_state.proofs.Ledgers.{asked_of, fresh_of}
 use Rattle.history_entries.specs.Lines.{entries_of_line}
 use Rattle.history_book.specs.Log.{Log, printed}
 use Rattle.std.proofs.Common.{◌≡◌, []}
+use Rattle.cluster_state.proofs.MergingPaths.{two_parts}
 use Rattle.cluster_reads.proofs.lists.list_files.Goals as goal
 
 pub names_in-requires-clause-slot : goal.names_in-requires-clause-slot
@@ -16,7 +17,7 @@ names_in-requires-clause-runs g c =
 
 pub note-requires-clause-rule : goal.note-requires-clause-rule
 note-requires-clause-rule g c =
-    may_tell g.D.Dir.cells c.args.cluster.now _ c.cluster.inside.ledger c.cluster.inside.places.items c.args.at c.args.n c.in-Ok.names c.cluster.view_is c.requires.running c.cluster.invariant (fresh_of c.book-book.ensures.log c.is_fresh.ensures) c.requires.node c.requires.up c.in-Ok.ensures
+    may_tell g.D.Dir.cells c.args.cluster.now _ c.cluster.inside.ledger c.cluster.inside.places.items c.args.at c.args.n c.in-Ok.names c.cluster.view_is c.requires.running (two_parts c.cluster.invariant) (fresh_of c.book-book.ensures.log c.is_fresh.ensures) c.requires.node c.requires.up c.in-Ok.ensures
 
 pub returns-clause-ok : goal.returns-clause-ok
 returns-clause-ok g c = record { names = c.in-Ok.names; now = c.in_ok-note.ensures.ok }

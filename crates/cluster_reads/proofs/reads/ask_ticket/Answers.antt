@@ -4,9 +4,11 @@ use Rattle.cluster_reads.proofs.TicketFiles.{ask_files}
 use Rattle.cluster_state.proofs.Ledgers.{asked_of, fresh_of, legal_of, turns_of}
 use Rattle.history_entries.specs.Lines.{entries_of_line}
 use Rattle.history_book.specs.Log.{Log, printed}
-use Rattle.std.proofs.Common.{◌≡◌, []}
+use Rattle.std.proofs.Common.{◌≡◌, [], refl}
 use Rattle.cluster_state.proofs.Turning.{fresh_turn_at}
 use Rattle.history_entries.specs.declared.entry.Event.TheVariants.{Asking}
+use Rattle.cluster_state.proofs.MergingPaths.{third_at}
+use Rattle.cluster_state.proofs.MergingStill.{stand_shown, all_keep}
 use Rattle.cluster_reads.proofs.reads.ask_ticket.Goals as goal
 
 pub lease_in-requires-clause-slot : goal.lease_in-requires-clause-slot
@@ -29,6 +31,9 @@ invariant_of-cluster-2 g c = λ running. (
       c.show.ensures.legal c.show.ensures.turns (fresh_of c.book-book.ensures.log c.is_fresh.ensures) c.requires.held,
   ask_files g.D.Dir.cells c.args.cluster.now _ c.cluster.inside.ledger c.reserve.new.self c.show.new.self c.cluster.inside.places.items c.args.at c.args.t c.args.opening
       c.cluster.view_is c.requires.running (λ e. (c.cluster.invariant e).0) (λ e. (c.cluster.invariant e).1) c.in_ok-reserve.ensures.log c.in_ok-reserve.ensures.nodes c.show.ensures.log c.show.ensures.nodes (legal_of c.book-book.ensures.nodes c.book-book.ensures.log c.is_legal.ensures.legal) c.show.ensures.legal c.show.ensures.turns (fresh_of c.book-book.ensures.log c.is_fresh.ensures) c.requires.held,
+  (let was = third_at c.cluster.view_is c.requires.running c.cluster.invariant in
+  stand_shown c.cluster.inside.tasks _ _ c.cluster.inside.ledger c.reserve.new.self c.show.new.self c.args.at (Asking c.args.opening.node c.args.t c.args.opening.version) c.in_ok-reserve.ensures.log c.in_ok-reserve.ensures.nodes c.in_ok-reserve.ensures.cut
+  c.show.ensures.log c.show.ensures.nodes c.show.ensures.cut refl (all_keep _ c.cluster.inside.tasks _ _ _ was) was),
 )
 
 pub returns-clause-lease : goal.returns-clause-lease

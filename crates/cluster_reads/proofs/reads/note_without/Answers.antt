@@ -5,6 +5,7 @@ use Rattle.cluster_state.proofs.Frames.{slot_at, there_at, slot_kept}
 use Rattle.cluster_reads.proofs.TicketPaths.{gives_back_at, without_path}
 use Rattle.cluster_state.proofs.FileFrames.{files_moved}
 use Rattle.cluster_state.proofs.Ledgers.{still_apart, still_reigns}
+use Rattle.cluster_state.proofs.MergingPaths.{third_at, put_shown, like_want, like_keeps, still_leaves}
 use Rattle.cluster_reads.proofs.reads.note_without.Goals as goal
 
 pub take-place-requires-clause-slot : goal.take-place-requires-clause-slot
@@ -38,6 +39,11 @@ invariant_of-cluster-2 g c = λ running. (
       c.cluster.view_is c.requires.running (λ e. (c.cluster.invariant e).0) (λ e. (c.cluster.invariant e).1) c.in_ok-reserve.ensures.log c.in_ok-reserve.ensures.nodes c.show.ensures.log c.show.ensures.nodes c.show.ensures.legal c.show.ensures.turns c.requires.rule c.requires.turn c.requires.jobs c.requires.commits c.requires.flights
       (record { count = c.take-place.ensures.count; taken = c.take-place.ensures.places; again = c.put.ensures.count; there = c.put.ensures.places }) c.requires.node c.take-place.ensures.place c.give_ticket_back.ensures.files
       (closed_holds g.D.Dir.cells (printed (shown c.args.at c.args.event ∷ c.args.cluster.now.log)) c.args.key c.take-place.result c.give_ticket_back.new.place c.give_ticket_back.ensures.keeps c.give_ticket_back.ensures.less),
+  put_shown g.D.Dir.cells c.cluster.inside.tasks c.args.cluster.now _ c.cluster.inside.ledger c.reserve.new.self c.cluster.inside.places.items c.take-place.new.places.items c.put.new.places.items c.args.n.0 c.give_ticket_back.new.place c.take-place.result
+      c.cluster.view_is c.in_ok-reserve.ensures.log c.in_ok-reserve.ensures.nodes c.in_ok-reserve.ensures.cut c.requires.node (record { count = c.take-place.ensures.count; taken = c.take-place.ensures.places; again = c.put.ensures.count; there = c.put.ensures.places })
+      c.take-place.ensures.place (like_want g.D.Dir.cells c.take-place.result c.give_ticket_back.new.place c.give_ticket_back.ensures.keeps) (like_keeps g.D.Dir.cells c.take-place.result.node c.give_ticket_back.new.place.node c.give_ticket_back.ensures.keeps c.give_ticket_back.ensures.files)
+      (third_at c.cluster.view_is c.requires.running c.cluster.invariant)
+      c.show.new.self c.args.at c.args.event c.show.ensures.log c.show.ensures.nodes c.show.ensures.cut (still_leaves c.args.event _ c.requires.still c.requires.drains),
 )
 
 pub show-requires-clause-apart : goal.show-requires-clause-apart

@@ -10,6 +10,7 @@ use Rattle.std.proofs.Common.{◌≡◌, [], refl, ◌∙◌, ap, ◌∷◌, ◌
 use Rattle.cluster_state.proofs.Turning.{fresh_turn_at, log_is, nodes_is}
 use Rattle.history_entries.specs.declared.entry.Event.TheVariants.{Opened}
 use Rattle.cluster_state.specs.Run.{Run}
+use Rattle.cluster_state.proofs.MergingPaths.{third_at, put_shown, like_want, like_keeps}
 use Rattle.cluster_reads.proofs.reads.open_ticket.Goals as goal
 
 pub take-place-requires-clause-slot : goal.take-place-requires-clause-slot
@@ -44,6 +45,11 @@ invariant_of-cluster-2 g c = λ running. (
       c.cluster.view_is c.requires.running (λ e. (c.cluster.invariant e).0) (λ e. (c.cluster.invariant e).1) c.in_ok-reserve.ensures.log c.in_ok-reserve.ensures.nodes c.show.ensures.log c.show.ensures.nodes c.show.ensures.legal c.show.ensures.turns (fresh_of c.book-book.ensures.log c.is_fresh.ensures)
       (may_open c.args.cluster.now _ c.cluster.inside.ledger c.args.at c.args.n c.args.t (record { 0 = c.version.result }) c.cluster.view_is (fresh_of c.book-book.ensures.log c.is_fresh.ensures) c.requires.node c.requires.up (told_of c.book-book.ensures.log (version_of c.args.n.0) c.version.ensures) c.requires.free)
       (record { count = c.take-place.ensures.count; taken = c.take-place.ensures.places; again = c.put.ensures.count; there = c.put.ensures.places }) c.take-place.ensures.place c.in_ok-holding.ensures.files c.in_ok-holding.ensures.keeps (Ticket c.args.at.lane c.args.t) c.in_ok-holding.ensures.holds,
+  put_shown g.D.Dir.cells c.cluster.inside.tasks c.args.cluster.now _ c.cluster.inside.ledger c.reserve.new.self c.cluster.inside.places.items c.take-place.new.places.items c.put.new.places.items c.args.n.0 c.hold_ticket-holding.new.place c.take-place.result
+      c.cluster.view_is c.in_ok-reserve.ensures.log c.in_ok-reserve.ensures.nodes c.in_ok-reserve.ensures.cut c.requires.node (record { count = c.take-place.ensures.count; taken = c.take-place.ensures.places; again = c.put.ensures.count; there = c.put.ensures.places })
+      c.take-place.ensures.place (like_want g.D.Dir.cells c.take-place.result c.hold_ticket-holding.new.place c.in_ok-holding.ensures.keeps) (like_keeps g.D.Dir.cells c.take-place.result.node c.hold_ticket-holding.new.place.node c.in_ok-holding.ensures.keeps c.in_ok-holding.ensures.files)
+      (third_at c.cluster.view_is c.requires.running c.cluster.invariant)
+      c.show.new.self c.args.at (Opened c.args.n c.args.t (record { 0 = c.version.result })) c.show.ensures.log c.show.ensures.nodes c.show.ensures.cut refl,
 )
 
 pub is_fresh-requires : goal.is_fresh-requires

@@ -1,4 +1,4 @@
-use Rattle.std.proofs.Common.{ℕ, ◌+◌, ◌∙◌, ap, ◌≡◌, [], refl, ◌∷◌}
+use Rattle.std.proofs.Common.{ℕ, ◌+◌, ◌∙◌, ap, ◌≡◌, [], refl, ◌∷◌, Some}
 use Rattle.history_entries.specs.declared.entry.Event.TheVariants.{Accepted}
 use Rattle.cluster_state.proofs.Frames.{slot_at, slot_kept, there_at, rule_at}
 use Rattle.cluster_writes.proofs.PublishPaths.{primary_stands, may_accept, accept_path}
@@ -9,6 +9,10 @@ use Rattle.history_entries.specs.Lines.{entries_of_line}
 use Rattle.history_book.specs.Log.{Log, printed, shown}
 use Rattle.cluster_state.proofs.Turning.{log_is, nodes_is}
 use Rattle.cluster_state.specs.Run.{Run}
+use Rattle.cluster_state.proofs.MergingPaths.{third_at, put_shown}
+use Rattle.cluster_state.proofs.MergingStill.{primary_keeps}
+use Rattle.cluster_places.specs.declared.nodes.Node.TheVariants.{Primary}
+use Rattle.primary_parts.specs.declared.parts.Parts.{Parts as PrimaryParts}
 use Rattle.cluster_writes.proofs.writes.accept_at.Goals as goal
 
 pub take-requires-clause-slot : goal.take-requires-clause-slot
@@ -45,6 +49,14 @@ invariant_of-cluster-2 g c = λ running. (
       c.show.new.self c.args.at c.show.ensures.legal c.show.ensures.turns c.in-Some.seq c.args.op c.in_ok-copy.copy c.show.ensures.log c.show.ensures.nodes (fresh_of c.book-book.ensures.log c.is_fresh.ensures)
       (may_accept c.args.cluster.now _ c.cluster.inside.ledger c.args.at c.args.p c.in-Some.seq c.args.op c.cluster.view_is (fresh_of c.book-book.ensures.log c.is_fresh.ensures) c.requires.primary (c.in-Some.ensures.0 ∙ ap (λ (k : ℕ). k + 1) (told_of c.book-book.ensures.log accepted_count c.accepted.ensures)))
       c.in_ok-place.ensures.waits,
+  put_shown g.D.Dir.cells c.cluster.inside.tasks c.args.cluster.now _ c.cluster.inside.ledger c.reserve.new.self _ c.take.new.places.items _ c.args.p.0
+      (record { node = Primary c.accept-place.new.self; held = c.primary_in-primary.result.1 }) (record { node = Primary c.primary_in-primary.result.0; held = c.primary_in-primary.result.1 })
+      c.cluster.view_is c.in_ok-reserve.ensures.log c.in_ok-reserve.ensures.nodes c.in_ok-reserve.ensures.cut c.requires.node
+      (record { count = c.take.ensures.count; taken = c.take.ensures.places; again = c.put.ensures.count; there = c.put.ensures.places })
+      (c.take.ensures.place ∙ ap Some c.primary_in-primary.ensures) refl
+      (λ jobs count low. primary_keeps jobs count c.primary_in-primary.result.0 c.accept-place.new.self (ap (λ (z : PrimaryParts _). z.merges) c.in_ok-place.ensures.waits) (ap (λ (z : PrimaryParts _). z.has_cut_over) c.in_ok-place.ensures.waits) (ap (λ (z : PrimaryParts _). z.states) c.in_ok-place.ensures.waits) low)
+      (third_at c.cluster.view_is c.requires.running c.cluster.invariant)
+      c.show.new.self c.args.at (Accepted c.in-Some.seq c.args.op) c.show.ensures.log c.show.ensures.nodes c.show.ensures.cut refl,
 )
 
 pub is_fresh-requires : goal.is_fresh-requires

@@ -8,6 +8,7 @@ use Rattle.cluster_state.proofs.Ledgers.{legal_of, told_of, turns_of, asked_of}
 use Rattle.history_entries.specs.Nodes.{generation_of, newest_version}
 use Rattle.history_entries.specs.Lines.{publish_in_flight}
 use Rattle.history_book.specs.Log.{Log, printed}
+use Rattle.cluster_state.proofs.MergingPaths.{third_at, put_published}
 use Rattle.cluster_writes.proofs.writes.end_publish.Goals as goal
 
 pub take-requires-clause-slot : goal.take-requires-clause-slot
@@ -61,6 +62,12 @@ invariant_of-cluster-2 g c = λ running. (
       (published_rule c.args.cluster.now _ c.cluster.inside.ledger c.reserve.new.self c.args.at (record { 0 = c.generation.result }) c.in-Ok.v c.cluster.view_is c.in_ok-reserve.ensures.log c.in_ok-reserve.ensures.nodes c.show_published.ensures.rule)
       c.requires.flight c.requires.primary c.requires.work c.in-Ok.ensures.point c.in-Ok.ensures.documents c.publish_end-ended.ensures.stays c.publish_end-ended.ensures.fresh c.publish_end-ended.ensures.drawn
       c.publish_end-ended.ensures.appears c.publish_end-ended.ensures.others c.publish_end-ended.ensures.whole c.files_last.ensures,
+  put_published g.D.Dir.cells c.cluster.inside.tasks c.args.cluster.now _ c.cluster.inside.ledger c.reserve.new.self c.show_published.new.self _ c.take.new.places.items _ c.args.p c.primary_in-primary.result.0 c.publish_end-ended.new.self
+      c.primary_in-primary.result.1 c.args.at (record { 0 = c.generation.result }) c.in-Ok.v c.cluster.view_is c.requires.running (λ e. (c.cluster.invariant e).0) c.in_ok-reserve.ensures.log c.in_ok-reserve.ensures.nodes
+      c.show_published.ensures.log c.show_published.ensures.nodes c.show_published.ensures.cut c.requires.node c.requires.primary
+      (record { count = c.take.ensures.count; taken = c.take.ensures.places; again = c.put.ensures.count; there = c.put.ensures.places })
+      (c.take.ensures.place ∙ ap Some c.primary_in-primary.ensures) c.in-Ok.ensures.point.point.has_cut_over (ap (λ (z : PrimaryParts _). z.merges) c.publish_end-ended.ensures.others) (ap (λ (z : PrimaryParts _). z.states) c.publish_end-ended.ensures.others)
+      (third_at c.cluster.view_is c.requires.running c.cluster.invariant),
 )
 
 pub returns-clause-ok : goal.returns-clause-ok

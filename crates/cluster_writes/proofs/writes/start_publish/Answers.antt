@@ -1,4 +1,4 @@
-use Rattle.std.proofs.Common.{false, ◌∙◌, refl, ◌≡◌, [], ◌<◌, sym, inl, length}
+use Rattle.std.proofs.Common.{false, ◌∙◌, refl, ◌≡◌, [], ◌<◌, sym, inl, length, ap, Some}
 use Rattle.history_entries.specs.declared.entry.Event.TheVariants.{Publishing}
 use Rattle.primary_parts.specs.declared.parts.PublishFault.TheVariants.{NamesSpent, TooManySegments}
 use Rattle.cluster_state.proofs.Frames.{slot_at, slot_kept, there_at, rule_at}
@@ -9,6 +9,11 @@ use Rattle.cluster_state.proofs.Ledgers.{asked_of, fresh_of, unbegun_of}
 use Rattle.history_entries.specs.Lines.{entries_of_line}
 use Rattle.history_book.specs.Log.{Log, printed}
 use Rattle.history_entries.specs.Points.{cut_of}
+use Rattle.cluster_state.proofs.MergingPaths.{third_at, put_shown, put_same}
+use Rattle.cluster_state.proofs.MergingStill.{primary_keeps, stand_kept, all_keep}
+use Rattle.cluster_places.specs.declared.nodes.Node.TheVariants.{Primary}
+use Rattle.history_book.specs.declared.inner.Inner.TheVariants.{FlushOut}
+use Rattle.primary_parts.specs.declared.parts.Parts.{Parts as PrimaryParts}
 use Rattle.cluster_writes.proofs.writes.start_publish.Goals as goal
 
 pub take-requires-clause-slot : goal.take-requires-clause-slot
@@ -65,6 +70,13 @@ invariant_of-cluster-in-Err g c = λ running. (
       (record { count = c.take.ensures.count; taken = c.take.ensures.places; again = c.put.ensures.count; there = c.put.ensures.places })
       c.take.ensures.place c.primary_in-primary.ensures
       (on_err _ _ c.in-Err.is c.publish_start-started.ensures.err),
+  put_same g.D.Dir.cells c.cluster.inside.tasks c.args.cluster.now _ c.cluster.inside.ledger c.reserve.new.self _ c.take.new.places.items _ c.args.p.0
+      (record { node = Primary c.publish_start-started.new.self; held = c.primary_in-primary.result.1 }) (record { node = Primary c.primary_in-primary.result.0; held = c.primary_in-primary.result.1 })
+      c.cluster.view_is c.in_ok-reserve.ensures.log c.in_ok-reserve.ensures.nodes c.in_ok-reserve.ensures.cut c.requires.node
+      (record { count = c.take.ensures.count; taken = c.take.ensures.places; again = c.put.ensures.count; there = c.put.ensures.places })
+      (c.take.ensures.place ∙ ap Some c.primary_in-primary.ensures) refl
+      (λ jobs count low. primary_keeps jobs count c.primary_in-primary.result.0 c.publish_start-started.new.self (ap (λ (z : PrimaryParts _). z.merges) (on_err _ _ c.in-Err.is c.publish_start-started.ensures.err)) (ap (λ (z : PrimaryParts _). z.has_cut_over) (on_err _ _ c.in-Err.is c.publish_start-started.ensures.err)) (ap (λ (z : PrimaryParts _). z.states) (on_err _ _ c.in-Err.is c.publish_start-started.ensures.err)) low)
+      (third_at c.cluster.view_is c.requires.running c.cluster.invariant),
 )
 
 pub returns-in-Err-clause-ok : goal.returns-in-Err-clause-ok
@@ -98,6 +110,16 @@ invariant_of-cluster-2 g c = λ running.
           c.take.ensures.place c.primary_in-primary.ensures
           c.show_publishing.new.self c.args.at c.show_publishing.ensures.legal c.show_publishing.ensures.turns c.keep.new.self c.in-Ok-Some.task.seg c.in-Ok.segs c.show_publishing.ensures.log c.show_publishing.ensures.nodes c.keep.ensures.log c.keep.ensures.nodes
           (fresh_of c.book-book.ensures.log c.is_fresh.ensures) (may_start c.args.cluster.now c.args.at c.args.p c.requires.primary c.requires.free c.requires.some) task.1 c.publish_start-started.ensures.drawn task.0.seg c.requires.names,
+      (let begun = put_shown g.D.Dir.cells c.cluster.inside.tasks c.args.cluster.now _ c.cluster.inside.ledger c.reserve.new.self _ c.take.new.places.items _ c.args.p.0
+          (record { node = Primary c.publish_start-started.new.self; held = c.primary_in-primary.result.1 }) (record { node = Primary c.primary_in-primary.result.0; held = c.primary_in-primary.result.1 })
+          c.cluster.view_is c.in_ok-reserve.ensures.log c.in_ok-reserve.ensures.nodes c.in_ok-reserve.ensures.cut c.requires.node
+          (record { count = c.take.ensures.count; taken = c.take.ensures.places; again = c.put.ensures.count; there = c.put.ensures.places })
+          (c.take.ensures.place ∙ ap Some c.primary_in-primary.ensures) refl
+          (λ jobs count low. primary_keeps jobs count c.primary_in-primary.result.0 c.publish_start-started.new.self (ap (λ (z : PrimaryParts _). z.merges) task.1) (ap (λ (z : PrimaryParts _). z.has_cut_over) task.1) (ap (λ (z : PrimaryParts _). z.states) task.1) low)
+          (third_at c.cluster.view_is c.requires.running c.cluster.invariant)
+          c.show_publishing.new.self c.args.at Publishing c.show_publishing.ensures.log c.show_publishing.ensures.nodes c.show_publishing.ensures.cut refl in
+      stand_kept c.cluster.inside.tasks _ _ c.show_publishing.new.self c.keep.new.self (FlushOut c.args.at c.in-Ok-Some.task.seg c.in-Ok.segs) c.keep.ensures.log c.keep.ensures.nodes c.keep.ensures.cut refl
+      (all_keep _ c.cluster.inside.tasks _ _ _ begun) begun),
     )
 
 pub returns-clause-ok : goal.returns-clause-ok

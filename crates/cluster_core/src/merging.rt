@@ -1,0 +1,171 @@
+//! The calls of lines that merge and drain, and of the tasks of merges.
+
+use crate::cluster::Cluster;
+use cluster_places::FileTask;
+use cluster_tasks::{Task, TaskKind};
+use copy_job::Part;
+use disk_model::FaultDir;
+use line_merges::{
+    counted, drained, merge_cut, merge_ready, merge_start, precopy_arrived, precopy_next, task_take,
+};
+use line_turns::Turn;
+use nrt_base::{At, NoMemory};
+use seg_merge::Merged;
+use std::alloc::Global;
+
+impl<D: FaultDir + Drop> Cluster<D> {
+    ghost use Rattle.std.specs.Prelude.{◌≡◌, ◌≤◌, [], false, IfOk, OnOk, OnErr};
+    ghost use Rattle.copy_state.specs.Meta.{IsMetaOf};
+    ghost use Rattle.history_entries.specs.Lines.{entries_of_line};
+    ghost use Rattle.history_book.specs.Log.{printed};
+    ghost use Rattle.script_serving.specs.declared.script.LineCommand.TheVariants.{Merge, Drain};
+    ghost use Rattle.cluster_tasks.specs.TaskLog.{carried_out, counted_for};
+    ghost use Rattle.cluster_tasks.specs.Board.{open_merge, is_unwritten};
+    ghost use Rattle.cluster_state.specs.Run.{IsEnded};
+    ghost use Rattle.cluster_merges.specs.MergePaths.{IsMergedOut, EndsBuild, TakesTask};
+    ghost use Rattle.line_merges.specs.TaskCalls.{MergeLine, CutTurns, DrainTurns};
+    ghost use Rattle.cluster_core.specs.Doing.{Does, IsReplied, IsRepliedAtDone};
+    ghost use Rattle.cluster_core.specs.Tasks.{DoesTask, IsPreCopyIn, TaskCopyTurns, TaskPartTurns};
+
+    /// Starts a merge. Its neighbours are chosen by their sizes; where none can be chosen, the line is refused.
+    pub fn merge_start(&mut self, alloc: Global, at: At, factor: u32) -> Result<(), NoMemory>
+        requires running { self.old.ended ≡ false }
+        requires fresh { entries_of_line at (printed self.old.log) ≡ [] }
+        requires factor { 2 ≤ factor }
+        ensures ok { OnOk result (MergeLine at factor self.old self.new) }
+        ensures err { OnErr result (IsEnded self.old self.new) }
+
+        // what the line is owed
+        ensures does { OnOk result (Does (Merge factor) at self.old self.new) }
+        ensures replied { OnOk result (IsReplied at self.new) }
+    {
+        merge_start(&mut self.state, alloc, at, factor)
+    }
+
+    /// Takes the task that was posted first, for a drain line or for none. None comes exactly where none is posted.
+    pub fn task_take(&mut self, by: Option<At>) -> Result<Option<Task>, NoMemory>
+        requires running { self.old.ended ≡ false }
+        ensures ok { IfOk result (TakesTask by self.old self.new) }
+        ensures err { OnErr result (IsEnded self.old self.new) }
+
+        // what its taker is owed
+        ensures does { OnOk result (DoesTask by self.old self.new) }
+    {
+        task_take(&mut self.state, by)
+    }
+
+    /// Writes the merged segment of a task, and begins a copy of it to each replica that runs. Where the task has ended nothing changes.
+    pub fn merge_ready(
+        &mut self,
+        alloc: Global,
+        task: &Task,
+        merged: Merged,
+    ) -> Result<(), NoMemory>
+        requires running { self.old.ended ≡ false }
+        requires merged { IsMergedOut self.old.log task.now.seg merged }
+        ensures ok { OnOk result (EndsBuild task.now.line task.now.seg task.now.by self.old self.new
+            (is_unwritten (open_merge task.now.seg.0 self.old.rest.tasks.rows))) }
+        ensures err { OnErr result (IsEnded self.old self.new) }
+
+        // what its taker is owed
+        ensures does { OnOk result (DoesTask task.now.by self.old self.new) }
+    {
+        merge_ready(
+            &mut self.state,
+            alloc,
+            task.line,
+            task.seg,
+            task.by,
+            merged,
+        )
+    }
+
+    /// Hands out the next file of the copy of a task. Done says that the task has ended, and Busy that the copy lets the job of a point
+    /// at its node go before.
+    pub fn precopy_next(
+        &mut self,
+        alloc: Global,
+        task: &Task,
+    ) -> Result<Turn<FileTask>, NoMemory>
+        requires running { self.old.ended ≡ false }
+        requires kind { IsPreCopyIn self.old.nodes task.now.kind }
+        ensures ok { IfOk result (TaskCopyTurns task.now self.old self.new) }
+        ensures err { OnErr result (IsEnded self.old self.new) }
+
+        // what its taker is owed
+        ensures does { OnOk result (DoesTask task.now.by self.old self.new) }
+    {
+        match &task.kind {
+            TaskKind::PreCopy(n, job) => precopy_next(
+                &mut self.state,
+                alloc,
+                task.line,
+                task.seg,
+                task.by,
+                *n,
+                *job,
+            ),
+            TaskKind::Merge(_) => unreachable!(),
+            TaskKind::Cut => unreachable!(),
+        }
+    }
+
+    /// Puts a part into the copy of a task. Done says that the task has ended.
+    pub fn precopy_arrived(&mut self, task: &Task, part: Part) -> Result<Turn<()>, NoMemory>
+        requires running { self.old.ended ≡ false }
+        requires kind { IsPreCopyIn self.old.nodes task.now.kind }
+        requires out { carried_out part.name self.old.log ≡ Some part.bytes }
+        requires meta { IsMetaOf part.bytes part.meta }
+        ensures ok { IfOk result (TaskPartTurns task.now self.old self.new) }
+        ensures err { OnErr result (IsEnded self.old self.new) }
+
+        // what its taker is owed
+        ensures does { OnOk result (DoesTask task.now.by self.old self.new) }
+    {
+        match &task.kind {
+            TaskKind::PreCopy(n, job) => {
+                precopy_arrived(&mut self.state, task.seg, *n, *job, part)
+            }
+            TaskKind::Merge(_) => unreachable!(),
+            TaskKind::Cut => unreachable!(),
+        }
+    }
+
+    /// Cuts the merge of a task over. Busy comes exactly where it is to be cut over and a publish is in flight; where the task has ended
+    /// nothing changes.
+    pub fn merge_cut(&mut self, alloc: Global, task: &Task) -> Result<Turn<()>, NoMemory>
+        requires running { self.old.ended ≡ false }
+        ensures ok { IfOk result (CutTurns task.now.line task.now.seg task.now.by
+            self.old self.new) }
+        ensures err { OnErr result (IsEnded self.old self.new) }
+
+        // what its taker is owed
+        ensures does { OnOk result (DoesTask task.now.by self.old self.new) }
+    {
+        merge_cut(&mut self.state, alloc, task.line, task.seg, task.by)
+    }
+
+    /// How many tasks count for a drain line.
+    pub fn counted(&self, at: At) -> u32
+        requires running { self.now.ended ≡ false }
+        requires fresh { entries_of_line at (printed self.now.log) ≡ [] }
+        ensures { result ≡ counted_for at self.now.log }
+    {
+        counted(&self.state, at)
+    }
+
+    /// Ends a drain, which says how many tasks count for it. Busy comes exactly where that are fewer than these and a task is posted.
+    pub fn drained(&mut self, at: At, most: u32) -> Result<Turn<()>, NoMemory>
+        requires running { self.old.ended ≡ false }
+        requires fresh { entries_of_line at (printed self.old.log) ≡ [] }
+        requires few { counted_for at self.old.log ≤ most }
+        ensures ok { IfOk result (DrainTurns at most self.old self.new) }
+        ensures err { OnErr result (IsEnded self.old self.new) }
+
+        // what the line is owed
+        ensures does { OnOk result (Does (Drain most) at self.old self.new) }
+        ensures replied { IfOk result (IsRepliedAtDone at self.new) }
+    {
+        drained(&mut self.state, at, most)
+    }
+}

@@ -1,0 +1,41 @@
+use Rattle.std.proofs.Common.{◌≡◌, [], Ok, ap, ◌∙◌}
+use Rattle.history_entries.specs.Lines.{entries_of_line}
+use Rattle.history_book.specs.Log.{Log, printed}
+use Rattle.cluster_state.proofs.Frames.{slot_at}
+use Rattle.cluster_state.proofs.Ledgers.{asked_of, fresh_of, legal_of, turns_of}
+use Rattle.cluster_merges.proofs.StartPaths.{not_many, none_all, spent_all, none_starts, spent_starts, has_primary_at}
+use Rattle.cluster_merges.proofs.starts.start_merge.Goals as goal
+
+pub is_fresh-requires : goal.is_fresh-requires
+is_fresh-requires g c = asked_of (λ (l : Log). entries_of_line c.args.at (printed l) ≡ []) c.cluster.view_is c.book-book.ensures.log c.requires.fresh
+
+pub ask_in-requires-clause-slot : goal.ask_in-requires-clause-slot
+ask_in-requires-clause-slot g c = slot_at g.D.Dir.cells c.args.cluster.now _ _ c.args.p.0 _ _ c.cluster.view_is c.requires.running (λ e. (c.cluster.invariant e).0) c.requires.node
+
+pub ask_in-requires-clause-primary : goal.ask_in-requires-clause-primary
+ask_in-requires-clause-primary g c = has_primary_at g.D.Dir.cells c.args.cluster.now c.cluster.inside.ledger c.cluster.inside.places.items c.args.p c.cluster.view_is c.requires.running (λ e. (c.cluster.invariant e).0) c.requires.node c.requires.primary
+
+pub none_starts-requires : goal.none_starts-requires
+none_starts-requires g c = not_many g.D.Dir.cells c.args.cluster.now c.cluster.inside.places.items c.ask_in.new.places.items c.cluster.inside.ledger c.reserve.new.self c.cluster.inside.tasks c.args.at c.args.p c.args.factor c.ask_in.result c.cluster.view_is c.requires.running c.cluster.invariant
+    c.in_ok-reserve.ensures.log c.in_ok-reserve.ensures.nodes c.in_ok-reserve.ensures.cut (legal_of c.book-book.ensures.nodes c.book-book.ensures.log c.is_legal.ensures.legal) (turns_of c.book-book.ensures.log c.is_legal.ensures.turns) (fresh_of c.book-book.ensures.log c.is_fresh.ensures)
+    c.requires.node c.requires.primary c.ask_in.ensures c.in-Err.fault c.in-Err.is
+
+pub invariant_of-cluster-in-Ok-None : goal.invariant_of-cluster-in-Ok-None
+invariant_of-cluster-in-Ok-None g c = λ running. none_all g.D.Dir.cells c.args.cluster.now c.cluster.inside.places.items c.ask_in.new.places.items c.cluster.inside.ledger c.reserve.new.self c.cluster.inside.tasks c.args.at c.args.p c.args.factor c.ask_in.result c.cluster.view_is c.requires.running c.cluster.invariant
+    c.in_ok-reserve.ensures.log c.in_ok-reserve.ensures.nodes c.in_ok-reserve.ensures.cut (legal_of c.book-book.ensures.nodes c.book-book.ensures.log c.is_legal.ensures.legal) (turns_of c.book-book.ensures.log c.is_legal.ensures.turns) (fresh_of c.book-book.ensures.log c.is_fresh.ensures)
+    c.requires.node c.requires.primary c.ask_in.ensures (c.in-Ok-None.is ∙ ap Ok c.in-Ok-None.field-0-is)
+
+pub returns-in-Ok-None-clause-ok : goal.returns-in-Ok-None-clause-ok
+returns-in-Ok-None-clause-ok g c = none_starts g.D.Dir.cells c.args.cluster.now c.cluster.inside.places.items c.ask_in.new.places.items c.cluster.inside.ledger c.reserve.new.self c.cluster.inside.tasks c.args.at c.args.p c.args.factor c.ask_in.result c.cluster.view_is c.requires.running c.cluster.invariant
+    c.in_ok-reserve.ensures.log c.in_ok-reserve.ensures.nodes c.in_ok-reserve.ensures.cut (legal_of c.book-book.ensures.nodes c.book-book.ensures.log c.is_legal.ensures.legal) (turns_of c.book-book.ensures.log c.is_legal.ensures.turns) (fresh_of c.book-book.ensures.log c.is_fresh.ensures)
+    c.requires.node c.requires.primary c.ask_in.ensures (c.in-Ok-None.is ∙ ap Ok c.in-Ok-None.field-0-is)
+
+pub invariant_of-cluster-in-Err : goal.invariant_of-cluster-in-Err
+invariant_of-cluster-in-Err g c = λ running. spent_all g.D.Dir.cells c.args.cluster.now c.cluster.inside.places.items c.ask_in.new.places.items c.cluster.inside.ledger c.reserve.new.self c.cluster.inside.tasks c.args.at c.args.p c.args.factor c.ask_in.result c.cluster.view_is c.requires.running c.cluster.invariant
+    c.in_ok-reserve.ensures.log c.in_ok-reserve.ensures.nodes c.in_ok-reserve.ensures.cut (legal_of c.book-book.ensures.nodes c.book-book.ensures.log c.is_legal.ensures.legal) (turns_of c.book-book.ensures.log c.is_legal.ensures.turns) (fresh_of c.book-book.ensures.log c.is_fresh.ensures)
+    c.requires.node c.requires.primary c.ask_in.ensures c.in-Err.fault c.in-Err.is c.in_ok-cause-in-Err.ensures.0
+
+pub returns-in-Err-clause-ok : goal.returns-in-Err-clause-ok
+returns-in-Err-clause-ok g c = spent_starts g.D.Dir.cells c.args.cluster.now c.cluster.inside.places.items c.ask_in.new.places.items c.cluster.inside.ledger c.reserve.new.self c.cluster.inside.tasks c.args.at c.args.p c.args.factor c.ask_in.result c.cluster.view_is c.requires.running c.cluster.invariant
+    c.in_ok-reserve.ensures.log c.in_ok-reserve.ensures.nodes c.in_ok-reserve.ensures.cut (legal_of c.book-book.ensures.nodes c.book-book.ensures.log c.is_legal.ensures.legal) (turns_of c.book-book.ensures.log c.is_legal.ensures.turns) (fresh_of c.book-book.ensures.log c.is_fresh.ensures)
+    c.requires.node c.requires.primary c.ask_in.ensures c.in-Err.fault c.in_ok-cause-in-Err.cause c.in-Err.is c.in_ok-cause-in-Err.ensures.0 c.in_ok-cause-in-Err.ensures.1

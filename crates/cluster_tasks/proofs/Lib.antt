@@ -1,0 +1,3 @@
+pub mod BoardRows
+pub mod Counts
+pub mod TaskFrames

@@ -1,0 +1,2 @@
+pub mod TaskLog
+pub mod Board

@@ -1,0 +1,71 @@
+-- What the calls of merge and drain lines, and of tasks, make of a cluster.
+use Rattle.std.specs.Prelude.{ℕ, ◌≡◌, ◌≢◌, ◌<◌, ◌⊎◌, ◌∷◌, [], Bool, true, false, Option, Some, None, IsSome}
+use Rattle.nrt_base.specs.declared.numbers.At.{At}
+use Rattle.nrt_base.specs.declared.numbers.LineNo.{LineNo}
+use Rattle.nrt_base.specs.declared.numbers.NodeNo.{NodeNo}
+use Rattle.nrt_base.specs.declared.numbers.SegNo.{SegNo}
+use Rattle.history_entries.specs.declared.cause.Cause.{Cause}
+use Rattle.history_entries.specs.declared.cause.Cause.TheVariants.{NoPrimary}
+use Rattle.history_entries.specs.declared.entry.Event.TheVariants.{Drained, Refused}
+use Rattle.history_entries.specs.Nodes.{primary_of}
+use Rattle.history_entries.specs.Lines.{publish_in_flight}
+use Rattle.history_book.specs.Log.{printed, shown}
+use Rattle.history_book.specs.Jobs.{job_at}
+use Rattle.cluster_tasks.specs.TaskLog.{counted_for}
+use Rattle.cluster_tasks.specs.Board.{open_merge, spread_at, is_sent_to, is_copied}
+use Rattle.cluster_places.specs.declared.tasks.FileTask.{FileTask}
+use Rattle.cluster_state.specs.Run.{Run}
+use Rattle.cluster_merges.specs.MergePaths.{IsBoard, IsAsBefore, BeginsMerge, HandsMergedFile, EndsCopyTask, CutsOver}
+use Rattle.line_turns.specs.declared.turn.Turn.{Turn}
+use Rattle.line_turns.specs.declared.turn.Turn.TheVariants.{Work, Done, Busy}
+
+-- the line was refused for this cause, and nothing else happened
+abbrev pub RefusesMerge : At → Cause → Run → Run → Type 0
+RefusesMerge at cause old new = IsBoard old new (shown at (Refused cause) ∷ old.log) old.rest.tasks.rows old.rest.tasks.posted
+
+-- a merge starts, or the line is refused for this cause
+abbrev pub StartsOrRefuses : At → ℕ → Run → Run → Option Cause → Type 0
+StartsOrRefuses at factor old new None = BeginsMerge at factor old new
+StartsOrRefuses at factor old new (Some cause) = RefusesMerge at cause old new
+
+-- A merge line: refused where no primary runs; then where no inputs can be chosen; then where they can and no name is left; else a merge starts.
+pub record MergeLine (at : At) (factor : ℕ) (old new : Run) : Type 0 where
+  pub vacant : primary_of (printed old.log) ≡ None → RefusesMerge at NoPrimary old new
+  pub cause : Option Cause
+  pub starts : primary_of (printed old.log) ≢ None → StartsOrRefuses at factor old new cause
+
+-- the task of a copy has ended, or had before
+abbrev pub EndsCopyOnce : LineNo → SegNo → Option At → NodeNo → ℕ → Run → Run → Bool → Type 0
+EndsCopyOnce line seg by n job old new true = EndsCopyTask line seg by n job old new
+EndsCopyOnce line seg by n job old new false = IsAsBefore old new
+
+-- the merge into the segment has no task of this kind that has not ended, and nothing has changed; or it goes on
+abbrev pub PrecopyTurns : LineNo → SegNo → Option At → NodeNo → ℕ → Run → Run → Turn FileTask → Type 0
+PrecopyTurns line seg by n job old new (Work file) = (is_sent_to n.0 job (spread_at (open_merge seg.0 old.rest.tasks.rows)) ≡ true) × HandsMergedFile line n job old new file
+PrecopyTurns line seg by n job old new Busy = (is_sent_to n.0 job (spread_at (open_merge seg.0 old.rest.tasks.rows)) ≡ true) × IsSome (job_at n.0 old.log) × IsAsBefore old new
+PrecopyTurns line seg by n job old new Done = EndsCopyOnce line seg by n job old new (is_sent_to n.0 job (spread_at (open_merge seg.0 old.rest.tasks.rows)))
+
+-- a part has come for a copy whose task has not ended, or has ended
+abbrev pub PartTurns : SegNo → NodeNo → ℕ → Run → Run → Turn Unit → Type 0
+PartTurns seg n job old new (Work w) = IsAsBefore old new × (is_sent_to n.0 job (spread_at (open_merge seg.0 old.rest.tasks.rows)) ≡ true)
+PartTurns seg n job old new Done = IsAsBefore old new × (is_sent_to n.0 job (spread_at (open_merge seg.0 old.rest.tasks.rows)) ≡ false)
+PartTurns seg n job old new Busy = ⊥
+
+-- the merge was cut over, or was to be cut over no more
+abbrev pub CutsOnce : LineNo → SegNo → Option At → Run → Run → Bool → Type 0
+CutsOnce line seg by old new true = CutsOver line seg by old new
+CutsOnce line seg by old new false = IsAsBefore old new
+
+-- Busy exactly where the merge is to be cut over and a publish is in flight
+abbrev pub CutTurns : LineNo → SegNo → Option At → Run → Run → Turn Unit → Type 0
+CutTurns line seg by old new (Work w) = ⊥
+CutTurns line seg by old new Busy = IsAsBefore old new × (is_copied (spread_at (open_merge seg.0 old.rest.tasks.rows)) ≡ true) × (publish_in_flight (printed old.log) ≢ None)
+CutTurns line seg by old new Done = CutsOnce line seg by old new (is_copied (spread_at (open_merge seg.0 old.rest.tasks.rows)))
+
+-- Busy exactly where fewer tasks than these count for the line and a task is posted; else it says how many do
+abbrev pub DrainTurns : At → ℕ → Run → Run → Turn Unit → Type 0
+DrainTurns at most old new (Work w) = ⊥
+DrainTurns at most old new Busy = IsAsBefore old new × (counted_for at old.log < most) × (old.rest.tasks.posted ≢ [])
+DrainTurns at most old new Done =
+    IsBoard old new (shown at (Drained (counted_for at old.log) most) ∷ old.log) old.rest.tasks.rows old.rest.tasks.posted
+    × ((counted_for at old.log ≡ most) ⊎ (old.rest.tasks.posted ≡ []))

@@ -1,0 +1,2 @@
+mod MergeSteps
+mod CopySteps

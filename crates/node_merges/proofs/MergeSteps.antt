@@ -1,0 +1,164 @@
+-- A node that was taken out of its place moved, and was put back; and what a cut-over makes of the primary.
+use Rattle.std.proofs.Common.{◌≡◌, ◌≤◌, ◌<◌, ◌==◌, ℕ, zero, suc, Bool, true, false, List, Some, None, Option, Result, Ok, Err, Vec, Global, refl, ap, ◌∙◌, sym, subst, arith, if◌then◌else◌, length}
+use Rattle.std.specs.Prelude.{is_some, IfOk, OnOk}
+use Rattle.std.proofs.lemmas.Bool.{false≢true}
+use Rattle.nrt_base.specs.declared.numbers.SegNo.{SegNo}
+use Rattle.disk_model.specs.Disk.{Name, Cells}
+use Rattle.file_deleter.specs.Holdings.{count_of, IsThere}
+use Rattle.node_files.specs.Appearing.{NoneAppears, AppearsOnly}
+use Rattle.copy_state.specs.declared.state.CopyState.{CopyState}
+use Rattle.primary_parts.specs.declared.parts.Parts.{Parts as PrimaryParts}
+use Rattle.primary_parts.specs.declared.states.Out.{Out}
+use Rattle.primary_parts.specs.Held.{IsOwnFile}
+use Rattle.primary_parts.specs.States.{out_of, is_out, states_without}
+use Rattle.primary_parts.specs.Primary.{IsPrimary, KeepsHeldBytes, IsUnwritten, loose_of}
+use Rattle.primary_parts.specs.Calls.{FillsUndrawn, DrawsOnly, HoldsNoNew}
+use Rattle.primary_cut_overs.specs.CutOverCalls.{IsCutOver, KeepsDocuments}
+use Rattle.replica_parts.specs.declared.parts.Parts.{Parts as ReplicaParts}
+use Rattle.cluster_places.specs.declared.held.Held.{Held}
+use Rattle.cluster_places.specs.declared.nodes.Node.TheVariants.{Primary, Replica}
+use Rattle.cluster_places.specs.declared.nodes.Place.{Place}
+use Rattle.cluster_places.specs.Places.{place_of, IsSlot}
+use Rattle.cluster_places.proofs.Taking.{moved_one}
+use Rattle.node_merges.specs.MergeChanges.{CutsMerge}
+use Rattle.node_merges.specs.MergePlaces.{MovesPrimary, MovesReplica}
+
+appears_over : (P : Name → Type 0) (a b c : Cells) → AppearsOnly P a b → NoneAppears b c → AppearsOnly P a c
+appears_over P a b c first second = record { each = λ q none some. first.each q none (between q some) }
+  where
+    between : (q : Name) → IsThere c q → IsThere b q
+    between q some = by (b q).now refl
+      where
+        by : (o : Option (List ℕ)) → (b q).now ≡ o → is_some (b q).now ≡ true
+        by None gone = absurd (false≢true (sym (ap is_some (second.each q gone)) ∙ some))
+        by (Some x) here = ap is_some here
+
+module _ {D : Type 0} where
+  pub primary_moved : (Step : PrimaryParts D → PrimaryParts D → Type 0) (old mid new : List (Option (Place D))) (p : ℕ) (q r : PrimaryParts D) (held : Vec Held Global) → IsSlot old p
+      → length mid ≡ length old → ((m : ℕ) → place_of mid m ≡ (if p == m then None else place_of old m)) → length new ≡ length mid → ((m : ℕ) → place_of new m ≡ (if p == m then Some (record { node = Primary r; held = held }) else place_of mid m))
+      → place_of old p ≡ Some (record { node = Primary q; held = held }) → Step q r → MovesPrimary Step p old new
+  primary_moved Step old mid new p q r held slot cm tm cn tn there step = record {
+    at = record { slot = slot; parts = q; held = held; there = there };
+    primary = r;
+    moves = moved_one old mid new p (record { node = Primary r; held = held }) cm tm cn tn;
+    step = step;
+  }
+
+  pub replica_moved : (Step : ReplicaParts D → ReplicaParts D → Type 0) (old mid new : List (Option (Place D))) (n : ℕ) (r s : ReplicaParts D) (held : Vec Held Global) → IsSlot old n
+      → length mid ≡ length old → ((m : ℕ) → place_of mid m ≡ (if n == m then None else place_of old m)) → length new ≡ length mid → ((m : ℕ) → place_of new m ≡ (if n == m then Some (record { node = Replica s; held = held }) else place_of mid m))
+      → place_of old n ≡ Some (record { node = Replica r; held = held }) → Step r s → MovesReplica Step n old new
+  replica_moved Step old mid new n r s held slot cm tm cn tn there step = record {
+    at = record { slot = slot; parts = r; held = held; there = there };
+    replica = s;
+    moves = moved_one old mid new n (record { node = Replica s; held = held }) cm tm cn tn;
+    step = step;
+  }
+
+  -- the same where it was answered so
+  pub primary_ok : {T E : Type 0} (Step : PrimaryParts D → PrimaryParts D → Type 0) (result : Result T E) (old mid new : List (Option (Place D))) (p : ℕ) (q r : PrimaryParts D) (held : Vec Held Global) → IsSlot old p
+      → length mid ≡ length old → ((m : ℕ) → place_of mid m ≡ (if p == m then None else place_of old m)) → length new ≡ length mid → ((m : ℕ) → place_of new m ≡ (if p == m then Some (record { node = Primary r; held = held }) else place_of mid m))
+      → place_of old p ≡ Some (record { node = Primary q; held = held }) → OnOk result (Step q r) → OnOk result (MovesPrimary Step p old new)
+  primary_ok Step (Ok x) old mid new p q r held slot cm tm cn tn there step = primary_moved Step old mid new p q r held slot cm tm cn tn there step
+  primary_ok Step (Err e) old mid new p q r held slot cm tm cn tn there step = tt
+
+  pub replica_ok : {T E : Type 0} (Step : ReplicaParts D → ReplicaParts D → Type 0) (result : Result T E) (old mid new : List (Option (Place D))) (n : ℕ) (r s : ReplicaParts D) (held : Vec Held Global) → IsSlot old n
+      → length mid ≡ length old → ((m : ℕ) → place_of mid m ≡ (if n == m then None else place_of old m)) → length new ≡ length mid → ((m : ℕ) → place_of new m ≡ (if n == m then Some (record { node = Replica s; held = held }) else place_of mid m))
+      → place_of old n ≡ Some (record { node = Replica r; held = held }) → OnOk result (Step r s) → OnOk result (MovesReplica Step n old new)
+  replica_ok Step (Ok x) old mid new n r s held slot cm tm cn tn there step = replica_moved Step old mid new n r s held slot cm tm cn tn there step
+  replica_ok Step (Err e) old mid new n r s held slot cm tm cn tn there step = tt
+
+  pub replica_answers : {T E : Type 0} (Step : T → ReplicaParts D → ReplicaParts D → Type 0) (result : Result T E) (old mid new : List (Option (Place D))) (n : ℕ) (r s : ReplicaParts D) (held : Vec Held Global) → IsSlot old n
+      → length mid ≡ length old → ((m : ℕ) → place_of mid m ≡ (if n == m then None else place_of old m)) → length new ≡ length mid → ((m : ℕ) → place_of new m ≡ (if n == m then Some (record { node = Replica s; held = held }) else place_of mid m))
+      → place_of old n ≡ Some (record { node = Replica r; held = held }) → IfOk result (λ x. Step x r s) → IfOk result (λ x. MovesReplica (Step x) n old new)
+  replica_answers Step (Ok x) old mid new n r s held slot cm tm cn tn there step = replica_moved (Step x) old mid new n r s held slot cm tm cn tn there step
+  replica_answers Step (Err e) old mid new n r s held slot cm tm cn tn there step = tt
+
+  -- ---- a cut-over, and its copy state back
+
+  module _ (cells : D → Cells) (old mid new : PrimaryParts D) (no_new : HoldsNoNew mid new) where
+    -- what is held in the end was held between
+    held_between : (q : Name) → 0 < count_of new.files q → 0 < count_of mid.files q
+    held_between q some = by (count_of mid.files q) refl
+      where
+        by : (k : ℕ) → count_of mid.files q ≡ k → 0 < k
+        by zero none = let gone = no_new.each q none in absurd (omega (arith, some, gone))
+        by (suc k) is = omega arith
+
+    stays_over : KeepsHeldBytes cells old mid → KeepsHeldBytes cells mid new → KeepsHeldBytes cells old new
+    stays_over first second = record { held = λ q was now. second.held q (held_between q now) now ∙ first.held q was (held_between q now) }
+
+    fresh_over : FillsUndrawn old mid → FillsUndrawn old new
+    fresh_over fresh = record { each = λ q none some. fresh.each q none (held_between q some) }
+
+  drawn_over : (old mid new : PrimaryParts D) → DrawsOnly old mid → ((q : Name) → IsUnwritten new q → IsUnwritten mid q) → DrawsOnly old new
+  drawn_over old mid new first second = record { each = λ q is. first.each q (second q is) }
+
+  -- the cut-over and the end of its copy state in one
+  pub cuts_over : (cells : D → Cells) (seg : SegNo) (state : CopyState) (old mid new : PrimaryParts D) → IsCutOver seg old mid → KeepsDocuments old mid
+      → mid ≡ record old {
+          dir = mid.dir;
+          files = mid.files;
+          infos = mid.infos;
+          segs = mid.segs;
+          names = mid.names;
+          merges = mid.merges;
+          has_cut_over = mid.has_cut_over;
+          completed = mid.completed;
+        }
+      → KeepsHeldBytes cells old mid → FillsUndrawn old mid → DrawsOnly old mid → AppearsOnly (IsOwnFile old.infos (loose_of old)) (cells old.dir) (cells mid.dir)
+      → new.states ≡ states_without (out_of state) mid.states → new ≡ record mid { dir = new.dir; files = new.files; states = new.states } → KeepsHeldBytes cells mid new → HoldsNoNew mid new → NoneAppears (cells mid.dir) (cells new.dir)
+      → IsPrimary cells new → CutsMerge cells seg state old new
+  cuts_over cells seg state old mid new cut documents others stays fresh drawn appears states back stays2 no_new none whole = record {
+    cut = cut_is;
+    documents = documents_are;
+    states = states ∙ ap (λ (z : PrimaryParts D). states_without (out_of state) z.states) others;
+    others = frame;
+    stays = stays_over cells old mid new no_new stays stays2;
+    fresh = fresh_over cells old mid new no_new fresh;
+    drawn = drawn_over old mid new drawn (λ q is. subst (λ (z : PrimaryParts D). IsUnwritten z q → IsUnwritten mid q) (sym back) (λ u. u) is);
+    appears = appears_over (IsOwnFile old.infos (loose_of old)) (cells old.dir) (cells mid.dir) (cells new.dir) appears none;
+    whole = whole;
+  }
+    where
+      cut_is : IsCutOver seg old new
+      cut_is = subst (λ (z : PrimaryParts D). IsCutOver seg old z) (sym back) (record {
+        m = cut.m;
+        found = cut.found;
+        merged = cut.merged;
+        is_merged = cut.is_merged;
+        shown = cut.shown;
+        back = cut.back;
+        made = cut.made;
+        cut = cut.cut;
+        infos = cut.infos;
+        segs = cut.segs;
+        merges = cut.merges;
+        cut_over = cut.cut_over;
+        completed = cut.completed;
+      })
+
+      documents_are : KeepsDocuments old new
+      documents_are = subst (λ (z : PrimaryParts D). KeepsDocuments old z) (sym back) documents
+
+      frame : new ≡ record old {
+        dir = new.dir;
+        files = new.files;
+        infos = new.infos;
+        segs = new.segs;
+        names = new.names;
+        states = new.states;
+        merges = new.merges;
+        has_cut_over = new.has_cut_over;
+        completed = new.completed;
+      }
+      frame = subst (λ (z : PrimaryParts D). z ≡ record old {
+        dir = z.dir;
+        files = z.files;
+        infos = z.infos;
+        segs = z.segs;
+        names = z.names;
+        states = z.states;
+        merges = z.merges;
+        has_cut_over = z.has_cut_over;
+        completed = z.completed;
+      }) (sym back) (ap (λ (z : PrimaryParts D). record z { dir = new.dir; files = new.files; states = new.states }) others)

@@ -1,0 +1,2 @@
+pub mod MergeChanges
+pub mod MergePlaces
