@@ -406,10 +406,20 @@ impl HoldsCopies {
         }
     }
 
+    // Looks a hundred times whether the search has come.
+    fn has_come(&self) -> bool {
+        for _ in 0..100 {
+            if self.searched.load(Ordering::SeqCst) == 1 {
+                return true;
+            }
+        }
+        false
+    }
+
     // Waits for the search, 10,000,000 turns at most.
     fn wait_for_search(&self) {
         for _ in 0..10_000_000 {
-            if self.searched.load(Ordering::SeqCst) == 1 {
+            if self.has_come() {
                 return;
             }
         }
