@@ -1,8 +1,8 @@
 -- What a commit that begins, or makes a call of the directory, leaves of its node and of the others.
-use Rattle.std.proofs.Common.{◌≡◌, ◌≢◌, ◌≤◌, ◌<◌, ◌==◌, ◌||◌, inl, inr, ◌⊎◌, ℕ, Bool, true, false, true≢false, List, [], ◌∷◌, Some, None, Option, Vec, Global, zero, suc, refl, ap, ◌∙◌, sym, subst, arith, if◌then◌else◌}
-use Rattle.std.specs.Prelude.{IsSomeAnd, IfSome, IsSome, not, is_some, Contains}
+use Rattle.std.proofs.Common.{◌≡◌, ◌≢◌, ◌≤◌, ◌<◌, ◌==◌, ◌||◌, inl, inr, ℕ, Bool, true, false, true≢false, List, [], ◌∷◌, Some, None, Option, Vec, Global, zero, suc, refl, ap, ◌∙◌, sym, subst, arith, if◌then◌else◌}
+use Rattle.std.specs.Prelude.{IsSomeAnd, IsSome, not, is_some, Contains}
 use Rattle.std.specs.List.{list_any}
-use Rattle.std.proofs.lemmas.Bool.{eqb-true, eq-eqb}
+use Rattle.std.proofs.lemmas.Bool.{eq-eqb}
 use Rattle.nrt_base.specs.declared.numbers.At.{At}
 use Rattle.nrt_base.specs.declared.numbers.NodeNo.{NodeNo}
 use Rattle.nrt_base.specs.declared.numbers.Version.{Version}
@@ -14,7 +14,7 @@ use Rattle.commit_steps.specs.declared.states.Commit.{Commit}
 use Rattle.commit_steps.specs.declared.stage.Stage.{Stage}
 use Rattle.commit_steps.specs.declared.stage.Stage.TheVariants.{Begun, Synced, Written, Pending, Named, Renamed}
 use Rattle.commit_steps.specs.declared.stage.CommitBook.{CommitBook}
-use Rattle.commit_steps.specs.Book.{commit_of, book_by, book_after, is_last_step, IsBegun, HasBegun}
+use Rattle.commit_steps.specs.Book.{commit_of, book_by, is_last_step, IsBegun, HasBegun}
 use Rattle.node_files.specs.Appearing.{IsNameInFlight}
 use Rattle.searcher_switch.specs.declared.open.Open.{Open}
 use Rattle.searcher_switch.specs.declared.open.Point.{Point}
@@ -22,7 +22,7 @@ use Rattle.primary_parts.specs.declared.parts.Parts.{Parts as PrimaryParts}
 use Rattle.primary_parts.specs.declared.parts.Publish.{Publish}
 use Rattle.primary_parts.specs.declared.states.Out.{Out}
 use Rattle.primary_parts.specs.Held.{IsUndrawn}
-use Rattle.primary_parts.specs.Primary.{IsPrimary, loose_of, filled_of}
+use Rattle.primary_parts.specs.Primary.{loose_of, filled_of}
 use Rattle.replica_opening.specs.Known.{IsLasting}
 use Rattle.replica_parts.specs.declared.job.PointJob.{PointJob}
 use Rattle.replica_parts.specs.declared.parts.Parts.{Parts as ReplicaParts}
@@ -30,10 +30,9 @@ use Rattle.history_entries.specs.declared.entry.Event.{Event}
 use Rattle.history_entries.specs.declared.entry.Event.TheVariants.{Publishing, Committing, Committed}
 use Rattle.history_entries.specs.Nodes.{Past, IsNode, is_at, primary_of, is_running, version_of}
 use Rattle.history_entries.specs.Lines.{start_entry, without_at, publish_in_flight, commit_in_flight}
-use Rattle.history_entries.specs.Commits.{has_committed, reopenable_versions}
+use Rattle.history_entries.specs.Commits.{reopenable_versions}
 use Rattle.history_entries.specs.Rules.{MayHaveName, MayCommit}
 use Rattle.history_entries.specs.Legal.{KeepsRule, IsLegalPast}
-use Rattle.history_tables.specs.declared.jobs.Job.{Job}
 use Rattle.history_tables.proofs.RowLemmas.{same_at_self}
 use Rattle.history_book.specs.Laws.{IsFresh, may_find}
 use Rattle.history_book.specs.Log.{Log, printed, shown}
@@ -47,14 +46,13 @@ use Rattle.cluster_places.specs.declared.nodes.Node.TheVariants.{Primary, Replic
 use Rattle.cluster_places.specs.declared.nodes.Place.{Place}
 use Rattle.cluster_places.specs.Places.{Disk, place_of, disk_of, disk_at, tickets_of}
 use Rattle.cluster_places.specs.Outs.{want_of, want_at, jobs_like, states_like}
-use Rattle.cluster_places.specs.Commits.{HasStageAt, StepsBook, AltersPrimaryCommits, AltersReplicaCommits, AltersCommits, CommitsIn}
+use Rattle.cluster_places.specs.Commits.{HasStageAt, StepsBook, AltersCommits, CommitsIn}
 use Rattle.cluster_places.proofs.OutCounts.{jobs_same}
 use Rattle.cluster_state.specs.Run.{Rest, Run, IsNow}
 use Rattle.cluster_state.specs.Lookups.{flush_out}
 use Rattle.cluster_state.specs.State.{IsPointAt, FlightShows, WritesAt, NodeShows, PlaceShows, Shows, HoldsTickets}
-use Rattle.cluster_state.specs.Files.{JobShows, IsJobFor, ReplicaFiles, PrimaryFiles, NodeFiles, FilesShow}
+use Rattle.cluster_state.specs.Files.{JobShows, NodeFiles, FilesShow}
 use Rattle.cluster_state.specs.FileChanges.{SameJob}
-use Rattle.cluster_state.specs.Names.{NamesShow}
 use Rattle.cluster_state.specs.Disks.{IsPastPoint, MayFindPoint, LastShows, CommitsPoint, StageShows, BookShows, DiskShows, DisksShow, PointsStay, CommitsStay}
 use Rattle.cluster_state.proofs.Points.{points_alone, points_shown, point_stays}
 use Rattle.cluster_state.proofs.Growing.{same, fewer, not_flying}

@@ -1,23 +1,20 @@
 -- Copies of merged segments that end one after the other, at one node after the other.
-use Rattle.std.proofs.Common.{inl, inr, ◌≡◌, ◌≤◌, ◌<◌, ◌+◌, ◌==◌, ◌&&◌, ◌||◌, ℕ, zero, suc, Bool, true, false, true≢false, nat_le, List, [], ◌∷◌, Some, None, Option, is_some, length, take, drop, get_or, refl, ap, ◌∙◌, sym, subst, arith, if◌then◌else◌}
-use Rattle.std.specs.Prelude.{◌⊎◌, IsSomeAnd, IsSome}
-use Rattle.std.specs.List.{list_any}
+use Rattle.std.proofs.Common.{inl, inr, ◌≡◌, ◌≤◌, ◌<◌, ◌+◌, ◌==◌, ◌&&◌, ◌||◌, ℕ, zero, suc, Bool, true, false, true≢false, nat_le, List, [], ◌∷◌, Some, None, Option, is_some, length, drop, get_or, refl, ap, ◌∙◌, sym, subst, arith, if◌then◌else◌}
+use Rattle.std.specs.Prelude.{◌⊎◌, IsSomeAnd}
 use Rattle.std.specs.Option.{option_map}
-use Rattle.std.proofs.lemmas.Bool.{eqb-true, eq-eqb}
+use Rattle.std.proofs.lemmas.Bool.{eqb-true}
 use Rattle.std.proofs.lemmas.Bool.Decides.{nat_tests}
 use Rattle.disk_model.specs.Disk.{Cells}
-use Rattle.node_files.specs.Appearing.{NoneAppears}
 use Rattle.copy_job.specs.Jobs.{Job}
 use Rattle.replica_parts.specs.declared.parts.Parts.{Parts as ReplicaParts}
 use Rattle.replica_parts.specs.declared.merges.MergeCopies.{MergeCopies}
 use Rattle.replica_parts.specs.Merges.{copy_at, copies_without, CopyApart, AreCopiesApart}
-use Rattle.replica_parts.specs.Replica.{IsWholeReplica, AreStanding}
+use Rattle.replica_parts.specs.Replica.{IsWholeReplica}
 use Rattle.replica_parts.proofs.Merging.{number_at, all_at}
 use Rattle.cluster_tasks.specs.declared.tasks.OpenMerge.{OpenMerge}
 use Rattle.cluster_tasks.specs.declared.tasks.Sent.{Sent}
 use Rattle.cluster_tasks.specs.declared.tasks.Spread.{Spread}
 use Rattle.cluster_tasks.specs.Board.{is_sent_in, is_sent_to}
-use Rattle.cluster_places.specs.declared.nodes.Node.TheVariants.{Replica}
 use Rattle.cluster_places.specs.declared.nodes.Place.{Place}
 use Rattle.cluster_places.specs.Places.{place_of}
 use Rattle.node_merges.specs.MergeChanges.{DropsMerged}
