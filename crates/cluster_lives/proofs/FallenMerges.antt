@@ -9,7 +9,6 @@ use Rattle.disk_model.specs.Disk.{Name, Content, Cells}
 use Rattle.node_files.proofs.Appearing.{only_none}
 use Rattle.seg_reader.specs.Shown.{Shown}
 use Rattle.searcher_switch.specs.declared.open.Open.{Open}
-use Rattle.commit_steps.specs.declared.stage.CommitBook.{CommitBook}
 use Rattle.copy_job.specs.Jobs.{Job}
 use Rattle.primary_parts.specs.declared.states.Out.{Out}
 use Rattle.replica_parts.specs.declared.parts.Parts.{Parts as ReplicaParts}
@@ -37,6 +36,7 @@ use Rattle.cluster_state.specs.Names.{NamesShow}
 use Rattle.cluster_state.specs.Files.{JobShows, NodeFiles, FilesShow}
 use Rattle.cluster_state.specs.Disks.{IsPastPoint, DiskShows}
 use Rattle.cluster_state.specs.Merging.{AreSentCopies, IsSentCopy, NodeMerges, IsFitKind, MergesStand}
+use Rattle.cluster_state.proofs.Disks.{disk_same}
 use Rattle.cluster_state.proofs.Drawn.{grows_none}
 use Rattle.cluster_state.proofs.Naming.{names_step}
 use Rattle.cluster_state.proofs.FileFrames.{some_both}
@@ -85,7 +85,7 @@ module _ {D : Type 0} (cells : D → Cells) (rows : List OpenMerge) where
       by (Down d) v ends = ap want ends
 
   same_disk : (m : ℕ) (x y : Node D) → NodeLoses cells m rows x y → disk_of y ≡ disk_of x
-  same_disk m (Replica r) (Replica s) ends = ap (λ (b : CommitBook). record { book = Some b; dir = None }) (ap (λ (z : ReplicaParts D). z.commits) ends.loses.others)
+  same_disk m (Replica r) (Replica s) ends = disk_same r.commits s.commits (ap (λ (z : ReplicaParts D). z.commits) ends.loses.others)
   same_disk m (Replica r) (Primary q) ends = ap disk_of ends
   same_disk m (Replica r) (Down e) ends = ap disk_of ends
   same_disk m (Primary p) y ends = ap disk_of ends
