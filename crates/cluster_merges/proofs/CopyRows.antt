@@ -26,7 +26,7 @@ use Rattle.cluster_tasks.specs.declared.tasks.Posted.{Posted}
 use Rattle.cluster_tasks.specs.declared.tasks.Spread.{Spread}
 use Rattle.cluster_tasks.specs.declared.tasks.Sent.{Sent}
 use Rattle.cluster_tasks.specs.TaskLog.{ends_task_by}
-use Rattle.cluster_tasks.specs.Board.{Board, open_merge, spread_at, with_spread, is_sent_in, all_sent, left_at, posts_of, post_after, done_under, counts_one, due_all, IsToldTask, TasksShow}
+use Rattle.cluster_tasks.specs.Board.{Board, open_merge, spread_at, with_spread, is_sent_in, all_sent, sent_left, posts_of, post_after, done_under, counts_one, due_all, IsToldTask, TasksShow}
 use Rattle.cluster_tasks.proofs.BoardRows.{line_told, open_with, lines_with, due_posted}
 use Rattle.cluster_tasks.proofs.TaskFrames.{tasks_ended}
 use Rattle.cluster_places.specs.declared.nodes.Node.{Node}
@@ -34,7 +34,7 @@ use Rattle.cluster_places.specs.declared.nodes.Node.TheVariants.{Primary, Replic
 use Rattle.cluster_places.specs.declared.nodes.Place.{Place}
 use Rattle.cluster_places.specs.Places.{place_of}
 use Rattle.cluster_places.specs.Outs.{one_like, jobs_like}
-use Rattle.cluster_state.specs.Merging.{AreSentCopies, NodeMerges, IsFitKind, state_at, spreads_like}
+use Rattle.cluster_state.specs.Merging.{AreSentCopies, NodeMerges, IsFitKind, out_at, spreads_like}
 use Rattle.cluster_state.proofs.Frames.{some_then}
 use Rattle.cluster_state.proofs.JobFrames.{same_inner}
 use Rattle.cluster_state.proofs.MergingStill.{node_stands, node_keeps}
@@ -65,8 +65,8 @@ module _ (seg : ℕ) (rows : List OpenMerge) (z : IsSpreadRow seg rows) (t : Spr
   outs_same : (o : Out) → spreads_like o (with_spread seg (Some t) rows) ≡ spreads_like o rows
   outs_same o =
       let move = spreads_with o rows seg (Some t) z.row z.there in
-      let was : one_like o (state_at z.row.spread) ≡ one_like o (Some (out_of z.spread.state)) = ap (λ (x : Option Spread). one_like o (state_at x)) z.some in
-      let now : one_like o (state_at (Some t)) ≡ one_like o (Some (out_of z.spread.state)) = ap (λ (c : CopyState). one_like o (Some (out_of c))) same in
+      let was : one_like o (out_at z.row.spread) ≡ one_like o (Some (out_of z.spread.state)) = ap (λ (x : Option Spread). one_like o (out_at x)) z.some in
+      let now : one_like o (out_at (Some t)) ≡ one_like o (Some (out_of z.spread.state)) = ap (λ (c : CopyState). one_like o (Some (out_of c))) same in
       omega (arith, move, was, now)
 
   -- copies that run are sent still
@@ -121,7 +121,7 @@ module _ {D : Type 0} (cells : D → Cells) where
   -- a copy to each replica has begun: the task to build the segment ends
   pub post_path : (b0 b2 : Sheet) (places : List (Option (Place D))) (board new : Board) (line : LineNo) (seg : SegNo) (by : Option At) → b2.log ≡ kept (TaskEnd line seg by MergeStep true) ∷ b0.log → b2.nodes ≡ b0.nodes → b2.cut ≡ b0.cut
       → IsSomeAnd (spread_at (open_merge seg.0 board.rows)) (λ s. (s.all ≡ false) × (length s.left < b0.nodes)) → new.rows ≡ with_spread seg.0 (all_sent (spread_at (open_merge seg.0 board.rows))) board.rows
-      → new.posted ≡ (board.posted ++ posts_of seg line (left_at (spread_at (open_merge seg.0 board.rows)))) ++ post_after seg line (left_at (spread_at (open_merge seg.0 board.rows)))
+      → new.posted ≡ (board.posted ++ posts_of seg line (sent_left (spread_at (open_merge seg.0 board.rows)))) ++ post_after seg line (sent_left (spread_at (open_merge seg.0 board.rows)))
       → ((x : At) → done_under x new.counts ≡ done_under x board.counts + counts_one x by) → AllShown cells b0 board places → AllShown cells b2 new places
   post_path b0 b2 places board new line seg by log nodes cut written rows posted counts all =
       inside_all cells b0 b2 places board new i log nodes cut (λ at. refl) (λ n. same_inner b0.log i n refl) tasks
@@ -134,7 +134,7 @@ module _ {D : Type 0} (cells : D → Cells) where
       i = TaskEnd line seg by MergeStep true
 
       left : List Sent
-      left = left_at (spread_at (open_merge seg.0 board.rows))
+      left = sent_left (spread_at (open_merge seg.0 board.rows))
 
       found : (z : IsSpreadRow seg.0 board.rows) × ((z.spread.all ≡ false) × (length z.spread.left < b0.nodes))
       found = spread_row seg.0 board.rows (λ s. (s.all ≡ false) × (length s.left < b0.nodes)) written

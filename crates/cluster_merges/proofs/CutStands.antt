@@ -33,7 +33,7 @@ use Rattle.cluster_places.specs.declared.nodes.Node.TheVariants.{Primary}
 use Rattle.cluster_places.specs.Outs.{one_like, states_like}
 use Rattle.cluster_places.proofs.OutCounts.{states_back}
 use Rattle.cluster_state.specs.State.{IsPointAt, FlightShows, HoldsTickets, WritesAt, PrimaryShows, PlaceShows}
-use Rattle.cluster_state.specs.Merging.{AreMergedAlike, state_at, PrimaryMerges}
+use Rattle.cluster_state.specs.Merging.{AreMergedAlike, out_at, PrimaryMerges}
 use Rattle.history_tables.proofs.RowLemmas.{by_test}
 use Rattle.node_merges.specs.MergeChanges.{CutsMerge}
 use Rattle.cluster_merges.proofs.StandSteps.{alike_closed, spreads_without}
@@ -148,7 +148,7 @@ cut_merges log was now jobs count rows seg row s p q m there some found apart ou
   merges = λ k. subst (λ (ms : List Merging). AreMergedAlike log (merge_of k ms) (open_merge k (without_merge seg.0 rows))) (sym merges) (alike_closed log p.merges rows seg.0 (none_left seg.0 p.merges m apart found) stand.merges k);
   outs = λ o.
       let less = spreads_without o rows seg.0 row there in
-      let one : one_like o (state_at row.spread) ≡ one_like o (Some (out_of s.state)) = ap (λ (x : Option Spread). one_like o (state_at x)) some in
+      let one : one_like o (out_at row.spread) ≡ one_like o (Some (out_of s.state)) = ap (λ (x : Option Spread). one_like o (out_at x)) some in
       let back = states_back o (out_of s.state) p.states out in
       let now' : states_like o q.states ≡ states_like o (states_without (out_of s.state) p.states) = ap (states_like o) states in
       let were = stand.outs o in

@@ -20,7 +20,7 @@ use Rattle.cluster_tasks.specs.declared.tasks.Spread.{Spread}
 use Rattle.cluster_tasks.specs.Board.{open_merge, spread_at, with_spread, without_merge, is_sent_in}
 use Rattle.cluster_tasks.proofs.BoardRows.{open_end, open_without, open_with}
 use Rattle.cluster_places.specs.Outs.{one_like}
-use Rattle.cluster_state.specs.Merging.{IsStateOfMerged, AreWrittenAlike, IsMergeOfRow, AreMergedAlike, state_at, spreads_like, IsSentCopy, AreSentCopies}
+use Rattle.cluster_state.specs.Merging.{IsStateOfMerged, AreWrittenAlike, IsMergeOfRow, AreMergedAlike, out_at, spreads_like, IsSentCopy, AreSentCopies}
 
 -- ---- the primary's merges by their numbers
 
@@ -151,17 +151,17 @@ sent_still rows new n running keeps sent k c at = let was = sent k c at in by wa
 
 -- ---- copy states of merges
 
-pub spreads_end : (s : Out) (rows : List OpenMerge) (r : OpenMerge) → spreads_like s (rows ++ r ∷ []) ≡ spreads_like s rows + one_like s (state_at r.spread)
+pub spreads_end : (s : Out) (rows : List OpenMerge) (r : OpenMerge) → spreads_like s (rows ++ r ∷ []) ≡ spreads_like s rows + one_like s (out_at r.spread)
 spreads_end s [] r = omega arith
 spreads_end s (q ∷ rows) r = let rest = spreads_end s rows r in omega (arith, rest)
 
 pub spreads_with : (s : Out) (rows : List OpenMerge) (seg : ℕ) (spread : Option Spread) (r : OpenMerge) → open_merge seg rows ≡ Some r
-    → spreads_like s (with_spread seg spread rows) + one_like s (state_at r.spread) ≡ spreads_like s rows + one_like s (state_at spread)
+    → spreads_like s (with_spread seg spread rows) + one_like s (out_at r.spread) ≡ spreads_like s rows + one_like s (out_at spread)
 spreads_with s [] seg spread r is = absurd (cc)
 spreads_with s (q ∷ rows) seg spread r is =
     by_test (q.seg.0 == seg) (λ b. (if b then Some q else open_merge seg rows) ≡ Some r
-        → spreads_like s (if b then record q { spread = spread } ∷ rows else q ∷ with_spread seg spread rows) + one_like s (state_at r.spread) ≡ spreads_like s (q ∷ rows) + one_like s (state_at spread))
-    (λ here is. let same : q ≡ r = cc in let one : one_like s (state_at q.spread) ≡ one_like s (state_at r.spread) = ap (λ (z : OpenMerge). one_like s (state_at z.spread)) same in omega (arith, one))
+        → spreads_like s (if b then record q { spread = spread } ∷ rows else q ∷ with_spread seg spread rows) + one_like s (out_at r.spread) ≡ spreads_like s (q ∷ rows) + one_like s (out_at spread))
+    (λ here is. let same : q ≡ r = cc in let one : one_like s (out_at q.spread) ≡ one_like s (out_at r.spread) = ap (λ (z : OpenMerge). one_like s (out_at z.spread)) same in omega (arith, one))
     (λ apart is. let rest = spreads_with s rows seg spread r is in omega (arith, rest))
     is
 
@@ -171,10 +171,10 @@ spreads_no_more s (r ∷ rows) seg =
     let rest = spreads_no_more s rows seg in
     elim (r.seg.0 == seg) as (λ b. spreads_like s (if not b then r ∷ without_merge seg rows else without_merge seg rows) ≤ spreads_like s (r ∷ rows)) [ true ↦ omega (arith, rest) | false ↦ omega (arith, rest) ]
 
-pub spreads_without : (s : Out) (rows : List OpenMerge) (seg : ℕ) (r : OpenMerge) → open_merge seg rows ≡ Some r → spreads_like s (without_merge seg rows) + one_like s (state_at r.spread) ≤ spreads_like s rows
+pub spreads_without : (s : Out) (rows : List OpenMerge) (seg : ℕ) (r : OpenMerge) → open_merge seg rows ≡ Some r → spreads_like s (without_merge seg rows) + one_like s (out_at r.spread) ≤ spreads_like s rows
 spreads_without s [] seg r is = absurd (cc)
 spreads_without s (q ∷ rows) seg r is =
-    by_test (q.seg.0 == seg) (λ b. (if b then Some q else open_merge seg rows) ≡ Some r → spreads_like s (if not b then q ∷ without_merge seg rows else without_merge seg rows) + one_like s (state_at r.spread) ≤ spreads_like s (q ∷ rows))
-    (λ here is. let same : q ≡ r = cc in let one : one_like s (state_at q.spread) ≡ one_like s (state_at r.spread) = ap (λ (z : OpenMerge). one_like s (state_at z.spread)) same in let rest = spreads_no_more s rows seg in omega (arith, one, rest))
+    by_test (q.seg.0 == seg) (λ b. (if b then Some q else open_merge seg rows) ≡ Some r → spreads_like s (if not b then q ∷ without_merge seg rows else without_merge seg rows) + one_like s (out_at r.spread) ≤ spreads_like s (q ∷ rows))
+    (λ here is. let same : q ≡ r = cc in let one : one_like s (out_at q.spread) ≡ one_like s (out_at r.spread) = ap (λ (z : OpenMerge). one_like s (out_at z.spread)) same in let rest = spreads_no_more s rows seg in omega (arith, one, rest))
     (λ apart is. let rest = spreads_without s rows seg r is in omega (arith, rest))
     is

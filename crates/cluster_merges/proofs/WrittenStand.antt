@@ -36,7 +36,7 @@ use Rattle.cluster_places.specs.JobPlaces.{MovesOne}
 use Rattle.cluster_places.proofs.OutCounts.{jobs_same, states_push}
 use Rattle.node_merges.specs.MergeChanges.{ReadiesMerge}
 use Rattle.cluster_state.specs.State.{NodeShows, PlaceShows, Shows}
-use Rattle.cluster_state.specs.Merging.{IsStateOfMerged, AreMergedAlike, AreSentCopies, state_at, spreads_like, IsFitKind, PrimaryMerges, NodeMerges, MergesStand}
+use Rattle.cluster_state.specs.Merging.{IsStateOfMerged, AreMergedAlike, AreSentCopies, out_at, spreads_like, IsFitKind, PrimaryMerges, NodeMerges, MergesStand}
 use Rattle.cluster_state.proofs.Growing.{test_apart}
 use Rattle.cluster_state.proofs.Frames.{some_at}
 use Rattle.cluster_state.proofs.FileFrames.{some_both, one_each, wants_same}
@@ -117,7 +117,7 @@ module _ {D : Type 0} (cells : D → Cells) where
             let jobs : jobs_like new o size ≡ jobs_like old o size = jobs_same old new o size (λ k within. wants_same n (record { node = Primary q; held = held }) (record { node = Primary p; held = held }) old new moves there refl k) in
             let like : spreads_like o after.rows ≡ spreads_like o (with_spread merged.files.seg.0 (Some s) board.rows) = ap (spreads_like o) rows in
             let move = spreads_with o board.rows merged.files.seg.0 (Some s) row found in
-            let no : one_like o (state_at row.spread) ≡ 0 = ap (λ (x : Option Spread). one_like o (state_at x)) none in
+            let no : one_like o (out_at row.spread) ≡ 0 = ap (λ (x : Option Spread). one_like o (out_at x)) none in
             let states : states_like o q.states ≡ states_like o p.states + one_like o (Some (out_of state)) = ap (states_like o) w.states ∙ states_push o p.states (out_of state) in
             omega (arith, low, jobs, like, move, no, states);
       }

@@ -26,7 +26,7 @@ use Rattle.cluster_tasks.specs.declared.tasks.Posted.{Posted}
 use Rattle.cluster_tasks.specs.declared.tasks.Task.{Task}
 use Rattle.cluster_tasks.specs.declared.tasks.Sent.{Sent}
 use Rattle.cluster_tasks.specs.TaskLog.{inputs_out, merge_task, carried_out}
-use Rattle.cluster_tasks.specs.Board.{open_merge, spread_at, with_spread, without_merge, left_at, settled, posts_of, post_after, posted_merge, step_of, IsToldKind}
+use Rattle.cluster_tasks.specs.Board.{open_merge, spread_at, with_spread, without_merge, sent_left, sent_less, posts_of, post_after, posted_merge, step_of, IsToldKind}
 use Rattle.cluster_places.specs.declared.tasks.FileTask.{FileTask}
 use Rattle.cluster_state.specs.Run.{Run, IsNow}
 use Rattle.cluster_state.specs.Settles.{AreReplicas}
@@ -103,8 +103,8 @@ EndsBuild line seg by old new false = IsAsBefore old new
 -- a copy has ended, and its task counts; the last one posts the task to cut over
 abbrev pub EndsCopyTask : LineNo → SegNo → Option At → NodeNo → ℕ → Run → Run → Type 0
 EndsCopyTask line seg by n job old new = IsBoard old new (kept (TaskEnd line seg by (PreCopyStep n job) true) ∷ old.log)
-    (with_spread seg.0 (settled n.0 job (spread_at (open_merge seg.0 old.rest.tasks.rows))) old.rest.tasks.rows)
-    (old.rest.tasks.posted ++ post_after seg line (left_at (settled n.0 job (spread_at (open_merge seg.0 old.rest.tasks.rows)))))
+    (with_spread seg.0 (sent_less n.0 job (spread_at (open_merge seg.0 old.rest.tasks.rows))) old.rest.tasks.rows)
+    (old.rest.tasks.posted ++ post_after seg line (sent_left (sent_less n.0 job (spread_at (open_merge seg.0 old.rest.tasks.rows)))))
 
 -- a file of the merged segment was handed out, with its metadata; it ends in a footer
 pub record HandsMergedFile (line : LineNo) (n : NodeNo) (job : ℕ) (old new : Run) (file : FileTask) : Type 0 where

@@ -85,9 +85,9 @@ abbrev pub without_sent : ℕ → ℕ → List Sent → List Sent
 without_sent n job left = filter (λ s. not ((s.node.0 == n) && (s.job == job))) left
 
 -- the copies that have not ended
-abbrev pub left_at : Option Spread → List Sent
-left_at None = []
-left_at (Some s) = s.left
+abbrev pub sent_left : Option Spread → List Sent
+sent_left None = []
+sent_left (Some s) = s.left
 
 -- none of these copies is left
 abbrev pub is_none_left : List Sent → Bool
@@ -110,9 +110,9 @@ all_sent None = None
 all_sent (Some s) = Some (record s { all = true })
 
 -- a copy has ended
-abbrev pub settled : ℕ → ℕ → Option Spread → Option Spread
-settled n job None = None
-settled n job (Some s) = Some (record s { left = without_sent n job s.left })
+abbrev pub sent_less : ℕ → ℕ → Option Spread → Option Spread
+sent_less n job None = None
+sent_less n job (Some s) = Some (record s { left = without_sent n job s.left })
 
 -- the task to build a merged segment
 abbrev pub posted_merge : SegNo → LineNo → MergeTask → Posted
