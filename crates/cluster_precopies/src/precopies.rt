@@ -8,7 +8,7 @@ ghost use Rattle.history_book.specs.Log.{printed};
 ghost use Rattle.cluster_tasks.specs.TaskLog.{carried_out};
 ghost use Rattle.cluster_tasks.specs.Board.{open_merge, spread_at, is_sent_to};
 ghost use Rattle.cluster_state.specs.Run.{IsEnded};
-ghost use Rattle.cluster_merges.specs.MergePaths.{IsAsBefore, HandsMergedFile, EndsCopyTask};
+ghost use Rattle.cluster_drains.specs.MergePaths.{IsAsBefore, HandsMergedFile, EndsCopyTask};
 ghost use Rattle.cluster_precopies.specs.CopyTurns.{TurnsCopy};
 
 use cluster_places::FileTask;

@@ -15,7 +15,7 @@ use Rattle.cluster_tasks.specs.TaskLog.{counted_for}
 use Rattle.cluster_tasks.specs.Board.{open_merge, spread_at, is_sent_to, is_copied}
 use Rattle.cluster_places.specs.declared.tasks.FileTask.{FileTask}
 use Rattle.cluster_state.specs.Run.{Run}
-use Rattle.cluster_merges.specs.MergePaths.{IsBoard, IsAsBefore, BeginsMerge, HandsMergedFile, EndsCopyTask, CutsOver}
+use Rattle.cluster_drains.specs.MergePaths.{IsBoard, IsAsBefore, BeginsMerge, HandsMergedFile, EndsCopyTask, CutsOver}
 use Rattle.line_turns.specs.declared.turn.Turn.{Turn}
 use Rattle.line_turns.specs.declared.turn.Turn.TheVariants.{Work, Done, Busy}
 

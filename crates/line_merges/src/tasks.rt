@@ -8,10 +8,13 @@ ghost use Rattle.history_book.specs.Log.{printed};
 ghost use Rattle.cluster_tasks.specs.TaskLog.{carried_out};
 ghost use Rattle.cluster_tasks.specs.Board.{open_merge, is_unwritten};
 ghost use Rattle.cluster_state.specs.Run.{IsEnded};
-ghost use Rattle.cluster_merges.specs.MergePaths.{IsMergedOut, EndsBuild, TakesTask};
+ghost use Rattle.cluster_drains.specs.MergePaths.{IsMergedOut, EndsBuild, TakesTask};
 ghost use Rattle.line_merges.specs.TaskCalls.{MergeLine, PrecopyTurns, PartTurns, CutTurns};
 
-use cluster_merges::{cut_merge, ready_merge, start_merge, take_task};
+use cluster_cut_overs::cut_merge;
+use cluster_drains::take_task;
+use cluster_merged::ready_merge;
+use cluster_merges::start_merge;
 use cluster_places::FileTask;
 use cluster_precopies::{CopyTurn, next_merged, take_merged};
 use cluster_state::ClusterState;

@@ -15,19 +15,13 @@ use Rattle.cluster_places.specs.declared.nodes.Place.{Place}
 use Rattle.cluster_places.specs.Places.{place_of}
 use Rattle.node_merges.specs.MergeChanges.{MaySend}
 use Rattle.node_merges.specs.MergePlaces.{IsReplicaIn}
-use Rattle.cluster_state.specs.State.{Shows}
-use Rattle.cluster_state.specs.Files.{FilesShow}
-use Rattle.cluster_state.specs.Merging.{MergesStand}
+use Rattle.cluster_drains.specs.Running.{AllShown}
 
 -- a merge is written with this copy state of the present generation, its copies begin, and none to this node has begun
 abbrev pub IsSending : ℕ → CopyState → Past → ℕ → Board → Type 0
 IsSending seg state past n board = IsSomeAnd (spread_at (open_merge seg board.rows)) (λ s. (s.state ≡ state) × (s.all ≡ false) × All (λ one. one.node.0 ≢ n) s.left) × (state.primary_gen.0 ≡ generation_of past)
 
 module _ {D : Type 0} where
-  -- all that is true of a cluster that runs
-  abbrev pub AllShown : (D → Cells) → Sheet → Board → List (Option (Place D)) → Type 0
-  AllShown cells b board places = Shows cells b.log b.nodes places × FilesShow cells b.log b.nodes places × MergesStand b.log b.cut b.nodes board places
-
   -- a replica to which the copy state can be sent
   pub record MaySendTo (state : CopyState) (past : Past) (size n : ℕ) (places : List (Option (Place D))) : Type 0 where
     pub node : IsNode size n

@@ -40,7 +40,7 @@ use Rattle.cluster_state.specs.Merging.{IsStateOfMerged, AreMergedAlike, AreSent
 use Rattle.cluster_state.proofs.Growing.{test_apart}
 use Rattle.cluster_state.proofs.Frames.{some_at}
 use Rattle.cluster_state.proofs.FileFrames.{some_both, one_each, wants_same}
-use Rattle.cluster_merges.proofs.StandSteps.{alike_written, sent_still, spreads_with}
+use Rattle.cluster_drains.proofs.StandSteps.{alike_written, sent_still, spreads_with}
 
 -- metadata of files that read so are of the same bytes wherever they read so
 metas_any : (a b : Name → Content) (files : List File) (metas : List (Name × FileMetaData)) → meta_names metas ≡ names_of files → All (λ (f : File). a f.0 ≡ Some f.1) files → All (λ (f : File). b f.0 ≡ Some f.1) files → All (IsMetaIn a) metas

@@ -9,8 +9,9 @@ ghost use Rattle.history_book.specs.declared.inner.Inner.TheVariants.{JobBegun};
 ghost use Rattle.cluster_places.specs.Places.{place_of};
 ghost use Rattle.cluster_tasks.specs.Board.{open_merge, spread_at, with_spread, is_unwritten, sent_more};
 ghost use Rattle.cluster_state.specs.Run.{IsEnded};
-ghost use Rattle.cluster_merges.specs.MergePaths.{IsMergedOut, WritesMerge};
-ghost use Rattle.cluster_merges.specs.Sending.{AllShown, IsSending, MaySendTo, SendsOn};
+ghost use Rattle.cluster_drains.specs.MergePaths.{IsMergedOut, WritesMerge};
+ghost use Rattle.cluster_drains.specs.Running.{AllShown};
+ghost use Rattle.cluster_merged.specs.Sending.{IsSending, MaySendTo, SendsOn};
 
 use cluster_copies::replicas;
 use cluster_places::Place;

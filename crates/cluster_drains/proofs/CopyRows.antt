@@ -38,9 +38,9 @@ use Rattle.cluster_state.specs.Merging.{AreSentCopies, NodeMerges, IsFitKind, ou
 use Rattle.cluster_state.proofs.Frames.{some_then}
 use Rattle.cluster_state.proofs.JobFrames.{same_inner}
 use Rattle.cluster_state.proofs.MergingStill.{node_stands, node_keeps}
-use Rattle.cluster_merges.proofs.StandSteps.{alike_copied, sent_still, spreads_with}
-use Rattle.cluster_merges.specs.Sending.{AllShown}
-use Rattle.cluster_merges.proofs.InsideSteps.{inside_all}
+use Rattle.cluster_drains.proofs.StandSteps.{alike_copied, sent_still, spreads_with}
+use Rattle.cluster_drains.specs.Running.{AllShown}
+use Rattle.cluster_drains.proofs.InsideSteps.{inside_all}
 
 -- a merge in flight whose files are written
 pub record IsSpreadRow (seg : ℕ) (rows : List OpenMerge) : Type 0 where

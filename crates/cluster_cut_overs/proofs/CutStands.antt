@@ -36,7 +36,7 @@ use Rattle.cluster_state.specs.State.{IsPointAt, FlightShows, HoldsTickets, Writ
 use Rattle.cluster_state.specs.Merging.{AreMergedAlike, out_at, PrimaryMerges}
 use Rattle.history_tables.proofs.RowLemmas.{by_test}
 use Rattle.node_merges.specs.MergeChanges.{CutsMerge}
-use Rattle.cluster_merges.proofs.StandSteps.{alike_closed, spreads_without}
+use Rattle.cluster_drains.proofs.StandSteps.{alike_closed, spreads_without}
 
 -- ---- no more segments are there
 

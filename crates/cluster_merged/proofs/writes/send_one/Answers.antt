@@ -4,8 +4,8 @@ use Rattle.history_book.specs.declared.inner.Inner.TheVariants.{JobBegun}
 use Rattle.cluster_tasks.specs.Board.{open_merge, spread_at}
 use Rattle.cluster_state.proofs.Frames.{some_then}
 use Rattle.cluster_state.proofs.FileFrames.{other_place}
-use Rattle.cluster_merges.proofs.SendSteps.{some_of, sent_path}
-use Rattle.cluster_merges.proofs.writes.send_one.Goals as goal
+use Rattle.cluster_merged.proofs.SendSteps.{some_of, sent_path}
+use Rattle.cluster_merged.proofs.writes.send_one.Goals as goal
 
 pub send_in-job-requires-clause-may : goal.send_in-job-requires-clause-may
 send_in-job-requires-clause-may g c = c.requires.may.may

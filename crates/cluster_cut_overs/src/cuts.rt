@@ -6,7 +6,7 @@ ghost use Rattle.history_entries.specs.Lines.{publish_in_flight};
 ghost use Rattle.history_book.specs.Log.{printed};
 ghost use Rattle.cluster_tasks.specs.Board.{open_merge, spread_at, is_copied};
 ghost use Rattle.cluster_state.specs.Run.{IsEnded};
-ghost use Rattle.cluster_merges.specs.MergePaths.{CutsOver};
+ghost use Rattle.cluster_drains.specs.MergePaths.{CutsOver};
 
 use cluster_state::ClusterState;
 use disk_model::FaultDir;

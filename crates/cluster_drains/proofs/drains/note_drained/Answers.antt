@@ -5,8 +5,8 @@ use Rattle.history_book.specs.Log.{Log, printed}
 use Rattle.cluster_state.proofs.Frames.{rule_at}
 use Rattle.cluster_state.proofs.Turning.{fresh_turn_at}
 use Rattle.cluster_state.proofs.Ledgers.{asked_of, fresh_of, legal_of, turns_of}
-use Rattle.cluster_merges.proofs.TaskPaths.{drain_rule, drained_all, drained_now}
-use Rattle.cluster_merges.proofs.drains.note_drained.Goals as goal
+use Rattle.cluster_drains.proofs.TaskPaths.{drain_rule, drained_all, drained_now}
+use Rattle.cluster_drains.proofs.drains.note_drained.Goals as goal
 
 pub is_fresh-requires : goal.is_fresh-requires
 is_fresh-requires g c = asked_of (λ (l : Log). entries_of_line c.args.at (printed l) ≡ []) c.cluster.view_is c.book-book.ensures.log c.requires.fresh

@@ -26,9 +26,9 @@ use Rattle.cluster_state.proofs.FileFrames.{files_noted}
 use Rattle.cluster_state.proofs.Turning.{past_has, fresh_turn, fresh_line}
 use Rattle.cluster_state.proofs.BookLaws.{apart_of}
 use Rattle.cluster_state.proofs.Disks.{fresh_flights}
-use Rattle.cluster_merges.specs.MergePaths.{IsBoard, IsAsBefore, HandsTask}
-use Rattle.cluster_merges.specs.Sending.{AllShown}
-use Rattle.cluster_merges.proofs.InsideSteps.{all_is, each_still, take_path}
+use Rattle.cluster_drains.specs.MergePaths.{IsBoard, IsAsBefore, HandsTask}
+use Rattle.cluster_drains.specs.Running.{AllShown}
+use Rattle.cluster_drains.proofs.InsideSteps.{all_is, each_still, take_path}
 
 -- what was true of a cluster that ran
 pub all_at : {A : Type 0} {r : Run} {ended : Bool} {nodes : ℕ} {log : Log} {rest : Rest} → record { ended = ended; nodes = nodes; log = log; rest = rest } ≡ r → r.ended ≡ false → (ended ≡ false → A) → A

@@ -1,2 +1,2 @@
 pub mod MergePaths
-pub mod Sending
+pub mod Running

@@ -44,7 +44,7 @@ use Rattle.cluster_state.proofs.Frames.{some_at}
 use Rattle.cluster_state.proofs.FileFrames.{one_each}
 use Rattle.cluster_state.proofs.Lasting.{live_lasts, unheld}
 use Rattle.cluster_state.proofs.Naming.{HoldsLow}
-use Rattle.cluster_merges.proofs.FilesMore.{WritesMore}
+use Rattle.cluster_drains.proofs.FilesMore.{WritesMore}
 
 module _ {D : Type 0} (cells : D → Cells) where
   -- ---- what was written

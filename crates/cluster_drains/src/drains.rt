@@ -5,7 +5,7 @@ ghost use Rattle.history_entries.specs.Lines.{entries_of_line};
 ghost use Rattle.history_book.specs.Log.{printed, shown};
 ghost use Rattle.cluster_tasks.specs.TaskLog.{counted_for};
 ghost use Rattle.cluster_state.specs.Run.{IsEnded};
-ghost use Rattle.cluster_merges.specs.MergePaths.{IsBoard};
+ghost use Rattle.cluster_drains.specs.MergePaths.{IsBoard};
 
 use cluster_state::ClusterState;
 use disk_model::FaultDir;

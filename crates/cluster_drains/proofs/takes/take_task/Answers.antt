@@ -1,6 +1,6 @@
 use Rattle.cluster_state.proofs.MergingPaths.{third_at}
-use Rattle.cluster_merges.proofs.TaskPaths.{all_at, none_taken, hands_task, still_all, taken_all}
-use Rattle.cluster_merges.proofs.starts.take_task.Goals as goal
+use Rattle.cluster_drains.proofs.TaskPaths.{all_at, none_taken, hands_task, still_all, taken_all}
+use Rattle.cluster_drains.proofs.takes.take_task.Goals as goal
 
 pub invariant_of-cluster-in-None : goal.invariant_of-cluster-in-None
 invariant_of-cluster-in-None g c = λ running. still_all g.D.Dir.cells c.cluster.inside.places.items c.cluster.inside.ledger c.reserve.new.self c.reserve.new.self c.cluster.inside.tasks c.take.new.self

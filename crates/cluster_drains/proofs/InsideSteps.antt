@@ -26,7 +26,7 @@ use Rattle.cluster_places.specs.Places.{place_of}
 use Rattle.cluster_places.specs.Outs.{jobs_like}
 use Rattle.cluster_state.specs.FileChanges.{SameJob}
 use Rattle.cluster_state.specs.Merging.{IsFitKind, NodeMerges, MergesStand}
-use Rattle.cluster_merges.specs.Sending.{AllShown}
+use Rattle.cluster_drains.specs.Running.{AllShown}
 use Rattle.cluster_state.proofs.Points.{points_alone}
 use Rattle.cluster_state.proofs.Disks.{commits_alone}
 use Rattle.cluster_state.proofs.Drawn.{grows_none}

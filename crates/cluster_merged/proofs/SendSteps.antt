@@ -56,9 +56,9 @@ use Rattle.cluster_state.proofs.JobMoves.{shows_kept}
 use Rattle.cluster_state.proofs.MergingStill.{node_stands, node_keeps}
 use Rattle.cluster_state.proofs.Naming.{NodeSteps}
 use Rattle.cluster_state.proofs.Points.{points_alone}
-use Rattle.cluster_merges.specs.Sending.{AllShown}
-use Rattle.cluster_merges.proofs.CopyRows.{IsSpreadRow, spread_row, node_copied}
-use Rattle.cluster_merges.proofs.InsideSteps.{same_sent}
+use Rattle.cluster_drains.specs.Running.{AllShown}
+use Rattle.cluster_drains.proofs.CopyRows.{IsSpreadRow, spread_row, node_copied}
+use Rattle.cluster_drains.proofs.InsideSteps.{same_sent}
 
 pub some_of : {A : Type 0} {P : A → Type 0} (o : Option A) → IsSomeAnd o P → IsSome o
 some_of None none = absurd none
