@@ -22,7 +22,7 @@ impl<D: FaultDir + Drop> Cluster<D> {
     ghost use Rattle.cluster_tasks.specs.TaskLog.{carried_out, counted_for};
     ghost use Rattle.cluster_tasks.specs.Board.{open_merge, is_unwritten};
     ghost use Rattle.cluster_state.specs.Run.{IsEnded};
-    ghost use Rattle.cluster_merges.specs.MergePaths.{IsMergedOut, EndsBuild, TakesTask};
+    ghost use Rattle.cluster_drains.specs.MergePaths.{IsMergedOut, EndsBuild, TakesTask};
     ghost use Rattle.line_merges.specs.TaskCalls.{MergeLine, CutTurns, DrainTurns};
     ghost use Rattle.cluster_core.specs.Doing.{Does, IsReplied, IsRepliedAtDone};
     ghost use Rattle.cluster_core.specs.Tasks.{DoesTask, IsPreCopyIn, TaskCopyTurns, TaskPartTurns};

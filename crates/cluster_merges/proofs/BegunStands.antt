@@ -47,7 +47,7 @@ use Rattle.cluster_state.proofs.Drawn.{grows_shown, present_drawn}
 use Rattle.cluster_state.proofs.FileFrames.{some_both, one_each, wants_same}
 use Rattle.cluster_state.proofs.Frames.{some_at}
 use Rattle.cluster_state.proofs.MergingStill.{InputsStay, alike_more}
-use Rattle.cluster_merges.proofs.StandSteps.{merge_numbered, alike_begun, sent_still, spreads_end}
+use Rattle.cluster_drains.proofs.StandSteps.{merge_numbered, alike_begun, sent_still, spreads_end}
 use Rattle.cluster_merges.proofs.BegunShows.{starting, merge_drawn, HasStarted}
 
 -- ---- a segment into which a merge was started is drawn, and the next one is not

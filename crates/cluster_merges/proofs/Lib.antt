@@ -1,12 +1,3 @@
-pub mod StandSteps
-pub mod InsideSteps
-pub mod CopyRows
-pub mod TaskPaths
 pub mod BegunShows
 pub mod BegunStands
 pub mod StartPaths
-pub mod FilesMore
-pub mod ReadyFiles
-pub mod WrittenStand
-pub mod SendSteps
-pub mod CutStands

@@ -57,12 +57,12 @@ use Rattle.cluster_state.proofs.Naming.{holds_same}
 use Rattle.cluster_state.proofs.MergingStill.{primary_keeps, one_keeps, stand_same}
 use Rattle.node_merges.specs.MergeChanges.{AsksMerge}
 use Rattle.node_merges.specs.MergePlaces.{MovesPrimary}
-use Rattle.cluster_merges.specs.MergePaths.{BeginsMerge, StartsMergeFor}
-use Rattle.cluster_merges.specs.Sending.{AllShown}
+use Rattle.cluster_drains.specs.MergePaths.{BeginsMerge, StartsMergeFor}
+use Rattle.cluster_drains.specs.Running.{AllShown}
 use Rattle.cluster_merges.proofs.BegunShows.{HasStarted, begun_shows, begun_files}
 use Rattle.cluster_merges.proofs.BegunStands.{begun_stands}
-use Rattle.cluster_merges.proofs.InsideSteps.{all_is}
-use Rattle.cluster_merges.proofs.TaskPaths.{as_before}
+use Rattle.cluster_drains.proofs.InsideSteps.{all_is}
+use Rattle.cluster_drains.proofs.TaskPaths.{as_before}
 
 -- ---- the sizes that are told are those of the primary
 
@@ -113,29 +113,7 @@ module _ {D : Type 0} where
       apart : (j : ℕ) → j < k → (suc k == suc j) ≡ false
       apart j low = grind (arith, nat_tests, low)
 
--- ---- the primary in its place
-
-module _ {D : Type 0} (cells : D → Cells) where
-  pub primary_in_place : (log : Log) (size n : ℕ) (places : List (Option (Place D))) → is_at (primary_of (printed log)) n ≡ true → IsNode size n → Shows cells log size places → HasPrimary (place_of places n)
-  primary_in_place log size n places here node shows = by (place_of places n) (shows.each n node)
-    where
-      of_node : (x : Node D) (held : Vec Held Global) → NodeShows cells log n x → HasPrimary (Some (record { node = x; held = held }))
-      of_node (Primary p) held showing = tt
-      of_node (Replica r) held showing = absurd (true≢false (sym here ∙ showing.other))
-      of_node (Down d) held showing = absurd (true≢false (sym here ∙ showing.other))
-
-      by : (o : Option (Place D)) → IsSomeAnd o (PlaceShows cells log n) → HasPrimary o
-      by None none = absurd none
-      by (Some z) is = of_node z.node z.held is.node_shows
-
 -- ---- the call
-
-module _ {D : Type 0} (cells : D → Cells) where
-  pub has_primary_at : (r : Run) (b : Sheet) (places : List (Option (Place D))) (p : NodeNo) {ended : Bool} {left : Rest} → record { ended = ended; nodes = b.nodes; log = b.log; rest = left } ≡ r → r.ended ≡ false → (ended ≡ false → Shows cells b.log b.nodes places)
-      → IsNode r.nodes p.0 → primary_of (printed r.log) ≡ Some p → HasPrimary (place_of places p.0)
-  has_primary_at r b places p view running shows node primary =
-      primary_in_place cells b.log b.nodes p.0 places (ap (λ (o : Option NodeNo). is_at o p.0) (ap (λ (x : Run). primary_of (printed x.log)) view ∙ primary) ∙ eq-eqb p.0 p.0 refl)
-      (subst (λ (k : ℕ). IsNode k p.0) (sym (ap (λ (x : Run). x.nodes) view)) node) (shows (ap (λ (x : Run). x.ended) view ∙ running))
 
 module _ {D : Type 0} (cells : D → Cells) (r : Run) (old new : List (Option (Place D))) (b0 b1 : Sheet) (board : Board) (at : At) (p : NodeNo) (factor : ℕ) (result : Result (Option MergeTask) PublishFault) {ended cut : Bool} {calls : List ℕ}
   (view : record { ended = ended; nodes = b0.nodes; log = b0.log; rest = record { calls_left = calls; cut = cut; sizes = sizes_in old; tasks = board } } ≡ r) (running : r.ended ≡ false) (all : ended ≡ false → AllShown cells b0 board old)
@@ -179,7 +157,7 @@ module _ {D : Type 0} (cells : D → Cells) (r : Run) (old new : List (Option (P
       now_is cells b0.log b1.log b0.nodes b1.nodes new e1 n1
           (shows_put cells b0.nodes b0.log old new p.0 (record { node = Primary s; held = asked.at.held }) asked.moves (subst (λ (z : PrimaryParts D). PlaceShows cells b0.log p.0 (record { node = Primary z; held = asked.at.held })) (sym same) place) was.0),
       files_is cells b0.log b1.log b0.nodes b1.nodes new e1 n1
-          (files_one cells b0.nodes b0.log b0.log old new p.0 (record { node = Primary s; held = asked.at.held }) (record { node = Primary q; held = asked.at.held }) (grows_none (printed b0.log))
+          (files_one cells b0.nodes b0.log b0.log old new p.0 (record { node = Primary s; held = asked.at.held }) (record { node = Primary q; held = asked.at.held }) (grows_none (printed b0.log)) (λ name bytes out. out)
           (holds_same cells (printed b0.log) (Primary q) (Primary s) (ap (λ (z : PrimaryParts D). z.searchers.tickets) same) (ap (λ (z : PrimaryParts D). loose_of z) same))
           (λ m other. job_stays b0.log m) (λ m. commits_alone (printed b0.log) m) asked.moves node0 asked.at.there
           (subst (λ (z : PrimaryParts D). KeepsNodeFiles cells (Primary q) (Primary z)) (sym same) (node_alone cells (Primary q))) was.0 was.1),

@@ -1,14 +1,13 @@
-//! Merges that start, and tasks that are taken.
+//! Merges that start.
 
 ghost use Rattle.std.specs.Prelude.{◌≡◌, ◌≢◌, ◌≤◌, [], false, Some, IfOk, OnErr};
 ghost use Rattle.history_entries.specs.Nodes.{IsNode, primary_of};
 ghost use Rattle.history_entries.specs.Lines.{entries_of_line};
 ghost use Rattle.history_book.specs.Log.{printed};
 ghost use Rattle.cluster_state.specs.Run.{IsEnded};
-ghost use Rattle.cluster_merges.specs.MergePaths.{StartsMergeFor, TakesTask};
+ghost use Rattle.cluster_drains.specs.MergePaths.{StartsMergeFor};
 
 use cluster_state::ClusterState;
-use cluster_tasks::{Posted, Task, step_of};
 use disk_model::FaultDir;
 use history_book::Inner;
 use history_entries::Cause;
@@ -71,40 +70,4 @@ pub fn start_merge<D: FaultDir + Drop>(
     cluster.ledger.keep(Inner::MergeOut { line, seg, inputs });
     cluster.ended = false;
     Ok(None)
-}
-
-/// Takes the task that was posted first, for a drain line or for none.
-pub fn take_task<D: FaultDir + Drop>(
-    cluster: &mut ClusterState<D>,
-    by: Option<At>,
-) -> Result<Option<Task>, NoMemory>
-    requires running { cluster.old.ended ≡ false }
-    ensures ok { IfOk result (TakesTask by cluster.old cluster.new) }
-    ensures err { OnErr result (IsEnded cluster.old cluster.new) }
-{
-    cluster.ended = true;
-    cluster.ledger.reserve(1)?;
-    match cluster.tasks.take() {
-        None => {
-            cluster.ended = false;
-            Ok(None)
-        }
-        Some(posted) => {
-            let Posted { seg, line, kind } = posted;
-            let step = step_of(&kind);
-            cluster.ledger.keep(Inner::TaskOut {
-                line,
-                seg,
-                by,
-                step,
-            });
-            cluster.ended = false;
-            Ok(Some(Task {
-                line,
-                seg,
-                by,
-                kind,
-            }))
-        }
-    }
 }

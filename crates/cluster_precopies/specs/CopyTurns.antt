@@ -6,7 +6,7 @@ use Rattle.nrt_base.specs.declared.numbers.NodeNo.{NodeNo}
 use Rattle.nrt_base.specs.declared.numbers.SegNo.{SegNo}
 use Rattle.history_book.specs.Jobs.{job_at}
 use Rattle.cluster_state.specs.Run.{Run}
-use Rattle.cluster_merges.specs.MergePaths.{IsAsBefore, HandsMergedFile, EndsCopyTask}
+use Rattle.cluster_drains.specs.MergePaths.{IsAsBefore, HandsMergedFile, EndsCopyTask}
 use Rattle.cluster_precopies.specs.declared.precopies.CopyTurn.{CopyTurn}
 use Rattle.cluster_precopies.specs.declared.precopies.CopyTurn.TheVariants.{Waits, Hands, Ends}
 

@@ -31,6 +31,7 @@ use Rattle.history_book.specs.declared.inner.Inner.{Inner}
 use Rattle.history_book.specs.declared.inner.Inner.TheVariants.{FlushOut}
 use Rattle.history_book.specs.Jobs.{job_at}
 use Rattle.history_book.specs.Turns.{InTurn, AreInTurn}
+use Rattle.cluster_tasks.specs.TaskLog.{carried_out}
 use Rattle.cluster_places.specs.declared.held.Held.{Held}
 use Rattle.cluster_places.specs.declared.nodes.Node.{Node}
 use Rattle.cluster_places.specs.declared.nodes.Node.TheVariants.{Primary, Replica, Down}
@@ -41,7 +42,7 @@ use Rattle.cluster_state.specs.State.{PrimaryShows, NodeShows, PlaceShows, Shows
 use Rattle.cluster_places.specs.Outs.{want_of, want_at, jobs_like, states_like}
 use Rattle.cluster_state.specs.Files.{CopyShows, JobShows, IsJobFor, ReplicaFiles, NodeFiles, FilesShow}
 use Rattle.cluster_places.specs.KeptFiles.{FillsPrimaryFiles, KeepsReplicaFiles, KeepsNodeFiles}
-use Rattle.cluster_state.specs.FileChanges.{keeps_jobs, SameJob, keeps_commits, is_commit_line}
+use Rattle.cluster_state.specs.FileChanges.{keeps_jobs, SameJob, keeps_commits, is_commit_line, CarriesNoMore}
 use Rattle.cluster_places.specs.JobPlaces.{MovesOne, MovesBoth}
 use Rattle.cluster_state.proofs.Frames.{some_then, some_at, was, PutsBack}
 use Rattle.cluster_state.specs.Names.{NamesShow}
@@ -239,23 +240,32 @@ module _ {D : Type 0} (cells : D → Cells) where
       → IsSomeAnd (place_of places m) (Both files.source log (λ s. jobs_like places s size) m)
   both_of log size places shows files m node = some_both (place_of places m) (shows.each m node) (files.each m node) (λ z a b. (a, b))
 
-  -- no place moved
-  pub files_still : (size : ℕ) (log now : Log) (places : List (Option (Place D))) → Grows (printed log) (printed now) → ((m : ℕ) → is_at (primary_of (printed log)) m ≡ false → SameJob log now m)
-      → ((m : ℕ) → CommitsStay (printed log) (printed now) m) → Shows cells log size places → FilesShow cells log size places → FilesShow cells now size places
-  files_still size log now places grows same stay shows files = record {
+  -- no place moved, and what was handed out of merged files is what their names mean
+  pub files_carried : (size : ℕ) (log now : Log) (places : List (Option (Place D))) → Grows (printed log) (printed now) → ((m : ℕ) → is_at (primary_of (printed log)) m ≡ false → SameJob log now m)
+      → ((m : ℕ) → CommitsStay (printed log) (printed now) m) → Shows cells log size places → (files : FilesShow cells log size places)
+      → ((q : Name) (bytes : List ℕ) → carried_out q now ≡ Some bytes → files.source q ≡ Some bytes) → FilesShow cells now size places
+  files_carried size log now places grows same stay shows files carried = record {
     source = files.source;
     drawn = means_more files.source (printed log) (printed now) grows files.drawn;
     names = names_still cells size (printed log) (printed now) places grows files.names;
     each = λ m node. some_then (place_of places m) (both_of log size places shows files m node)
         (λ z both. node_files files.source log now (λ s. jobs_like places s size) (λ s. jobs_like places s size) m z.node (stay m).points (λ r is. same m (replica_apart log m z.node r both.0.node_shows is)) (λ s. omega arith) both.1);
     disks = disks_still cells files.source log now size places stay files.disks;
+    carried = carried;
   }
 
+  -- no place moved, and no more was handed out of merged files
+  pub files_still : (size : ℕ) (log now : Log) (places : List (Option (Place D))) → Grows (printed log) (printed now) → CarriesNoMore log now
+      → ((m : ℕ) → is_at (primary_of (printed log)) m ≡ false → SameJob log now m)
+      → ((m : ℕ) → CommitsStay (printed log) (printed now) m) → Shows cells log size places → FilesShow cells log size places → FilesShow cells now size places
+  files_still size log now places grows no_more same stay shows files =
+      files_carried size log now places grows same stay shows files (λ q bytes out. files.carried q bytes (no_more q bytes out))
+
   -- one place moved, of which a call left the files and the job
-  pub files_one : (size : ℕ) (log now : Log) (old new : List (Option (Place D))) (n : ℕ) (x y : Place D) → Grows (printed log) (printed now) → HoldsFrom cells (printed now) y.node x.node → ((m : ℕ) → is_at (primary_of (printed log)) m ≡ false → SameJob log now m)
-      → ((m : ℕ) → CommitsStay (printed log) (printed now) m) → MovesOne n x old new → IsNode size n → place_of old n ≡ Some y → KeepsNodeFiles cells y.node x.node
+  pub files_one : (size : ℕ) (log now : Log) (old new : List (Option (Place D))) (n : ℕ) (x y : Place D) → Grows (printed log) (printed now) → CarriesNoMore log now → HoldsFrom cells (printed now) y.node x.node
+      → ((m : ℕ) → is_at (primary_of (printed log)) m ≡ false → SameJob log now m) → ((m : ℕ) → CommitsStay (printed log) (printed now) m) → MovesOne n x old new → IsNode size n → place_of old n ≡ Some y → KeepsNodeFiles cells y.node x.node
       → Shows cells log size old → FilesShow cells log size old → FilesShow cells now size new
-  files_one size log now old new n x y grows holds same stay moves node there keeps shows files =
+  files_one size log now old new n x y grows no_more holds same stay moves node there keeps shows files =
       let jobs : (s : Out) → jobs_like new s size ≡ jobs_like old s size = λ s. jobs_same old new s size (λ m low. wants_same n x y old new moves there (want_kept y x keeps) m) in
       let fewer : (s : Out) → jobs_like new s size ≤ jobs_like old s size = λ s. (let is = jobs s in omega (arith, is)) in
       let mine = some_at (Both files.source log (λ s. jobs_like old s size) n) (place_of old n) y there (both_of log size old shows files n node) in
@@ -267,6 +277,7 @@ module _ {D : Type 0} (cells : D → Cells) where
             (λ m z node apart both. node_files files.source log now (λ s. jobs_like old s size) (λ s. jobs_like new s size) m z.node (stay m).points (λ r is. same m (replica_apart log m z.node r both.0.node_shows is)) fewer both.1)
             (node_kept files.source log now (λ s. jobs_like old s size) (λ s. jobs_like new s size) n y.node x.node keeps (stay n).points (λ r is. same n (replica_apart log n y.node r mine.0.node_shows is)) fewer mine.1);
         disks = disks_kept cells files.source files.source log now size old new (λ q bytes is. is) (disk_moved n x y old new moves there (disk_kept cells y.node x.node keeps)) stay files.disks;
+        carried = λ q bytes out. files.carried q bytes (no_more q bytes out);
       }
 
   -- a node at a wider source
@@ -292,11 +303,12 @@ module _ {D : Type 0} (cells : D → Cells) where
       (live_low q.infos whole.numbered.generation whole.numbered.counter r live_gen small fits name refl (reads_of (cells q.dir)) q.infos.segs q.segs whole.numbered.segs whole.writer.stands.each (fills.named name uncounted some))
 
   -- the primary filled files which were not written yet
-  pub files_filled : (size : ℕ) (log now : Log) (old new : List (Option (Place D))) (n : ℕ) (p q : PrimaryParts D) (held : Vec Held Global) → FilesLast → Grows (printed log) (printed now) → HoldsFrom cells (printed now) (Primary p) (Primary q) → ((m : ℕ) → is_at (primary_of (printed log)) m ≡ false → SameJob log now m)
+  pub files_filled : (size : ℕ) (log now : Log) (old new : List (Option (Place D))) (n : ℕ) (p q : PrimaryParts D) (held : Vec Held Global) → FilesLast → Grows (printed log) (printed now) → CarriesNoMore log now
+      → HoldsFrom cells (printed now) (Primary p) (Primary q) → ((m : ℕ) → is_at (primary_of (printed log)) m ≡ false → SameJob log now m)
       → ((m : ℕ) → CommitsStay (printed log) (printed now) m) → ((m : ℕ) → (n == m) ≡ false → is_at (primary_of (printed log)) m ≡ false)
       → MovesOne n (record { node = Primary q; held = held }) old new → IsNode size n → place_of old n ≡ Some (record { node = Primary p; held = held }) → FillsPrimaryFiles cells p q → PrimaryShows cells now n q
       → Shows cells log size old → FilesShow cells log size old → FilesShow cells now size new
-  files_filled size log now old new n p q held lasting grows holds same stay others moves node there fills next shows files =
+  files_filled size log now old new n p q held lasting grows no_more holds same stay others moves node there fills next shows files =
       let x : Place D = record { node = Primary q; held = held } in
       let y : Place D = record { node = Primary p; held = held } in
       let jobs : (s : Out) → jobs_like new s size ≡ jobs_like old s size = λ s. jobs_same old new s size (λ m low. wants_same n x y old new moves there refl m) in
@@ -320,6 +332,7 @@ module _ {D : Type 0} (cells : D → Cells) where
             (node_wider files.source wider log now (λ s. jobs_like old s size) m z.node (widened_more files.source (cells q.dir) q.files) (others m apart) same both.0.node_shows both.1))
             (record { held = full.held; unwritten = full.unwritten; point = full.point; generation = full.generation; outs = λ s. (let is = jobs s in omega (arith, is, full.outs s)) });
         disks = disks_kept cells files.source wider log now size old new (widened_more files.source (cells q.dir) q.files) (disk_moved n x y old new moves there (disk_same p.commits q.commits fills.commits)) stay files.disks;
+        carried = λ name bytes out. widened_more files.source (cells q.dir) q.files name bytes (files.carried name bytes (no_more name bytes out));
       }
 
   -- ---- in the terms of a call
@@ -363,7 +376,7 @@ module _ {D : Type 0} (cells : D → Cells) where
   files_noted r ended b0 b1 b2 places at e view running shows files e1 n1 e2 n2 legal turns rule turn keeps commits flights =
       let b = before r ended b0 b1 view e1 n1 legal turns in
       files_is (shown at e ∷ r.log) b2.log r.nodes b2.nodes places (e2 ∙ ap (λ (l : Log). shown at e ∷ l) b.log) (n2 ∙ b.size)
-      (files_still r.nodes r.log (shown at e ∷ r.log) places (grows_shown r.nodes (printed r.log) at e b.legal rule) (λ m other. same_shown r.nodes r.log at m b.legal b.turns other e rule turn (keeps m))
+      (files_still r.nodes r.log (shown at e ∷ r.log) places (grows_shown r.nodes (printed r.log) at e b.legal rule) (λ q bytes out. out) (λ m other. same_shown r.nodes r.log at m b.legal b.turns other e rule turn (keeps m))
       (λ m. commits_shown (printed r.log) at m r.nodes e b.legal b.turns rule turn (commits m) (flights m))
       (was cells r ended b0.nodes b0.log places view running shows) (files_was r ended b0.nodes b0.log places view running files))
 
@@ -376,7 +389,7 @@ module _ {D : Type 0} (cells : D → Cells) where
   files_moved r ended b0 b1 b2 old mid new at e n x y view running shows files e1 n1 e2 n2 legal turns rule turn keeps commits flights put node there kept holds =
       let b = before r ended b0 b1 view e1 n1 legal turns in
       files_is (shown at e ∷ r.log) b2.log r.nodes b2.nodes new (e2 ∙ ap (λ (l : Log). shown at e ∷ l) b.log) (n2 ∙ b.size)
-      (files_one r.nodes r.log (shown at e ∷ r.log) old new n x y (grows_shown r.nodes (printed r.log) at e b.legal rule) holds (λ m other. same_shown r.nodes r.log at m b.legal b.turns other e rule turn (keeps m))
+      (files_one r.nodes r.log (shown at e ∷ r.log) old new n x y (grows_shown r.nodes (printed r.log) at e b.legal rule) (λ q bytes out. out) holds (λ m other. same_shown r.nodes r.log at m b.legal b.turns other e rule turn (keeps m))
       (λ m. commits_shown (printed r.log) at m r.nodes e b.legal b.turns rule turn (commits m) (flights m)) (put_one cells n x old mid new put) node there kept
       (was cells r ended b0.nodes b0.log old view running shows) (files_was r ended b0.nodes b0.log old view running files))
 
@@ -392,7 +405,7 @@ module _ {D : Type 0} (cells : D → Cells) where
       let i : Inner = FlushOut at seg segs in
       files_is (kept i ∷ shown at Publishing ∷ r.log) b3.log r.nodes b3.nodes new
       (e3 ∙ ap (λ (l : Log). kept i ∷ l) (e2 ∙ ap (λ (l : Log). shown at Publishing ∷ l) b.log)) (n3 ∙ (n2 ∙ b.size))
-      (files_one r.nodes r.log (kept i ∷ shown at Publishing ∷ r.log) old new n x y (grows_shown r.nodes (printed r.log) at Publishing b.legal rule) holds
+      (files_one r.nodes r.log (kept i ∷ shown at Publishing ∷ r.log) old new n x y (grows_shown r.nodes (printed r.log) at Publishing b.legal rule) (λ q bytes out. out) holds
       (λ m other. same_then r.log (shown at Publishing ∷ r.log) (kept i ∷ shown at Publishing ∷ r.log) m (same_shown r.nodes r.log at m b.legal b.turns other Publishing rule turn refl) (same_inner (shown at Publishing ∷ r.log) i m refl))
       (λ m. commits_shown (printed r.log) at m r.nodes Publishing b.legal b.turns rule turn refl (fresh_flights r.nodes (printed r.log) at b.legal b.turns turn.once.begun m))
       (put_one cells n x old mid new put) node there kept_files
@@ -408,7 +421,7 @@ module _ {D : Type 0} (cells : D → Cells) where
   files_published r ended b0 b1 b2 old mid new at g v n p q held view running shows files e1 n1 e2 n2 legal turns rule turn primary put node there fills next lasting holds =
       let b = before r ended b0 b1 view e1 n1 legal turns in
       files_is (shown at (Published g v) ∷ r.log) b2.log r.nodes b2.nodes new (e2 ∙ ap (λ (l : Log). shown at (Published g v) ∷ l) b.log) (n2 ∙ b.size)
-      (files_filled r.nodes r.log (shown at (Published g v) ∷ r.log) old new n.0 p q held lasting (grows_shown r.nodes (printed r.log) at (Published g v) b.legal rule) holds (λ m other. same_shown r.nodes r.log at m b.legal b.turns other (Published g v) rule turn refl)
+      (files_filled r.nodes r.log (shown at (Published g v) ∷ r.log) old new n.0 p q held lasting (grows_shown r.nodes (printed r.log) at (Published g v) b.legal rule) (λ name bytes out. out) holds (λ m other. same_shown r.nodes r.log at m b.legal b.turns other (Published g v) rule turn refl)
       (λ m. commits_shown (printed r.log) at m r.nodes (Published g v) b.legal b.turns rule turn refl (no_commit r.nodes (printed r.log) at b.legal b.turns (ap is_commit_line rule.started) m))
       (λ m apart. ap (λ (o : Option NodeNo). is_at o m) primary ∙ apart) (put_one cells n.0 (record { node = Primary q; held = held }) old mid new put) node there fills next
       (was cells r ended b0.nodes b0.log old view running shows) (files_was r ended b0.nodes b0.log old view running files))

@@ -1,5 +1,5 @@
 -- What entries leave of the jobs and of the commits that the log shows.
-use Rattle.std.specs.Prelude.{ℕ, ◌≡◌, ◌≢◌, ◌≤◌, ◌==◌, Bool, true, false, not, Option, Some, None}
+use Rattle.std.specs.Prelude.{ℕ, ◌≡◌, ◌≢◌, ◌≤◌, ◌==◌, List, Bool, true, false, not, Option, Some, None}
 use Rattle.nrt_base.specs.declared.numbers.At.{At}
 use Rattle.disk_model.specs.Disk.{Name}
 use Rattle.history_entries.specs.declared.entry.Event.{Event}
@@ -11,6 +11,7 @@ use Rattle.history_book.specs.Log.{Log, printed}
 use Rattle.history_book.specs.declared.inner.Inner.{Inner}
 use Rattle.history_book.specs.declared.inner.Inner.TheVariants.{JobBegun, FileOut, JobEnd}
 use Rattle.history_book.specs.Jobs.{job_at}
+use Rattle.cluster_tasks.specs.TaskLog.{carried_out}
 use Rattle.cluster_state.specs.FilesOut.{file_out}
 use Rattle.cluster_state.specs.Disks.{PointsStay}
 
@@ -43,6 +44,10 @@ leaves_job (JobBegun line m number v by) n = not (m.0 == n)
 leaves_job (FileOut line m number name source by) n = not (m.0 == n)
 leaves_job (JobEnd line m number) n = not (m.0 == n)
 leaves_job i n = true
+
+-- no more was handed out of merged files
+abbrev pub CarriesNoMore : Log → Log → Type 0
+CarriesNoMore log now = (q : Name) (bytes : List ℕ) → carried_out q now ≡ Some bytes → carried_out q log ≡ Some bytes
 
 -- what the log shows of the job at a node is what it showed: no copy to the node came, and of the newest version none that was not in flight
 pub record SameJob (log now : Log) (n : ℕ) : Type 0 where

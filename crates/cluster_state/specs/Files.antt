@@ -21,6 +21,7 @@ use Rattle.history_entries.specs.Points.{IsDrawnFile}
 use Rattle.history_tables.specs.declared.jobs.Job.{Job}
 use Rattle.history_book.specs.Log.{Log, printed}
 use Rattle.history_book.specs.Jobs.{job_at}
+use Rattle.cluster_tasks.specs.TaskLog.{carried_out}
 use Rattle.cluster_places.specs.declared.nodes.Node.{Node}
 use Rattle.cluster_places.specs.declared.nodes.Node.TheVariants.{Primary, Replica, Down}
 use Rattle.cluster_places.specs.declared.nodes.Place.{Place}
@@ -85,7 +86,7 @@ module _ {D : Type 0} where
   NodeFiles source cells log jobs n (Down d) = ⊤
 
   -- What each name of a file means, and that all nodes have it so, with their commits, and what crashes left of them; what means
-  -- something is drawn, and so is each name that stands at a running node.
+  -- something is drawn, and so is each name that stands at a running node; and what was handed out of a merged file is what its name means.
   pub record FilesShow (cells : D → Cells) (log : Log) (size : ℕ) (places : List (Option (Place D))) : Type 0 where
     pub source : Name → Content
     pub drawn : MeansDrawn source (printed log)
@@ -93,3 +94,4 @@ module _ {D : Type 0} where
         → IsSomeAnd (place_of places n) (λ place. NodeFiles source cells log (λ s. jobs_like places s size) n place.node)
     pub names : (n : ℕ) → IsNode size n → IsSomeAnd (place_of places n) (λ place. NamesShow cells (printed log) place.node)
     pub disks : DisksShow source cells log size places
+    pub carried : (q : Name) (bytes : List ℕ) → carried_out q log ≡ Some bytes → source q ≡ Some bytes

@@ -53,14 +53,14 @@ AreMergedAlike log (Some m) (Some row) = IsMergeOfRow log m row
 AreMergedAlike log m row = ⊥
 
 -- the copy state of a merge whose files are written
-abbrev pub state_at : Option Spread → Option Out
-state_at None = None
-state_at (Some s) = Some (out_of s.state)
+abbrev pub out_at : Option Spread → Option Out
+out_at None = None
+out_at (Some s) = Some (out_of s.state)
 
 -- how many copy states of merges are like it
 abbrev pub spreads_like : Out → List OpenMerge → ℕ
 spreads_like s [] = 0
-spreads_like s (r ∷ rows) = one_like s (state_at r.spread) + spreads_like s rows
+spreads_like s (r ∷ rows) = one_like s (out_at r.spread) + spreads_like s rows
 
 -- a copy that runs at a node is one that a merge in flight sent there, of its copy state
 pub record IsSentCopy (rows : List OpenMerge) (n k : ℕ) (c : Job) : Type 0 where

@@ -12,7 +12,7 @@ use Rattle.history_tables.proofs.RowLemmas.{by_test}
 use Rattle.cluster_tasks.specs.declared.tasks.OpenMerge.{OpenMerge}
 use Rattle.cluster_tasks.specs.declared.tasks.Sent.{Sent}
 use Rattle.cluster_tasks.specs.declared.tasks.Spread.{Spread}
-use Rattle.cluster_tasks.specs.Board.{open_merge, merge_at, spread_at, with_spread, without_merge, is_sent_in, without_sent, sent_more, all_sent, settled, due_of, due_all}
+use Rattle.cluster_tasks.specs.Board.{open_merge, merge_at, spread_at, with_spread, without_merge, is_sent_in, without_sent, sent_more, all_sent, sent_less, due_of, due_all}
 
 -- the line of a merge
 abbrev pub line_told : Option OpenMerge → Option LineNo
@@ -119,12 +119,12 @@ sent_no_more (s ∷ left) n job =
     elim ((s.node.0 == n) && (s.job == job)) as (λ b. length (if not b then s ∷ without_sent n job left else without_sent n job left) ≤ length (s ∷ left)) [ true ↦ omega (arith, rest) | false ↦ omega (arith, rest) ]
 
 -- one copy less
-pub sent_less : (left : List Sent) (n job : ℕ) → is_sent_in n job left ≡ true → length (without_sent n job left) + 1 ≤ length left
-sent_less [] n job is = absurd (cc)
-sent_less (s ∷ left) n job is =
+pub length-without_sent : (left : List Sent) (n job : ℕ) → is_sent_in n job left ≡ true → length (without_sent n job left) + 1 ≤ length left
+length-without_sent [] n job is = absurd (cc)
+length-without_sent (s ∷ left) n job is =
     by_test ((s.node.0 == n) && (s.job == job)) (λ b. (b || is_sent_in n job left) ≡ true → length (if not b then s ∷ without_sent n job left else without_sent n job left) + 1 ≤ length (s ∷ left))
     (λ here is. let rest = sent_no_more left n job in omega (arith, rest))
-    (λ apart is. let rest = sent_less left n job is in omega (arith, rest))
+    (λ apart is. let rest = length-without_sent left n job is in omega (arith, rest))
     is
 
 -- ---- the place of a merge
@@ -187,10 +187,10 @@ all_rows rows taken new seg spread took was is = put_again rows taken new seg (S
 
 -- a copy has ended
 pub settled_rows : (rows taken new : List OpenMerge) (seg n job : ℕ) (spread : Spread) (left : List Sent) → taken ≡ with_spread seg None rows → Some spread ≡ spread_at (open_merge seg rows) → left ≡ without_sent n job spread.left
-    → new ≡ with_spread seg (Some (record spread { left = left })) taken → new ≡ with_spread seg (settled n job (spread_at (open_merge seg rows))) rows
+    → new ≡ with_spread seg (Some (record spread { left = left })) taken → new ≡ with_spread seg (sent_less n job (spread_at (open_merge seg rows))) rows
 settled_rows rows taken new seg n job spread left took was less is =
     put_again rows taken new seg (Some (record spread { left = left })) took is
-    ∙ (ap (λ (l : List Sent). with_spread seg (Some (record spread { left = l })) rows) less ∙ ap (λ (o : Option Spread). with_spread seg (settled n job o) rows) was)
+    ∙ (ap (λ (l : List Sent). with_spread seg (Some (record spread { left = l })) rows) less ∙ ap (λ (o : Option Spread). with_spread seg (sent_less n job o) rows) was)
 
 -- ---- what is due once a copy has begun, all have, or one has ended
 
@@ -221,13 +221,13 @@ due_posted size rows seg r s is some all few =
 
 -- a copy ends that was among those of a merge
 pub due_settled : (size : ℕ) (rows : List OpenMerge) (seg : ℕ) (r : OpenMerge) (s : Spread) (n job : ℕ) → open_merge seg rows ≡ Some r → r.spread ≡ Some s → s.all ≡ true → is_sent_in n job s.left ≡ true
-    → 1 + due_all size (with_spread seg (settled n job r.spread) rows) ≤ due_all size rows
+    → 1 + due_all size (with_spread seg (sent_less n job r.spread) rows) ≤ due_all size rows
 due_settled size rows seg r s n job is some all sent =
-    let move = due_with size rows seg (settled n job r.spread) r is in
-    let less = sent_less s.left n job sent in
+    let move = due_with size rows seg (sent_less n job r.spread) r is in
+    let less = length-without_sent s.left n job sent in
     let was : due_of size r.spread ≡ length s.left + 1 = ap (due_of size) some ∙ ap (λ (b : Bool). if b then length s.left + 1 else size + 1) all in
-    let now : due_of size (settled n job r.spread) ≡ length (without_sent n job s.left) + 1 =
-    ap (λ (o : Option Spread). due_of size (settled n job o)) some ∙ ap (λ (b : Bool). if b then length (without_sent n job s.left) + 1 else size + 1) all in
+    let now : due_of size (sent_less n job r.spread) ≡ length (without_sent n job s.left) + 1 =
+    ap (λ (o : Option Spread). due_of size (sent_less n job o)) some ∙ ap (λ (b : Bool). if b then length (without_sent n job s.left) + 1 else size + 1) all in
     omega (arith, move, was, now, less)
 
 -- a merge is cut over

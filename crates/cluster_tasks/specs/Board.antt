@@ -80,14 +80,19 @@ abbrev pub is_sent_to : ℕ → ℕ → Option Spread → Bool
 is_sent_to n job None = false
 is_sent_to n job (Some s) = is_sent_in n job s.left
 
+-- all copies have begun, and the one to a node has not ended: it has a task
+abbrev pub has_copy_task : ℕ → ℕ → Option Spread → Bool
+has_copy_task n job None = false
+has_copy_task n job (Some s) = s.all && is_sent_in n job s.left
+
 -- these copies without the one to a node
 abbrev pub without_sent : ℕ → ℕ → List Sent → List Sent
 without_sent n job left = filter (λ s. not ((s.node.0 == n) && (s.job == job))) left
 
 -- the copies that have not ended
-abbrev pub left_at : Option Spread → List Sent
-left_at None = []
-left_at (Some s) = s.left
+abbrev pub sent_left : Option Spread → List Sent
+sent_left None = []
+sent_left (Some s) = s.left
 
 -- none of these copies is left
 abbrev pub is_none_left : List Sent → Bool
@@ -110,9 +115,9 @@ all_sent None = None
 all_sent (Some s) = Some (record s { all = true })
 
 -- a copy has ended
-abbrev pub settled : ℕ → ℕ → Option Spread → Option Spread
-settled n job None = None
-settled n job (Some s) = Some (record s { left = without_sent n job s.left })
+abbrev pub sent_less : ℕ → ℕ → Option Spread → Option Spread
+sent_less n job None = None
+sent_less n job (Some s) = Some (record s { left = without_sent n job s.left })
 
 -- the task to build a merged segment
 abbrev pub posted_merge : SegNo → LineNo → MergeTask → Posted

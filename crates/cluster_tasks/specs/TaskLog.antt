@@ -40,14 +40,14 @@ abbrev pub merge_task : SegNo → List Shown → MergeTask
 merge_task seg inputs = record { seg = seg; inputs = inputs; live = map (λ s. s.live) inputs }
 
 -- the bytes of a merged file that an entry hands out, to no line
-abbrev pub carried_by : Name → Inner → Content
-carried_by q (FileOut line n job name source None) = if same name q then Some source else None
-carried_by q i = None
+abbrev pub carries_as : Name → Inner → Content
+carries_as q (FileOut line n job name source None) = if same name q then Some source else None
+carries_as q i = None
 
 -- the bytes that were handed out first under the name of a merged file
 abbrev pub carried_out : Name → Log → Content
 carried_out q [] = None
-carried_out q (Kept i ∷ log) = or_first (carried_out q log) (carried_by q i)
+carried_out q (Kept i ∷ log) = or_first (carried_out q log) (carries_as q i)
 carried_out q (m ∷ log) = carried_out q log
 
 -- one where a task has ended that counts

@@ -3,7 +3,7 @@
 ghost use Rattle.std.specs.Prelude.{◌≡◌, ◌≢◌, ◌∷◌, ◌==◌, ◌&&◌, None, Some, true, false, not, IfSome, IsSome, slice_get, length};
 ghost use Rattle.std.specs.List.{filter, list_any};
 ghost use Rattle.std.specs.Option.{option_map};
-ghost use Rattle.cluster_tasks.specs.Board.{open_merge, merge_at, spread_at, with_spread, without_merge, is_sent_in, without_sent, settled};
+ghost use Rattle.cluster_tasks.specs.Board.{open_merge, merge_at, spread_at, with_spread, without_merge, is_sent_in, without_sent, sent_less};
 
 use crate::tasks::{OpenMerge, Sent, Spread};
 use nrt_base::{NodeNo, SegNo};

@@ -3,7 +3,7 @@
 ghost use Rattle.std.specs.Prelude.{◌≡◌, false, None, Some, IfOk, OnOk};
 ghost use Rattle.copy_state.specs.Meta.{IsMetaOf};
 ghost use Rattle.lane_seats.specs.Seats.{log_seen, IsLaneSeat};
-ghost use Rattle.cluster_merges.specs.MergePaths.{IsMergedOut};
+ghost use Rattle.cluster_drains.specs.MergePaths.{IsMergedOut};
 ghost use Rattle.cluster_tasks.specs.TaskLog.{carried_out};
 ghost use Rattle.cluster_core.specs.Tasks.{IsPreCopyIn};
 ghost use Rattle.lane_merging.specs.Taken.{IsTakerAt, IsTaskIn, WorksOn, TakesOn, HandsOn};

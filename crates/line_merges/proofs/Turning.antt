@@ -11,7 +11,7 @@ use Rattle.cluster_tasks.specs.Board.{Board, done_under}
 use Rattle.cluster_tasks.proofs.TaskFrames.{undrained}
 use Rattle.cluster_state.specs.Run.{Run}
 use Rattle.cluster_state.specs.Merging.{MergesStand}
-use Rattle.cluster_merges.specs.MergePaths.{IsAsBefore}
+use Rattle.cluster_drains.specs.MergePaths.{IsAsBefore}
 
 -- nothing was done
 pub as_before : (r : Run) → r.ended ≡ false → IsAsBefore r r

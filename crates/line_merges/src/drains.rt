@@ -7,7 +7,7 @@ ghost use Rattle.cluster_tasks.specs.TaskLog.{counted_for};
 ghost use Rattle.cluster_state.specs.Run.{IsEnded};
 ghost use Rattle.line_merges.specs.TaskCalls.{DrainTurns};
 
-use cluster_merges::note_drained;
+use cluster_drains::note_drained;
 use cluster_state::ClusterState;
 use disk_model::FaultDir;
 use line_turns::Turn;

@@ -8,10 +8,13 @@ ghost use Rattle.history_book.specs.Log.{printed};
 ghost use Rattle.cluster_tasks.specs.TaskLog.{carried_out};
 ghost use Rattle.cluster_tasks.specs.Board.{open_merge, is_unwritten};
 ghost use Rattle.cluster_state.specs.Run.{IsEnded};
-ghost use Rattle.cluster_merges.specs.MergePaths.{IsMergedOut, EndsBuild, TakesTask};
+ghost use Rattle.cluster_drains.specs.MergePaths.{IsMergedOut, EndsBuild, TakesTask};
 ghost use Rattle.line_merges.specs.TaskCalls.{MergeLine, PrecopyTurns, PartTurns, CutTurns};
 
-use cluster_merges::{cut_merge, ready_merge, start_merge, take_task};
+use cluster_cut_overs::cut_merge;
+use cluster_drains::take_task;
+use cluster_merged::ready_merge;
+use cluster_merges::start_merge;
 use cluster_places::FileTask;
 use cluster_precopies::{CopyTurn, next_merged, take_merged};
 use cluster_state::ClusterState;
@@ -98,7 +101,7 @@ pub fn precopy_next<D: FaultDir + Drop>(
     ensures ok { IfOk result (PrecopyTurns line seg by n job state.old state.new) }
     ensures err { OnErr result (IsEnded state.old state.new) }
 {
-    if !state.tasks.is_sent(seg, n, job) {
+    if !state.tasks.has_copy_task(seg, n, job) {
         return Ok(Turn::Done);
     }
     let Some(p) = state.primary() else {
@@ -126,7 +129,7 @@ pub fn precopy_arrived<D: FaultDir + Drop>(
     ensures ok { IfOk result (PartTurns seg n job state.old state.new) }
     ensures err { OnErr result (IsEnded state.old state.new) }
 {
-    if !state.tasks.is_sent(seg, n, job) {
+    if !state.tasks.has_copy_task(seg, n, job) {
         return Ok(Turn::Done);
     }
     take_merged(state, seg, n, job, part)?;

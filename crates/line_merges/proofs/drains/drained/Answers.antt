@@ -4,7 +4,7 @@ use Rattle.history_book.specs.Log.{shown}
 use Rattle.cluster_tasks.specs.Board.{Board}
 use Rattle.cluster_tasks.specs.TaskLog.{counted_for}
 use Rattle.cluster_state.specs.Run.{Run}
-use Rattle.cluster_merges.specs.MergePaths.{IsBoard}
+use Rattle.cluster_drains.specs.MergePaths.{IsBoard}
 use Rattle.line_merges.proofs.Turning.{as_before}
 use Rattle.line_merges.proofs.drains.drained.Goals.{else-done-most-via-then-done-most+else-not-is_idle, else-done-most-via-else-done-most}
 use Rattle.line_merges.proofs.drains.drained.Goals as goal

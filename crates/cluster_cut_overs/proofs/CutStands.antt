@@ -1,0 +1,157 @@
+-- A merge that is cut over: what the primary shows, and what is true of merges.
+use Rattle.std.proofs.Common.{◌≡◌, ◌≤◌, ◌<◌, ◌+◌, ◌*◌, ◌==◌, ◌++◌, ℕ, zero, suc, Bool, true, false, List, [], ◌∷◌, map, length, Some, None, Option, Vec, Global, refl, ap, ◌∙◌, sym, subst, arith, if◌then◌else◌}
+use Rattle.std.specs.Prelude.{not}
+use Rattle.std.specs.List.{AllByRecursion, filter, zip}
+use Rattle.std.proofs.lemmas.Bool.{eqb-true}
+use Rattle.std.proofs.lemmas.List.{length-append, length-map}
+use Rattle.nrt_base.specs.declared.numbers.SegNo.{SegNo}
+use Rattle.disk_model.specs.Disk.{Cells}
+use Rattle.copy_state.specs.declared.state.CopyState.{CopyState}
+use Rattle.seg_reader.specs.Shown.{Shown}
+use Rattle.segment_infos.specs.declared.infos.Infos.{Infos}
+use Rattle.segment_infos.specs.declared.infos.SegRecord.{SegRecord}
+use Rattle.searcher_switch.specs.declared.open.Open.{Open}
+use Rattle.searcher_switch.specs.declared.open.Point.{Point}
+use Rattle.segment_steps.specs.Next.{Turn}
+use Rattle.segment_steps.specs.CutOver.{Part, is_one_of, inputs_in, others_in, in_place, lives_of, part_after, merged_turn, merged_turns}
+use Rattle.history_entries.specs.Nodes.{version_of}
+use Rattle.history_entries.specs.Lines.{publish_in_flight}
+use Rattle.history_entries.specs.Tasks.{merge_count}
+use Rattle.history_book.specs.Log.{Log, printed}
+use Rattle.nrt_base.specs.declared.numbers.At.{At}
+use Rattle.primary_parts.specs.declared.parts.Parts.{Parts as PrimaryParts}
+use Rattle.primary_parts.specs.declared.states.Merging.{Merging}
+use Rattle.primary_parts.specs.declared.states.Out.{Out}
+use Rattle.primary_parts.specs.Merges.{merge_of, merges_without, AreOtherMerges, AreApartMerges}
+use Rattle.primary_parts.specs.States.{out_of, is_out, states_without}
+use Rattle.primary_parts.proofs.MergeLists.{number_of, others_at}
+use Rattle.cluster_tasks.specs.declared.tasks.OpenMerge.{OpenMerge}
+use Rattle.cluster_tasks.specs.declared.tasks.Spread.{Spread}
+use Rattle.cluster_tasks.specs.Board.{open_merge, without_merge, due_of, due_all}
+use Rattle.cluster_places.specs.declared.held.Held.{Held}
+use Rattle.cluster_places.specs.declared.nodes.Node.TheVariants.{Primary}
+use Rattle.cluster_places.specs.Outs.{one_like, states_like}
+use Rattle.cluster_places.proofs.OutCounts.{states_back}
+use Rattle.cluster_state.specs.State.{IsPointAt, FlightShows, HoldsTickets, WritesAt, PrimaryShows, PlaceShows}
+use Rattle.cluster_state.specs.Merging.{AreMergedAlike, out_at, PrimaryMerges}
+use Rattle.history_tables.proofs.RowLemmas.{by_test}
+use Rattle.node_merges.specs.MergeChanges.{CutsMerge}
+use Rattle.cluster_drains.proofs.StandSteps.{alike_closed, spreads_without}
+
+-- ---- no more segments are there
+
+filter_few : {X : Type 0} (test : X → Bool) (xs : List X) → length (filter test xs) ≤ length xs
+filter_few test [] = omega arith
+filter_few test (x ∷ xs) = by (test x) (filter_few test xs)
+  where
+    by : (b : Bool) → length (filter test xs) ≤ length xs → length (if b then x ∷ filter test xs else filter test xs) ≤ length (x ∷ xs)
+    by true less = omega (arith, less)
+    by false less = omega (arith, less)
+
+in_place_few : (inputs : List SegNo) (new ps : List Part) → length new ≤ 1 → length (in_place inputs new ps) ≤ length ps
+in_place_few inputs new [] few = omega arith
+in_place_few inputs new (p ∷ ps) few = by (is_one_of inputs p) (in_place_few inputs new ps few)
+  where
+    by : (b : Bool) → length (in_place inputs new ps) ≤ length ps → length (if b then new ++ others_in inputs ps else p ∷ in_place inputs new ps) ≤ length (p ∷ ps)
+    by true less =
+        let both : length (new ++ others_in inputs ps) ≡ length new + length (others_in inputs ps) = length-append new (others_in inputs ps) in
+        let others : length (others_in inputs ps) ≤ length ps = filter_few (λ q. not (is_one_of inputs q)) ps in
+        omega (arith, both, few, others)
+    by false less = omega (arith, less)
+
+zip_few : (rs : List SegRecord) (ss : List Shown) → length (zip rs ss) ≤ length rs
+zip_few [] ss = omega arith
+zip_few (r ∷ rs) [] = omega arith
+zip_few (r ∷ rs) (s ∷ ss) = let rest = zip_few rs ss in omega (arith, rest)
+
+-- ---- a merge is in flight, so one was started
+
+due_some : (size seg : ℕ) (rows : List OpenMerge) (r : OpenMerge) → open_merge seg rows ≡ Some r → 1 ≤ due_all size rows
+due_some size seg [] r is = absurd (cc)
+due_some size seg (q ∷ rows) r is = let own = of q.spread in omega (arith, own)
+  where
+    of : (o : Option Spread) → 1 ≤ due_of size o
+    of None = omega arith
+    of (Some s) = elim s.all as (λ b. 1 ≤ (if b then length s.left + 1 else size + 1)) [ true ↦ omega arith | false ↦ omega arith ]
+
+pub some_started : (size ended due count : ℕ) → ended + due ≤ (size + 1) * count → 1 ≤ due → 0 < count
+some_started size ended due zero paid some = absurd (let none : (size + 1) * 0 ≡ 0 = grind arith in omega (arith, paid, some, none))
+some_started size ended due (suc count) paid some = omega arith
+
+-- ---- the primary
+
+module _ {D : Type 0} (cells : D → Cells) (log : Log) (n : ℕ) (seg : SegNo) (state : CopyState) (p q : PrimaryParts D) (cuts : CutsMerge cells seg state p q) (started : 0 < merge_count (printed log)) (calm : publish_in_flight (printed log) ≡ None) where
+  cut_few : length q.infos.segs ≤ length p.infos.segs
+  cut_few =
+      let parts : List Part = zip p.infos.segs p.segs in
+      let turns : List Turn = merged_turns p.infos.generation.0 cuts.cut.merged cuts.cut.shown (lives_of (inputs_in cuts.cut.m.inputs parts)) in
+      let new : List Part = map (part_after p.infos.generation.0) turns in
+      let segs : length q.infos.segs ≡ length cuts.cut.made.records = ap (λ (i : Infos). length i.segs) cuts.cut.infos in
+      let records : length cuts.cut.made.records ≡ length (map (λ x. x.0) (in_place cuts.cut.m.inputs new parts)) = ap length cuts.cut.cut.records_are in
+      let mapped : length (map (λ (x : Part). x.0) (in_place cuts.cut.m.inputs new parts)) ≡ length (in_place cuts.cut.m.inputs new parts) = length-map (in_place cuts.cut.m.inputs new parts) (λ (x : Part). x.0) in
+      let one : length new ≡ length turns = length-map turns (part_after p.infos.generation.0) in
+      let few : length turns ≤ 1 = filter_few _ (merged_turn cuts.cut.merged cuts.cut.shown (lives_of (inputs_in cuts.cut.m.inputs parts)) ∷ []) in
+      let placed = in_place_few cuts.cut.m.inputs new parts (omega (arith, one, few)) in
+      let zipped = zip_few p.infos.segs p.segs in
+      omega (arith, segs, records, mapped, placed, zipped)
+
+  cut_writer : WritesAt (printed log) p.infos p.segs → WritesAt (printed log) q.infos q.segs
+  cut_writer was = record {
+    documents = cuts.documents _ was.documents;
+    generation = ap (λ (i : Infos). i.generation.0) cuts.cut.infos ∙ was.generation;
+    version = ap (λ (i : Infos). i.version.0) cuts.cut.infos ∙ was.version;
+    counter = ap (λ (i : Infos). i.counter) cuts.cut.infos ∙ was.counter;
+    few = let less = cut_few in let was' = was.few in omega (arith, less, was');
+    live = λ none. absurd (omega (arith, none, started));
+  }
+
+  cut_primary : PrimaryShows cells log n p → PrimaryShows cells log n q
+  cut_primary was = record {
+    running = was.running;
+    primary = was.primary;
+    whole = cuts.whole;
+    point = subst (λ (o : Point Shown). IsPointAt (printed log) (version_of n (printed log)) o) (sym (ap (λ (z : PrimaryParts D). z.searchers.point) cuts.others)) was.point;
+    writer = cut_writer was.writer;
+    waiting = ap (λ (z : PrimaryParts D). z.waiting) cuts.others ∙ was.waiting;
+    accepted = ap (λ (z : PrimaryParts D). z.accepted) cuts.others ∙ was.accepted;
+    uncut = λ none. absurd (omega (arith, none, started));
+    calm = λ none. absurd (omega (arith, none, started));
+    flight = subst (λ (o : Option At). FlightShows log o q.publish q.segs) (sym calm) (ap (λ (z : PrimaryParts D). z.publish) cuts.others ∙ subst (λ (o : Option At). FlightShows log o p.publish p.segs) calm was.flight);
+  }
+
+  pub cut_place : (held : Vec Held Global) → PlaceShows cells log n (record { node = Primary p; held = held }) → PlaceShows cells log n (record { node = Primary q; held = held })
+  cut_place held was = record {
+    node_shows = cut_primary was.node_shows;
+    tickets = subst (λ (ts : List (Open Shown)). HoldsTickets (printed log) n ts held.items) (sym (ap (λ (z : PrimaryParts D). z.searchers.tickets) cuts.others)) was.tickets;
+  }
+
+-- ---- merges
+
+none_numbered : (m : Merging) (n : ℕ) (ms : List Merging) → m.task.seg.0 ≡ n → AllByRecursion (λ x. AreOtherMerges x m) ms → merge_of n ms ≡ None
+none_numbered m n [] number all = refl
+none_numbered m n (x ∷ ms) number all =
+    by_test (x.task.seg.0 == n) (λ b. (x.task.seg.0 == n) ≡ b → (if b then Some x else merge_of n ms) ≡ None)
+    (λ here e. absurd (all.0.number (eqb-true x.task.seg.0 n e ∙ sym number)))
+    (λ apart e. none_numbered m n ms number all.1)
+    refl
+
+-- without the one of a number none of it is left
+pub none_left : (n : ℕ) (ms : List Merging) (m : Merging) → AreApartMerges ms → merge_of n ms ≡ Some m → merge_of n (merges_without n ms) ≡ None
+none_left n ms m apart found = none_numbered m n (merges_without n ms) (number_of n ms m found) (others_at n ms m apart found)
+
+-- the primary's merges beside the rows without the merge that was cut over, whose copy state was given back
+pub cut_merges : {D : Type 0} (log : Log) (was now : Bool) (jobs count : Out → ℕ) (rows : List OpenMerge) (seg : SegNo) (row : OpenMerge) (s : Spread) (p q : PrimaryParts D) (m : Merging) → open_merge seg.0 rows ≡ Some row → row.spread ≡ Some s
+    → merge_of seg.0 p.merges ≡ Some m → AreApartMerges p.merges → is_out (out_of s.state) p.states ≡ true → q.merges ≡ merges_without seg.0 p.merges → q.states ≡ states_without (out_of s.state) p.states → q.has_cut_over ≡ now
+    → ((o : Out) → count o ≤ jobs o) → PrimaryMerges log was jobs rows p → PrimaryMerges log now count (without_merge seg.0 rows) q
+cut_merges log was now jobs count rows seg row s p q m there some found apart out merges states cut low stand = record {
+  cut_over = cut;
+  merges = λ k. subst (λ (ms : List Merging). AreMergedAlike log (merge_of k ms) (open_merge k (without_merge seg.0 rows))) (sym merges) (alike_closed log p.merges rows seg.0 (none_left seg.0 p.merges m apart found) stand.merges k);
+  outs = λ o.
+      let less = spreads_without o rows seg.0 row there in
+      let one : one_like o (out_at row.spread) ≡ one_like o (Some (out_of s.state)) = ap (λ (x : Option Spread). one_like o (out_at x)) some in
+      let back = states_back o (out_of s.state) p.states out in
+      let now' : states_like o q.states ≡ states_like o (states_without (out_of s.state) p.states) = ap (states_like o) states in
+      let were = stand.outs o in
+      let fewer = low o in
+      omega (arith, less, one, back, now', were, fewer);
+}

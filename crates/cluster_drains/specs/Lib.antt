@@ -1,0 +1,2 @@
+pub mod MergePaths
+pub mod Running

@@ -1,0 +1,3 @@
+pub mod ReadyFiles
+pub mod WrittenStand
+pub mod SendSteps
