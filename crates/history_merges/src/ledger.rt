@@ -71,15 +71,6 @@ impl Ledger {
         &self.book
     }
 
-    /// Whether a merge was cut over since the last point: then fewer publishes than merges added nothing.
-    pub fn has_cut(&self) -> bool
-        ensures is { result ≡ self.now.cut }
-        ensures owed { result ≡ true
-            → idle_publishes (printed self.now.log) < merges_started (printed self.now.log) }
-    {
-        self.merges.has_cut()
-    }
-
     /// Makes room for this many entries, and for one line, one ticket, one job and one merge more.
     pub fn reserve(&mut self, count: usize) -> Result<(), AllocError>
         ensures log { self.new.log ≡ self.old.log }
@@ -279,9 +270,11 @@ impl Ledger {
         self.merges.get(seg)
     }
 
-    /// Whether a merge was cut over since the last point.
+    /// Whether a merge was cut over since the last point: then fewer publishes than merges added nothing.
     pub fn has_cut(&self) -> bool
-        ensures { result ≡ self.now.cut }
+        ensures is { result ≡ self.now.cut }
+        ensures owed { result ≡ true
+            → idle_publishes (printed self.now.log) < merges_started (printed self.now.log) }
     {
         self.merges.has_cut()
     }
