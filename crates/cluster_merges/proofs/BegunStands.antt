@@ -1,5 +1,5 @@
 -- A merge that starts: what is true of merges once its inputs are handed out and its task is posted.
-use Rattle.std.proofs.Common.{◌≡◌, ◌≢◌, ◌<◌, ◌+◌, ◌==◌, ◌++◌, ◌||◌, ℕ, Bool, true, false, true≢false, List, [], ◌∷◌, Some, None, Option, Vec, Global, refl, ap, ◌∙◌, sym, subst, arith, if◌then◌else◌}
+use Rattle.std.proofs.Common.{◌≡◌, ◌≢◌, ◌<◌, ◌≤◌, ◌+◌, ◌==◌, ◌++◌, ◌||◌, ℕ, Bool, true, false, true≢false, List, [], ◌∷◌, Some, None, Option, Vec, Global, refl, ap, ◌∙◌, sym, subst, arith, if◌then◌else◌}
 use Rattle.std.specs.Prelude.{IsSomeAnd, ⊤}
 use Rattle.std.specs.List.{All}
 use Rattle.std.proofs.lemmas.Bool.{eq-eqb, eqb-true, ltb-true}
@@ -11,6 +11,7 @@ use Rattle.nrt_base.specs.declared.numbers.SegNo.{SegNo}
 use Rattle.disk_model.specs.Disk.{Cells}
 use Rattle.seg_reader.specs.Shown.{Shown}
 use Rattle.seg_merge.specs.declared.task.MergeTask.{MergeTask}
+use Rattle.seg_merge.specs.declared.task.Merged.{Merged}
 use Rattle.copy_job.specs.Jobs.{Job}
 use Rattle.history_entries.specs.declared.entry.Event.{Event}
 use Rattle.history_entries.specs.declared.entry.Event.TheVariants.{Merging as MergingEvent}
@@ -151,7 +152,7 @@ module _ {D : Type 0} (cells : D → Cells) (size : ℕ) (log : Log) (cut : Bool
   is_row = record {
     inputs = ap (λ (k : SegNo). inputs_out k.0 now) number ∙ (out ∙ ap (λ (t : MergeTask). Some t.inputs) (sym task_is));
     task = task_is ∙ (of ∙ λ i. merge_task (number' i) (inputs' i));
-    written = subst (λ (o : Option _). AreWrittenAlike o None) (sym unmade) tt;
+    written = subst (λ (o : Option Merged). AreWrittenAlike o None) (sym unmade) tt;
   }
     where
       number' : seg ≡ m.task.seg
@@ -169,7 +170,7 @@ module _ {D : Type 0} (cells : D → Cells) (size : ℕ) (log : Log) (cut : Bool
     merges = λ k. subst (λ (ms : List Merging). AreMergedAlike now (merge_of k ms) (open_merge k (board.rows ++ row ∷ []))) (sym merges)
         (alike_begun now p.merges board.rows m row (ap (λ (x : SegNo). x.0) (sym number)) is_row fresh (λ j. alike_more log now stays (merge_of j p.merges) (open_merge j board.rows) (mine.merges j)) k);
     outs = λ s.
-        let was' = mine.outs s in
+        let was' : jobs_like old s size + spreads_like s board.rows ≤ states_like s p.states = mine.outs s in
         let more : spreads_like s (board.rows ++ row ∷ []) ≡ spreads_like s board.rows + one_like s None = spreads_end s board.rows row in
         let states : states_like s q.states ≡ states_like s p.states = ap (λ (z : PrimaryParts D). states_like s z.states) is in
         let jobs = low s in
