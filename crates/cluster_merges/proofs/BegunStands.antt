@@ -55,18 +55,19 @@ use Rattle.cluster_merges.proofs.BegunShows.{starting, merge_drawn, HasStarted}
 
 started_drawn : (size seg : ℕ) (past : Past) → IsLegalPast size past → StartWithNames past → has_started seg past ≡ true → is_drawn seg past ≡ true
 started_drawn size seg [] legal low is = absurd (true≢false (sym is))
-started_drawn size seg (e ∷ past) legal low is = by e.at e.event legal.0 low.0 is
+started_drawn size seg (e ∷ past) legal low is = by e.at e.event (started_drawn size seg past legal.1 low.1) legal.0 low.0 is
   where
-    before : (at : At) (x : Event) → KeepsRule size past at x → has_started seg past ≡ true → is_drawn seg (record { at = at; event = x } ∷ past) ≡ true
-    before at x rule was = (grows_shown size past at x legal.1 rule).drawn seg (started_drawn size seg past legal.1 low.1 was)
+    before : (at : At) (x : Event) → (has_started seg past ≡ true → is_drawn seg past ≡ true) → KeepsRule size past at x → has_started seg past ≡ true → is_drawn seg (record { at = at; event = x } ∷ past) ≡ true
+    before at x older rule was = (grows_shown size past at x legal.1 rule).drawn seg (older was)
 
-    by : (at : At) (x : Event) → KeepsRule size past at x → elim x [ MergingEvent s ↦ names_drawn past < segments_of_generation | _ ↦ ⊤ ] → (starts_merge seg x || has_started seg past) ≡ true → is_drawn seg (record { at = at; event = x } ∷ past) ≡ true
-    by at (MergingEvent s) rule names is =
+    by : (at : At) (x : Event) → (has_started seg past ≡ true → is_drawn seg past ≡ true) → KeepsRule size past at x → elim x [ MergingEvent s ↦ names_drawn past < segments_of_generation | _ ↦ ⊤ ] → (starts_merge seg x || has_started seg past) ≡ true
+        → is_drawn seg (record { at = at; event = x } ∷ past) ≡ true
+    by at (MergingEvent s) older rule names is =
         by_test (s.0 == seg) (λ b. (s.0 == seg) ≡ b → (b || has_started seg past) ≡ true → is_drawn seg (starting at s ∷ past) ≡ true)
         (λ here e got. subst (λ (k : ℕ). is_drawn k (starting at s ∷ past) ≡ true) (sym rule.next ∙ eqb-true s.0 seg e) (merge_drawn past at s names))
-        (λ apart e got. before at (MergingEvent s) rule got)
+        (λ apart e got. before at (MergingEvent s) older rule got)
         refl is
-    by at x rule names is = before at x rule is
+    by at x older rule names is = before at x older rule is
 
 next_undrawn : (past : Past) → names_drawn past < segments_of_generation → is_drawn (next_name past) past ≡ true → ⊥
 next_undrawn past low is =

@@ -87,12 +87,12 @@ module _ {D : Type 0} where
   sizes_found (Some y ∷ places) zero z p is there apart =
       let same : ◌≡◌ {A = Place D} y z = cc in
       ap (λ (x : Node D). elim x [ Primary q ↦ merge_sizes q | Replica r ↦ sizes_in places | Down d ↦ sizes_in places ]) (ap (λ (x : Place D). x.node) same ∙ there)
-  sizes_found (Some y ∷ places) (suc k) z p is there apart = by y.node (apart zero (omega arith))
+  sizes_found (Some y ∷ places) (suc k) z p is there apart = by y.node (apart zero (omega arith)) (sizes_found places k z p is there (λ j low. apart (suc j) (omega (arith, low))))
     where
-      by : (x : Node D) → is_beside x → elim x [ Primary q ↦ merge_sizes q | Replica r ↦ sizes_in places | Down d ↦ sizes_in places ] ≡ merge_sizes p
-      by (Primary q) none = absurd none
-      by (Replica r) none = sizes_found places k z p is there (λ j low. apart (suc j) (omega (arith, low)))
-      by (Down d) none = sizes_found places k z p is there (λ j low. apart (suc j) (omega (arith, low)))
+      by : (x : Node D) → is_beside x → sizes_in places ≡ merge_sizes p → elim x [ Primary q ↦ merge_sizes q | Replica r ↦ sizes_in places | Down d ↦ sizes_in places ] ≡ merge_sizes p
+      by (Primary q) none found = absurd none
+      by (Replica r) none found = found
+      by (Down d) none found = found
 
   beside_primary : (cells : D → Cells) (log : Log) (m : ℕ) (o : Option (Place D)) → is_at (primary_of (printed log)) m ≡ false → IsSomeAnd o (PlaceShows cells log m) → is_none_beside o
   beside_primary cells log m None away none = tt
