@@ -1,1 +1,3 @@
 pub mod CutStands
+pub mod CutFiles
+pub mod CutPaths
