@@ -20,7 +20,7 @@ use Rattle.primary_parts.specs.declared.states.Merging.{Merging}
 use Rattle.primary_parts.specs.declared.states.Out.{Out}
 use Rattle.primary_parts.specs.Merges.{merge_names, merge_loose, merges_without}
 use Rattle.primary_parts.specs.States.{out_of, state_names, same_out, states_without}
-use Rattle.primary_parts.specs.Primary.{IsPrimary, primary_names, rest_names, publish_loose, rest_loose, loose_of}
+use Rattle.primary_parts.specs.Primary.{IsPrimary, primary_names, publish_loose, rest_loose, loose_of}
 use Rattle.primary_parts.proofs.Keeping.{states_split}
 use Rattle.primary_parts.proofs.MergeLists.{loose_without, names_split}
 use Rattle.replica_parts.specs.Sources.{HeldReadAs}

@@ -8,7 +8,7 @@ use Rattle.nrt_base.specs.declared.numbers.At.{At}
 use Rattle.nrt_base.specs.declared.numbers.LineNo.{LineNo}
 use Rattle.nrt_base.specs.declared.numbers.NodeNo.{NodeNo}
 use Rattle.nrt_base.specs.declared.numbers.SegNo.{SegNo}
-use Rattle.disk_model.specs.Disk.{Name, Content, Cells}
+use Rattle.disk_model.specs.Disk.{Cells}
 use Rattle.segment_infos.specs.declared.infos.Infos.{Infos}
 use Rattle.seg_merge.specs.declared.task.Merged.{Merged}
 use Rattle.primary_parts.specs.declared.parts.Parts.{Parts as PrimaryParts}
@@ -20,10 +20,9 @@ use Rattle.history_entries.specs.Nodes.{IsNode, is_at, primary_of}
 use Rattle.history_entries.specs.Lines.{publish_in_flight}
 use Rattle.history_entries.specs.Tasks.{merge_count}
 use Rattle.history_book.specs.Log.{Log, printed, kept}
-use Rattle.history_book.specs.declared.inner.Inner.{Inner}
 use Rattle.history_book.specs.declared.inner.Inner.TheVariants.{MergeEnd, TaskEnd}
 use Rattle.history_book.specs.declared.inner.Step.TheVariants.{Cut as CutStep}
-use Rattle.history_merges.specs.Merging.{Sheet, merge_on, cut_after}
+use Rattle.history_merges.specs.Merging.{Sheet, merge_on}
 use Rattle.cluster_tasks.specs.declared.tasks.OpenMerge.{OpenMerge}
 use Rattle.cluster_tasks.specs.declared.tasks.Posted.{Posted}
 use Rattle.cluster_tasks.specs.declared.tasks.Sent.{Sent}
@@ -36,14 +35,13 @@ use Rattle.cluster_places.specs.declared.nodes.Node.TheVariants.{Primary, Replic
 use Rattle.cluster_places.specs.declared.nodes.Place.{Place}
 use Rattle.cluster_places.specs.Places.{place_of}
 use Rattle.cluster_places.specs.Outs.{one_like, states_like, jobs_like}
-use Rattle.cluster_places.specs.JobPlaces.{MovesOne}
 use Rattle.cluster_places.proofs.OutCounts.{jobs_same, is_there, one_self, states_back}
 use Rattle.node_merges.specs.MergeChanges.{MayCut, CutsMerge}
 use Rattle.node_merges.specs.MergePlaces.{IsPrimaryIn, MovesPrimary}
 use Rattle.cluster_state.specs.Run.{Run}
 use Rattle.cluster_state.specs.State.{FlightShows, NodeShows, PlaceShows, Shows}
 use Rattle.cluster_state.specs.Files.{FilesShow}
-use Rattle.cluster_state.specs.Merging.{AreWrittenAlike, AreMergedAlike, out_at, spreads_like, IsFitKind, PrimaryMerges, NodeMerges, MergesStand}
+use Rattle.cluster_state.specs.Merging.{AreWrittenAlike, AreMergedAlike, out_at, spreads_like, IsFitKind, PrimaryMerges, NodeMerges}
 use Rattle.cluster_state.proofs.Frames.{some_at, slot_of}
 use Rattle.cluster_state.proofs.FileFrames.{some_both, one_each, wants_same, files_still}
 use Rattle.cluster_state.proofs.JobMoves.{shows_put, shows_kept}
