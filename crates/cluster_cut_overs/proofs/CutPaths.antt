@@ -273,7 +273,7 @@ module _ {D : Type 0} (cells : D → Cells) (r : Run) (old : List (Option (Place
           },
         )
           where
-            abbrev sheet : Sheet
+            sheet : Sheet
             sheet = record b0 { log = now; cut = true }
 
             reigns : primary_of (printed b0.log) ≡ None → ⊥
