@@ -108,8 +108,8 @@ out_by rows seg jobs states row s there some low =
 -- ---- the call
 
 module _ {D : Type 0} (cells : D → Cells) (r : Run) (old : List (Option (Place D))) (b0 : Sheet) (board : Board) (p : NodeNo) (seg : SegNo) {ended cut : Bool} {calls : List ℕ} {sizes : List (Option ℕ)}
-  (view : record { ended = ended; nodes = b0.nodes; log = b0.log; rest = record { calls_left = calls; cut = cut; sizes = sizes; tasks = board } } ≡ r) (running : r.ended ≡ false) (all : ended ≡ false → AllShown cells b0 board old)
-  (node : IsNode r.nodes p.0) (primary : primary_of (printed r.log) ≡ Some p) (copied : is_copied (spread_at (open_merge seg.0 r.rest.tasks.rows)) ≡ true) (calm : publish_in_flight (printed r.log) ≡ None) where
+    (view : record { ended = ended; nodes = b0.nodes; log = b0.log; rest = record { calls_left = calls; cut = cut; sizes = sizes; tasks = board } } ≡ r) (running : r.ended ≡ false) (all : ended ≡ false → AllShown cells b0 board old)
+    (node : IsNode r.nodes p.0) (primary : primary_of (printed r.log) ≡ Some p) (copied : is_copied (spread_at (open_merge seg.0 r.rest.tasks.rows)) ≡ true) (calm : publish_in_flight (printed r.log) ≡ None) where
   was : AllShown cells b0 board old
   was = all (ap (λ (x : Run). x.ended) view ∙ running)
 
@@ -214,7 +214,7 @@ module _ {D : Type 0} (cells : D → Cells) (r : Run) (old : List (Option (Place
           outs others cuts.moves node0 cuts.at.there was.0 was.1
 
       module _ (b1 b2 b3 : Sheet) (after : Board) (line : LineNo) (taker : Option At) (e1 : b1.log ≡ b0.log) (n1 : b1.nodes ≡ b0.nodes) (e2 : b2.log ≡ kept (MergeEnd seg) ∷ b1.log) (n2 : b2.nodes ≡ b1.nodes) (c2 : b2.cut ≡ true)
-        (e3 : b3.log ≡ kept (TaskEnd line seg taker CutStep true) ∷ b2.log) (n3 : b3.nodes ≡ b2.nodes) (c3 : b3.cut ≡ b2.cut) (rows : after.rows ≡ without_merge seg.0 board.rows) (posted : after.posted ≡ board.posted) where
+          (e3 : b3.log ≡ kept (TaskEnd line seg taker CutStep true) ∷ b2.log) (n3 : b3.nodes ≡ b2.nodes) (c3 : b3.cut ≡ b2.cut) (rows : after.rows ≡ without_merge seg.0 board.rows) (posted : after.posted ≡ board.posted) where
         abbrev over : Log
         over = kept (MergeEnd seg) ∷ b0.log
 
