@@ -12,7 +12,7 @@ use Rattle.history_entries.specs.Lines.{publish_in_flight}
 use Rattle.history_book.specs.Log.{printed, shown}
 use Rattle.history_book.specs.Jobs.{job_at}
 use Rattle.cluster_tasks.specs.TaskLog.{counted_for}
-use Rattle.cluster_tasks.specs.Board.{open_merge, spread_at, is_sent_to, is_copied}
+use Rattle.cluster_tasks.specs.Board.{open_merge, spread_at, has_copy_task, is_copied}
 use Rattle.cluster_places.specs.declared.tasks.FileTask.{FileTask}
 use Rattle.cluster_state.specs.Run.{Run}
 use Rattle.cluster_drains.specs.MergePaths.{IsBoard, IsAsBefore, BeginsMerge, HandsMergedFile, EndsCopyTask, CutsOver}
@@ -41,14 +41,14 @@ EndsCopyOnce line seg by n job old new false = IsAsBefore old new
 
 -- the merge into the segment has no task of this kind that has not ended, and nothing has changed; or it goes on
 abbrev pub PrecopyTurns : LineNo → SegNo → Option At → NodeNo → ℕ → Run → Run → Turn FileTask → Type 0
-PrecopyTurns line seg by n job old new (Work file) = (is_sent_to n.0 job (spread_at (open_merge seg.0 old.rest.tasks.rows)) ≡ true) × HandsMergedFile line n job old new file
-PrecopyTurns line seg by n job old new Busy = (is_sent_to n.0 job (spread_at (open_merge seg.0 old.rest.tasks.rows)) ≡ true) × IsSome (job_at n.0 old.log) × IsAsBefore old new
-PrecopyTurns line seg by n job old new Done = EndsCopyOnce line seg by n job old new (is_sent_to n.0 job (spread_at (open_merge seg.0 old.rest.tasks.rows)))
+PrecopyTurns line seg by n job old new (Work file) = (has_copy_task n.0 job (spread_at (open_merge seg.0 old.rest.tasks.rows)) ≡ true) × HandsMergedFile line n job old new file
+PrecopyTurns line seg by n job old new Busy = (has_copy_task n.0 job (spread_at (open_merge seg.0 old.rest.tasks.rows)) ≡ true) × IsSome (job_at n.0 old.log) × IsAsBefore old new
+PrecopyTurns line seg by n job old new Done = EndsCopyOnce line seg by n job old new (has_copy_task n.0 job (spread_at (open_merge seg.0 old.rest.tasks.rows)))
 
 -- a part has come for a copy whose task has not ended, or has ended
 abbrev pub PartTurns : SegNo → NodeNo → ℕ → Run → Run → Turn Unit → Type 0
-PartTurns seg n job old new (Work w) = IsAsBefore old new × (is_sent_to n.0 job (spread_at (open_merge seg.0 old.rest.tasks.rows)) ≡ true)
-PartTurns seg n job old new Done = IsAsBefore old new × (is_sent_to n.0 job (spread_at (open_merge seg.0 old.rest.tasks.rows)) ≡ false)
+PartTurns seg n job old new (Work w) = IsAsBefore old new × (has_copy_task n.0 job (spread_at (open_merge seg.0 old.rest.tasks.rows)) ≡ true)
+PartTurns seg n job old new Done = IsAsBefore old new × (has_copy_task n.0 job (spread_at (open_merge seg.0 old.rest.tasks.rows)) ≡ false)
 PartTurns seg n job old new Busy = ⊥
 
 -- the merge was cut over, or was to be cut over no more

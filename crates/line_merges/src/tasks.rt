@@ -101,7 +101,7 @@ pub fn precopy_next<D: FaultDir + Drop>(
     ensures ok { IfOk result (PrecopyTurns line seg by n job state.old state.new) }
     ensures err { OnErr result (IsEnded state.old state.new) }
 {
-    if !state.tasks.is_sent(seg, n, job) {
+    if !state.tasks.has_copy_task(seg, n, job) {
         return Ok(Turn::Done);
     }
     let Some(p) = state.primary() else {
@@ -129,7 +129,7 @@ pub fn precopy_arrived<D: FaultDir + Drop>(
     ensures ok { IfOk result (PartTurns seg n job state.old state.new) }
     ensures err { OnErr result (IsEnded state.old state.new) }
 {
-    if !state.tasks.is_sent(seg, n, job) {
+    if !state.tasks.has_copy_task(seg, n, job) {
         return Ok(Turn::Done);
     }
     take_merged(state, seg, n, job, part)?;
