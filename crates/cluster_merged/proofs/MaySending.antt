@@ -43,7 +43,7 @@ use Rattle.cluster_state.proofs.Lasting.{part_lasts, unheld}
 use Rattle.cluster_state.proofs.Wider.{meta_at_source}
 use Rattle.cluster_merged.proofs.ReadyFiles.{counts_split}
 
-nothing : {A : Type 0} (x : A) → None ≡ Some x → ⊥
+pub nothing : {A : Type 0} (x : A) → None ≡ Some x → ⊥
 nothing x e = absurd (cc)
 
 -- ---- each of the copies that run has its number
@@ -93,7 +93,7 @@ module _ (names : List Name) (source : Name → Content) (none : (q : Name) → 
       by (suc k) is = absurd (apart q some (omega (arith, is)))
 
   -- what the job of a replica wants means something
-  job_apart : (log : Log) (n : ℕ) (o : Option Job) (p : Option PointJob) → JobShows source log n o p → IfSome p (λ j. SharesNone (meta_names j.copy.want.files) names)
+  pub job_apart : (log : Log) (n : ℕ) (o : Option Job) (p : Option PointJob) → JobShows source log n o p → IfSome p (λ j. SharesNone (meta_names j.copy.want.files) names)
   job_apart log n None None shows = tt
   job_apart log n None (Some j) shows = absurd shows
   job_apart log n (Some job) None shows = tt
@@ -104,7 +104,7 @@ module _ (names : List Name) (source : Name → Content) (none : (q : Name) → 
 
   module _ {D : Type 0} (cells : D → Cells) (r : ReplicaParts D) (whole : IsWholeReplica cells r) where
     -- what is pending is held
-    pending_apart : ((q : Name) → 0 < times names q → IsLasting q) → HeldReadAs source (cells r.dir) r.files → SharesNone (meta_names r.copies.pending.files) names
+    pub pending_apart : ((q : Name) → 0 < times names q → IsLasting q) → HeldReadAs source (cells r.dir) r.files → SharesNone (meta_names r.copies.pending.files) names
     pending_apart lasting held = shares_none (meta_names r.copies.pending.files) (λ q pends some.
         let free : count_of r.files q ≡ 0 = unheld source (cells r.dir) r.files (replica_names r) r.commits whole.node held q (lasting q some) (none q some) in
         let counts = whole.node.counts q in
@@ -114,7 +114,7 @@ module _ (names : List Name) (source : Name → Content) (none : (q : Name) → 
         absurd (omega (arith, free, counts, a, b, c, pends)))
 
     -- what its copies want is held at the primary
-    copies_apart : (rows : List OpenMerge) (n : ℕ) → ((seg : ℕ) (s : Spread) → spread_at (open_merge seg rows) ≡ Some s → (q : Name) → 0 < times (meta_names s.state.files) q → 0 < times names q → ⊥)
+    pub copies_apart : (rows : List OpenMerge) (n : ℕ) → ((seg : ℕ) (s : Spread) → spread_at (open_merge seg rows) ≡ Some s → (q : Name) → 0 < times (meta_names s.state.files) q → 0 < times names q → ⊥)
         → AreSentCopies rows n r.copies.running → AllByRecursion (λ c. SharesNone (meta_names c.want.files) names) r.copies.running
     copies_apart rows n others sent = all_numbered (λ c. SharesNone (meta_names c.want.files) names) r.copies.running whole.merges.apart (λ k c at.
         let was = sent k c at in
