@@ -1,5 +1,5 @@
 -- The files of a merged segment mean nothing before they are written, so no job, no copy and no pending file of a replica has their names.
-use Rattle.std.proofs.Common.{◌≡◌, ◌≤◌, ◌<◌, ◌+◌, ◌==◌, ◌++◌, inr, ℕ, zero, suc, Bool, true, false, List, [], ◌∷◌, Some, None, Option, refl, ap, ◌∙◌, sym, subst, arith, if◌then◌else◌}
+use Rattle.std.proofs.Common.{◌≡◌, ◌<◌, ◌+◌, ◌==◌, inr, ℕ, zero, suc, Bool, true, false, List, [], ◌∷◌, Some, None, Option, refl, ap, ◌∙◌, sym, subst, arith, if◌then◌else◌}
 use Rattle.std.specs.Prelude.{IfSome}
 use Rattle.std.specs.List.{AllByRecursion, Contains}
 use Rattle.std.proofs.lemmas.Bool.{lt-ltb, eqb-true, eq-eqb}
@@ -20,7 +20,7 @@ use Rattle.primary_parts.specs.declared.states.Merging.{Merging}
 use Rattle.primary_parts.specs.Held.{part}
 use Rattle.primary_parts.specs.Merges.{merge_of, IsMade, IsMadeBy, IsMerging}
 use Rattle.primary_parts.specs.Written.{names_of}
-use Rattle.primary_parts.specs.Primary.{publish_loose, rest_loose, loose_of, IsUnwritten, IsPrimary, primary_names}
+use Rattle.primary_parts.specs.Primary.{publish_loose, rest_loose, loose_of, IsUnwritten, IsPrimary}
 use Rattle.primary_parts.proofs.Drawing.{drawn_small}
 use Rattle.primary_parts.proofs.MergeLists.{all_at as merge_has, loose_at, unfilled_at, names_split}
 use Rattle.primary_merges.proofs.MergedFiles.{part_among, merged_names}
@@ -38,7 +38,7 @@ use Rattle.cluster_tasks.specs.declared.tasks.OpenMerge.{OpenMerge}
 use Rattle.cluster_tasks.specs.declared.tasks.Spread.{Spread}
 use Rattle.cluster_tasks.specs.Board.{open_merge, spread_at}
 use Rattle.cluster_state.specs.Files.{JobShows}
-use Rattle.cluster_state.specs.Merging.{AreWrittenAlike, IsStateOfMerged, IsMergeOfRow, AreMergedAlike, AreSentCopies}
+use Rattle.cluster_state.specs.Merging.{AreWrittenAlike, IsStateOfMerged, AreMergedAlike, AreSentCopies}
 use Rattle.cluster_state.proofs.Lasting.{part_lasts, unheld}
 use Rattle.cluster_state.proofs.Wider.{meta_at_source}
 use Rattle.cluster_merged.proofs.ReadyFiles.{counts_split}

@@ -1,7 +1,7 @@
 -- Copies of a merged segment that begin at one replica after the other.
 use Rattle.std.proofs.Common.{◌≡◌, ◌≤◌, ◌<◌, ◌+◌, ◌==◌, ℕ, Bool, false, List, [], ◌∷◌, ◌++◌, map, Some, Option, length, take, get_or, refl, ap, ◌∙◌, sym, subst, arith, if◌then◌else◌}
 use Rattle.std.specs.Prelude.{IsSome, is_some, IsSomeAnd}
-use Rattle.std.specs.List.{All, AllPairs}
+use Rattle.std.specs.List.{All}
 use Rattle.std.proofs.lemmas.Bool.{ne_eqb}
 use Rattle.std.proofs.lemmas.List.{map-append, get_or_default, take_all, take_more}
 use Rattle.nrt_base.specs.declared.numbers.NodeNo.{NodeNo}
