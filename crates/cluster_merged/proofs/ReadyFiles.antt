@@ -54,11 +54,11 @@ module _ {D : Type 0} (cells : D → Cells) where
     where
       plus_none : (k : ℕ) → k + 0 ≡ 0 + k
       plus_none k = omega arith
-  states_pushed (x ∷ ss) s name =
-      let more = states_pushed ss s name in
-      let a = times-append x.names (state_names (ss ++ s ∷ [])) name in
-      let b = times-append x.names (state_names ss) name in
-      omega (arith, more, a, b)
+  states_pushed (x ∷ ss) s name = sums (times (x.names ++ state_names (ss ++ s ∷ [])) name) (times x.names name) (times (state_names (ss ++ s ∷ [])) name) (times (x.names ++ state_names ss) name) (times (state_names ss) name) (times s.names name)
+      (times-append x.names (state_names (ss ++ s ∷ [])) name) (states_pushed ss s name) (times-append x.names (state_names ss) name)
+    where
+      sums : (all first rest before others last : ℕ) → all ≡ first + rest → rest ≡ others + last → before ≡ first + others → all ≡ before + last
+      sums all first rest before others last a more b = omega (arith, a, more, b)
 
   -- who holds a file of the primary's
   pub counts_split : (z : PrimaryParts D) → IsPrimary cells z → (name : Name)
