@@ -1,5 +1,5 @@
 -- A merge that is written and sent, in the terms of the call.
-use Rattle.std.proofs.Common.{◌≡◌, ◌≢◌, ◌≤◌, ◌<◌, ◌+◌, ◌==◌, ◌++◌, ◌∷◌, [], ℕ, Bool, true, false, true≢false, List, map, length, get_or, Some, None, Option, Vec, Global, refl, ap, ◌∙◌, sym, subst, arith, if◌then◌else◌}
+use Rattle.std.proofs.Common.{◌≡◌, ◌≢◌, ◌≤◌, ◌<◌, ◌+◌, ◌==◌, ◌^◌, ◌++◌, ◌∷◌, [], ℕ, Bool, true, false, true≢false, List, map, length, get_or, Some, None, Option, Vec, Global, refl, ap, ◌∙◌, sym, subst, arith, if◌then◌else◌}
 use Rattle.std.specs.Prelude.{not, is_some, IsSome, IsSomeAnd, IfSome}
 use Rattle.std.specs.List.{AllByRecursion}
 use Rattle.std.proofs.lemmas.Bool.{eq-eqb}
@@ -10,6 +10,7 @@ use Rattle.nrt_base.specs.declared.numbers.LineNo.{LineNo}
 use Rattle.nrt_base.specs.declared.numbers.NodeNo.{NodeNo}
 use Rattle.nrt_base.specs.declared.numbers.SegNo.{SegNo}
 use Rattle.disk_model.specs.Disk.{Name, Content, Cells}
+use Rattle.file_deleter.specs.Holdings.{times}
 use Rattle.copy_state.specs.declared.state.CopyState.{CopyState}
 use Rattle.copy_state.specs.States.{meta_names, IsCopyState}
 use Rattle.seg_merge.specs.declared.task.MergeTask.{MergeTask}
