@@ -1,4 +1,4 @@
-use Rattle.std.proofs.Common.{◌≡◌, ◌≤◌, ◌+◌, take}
+use Rattle.std.proofs.Common.{◌≡◌, ◌≤◌, ◌+◌, length, take}
 use Rattle.cluster_drains.specs.MergePaths.{begun_log}
 use Rattle.cluster_merged.proofs.writes.note_begun.Given as goal
 
@@ -8,4 +8,5 @@ invariant-loop-s l = record {
   nodes : l.ledger.nodes ≡ l.initial.ledger.nodes;
   cut : l.ledger.cut ≡ l.initial.ledger.cut;
   room : l.initial.ledger.room ≤ l.ledger.room + l.s-index;
+  within : l.s-index ≤ length l.sent;
 }
