@@ -71,11 +71,11 @@ last_or [] j k c is = by (j.number == k) refl is
     by : (b : Bool) → (j.number == k) ≡ b → (if b then Some j else None) ≡ Some c → (copy_at k [] ≡ Some c) ⊎ ((j.number ≡ k) × (j ≡ c))
     by true here at = inr (eqb-true j.number k here, cc)
     by false apart at = absurd (cc)
-last_or (x ∷ xs) j k c is = by (x.number == k) is
+last_or (x ∷ xs) j k c is = by (last_or xs j k c) (x.number == k) is
   where
-    by : (b : Bool) → (if b then Some x else copy_at k (xs ++ j ∷ [])) ≡ Some c → ((if b then Some x else copy_at k xs) ≡ Some c) ⊎ ((j.number ≡ k) × (j ≡ c))
-    by true at = inl at
-    by false at = last_or xs j k c at
+    by : (copy_at k (xs ++ j ∷ []) ≡ Some c → (copy_at k xs ≡ Some c) ⊎ ((j.number ≡ k) × (j ≡ c))) → (b : Bool) → (if b then Some x else copy_at k (xs ++ j ∷ [])) ≡ Some c → ((if b then Some x else copy_at k xs) ≡ Some c) ⊎ ((j.number ≡ k) × (j ≡ c))
+    by more true at = inl at
+    by more false at = more at
 
 -- the copies that a generation left were there
 seen_there : (seen generation : ℕ) (m : MergeCopies) (k : ℕ) (c : Job) → copy_at k (copies_seen seen generation m).running ≡ Some c → copy_at k m.running ≡ Some c
@@ -96,11 +96,11 @@ sent_last (s ∷ left) n job = ap (λ (b : Bool). ((s.node.0 == n.0) && (s.job =
 
 sent_before : (left : List Sent) (s : Sent) (n k : ℕ) → is_sent_in n k left ≡ true → is_sent_in n k (left ++ s ∷ []) ≡ true
 sent_before [] s n k is = absurd (true≢false (sym is))
-sent_before (x ∷ left) s n k is = by ((x.node.0 == n) && (x.job == k)) is
+sent_before (x ∷ left) s n k is = by (sent_before left s n k) ((x.node.0 == n) && (x.job == k)) is
   where
-    by : (b : Bool) → (b || is_sent_in n k left) ≡ true → (b || is_sent_in n k (left ++ s ∷ [])) ≡ true
-    by true at = refl
-    by false at = sent_before left s n k at
+    by : (is_sent_in n k left ≡ true → is_sent_in n k (left ++ s ∷ []) ≡ true) → (b : Bool) → (b || is_sent_in n k left) ≡ true → (b || is_sent_in n k (left ++ s ∷ [])) ≡ true
+    by more true at = refl
+    by more false at = more at
 
 module _ {D : Type 0} (cells : D → Cells) where
   replica_sent : (source : Name → Content) (log : Log) (n number : ℕ) (state : CopyState) (r s : ReplicaParts D) → SendsMerged cells state number r s → ReplicaFiles source cells log n r → ReplicaFiles source cells log n s
