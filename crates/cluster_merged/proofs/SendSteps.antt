@@ -1,6 +1,6 @@
 -- A copy of a merged segment that began at a replica: what is shown of nodes, of files and of merges is shown still.
 use Rattle.std.proofs.Common.{◌≡◌, ◌⊎◌, inl, inr, ◌≤◌, ◌<◌, ◌+◌, ◌==◌, ◌||◌, ◌&&◌, ℕ, Bool, true, false, true≢false, List, [], ◌∷◌, ◌++◌, Some, None, Option, Vec, Global, length, take, get_or, refl, ap, ◌∙◌, sym, subst, arith, nat_lt, if◌then◌else◌}
-use Rattle.std.specs.Prelude.{IsSome, IsSomeAnd}
+use Rattle.std.specs.Prelude.{IsSomeAnd}
 use Rattle.std.specs.List.{All, Contains}
 use Rattle.std.proofs.lemmas.Bool.{eqb-true, eq-eqb}
 use Rattle.std.proofs.lemmas.List.{take_more, take_all}
@@ -59,10 +59,6 @@ use Rattle.cluster_drains.specs.MergePaths.{begun_log}
 use Rattle.cluster_drains.specs.Running.{AllShown}
 use Rattle.cluster_drains.proofs.CopyRows.{IsSpreadRow, spread_row, node_copied}
 use Rattle.cluster_drains.proofs.InsideSteps.{all_is, inside_path, same_sent}
-
-pub some_of : {A : Type 0} {P : A → Type 0} (o : Option A) → IsSomeAnd o P → IsSome o
-some_of None none = absurd none
-some_of (Some x) is = refl
 
 -- a copy that is the last of a list, or one before it
 last_or : (xs : List Job) (j : Job) (k : ℕ) (c : Job) → copy_at k (xs ++ j ∷ []) ≡ Some c → (copy_at k xs ≡ Some c) ⊎ ((j.number ≡ k) × (j ≡ c))
