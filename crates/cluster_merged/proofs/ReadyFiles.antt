@@ -119,12 +119,12 @@ module _ {D : Type 0} (cells : D → Cells) where
     primary = was.primary;
     whole = w.whole;
     point = subst (λ (z : Point Shown). IsPointAt (printed log) (version_of n (printed log)) z) (sym (ap (λ (z : PrimaryParts D). z.searchers.point) w.others)) was.point;
-    writer = subst (λ (z : Infos × List Shown). WritesAt (printed log) z.0 z.1) (sym (ap (λ (z : PrimaryParts D). (z.infos, z.segs)) w.others)) was.writer;
+    writer = subst (λ (z : Infos × List Shown). WritesAt (printed log) z.0 z.1) (λ i. (sym (ap (λ (z : PrimaryParts D). z.infos) w.others) i, sym (ap (λ (z : PrimaryParts D). z.segs) w.others) i)) was.writer;
     waiting = ap (λ (z : PrimaryParts D). z.waiting) w.others ∙ was.waiting;
     accepted = ap (λ (z : PrimaryParts D). z.accepted) w.others ∙ was.accepted;
     uncut = λ none. ap (λ (z : PrimaryParts D). z.has_cut_over) w.others ∙ was.uncut none;
     calm = λ none. absurd (no_merge (sym (ap (λ (ms : List Merging). merge_of merged.files.seg.0 ms) (was.calm none)) ∙ w.merges.found));
-    flight = subst (λ (z : Option Publish × List Shown). FlightShows log (publish_in_flight (printed log)) z.0 z.1) (sym (ap (λ (z : PrimaryParts D). (z.publish, z.segs)) w.others)) was.flight;
+    flight = subst (λ (z : Option Publish × List Shown). FlightShows log (publish_in_flight (printed log)) z.0 z.1) (λ i. (sym (ap (λ (z : PrimaryParts D). z.publish) w.others) i, sym (ap (λ (z : PrimaryParts D). z.segs) w.others) i)) was.flight;
   }
     where
       no_merge : None ≡ Some w.merges.m → ⊥
