@@ -230,9 +230,9 @@ module _ {D : Type 0} (cells : D → Cells) (r : Run) (b : Sheet) (board : Board
         sent : AreSentCopies board.rows n r.copies.running
         sent = some_at (λ z. NodeMerges b.log b.cut (λ o. jobs_like old o b.nodes) board.rows n z.node) (place_of old n) (record { node = Replica r; held = held }) there (all.2.each n at)
 
-    module _ (copy : CopyState) (copied : copy ≡ state) (size : ℕ) (told : Log) (size_is : size ≡ b.nodes) (told_is : told ≡ b.log) (nodes : List NodeNo) (replicas : AreReplicas size (printed told) nodes) where
+    module _ (copy : CopyState) (copied : copy ≡ state) (size : ℕ) (told : Log) (size_is : size ≡ b.nodes) (told_is : told ≡ b.log) (listed nodes : List NodeNo) (nodes_are : nodes ≡ listed) (replicas : AreReplicas size (printed told) listed) where
       are : AreReplicas b.nodes (printed b.log) nodes
-      are = subst (λ (x : ℕ × Log). AreReplicas x.0 (printed x.1) nodes) (λ i. (size_is i, told_is i)) replicas
+      are = subst (λ (ns : List NodeNo). AreReplicas b.nodes (printed b.log) ns) (sym nodes_are) (subst (λ (x : ℕ × Log). AreReplicas x.0 (printed x.1) listed) (λ i. (size_is i, told_is i)) replicas)
 
       pub is_copy : IsCopyState copy
       is_copy = subst (λ (c : CopyState). IsCopyState c) (sym copied) moved.step.copy

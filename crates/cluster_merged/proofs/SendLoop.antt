@@ -77,10 +77,10 @@ module _ {D : Type 0} (cells : D → Cells) where
     pub shown : (b : Sheet) → state.primary_gen.0 ≡ generation_of (printed b.log) → All (λ n. IsNode b.nodes n.0) nodes → AllShown cells b board old → AllShown cells b after new
 
   module _ (seg : ℕ) (state : CopyState) (nodes : List NodeNo) (board : Board) (old : List (Option (Place D))) (may : MaySendAll state nodes old) (written : spread_at (open_merge seg board.rows) ≡ Some (spread_to state [])) where
-    pub none_yet : SendsUpTo seg state nodes 0 [] board board old old
-    none_yet = record {
-      to = refl;
-      rows = sym (with_same board.rows seg (Some (spread_to state [])) written);
+    pub none_yet : (sent : List Sent) → sent ≡ [] → SendsUpTo seg state nodes 0 sent board board old old
+    none_yet sent none = record {
+      to = ap (λ (l : List Sent). map (λ (s : Sent). s.node) l) none;
+      rows = sym (ap (λ (l : List Sent). with_spread seg (Some (spread_to state l)) board.rows) none ∙ with_same board.rows seg (Some (spread_to state [])) written);
       posted = refl;
       counts = refl;
       count = refl;

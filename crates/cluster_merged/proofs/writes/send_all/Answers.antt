@@ -5,7 +5,7 @@ use Rattle.cluster_merged.proofs.SendLoop.{is_spread, none_yet, row_there, may_n
 use Rattle.cluster_merged.proofs.writes.send_all.Goals as goal
 
 pub loop-n-init : goal.loop-n-init
-loop-n-init g c = none_yet g.D.Dir.cells c.args.seg.0 c.args.state.now c.args.nodes.now c.args.tasks.now c.args.places.now.items c.requires.may c.requires.written
+loop-n-init g c = none_yet g.D.Dir.cells c.args.seg.0 c.args.state.now c.args.nodes.now c.args.tasks.now c.args.places.now.items c.requires.may c.requires.written c.new-sent.result.items c.new-sent.ensures.items
 
 pub send_one-requires-clause-may : goal.send_one-requires-clause-may
 send_one-requires-clause-may g c = may_next g.D.Dir.cells c.args.seg.0 c.args.state.now c.args.nodes.now c.args.tasks.now c.args.places.now.items c.requires.may c.requires.written
