@@ -1,6 +1,6 @@
 -- A merge that is written and sent, in the terms of the call.
 use Rattle.std.proofs.Common.{◌≡◌, ◌≢◌, ◌≤◌, ◌<◌, ◌+◌, ◌==◌, ◌^◌, ◌++◌, ◌∷◌, [], ℕ, Bool, true, false, true≢false, List, map, length, get_or, Some, None, Option, Vec, Global, refl, ap, ◌∙◌, sym, subst, arith, if◌then◌else◌}
-use Rattle.std.specs.Prelude.{not, is_some, IsSome, IsSomeAnd, IfSome}
+use Rattle.std.specs.Prelude.{not, is_some, IsSome, IsSomeAnd, IfSome, Result, Ok, Err, OnErr}
 use Rattle.std.specs.List.{AllByRecursion}
 use Rattle.std.proofs.lemmas.Bool.{eq-eqb}
 use Rattle.std.proofs.lemmas.List.{length-map}
@@ -51,7 +51,7 @@ use Rattle.cluster_places.specs.JobChanges.{HasReplica}
 use Rattle.cluster_places.specs.Outs.{states_like, jobs_like}
 use Rattle.node_merges.specs.MergeChanges.{ReadiesMerge, MaySend}
 use Rattle.node_merges.specs.MergePlaces.{IsPrimaryIn, IsReplicaIn, MovesPrimary}
-use Rattle.cluster_state.specs.Run.{Run}
+use Rattle.cluster_state.specs.Run.{Rest, Run, IsEnded}
 use Rattle.cluster_state.specs.Settles.{AreReplicas}
 use Rattle.cluster_state.specs.State.{NodeShows, PrimaryShows, ReplicaShows, PlaceShows}
 use Rattle.cluster_state.specs.Files.{PrimaryFiles, ReplicaFiles, NodeFiles}
@@ -72,6 +72,14 @@ use Rattle.cluster_merged.proofs.ReplicaCount.{few_replicas}
 use Rattle.cluster_merged.proofs.SendLoop.{spread_with, is_spread}
 use Rattle.cluster_merged.proofs.SendSteps.{begun_all}
 use Rattle.cluster_merged.proofs.WrittenStand.{stand_written}
+
+-- ---- a call that found no memory
+
+-- before an entry was kept the history is as it was
+pub ended_before : {T E : Type 0} (result : Result T E) (r : Run) (b b1 : Sheet) {was : Bool} {rest left : Rest} → record { ended = was; nodes = b.nodes; log = b.log; rest = rest } ≡ r → b1.log ≡ b.log → b1.nodes ≡ b.nodes
+    → OnErr result (IsEnded r (record { ended = true; nodes = b1.nodes; log = b1.log; rest = left }))
+ended_before (Ok x) r b b1 view log nodes = tt
+ended_before (Err e) r b b1 view log nodes = record { ended = refl; nodes = nodes ∙ ap (λ (x : Run). x.nodes) view; log = log ∙ ap (λ (x : Run). x.log) view }
 
 -- ---- a merge of which nothing is written
 

@@ -1,7 +1,7 @@
 use Rattle.std.proofs.Common.{◌≡◌, List, length, ap, ◌∙◌, arith}
 use Rattle.cluster_tasks.specs.declared.tasks.Sent.{Sent}
 use Rattle.cluster_drains.specs.MergePaths.{begun_log}
-use Rattle.cluster_merged.proofs.ReadyPaths.{can_ready, open_there, is_copy, may_send_all, written_at, has_spread, as_many, ready_all, writes_merge}
+use Rattle.cluster_merged.proofs.ReadyPaths.{ended_before, can_ready, open_there, is_copy, may_send_all, written_at, has_spread, as_many, ready_all, writes_merge}
 use Rattle.cluster_merged.proofs.writes.ready_merge.Goals as goal
 
 pub ready_in-requires : goal.ready_in-requires
@@ -60,3 +60,12 @@ returns-clause-ok g c = writes_merge g.D.Dir.cells c.args.cluster.now c.cluster.
     c.write.new.self c.write.ensures.rows c.write.ensures.posted c.write.ensures.counts c.in_ok-sent.sent.items c.send_all.new.tasks c.send_all.new.places.items c.in_ok-sent.ensures
     c.args.line c.args.by c.reserve.new.self c.note_begun.new.ledger c.keep.new.self c.in_ok-reserve.ensures.log c.in_ok-reserve.ensures.nodes c.in_ok-reserve.ensures.cut (c.note_begun.ensures.log ∙ ap (λ (l : List Sent). begun_log c.args.line l c.reserve.new.self.log) c.as_slice-2.ensures.value) c.note_begun.ensures.nodes c.note_begun.ensures.cut
     c.keep.ensures.log c.keep.ensures.nodes c.keep.ensures.cut c.post.new.self c.count.new.self c.in_ok-post.ensures.rows c.in_ok-post.ensures.posted c.post.ensures.counts c.count.ensures.rows c.count.ensures.posted c.in_ok-count.ensures.counts
+
+pub returns-in_err-sent-clause-err : goal.returns-in_err-sent-clause-err
+returns-in_err-sent-clause-err g c = ended_before c.from_residual-in_err-sent.result c.args.cluster.now c.cluster.inside.ledger c.reserve.new.self c.cluster.view_is c.in_ok-reserve.ensures.log c.in_ok-reserve.ensures.nodes
+
+pub returns-in_err-post-clause-err : goal.returns-in_err-post-clause-err
+returns-in_err-post-clause-err g c = ended_before c.from_residual-in_err-post.result c.args.cluster.now c.cluster.inside.ledger c.reserve.new.self c.cluster.view_is c.in_ok-reserve.ensures.log c.in_ok-reserve.ensures.nodes
+
+pub returns-in_err-count-clause-err : goal.returns-in_err-count-clause-err
+returns-in_err-count-clause-err g c = ended_before c.from_residual-in_err-count.result c.args.cluster.now c.cluster.inside.ledger c.reserve.new.self c.cluster.view_is c.in_ok-reserve.ensures.log c.in_ok-reserve.ensures.nodes
