@@ -47,7 +47,7 @@ module _ {D : Type 0} (cells : D → Cells) (Step : Infos → CommitBook → Com
   commit_leaves (Down d) y alters jobs count low = absurd alters
 
   module _ (r : Run) (ended : Bool) (b0 b1 : Sheet) (board : Board) (old new : List (Option (Place D))) (n : ℕ) {rest : Rest} (view : record { ended = ended; nodes = b0.nodes; log = b0.log; rest = rest } ≡ r)
-    (e1 : b1.log ≡ b0.log) (n1 : b1.nodes ≡ b0.nodes) (c1 : b1.cut ≡ b0.cut) (node : IsNode r.nodes n) (commits : CommitsIn Step cells n old new) (was : MergesStand b0.log b0.cut b0.nodes board old) where
+      (e1 : b1.log ≡ b0.log) (n1 : b1.nodes ≡ b0.nodes) (c1 : b1.cut ≡ b0.cut) (node : IsNode r.nodes n) (commits : CommitsIn Step cells n old new) (was : MergesStand b0.log b0.cut b0.nodes board old) where
     all_leave : KeepAllMerges b0.nodes old new
     all_leave = one_keeps b0.nodes board b0.log b0.cut old new n (record { node = commits.node; held = commits.place.held }) commits.place commits.moves (asked_size (λ (k : ℕ). IsNode k n) view refl node) commits.there
         (commit_want commits.place.node commits.node commits.place.held commits.alters) (commit_leaves commits.place.node commits.node commits.alters) was
@@ -57,5 +57,5 @@ module _ {D : Type 0} (cells : D → Cells) (Step : Infos → CommitBook → Com
     commit_stands = stand_same board old new b0 b1 e1 n1 c1 all_leave was
 
     -- and where an entry was
-    pub commit_shows : (b2 : Sheet) (at : At) (e : Event) → b2.log ≡ shown at e ∷ b1.log → b2.nodes ≡ b1.nodes → b2.cut ≡ b1.cut → leaves_merges e (primary_of (printed b0.log)) ≡ true → MergesStand b2.log b2.cut b2.nodes board new
-    commit_shows b2 at e e2 n2 c2 leaves = stand_shown board old new b0 b1 b2 at e e1 n1 c1 e2 n2 c2 leaves all_leave was
+    pub commit_shown : (b2 : Sheet) (at : At) (e : Event) → b2.log ≡ shown at e ∷ b1.log → b2.nodes ≡ b1.nodes → b2.cut ≡ b1.cut → leaves_merges e (primary_of (printed b0.log)) ≡ true → MergesStand b2.log b2.cut b2.nodes board new
+    commit_shown b2 at e e2 n2 c2 leaves = stand_shown board old new b0 b1 b2 at e e1 n1 c1 e2 n2 c2 leaves all_leave was

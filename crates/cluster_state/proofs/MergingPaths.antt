@@ -17,7 +17,7 @@ use Rattle.primary_parts.specs.declared.states.Out.{Out}
 use Rattle.primary_parts.specs.Merges.{merge_of}
 use Rattle.replica_parts.specs.declared.merges.MergeCopies.{MergeCopies}
 use Rattle.replica_parts.specs.declared.parts.Parts.{Parts as ReplicaParts}
-use Rattle.replica_parts.specs.Merges.{copy_at, CopyApart, AreCopiesApart, no_copies}
+use Rattle.replica_parts.specs.Merges.{copy_at, copies_without, CopyApart, AreCopiesApart, no_copies}
 use Rattle.replica_parts.proofs.Merging.{number_at, all_at}
 use Rattle.replica_precopies.specs.Overlapping.{overlaps, copies_beside}
 use Rattle.history_entries.specs.declared.entry.Event.{Event}
@@ -85,6 +85,33 @@ beside_at names (x ∷ xs) apart k c at = left (beside_at names xs apart.1 k c) 
         let held = more got in
         absurd ((all_at (CopyApart x) k xs c held apart.0).numbers (eqb-true x.number k e ∙ sym (number_at k xs c held)))
     left more false false e got = more got
+
+-- a copy that is left once one has ended ran
+pub at_without : (number : ℕ) (cs : List Job) (k : ℕ) (c : Job) → AreCopiesApart cs → copy_at k (copies_without number cs) ≡ Some c → copy_at k cs ≡ Some c
+at_without number [] k c apart at = at
+at_without number (x ∷ xs) k c apart at = by (x.number == number) (x.number == k) refl (λ there. at_without number xs k c apart.1 there) at
+  where
+    by : (b t : Bool) → (x.number == k) ≡ t → (copy_at k (copies_without number xs) ≡ Some c → copy_at k xs ≡ Some c) → copy_at k (if b then xs else x ∷ copies_without number xs) ≡ Some c → (if t then Some x else copy_at k xs) ≡ Some c
+    by true true e more got = absurd ((all_at (CopyApart x) k xs c got apart.0).numbers (eqb-true x.number k e ∙ sym (number_at k xs c got)))
+    by true false e more got = got
+    by false true e more got = sym (ap (λ (u : Bool). if u then Some x else copy_at k (copies_without number xs)) e) ∙ got
+    by false false e more got = more (sym (ap (λ (u : Bool). if u then Some x else copy_at k (copies_without number xs)) e) ∙ got)
+
+-- and the one that ended does not run
+pub gone_without : (number : ℕ) (cs : List Job) → AreCopiesApart cs → copy_at number (copies_without number cs) ≡ None
+gone_without number cs apart = by (copy_at number (copies_without number cs)) refl
+  where
+    first : (xs : List Job) → AreCopiesApart xs → (c : Job) → copy_at number (copies_without number xs) ≡ Some c → ⊥
+    first [] apart c at = absurd (cc)
+    first (x ∷ xs) apart c at = tests (x.number == number) refl at (λ d there. first xs apart.1 d there)
+      where
+        tests : (b : Bool) → (x.number == number) ≡ b → copy_at number (if b then xs else x ∷ copies_without number xs) ≡ Some c → ((d : Job) → copy_at number (copies_without number xs) ≡ Some d → ⊥) → ⊥
+        tests true e got more = (all_at (CopyApart x) number xs c got apart.0).numbers (eqb-true x.number number e ∙ sym (number_at number xs c got))
+        tests false e got more = more c (sym (ap (λ (u : Bool). if u then Some x else copy_at number (copies_without number xs)) e) ∙ got)
+
+    by : (o : Option Job) → copy_at number (copies_without number cs) ≡ o → copy_at number (copies_without number cs) ≡ None
+    by None e = e
+    by (Some c) e = absurd (first cs apart c e)
 
 -- what is left of the copies where a job of this state begins ran
 pub begun_runs : (seen : ℕ) (state : CopyState) (c : MergeCopies) → AreCopiesApart c.running → RunsNoOther c.running (copies_begun seen state c).running
@@ -163,8 +190,8 @@ module _ {D : Type 0} (cells : D → Cells) where
   -- ---- one place was taken out and put back
 
   module _ (board : Board) (r : Run) (ended : Bool) (b0 b1 : Sheet) (old mid new : List (Option (Place D))) (n : ℕ) (x y : Place D) {rest : Rest} (view : record { ended = ended; nodes = b0.nodes; log = b0.log; rest = rest } ≡ r)
-    (e1 : b1.log ≡ b0.log) (n1 : b1.nodes ≡ b0.nodes) (c1 : b1.cut ≡ b0.cut) (node : IsNode r.nodes n) (put : PutsBack cells old mid new n x) (there : place_of old n ≡ Some y) (want : want_at (Some x) ≡ want_at (Some y))
-    (keeps : (jobs count : Out → ℕ) → ((s : Out) → count s ≤ jobs s) → KeepsMerges jobs count y.node x.node) (was : MergesStand b0.log b0.cut b0.nodes board old) where
+      (e1 : b1.log ≡ b0.log) (n1 : b1.nodes ≡ b0.nodes) (c1 : b1.cut ≡ b0.cut) (node : IsNode r.nodes n) (put : PutsBack cells old mid new n x) (there : place_of old n ≡ Some y) (want : want_at (Some x) ≡ want_at (Some y))
+      (keeps : (jobs count : Out → ℕ) → ((s : Out) → count s ≤ jobs s) → KeepsMerges jobs count y.node x.node) (was : MergesStand b0.log b0.cut b0.nodes board old) where
     put_keeps : KeepAllMerges b0.nodes old new
     put_keeps = one_keeps b0.nodes board b0.log b0.cut old new n x y (put_one cells n x old mid new put) (asked_size (λ (k : ℕ). IsNode k n) view refl node) there want keeps was
 
@@ -179,7 +206,7 @@ module _ {D : Type 0} (cells : D → Cells) where
   -- ---- publishes and promotions
 
   module _ (size : ℕ) (log : Log) (cut : Bool) (board : Board) (old new : List (Option (Place D))) (n : ℕ) (q : PrimaryParts D) (held : Vec Held Global) (moves_one : MovesOne n (record { node = Primary q; held = held }) old new) (node : IsNode size n)
-    (shows : Shows cells log size old) (was : MergesStand log cut size board old) where
+      (shows : Shows cells log size old) (was : MergesStand log cut size board old) where
     abbrev jobs_was : Out → ℕ
     jobs_was s = jobs_like old s size
 
