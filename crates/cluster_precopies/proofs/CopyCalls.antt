@@ -1,5 +1,5 @@
 -- The next step of a copy of a merged segment, and a part that comes to one, in the terms of a call.
-use Rattle.std.proofs.Common.{◌≡◌, ◌++◌, ℕ, Bool, false, List, [], ◌∷◌, Some, None, Option, Vec, Global, is_some, refl, ap, ◌∙◌, sym, subst}
+use Rattle.std.proofs.Common.{◌≡◌, ◌++◌, ℕ, Bool, true, false, true≢false, List, [], ◌∷◌, Some, None, Option, Vec, Global, is_some, refl, ap, ◌∙◌, sym, subst}
 use Rattle.std.specs.Prelude.{IfSome, IsSome, IsSomeAnd}
 use Rattle.nrt_base.specs.declared.numbers.At.{At}
 use Rattle.nrt_base.specs.declared.numbers.LineNo.{LineNo}
@@ -40,7 +40,7 @@ use Rattle.cluster_precopies.specs.declared.precopies.CopyTurn.{CopyTurn}
 use Rattle.cluster_precopies.specs.declared.precopies.CopyTurn.TheVariants.{Waits, Hands, Ends}
 use Rattle.cluster_precopies.specs.CopyTurns.{StepsCopyTo, TurnsCopy}
 use Rattle.cluster_precopies.proofs.MovedCopies.{copies_path, taken_moves}
-use Rattle.cluster_precopies.proofs.CopyFacts.{slot_here, whole_here, sent_here, copy_here, copy_drawn, carried_meta}
+use Rattle.cluster_precopies.proofs.CopyFacts.{at_replica, slot_here, whole_here, sent_here, copy_here, copy_drawn, carried_meta}
 
 -- ---- the next step
 
@@ -152,9 +152,7 @@ module _ {D : Type 0} (cells : D → Cells) (b : Sheet) (board : Board) (places 
 
         -- what stands there is the replica whose copy runs
         same_copy : (r : ReplicaParts D) (held : Vec Held Global) → place_of places n.0 ≡ Some (record { node = Replica r; held = held }) → copy_at number r.copies.running ≡ Some t.copy
-        same_copy r held there =
-            some_at (λ (z : Place D). elim z.node [ Primary p ↦ ⊤ | Replica s ↦ copy_at number s.copies.running ≡ Some t.copy | Down d ↦ ⊤ ]) (Some (record { node = Replica t.parts; held = t.held })) (record { node = Replica r; held = held })
-            (sym t.there ∙ there) t.runs
+        same_copy r held there = at_replica (λ (q : ReplicaParts D). copy_at number q.copies.running ≡ Some t.copy) places n.0 t.parts r t.held held t.there there t.runs
 
         wanted : (r : ReplicaParts D) (held : Vec Held Global) → place_of places n.0 ≡ Some (record { node = Replica r; held = held }) → (o : Option Job) → copy_at number r.copies.running ≡ o
             → IfSome o (λ c. (m : FileMetaData) → meta_in c.want.files part.name ≡ Some m → m ≡ part.meta)
@@ -175,5 +173,4 @@ module _ {D : Type 0} (cells : D → Cells) (b : Sheet) (board : Board) (places 
         t = runs_there seg.0 number n.0 places runs
 
         at : copy_at number w.at.parts.copies.running ≡ Some t.copy
-        at = some_at (λ (z : Place D). elim z.node [ Primary p ↦ ⊤ | Replica s ↦ copy_at number s.copies.running ≡ Some t.copy | Down d ↦ ⊤ ]) (Some (record { node = Replica t.parts; held = t.held })) (record { node = Replica w.at.parts; held = w.at.held })
-            (sym t.there ∙ w.at.there) t.runs
+        at = at_replica (λ (q : ReplicaParts D). copy_at number q.copies.running ≡ Some t.copy) places n.0 t.parts w.at.parts t.held w.at.held t.there w.at.there t.runs

@@ -83,11 +83,15 @@ module _ {D : Type 0} where
       → IsStepAt seg number (place_of places n) step → IsStepOf seg number r step
   step_here places n seg number step r held there is = subst (λ (o : Option (Place D)). IsStepAt seg number o step) there is
 
-  -- no copy runs at the node under the number
-  abbrev pub IsWithoutCopy : ℕ → Node D → Type 0
-  IsWithoutCopy number (Primary p) = ⊤
-  IsWithoutCopy number (Replica r) = (c : Job) → copy_at number r.copies.running ≡ Some c → ⊥
-  IsWithoutCopy number (Down d) = ⊤
+  -- so it is of what stands there, where that is a replica
+  abbrev OfReplica : (ReplicaParts D → Type 0) → Node D → Type 0
+  OfReplica P (Primary p) = ⊤
+  OfReplica P (Replica r) = P r
+  OfReplica P (Down d) = ⊤
+
+  -- one replica stands there
+  pub at_replica : (P : ReplicaParts D → Type 0) (places : List (Option (Place D))) (n : ℕ) (r s : ReplicaParts D) (held kept : Vec Held Global) → place_of places n ≡ Some (record { node = Replica r; held = held }) → place_of places n ≡ Some (record { node = Replica s; held = kept }) → P r → P s
+  at_replica P places n r s held kept there here is = some_at (λ (z : Place D). OfReplica P z.node) (Some (record { node = Replica r; held = held })) (record { node = Replica s; held = kept }) (sym there ∙ here) is
 
 pub not_complete : Complete ≡ Gone → ⊥
 not_complete e = absurd (cc)

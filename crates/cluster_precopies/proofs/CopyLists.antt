@@ -3,40 +3,21 @@ use Rattle.std.proofs.Common.{◌≡◌, ◌==◌, ◌&&◌, ◌||◌, ℕ, Bool
 use Rattle.std.specs.Prelude.{not, IsSomeAnd}
 use Rattle.std.proofs.lemmas.Bool.{and_parts, eqb-true}
 use Rattle.copy_job.specs.Jobs.{Job}
-use Rattle.replica_parts.specs.Merges.{copy_at, copies_with, copies_without, CopyApart, AreCopiesApart}
-use Rattle.replica_parts.proofs.Merging.{number_at, all_at}
+use Rattle.replica_parts.specs.Merges.{copy_at, copies_with, copies_without, AreCopiesApart}
 use Rattle.cluster_tasks.specs.declared.tasks.Sent.{Sent}
 use Rattle.cluster_tasks.specs.Board.{is_sent_in, without_sent}
 use Rattle.cluster_state.specs.Merging.{RunsNoOther}
+use Rattle.cluster_state.proofs.MergingPaths.{at_without}
 
 -- ---- copies that run
-
--- the copy that was taken away is gone
-pub without_gone : (cs : List Job) (k : ℕ) (c : Job) → AreCopiesApart cs → copy_at k (copies_without k cs) ≡ Some c → ⊥
-without_gone [] k c apart at = absurd (cc)
-without_gone (x ∷ xs) k c apart at = by (without_gone xs k c apart.1) (x.number == k) refl at
-  where
-    by : (copy_at k (copies_without k xs) ≡ Some c → ⊥) → (b : Bool) → (x.number == k) ≡ b → copy_at k (if b then xs else x ∷ copies_without k xs) ≡ Some c → ⊥
-    by more true here held = (all_at (CopyApart x) k xs c held apart.0).numbers (eqb-true x.number k here ∙ sym (number_at k xs c held))
-    by more false other held = more (sym (ap (λ (t : Bool). if t then Some x else copy_at k (copies_without k xs)) other) ∙ held)
-
--- the others ran before
-pub without_there : (cs : List Job) (k j : ℕ) (c : Job) → AreCopiesApart cs → copy_at j (copies_without k cs) ≡ Some c → copy_at j cs ≡ Some c
-without_there [] k j c apart at = at
-without_there (x ∷ xs) k j c apart at = by (without_there xs k j c apart.1) (x.number == k) (x.number == j) refl at
-  where
-    by : (copy_at j (copies_without k xs) ≡ Some c → copy_at j xs ≡ Some c) → (b t : Bool) → (x.number == j) ≡ t → copy_at j (if b then xs else x ∷ copies_without k xs) ≡ Some c → (if t then Some x else copy_at j xs) ≡ Some c
-    by more true true here held = absurd ((all_at (CopyApart x) j xs c held apart.0).numbers (eqb-true x.number j here ∙ sym (number_at j xs c held)))
-    by more true false other held = held
-    by more false true here held = sym (ap (λ (t : Bool). if t then Some x else copy_at j (copies_without k xs)) here) ∙ held
-    by more false false other held = more (sym (ap (λ (t : Bool). if t then Some x else copy_at j (copies_without k xs)) other) ∙ held)
 
 same_want : (o : Option Job) (c : Job) → o ≡ Some c → IsSomeAnd o (λ d. c.want ≡ d.want)
 same_want None c is = absurd (cc)
 same_want (Some d) c is = let same : d ≡ c = cc in ap (λ (j : Job). j.want) (sym same)
 
+-- those that are left once one has ended ran before
 pub without_runs : (cs : List Job) (k : ℕ) → AreCopiesApart cs → RunsNoOther cs (copies_without k cs)
-without_runs cs k apart j c at = same_want (copy_at j cs) c (without_there cs k j c apart at)
+without_runs cs k apart j c at = same_want (copy_at j cs) c (at_without k cs j c apart at)
 
 -- one that took a part is of the copy state that it was
 pub with_runs : (cs : List Job) (k : ℕ) (c d : Job) → copy_at k cs ≡ Some c → d.number ≡ k → d.want ≡ c.want → RunsNoOther cs (copies_with k d cs)

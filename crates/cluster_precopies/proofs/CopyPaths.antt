@@ -37,16 +37,16 @@ use Rattle.cluster_state.proofs.Frames.{some_at}
 use Rattle.cluster_state.proofs.FileFrames.{files_one, this_place}
 use Rattle.cluster_state.proofs.JobFrames.{job_stays}
 use Rattle.cluster_state.proofs.JobMoves.{primary_place, shows_put}
+use Rattle.cluster_state.proofs.MergingPaths.{gone_without}
 use Rattle.cluster_state.proofs.MergingStill.{one_keeps, primary_keeps, stand_same}
 use Rattle.cluster_state.proofs.Naming.{holds_same}
 use Rattle.cluster_state.specs.State.{PlaceShows}
 use Rattle.cluster_drains.specs.Running.{AllShown}
 use Rattle.cluster_drains.proofs.InsideSteps.{same_carried, inside_all, each_still}
 use Rattle.cluster_precopies.specs.CopyTurns.{SettlesCopyOf, HandsCopyFile}
-use Rattle.cluster_precopies.proofs.CopyLists.{without_gone}
 use Rattle.cluster_precopies.proofs.EndedCopies.{IsCopyGone, end_path}
 use Rattle.cluster_precopies.proofs.MovedCopies.{copies_path, settled_left, settled_moves}
-use Rattle.cluster_precopies.proofs.CopyFacts.{IsWithoutCopy, step_here, whole_here, copy_here, copy_drawn, NextOfCopy, next_file, read_means, read_meta, read_footer}
+use Rattle.cluster_precopies.proofs.CopyFacts.{step_here, at_replica, whole_here, copy_here, copy_drawn, NextOfCopy, next_file, read_means, read_meta, read_footer}
 
 -- ---- what is handed out of merged files
 
@@ -161,6 +161,8 @@ module _ {D : Type 0} (cells : D → Cells) where
 
             gone : IsCopyGone cells seg.0 n.0 job board.rows new
             gone t there z held here d at_d want =
-                some_at (λ (q : Place D). IsWithoutCopy job q.node) (Some (record { node = Replica s; held = w.moves.at.held })) (record { node = Replica z; held = held })
-                (sym (this_place n.0 (record { node = Replica s; held = w.moves.at.held }) old new w.moves.moves) ∙ here)
-                (λ e at_e. without_gone r.copies.running job e whole.merges.apart (ap (copy_at job) (sym (settled_left cells job c r s at w.moves.step)) ∙ at_e)) d at_d
+                at_replica (λ (q : ReplicaParts D). (e : Job) → copy_at job q.copies.running ≡ Some e → ⊥) new n.0 s z w.moves.at.held held (this_place n.0 (record { node = Replica s; held = w.moves.at.held }) old new w.moves.moves) here
+                (λ e at_e. none_there e (sym (gone_without job r.copies.running whole.merges.apart) ∙ (ap (copy_at job) (sym (settled_left cells job c r s at w.moves.step)) ∙ at_e))) d at_d
+
+            none_there : (e : Job) → None ≡ Some e → ⊥
+            none_there e is = absurd (cc)
