@@ -30,6 +30,7 @@ with_runs (x ∷ xs) k c d at number want j e is = by (x.number == k) (x.number 
     by : (b t u : Bool) → (x.number == k) ≡ b → (x.number == j) ≡ t → (d.number == j) ≡ u → (if b then Some x else copy_at k xs) ≡ Some c → copy_at j (if b then d ∷ xs else x ∷ copies_with k d xs) ≡ Some e
         → (copy_at k xs ≡ Some c → copy_at j (copies_with k d xs) ≡ Some e → IsSomeAnd (copy_at j xs) (λ f. e.want ≡ f.want)) → IsSomeAnd (if t then Some x else copy_at j xs) (λ f. e.want ≡ f.want)
     by true true true here mine his found held more =
+        let was : ◌≡◌ {A = Option Job} (Some x) (Some c) = found in
         let one : x ≡ c = cc in
         let got : ◌≡◌ {A = Option Job} (Some d) (Some e) = sym (ap (λ (t : Bool). if t then Some d else copy_at j xs) his) ∙ held in
         let same : d ≡ e = cc in

@@ -134,7 +134,7 @@ module _ (source : Name → Content) (seg : ℕ) (s : Spread) (w : IsWrittenMerg
       by (f ∷ fs) is =
           let all : f.0 ∷ meta_names fs ≡ part_names seg = ap meta_names (sym is) ∙ names in
           let first : f.0 ≡ part_name_of seg Docs = ap (λ (l : List Name). get_or l 0 []) all in
-          ap (λ (l : List (Name × FileMetaData)). elim l [ [] ↦ false | g ∷ gs ↦ same g.0 (part_name_of seg Docs) ]) is ∙ (ap (λ (q : Name). same q (part_name_of seg Docs)) first ∙ same_self (part_name_of seg Docs))
+          ap (λ (l : List (Name × FileMetaData)). is_copy_of seg (record c { want = record c.want { files = l } })) is ∙ (ap (λ (q : Name). same q (part_name_of seg Docs)) first ∙ same_self (part_name_of seg Docs))
 
 module _ {D : Type 0} (cells : D → Cells) where
   -- what copy states or merges name is counted

@@ -56,7 +56,8 @@ fn end_task(
 ) -> Result<(), NoMemory>
     requires room { 1 ≤ ledger.old.room }
     requires written { IsSome (spread_at (open_merge seg.0 tasks.old.rows)) }
-    ensures ok { OnOk result (EndsCopyOf line seg by n job ledger.old ledger.new tasks.old tasks.new) }
+    ensures ok { OnOk result (EndsCopyOf line seg by n job ledger.old ledger.new
+        tasks.old tasks.new) }
     ensures err { OnErr result (ledger.new ≡ ledger.old) }
 {
     tasks.settle(seg, line, n, job)?;
@@ -115,7 +116,8 @@ fn step_copy<D: FaultDir + Drop>(
     requires node { IsNode ledger.old.nodes n.0 }
     requires sent { has_copy_task n.0 job (spread_at (open_merge seg.0 tasks.old.rows)) ≡ true }
     ensures shown { OnOk result (AllShown D.cells ledger.new tasks.new places.new.items) }
-    ensures ok { IfOk result (StepsCopyTo line seg by n job ledger.old ledger.new tasks.old tasks.new) }
+    ensures ok { IfOk result (StepsCopyTo line seg by n job ledger.old ledger.new
+        tasks.old tasks.new) }
     ensures err { OnErr result (ledger.new ≡ ledger.old) }
 {
     match step_in(alloc, places, n, job, seg)? {
