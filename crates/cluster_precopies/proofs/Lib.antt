@@ -4,4 +4,4 @@ mod EndedCopies
 mod MovedCopies
 mod CopyFacts
 mod CopyPaths
-mod CopyCalls
+pub mod CopyCalls

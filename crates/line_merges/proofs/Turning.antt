@@ -20,10 +20,6 @@ use Rattle.cluster_drains.specs.MergePaths.{IsAsBefore, StartsMergeFor}
 use Rattle.line_turns.specs.Calls.{LineRefused}
 use Rattle.line_merges.specs.TaskCalls.{RefusesMerge, StartsAtPrimary, MergeLine}
 
--- nothing was done
-pub as_before : (r : Run) → r.ended ≡ false → IsAsBefore r r
-as_before r running = record { is = record { running = running; nodes = refl; log = refl }; rows_are = refl; posted_are = refl }
-
 -- ---- what stands of merges
 module _ {D : Type 0} (log : Log) (cut : Bool) (size : ℕ) (board : Board) (places : List (Option (Place D))) (stand : MergesStand log cut size board places) where
   -- without a primary no merge is in flight
