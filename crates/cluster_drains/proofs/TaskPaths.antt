@@ -24,7 +24,7 @@ use Rattle.cluster_state.specs.Merging.{IsFitKind, MergesStand}
 use Rattle.cluster_state.proofs.Frames.{noted}
 use Rattle.cluster_state.proofs.FileFrames.{files_noted}
 use Rattle.cluster_state.proofs.Turning.{past_has, fresh_turn, fresh_line}
-use Rattle.cluster_state.proofs.BookLaws.{apart_of}
+use Rattle.cluster_state.proofs.Growing.{not_flying}
 use Rattle.cluster_state.proofs.Disks.{fresh_flights}
 use Rattle.cluster_drains.specs.MergePaths.{IsBoard, IsAsBefore, HandsTask}
 use Rattle.cluster_drains.specs.Running.{AllShown}
@@ -124,6 +124,12 @@ module _ {D : Type 0} (cells : D → Cells) (r : Run) (places : List (Option (Pl
   fresh_now : IsFresh at (printed r.log)
   fresh_now = past_has (IsFresh at) r ended b0 view fresh
 
+  legal_now : IsLegalPast r.nodes (printed r.log)
+  legal_now = subst (λ (x : Run). IsLegalPast x.nodes (printed x.log)) view legal
+
+  turns_now : AreInTurn (printed r.log)
+  turns_now = past_has AreInTurn r ended b0 view turns
+
   pub drain_rule : KeepsRule r.nodes (printed r.log) at (Drained done most)
   drain_rule = subst (λ (x : Run). KeepsRule x.nodes (printed x.log) at (Drained done most)) view (record {
     few = subst (λ (k : ℕ). drained_count (printed b0.log) + k ≤ (b0.nodes + 1) * merge_count (printed b0.log)) (sym same_count) (may_drain_most b0.nodes b0.log board at none_yet (all_at view running all).2.tasks);
@@ -139,7 +145,7 @@ module _ {D : Type 0} (cells : D → Cells) (r : Run) (places : List (Option (Pl
   )
     where
       apart : publish_in_flight (printed r.log) ≢ Some at
-      apart = apart_of r ended b0 at view legal turns (fresh_line (printed r.log) at fresh_now)
+      apart = not_flying r.nodes (printed r.log) at legal_now turns_now (fresh_line (printed r.log) at fresh_now)
 
       flights : (m : ℕ) → commit_in_flight m (printed r.log) ≢ Some at
-      flights = fresh_flights r.nodes (printed r.log) at (subst (λ (x : Run). IsLegalPast x.nodes (printed x.log)) view legal) (past_has AreInTurn r ended b0 view turns) fresh_now.begun
+      flights = fresh_flights r.nodes (printed r.log) at legal_now turns_now fresh_now.begun

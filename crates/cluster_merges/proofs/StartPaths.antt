@@ -1,7 +1,6 @@
 -- A merge that starts, and one that does not, in the terms of the call.
-use Rattle.std.proofs.Common.{◌≡◌, ◌≢◌, ◌≤◌, ◌<◌, ◌+◌, ◌==◌, ◌++◌, ℕ, zero, suc, Bool, true, false, true≢false, List, [], ◌∷◌, map, length, Some, None, Option, Ok, Err, Result, Vec, Global, slice_get, refl, ap, ◌∙◌, sym, subst, arith}
-use Rattle.std.specs.Prelude.{IsSomeAnd, IfSome, ⊤}
-use Rattle.std.specs.Result.{IfOk}
+use Rattle.std.proofs.Common.{◌≡◌, ◌≢◌, ◌≤◌, ◌<◌, ◌+◌, ◌==◌, ◌++◌, ℕ, zero, suc, Bool, true, false, true≢false, List, [], ◌∷◌, map, Some, None, Option, Ok, Err, Result, Vec, Global, slice_get, refl, ap, ◌∙◌, sym, subst, arith}
+use Rattle.std.specs.Prelude.{IsSomeAnd, IfSome, IfOk, ⊤}
 use Rattle.std.proofs.lemmas.Bool.{eq-eqb}
 use Rattle.std.proofs.lemmas.Bool.Decides.{nat_tests}
 use Rattle.std.proofs.lemmas.List.{length-map}
@@ -41,7 +40,7 @@ use Rattle.cluster_places.specs.declared.held.Held.{Held}
 use Rattle.cluster_places.specs.declared.nodes.Node.{Node}
 use Rattle.cluster_places.specs.declared.nodes.Node.TheVariants.{Primary, Replica, Down}
 use Rattle.cluster_places.specs.declared.nodes.Place.{Place}
-use Rattle.cluster_places.specs.Places.{place_of, HasPrimary, unwrapped}
+use Rattle.cluster_places.specs.Places.{place_of, unwrapped}
 use Rattle.cluster_places.specs.KeptFiles.{KeepsNodeFiles}
 use Rattle.cluster_places.proofs.TicketNodes.{node_alone}
 use Rattle.cluster_state.specs.Run.{Run}
@@ -88,12 +87,12 @@ module _ {D : Type 0} where
   sizes_found (Some y ∷ places) zero z p is there apart =
       let same : ◌≡◌ {A = Place D} y z = cc in
       ap (λ (x : Node D). elim x [ Primary q ↦ merge_sizes q | Replica r ↦ sizes_in places | Down d ↦ sizes_in places ]) (ap (λ (x : Place D). x.node) same ∙ there)
-  sizes_found (Some y ∷ places) (suc k) z p is there apart = by y.node (apart zero (omega arith))
+  sizes_found (Some y ∷ places) (suc k) z p is there apart = by y.node (apart zero (omega arith)) (sizes_found places k z p is there (λ j low. apart (suc j) (omega (arith, low))))
     where
-      by : (x : Node D) → is_beside x → elim x [ Primary q ↦ merge_sizes q | Replica r ↦ sizes_in places | Down d ↦ sizes_in places ] ≡ merge_sizes p
-      by (Primary q) none = absurd none
-      by (Replica r) none = sizes_found places k z p is there (λ j low. apart (suc j) (omega (arith, low)))
-      by (Down d) none = sizes_found places k z p is there (λ j low. apart (suc j) (omega (arith, low)))
+      by : (x : Node D) → is_beside x → sizes_in places ≡ merge_sizes p → elim x [ Primary q ↦ merge_sizes q | Replica r ↦ sizes_in places | Down d ↦ sizes_in places ] ≡ merge_sizes p
+      by (Primary q) none found = absurd none
+      by (Replica r) none found = found
+      by (Down d) none found = found
 
   beside_primary : (cells : D → Cells) (log : Log) (m : ℕ) (o : Option (Place D)) → is_at (primary_of (printed log)) m ≡ false → IsSomeAnd o (PlaceShows cells log m) → is_none_beside o
   beside_primary cells log m None away none = tt
@@ -114,6 +113,10 @@ module _ {D : Type 0} where
       apart j low = grind (arith, nat_tests, low)
 
 -- ---- the call
+
+-- what it answered
+pub told_ok : {T E : Type 0} (r : Result T E) (x y : T) → r ≡ Ok x → x ≡ y → r ≡ Ok y
+told_ok {T} {E} r x y is same = subst (λ (z : T). r ≡ Ok z) same is
 
 module _ {D : Type 0} (cells : D → Cells) (r : Run) (old new : List (Option (Place D))) (b0 b1 : Sheet) (board : Board) (at : At) (p : NodeNo) (factor : ℕ) (result : Result (Option MergeTask) PublishFault) {ended cut : Bool} {calls : List ℕ}
   (view : record { ended = ended; nodes = b0.nodes; log = b0.log; rest = record { calls_left = calls; cut = cut; sizes = sizes_in old; tasks = board } } ≡ r) (running : r.ended ≡ false) (all : ended ≡ false → AllShown cells b0 board old)
@@ -170,14 +173,17 @@ module _ {D : Type 0} (cells : D → Cells) (r : Run) (old new : List (Option (P
   answered : (x : Result (Option MergeTask) PublishFault) → result ≡ x → AnswersMerge factor q s x
   answered x is = subst (λ (y : Result (Option MergeTask) PublishFault). AnswersMerge factor q s y) is asked.step.answers
 
+  refused : (fault why : PublishFault) → result ≡ Err fault → fault ≡ why → AnswersMerge factor q s (Err why)
+  refused fault why is same = subst (λ (f : PublishFault). AnswersMerge factor q s (Err f)) same (answered (Err fault) is)
+
   pub not_many : (fault : PublishFault) → result ≡ Err fault → fault ≢ TooManySegments
-  not_many fault is many = answered (Err TooManySegments) (is ∙ ap Err many)
+  not_many fault is many = refused fault TooManySegments is many
 
   pub none_all : result ≡ Ok None → AllShown cells b1 board new
   none_all is = unasked_all (answered (Ok None) is).1
 
   pub spent_all : (fault : PublishFault) → result ≡ Err fault → fault ≡ Spent → AllShown cells b1 board new
-  spent_all fault is spent = unasked_all (answered (Err Spent) (is ∙ ap Err spent)).2
+  spent_all fault is spent = unasked_all (refused fault Spent is spent).2
 
   no_range : HasNoRange factor (merge_sizes q) → HasNoRange factor r.rest.sizes
   no_range none = subst (λ (l : List (Option ℕ)). HasNoRange factor l) (sym sizes) none
@@ -195,7 +201,7 @@ module _ {D : Type 0} (cells : D → Cells) (r : Run) (old new : List (Option (P
   pub spent_starts : (fault : PublishFault) (cause : Cause) → result ≡ Err fault → fault ≡ Spent → cause ≡ NamesSpent → {calls1 : List ℕ} {cut1 : Bool} {sizes1 : List (Option ℕ)}
       → StartsMergeFor at factor r (record { ended = false; nodes = b1.nodes; log = b1.log; rest = record { calls_left = calls1; cut = cut1; sizes = sizes1; tasks = board } }) (Some cause)
   spent_starts fault cause is spent named {calls1} {cut1} {sizes1} =
-      let all = answered (Err Spent) (is ∙ ap Err spent) in
+      let all = refused fault Spent is spent in
       subst (λ (c : Cause). StartsMergeFor at factor r (record { ended = false; nodes = b1.nodes; log = b1.log; rest = record { calls_left = calls1; cut = cut1; sizes = sizes1; tasks = board } }) (Some c)) (sym named)
       (as_before r b0 b1 board view e1 n1 board calls1 cut1 sizes1 refl refl, some_range all.0, all_drawn all.1)
 
@@ -227,7 +233,7 @@ module _ {D : Type 0} (cells : D → Cells) (r : Run) (old new : List (Option (P
     of = λ i. record { seg = task.seg; inputs = task.inputs; live = (starts.start.live_are ∙ ap (λ (l : List Shown). map (λ x. x.live) l) (sym starts.start.segs_are)) i }
 
     few : factor ≤ put_publishes (printed b0.log)
-    few = let within = starts.start.first.is.within in let puts = shows.writer.few in let count = length-map (size_by (merge_inputs q.merges)) q.infos.segs in omega (arith, within, puts, count)
+    few = let within = starts.start.first.is.within in let puts = shows.writer.few in let count = length-map q.infos.segs (size_by (merge_inputs q.merges)) in omega (arith, within, puts, count)
 
     pub merging_rule : MayStartMerge (printed b0.log) at task.seg
     merging_rule = record { running = λ none. some_none (sym primary0 ∙ none); next = next; spared = fresh.spared }
