@@ -47,7 +47,7 @@ module _ {D : Type 0} (cells : D → Cells) (Step : Infos → CommitBook → Com
   commit_leaves (Down d) y alters jobs count low = absurd alters
 
   module _ (r : Run) (ended : Bool) (b0 b1 : Sheet) (board : Board) (old new : List (Option (Place D))) (n : ℕ) {rest : Rest} (view : record { ended = ended; nodes = b0.nodes; log = b0.log; rest = rest } ≡ r)
-    (e1 : b1.log ≡ b0.log) (n1 : b1.nodes ≡ b0.nodes) (c1 : b1.cut ≡ b0.cut) (node : IsNode r.nodes n) (commits : CommitsIn Step cells n old new) (was : MergesStand b0.log b0.cut b0.nodes board old) where
+      (e1 : b1.log ≡ b0.log) (n1 : b1.nodes ≡ b0.nodes) (c1 : b1.cut ≡ b0.cut) (node : IsNode r.nodes n) (commits : CommitsIn Step cells n old new) (was : MergesStand b0.log b0.cut b0.nodes board old) where
     all_leave : KeepAllMerges b0.nodes old new
     all_leave = one_keeps b0.nodes board b0.log b0.cut old new n (record { node = commits.node; held = commits.place.held }) commits.place commits.moves (asked_size (λ (k : ℕ). IsNode k n) view refl node) commits.there
         (commit_want commits.place.node commits.node commits.place.held commits.alters) (commit_leaves commits.place.node commits.node commits.alters) was

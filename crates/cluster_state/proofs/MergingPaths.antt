@@ -190,8 +190,8 @@ module _ {D : Type 0} (cells : D → Cells) where
   -- ---- one place was taken out and put back
 
   module _ (board : Board) (r : Run) (ended : Bool) (b0 b1 : Sheet) (old mid new : List (Option (Place D))) (n : ℕ) (x y : Place D) {rest : Rest} (view : record { ended = ended; nodes = b0.nodes; log = b0.log; rest = rest } ≡ r)
-    (e1 : b1.log ≡ b0.log) (n1 : b1.nodes ≡ b0.nodes) (c1 : b1.cut ≡ b0.cut) (node : IsNode r.nodes n) (put : PutsBack cells old mid new n x) (there : place_of old n ≡ Some y) (want : want_at (Some x) ≡ want_at (Some y))
-    (keeps : (jobs count : Out → ℕ) → ((s : Out) → count s ≤ jobs s) → KeepsMerges jobs count y.node x.node) (was : MergesStand b0.log b0.cut b0.nodes board old) where
+      (e1 : b1.log ≡ b0.log) (n1 : b1.nodes ≡ b0.nodes) (c1 : b1.cut ≡ b0.cut) (node : IsNode r.nodes n) (put : PutsBack cells old mid new n x) (there : place_of old n ≡ Some y) (want : want_at (Some x) ≡ want_at (Some y))
+      (keeps : (jobs count : Out → ℕ) → ((s : Out) → count s ≤ jobs s) → KeepsMerges jobs count y.node x.node) (was : MergesStand b0.log b0.cut b0.nodes board old) where
     put_keeps : KeepAllMerges b0.nodes old new
     put_keeps = one_keeps b0.nodes board b0.log b0.cut old new n x y (put_one cells n x old mid new put) (asked_size (λ (k : ℕ). IsNode k n) view refl node) there want keeps was
 
@@ -206,7 +206,7 @@ module _ {D : Type 0} (cells : D → Cells) where
   -- ---- publishes and promotions
 
   module _ (size : ℕ) (log : Log) (cut : Bool) (board : Board) (old new : List (Option (Place D))) (n : ℕ) (q : PrimaryParts D) (held : Vec Held Global) (moves_one : MovesOne n (record { node = Primary q; held = held }) old new) (node : IsNode size n)
-    (shows : Shows cells log size old) (was : MergesStand log cut size board old) where
+      (shows : Shows cells log size old) (was : MergesStand log cut size board old) where
     abbrev jobs_was : Out → ℕ
     jobs_was s = jobs_like old s size
 

@@ -49,7 +49,7 @@ pub open_with : (rows : List OpenMerge) (seg : ℕ) (spread : Option Spread) (r 
 open_with [] seg spread r is s = absurd (cc)
 open_with (q ∷ rows) seg spread r is s =
     by_test (q.seg.0 == seg) (λ b. (if b then Some q else open_merge seg rows) ≡ Some r
-        → open_merge s (if b then record q { spread = spread } ∷ rows else q ∷ with_spread seg spread rows) ≡ (if seg == s then Some (record r { spread = spread }) else if q.seg.0 == s then Some q else open_merge s rows))
+    → open_merge s (if b then record q { spread = spread } ∷ rows else q ∷ with_spread seg spread rows) ≡ (if seg == s then Some (record r { spread = spread }) else if q.seg.0 == s then Some q else open_merge s rows))
     (λ here is. let same : q ≡ r = cc in let all : Some (record q { spread = spread }) ≡ Some (record r { spread = spread }) = ap (λ (z : OpenMerge). Some (record z { spread = spread })) same in grind (arith, nat_tests, here, all))
     (λ apart is. let rest = open_with rows seg spread r is s in grind (arith, nat_tests, apart, rest))
     is
@@ -107,7 +107,7 @@ pub due_with : (size : ℕ) (rows : List OpenMerge) (seg : ℕ) (spread : Option
 due_with size [] seg spread r is = absurd (cc)
 due_with size (q ∷ rows) seg spread r is =
     by_test (q.seg.0 == seg) (λ b. (if b then Some q else open_merge seg rows) ≡ Some r
-        → due_all size (if b then record q { spread = spread } ∷ rows else q ∷ with_spread seg spread rows) + due_of size r.spread ≡ due_all size (q ∷ rows) + due_of size spread)
+    → due_all size (if b then record q { spread = spread } ∷ rows else q ∷ with_spread seg spread rows) + due_of size r.spread ≡ due_all size (q ∷ rows) + due_of size spread)
     (λ here is. let same : q ≡ r = cc in let due : due_of size q.spread ≡ due_of size r.spread = ap (λ (z : OpenMerge). due_of size z.spread) same in omega (arith, due))
     (λ apart is. let rest = due_with size rows seg spread r is in omega (arith, rest))
     is
@@ -144,7 +144,7 @@ pub place_set : (rows : List OpenMerge) (seg : ℕ) (spread : Option Spread) (r 
 place_set [] seg spread r is = absurd (cc)
 place_set (q ∷ rows) seg spread r is =
     by_test (q.seg.0 == seg) (λ b. (if b then Some q else open_merge seg rows) ≡ Some r
-        → slice_set (q ∷ rows) (if b then 0 else suc (merge_at seg rows)) (record r { spread = spread }) ≡ (if b then record q { spread = spread } ∷ rows else q ∷ with_spread seg spread rows))
+    → slice_set (q ∷ rows) (if b then 0 else suc (merge_at seg rows)) (record r { spread = spread }) ≡ (if b then record q { spread = spread } ∷ rows else q ∷ with_spread seg spread rows))
     (λ here is. let same : q ≡ r = cc in ap (λ (z : OpenMerge). record z { spread = spread } ∷ rows) (sym same))
     (λ apart is. ap (λ (l : List OpenMerge). q ∷ l) (place_set rows seg spread r is))
     is

@@ -96,15 +96,15 @@ module _ {D : Type 0} where
   -- the cut-over and the end of its copy state in one
   pub cuts_over : (cells : D → Cells) (seg : SegNo) (state : CopyState) (old mid new : PrimaryParts D) → IsCutOver seg old mid → KeepsDocuments old mid
       → mid ≡ record old {
-          dir = mid.dir;
-          files = mid.files;
-          infos = mid.infos;
-          segs = mid.segs;
-          names = mid.names;
-          merges = mid.merges;
-          has_cut_over = mid.has_cut_over;
-          completed = mid.completed;
-        }
+        dir = mid.dir;
+        files = mid.files;
+        infos = mid.infos;
+        segs = mid.segs;
+        names = mid.names;
+        merges = mid.merges;
+        has_cut_over = mid.has_cut_over;
+        completed = mid.completed;
+      }
       → KeepsHeldBytes cells old mid → FillsUndrawn old mid → DrawsOnly old mid → AppearsOnly (IsOwnFile old.infos (loose_of old)) (cells old.dir) (cells mid.dir)
       → new.states ≡ states_without (out_of state) mid.states → new ≡ record mid { dir = new.dir; files = new.files; states = new.states } → KeepsHeldBytes cells mid new → HoldsNoNew mid new → NoneAppears (cells mid.dir) (cells new.dir)
       → IsPrimary cells new → CutsMerge cells seg state old new

@@ -201,11 +201,7 @@ pub fn take_merged_in<D: Dir + Drop>(
 }
 
 // The files of a copy of which nothing is missing are pending from now on.
-fn settle<D: Dir + Drop>(
-    alloc: Global,
-    replica: &mut Replica<D>,
-    job: u64,
-) -> Result<(), NoMemory>
+fn settle<D: Dir + Drop>(alloc: Global, replica: &mut Replica<D>, job: u64) -> Result<(), NoMemory>
     requires { MaySettle job replica.old }
     ensures { OnOk result (SettlesMerged D.cells job replica.old replica.new) }
 {

@@ -33,10 +33,10 @@ invariant_of-cluster-2 g c = λ running. (
       c.requires.node c.requires.replica c.requires.source c.requires.reached (told_of c.book-book.ensures.log newest_version c.newest.ensures) c.show.new.self c.show.ensures.log c.show.ensures.nodes
       c.show-2.new.self c.show-2.ensures.log c.show-2.ensures.nodes c.show.ensures.legal c.show.ensures.turns c.show-2.ensures.legal c.show-2.ensures.turns,
   (let was = third_at c.cluster.view_is c.requires.running c.cluster.invariant in
-  let begun = stand_shown c.cluster.inside.tasks _ _ c.cluster.inside.ledger c.reserve.new.self c.show.new.self c.args.at (Copying c.args.n (record { 0 = c.newest.result })) c.in_ok-reserve.ensures.log c.in_ok-reserve.ensures.nodes c.in_ok-reserve.ensures.cut
-  c.show.ensures.log c.show.ensures.nodes c.show.ensures.cut refl (all_keep _ c.cluster.inside.tasks _ _ _ was) was in
-  stand_shown c.cluster.inside.tasks _ _ c.show.new.self c.show.new.self c.show-2.new.self c.args.at (Copied c.args.n (record { 0 = c.newest.result })) refl refl refl c.show-2.ensures.log c.show-2.ensures.nodes c.show-2.ensures.cut refl
-  (all_keep _ c.cluster.inside.tasks _ _ _ begun) begun),
+      let begun = stand_shown c.cluster.inside.tasks _ _ c.cluster.inside.ledger c.reserve.new.self c.show.new.self c.args.at (Copying c.args.n (record { 0 = c.newest.result })) c.in_ok-reserve.ensures.log c.in_ok-reserve.ensures.nodes c.in_ok-reserve.ensures.cut
+      c.show.ensures.log c.show.ensures.nodes c.show.ensures.cut refl (all_keep _ c.cluster.inside.tasks _ _ _ was) was in
+      stand_shown c.cluster.inside.tasks _ _ c.show.new.self c.show.new.self c.show-2.new.self c.args.at (Copied c.args.n (record { 0 = c.newest.result })) refl refl refl c.show-2.ensures.log c.show-2.ensures.nodes c.show-2.ensures.cut refl
+      (all_keep _ c.cluster.inside.tasks _ _ _ begun) begun),
 )
 
 pub is_fresh-requires : goal.is_fresh-requires

@@ -117,8 +117,8 @@ invariant_of-cluster-2 g c = λ running.
           (λ jobs count low. primary_keeps jobs count c.primary_in-primary.result.0 c.publish_start-started.new.self (ap (λ (z : PrimaryParts _). z.merges) task.1) (ap (λ (z : PrimaryParts _). z.has_cut_over) task.1) (ap (λ (z : PrimaryParts _). z.states) task.1) low)
           (third_at c.cluster.view_is c.requires.running c.cluster.invariant)
           c.show_publishing.new.self c.args.at Publishing c.show_publishing.ensures.log c.show_publishing.ensures.nodes c.show_publishing.ensures.cut refl in
-      stand_kept c.cluster.inside.tasks _ _ c.show_publishing.new.self c.keep.new.self (FlushOut c.args.at c.in-Ok-Some.task.seg c.in-Ok.segs) c.keep.ensures.log c.keep.ensures.nodes c.keep.ensures.cut refl
-      (all_keep _ c.cluster.inside.tasks _ _ _ begun) begun),
+          stand_kept c.cluster.inside.tasks _ _ c.show_publishing.new.self c.keep.new.self (FlushOut c.args.at c.in-Ok-Some.task.seg c.in-Ok.segs) c.keep.ensures.log c.keep.ensures.nodes c.keep.ensures.cut refl
+          (all_keep _ c.cluster.inside.tasks _ _ _ begun) begun),
     )
 
 pub returns-clause-ok : goal.returns-clause-ok

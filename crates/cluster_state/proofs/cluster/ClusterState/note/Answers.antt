@@ -16,8 +16,8 @@ invariant_of-self-2 g c = λ running. (
       c.self.view_is c.requires.running (λ e. (c.self.invariant e).0) (λ e. (c.self.invariant e).1) c.in_ok-reserve.ensures.log c.in_ok-reserve.ensures.nodes c.show.ensures.log c.show.ensures.nodes
       c.show.ensures.legal c.show.ensures.turns c.requires.rule c.requires.turn c.requires.jobs c.requires.commits c.requires.flights,
   (let was = third_at c.self.view_is c.requires.running c.self.invariant in
-  stand_shown c.self.inside.tasks _ _ c.self.inside.ledger c.reserve.new.self c.show.new.self c.args.at c.args.event c.in_ok-reserve.ensures.log c.in_ok-reserve.ensures.nodes c.in_ok-reserve.ensures.cut
-  c.show.ensures.log c.show.ensures.nodes c.show.ensures.cut (still_leaves c.args.event _ c.requires.still c.requires.drains) (all_keep _ c.self.inside.tasks _ _ _ was) was),
+      stand_shown c.self.inside.tasks _ _ c.self.inside.ledger c.reserve.new.self c.show.new.self c.args.at c.args.event c.in_ok-reserve.ensures.log c.in_ok-reserve.ensures.nodes c.in_ok-reserve.ensures.cut
+      c.show.ensures.log c.show.ensures.nodes c.show.ensures.cut (still_leaves c.args.event _ c.requires.still c.requires.drains) (all_keep _ c.self.inside.tasks _ _ _ was) was),
 )
 
 pub show-requires-clause-rule : goal.show-requires-clause-rule

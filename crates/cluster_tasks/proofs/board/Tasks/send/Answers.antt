@@ -12,5 +12,5 @@ set_spread-requires c = taken_open c.self.inside.rows.items c.take_spread.new.ro
 
 pub returns-clause-rows : goal.returns-clause-rows
 returns-clause-rows c = sent_rows c.self.inside.rows.items c.take_spread.new.rows.items c.set_spread.new.rows.items c.args.seg.0 c.args.node c.args.job c.in-Some.spread c.push.new.self c.take_spread.ensures.rows c.in-Some.ensures.spread
-        c.in_ok-push.ensures.ok c.set_spread.ensures
+    c.in_ok-push.ensures.ok c.set_spread.ensures
     ∙ ap (λ (b : Board). with_spread c.args.seg.0 (sent_more c.args.node c.args.job (spread_at (open_merge c.args.seg.0 b.rows))) b.rows) c.self.view_is

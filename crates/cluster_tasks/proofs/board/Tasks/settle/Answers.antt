@@ -12,5 +12,5 @@ set_spread-requires c = taken_open c.self.inside.rows.items c.take_spread.new.ro
 
 pub returns-clause-rows : goal.returns-clause-rows
 returns-clause-rows c = settled_rows c.self.inside.rows.items c.take_spread.new.rows.items c.set_spread.new.rows.items c.args.seg.0 c.args.n.0 c.args.job c.in-Some.spread c.from_vec-left.result c.take_spread.ensures.rows c.in-Some.ensures.spread
-        (c.from_vec-left.ensures ∙ c.leave_sent.ensures ∙ ap (λ (l : List Sent). without_sent c.args.n.0 c.args.job l) c.into_vec-left.ensures) c.set_spread.ensures
+    (c.from_vec-left.ensures ∙ c.leave_sent.ensures ∙ ap (λ (l : List Sent). without_sent c.args.n.0 c.args.job l) c.into_vec-left.ensures) c.set_spread.ensures
     ∙ ap (λ (b : Board). with_spread c.args.seg.0 (sent_less c.args.n.0 c.args.job (spread_at (open_merge c.args.seg.0 b.rows))) b.rows) c.self.view_is
