@@ -31,8 +31,8 @@ returns-in-Waits-clause-ok g c = (
 pub end_task-requires-clause-written : goal.end_task-requires-clause-written
 end_task-requires-clause-written g c = spread_some (spread_at (open_merge c.args.seg.0 c.args.tasks.now.rows)) c.args.n.0 c.args.job c.requires.sent
 
-pub returns-in-Gone-clause-shown : goal.returns-in-Gone-clause-shown
-returns-in-Gone-clause-shown g c =
+pub returns-in_ok-end_task-in-Gone-clause-shown : goal.returns-in_ok-end_task-in-Gone-clause-shown
+returns-in_ok-end_task-in-Gone-clause-shown g c =
     end_path g.D.Dir.cells c.args.ledger.now c.end_task.new.ledger c.args.places.now.items c.args.tasks.now c.end_task.new.tasks c.args.line c.args.seg c.args.by c.args.n c.args.job c.in_ok-end_task-in-Gone.ensures.ok c.requires.sent
     (copy_gone g.D.Dir.cells c.args.ledger.now c.args.tasks.now c.args.places.now.items c.requires.shown c.args.p c.requires.source c.requires.primary c.args.n.0 c.args.seg.0 c.args.job
     (subst (IsStepAt c.args.seg.0 c.args.job (place_of c.args.places.now.items c.args.n.0)) c.in-Gone.is c.in_ok-step_in.ensures)) c.requires.shown
@@ -47,8 +47,8 @@ settle_copy-requires-clause-complete g c =
     may_settle g.D.Dir.cells c.args.ledger.now c.args.tasks.now c.args.places.now.items c.requires.shown c.args.n.0 c.args.seg.0 c.args.job c.requires.node
     (subst (IsStepAt c.args.seg.0 c.args.job (place_of c.args.places.now.items c.args.n.0)) c.in-Complete.is c.in_ok-step_in.ensures)
 
-pub returns-in-Complete-clause-shown : goal.returns-in-Complete-clause-shown
-returns-in-Complete-clause-shown g c =
+pub returns-in_ok-settle_copy-in-Complete-clause-shown : goal.returns-in_ok-settle_copy-in-Complete-clause-shown
+returns-in_ok-settle_copy-in-Complete-clause-shown g c =
     settle_path g.D.Dir.cells c.args.ledger.now c.settle_copy.new.ledger c.args.tasks.now c.args.places.now.items c.settle_copy.new.places.items c.requires.shown c.args.p c.requires.source c.requires.primary c.args.line c.args.seg c.args.n c.args.job c.requires.node c.args.by
     c.settle_copy.new.tasks (subst (IsStepAt c.args.seg.0 c.args.job (place_of c.args.places.now.items c.args.n.0)) c.in-Complete.is c.in_ok-step_in.ensures) c.requires.sent c.in_ok-settle_copy-in-Complete.ensures.ok
 
