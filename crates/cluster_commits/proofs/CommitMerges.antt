@@ -57,5 +57,5 @@ module _ {D : Type 0} (cells : D → Cells) (Step : Infos → CommitBook → Com
     commit_stands = stand_same board old new b0 b1 e1 n1 c1 all_leave was
 
     -- and where an entry was
-    pub commit_shows : (b2 : Sheet) (at : At) (e : Event) → b2.log ≡ shown at e ∷ b1.log → b2.nodes ≡ b1.nodes → b2.cut ≡ b1.cut → leaves_merges e (primary_of (printed b0.log)) ≡ true → MergesStand b2.log b2.cut b2.nodes board new
-    commit_shows b2 at e e2 n2 c2 leaves = stand_shown board old new b0 b1 b2 at e e1 n1 c1 e2 n2 c2 leaves all_leave was
+    pub commit_shown : (b2 : Sheet) (at : At) (e : Event) → b2.log ≡ shown at e ∷ b1.log → b2.nodes ≡ b1.nodes → b2.cut ≡ b1.cut → leaves_merges e (primary_of (printed b0.log)) ≡ true → MergesStand b2.log b2.cut b2.nodes board new
+    commit_shown b2 at e e2 n2 c2 leaves = stand_shown board old new b0 b1 b2 at e e1 n1 c1 e2 n2 c2 leaves all_leave was

@@ -10,7 +10,7 @@ use Rattle.history_book.specs.Log.{Log, printed}
 use Rattle.cluster_state.proofs.Turning.{fresh_turn_at}
 use Rattle.cluster_state.proofs.MergingPaths.{two_parts, three_parts, third_at}
 use Rattle.commit_steps.specs.Book.{HasBegun}
-use Rattle.cluster_commits.proofs.CommitMerges.{commit_shows}
+use Rattle.cluster_commits.proofs.CommitMerges.{commit_shown}
 use Rattle.cluster_commits.proofs.commits.begin_commit.Goals as goal
 
 pub begin_commit_in-requires-clause-slot : goal.begin_commit_in-requires-clause-slot
@@ -26,7 +26,7 @@ show-requires-clause-rule g c = rule_at c.args.cluster.now _ c.cluster.inside.le
 pub invariant_of-cluster-2 : goal.invariant_of-cluster-2
 invariant_of-cluster-2 g c = λ running. three_parts (begin_commit_path g.D.Dir.cells c.args.cluster.now _ c.cluster.inside.ledger _ c.args.at c.args.n c.cluster.view_is c.requires.running (two_parts c.cluster.invariant) c.requires.node c.requires.up (record { 0 = c.version.result }) (legal_of c.book-book.ensures.nodes c.book-book.ensures.log c.is_legal.ensures.legal) (turns_of c.book-book.ensures.log c.is_legal.ensures.turns) _ c.in_ok-begin_commit_in.ensures c.reserve.new.self c.show.new.self
     c.in_ok-reserve.ensures.log c.in_ok-reserve.ensures.nodes c.show.ensures.log c.show.ensures.nodes (fresh_of c.book-book.ensures.log c.is_fresh.ensures) (version_at c.args.cluster.now _ c.cluster.inside.ledger c.args.n c.version.result c.cluster.view_is (told_of c.book-book.ensures.log (version_of c.args.n.0) c.version.ensures)) c.requires.free)
-    (commit_shows g.D.Dir.cells HasBegun c.args.cluster.now _ c.cluster.inside.ledger c.reserve.new.self _ _ _ c.args.n.0 c.cluster.view_is c.in_ok-reserve.ensures.log c.in_ok-reserve.ensures.nodes c.in_ok-reserve.ensures.cut c.requires.node c.in_ok-begin_commit_in.ensures
+    (commit_shown g.D.Dir.cells HasBegun c.args.cluster.now _ c.cluster.inside.ledger c.reserve.new.self _ _ _ c.args.n.0 c.cluster.view_is c.in_ok-reserve.ensures.log c.in_ok-reserve.ensures.nodes c.in_ok-reserve.ensures.cut c.requires.node c.in_ok-begin_commit_in.ensures
     (third_at c.cluster.view_is c.requires.running c.cluster.invariant) c.show.new.self c.args.at (Committing c.args.n (record { 0 = c.version.result })) c.show.ensures.log c.show.ensures.nodes c.show.ensures.cut refl)
 
 pub returns-clause-ok : goal.returns-clause-ok

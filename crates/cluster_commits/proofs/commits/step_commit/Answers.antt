@@ -9,7 +9,7 @@ use Rattle.cluster_state.proofs.Ledgers.{commit_of, legal_of, turns_of, asked_of
 use Rattle.history_entries.specs.Lines.{start_entry, commit_in_flight}
 use Rattle.cluster_state.proofs.MergingPaths.{two_parts, three_parts, third_at}
 use Rattle.cluster_places.specs.Commits.{StepsBook}
-use Rattle.cluster_commits.proofs.CommitMerges.{commit_stands, commit_shows}
+use Rattle.cluster_commits.proofs.CommitMerges.{commit_stands, commit_shown}
 use Rattle.cluster_commits.proofs.commits.step_commit.Goals as goal
 
 pub step_commit_in-requires-clause-slot : goal.step_commit_in-requires-clause-slot
@@ -33,7 +33,7 @@ invariant_of-cluster-then-not-branch g c = λ running. three_parts (go_commit_pa
 pub invariant_of-cluster-2 : goal.invariant_of-cluster-2
 invariant_of-cluster-2 g c = λ running. three_parts (end_commit_path g.D.Dir.cells c.args.cluster.now _ c.cluster.inside.ledger _ c.args.at c.args.n c.cluster.view_is c.requires.running (two_parts c.cluster.invariant) c.requires.node c.requires.up c.args.v (legal_of c.book-book.ensures.nodes c.book-book.ensures.log c.is_legal.ensures.legal) (turns_of c.book-book.ensures.log c.is_legal.ensures.turns) c.in_ok-step_commit_in.field-0 c.if-not-branch.false _ c.in_ok-step_commit_in.ensures c.reserve.new.self c.show.new.self
     c.in_ok-reserve.ensures.log c.in_ok-reserve.ensures.nodes c.show.ensures.log c.show.ensures.nodes (commit_of c.book-book.ensures.nodes c.book-book.ensures.log c.commit_may_end.ensures) c.requires.flight c.requires.started)
-    (commit_shows g.D.Dir.cells (StepsBook c.in_ok-step_commit_in.field-0) c.args.cluster.now _ c.cluster.inside.ledger c.reserve.new.self _ _ _ c.args.n.0 c.cluster.view_is c.in_ok-reserve.ensures.log c.in_ok-reserve.ensures.nodes c.in_ok-reserve.ensures.cut c.requires.node c.in_ok-step_commit_in.ensures
+    (commit_shown g.D.Dir.cells (StepsBook c.in_ok-step_commit_in.field-0) c.args.cluster.now _ c.cluster.inside.ledger c.reserve.new.self _ _ _ c.args.n.0 c.cluster.view_is c.in_ok-reserve.ensures.log c.in_ok-reserve.ensures.nodes c.in_ok-reserve.ensures.cut c.requires.node c.in_ok-step_commit_in.ensures
     (third_at c.cluster.view_is c.requires.running c.cluster.invariant) c.show.new.self c.args.at (Committed c.args.n c.args.v) c.show.ensures.log c.show.ensures.nodes c.show.ensures.cut refl)
 
 pub returns-then-not-branch-clause-ok : goal.returns-then-not-branch-clause-ok
