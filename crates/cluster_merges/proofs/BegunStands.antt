@@ -1,6 +1,6 @@
 -- A merge that starts: what is true of merges once its inputs are handed out and its task is posted.
 use Rattle.std.proofs.Common.{◌≡◌, ◌≢◌, ◌<◌, ◌≤◌, ◌+◌, ◌==◌, ◌++◌, ◌||◌, ℕ, Bool, true, false, true≢false, List, [], ◌∷◌, Some, None, Option, Vec, Global, refl, ap, ◌∙◌, sym, subst, arith, if◌then◌else◌}
-use Rattle.std.specs.Prelude.{IsSomeAnd, ⊤}
+use Rattle.std.specs.Prelude.{IsSomeAnd}
 use Rattle.std.specs.List.{All}
 use Rattle.std.proofs.lemmas.Bool.{eq-eqb, eqb-true, ltb-true}
 use Rattle.std.proofs.lemmas.List.Elements.{All-push}
@@ -55,16 +55,16 @@ use Rattle.cluster_merges.proofs.BegunShows.{starting, merge_drawn, HasStarted}
 
 started_drawn : (size seg : ℕ) (past : Past) → IsLegalPast size past → StartWithNames past → has_started seg past ≡ true → is_drawn seg past ≡ true
 started_drawn size seg [] legal low is = absurd (true≢false (sym is))
-started_drawn size seg (e ∷ past) legal low is = by e.at e.event (started_drawn size seg past legal.1 low.1) legal.0 low.0 is
+started_drawn size seg (e ∷ past) legal low is = by e.at e.event (started_drawn size seg past legal.1 low.1) legal.0 low is
   where
     before : (at : At) (x : Event) → (has_started seg past ≡ true → is_drawn seg past ≡ true) → KeepsRule size past at x → has_started seg past ≡ true → is_drawn seg (record { at = at; event = x } ∷ past) ≡ true
     before at x older rule was = (grows_shown size past at x legal.1 rule).drawn seg (older was)
 
-    by : (at : At) (x : Event) → (has_started seg past ≡ true → is_drawn seg past ≡ true) → KeepsRule size past at x → elim x [ MergingEvent s ↦ names_drawn past < segments_of_generation | _ ↦ ⊤ ] → (starts_merge seg x || has_started seg past) ≡ true
+    by : (at : At) (x : Event) → (has_started seg past ≡ true → is_drawn seg past ≡ true) → KeepsRule size past at x → StartWithNames (record { at = at; event = x } ∷ past) → (starts_merge seg x || has_started seg past) ≡ true
         → is_drawn seg (record { at = at; event = x } ∷ past) ≡ true
     by at (MergingEvent s) older rule names is =
         by_test (s.0 == seg) (λ b. (s.0 == seg) ≡ b → (b || has_started seg past) ≡ true → is_drawn seg (starting at s ∷ past) ≡ true)
-        (λ here e got. subst (λ (k : ℕ). is_drawn k (starting at s ∷ past) ≡ true) (sym rule.next ∙ eqb-true s.0 seg e) (merge_drawn past at s names))
+        (λ here e got. subst (λ (k : ℕ). is_drawn k (starting at s ∷ past) ≡ true) (sym rule.next ∙ eqb-true s.0 seg e) (merge_drawn past at s names.0))
         (λ apart e got. before at (MergingEvent s) older rule got)
         refl is
     by at x older rule names is = before at x older rule is

@@ -198,9 +198,9 @@ module _ {D : Type 0} (cells : D → Cells) (r : Run) (old new : List (Option (P
       → StartsMergeFor at factor r (record { ended = false; nodes = b1.nodes; log = b1.log; rest = record { calls_left = calls1; cut = cut1; sizes = sizes1; tasks = board } }) (Some Nothing)
   none_starts is {calls1} {cut1} {sizes1} = (as_before r b0 b1 board view e1 n1 board calls1 cut1 sizes1 refl refl, no_range (answered (Ok None) is).0)
 
-  pub spent_starts : (fault : PublishFault) (cause : Cause) → result ≡ Err fault → fault ≡ Spent → cause ≡ NamesSpent → {calls1 : List ℕ} {cut1 : Bool} {sizes1 : List (Option ℕ)}
+  pub spent_starts : (fault : PublishFault) (cause : Cause) → result ≡ Err fault → fault ≡ Spent → cause ≡ NamesSpent → (calls1 : List ℕ) (cut1 : Bool) (sizes1 : List (Option ℕ))
       → StartsMergeFor at factor r (record { ended = false; nodes = b1.nodes; log = b1.log; rest = record { calls_left = calls1; cut = cut1; sizes = sizes1; tasks = board } }) (Some cause)
-  spent_starts fault cause is spent named {calls1} {cut1} {sizes1} =
+  spent_starts fault cause is spent named calls1 cut1 sizes1 =
       let all = refused fault Spent is spent in
       subst (λ (c : Cause). StartsMergeFor at factor r (record { ended = false; nodes = b1.nodes; log = b1.log; rest = record { calls_left = calls1; cut = cut1; sizes = sizes1; tasks = board } }) (Some c)) (sym named)
       (as_before r b0 b1 board view e1 n1 board calls1 cut1 sizes1 refl refl, some_range all.0, all_drawn all.1)
