@@ -35,7 +35,7 @@ pub all_at : {A : Type 0} {r : Run} {ended : Bool} {nodes : ℕ} {log : Log} {re
 all_at view running all = all (ap (λ (x : Run). x.ended) view ∙ running)
 
 module _ (r : Run) (b0 b1 : Sheet) (board : Board) {ended cut : Bool} {calls : List ℕ} {sizes : List (Option ℕ)} (view : record { ended = ended; nodes = b0.nodes; log = b0.log; rest = record { calls_left = calls; cut = cut; sizes = sizes; tasks = board } } ≡ r)
-  (e1 : b1.log ≡ b0.log) (n1 : b1.nodes ≡ b0.nodes) where
+    (e1 : b1.log ≡ b0.log) (n1 : b1.nodes ≡ b0.nodes) where
   -- nothing changed
   pub as_before : (new : Board) (calls1 : List ℕ) (cut1 : Bool) (sizes1 : List (Option ℕ)) → new.rows ≡ board.rows → new.posted ≡ board.posted
       → IsAsBefore r (record { ended = false; nodes = b1.nodes; log = b1.log; rest = record { calls_left = calls1; cut = cut1; sizes = sizes1; tasks = new } })
@@ -112,9 +112,9 @@ module _ {D : Type 0} (cells : D → Cells) (places : List (Option (Place D))) (
 -- ---- a drain's reply
 
 module _ {D : Type 0} (cells : D → Cells) (r : Run) (places : List (Option (Place D))) (b0 b1 b2 : Sheet) (board new : Board) (at : At) (done most : ℕ) {ended cut : Bool} {calls : List ℕ} {sizes : List (Option ℕ)}
-  (view : record { ended = ended; nodes = b0.nodes; log = b0.log; rest = record { calls_left = calls; cut = cut; sizes = sizes; tasks = board } } ≡ r) (running : r.ended ≡ false) (all : ended ≡ false → AllShown cells b0 board places)
-  (e1 : b1.log ≡ b0.log) (n1 : b1.nodes ≡ b0.nodes) (c1 : b1.cut ≡ b0.cut) (legal : IsLegalPast b0.nodes (printed b0.log)) (turns : AreInTurn (printed b0.log)) (fresh : IsFresh at (printed b0.log))
-  (empty : entries_of_line at (printed r.log) ≡ []) (is : done ≡ counted_for at r.log) where
+    (view : record { ended = ended; nodes = b0.nodes; log = b0.log; rest = record { calls_left = calls; cut = cut; sizes = sizes; tasks = board } } ≡ r) (running : r.ended ≡ false) (all : ended ≡ false → AllShown cells b0 board places)
+    (e1 : b1.log ≡ b0.log) (n1 : b1.nodes ≡ b0.nodes) (c1 : b1.cut ≡ b0.cut) (legal : IsLegalPast b0.nodes (printed b0.log)) (turns : AreInTurn (printed b0.log)) (fresh : IsFresh at (printed b0.log))
+    (empty : entries_of_line at (printed r.log) ≡ []) (is : done ≡ counted_for at r.log) where
   none_yet : entries_of_line at (printed b0.log) ≡ []
   none_yet = ap (λ (x : Run). entries_of_line at (printed x.log)) view ∙ empty
 

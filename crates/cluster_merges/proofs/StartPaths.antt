@@ -114,14 +114,10 @@ module _ {D : Type 0} where
 
 -- ---- the call
 
--- what it answered
-pub told_ok : {T E : Type 0} (r : Result T E) (x y : T) → r ≡ Ok x → x ≡ y → r ≡ Ok y
-told_ok {T} {E} r x y is same = subst (λ (z : T). r ≡ Ok z) same is
-
 module _ {D : Type 0} (cells : D → Cells) (r : Run) (old new : List (Option (Place D))) (b0 b1 : Sheet) (board : Board) (at : At) (p : NodeNo) (factor : ℕ) (result : Result (Option MergeTask) PublishFault) {ended cut : Bool} {calls : List ℕ}
-  (view : record { ended = ended; nodes = b0.nodes; log = b0.log; rest = record { calls_left = calls; cut = cut; sizes = sizes_in old; tasks = board } } ≡ r) (running : r.ended ≡ false) (all : ended ≡ false → AllShown cells b0 board old)
-  (e1 : b1.log ≡ b0.log) (n1 : b1.nodes ≡ b0.nodes) (c1 : b1.cut ≡ b0.cut) (legal : IsLegalPast b0.nodes (printed b0.log)) (turns : AreInTurn (printed b0.log)) (fresh : IsFresh at (printed b0.log)) (node : IsNode r.nodes p.0) (primary : primary_of (printed r.log) ≡ Some p)
-  (asked : MovesPrimary (λ q s. AsksMerge cells factor q s result) p.0 old new) where
+    (view : record { ended = ended; nodes = b0.nodes; log = b0.log; rest = record { calls_left = calls; cut = cut; sizes = sizes_in old; tasks = board } } ≡ r) (running : r.ended ≡ false) (all : ended ≡ false → AllShown cells b0 board old)
+    (e1 : b1.log ≡ b0.log) (n1 : b1.nodes ≡ b0.nodes) (c1 : b1.cut ≡ b0.cut) (legal : IsLegalPast b0.nodes (printed b0.log)) (turns : AreInTurn (printed b0.log)) (fresh : IsFresh at (printed b0.log)) (node : IsNode r.nodes p.0) (primary : primary_of (printed r.log) ≡ Some p)
+    (asked : MovesPrimary (λ q s. AsksMerge cells factor q s result) p.0 old new) where
   was : AllShown cells b0 board old
   was = all (ap (λ (x : Run). x.ended) view ∙ running)
 
@@ -242,8 +238,8 @@ module _ {D : Type 0} (cells : D → Cells) (r : Run) (old new : List (Option (P
         some_none e = absurd (cc)
 
     module _ (b2 b3 : Sheet) (inputs : List Shown) (after : Board) (shared : inputs ≡ task.inputs) (e2 : b2.log ≡ shown at (MergingEvent task.seg) ∷ b1.log) (n2 : b2.nodes ≡ b1.nodes) (c2 : b2.cut ≡ b1.cut)
-      (e3 : b3.log ≡ kept (MergeOut at.line task.seg inputs) ∷ b2.log) (n3 : b3.nodes ≡ b2.nodes) (c3 : b3.cut ≡ b2.cut)
-      (rows : after.rows ≡ board.rows ++ record { seg = task.seg; line = at.line; spread = None } ∷ []) (posted : after.posted ≡ board.posted ++ posted_merge task.seg at.line task ∷ []) (counts : after.counts ≡ board.counts) where
+        (e3 : b3.log ≡ kept (MergeOut at.line task.seg inputs) ∷ b2.log) (n3 : b3.nodes ≡ b2.nodes) (c3 : b3.cut ≡ b2.cut)
+        (rows : after.rows ≡ board.rows ++ record { seg = task.seg; line = at.line; spread = None } ∷ []) (posted : after.posted ≡ board.posted ++ posted_merge task.seg at.line task ∷ []) (counts : after.counts ≡ board.counts) where
       abbrev now : Log
       now = kept (MergeOut at.line task.seg task.inputs) ∷ shown at (MergingEvent task.seg) ∷ b0.log
 
