@@ -53,7 +53,7 @@ use Rattle.cluster_state.specs.Run.{Rest, Run, IsNow}
 use Rattle.cluster_state.specs.Lookups.{flush_out}
 use Rattle.cluster_state.specs.State.{IsPointAt, FlightShows, WritesAt, NodeShows, PlaceShows, Shows, HoldsTickets}
 use Rattle.cluster_state.specs.Files.{JobShows, IsJobFor, ReplicaFiles, PrimaryFiles, NodeFiles, FilesShow}
-use Rattle.cluster_state.specs.FileChanges.{SameJob}
+use Rattle.cluster_state.specs.FileChanges.{SameJob, CarriesNoMore}
 use Rattle.cluster_state.specs.Names.{NamesShow}
 use Rattle.cluster_state.specs.Disks.{IsPastPoint, MayFindPoint, LastShows, CommitsPoint, StageShows, BookShows, DiskShows, DisksShow, PointsStay, CommitsStay}
 use Rattle.cluster_state.proofs.Points.{points_alone, points_shown, point_stays}
@@ -356,8 +356,8 @@ module _ {D : Type 0} (cells : D → Cells) where
         (some_at (λ z. DiskShows files.source cells (printed log) n (disk_of z.node)) (place_of old n) b.place b.there (disk_some (DiskShows files.source cells (printed log) n) (place_of old n) (files.disks n node))))
         m slot)
 
-    pub commit_files : FilesShow cells now size new
-    commit_files = record {
+    pub commit_files : CarriesNoMore log now → FilesShow cells now size new
+    commit_files no_more = record {
       source = files.source;
       drawn = means_more files.source (printed log) (printed now) grows files.drawn;
       names = names_one cells size (printed log) (printed now) old new n here b.place grows b.moves node b.there (names_alter cells Step (printed now) b.place.node b.node b.alters) files.names;
@@ -366,6 +366,7 @@ module _ {D : Type 0} (cells : D → Cells) where
           (node_files cells files.source log now jobs count n b.node points (λ r is. same_job n (replica_apart cells log n b.node r (shows_alter cells Step log n b.place.node b.node b.alters both.0.node_shows) is)) (λ s. (let is = same_count s in omega (arith, is)))
           (files_alter cells Step files.source log jobs n b.place.node b.node b.alters both.0.node_shows both.1));
       disks = disks_now;
+      carried = λ q bytes out. files.carried q bytes (no_more q bytes out);
     }
 
   -- ---- the commit in flight
@@ -455,7 +456,7 @@ module _ {D : Type 0} (cells : D → Cells) (r : Run) (ended : Bool) (b0 : Sheet
           now_is cells (shown at (Committing n v) ∷ r.log) b2.log r.nodes b2.nodes new (log_is b1 b2 (Committing n v) e1 e2) (size_is b1 b2 n1 n2)
               (commit_shows cells HasBegun r.nodes r.log (shown at (Committing n v) ∷ r.log) old new n.0 b lasting node shows files grows jobs (points_shown r.nodes (printed r.log) at (Committing n v) legal_now rule) stay places handed book),
           files_is cells (shown at (Committing n v) ∷ r.log) b2.log r.nodes b2.nodes new (log_is b1 b2 (Committing n v) e1 e2) (size_is b1 b2 n1 n2)
-              (commit_files cells HasBegun r.nodes r.log (shown at (Committing n v) ∷ r.log) old new n.0 b lasting node shows files grows jobs (points_shown r.nodes (printed r.log) at (Committing n v) legal_now rule) stay places handed book),
+              (commit_files cells HasBegun r.nodes r.log (shown at (Committing n v) ∷ r.log) old new n.0 b lasting node shows files grows jobs (points_shown r.nodes (printed r.log) at (Committing n v) legal_now rule) stay places handed book (λ q bytes out. out)),
         )
       where
         unstarted : IsFresh at (printed r.log) → start_entry at (printed r.log) ≢ Some Publishing
@@ -474,7 +475,7 @@ module _ {D : Type 0} (cells : D → Cells) (r : Run) (ended : Bool) (b0 : Sheet
           now_is cells r.log b1.log r.nodes b1.nodes new log size
               (commit_shows cells (StepsBook false) r.nodes r.log r.log old new n.0 b lasting node shows files (grows_none (printed r.log)) jobs (points_alone (printed r.log)) stay places (λ a none. shows.handed a none) book),
           files_is cells r.log b1.log r.nodes b1.nodes new log size
-              (commit_files cells (StepsBook false) r.nodes r.log r.log old new n.0 b lasting node shows files (grows_none (printed r.log)) jobs (points_alone (printed r.log)) stay places (λ a none. shows.handed a none) book),
+              (commit_files cells (StepsBook false) r.nodes r.log r.log old new n.0 b lasting node shows files (grows_none (printed r.log)) jobs (points_alone (printed r.log)) stay places (λ a none. shows.handed a none) book (λ q bytes out. out)),
         )
 
     pub go_commit_path : (done : Bool) → done ≡ false → (new : List (Option (Place D))) → CommitsIn (StepsBook done) cells n.0 old new → (b1 : Sheet) → b1.log ≡ b0.log → b1.nodes ≡ b0.nodes → Shows cells b1.log b1.nodes new × FilesShow cells b1.log b1.nodes new
@@ -499,7 +500,7 @@ module _ {D : Type 0} (cells : D → Cells) (r : Run) (ended : Bool) (b0 : Sheet
           now_is cells (shown at (Committed n v) ∷ r.log) b2.log r.nodes b2.nodes new (log_is b1 b2 (Committed n v) e1 e2) (size_is b1 b2 n1 n2)
               (commit_shows cells (StepsBook true) r.nodes r.log (shown at (Committed n v) ∷ r.log) old new n.0 b lasting node shows files grows jobs (points_shown r.nodes (printed r.log) at (Committed n v) legal_now rule) stay places handed book),
           files_is cells (shown at (Committed n v) ∷ r.log) b2.log r.nodes b2.nodes new (log_is b1 b2 (Committed n v) e1 e2) (size_is b1 b2 n1 n2)
-              (commit_files cells (StepsBook true) r.nodes r.log (shown at (Committed n v) ∷ r.log) old new n.0 b lasting node shows files grows jobs (points_shown r.nodes (printed r.log) at (Committed n v) legal_now rule) stay places handed book),
+              (commit_files cells (StepsBook true) r.nodes r.log (shown at (Committed n v) ∷ r.log) old new n.0 b lasting node shows files grows jobs (points_shown r.nodes (printed r.log) at (Committed n v) legal_now rule) stay places handed book (λ q bytes out. out)),
         )
       where
         commits : start_entry at (printed r.log) ≡ Some (Committing n v) → start_entry at (printed r.log) ≢ Some Publishing

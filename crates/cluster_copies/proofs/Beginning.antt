@@ -42,7 +42,7 @@ use Rattle.cluster_state.specs.State.{NodeShows, Shows}
 use Rattle.cluster_state.specs.FilesOut.{is_job, file_out}
 use Rattle.cluster_places.specs.Outs.{want_of, want_at, one_like, jobs_like, states_like}
 use Rattle.cluster_state.specs.Files.{CopyShows, JobShows, IsJobFor, ReplicaFiles, PrimaryFiles, NodeFiles, FilesShow}
-use Rattle.cluster_state.specs.FileChanges.{SameJob}
+use Rattle.cluster_state.specs.FileChanges.{SameJob, CarriesNoMore}
 use Rattle.cluster_places.specs.JobChanges.{given_back, BeginsAt}
 use Rattle.cluster_places.specs.JobPlaces.{BeginsIn}
 use Rattle.cluster_state.proofs.Frames.{some_at}
@@ -79,6 +79,7 @@ highest_low size (e ∷ past) n legal = let was = highest_low size past n legal.
 -- what a job's beginning rests on: the entries behind which it begins
 pub record BeginsOver (log mid : Log) (at : At) (n v : ℕ) : Type 0 where
   pub grows : Grows (printed log) (printed mid)
+  pub no_more : CarriesNoMore log mid
   pub same : (m : ℕ) → (n == m) ≡ false → is_at (primary_of (printed log)) m ≡ false → SameJob log mid m
   pub newest : newest_version (printed mid) ≡ newest_version (printed log)
   pub version : v ≡ newest_version (printed log)
@@ -93,6 +94,7 @@ pub over_copying : (size : ℕ) (log : Log) (at : At) (n : NodeNo) (v : Version)
     → version_of n.0 (printed log) < v.0 → BeginsOver log (shown at (Copying n v) ∷ log) at n.0 v.0
 over_copying size log at n v legal turns rule turn behind = record {
   grows = grows_shown size (printed log) at (Copying n v) legal rule;
+  no_more = λ q bytes out. out;
   same = λ m apart other. same_shown size log at m legal turns other (Copying n v) rule turn (ap not apart);
   newest = refl;
   version = rule.newest;
@@ -125,6 +127,7 @@ pub over_settle : (size : ℕ) (log : Log) (at : At) (n v : ℕ) → IsLegalPast
     → version_of n (printed log) < newest_version (before_start at (printed log)) → ((a : At) → copy_in_flight n (newest_version (printed log)) (printed log) ≡ Some a → ⊥) → BeginsOver log log at n v
 over_settle size log at n v legal begun is behind none = record {
   grows = grows_none (printed log);
+  no_more = λ q bytes out. out;
   same = λ m apart other. record {
     job = refl;
     points = points_alone (printed log);
@@ -242,6 +245,7 @@ module _ {D : Type 0} (cells : D → Cells) where
             (disks_moved p.0 n.0 x y (record { node = Primary q; held = b.both.primary.held }) (record { node = Replica r; held = b.both.replica.held }) old new b.moves b.both.primary.there b.both.replica.there
             (disk_same q.commits b.primary.commits b.begins.primary.files.commits) (disk_same r.commits b.replica.commits (ap (λ (z : ReplicaParts D). z.commits) b.begins.replica.others)))
             over.stay files.disks;
+        carried = λ name bytes out. files.carried name bytes (over.no_more name bytes out);
       }
     where
       now : Log

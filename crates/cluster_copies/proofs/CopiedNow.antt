@@ -165,6 +165,7 @@ module _ {D : Type 0} (cells : D → Cells) where
         (commits_shown between at m size (Copied n v) (rule, legal) (turn, turns) later (later_turn between at (Copied n v) refl tt) refl
         (no_commit size between at (rule, legal) (turn, turns) (ap (λ (b : Bool). is_commit_line (if b then Some (Copying n v) else start_entry at (printed log))) (same_at_self at)) m)))
         files.disks;
+    carried = files.carried;
   }
     where
       grows : Grows (printed log) (printed (copied_log at n v log))

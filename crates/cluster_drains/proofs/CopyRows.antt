@@ -128,7 +128,7 @@ module _ {D : Type 0} (cells : D → Cells) where
       (subst (λ (l : List Posted). All (λ p. IsFitKind p.kind) l) (sym posted)
       (All-append (λ (p : Posted). IsFitKind p.kind) (board.posted ++ posts_of seg line left) (post_after seg line left)
       (All-append (λ (p : Posted). IsFitKind p.kind) board.posted (posts_of seg line left) all.2.fit (posts_fit seg line left)) (after_fit seg line left)))
-      each empty all
+      each empty all all.1.carried
     where
       i : Inner
       i = TaskEnd line seg by MergeStep true

@@ -103,4 +103,5 @@ module _ {D : Type 0} (cells : D → Cells) where
               outs = λ s. (let is = jobs s in let least = outs s in omega (arith, is, least));
             });
         disks = disks_kept cells files.source wider log log size old new (widened_more files.source (cells q.dir) q.files) (disk_moved n x y old new moves there (disk_same p.commits q.commits more.commits)) (λ m. commits_alone (printed log) m) files.disks;
+        carried = λ name bytes out. widened_more files.source (cells q.dir) q.files name bytes (files.carried name bytes out);
       }

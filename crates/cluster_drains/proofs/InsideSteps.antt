@@ -18,20 +18,21 @@ use Rattle.history_book.specs.declared.inner.Inner.TheVariants.{JobBegun, FileOu
 use Rattle.history_merges.specs.Merging.{Sheet}
 use Rattle.cluster_tasks.specs.declared.tasks.OpenMerge.{OpenMerge}
 use Rattle.cluster_tasks.specs.declared.tasks.Posted.{Posted}
+use Rattle.cluster_tasks.specs.TaskLog.{carried_out}
 use Rattle.cluster_tasks.specs.Board.{Board, open_merge, due_all, step_of, TasksShow, IsToldTask}
 use Rattle.cluster_tasks.proofs.BoardRows.{line_told}
 use Rattle.cluster_tasks.proofs.TaskFrames.{tasks_kept, tasks_on}
 use Rattle.cluster_places.specs.declared.nodes.Place.{Place}
 use Rattle.cluster_places.specs.Places.{place_of}
 use Rattle.cluster_places.specs.Outs.{jobs_like}
-use Rattle.cluster_state.specs.FileChanges.{SameJob}
+use Rattle.cluster_state.specs.FileChanges.{SameJob, CarriesNoMore}
 use Rattle.cluster_state.specs.Merging.{IsFitKind, NodeMerges, MergesStand}
 use Rattle.cluster_drains.specs.Running.{AllShown}
 use Rattle.cluster_state.proofs.Points.{points_alone}
 use Rattle.cluster_state.proofs.Disks.{commits_alone}
 use Rattle.cluster_state.proofs.Drawn.{grows_none}
 use Rattle.cluster_state.proofs.Frames.{some_then, now_is}
-use Rattle.cluster_state.proofs.FileFrames.{files_still, files_is}
+use Rattle.cluster_state.proofs.FileFrames.{files_carried, files_is}
 use Rattle.cluster_state.proofs.JobMoves.{IsOfJob, shows_kept}
 use Rattle.cluster_state.proofs.JobFrames.{same_inner}
 use Rattle.cluster_state.proofs.MergingStill.{InputsStay, node_stands, node_keeps}
@@ -85,11 +86,12 @@ module _ {D : Type 0} (cells : D → Cells) where
   pub inside_all : (b0 b2 : Sheet) (places : List (Option (Place D))) (board new : Board) (i : Inner) → b2.log ≡ kept i ∷ b0.log → b2.nodes ≡ b0.nodes → b2.cut ≡ b0.cut
       → IsOfJob i → ((n : ℕ) → SameJob b0.log (kept i ∷ b0.log) n) → TasksShow b0.nodes (kept i ∷ b0.log) new → All (λ p. IsFitKind p.kind) new.posted
       → ((n : ℕ) → IsNode b0.nodes n → IsSomeAnd (place_of places n) (λ z. NodeMerges (kept i ∷ b0.log) b0.cut (λ s. jobs_like places s b0.nodes) new.rows n z.node))
-      → ((board.posted ≡ []) × (board.rows ≡ []) → (new.posted ≡ []) × (new.rows ≡ [])) → AllShown cells b0 board places → AllShown cells b2 new places
-  inside_all b0 b2 places board new i log nodes cut of_job same tasks fit each empty all = (
+      → ((board.posted ≡ []) × (board.rows ≡ []) → (new.posted ≡ []) × (new.rows ≡ [])) → (all : AllShown cells b0 board places)
+      → ((q : Name) (bytes : List ℕ) → carried_out q (kept i ∷ b0.log) ≡ Some bytes → all.1.source q ≡ Some bytes) → AllShown cells b2 new places
+  inside_all b0 b2 places board new i log nodes cut of_job same tasks fit each empty all carried = (
     now_is cells (kept i ∷ b0.log) b2.log b0.nodes b2.nodes places log nodes (shows_kept cells b0.nodes b0.log i places of_job all.0),
     files_is cells (kept i ∷ b0.log) b2.log b0.nodes b2.nodes places log nodes
-        (files_still cells b0.nodes b0.log (kept i ∷ b0.log) places (grows_none (printed b0.log)) (λ m other. same m) (λ m. commits_alone (printed b0.log) m) all.0 all.1),
+        (files_carried cells b0.nodes b0.log (kept i ∷ b0.log) places (grows_none (printed b0.log)) (λ m other. same m) (λ m. commits_alone (printed b0.log) m) all.0 all.1 carried),
     subst (λ (z : Log × (Bool × ℕ)). MergesStand z.0 z.1.0 z.1.1 new places) (λ j. (sym log j, (sym cut j, sym nodes j))) (record {
       tasks = tasks;
       fit = fit;
@@ -100,18 +102,18 @@ module _ {D : Type 0} (cells : D → Cells) where
 
   -- the same where the merges in flight are as they were
   pub inside_path : (b0 b2 : Sheet) (places : List (Option (Place D))) (board new : Board) (i : Inner) → b2.log ≡ kept i ∷ b0.log → b2.nodes ≡ b0.nodes → b2.cut ≡ b0.cut
-      → IsOfJob i → ((n : ℕ) → SameJob b0.log (kept i ∷ b0.log) n) → InputsStay b0.log (kept i ∷ b0.log) → TasksShow b0.nodes (kept i ∷ b0.log) new → new.rows ≡ board.rows → All (λ p. IsFitKind p.kind) new.posted
+      → IsOfJob i → CarriesNoMore b0.log (kept i ∷ b0.log) → ((n : ℕ) → SameJob b0.log (kept i ∷ b0.log) n) → InputsStay b0.log (kept i ∷ b0.log) → TasksShow b0.nodes (kept i ∷ b0.log) new → new.rows ≡ board.rows → All (λ p. IsFitKind p.kind) new.posted
       → ((board.posted ≡ []) × (board.rows ≡ []) → new.posted ≡ []) → AllShown cells b0 board places → AllShown cells b2 new places
-  inside_path b0 b2 places board new i log nodes cut of_job same more tasks rows fit empty all =
+  inside_path b0 b2 places board new i log nodes cut of_job no_more same more tasks rows fit empty all =
       inside_all b0 b2 places board new i log nodes cut of_job same tasks fit (each_still b0.log (kept i ∷ b0.log) b0.cut b0.nodes board.rows new.rows places more rows all.2.each)
-      (λ none. (empty none, rows ∙ none.1)) all
+      (λ none. (empty none, rows ∙ none.1)) all (λ q bytes out. all.1.carried q bytes (no_more q bytes out))
 
   -- ---- a task that is taken
 
   pub take_path : (b0 b2 : Sheet) (places : List (Option (Place D))) (board new : Board) (p : Posted) (by : Option At) → b2.log ≡ kept (TaskOut p.line p.seg by (step_of p.kind)) ∷ b0.log → b2.nodes ≡ b0.nodes → b2.cut ≡ b0.cut
       → board.posted ≡ p ∷ new.posted → new.rows ≡ board.rows → new.counts ≡ board.counts → AllShown cells b0 board places → AllShown cells b2 new places
   take_path b0 b2 places board new p by log nodes cut first rows counts all =
-      inside_path b0 b2 places board new i log nodes cut (λ at. refl) (λ n. same_inner b0.log i n refl) (λ seg inputs is. is) tasks rows
+      inside_path b0 b2 places board new i log nodes cut (λ at. refl) (λ q bytes out. out) (λ n. same_inner b0.log i n refl) (λ seg inputs is. is) tasks rows
       (All-tail (λ (q : Posted). IsFitKind q.kind) p new.posted (subst (λ (l : List Posted). All (λ q. IsFitKind q.kind) l) first all.2.fit)) (λ none. none_left (sym first ∙ none.0)) all
     where
       i : Inner

@@ -530,6 +530,7 @@ module _ {D : Type 0} (cells : D → Cells) where
         each = each_outlives cells {P = Both cells files.source log jobs} {Q = λ m z. NodeFiles files.source cells now count m z.node} size primary n.0 left old new b.here b.others (both_of cells log size old shows files)
             (λ m x y here apart out both. node_left m x.node y.node apart out.node both.0.node_shows both.1) tt;
         disks = disks_left;
+        carried = files.carried;
       }
 
       -- ---- merges in flight

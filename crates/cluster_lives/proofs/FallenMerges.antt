@@ -178,6 +178,7 @@ module _ {D : Type 0} (cells : D → Cells) (rows : List OpenMerge) where
       each = lose_each {P = λ m z. NodeFiles files.source cells log (λ s. jobs_like old s size) m z.node} {Q = λ m z. NodeFiles files.source cells log (λ s. jobs_like new s size) m z.node} files.each
           (λ m x y held lost is. counted m y.node (lost_files files.source log (λ s. jobs_like old s size) m x.node y.node lost is));
       disks = λ m node. subst (λ (o : Option (Disk D)). IsSomeAnd o (DiskShows files.source cells (printed log) m)) (sym (disks m)) (files.disks m node);
+      carried = files.carried;
     }
       where
         same : (s : Out) → jobs_like new s size ≡ jobs_like old s size

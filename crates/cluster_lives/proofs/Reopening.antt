@@ -391,6 +391,7 @@ module _ {D : Type 0} (cells : D → Cells) (size : ℕ) (log : Log) (old new : 
             (λ s. (let is = same_count s in omega (arith, is))) has.1)
             (files_now cells files.source size log at n v (dir_of b.place.node) b.replica lasting legal b.opens b.version d reopen_rule down idle);
         disks = disks_now;
+        carried = files.carried;
       }
 
 -- ---- in the terms of a call

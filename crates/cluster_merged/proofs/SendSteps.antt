@@ -156,6 +156,7 @@ module _ {D : Type 0} (cells : D → Cells) where
               (λ m z node apart both. node_files cells files.source log log (λ o. jobs_like old o size) (λ o. jobs_like new o size) m z.node (points_alone (printed log)) (λ q is. job_stays log m) (λ o. (let is = jobs o in omega (arith, is))) both.1)
               (replica_sent files.source log n number state r s w mine.1);
           disks = disks_kept cells files.source files.source log log size old new (λ q bytes is. is) (disk_moved n x y old new moves there (disk_same r.commits s.commits (ap (λ (z : ReplicaParts D). z.commits) w.others))) (λ m. commits_alone (printed log) m) files.disks;
+          carried = files.carried;
         }
 
   -- all of it, with the entry
@@ -166,7 +167,7 @@ module _ {D : Type 0} (cells : D → Cells) where
       → AllShown cells b0 board old → AllShown cells b2 after new
   sent_path b0 b2 old new board after line seg n number state r s held log nodes cut moves node there w generation sending rows posted counts all = (
     now_is cells now b2.log b0.nodes b2.nodes new log nodes (shows_kept cells b0.nodes b0.log i new (λ at. refl) shows),
-    files_is cells now b2.log b0.nodes b2.nodes new log nodes (files_still cells b0.nodes b0.log now new (grows_none (printed b0.log)) (λ m other. same_sent b0.log line n number m) (λ m. commits_alone (printed b0.log) m) shows files),
+    files_is cells now b2.log b0.nodes b2.nodes new log nodes (files_still cells b0.nodes b0.log now new (grows_none (printed b0.log)) (λ q bytes out. out) (λ m other. same_sent b0.log line n number m) (λ m. commits_alone (printed b0.log) m) shows files),
     subst (λ (z : Log × (Bool × ℕ)). MergesStand z.0 z.1.0 z.1.1 after new) (λ j. (sym log j, (sym cut j, sym nodes j))) (record {
       tasks = tasks_on b0.nodes now board after (λ k. ap (λ (l : List OpenMerge). line_told (open_merge k l)) rows ∙ lines_with board.rows seg.0 (sent_more n number (spread_at (open_merge seg.0 board.rows))) k)
           (subst (λ (l : List Posted). All (IsToldTask now) l) (sym posted) (tasks_kept b0.nodes b0.log board i refl all.2.tasks).posted) due counts (tasks_kept b0.nodes b0.log board i refl all.2.tasks);

@@ -157,7 +157,7 @@ module _ {D : Type 0} (cells : D → Cells) (r : Run) (old new : List (Option (P
       now_is cells b0.log b1.log b0.nodes b1.nodes new e1 n1
           (shows_put cells b0.nodes b0.log old new p.0 (record { node = Primary s; held = asked.at.held }) asked.moves (subst (λ (z : PrimaryParts D). PlaceShows cells b0.log p.0 (record { node = Primary z; held = asked.at.held })) (sym same) place) was.0),
       files_is cells b0.log b1.log b0.nodes b1.nodes new e1 n1
-          (files_one cells b0.nodes b0.log b0.log old new p.0 (record { node = Primary s; held = asked.at.held }) (record { node = Primary q; held = asked.at.held }) (grows_none (printed b0.log))
+          (files_one cells b0.nodes b0.log b0.log old new p.0 (record { node = Primary s; held = asked.at.held }) (record { node = Primary q; held = asked.at.held }) (grows_none (printed b0.log)) (λ name bytes out. out)
           (holds_same cells (printed b0.log) (Primary q) (Primary s) (ap (λ (z : PrimaryParts D). z.searchers.tickets) same) (ap (λ (z : PrimaryParts D). loose_of z) same))
           (λ m other. job_stays b0.log m) (λ m. commits_alone (printed b0.log) m) asked.moves node0 asked.at.there
           (subst (λ (z : PrimaryParts D). KeepsNodeFiles cells (Primary q) (Primary z)) (sym same) (node_alone cells (Primary q))) was.0 was.1),

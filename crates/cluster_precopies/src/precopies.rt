@@ -6,7 +6,7 @@ ghost use Rattle.copy_state.specs.Meta.{IsMetaOf};
 ghost use Rattle.history_entries.specs.Nodes.{IsNode, primary_of};
 ghost use Rattle.history_book.specs.Log.{printed};
 ghost use Rattle.cluster_tasks.specs.TaskLog.{carried_out};
-ghost use Rattle.cluster_tasks.specs.Board.{open_merge, spread_at, is_sent_to};
+ghost use Rattle.cluster_tasks.specs.Board.{open_merge, spread_at, has_copy_task};
 ghost use Rattle.cluster_state.specs.Run.{IsEnded};
 ghost use Rattle.cluster_drains.specs.MergePaths.{IsAsBefore, HandsMergedFile, EndsCopyTask};
 ghost use Rattle.cluster_precopies.specs.CopyTurns.{TurnsCopy};
@@ -78,7 +78,7 @@ pub fn next_merged<D: FaultDir + Drop>(
     requires source { IsNode cluster.old.nodes p.0 }
     requires primary { primary_of (printed cluster.old.log) ≡ Some p }
     requires node { IsNode cluster.old.nodes n.0 }
-    requires sent { is_sent_to n.0 job
+    requires sent { has_copy_task n.0 job
         (spread_at (open_merge seg.0 cluster.old.rest.tasks.rows)) ≡ true }
     ensures ok { IfOk result (TurnsCopy line seg by n job cluster.old cluster.new) }
     ensures err { OnErr result (IsEnded cluster.old cluster.new) }

@@ -342,6 +342,7 @@ module _ {D : Type 0} (cells : D → Cells) where
               (λ m z here apart has. node_left m z.node has.0.node_shows has.1) files_here;
           disks = disks_kept cells files.source files.source log now size old new (λ q bytes is. is)
               (disk_moved n.0 left (record { node = Replica b.at.parts; held = b.at.held }) old new b.moves b.at.there (disk_same b.at.parts.commits b.primary.commits b.becomes.commits)) stay files.disks;
+          carried = files.carried;
         }
 
   -- ---- in the terms of a call

@@ -370,6 +370,7 @@ module _ {D : Type 0} (cells : D → Cells) where
     each = λ n node. at (place_of places n) n (each n node);
     names = λ n node. some_then (place_of places n) (each n node) (λ place opens. opens.named);
     disks = λ n node. disk (place_of places n) n (each n node);
+    carried = λ q bytes out. absurd (nothing_means bytes out);
   })
     where
       nothing_means : (bytes : List ℕ) → ◌≡◌ {A = Option (List ℕ)} None (Some bytes) → ⊥

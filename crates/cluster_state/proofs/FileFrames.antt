@@ -31,6 +31,7 @@ use Rattle.history_book.specs.declared.inner.Inner.{Inner}
 use Rattle.history_book.specs.declared.inner.Inner.TheVariants.{FlushOut}
 use Rattle.history_book.specs.Jobs.{job_at}
 use Rattle.history_book.specs.Turns.{InTurn, AreInTurn}
+use Rattle.cluster_tasks.specs.TaskLog.{carried_out}
 use Rattle.cluster_places.specs.declared.held.Held.{Held}
 use Rattle.cluster_places.specs.declared.nodes.Node.{Node}
 use Rattle.cluster_places.specs.declared.nodes.Node.TheVariants.{Primary, Replica, Down}
@@ -239,19 +240,26 @@ module _ {D : Type 0} (cells : D → Cells) where
       → IsSomeAnd (place_of places m) (Both files.source log (λ s. jobs_like places s size) m)
   both_of log size places shows files m node = some_both (place_of places m) (shows.each m node) (files.each m node) (λ z a b. (a, b))
 
-  -- no place moved
-  pub files_still : (size : ℕ) (log now : Log) (places : List (Option (Place D))) → Grows (printed log) (printed now) → CarriesNoMore log now
-      → ((m : ℕ) → is_at (primary_of (printed log)) m ≡ false → SameJob log now m)
-      → ((m : ℕ) → CommitsStay (printed log) (printed now) m) → Shows cells log size places → FilesShow cells log size places → FilesShow cells now size places
-  files_still size log now places grows no_more same stay shows files = record {
+  -- no place moved, and what was handed out of merged files is what their names mean
+  pub files_carried : (size : ℕ) (log now : Log) (places : List (Option (Place D))) → Grows (printed log) (printed now) → ((m : ℕ) → is_at (primary_of (printed log)) m ≡ false → SameJob log now m)
+      → ((m : ℕ) → CommitsStay (printed log) (printed now) m) → Shows cells log size places → (files : FilesShow cells log size places)
+      → ((q : Name) (bytes : List ℕ) → carried_out q now ≡ Some bytes → files.source q ≡ Some bytes) → FilesShow cells now size places
+  files_carried size log now places grows same stay shows files carried = record {
     source = files.source;
     drawn = means_more files.source (printed log) (printed now) grows files.drawn;
     names = names_still cells size (printed log) (printed now) places grows files.names;
     each = λ m node. some_then (place_of places m) (both_of log size places shows files m node)
         (λ z both. node_files files.source log now (λ s. jobs_like places s size) (λ s. jobs_like places s size) m z.node (stay m).points (λ r is. same m (replica_apart log m z.node r both.0.node_shows is)) (λ s. omega arith) both.1);
     disks = disks_still cells files.source log now size places stay files.disks;
-    carried = λ q bytes out. files.carried q bytes (no_more q bytes out);
+    carried = carried;
   }
+
+  -- no place moved, and no more was handed out of merged files
+  pub files_still : (size : ℕ) (log now : Log) (places : List (Option (Place D))) → Grows (printed log) (printed now) → CarriesNoMore log now
+      → ((m : ℕ) → is_at (primary_of (printed log)) m ≡ false → SameJob log now m)
+      → ((m : ℕ) → CommitsStay (printed log) (printed now) m) → Shows cells log size places → FilesShow cells log size places → FilesShow cells now size places
+  files_still size log now places grows no_more same stay shows files =
+      files_carried size log now places grows same stay shows files (λ q bytes out. files.carried q bytes (no_more q bytes out))
 
   -- one place moved, of which a call left the files and the job
   pub files_one : (size : ℕ) (log now : Log) (old new : List (Option (Place D))) (n : ℕ) (x y : Place D) → Grows (printed log) (printed now) → CarriesNoMore log now → HoldsFrom cells (printed now) y.node x.node

@@ -80,6 +80,11 @@ abbrev pub is_sent_to : ℕ → ℕ → Option Spread → Bool
 is_sent_to n job None = false
 is_sent_to n job (Some s) = is_sent_in n job s.left
 
+-- all copies have begun, and the one to a node has not ended: it has a task
+abbrev pub has_copy_task : ℕ → ℕ → Option Spread → Bool
+has_copy_task n job None = false
+has_copy_task n job (Some s) = s.all && is_sent_in n job s.left
+
 -- these copies without the one to a node
 abbrev pub without_sent : ℕ → ℕ → List Sent → List Sent
 without_sent n job left = filter (λ s. not ((s.node.0 == n) && (s.job == job))) left

@@ -2,7 +2,7 @@
 
 ghost use Rattle.std.specs.Prelude.{◌≡◌, ◌≢◌, ◌+◌, ◌∷◌, ◌++◌, [], true, false, None, Some, IsSome, OnOk, MatchOption};
 ghost use Rattle.std.specs.Option.{option_map};
-ghost use Rattle.cluster_tasks.specs.Board.{open_merge, spread_at, with_spread, without_merge, is_sent_to, is_unwritten, is_copied, sent_left, sent_more, all_sent, sent_less, posts_of, post_after, posted_merge, done_under, counts_one, without_count};
+ghost use Rattle.cluster_tasks.specs.Board.{open_merge, spread_at, with_spread, without_merge, has_copy_task, is_unwritten, is_copied, sent_left, sent_more, all_sent, sent_less, posts_of, post_after, posted_merge, done_under, counts_one, without_count};
 
 use crate::drains::{Counted, count_one, done_in, forget};
 use crate::rows::{is_among, leave_out, leave_sent, merge_in, set_spread, take_spread};
@@ -128,15 +128,15 @@ impl Tasks {
         }
     }
 
-    /// Whether a copy of a merged segment to a node has not ended.
-    pub fn is_sent(&self, seg: SegNo, n: NodeNo, job: u64) -> bool
-        ensures { result ≡ is_sent_to n.0 job (spread_at (open_merge seg.0 self.now.rows)) }
+    /// Whether all copies of a merged segment have begun, and the one to a node has not ended.
+    pub fn has_copy_task(&self, seg: SegNo, n: NodeNo, job: u64) -> bool
+        ensures { result ≡ has_copy_task n.0 job (spread_at (open_merge seg.0 self.now.rows)) }
     {
         match merge_in(self.rows.as_slice(), seg) {
             None => false,
             Some(row) => match &row.spread {
                 None => false,
-                Some(spread) => is_among(spread.left.as_slice(), n, job),
+                Some(spread) => spread.all && is_among(spread.left.as_slice(), n, job),
             },
         }
     }

@@ -28,7 +28,7 @@ use Rattle.history_entries.specs.declared.entry.Event.{Event}
 use Rattle.history_entries.specs.declared.entry.Event.TheVariants.{Publishing, Copying, Settling, Switched, Copied}
 use Rattle.history_entries.specs.Nodes.{Past, IsNode, IsReplica, is_at, primary_of, newest_version, version_of, generation_of}
 use Rattle.history_entries.specs.Lines.{same_at, start_entry, before_start, copy_in_flight, highest_copy}
-use Rattle.cluster_state.specs.FileChanges.{is_commit_line, SameJob}
+use Rattle.cluster_state.specs.FileChanges.{is_commit_line, SameJob, CarriesNoMore}
 use Rattle.history_entries.specs.Points.{documents_at}
 use Rattle.history_entries.specs.Legal.{KeepsRule, IsLegalPast}
 use Rattle.history_tables.specs.declared.jobs.Job.{Job}
@@ -227,11 +227,11 @@ module _ {D : Type 0} (cells : D → Cells) where
       segments = subst (λ (ss : List Shown). AreSegmentsOf docs ss) (one_segs (reads_of (cells s.dir)) s.infos.segs stands.segs s.searchers.point.readers stands.stands.each f.whole.point.readers) stands.stands.stand
 
   -- the files of all nodes, once no job runs at the node and no copy of the newest version to it is in flight
-  files_ended : (size : ℕ) (log now : Log) (old new : List (Option (Place D))) (p : NodeNo) (job : Job) → FilesLast → Grows (printed log) (printed now) → (shows : Shows cells log size old) (files : FilesShow cells log size old) → FinishesIn cells p.0 job.node.0 old new → IsNode size p.0 → primary_of (printed log) ≡ Some p
+  files_ended : (size : ℕ) (log now : Log) (old new : List (Option (Place D))) (p : NodeNo) (job : Job) → FilesLast → Grows (printed log) (printed now) → CarriesNoMore log now → (shows : Shows cells log size old) (files : FilesShow cells log size old) → FinishesIn cells p.0 job.node.0 old new → IsNode size p.0 → primary_of (printed log) ≡ Some p
       → IsNode size job.node.0 → job_at job.node.0 log ≡ Some job
       → ((m : ℕ) → (job.node.0 == m) ≡ false → is_at (primary_of (printed log)) m ≡ false → SameJob log now m) → ((m : ℕ) → CommitsStay (printed log) (printed now) m)
       → job_at job.node.0 now ≡ None → ((a : At) → copy_in_flight job.node.0 (newest_version (printed now)) (printed now) ≡ Some a → ⊥) → FilesShow cells now size new
-  files_ended size log now old new p job lasting grows shows files b node_p primary node is others stay ended none = record {
+  files_ended size log now old new p job lasting grows no_more shows files b node_p primary node is others stay ended none = record {
     source = files.source;
     drawn = drawn;
     names = names_both cells size (printed log) (printed now) old new p.0 n x y (record { node = Primary b.both.primary.parts; held = b.both.primary.held }) (record { node = Replica r; held = b.both.replica.held }) grows b.moves node_p node
@@ -245,6 +245,7 @@ module _ {D : Type 0} (cells : D → Cells) where
         (disks_moved p.0 n x y (record { node = Primary b.both.primary.parts; held = b.both.primary.held }) (record { node = Replica r; held = b.both.replica.held }) old new b.moves b.both.primary.there b.both.replica.there
         (disk_same b.both.primary.parts.commits b.primary.commits f.primary.files.commits) (disk_same r.commits s.commits (ap (λ (z : ReplicaParts D). z.commits) f.others)))
         stay files.disks;
+    carried = λ name bytes out. files.carried name bytes (no_more name bytes out);
   }
     where
       drawn : MeansDrawn files.source (printed now)
@@ -375,7 +376,7 @@ module _ {D : Type 0} (cells : D → Cells) where
             (first (Some (Copying m w)) start started legal.1 turns.1)),
         files_ended size log (job_end two) old new p job lasting
             (grows_then (printed log) (printed one) (printed two) (grows_shown size (printed log) job.at (Switched job.node job.version) legal.1.1 legal.1.0) (grows_shown size (printed one) job.at (Copied m w) legal.1 legal.0))
-            shows files b node_p primary node is
+            (λ q bytes out. out) shows files b node_p primary node is
             (λ k other far. same_then log one (job_end two) k (others_one legal.1 turns.1 k other far) (same_then one two (job_end two) k (same_shown size one job.at k legal.1 turns.1 far (Copied m w) legal.0 turns.0 refl)
             (same_inner two (JobEnd job.at.line job.node job.number) k (ap not other))))
             (λ k. commits_then (printed log) (printed one) (printed two) k (stay_one (Some (Copying m w)) start started legal.1 turns.1 k)
@@ -392,7 +393,7 @@ module _ {D : Type 0} (cells : D → Cells) where
           two = shown job.at (Copied m w) ∷ one
       by (Some (Settling w)) start started legal turns = (
         shows_kept cells size one (JobEnd job.at.line job.node job.number) new (λ a. refl) (first (Some (Settling w)) start started legal turns),
-        files_ended size log (job_end one) old new p job lasting (grows_shown size (printed log) job.at (Switched job.node job.version) legal.1 legal.0) shows files b node_p primary node is
+        files_ended size log (job_end one) old new p job lasting (grows_shown size (printed log) job.at (Switched job.node job.version) legal.1 legal.0) (λ q bytes out. out) shows files b node_p primary node is
             (λ k other far. same_then log one (job_end one) k (others_one legal turns k other far) (same_inner one (JobEnd job.at.line job.node job.number) k (ap not other)))
             (stay_one (Some (Settling w)) start started legal turns)
             (ended_none job (printed log) (printed one) (last_job false job.node.0 log) is)

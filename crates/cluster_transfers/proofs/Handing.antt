@@ -191,6 +191,7 @@ module _ {D : Type 0} (cells : D → Cells) where
           let here : states_like s b.primary.states ≡ states_like s b.at.parts.states = ap (states_like s) b.states in omega (arith, low, same_count, here))) at_p.1);
       disks = disks_kept cells files.source files.source log now size old new (λ name bytes is. is)
           (disk_moved p.0 x (record { node = Primary b.at.parts; held = b.at.held }) old new b.moves b.at.there (disk_same b.at.parts.commits b.primary.commits b.alters.files.commits)) (λ m. commits_alone (printed log) m) files.disks;
+      carried = files.carried;
     },
   )
     where

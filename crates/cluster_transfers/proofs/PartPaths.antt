@@ -149,6 +149,7 @@ module _ {D : Type 0} (cells : D → Cells) where
           mine;
       disks = disks_kept cells files.source files.source log log size old new (λ name bytes is. is) (disk_moved n x y old new b.moves b.at.there (disk_same r.commits s.commits (ap (λ (t : ReplicaParts D). t.commits) b.takes.others)))
           (λ m. commits_alone (printed log) m) files.disks;
+      carried = files.carried;
     },
   )
     where

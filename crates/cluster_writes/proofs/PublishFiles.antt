@@ -205,7 +205,7 @@ module _ {D : Type 0} (cells : D → Cells) where
     pub back_files : q ≡ p → FilesShow cells b1.log b1.nodes new
     back_files same =
         files_is cells r.log b1.log r.nodes b1.nodes new (e1 ∙ log_is r ended b0 view) (n1 ∙ nodes_is r ended b0 view)
-        (files_one cells r.nodes r.log r.log old new n.0 (record { node = Primary q; held = held }) x (grows_none (printed r.log))
+        (files_one cells r.nodes r.log r.log old new n.0 (record { node = Primary q; held = held }) x (grows_none (printed r.log)) (λ name bytes out. out)
         (holds_at (printed r.log) (holds_same cells (printed r.log) (Primary p) (Primary q) (ap (λ (z : PrimaryParts D). z.searchers.tickets) same) (ap (λ (z : PrimaryParts D). loose_of z) same)))
         (λ m other. job_stays r.log m) (λ m. commits_alone (printed r.log) m) (put_one cells n.0 (record { node = Primary q; held = held }) old mid new put) node there
         (keeps_at (subst (λ (z : PrimaryParts D). KeepsNodeFiles cells (Primary p) (Primary z)) (sym same) (node_alone cells (Primary p))))

@@ -1,18 +1,21 @@
 -- What the calls of merge and drain lines, and of tasks, make of a cluster.
 use Rattle.std.specs.Prelude.{ℕ, ◌≡◌, ◌≢◌, ◌<◌, ◌⊎◌, ◌∷◌, [], Bool, true, false, Option, Some, None, IsSome}
+use Rattle.nrt_base.specs.SegNumbers.{segments_of_generation}
 use Rattle.nrt_base.specs.declared.numbers.At.{At}
 use Rattle.nrt_base.specs.declared.numbers.LineNo.{LineNo}
 use Rattle.nrt_base.specs.declared.numbers.NodeNo.{NodeNo}
 use Rattle.nrt_base.specs.declared.numbers.SegNo.{SegNo}
 use Rattle.history_entries.specs.declared.cause.Cause.{Cause}
-use Rattle.history_entries.specs.declared.cause.Cause.TheVariants.{NoPrimary}
+use Rattle.history_entries.specs.declared.cause.Cause.TheVariants.{NoPrimary, Nothing, NamesSpent}
 use Rattle.history_entries.specs.declared.entry.Event.TheVariants.{Drained, Refused}
 use Rattle.history_entries.specs.Nodes.{primary_of}
 use Rattle.history_entries.specs.Lines.{publish_in_flight}
+use Rattle.history_entries.specs.Points.{names_drawn}
+use Rattle.merge_choice.specs.Choice.{IsFirstRange, HasNoRange}
 use Rattle.history_book.specs.Log.{printed, shown}
 use Rattle.history_book.specs.Jobs.{job_at}
 use Rattle.cluster_tasks.specs.TaskLog.{counted_for}
-use Rattle.cluster_tasks.specs.Board.{open_merge, spread_at, is_sent_to, is_copied}
+use Rattle.cluster_tasks.specs.Board.{open_merge, spread_at, has_copy_task, is_copied}
 use Rattle.cluster_places.specs.declared.tasks.FileTask.{FileTask}
 use Rattle.cluster_state.specs.Run.{Run}
 use Rattle.cluster_drains.specs.MergePaths.{IsBoard, IsAsBefore, BeginsMerge, HandsMergedFile, EndsCopyTask, CutsOver}
@@ -23,10 +26,17 @@ use Rattle.line_turns.specs.declared.turn.Turn.TheVariants.{Work, Done, Busy}
 abbrev pub RefusesMerge : At → Cause → Run → Run → Type 0
 RefusesMerge at cause old new = IsBoard old new (shown at (Refused cause) ∷ old.log) old.rest.tasks.rows old.rest.tasks.posted
 
--- a merge starts, or the line is refused for this cause
+-- A merge starts; or the line is refused: no inputs can be chosen; or some can, and the generation has drawn all its names.
 abbrev pub StartsOrRefuses : At → ℕ → Run → Run → Option Cause → Type 0
 StartsOrRefuses at factor old new None = BeginsMerge at factor old new
-StartsOrRefuses at factor old new (Some cause) = RefusesMerge at cause old new
+StartsOrRefuses at factor old new (Some Nothing) = RefusesMerge at Nothing old new × HasNoRange factor old.rest.sizes
+StartsOrRefuses at factor old new (Some NamesSpent) =
+    RefusesMerge at NamesSpent old new × ((from : ℕ) × IsFirstRange factor old.rest.sizes from) × (names_drawn (printed old.log) ≡ segments_of_generation)
+StartsOrRefuses at factor old new (Some cause) = ⊥
+
+-- one of these is so
+abbrev pub StartsAtPrimary : At → ℕ → Run → Run → Type 0
+StartsAtPrimary at factor old new = (cause : Option Cause) × StartsOrRefuses at factor old new cause
 
 -- A merge line: refused where no primary runs; then where no inputs can be chosen; then where they can and no name is left; else a merge starts.
 pub record MergeLine (at : At) (factor : ℕ) (old new : Run) : Type 0 where
@@ -41,14 +51,14 @@ EndsCopyOnce line seg by n job old new false = IsAsBefore old new
 
 -- the merge into the segment has no task of this kind that has not ended, and nothing has changed; or it goes on
 abbrev pub PrecopyTurns : LineNo → SegNo → Option At → NodeNo → ℕ → Run → Run → Turn FileTask → Type 0
-PrecopyTurns line seg by n job old new (Work file) = (is_sent_to n.0 job (spread_at (open_merge seg.0 old.rest.tasks.rows)) ≡ true) × HandsMergedFile line n job old new file
-PrecopyTurns line seg by n job old new Busy = (is_sent_to n.0 job (spread_at (open_merge seg.0 old.rest.tasks.rows)) ≡ true) × IsSome (job_at n.0 old.log) × IsAsBefore old new
-PrecopyTurns line seg by n job old new Done = EndsCopyOnce line seg by n job old new (is_sent_to n.0 job (spread_at (open_merge seg.0 old.rest.tasks.rows)))
+PrecopyTurns line seg by n job old new (Work file) = (has_copy_task n.0 job (spread_at (open_merge seg.0 old.rest.tasks.rows)) ≡ true) × HandsMergedFile line n job old new file
+PrecopyTurns line seg by n job old new Busy = (has_copy_task n.0 job (spread_at (open_merge seg.0 old.rest.tasks.rows)) ≡ true) × IsSome (job_at n.0 old.log) × IsAsBefore old new
+PrecopyTurns line seg by n job old new Done = EndsCopyOnce line seg by n job old new (has_copy_task n.0 job (spread_at (open_merge seg.0 old.rest.tasks.rows)))
 
 -- a part has come for a copy whose task has not ended, or has ended
 abbrev pub PartTurns : SegNo → NodeNo → ℕ → Run → Run → Turn Unit → Type 0
-PartTurns seg n job old new (Work w) = IsAsBefore old new × (is_sent_to n.0 job (spread_at (open_merge seg.0 old.rest.tasks.rows)) ≡ true)
-PartTurns seg n job old new Done = IsAsBefore old new × (is_sent_to n.0 job (spread_at (open_merge seg.0 old.rest.tasks.rows)) ≡ false)
+PartTurns seg n job old new (Work w) = IsAsBefore old new × (has_copy_task n.0 job (spread_at (open_merge seg.0 old.rest.tasks.rows)) ≡ true)
+PartTurns seg n job old new Done = IsAsBefore old new × (has_copy_task n.0 job (spread_at (open_merge seg.0 old.rest.tasks.rows)) ≡ false)
 PartTurns seg n job old new Busy = ⊥
 
 -- the merge was cut over, or was to be cut over no more

@@ -193,7 +193,8 @@ module _ {D : Type 0} (cells : D → Cells) where
     whole = whole;
     standing = λ is. is;
     sourced = λ source reads is. is;
-    appears = record { each = λ q none some. absurd (true≢false (sym some ∙ ap is_some none)) };
+    appears = subst (λ (o : Option Job). IfSome o (λ j. AppearsOnly (λ q. (0 < times j.missing part.name) × (q ≡ temp_name_of part.name number)) (cells r.dir) (cells r.dir))) (sym at)
+        (record { each = λ q none some. absurd (true≢false (sym some ∙ ap is_some none)) });
   }
     where
       with_same : (cs : List Job) (c : Job) → copy_at number cs ≡ Some c → copies_with number c cs ≡ cs
@@ -203,11 +204,11 @@ module _ {D : Type 0} (cells : D → Cells) where
           (λ here at. let same : x ≡ c = cc in ap (λ (z : Job). z ∷ cs) (sym same)) (λ apart at. ap (λ (l : List Job). x ∷ l) (with_same cs c at)) at
 
   -- the part is in
-  pub takes_part : (number : ℕ) (part : Part) (r s : ReplicaParts D) (c : Job) → copy_at number r.copies.running ≡ Some c
+  pub takes_part : (number : ℕ) (part : Part) (r s : ReplicaParts D) (c : Job) → copy_at number r.copies.running ≡ Some c → is_among c.missing part.name ≡ true
       → s ≡ record (record r { copies = record r.copies { running = copies_with number (with_part c part.name) r.copies.running } }) { dir = s.dir; files = s.files }
       → IsWholeReplica cells s → (AreStanding cells r → AreStanding cells s) → ((source : Name → Content) → source part.name ≡ Some part.bytes → IsSourced source cells r → IsSourced source cells s)
       → AppearsOnly (λ q. q ≡ temp_name_of part.name number) (cells r.dir) (cells s.dir) → TakesMerged cells number part r s
-  takes_part number part r s c at is whole standing sourced appears = record {
+  takes_part number part r s c at lacks is whole standing sourced appears = record {
     others = is ∙ ap (λ (m : MergeCopies). record r { dir = s.dir; files = s.files; copies = m }) (sym copies_are);
     pending = ap (λ (m : MergeCopies). m.pending) copies_are;
     copies = subst (λ (o : Option Job). IfSome o (λ j. IsSomeAnd (copy_at number s.copies.running) (λ d. (d.want ≡ j.want) × (s.copies.running ≡ copies_with number d r.copies.running)))) (sym at)
@@ -217,7 +218,8 @@ module _ {D : Type 0} (cells : D → Cells) where
     whole = whole;
     standing = standing;
     sourced = sourced;
-    appears = appears;
+    appears = subst (λ (o : Option Job). IfSome o (λ j. AppearsOnly (λ q. (0 < times j.missing part.name) × (q ≡ temp_name_of part.name number)) (cells r.dir) (cells s.dir))) (sym at)
+        (record { each = λ q none some. (among_times c.missing part.name lacks, appears.each q none some) });
   }
     where
       copies_are : s.copies ≡ record r.copies { running = copies_with number (with_part c part.name) r.copies.running }

@@ -132,7 +132,8 @@ module _ {D : Type 0} where
     pub runs : IsSome (copy_at number r.copies.running)
     pub wanted : IfSome (copy_at number r.copies.running) (λ c. (meta : FileMetaData) → meta_in c.want.files part.name ≡ Some meta → meta ≡ part.meta)
 
-  -- The part is in, or the copy did not lack it: only that copy was changed, which is of the same copy state.
+  -- The part is in, or the copy did not lack it: only that copy was changed, which is of the same copy state; what appears is the part's temporary
+  -- name, where it lacked it.
   pub record TakesMerged (cells : D → Cells) (number : ℕ) (part : Part) (old new : ReplicaParts D) : Type 0 where
     pub others : new ≡ record old { dir = new.dir; files = new.files; copies = new.copies }
     pub pending : new.copies.pending ≡ old.copies.pending
@@ -140,7 +141,7 @@ module _ {D : Type 0} where
     pub whole : IsWholeReplica cells new
     pub standing : AreStanding cells old → AreStanding cells new
     pub sourced : (source : Name → Content) → source part.name ≡ Some part.bytes → IsSourced source cells old → IsSourced source cells new
-    pub appears : AppearsOnly (λ q. q ≡ temp_name_of part.name number) (cells old.dir) (cells new.dir)
+    pub appears : IfSome (copy_at number old.copies.running) (λ c. AppearsOnly (λ q. (0 < times c.missing part.name) × (q ≡ temp_name_of part.name number)) (cells old.dir) (cells new.dir))
 
   -- The copy of this number runs, and misses nothing.
   pub record MaySettle (number : ℕ) (r : ReplicaParts D) : Type 0 where

@@ -14,6 +14,6 @@ arrived-requires-clause-wanted g c = part_fits g.D.Dir.cells _ _ c.in-Some.copy.
     (sym c.in-Some.ensures) c.lacks.ensures.job (sym c.if-not-lacks.ensures.is) c.requires.may.wanted
 
 pub returns : goal.returns
-returns g c = takes_part g.D.Dir.cells c.args.job c.args.part c.args.replica.now c.arrived.new.self c.in-Some.copy.now (sym c.in-Some.ensures)
+returns g c = takes_part g.D.Dir.cells c.args.job c.args.part c.args.replica.now c.arrived.new.self c.in-Some.copy.now (sym c.in-Some.ensures) (sym c.if-not-lacks.ensures.is)
     (part_is g.D.Dir.cells c.args.job c.args.part.name c.args.replica.now c.arrived.new.self c.in-Some.copy.now c.copy_runs.ensures c.version.ensures.whole (sym c.in-Some.ensures) c.in-Ok.ensures.ok)
     c.in-Ok.ensures.whole c.in-Ok.ensures.standing c.in-Ok.ensures.sourced c.in-Ok.ensures.appears
