@@ -1,7 +1,6 @@
 -- Who did tasks for no line has heard of what others did, and did nothing itself.
-use Rattle.std.proofs.Common.{◌≡◌, ◌≢◌, ◌==◌, ℕ, ◌<◌, ◌≤◌, Bool, true, false, List, [], ◌∷◌, ◌++◌, None, refl, ap, ◌∙◌, sym, subst, inl, inr, arith, reverse, cond, if◌then◌else◌}
+use Rattle.std.proofs.Common.{◌≡◌, ◌==◌, ℕ, ◌<◌, ◌≤◌, Bool, false, List, [], ◌∷◌, ◌++◌, None, refl, ap, ◌∙◌, sym, subst, inl, inr, arith, reverse, cond, if◌then◌else◌}
 use Rattle.std.specs.Prelude.{Result, Ok, Err, OnOk}
-use Rattle.std.specs.List.{AllByRecursion, filter}
 use Rattle.std.proofs.lemmas.List.{append-nil, reverse-append, reverse-reverse}
 use Rattle.std.proofs.lemmas.List.Elements.{filter-append}
 use Rattle.std.proofs.lemmas.Bool.Decides.{eqb_tells}
@@ -12,7 +11,7 @@ use Rattle.hist_lock.specs.declared.grows.Grows.{Ghosts}
 use Rattle.hist_lock.specs.declared.lock.HistLock.{HistLock}
 use Rattle.hist_lock.specs.declared.lock.LaneSeat.{LaneSeat}
 use Rattle.hist_lock.specs.History.{entries_by}
-use Rattle.hist_lock.specs.Seats.{history_seen, number_of, own_entries, view_of}
+use Rattle.hist_lock.specs.Seats.{history_seen, number_of, own_entries}
 use Rattle.lane_walks.specs.Walks.{NoneOf, GrowsByOthers}
 use Rattle.lane_seats.specs.Seats.{log_seen, IsLaneSeat}
 use Rattle.lane_parts.specs.declared.lane.Lane.{Lane}
@@ -32,7 +31,6 @@ named lane first =
 own_more : (lane : ℕ) → 1 ≤ lane → (more log : Log) → NoneOf lane more → entries_by name_of lane (reverse (more ++ log)) ≡ entries_by name_of lane (reverse log)
 own_more lane first [] log apart = refl
 own_more lane first (m ∷ more) log apart =
-    let mine : Mark → Bool = λ (x : Mark). name_of x == lane in
     let alone : entries_by name_of lane (m ∷ []) ≡ [] = elim (eqb_tells (name_of m) lane) [
       | inl same ↦ absurd (apart.0 (same.1 ∙ sym (named lane first)))
       | inr other ↦ ap (λ (b : Bool). cond b (m ∷ []) []) other.0
@@ -44,7 +42,8 @@ own_more lane first (m ∷ more) log apart =
 module _ {g : Ghosts Run Mark} (names : g.names ≡ name_of) (lock : HistLock Run Mark) where
   own_is : (lane : ℕ) (s : LaneSeat Run Mark g) → IsLaneSeat false lock lane s → own_entries s ≡ entries_by name_of lane (history_seen s)
   own_is lane s seat =
-      let positive : 0 < number_of s = let number = seat.number in let first = seat.first in omega arith in
+      let first : 1 ≤ number_of s = subst (λ (n : ℕ). 1 ≤ n) (sym seat.number) seat.first in
+      let positive : 0 < number_of s = omega (arith, first) in
       sym (subst (λ (n : ℕ). entries_by name_of n (history_seen s) ≡ own_entries s) seat.number
       (subst (λ (f : Mark → ℕ). entries_by f (number_of s) (history_seen s) ≡ own_entries s) names (s.recalls positive)))
 
