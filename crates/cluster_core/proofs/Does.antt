@@ -2,7 +2,7 @@
 use Rattle.std.proofs.Common.{◌≡◌, ◌≢◌, ◌&&◌, ◌||◌, ◌==◌, ◌+◌, ℕ, Bool, true, false, List, [], ◌∷◌, Some, None, Option, refl, ap, ◌∙◌, sym, subst, if◌then◌else◌, length, inr, arith}
 use Rattle.std.specs.Prelude.{not, is_some}
 use Rattle.std.specs.List.{list_any}
-use Rattle.std.proofs.lemmas.Bool.{and_from}
+use Rattle.std.proofs.lemmas.Bool.{and_from, and_parts}
 use Rattle.std.proofs.lemmas.Bool.Decides.{nat_tests}
 use Rattle.std.specs.Option.{option_or}
 use Rattle.nrt_base.specs.declared.numbers.At.{At}
@@ -277,10 +277,10 @@ open_refused at old new cause fresh is may now =
     one_does Publish at old new (Refused cause) now (first_suits Publish at (printed old.log) (Refused cause) fresh (subst (λ (r : Option Cause). First Publish at (printed old.log) r (Refused cause)) (sym is) may))
 
 refused_publish : (at : At) (old new : Run) (a : Option Cause) (z q s : Bool) → IsFresh at (printed old.log) → refusal Publish at.lane.0 (printed old.log) ≡ option_or a (when (q && s) NamesSpent)
-    → (z ≡ true → q ≡ false) → (length (cut_of (printed old.log)) == 0) ≡ z → PublishRefused at (option_or a (option_or (when z Nothing) (when (q && s) NamesSpent))) old new → Does Publish at old new
+    → (z ≡ true → q ≡ false) → (z ≡ true → (length (cut_of (printed old.log)) == 0) ≡ true) → PublishRefused at (option_or a (option_or (when z Nothing) (when (q && s) NamesSpent))) old new → Does Publish at old new
 refused_publish at old new (Some cause) z q s fresh is without empty refused = refused_does Publish at old new cause fresh is refused
 refused_publish at old new None true q s fresh is without empty refused =
-    open_refused at old new Nothing fresh (is ∙ ap (λ (b : Bool). when (b && s) NamesSpent) (without refl)) empty refused
+    open_refused at old new Nothing fresh (is ∙ ap (λ (b : Bool). when (b && s) NamesSpent) (without refl)) (empty refl) refused
 refused_publish at old new None false true true fresh is without empty refused = refused_does Publish at old new NamesSpent fresh is refused
 refused_publish at old new None false true false fresh is without empty refused =
     open_refused at old new TooManySegments fresh is (and_from (cut_has_put (printed old.log)) (may_be_full (printed old.log)) refused.1 refused.2) refused.0
@@ -304,15 +304,18 @@ publish_does at old new (Work task) running fresh starts = record {
       (
         refl,
         first_suits Publish at (printed old.log) Publishing fresh (subst (λ (r : Option Cause). First Publish at (printed old.log) r Publishing)
-            (sym (no_refusal (without_primary (printed old.log)) (length (cut_of (printed old.log)) == 0) (cut_has_put (printed old.log) && names_are_spent (printed old.log)) starts.1)) tt),
+            (sym (no_refusal (without_primary (printed old.log)) ((length (cut_of (printed old.log)) == 0) && not old.rest.cut) (cut_has_put (printed old.log) && names_are_spent (printed old.log)) starts.1)) tt),
         tt,
       ),
     );
   };
 }
 publish_does at old new Done running fresh starts =
-    refused_publish at old new (without_primary (printed old.log)) (length (cut_of (printed old.log)) == 0) (cut_has_put (printed old.log)) (names_are_spent (printed old.log)) fresh refl
-    (empty_no_put (cut_of (printed old.log))) refl starts.0
+    refused_publish at old new (without_primary (printed old.log)) ((length (cut_of (printed old.log)) == 0) && not old.rest.cut) (cut_has_put (printed old.log)) (names_are_spent (printed old.log)) fresh refl
+    (λ is. empty_no_put (cut_of (printed old.log)) (empty is)) empty starts.0
+  where
+    empty : ((length (cut_of (printed old.log)) == 0) && not old.rest.cut) ≡ true → (length (cut_of (printed old.log)) == 0) ≡ true
+    empty is = (and_parts (length (cut_of (printed old.log)) == 0) (not old.rest.cut) is).0
 publish_does at old new Busy running fresh starts =
     none_does Publish at old new (subst (λ (r : Run). IsNow old r old.log) (sym starts.0) (record { running = running; nodes = refl; log = refl }))
 
@@ -322,7 +325,7 @@ refused_replied at old new (Some cause) refused = one_replied at old new (Refuse
 
 pub publish_replied : (at : At) (old new : Run) (turn : Turn FlushTask) → PublishStarts at old new turn → IsRepliedAtDone at new turn
 publish_replied at old new (Work task) starts = tt
-publish_replied at old new Done starts = refused_replied at old new (publish_refusal (printed old.log)) starts.0
+publish_replied at old new Done starts = refused_replied at old new (publish_refusal old.rest.cut (printed old.log)) starts.0
 publish_replied at old new Busy starts = tt
 
 pub publish_begun : (at : At) (old new : Run) (turn : Turn FlushTask) → IsFresh at (printed old.log) → PublishStarts at old new turn → IsBegunAtWork at (λ task. Publishing) new turn

@@ -80,6 +80,13 @@ impl<D: FaultDir + Drop> ClusterState<D> {
         self.ended
     }
 
+    /// Whether a merge was cut over since the last point.
+    pub fn has_cut_over(&self) -> bool
+        ensures { result ≡ self.now.rest.cut }
+    {
+        self.ledger.has_cut()
+    }
+
     /// The running primary, which is a node.
     pub fn primary(&self) -> Option<NodeNo>
         requires running { self.now.ended ≡ false }

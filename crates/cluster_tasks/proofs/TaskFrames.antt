@@ -151,7 +151,7 @@ tasks_on size log b new lines told less counts s = record {
   counts = λ at none. ap (done_under at) counts ∙ s.counts at none;
 }
 
-ends_most : (lines : At → Bool) (line : LineNo) (seg : SegNo) (taker : Option At) (step : Step) (counts : Bool) → ends_task_by lines (TaskEnd line seg taker step counts) ≤ ends_task (TaskEnd line seg taker step counts)
+pub ends_most : (lines : At → Bool) (line : LineNo) (seg : SegNo) (taker : Option At) (step : Step) (counts : Bool) → ends_task_by lines (TaskEnd line seg taker step counts) ≤ ends_task (TaskEnd line seg taker step counts)
 ends_most lines line seg None step true = omega arith
 ends_most lines line seg None step false = omega arith
 ends_most lines line seg (Some at) step false = omega arith

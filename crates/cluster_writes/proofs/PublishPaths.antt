@@ -1,5 +1,5 @@
 -- What each path of the primary leaves, from what its calls say.
-use Rattle.std.proofs.Common.{◌≡◌, ◌≢◌, ◌≤◌, ◌<◌, ◌+◌, ◌-◌, ◌^◌, ◌==◌, ◌↔◌, inl, ℕ, Bool, true, false, true≢false, if◌then◌else◌, List, [], ◌∷◌, ◌++◌, Some, None, Option, Ok, Err, Result, Vec, Global, length, refl, ap, ◌∙◌, sym, subst, arith}
+use Rattle.std.proofs.Common.{◌≡◌, ◌≢◌, ◌≤◌, ◌<◌, ◌+◌, ◌-◌, ◌^◌, ◌==◌, ◌↔◌, ◌⊎◌, ⊎_elim, inl, inr, ℕ, Bool, true, false, true≢false, if◌then◌else◌, List, [], ◌∷◌, ◌++◌, Some, None, Option, Ok, Err, Result, Vec, Global, length, refl, ap, ◌∙◌, sym, subst, arith}
 use Rattle.std.specs.Prelude.{IsSomeAnd, IfSome, IsSome, IsTrue, OnErr}
 use Rattle.std.proofs.lemmas.Bool.{eqb-true}
 use Rattle.nrt_base.specs.SegNumbers.{segments_of_generation}
@@ -14,7 +14,7 @@ use Rattle.seg_reader.specs.Shown.{Shown}
 use Rattle.history_entries.specs.declared.entry.Event.TheVariants.{Accepted, Publishing, Published}
 use Rattle.history_entries.specs.Nodes.{IsNode, primary_of, newest_version, generation_of, accepted_count}
 use Rattle.history_entries.specs.Lines.{same_at, publish_in_flight, is_free_for}
-use Rattle.history_entries.specs.Points.{operations_of_generation, cut_of, cut_has_put, names_drawn}
+use Rattle.history_entries.specs.Points.{operations_of_generation, cut_of, cut_has_put, names_drawn, merges_started, idle_publishes}
 use Rattle.history_entries.specs.Legal.{KeepsRule, IsLegalPast}
 use Rattle.script_serving.specs.Refusals.{may_be_full}
 use Rattle.history_tables.proofs.RowLemmas.{by_test, same_at_self}
@@ -35,11 +35,15 @@ use Rattle.cluster_places.specs.declared.held.Held.{Held}
 use Rattle.cluster_places.specs.declared.nodes.Node.TheVariants.{Primary}
 use Rattle.cluster_places.specs.declared.nodes.Place.{Place}
 use Rattle.cluster_state.specs.Lookups.{Handed, or_older, flush_out}
+use Rattle.cluster_tasks.specs.Board.{Board}
+use Rattle.cluster_places.specs.Outs.{jobs_like}
 use Rattle.cluster_places.specs.Places.{place_of, HasPrimary}
 use Rattle.cluster_state.specs.Run.{Rest, Run, IsNow}
 use Rattle.cluster_state.specs.State.{PrimaryShows, PlaceShows, Shows}
+use Rattle.cluster_state.specs.Merging.{NodeMerges, MergesStand}
 use Rattle.cluster_state.specs.Writes.{HandsFlush, IsFlushed}
-use Rattle.cluster_state.proofs.Frames.{PutsBack, was, now_is, place_at, moved_at, moved_out}
+use Rattle.cluster_state.proofs.Ledgers.{asked_of}
+use Rattle.cluster_state.proofs.Frames.{PutsBack, some_at, was, now_is, place_at, moved_at, moved_out}
 use Rattle.cluster_writes.proofs.Written.{accepted_place, started_place, published_place}
 use Rattle.cluster_writes.proofs.Filling.{is_full}
 use Rattle.cluster_writes.proofs.Primaries.{others_apart, primary_there, has_primary, numbered, unpublished, is_work}
@@ -69,15 +73,25 @@ may_accept r ended b at p seq op view fresh primary next = record {
     some_none : Some p ≡ None → ⊥
     some_none is = absurd (cc)
 
-pub may_start : (r : Run) (at : At) (p : NodeNo) → primary_of (printed r.log) ≡ Some p → publish_in_flight (printed r.log) ≡ None → 0 < length (cut_of (printed r.log)) → KeepsRule r.nodes (printed r.log) at Publishing
-may_start r at p primary free some = record {
+-- a publish has an operation or a cut-over to publish, as the ledger says
+pub may_start : {left : Rest} (r : Run) (ended : Bool) (b : Sheet) (at : At) (p : NodeNo) (found : Bool) → record { ended = ended; nodes = b.nodes; log = b.log; rest = left } ≡ r
+    → primary_of (printed r.log) ≡ Some p → publish_in_flight (printed r.log) ≡ None → found ≡ left.cut → (found ≡ true → idle_publishes (printed b.log) < merges_started (printed b.log))
+    → (0 < length (cut_of (printed r.log))) ⊎ (r.rest.cut ≡ true) → KeepsRule r.nodes (printed r.log) at Publishing
+may_start r ended b at p found view primary free is owed some = record {
   running = λ none. some_none (sym primary ∙ none);
   alone = ap (λ (o : Option At). is_free_for at o) free;
-  some = inl some;
+  some = ⊎_elim (λ ops. inl ops)
+      (λ cut. inr (subst (λ (x : Run). idle_publishes (printed x.log) < merges_started (printed x.log)) view (owed (is ∙ (ap (λ (x : Run). x.rest.cut) view ∙ cut))))) some;
 }
   where
     some_none : Some p ≡ None → ⊥
     some_none is = absurd (cc)
+
+-- what the ledger is asked for
+pub asked_some : {r : Run} {ended : Bool} {nodes : ℕ} {left : Rest} {a log : Log} {cut : Bool} → record { ended = ended; nodes = nodes; log = log; rest = left } ≡ r → a ≡ log → cut ≡ left.cut
+    → (0 < length (cut_of (printed r.log))) ⊎ (r.rest.cut ≡ true) → (0 < length (cut_of (printed a))) ⊎ (cut ≡ true)
+asked_some view same is some =
+    ⊎_elim (λ ops. inl (asked_of (λ (l : Log). 0 < length (cut_of (printed l))) view same ops)) (λ cut. inr (is ∙ (ap (λ (x : Run). x.rest.cut) view ∙ cut))) some
 
 -- the end of a publish kept its rule, as the ledger says
 pub published_rule : (r : Run) (ended : Bool) (b0 b1 : Sheet) (at : At) (g : Gen) (v : Version) → {left : Rest} → record { ended = ended; nodes = b0.nodes; log = b0.log; rest = left } ≡ r
@@ -121,9 +135,15 @@ module _ {D : Type 0} (cells : D → Cells) where
       pub none_flies : publish_in_flight (printed r.log) ≡ None → p.publish ≡ None
       none_flies free = unpublished cells r.log n.0 p free primary_at
 
-      -- operations wait
-      pub not_idle : 0 < length (cut_of (printed r.log)) → IsIdle p.waiting p.has_cut_over → ⊥
-      not_idle some idle = let same : length p.waiting ≡ length (cut_of (printed r.log)) = ap length primary_at.waiting in let none = idle.0 in absurd (omega (arith, some, same, none))
+      -- operations wait, or it was cut over
+      pub not_idle : (board : Board) → left.cut ≡ b.cut → MergesStand b.log b.cut b.nodes board places → (0 < length (cut_of (printed r.log))) ⊎ (r.rest.cut ≡ true) → IsIdle p.waiting p.has_cut_over → ⊥
+      not_idle board cut_is stand some idle =
+          ⊎_elim (λ ops. let same : length p.waiting ≡ length (cut_of (printed r.log)) = ap length primary_at.waiting in let none = idle.0 in absurd (omega (arith, ops, same, none)))
+          (λ cut. true≢false (sym (sym cut_is ∙ (ap (λ (x : Run). x.rest.cut) view ∙ cut)) ∙ (sym over ∙ idle.1))) some
+        where
+          over : p.has_cut_over ≡ b.cut
+          over = (some_at (λ z. NodeMerges b.log b.cut (λ s. jobs_like places s b.nodes) board.rows n.0 z.node) (place_of places n.0) (record { node = Primary p; held = held }) (there ∙ ap Some is)
+              (stand.each n.0 (subst (λ (k : ℕ). IsNode k n.0) (sym (nodes_is r ended b view)) node))).cut_over
 
       -- a name is there where one is needed
       pub not_spent : (cut_has_put (printed r.log) ≡ true → names_drawn (printed r.log) ≢ segments_of_generation) → AreSpent p.waiting p.infos → ⊥

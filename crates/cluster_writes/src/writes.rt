@@ -1,6 +1,6 @@
 //! What the primary accepts, and publishes.
 
-ghost use Rattle.std.specs.Prelude.{◌≡◌, ◌≢◌, ◌+◌, ◌<◌, ◌^◌, ◌∷◌, [], false, true, None, Some, IfSome, OnOk, OnErr, IfOk, length};
+ghost use Rattle.std.specs.Prelude.{◌≡◌, ◌≢◌, ◌+◌, ◌<◌, ◌^◌, ◌∷◌, ◌⊎◌, [], false, true, None, Some, IfSome, OnOk, OnErr, IfOk, length};
 ghost use Rattle.nrt_base.specs.SegNumbers.{segments_of_generation};
 ghost use Rattle.history_entries.specs.Nodes.{IsNode, primary_of, newest_version, generation_of, accepted_count};
 ghost use Rattle.history_entries.specs.Lines.{entries_of_line, publish_in_flight};
@@ -80,7 +80,7 @@ pub fn accept_at<D: FaultDir + Drop>(
     Ok(())
 }
 
-/// Starts a publish of a cut that is not empty, and hands it out: `flush` makes the work, and `end_publish` takes it back.
+/// Starts a publish, which has an operation or a cut-over to publish, and hands it out: `flush` makes the work, and `end_publish` takes it back.
 /// None is answered where there is a put and there are as many segments as there may be, and then all is as before. `Err`
 /// is want of memory: the cluster has ended, and the history is as before.
 pub fn start_publish<D: FaultDir + Drop>(
@@ -94,7 +94,7 @@ pub fn start_publish<D: FaultDir + Drop>(
     requires node { IsNode cluster.old.nodes p.0 }
     requires primary { primary_of (printed cluster.old.log) ≡ Some p }
     requires free { publish_in_flight (printed cluster.old.log) ≡ None }
-    requires some { 0 < length (cut_of (printed cluster.old.log)) }
+    requires some { (0 < length (cut_of (printed cluster.old.log))) ⊎ (cluster.old.rest.cut ≡ true) }
     requires names { cut_has_put (printed cluster.old.log) ≡ true
         → names_drawn (printed cluster.old.log) ≢ segments_of_generation }
     ensures ok { IfOk result (StartsPublish at cluster.old cluster.new) }
@@ -102,6 +102,7 @@ pub fn start_publish<D: FaultDir + Drop>(
 {
     let book = cluster.ledger.book();
     book.is_fresh(at);
+    cluster.ledger.has_cut();
     cluster.ended = true;
     cluster.ledger.reserve(2)?;
     let (mut primary, held) = primary_in(take(&mut cluster.places, p));

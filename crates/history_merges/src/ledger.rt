@@ -40,7 +40,7 @@ impl Ledger {
     ghost use Rattle.std.specs.Prelude.{◌≡◌, ◌≢◌, ◌≤◌, ◌<◌, ◌+◌, ◌∷◌, ◌⊎◌, [], false, true, None, Some, IfOk, OnOk, length, reverse, if◌then◌else◌};
     ghost use Rattle.history_entries.specs.Nodes.{IsNode, is_at, is_running, primary_of, generation_of, newest_version};
     ghost use Rattle.history_entries.specs.Lines.{is_start, is_free_for, publish_in_flight};
-    ghost use Rattle.history_entries.specs.Points.{cut_of};
+    ghost use Rattle.history_entries.specs.Points.{cut_of, merges_started, idle_publishes};
     ghost use Rattle.history_entries.specs.Rules.{MayStartMerge, MayPromote};
     ghost use Rattle.history_entries.specs.Legal.{KeepsRule, IsLegalPast};
     ghost use Rattle.history_tables.specs.Openings.{opens_ticket};
@@ -270,9 +270,11 @@ impl Ledger {
         self.merges.get(seg)
     }
 
-    /// Whether a merge was cut over since the last point.
+    /// Whether a merge was cut over since the last point: then fewer publishes than merges added nothing.
     pub fn has_cut(&self) -> bool
-        ensures { result ≡ self.now.cut }
+        ensures is { result ≡ self.now.cut }
+        ensures owed { result ≡ true
+            → idle_publishes (printed self.now.log) < merges_started (printed self.now.log) }
     {
         self.merges.has_cut()
     }

@@ -1,5 +1,5 @@
 -- What the calls of lines do: the entries that they add, and what they hand out.
-use Rattle.std.specs.Prelude.{ℕ, ◌≡◌, ◌≢◌, ◌+◌, ◌∷◌, ◌==◌, ◌&&◌, true, List, length, if◌then◌else◌, Option, Some, None}
+use Rattle.std.specs.Prelude.{ℕ, ◌≡◌, ◌≢◌, ◌+◌, ◌∷◌, ◌==◌, ◌&&◌, Bool, true, not, List, length, if◌then◌else◌, Option, Some, None}
 use Rattle.disk_model.specs.Disk.{Name}
 use Rattle.std.specs.Option.{option_or}
 use Rattle.nrt_base.specs.declared.numbers.At.{At}
@@ -49,13 +49,13 @@ abbrev pub IsRefusedFor : At → Option Cause → Run → Run → Type 0
 IsRefusedFor at None old new = ⊥
 IsRefusedFor at (Some cause) old new = LineRefused at cause old new
 
--- why a publish is refused for its cut: it is empty, or it has a put and every name is drawn
-abbrev pub cut_refusal : Past → Option Cause
-cut_refusal past = option_or (when (length (cut_of past) == 0) Nothing) (when (cut_has_put past && names_are_spent past) NamesSpent)
+-- why a publish is refused for its cut: it is empty and no merge was cut over since the last point, or it has a put and every name is drawn
+abbrev pub cut_refusal : Bool → Past → Option Cause
+cut_refusal cut past = option_or (when ((length (cut_of past) == 0) && not cut) Nothing) (when (cut_has_put past && names_are_spent past) NamesSpent)
 
 -- why a publish is refused that is not for its segments: the first of its row that holds
-abbrev pub publish_refusal : Past → Option Cause
-publish_refusal past = option_or (without_primary past) (cut_refusal past)
+abbrev pub publish_refusal : Bool → Past → Option Cause
+publish_refusal cut past = option_or (without_primary past) (cut_refusal cut past)
 
 -- a publish was refused: for the cause that holds, or where none holds and the cut has a put, for too many segments, as many as there may be
 abbrev pub PublishRefused : At → Option Cause → Run → Run → Type 0
@@ -64,8 +64,8 @@ PublishRefused at None old new = LineRefused at TooManySegments old new × (cut_
 
 -- a publish starts: it is handed out, refused, or waits while another line's is in flight
 abbrev pub PublishStarts : At → Run → Run → Turn FlushTask → Type 0
-PublishStarts at old new (Work task) = HandsFlush at old new task × (publish_refusal (printed old.log) ≡ None) × (publish_in_flight (printed old.log) ≡ None)
-PublishStarts at old new Done = PublishRefused at (publish_refusal (printed old.log)) old new × (primary_of (printed old.log) ≢ None → publish_in_flight (printed old.log) ≡ None)
+PublishStarts at old new (Work task) = HandsFlush at old new task × (publish_refusal old.rest.cut (printed old.log) ≡ None) × (publish_in_flight (printed old.log) ≡ None)
+PublishStarts at old new Done = PublishRefused at (publish_refusal old.rest.cut (printed old.log)) old new × (primary_of (printed old.log) ≢ None → publish_in_flight (printed old.log) ≡ None)
 PublishStarts at old new Busy = (new ≡ old) × (primary_of (printed old.log) ≢ None) × (publish_in_flight (printed old.log) ≢ None)
 
 -- how a publish ends: its line is lost exactly where the primary has crashed since its start, and else the next version is published

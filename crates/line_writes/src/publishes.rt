@@ -42,12 +42,12 @@ pub fn accept<D: FaultDir + Drop>(
     }
 }
 
-// Why a publish is refused for its cut.
-fn cut_refusal(book: &Book) -> Option<Cause>
-    ensures is { result ≡ cut_refusal_lem (printed book.now.log) }
+// Why a publish is refused for its cut, where a merge was cut over since the last point or not.
+fn cut_refusal(book: &Book, cut: bool) -> Option<Cause>
+    ensures is { result ≡ cut_refusal_lem cut (printed book.now.log) }
     ensures cause { IfSome result (λ cause. is_disk_fault cause ≡ false) }
 {
-    if book.cut_length() == 0 {
+    if book.cut_length() == 0 && !cut {
         Some(Cause::Nothing)
     } else if book.cut_has_put() && book.names() as u64 == SegNo::OF_GENERATION {
         Some(Cause::NamesSpent)
@@ -57,6 +57,7 @@ fn cut_refusal(book: &Book) -> Option<Cause>
 }
 
 /// Starts a publish.
+#[tactic(auto, using(crate::proofs::CutRows::cut_some, crate::proofs::CutRows::cut_names))]
 pub fn publish_start<D: FaultDir + Drop>(
     state: &mut ClusterState<D>,
     alloc: Global,
@@ -73,7 +74,8 @@ pub fn publish_start<D: FaultDir + Drop>(
     if state.book().publishing().is_some() {
         return Ok(Turn::Busy);
     }
-    if let Some(cause) = cut_refusal(state.book()) {
+    let cut = state.has_cut_over();
+    if let Some(cause) = cut_refusal(state.book(), cut) {
         return refuse_turn(state, at, cause);
     }
     match start_publish(alloc, state, at, p)? {

@@ -1,14 +1,13 @@
-use Rattle.std.proofs.Common.{false, ◌∙◌, refl, ◌≡◌, [], ◌<◌, sym, inl, length, ap, Some}
+use Rattle.std.proofs.Common.{false, ◌∙◌, refl, ◌≡◌, [], sym, ap, Some}
 use Rattle.history_entries.specs.declared.entry.Event.TheVariants.{Publishing}
 use Rattle.primary_parts.specs.declared.parts.PublishFault.TheVariants.{NamesSpent, TooManySegments}
 use Rattle.cluster_state.proofs.Frames.{slot_at, slot_kept, there_at, rule_at}
-use Rattle.cluster_writes.proofs.PublishPaths.{ok_at, err_at, on_err, primary_stands, none_flies, not_idle, not_spent, is_full_at, hands_out, asked_task, may_start, start_path, back_path}
+use Rattle.cluster_writes.proofs.PublishPaths.{ok_at, err_at, on_err, primary_stands, none_flies, not_idle, not_spent, is_full_at, hands_out, asked_task, may_start, asked_some, start_path, back_path}
 use Rattle.cluster_state.proofs.Turning.{log_is, nodes_is}
 use Rattle.cluster_writes.proofs.PublishFiles.{back_files, start_files}
 use Rattle.cluster_state.proofs.Ledgers.{asked_of, fresh_of, unbegun_of}
 use Rattle.history_entries.specs.Lines.{entries_of_line}
 use Rattle.history_book.specs.Log.{Log, printed}
-use Rattle.history_entries.specs.Points.{cut_of}
 use Rattle.cluster_state.proofs.MergingPaths.{third_at, put_shown, put_same}
 use Rattle.cluster_state.proofs.MergingStill.{primary_keeps, stand_kept, all_keep}
 use Rattle.cluster_places.specs.declared.nodes.Node.TheVariants.{Primary}
@@ -39,19 +38,19 @@ show_publishing-requires-clause-fresh g c = unbegun_of (fresh_of (c.book-book.en
 
 pub show_publishing-requires-clause-primary : goal.show_publishing-requires-clause-primary
 show_publishing-requires-clause-primary g c = (rule_at c.args.cluster.now _ c.cluster.inside.ledger c.reserve.new.self c.args.at Publishing c.cluster.view_is c.in_ok-reserve.ensures.log c.in_ok-reserve.ensures.nodes
-    (may_start c.args.cluster.now c.args.at c.args.p c.requires.primary c.requires.free c.requires.some)).running
+    (may_start c.args.cluster.now _ c.cluster.inside.ledger c.args.at c.args.p c.has_cut.result c.cluster.view_is c.requires.primary c.requires.free c.has_cut.ensures.is c.has_cut.ensures.owed c.requires.some)).running
 
 pub show_publishing-requires-clause-alone : goal.show_publishing-requires-clause-alone
 show_publishing-requires-clause-alone g c = (rule_at c.args.cluster.now _ c.cluster.inside.ledger c.reserve.new.self c.args.at Publishing c.cluster.view_is c.in_ok-reserve.ensures.log c.in_ok-reserve.ensures.nodes
-    (may_start c.args.cluster.now c.args.at c.args.p c.requires.primary c.requires.free c.requires.some)).alone
+    (may_start c.args.cluster.now _ c.cluster.inside.ledger c.args.at c.args.p c.has_cut.result c.cluster.view_is c.requires.primary c.requires.free c.has_cut.ensures.is c.has_cut.ensures.owed c.requires.some)).alone
 
 pub show_publishing-requires-clause-some : goal.show_publishing-requires-clause-some
-show_publishing-requires-clause-some g c = inl (asked_of (λ (l : Log). 0 < length (cut_of (printed l))) c.cluster.view_is c.in_ok-reserve.ensures.log c.requires.some)
+show_publishing-requires-clause-some g c = asked_some c.cluster.view_is c.in_ok-reserve.ensures.log c.in_ok-reserve.ensures.cut c.requires.some
 
 pub unreachable-requires : goal.unreachable-requires
 unreachable-requires g c = not_idle g.D.Dir.cells c.args.cluster.now _ c.cluster.inside.ledger _ c.args.p c.take.result c.cluster.view_is c.requires.running (λ e. (c.cluster.invariant e).0) c.requires.node c.take.ensures.place
     c.primary_in-primary.result.0 c.primary_in-primary.result.1 c.primary_in-primary.ensures
-    c.requires.some (c.publish_start-started.ensures.idle.0 (ok_at _ _ _ c.in-Ok-None.is c.in-Ok-None.field-0-is))
+    c.cluster.inside.tasks refl (third_at c.cluster.view_is c.requires.running c.cluster.invariant) c.requires.some (c.publish_start-started.ensures.idle.0 (ok_at _ _ _ c.in-Ok-None.is c.in-Ok-None.field-0-is))
 
 pub is_for_segments-requires : goal.is_for_segments-requires
 is_for_segments-requires g c = λ is. not_spent g.D.Dir.cells c.args.cluster.now _ c.cluster.inside.ledger _ c.args.p c.take.result c.cluster.view_is c.requires.running (λ e. (c.cluster.invariant e).0) c.requires.node c.take.ensures.place
@@ -100,7 +99,7 @@ invariant_of-cluster-2 g c = λ running.
           c.take.result c.primary_in-primary.result.0 c.publish_start-started.new.self c.primary_in-primary.result.1
           c.cluster.view_is c.requires.running (λ e. (c.cluster.invariant e).0) c.in_ok-reserve.ensures.log c.in_ok-reserve.ensures.nodes c.show_publishing.ensures.log c.show_publishing.ensures.nodes c.show_publishing.ensures.legal c.show_publishing.ensures.turns
           c.keep.ensures.log c.keep.ensures.nodes (fresh_of c.book-book.ensures.log c.is_fresh.ensures)
-          (may_start c.args.cluster.now c.args.at c.args.p c.requires.primary c.requires.free c.requires.some)
+          (may_start c.args.cluster.now _ c.cluster.inside.ledger c.args.at c.args.p c.has_cut.result c.cluster.view_is c.requires.primary c.requires.free c.has_cut.ensures.is c.has_cut.ensures.owed c.requires.some)
           c.requires.node c.requires.primary
           (record { count = c.take.ensures.count; taken = c.take.ensures.places; again = c.put.ensures.count; there = c.put.ensures.places })
           c.take.ensures.place c.primary_in-primary.ensures (c.in-Ok.ensures ∙ task.0.segs) task.1 c.publish_start-started.ensures.whole,
@@ -109,7 +108,7 @@ invariant_of-cluster-2 g c = λ running.
           (record { count = c.take.ensures.count; taken = c.take.ensures.places; again = c.put.ensures.count; there = c.put.ensures.places })
           c.take.ensures.place c.primary_in-primary.ensures
           c.show_publishing.new.self c.args.at c.show_publishing.ensures.legal c.show_publishing.ensures.turns c.keep.new.self c.in-Ok-Some.task.seg c.in-Ok.segs c.show_publishing.ensures.log c.show_publishing.ensures.nodes c.keep.ensures.log c.keep.ensures.nodes
-          (fresh_of c.book-book.ensures.log c.is_fresh.ensures) (may_start c.args.cluster.now c.args.at c.args.p c.requires.primary c.requires.free c.requires.some) task.1 c.publish_start-started.ensures.drawn task.0.seg c.requires.names,
+          (fresh_of c.book-book.ensures.log c.is_fresh.ensures) (may_start c.args.cluster.now _ c.cluster.inside.ledger c.args.at c.args.p c.has_cut.result c.cluster.view_is c.requires.primary c.requires.free c.has_cut.ensures.is c.has_cut.ensures.owed c.requires.some) task.1 c.publish_start-started.ensures.drawn task.0.seg c.requires.names,
       (let begun = put_shown g.D.Dir.cells c.cluster.inside.tasks c.args.cluster.now _ c.cluster.inside.ledger c.reserve.new.self _ c.take.new.places.items _ c.args.p.0
           (record { node = Primary c.publish_start-started.new.self; held = c.primary_in-primary.result.1 }) (record { node = Primary c.primary_in-primary.result.0; held = c.primary_in-primary.result.1 })
           c.cluster.view_is c.in_ok-reserve.ensures.log c.in_ok-reserve.ensures.nodes c.in_ok-reserve.ensures.cut c.requires.node
