@@ -1,5 +1,5 @@
 -- How many calls of its directory the commit at a node still needs, before and after the calls of the two paths.
-use Rattle.std.proofs.Common.{◌≡◌, ◌≢◌, ◌==◌, ◌+◌, ℕ, zero, suc, Bool, true, false, true≢false, List, Some, None, Option, refl, ap, ◌∙◌, sym, subst, if◌then◌else◌, arith}
+use Rattle.std.proofs.Common.{◌≡◌, ◌≢◌, ◌+◌, ℕ, zero, suc, Bool, true, false, true≢false, List, Some, None, Option, refl, ap, ◌∙◌, sym, subst, if◌then◌else◌, arith}
 use Rattle.std.specs.Prelude.{unwrap_or, option_map, IsSome, IsSomeAnd, map}
 use Rattle.std.specs.List.{slice_get}
 use Rattle.std.proofs.lemmas.Bool.{eq-eqb}
@@ -11,7 +11,7 @@ use Rattle.commit_steps.specs.declared.stage.Stage.TheVariants.{Begun, Synced, W
 use Rattle.commit_steps.specs.declared.stage.CommitBook.{CommitBook}
 use Rattle.commit_steps.specs.Book.{HasBegun, IsBegun, book_by, is_last_step}
 use Rattle.cluster_places.specs.declared.nodes.Node.{Node}
-use Rattle.cluster_places.specs.declared.nodes.Node.TheVariants.{Primary, Replica, Down}
+use Rattle.cluster_places.specs.declared.nodes.Node.TheVariants.{Primary, Replica}
 use Rattle.cluster_places.specs.declared.nodes.Place.{Place}
 use Rattle.cluster_places.specs.Places.{place_of, unwrapped, disk_of}
 use Rattle.cluster_places.specs.JobPlaces.{MovesOne}

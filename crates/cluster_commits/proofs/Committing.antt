@@ -1,8 +1,8 @@
 -- What a commit that begins, or makes a call of the directory, leaves of its node and of the others.
-use Rattle.std.proofs.Common.{◌≡◌, ◌≢◌, ◌≤◌, ◌<◌, ◌==◌, ◌||◌, inl, inr, ◌⊎◌, ℕ, Bool, true, false, true≢false, List, [], ◌∷◌, Some, None, Option, Vec, Global, zero, suc, refl, ap, ◌∙◌, sym, subst, arith, if◌then◌else◌}
-use Rattle.std.specs.Prelude.{IsSomeAnd, IfSome, IsSome, not, is_some, Contains}
+use Rattle.std.proofs.Common.{◌≡◌, ◌≢◌, ◌≤◌, ◌<◌, ◌==◌, ◌||◌, inl, inr, ℕ, Bool, true, false, true≢false, List, [], ◌∷◌, Some, None, Option, Vec, Global, zero, suc, refl, ap, ◌∙◌, sym, subst, arith, if◌then◌else◌}
+use Rattle.std.specs.Prelude.{IsSomeAnd, IsSome, not, is_some, Contains}
 use Rattle.std.specs.List.{list_any}
-use Rattle.std.proofs.lemmas.Bool.{eqb-true, eq-eqb}
+use Rattle.std.proofs.lemmas.Bool.{eq-eqb}
 use Rattle.nrt_base.specs.declared.numbers.At.{At}
 use Rattle.nrt_base.specs.declared.numbers.NodeNo.{NodeNo}
 use Rattle.nrt_base.specs.declared.numbers.Version.{Version}
@@ -14,7 +14,7 @@ use Rattle.commit_steps.specs.declared.states.Commit.{Commit}
 use Rattle.commit_steps.specs.declared.stage.Stage.{Stage}
 use Rattle.commit_steps.specs.declared.stage.Stage.TheVariants.{Begun, Synced, Written, Pending, Named, Renamed}
 use Rattle.commit_steps.specs.declared.stage.CommitBook.{CommitBook}
-use Rattle.commit_steps.specs.Book.{commit_of, book_by, book_after, is_last_step, IsBegun, HasBegun}
+use Rattle.commit_steps.specs.Book.{commit_of, book_by, is_last_step, IsBegun, HasBegun}
 use Rattle.node_files.specs.Appearing.{IsNameInFlight}
 use Rattle.searcher_switch.specs.declared.open.Open.{Open}
 use Rattle.searcher_switch.specs.declared.open.Point.{Point}
@@ -22,7 +22,7 @@ use Rattle.primary_parts.specs.declared.parts.Parts.{Parts as PrimaryParts}
 use Rattle.primary_parts.specs.declared.parts.Publish.{Publish}
 use Rattle.primary_parts.specs.declared.states.Out.{Out}
 use Rattle.primary_parts.specs.Held.{IsUndrawn}
-use Rattle.primary_parts.specs.Primary.{IsPrimary, loose_of, filled_of}
+use Rattle.primary_parts.specs.Primary.{loose_of, filled_of}
 use Rattle.replica_opening.specs.Known.{IsLasting}
 use Rattle.replica_parts.specs.declared.job.PointJob.{PointJob}
 use Rattle.replica_parts.specs.declared.parts.Parts.{Parts as ReplicaParts}
@@ -30,10 +30,9 @@ use Rattle.history_entries.specs.declared.entry.Event.{Event}
 use Rattle.history_entries.specs.declared.entry.Event.TheVariants.{Publishing, Committing, Committed}
 use Rattle.history_entries.specs.Nodes.{Past, IsNode, is_at, primary_of, is_running, version_of}
 use Rattle.history_entries.specs.Lines.{start_entry, without_at, publish_in_flight, commit_in_flight}
-use Rattle.history_entries.specs.Commits.{has_committed, reopenable_versions}
+use Rattle.history_entries.specs.Commits.{reopenable_versions}
 use Rattle.history_entries.specs.Rules.{MayHaveName, MayCommit}
 use Rattle.history_entries.specs.Legal.{KeepsRule, IsLegalPast}
-use Rattle.history_tables.specs.declared.jobs.Job.{Job}
 use Rattle.history_tables.proofs.RowLemmas.{same_at_self}
 use Rattle.history_book.specs.Laws.{IsFresh, may_find}
 use Rattle.history_book.specs.Log.{Log, printed, shown}
@@ -47,21 +46,20 @@ use Rattle.cluster_places.specs.declared.nodes.Node.TheVariants.{Primary, Replic
 use Rattle.cluster_places.specs.declared.nodes.Place.{Place}
 use Rattle.cluster_places.specs.Places.{Disk, place_of, disk_of, disk_at, tickets_of}
 use Rattle.cluster_places.specs.Outs.{want_of, want_at, jobs_like, states_like}
-use Rattle.cluster_places.specs.Commits.{HasStageAt, StepsBook, AltersPrimaryCommits, AltersReplicaCommits, AltersCommits, CommitsIn}
+use Rattle.cluster_places.specs.Commits.{HasStageAt, StepsBook, AltersCommits, CommitsIn}
 use Rattle.cluster_places.proofs.OutCounts.{jobs_same}
 use Rattle.cluster_state.specs.Run.{Rest, Run, IsNow}
 use Rattle.cluster_state.specs.Lookups.{flush_out}
 use Rattle.cluster_state.specs.State.{IsPointAt, FlightShows, WritesAt, NodeShows, PlaceShows, Shows, HoldsTickets}
-use Rattle.cluster_state.specs.Files.{JobShows, IsJobFor, ReplicaFiles, PrimaryFiles, NodeFiles, FilesShow}
+use Rattle.cluster_state.specs.Files.{JobShows, NodeFiles, FilesShow}
 use Rattle.cluster_state.specs.FileChanges.{SameJob, CarriesNoMore}
-use Rattle.cluster_state.specs.Names.{NamesShow}
 use Rattle.cluster_state.specs.Disks.{IsPastPoint, MayFindPoint, LastShows, CommitsPoint, StageShows, BookShows, DiskShows, DisksShow, PointsStay, CommitsStay}
 use Rattle.cluster_state.proofs.Points.{points_alone, points_shown, point_stays}
 use Rattle.cluster_state.proofs.Growing.{same, fewer, not_flying}
 use Rattle.cluster_state.proofs.Frames.{some_at, start_back, place_same, was, now_is}
 use Rattle.cluster_state.proofs.JobFrames.{same_shown, job_stays}
 use Rattle.cluster_state.proofs.Drawn.{Grows, grows_none, grows_shown}
-use Rattle.cluster_state.proofs.Naming.{FilesLast, NodeSteps, means_more}
+use Rattle.cluster_state.proofs.Naming.{NodeSteps, means_more}
 use Rattle.cluster_state.proofs.Disks.{fresh_flights, commits_shown, commits_alone, disk_stays}
 use Rattle.cluster_state.proofs.FileFrames.{Both, both_of, one_each, wants_same, names_one, node_files, replica_apart, files_was, files_is}
 use Rattle.cluster_state.proofs.Turning.{past_has, fresh_turn}
@@ -182,27 +180,27 @@ module _ {D : Type 0} (cells : D → Cells) (Step : Infos → CommitBook → Com
   names_alter now (Down d) (Down e) a = absurd a
 
   -- its commits moved as the step tells
-  disk_alter : (source : Name → Content) (log now : Log) (jobs : Out → ℕ) (n : ℕ) (x y : Node D) → FilesLast → AltersCommits Step cells x y → NodeShows cells log n x → NodeFiles source cells log jobs n x
+  disk_alter : (source : Name → Content) (log now : Log) (jobs : Out → ℕ) (n : ℕ) (x y : Node D) → AltersCommits Step cells x y → NodeShows cells log n x → NodeFiles source cells log jobs n x
       → ((infos : Infos) (c d : CommitBook) → IsPastPoint source (printed log) infos → infos.version.0 ≡ version_of n (printed log) → Step infos c d → BookShows source (printed log) n c → BookShows source (printed now) n d)
       → DiskShows source cells (printed log) n (disk_of x) → DiskShows source cells (printed now) n (disk_of y)
-  disk_alter source log now jobs n (Primary p) (Primary q) lasting a shows files book disk = record {
+  disk_alter source log now jobs n (Primary p) (Primary q) a shows files book disk = record {
     book = book p.point_infos p.commits q.commits files.point version a.1 disk.book;
     dir = tt;
   }
     where
       version : p.point_infos.version.0 ≡ version_of n (printed log)
       version = ap (λ (v : Version). v.0) shows.whole.version ∙ shows.point.version
-  disk_alter source log now jobs n (Replica r) (Replica s) lasting a shows files book disk = record {
+  disk_alter source log now jobs n (Replica r) (Replica s) a shows files book disk = record {
     book = book r.infos r.commits s.commits files.point (ap (λ (v : Version). v.0) (sym shows.whole.point.version) ∙ shows.point.version) a.1 disk.book;
     dir = tt;
   }
-  disk_alter source log now jobs n (Primary p) (Replica s) lasting a shows files book disk = absurd a
-  disk_alter source log now jobs n (Primary p) (Down e) lasting a shows files book disk = absurd a
-  disk_alter source log now jobs n (Replica r) (Primary q) lasting a shows files book disk = absurd a
-  disk_alter source log now jobs n (Replica r) (Down e) lasting a shows files book disk = absurd a
-  disk_alter source log now jobs n (Down d) (Primary q) lasting a shows files book disk = absurd a
-  disk_alter source log now jobs n (Down d) (Replica s) lasting a shows files book disk = absurd a
-  disk_alter source log now jobs n (Down d) (Down e) lasting a shows files book disk = absurd a
+  disk_alter source log now jobs n (Primary p) (Replica s) a shows files book disk = absurd a
+  disk_alter source log now jobs n (Primary p) (Down e) a shows files book disk = absurd a
+  disk_alter source log now jobs n (Replica r) (Primary q) a shows files book disk = absurd a
+  disk_alter source log now jobs n (Replica r) (Down e) a shows files book disk = absurd a
+  disk_alter source log now jobs n (Down d) (Primary q) a shows files book disk = absurd a
+  disk_alter source log now jobs n (Down d) (Replica s) a shows files book disk = absurd a
+  disk_alter source log now jobs n (Down d) (Down e) a shows files book disk = absurd a
 
 -- ---- commits
 
@@ -318,7 +316,7 @@ module _ {D : Type 0} (cells : D → Cells) where
   some_disk P None is = is
   some_disk P (Some z) is = is
 
-  module _ (Step : Infos → CommitBook → CommitBook → Type 0) (size : ℕ) (log now : Log) (old new : List (Option (Place D))) (n : ℕ) (b : CommitsIn Step cells n old new) (lasting : FilesLast) (node : IsNode size n)
+  module _ (Step : Infos → CommitBook → CommitBook → Type 0) (size : ℕ) (log now : Log) (old new : List (Option (Place D))) (n : ℕ) (b : CommitsIn Step cells n old new) (node : IsNode size n)
       (shows : Shows cells log size old) (files : FilesShow cells log size old) (grows : Grows (printed log) (printed now)) (same_job : (m : ℕ) → is_at (primary_of (printed log)) m ≡ false → SameJob log now m)
       (points : PointsStay (printed log) (printed now)) (stay : (m : ℕ) → (n == m) ≡ false → CommitsStay (printed log) (printed now) m) (places : (m : ℕ) (z : Place D) → PlaceShows cells log m z → PlaceShows cells now m z)
       (handed : (a : At) → start_entry a (printed now) ≡ None → flush_out a now ≡ None)
@@ -352,7 +350,7 @@ module _ {D : Type 0} (cells : D → Cells) where
         (one_each {P = λ k z. DiskShows files.source cells (printed log) k (disk_of z.node)} {Q = λ k z. DiskShows files.source cells (printed now) k (disk_of z.node)} size n here old new b.moves
         (λ k slot. disk_some (DiskShows files.source cells (printed log) k) (place_of old k) (files.disks k slot))
         (λ k z slot apart disk. disk_stays files.source files.source (λ q bytes is. is) (printed log) (printed now) k (stay k apart) cells (disk_of z.node) disk)
-        (disk_alter cells Step files.source log now jobs n b.place.node b.node lasting b.alters both.0.node_shows both.1 book
+        (disk_alter cells Step files.source log now jobs n b.place.node b.node b.alters both.0.node_shows both.1 book
         (some_at (λ z. DiskShows files.source cells (printed log) n (disk_of z.node)) (place_of old n) b.place b.there (disk_some (DiskShows files.source cells (printed log) n) (place_of old n) (files.disks n node))))
         m slot)
 
@@ -420,7 +418,7 @@ module _ {D : Type 0} (cells : D → Cells) (r : Run) (ended : Bool) (b0 : Sheet
   pub committing_there : commit_in_flight n.0 (printed r.log) ≡ Some at → HasStageAt IsSome (place_of old n.0)
   committing_there flight = stage_there cells files.source IsSome r.log n.0 (Some at) flight (λ s is. a_stage cells files.source (printed r.log) n.0 at s is) up (place_of old n.0) (shows.each n.0 node) (files.disks n.0 node)
 
-  module _ (v : Version) (lasting : FilesLast) (legal : IsLegalPast b0.nodes (printed b0.log)) (turns : AreInTurn (printed b0.log)) where
+  module _ (v : Version) (legal : IsLegalPast b0.nodes (printed b0.log)) (turns : AreInTurn (printed b0.log)) where
     legal_now : IsLegalPast r.nodes (printed r.log)
     legal_now = subst (λ (x : Run). IsLegalPast x.nodes (printed x.log)) view legal
 
@@ -454,9 +452,9 @@ module _ {D : Type 0} (cells : D → Cells) (r : Run) (ended : Bool) (b0 : Sheet
         let grows = grows_shown r.nodes (printed r.log) at (Committing n v) legal_now rule in
         let handed = λ (a : At) (none : start_entry a (printed (shown at (Committing n v) ∷ r.log)) ≡ None). shows.handed a (start_back a (record { at = at; event = Committing n v }) (printed r.log) none) in (
           now_is cells (shown at (Committing n v) ∷ r.log) b2.log r.nodes b2.nodes new (log_is b1 b2 (Committing n v) e1 e2) (size_is b1 b2 n1 n2)
-              (commit_shows cells HasBegun r.nodes r.log (shown at (Committing n v) ∷ r.log) old new n.0 b lasting node shows files grows jobs (points_shown r.nodes (printed r.log) at (Committing n v) legal_now rule) stay places handed book),
+              (commit_shows cells HasBegun r.nodes r.log (shown at (Committing n v) ∷ r.log) old new n.0 b node shows files grows jobs (points_shown r.nodes (printed r.log) at (Committing n v) legal_now rule) stay places handed book),
           files_is cells (shown at (Committing n v) ∷ r.log) b2.log r.nodes b2.nodes new (log_is b1 b2 (Committing n v) e1 e2) (size_is b1 b2 n1 n2)
-              (commit_files cells HasBegun r.nodes r.log (shown at (Committing n v) ∷ r.log) old new n.0 b lasting node shows files grows jobs (points_shown r.nodes (printed r.log) at (Committing n v) legal_now rule) stay places handed book (λ q bytes out. out)),
+              (commit_files cells HasBegun r.nodes r.log (shown at (Committing n v) ∷ r.log) old new n.0 b node shows files grows jobs (points_shown r.nodes (printed r.log) at (Committing n v) legal_now rule) stay places handed book (λ q bytes out. out)),
         )
       where
         unstarted : IsFresh at (printed r.log) → start_entry at (printed r.log) ≢ Some Publishing
@@ -473,9 +471,9 @@ module _ {D : Type 0} (cells : D → Cells) (r : Run) (ended : Bool) (b0 : Sheet
         let stay = λ (m : ℕ) (apart : (n.0 == m) ≡ false). commits_alone (printed r.log) m in
         let jobs = λ (m : ℕ) (other : is_at (primary_of (printed r.log)) m ≡ false). job_stays r.log m in (
           now_is cells r.log b1.log r.nodes b1.nodes new log size
-              (commit_shows cells (StepsBook false) r.nodes r.log r.log old new n.0 b lasting node shows files (grows_none (printed r.log)) jobs (points_alone (printed r.log)) stay places (λ a none. shows.handed a none) book),
+              (commit_shows cells (StepsBook false) r.nodes r.log r.log old new n.0 b node shows files (grows_none (printed r.log)) jobs (points_alone (printed r.log)) stay places (λ a none. shows.handed a none) book),
           files_is cells r.log b1.log r.nodes b1.nodes new log size
-              (commit_files cells (StepsBook false) r.nodes r.log r.log old new n.0 b lasting node shows files (grows_none (printed r.log)) jobs (points_alone (printed r.log)) stay places (λ a none. shows.handed a none) book (λ q bytes out. out)),
+              (commit_files cells (StepsBook false) r.nodes r.log r.log old new n.0 b node shows files (grows_none (printed r.log)) jobs (points_alone (printed r.log)) stay places (λ a none. shows.handed a none) book (λ q bytes out. out)),
         )
 
     pub go_commit_path : (done : Bool) → done ≡ false → (new : List (Option (Place D))) → CommitsIn (StepsBook done) cells n.0 old new → (b1 : Sheet) → b1.log ≡ b0.log → b1.nodes ≡ b0.nodes → Shows cells b1.log b1.nodes new × FilesShow cells b1.log b1.nodes new
@@ -498,9 +496,9 @@ module _ {D : Type 0} (cells : D → Cells) (r : Run) (ended : Bool) (b0 : Sheet
         let grows = grows_shown r.nodes (printed r.log) at (Committed n v) legal_now rule in
         let handed = λ (a : At) (none : start_entry a (printed (shown at (Committed n v) ∷ r.log)) ≡ None). shows.handed a (start_back a (record { at = at; event = Committed n v }) (printed r.log) none) in (
           now_is cells (shown at (Committed n v) ∷ r.log) b2.log r.nodes b2.nodes new (log_is b1 b2 (Committed n v) e1 e2) (size_is b1 b2 n1 n2)
-              (commit_shows cells (StepsBook true) r.nodes r.log (shown at (Committed n v) ∷ r.log) old new n.0 b lasting node shows files grows jobs (points_shown r.nodes (printed r.log) at (Committed n v) legal_now rule) stay places handed book),
+              (commit_shows cells (StepsBook true) r.nodes r.log (shown at (Committed n v) ∷ r.log) old new n.0 b node shows files grows jobs (points_shown r.nodes (printed r.log) at (Committed n v) legal_now rule) stay places handed book),
           files_is cells (shown at (Committed n v) ∷ r.log) b2.log r.nodes b2.nodes new (log_is b1 b2 (Committed n v) e1 e2) (size_is b1 b2 n1 n2)
-              (commit_files cells (StepsBook true) r.nodes r.log (shown at (Committed n v) ∷ r.log) old new n.0 b lasting node shows files grows jobs (points_shown r.nodes (printed r.log) at (Committed n v) legal_now rule) stay places handed book (λ q bytes out. out)),
+              (commit_files cells (StepsBook true) r.nodes r.log (shown at (Committed n v) ∷ r.log) old new n.0 b node shows files grows jobs (points_shown r.nodes (printed r.log) at (Committed n v) legal_now rule) stay places handed book (λ q bytes out. out)),
         )
       where
         commits : start_entry at (printed r.log) ≡ Some (Committing n v) → start_entry at (printed r.log) ≢ Some Publishing

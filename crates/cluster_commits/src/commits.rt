@@ -13,7 +13,6 @@ use disk_model::FaultDir;
 use history_entries::Event;
 use node_commits::{begin_commit_in, step_commit_in};
 use nrt_base::{At, NoMemory, NodeNo, Version};
-use replica_node::laws::files_last;
 use std::alloc::Global;
 
 /// Begins a commit of the version that the running node searches, where none of it is in flight. The directory is not called.
@@ -35,7 +34,6 @@ pub fn begin_commit<D: FaultDir + Drop>(
     let book = cluster.ledger.book();
     book.is_fresh(at);
     book.is_legal();
-    files_last();
     let version = Version(book.version(n));
     cluster.ended = true;
     cluster.ledger.reserve(1)?;
@@ -65,7 +63,6 @@ pub fn step_commit<D: FaultDir + Drop>(
     let book = cluster.ledger.book();
     book.is_legal();
     book.commit_may_end(at, n, v);
-    files_last();
     cluster.ended = true;
     cluster.ledger.reserve(1)?;
     if !step_commit_in(alloc, &mut cluster.places, n)? {

@@ -1,27 +1,24 @@
 -- Copies of merged segments that end one after the other, at one node after the other.
-use Rattle.std.proofs.Common.{inl, inr, ◌≡◌, ◌≤◌, ◌<◌, ◌+◌, ◌==◌, ◌&&◌, ◌||◌, ℕ, zero, suc, Bool, true, false, true≢false, nat_le, List, [], ◌∷◌, Some, None, Option, is_some, length, take, drop, get_or, refl, ap, ◌∙◌, sym, subst, arith, if◌then◌else◌}
-use Rattle.std.specs.Prelude.{◌⊎◌, IsSomeAnd, IsSome}
-use Rattle.std.specs.List.{list_any}
+use Rattle.std.proofs.Common.{inl, inr, ◌≡◌, ◌≤◌, ◌<◌, ◌+◌, ◌==◌, ◌&&◌, ◌||◌, ℕ, zero, suc, Bool, true, false, true≢false, nat_le, List, [], ◌∷◌, Some, None, Option, is_some, length, drop, get_or, refl, ap, ◌∙◌, sym, subst, arith, if◌then◌else◌}
+use Rattle.std.specs.Prelude.{◌⊎◌, IsSomeAnd}
 use Rattle.std.specs.Option.{option_map}
-use Rattle.std.proofs.lemmas.Bool.{eqb-true, eq-eqb}
+use Rattle.std.proofs.lemmas.Bool.{eqb-true}
 use Rattle.std.proofs.lemmas.Bool.Decides.{nat_tests}
 use Rattle.disk_model.specs.Disk.{Cells}
-use Rattle.node_files.specs.Appearing.{NoneAppears}
 use Rattle.copy_job.specs.Jobs.{Job}
 use Rattle.replica_parts.specs.declared.parts.Parts.{Parts as ReplicaParts}
 use Rattle.replica_parts.specs.declared.merges.MergeCopies.{MergeCopies}
-use Rattle.replica_parts.specs.Merges.{copy_at, copies_without, CopyApart, AreCopiesApart}
-use Rattle.replica_parts.specs.Replica.{IsWholeReplica, AreStanding}
-use Rattle.replica_parts.proofs.Merging.{number_at, all_at}
+use Rattle.replica_parts.specs.Merges.{copy_at, copies_without}
+use Rattle.replica_parts.specs.Replica.{IsWholeReplica}
 use Rattle.cluster_tasks.specs.declared.tasks.OpenMerge.{OpenMerge}
 use Rattle.cluster_tasks.specs.declared.tasks.Sent.{Sent}
 use Rattle.cluster_tasks.specs.declared.tasks.Spread.{Spread}
 use Rattle.cluster_tasks.specs.Board.{is_sent_in, is_sent_to}
-use Rattle.cluster_places.specs.declared.nodes.Node.TheVariants.{Replica}
 use Rattle.cluster_places.specs.declared.nodes.Place.{Place}
 use Rattle.cluster_places.specs.Places.{place_of}
 use Rattle.node_merges.specs.MergeChanges.{DropsMerged}
 use Rattle.cluster_state.specs.Merging.{RunsNoOther}
+use Rattle.cluster_state.proofs.MergingPaths.{at_without, gone_without}
 use Rattle.cluster_falls.specs.Falls.{are_sent, LosesCopies, EndsSent, EndsSpread, EndsCopies, PlaceLoses, AllLose}
 
 -- ---- one copy
@@ -29,33 +26,6 @@ use Rattle.cluster_falls.specs.Falls.{are_sent, LosesCopies, EndsSent, EndsSprea
 none_is : (o : Option Job) → is_some o ≡ false → o ≡ None
 none_is None none = refl
 none_is (Some c) none = absurd (true≢false none)
-
--- a copy that is left ran
-at_without : (number : ℕ) (cs : List Job) (k : ℕ) (c : Job) → AreCopiesApart cs → copy_at k (copies_without number cs) ≡ Some c → copy_at k cs ≡ Some c
-at_without number [] k c apart at = at
-at_without number (x ∷ xs) k c apart at = by (x.number == number) (x.number == k) refl (λ there. at_without number xs k c apart.1 there) at
-  where
-    by : (b t : Bool) → (x.number == k) ≡ t → (copy_at k (copies_without number xs) ≡ Some c → copy_at k xs ≡ Some c) → copy_at k (if b then xs else x ∷ copies_without number xs) ≡ Some c → (if t then Some x else copy_at k xs) ≡ Some c
-    by true true e more got = absurd ((all_at (CopyApart x) k xs c got apart.0).numbers (eqb-true x.number k e ∙ sym (number_at k xs c got)))
-    by true false e more got = got
-    by false true e more got = sym (ap (λ (u : Bool). if u then Some x else copy_at k (copies_without number xs)) e) ∙ got
-    by false false e more got = more (sym (ap (λ (u : Bool). if u then Some x else copy_at k (copies_without number xs)) e) ∙ got)
-
--- and the one that ended does not run
-gone_without : (number : ℕ) (cs : List Job) → AreCopiesApart cs → copy_at number (copies_without number cs) ≡ None
-gone_without number cs apart = by (copy_at number (copies_without number cs)) refl
-  where
-    first : (xs : List Job) → AreCopiesApart xs → (c : Job) → copy_at number (copies_without number xs) ≡ Some c → ⊥
-    first [] apart c at = absurd (cc)
-    first (x ∷ xs) apart c at = tests (x.number == number) refl at (λ d there. first xs apart.1 d there)
-      where
-        tests : (b : Bool) → (x.number == number) ≡ b → copy_at number (if b then xs else x ∷ copies_without number xs) ≡ Some c → ((d : Job) → copy_at number (copies_without number xs) ≡ Some d → ⊥) → ⊥
-        tests true e got more = (all_at (CopyApart x) number xs c got apart.0).numbers (eqb-true x.number number e ∙ sym (number_at number xs c got))
-        tests false e got more = more c (sym (ap (λ (u : Bool). if u then Some x else copy_at number (copies_without number xs)) e) ∙ got)
-
-    by : (o : Option Job) → copy_at number (copies_without number cs) ≡ o → copy_at number (copies_without number cs) ≡ None
-    by None e = e
-    by (Some c) e = absurd (first cs apart c e)
 
 runs_then : (a b c : List Job) → RunsNoOther a b → RunsNoOther b c → RunsNoOther a c
 runs_then a b c first second k d at = by (copy_at k b) refl (second k d at)

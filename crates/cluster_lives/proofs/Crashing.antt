@@ -1,5 +1,5 @@
 -- What the crash of a node leaves of it and of the others.
-use Rattle.std.proofs.Common.{◌≡◌, ◌≢◌, ◌≤◌, ◌<◌, ◌+◌, ◌*◌, ◌&&◌, ◌||◌, ◌==◌, ◌++◌, inl, inr, ◌⊎◌, ⊎_elim, ℕ, Bool, true, false, true≢false, List, [], ◌∷◌, Some, None, Option, Vec, Global, length, nat_le, refl, ap, ◌∙◌, sym, subst, arith, if◌then◌else◌}
+use Rattle.std.proofs.Common.{◌≡◌, ◌≢◌, ◌≤◌, ◌<◌, ◌+◌, ◌&&◌, ◌||◌, ◌==◌, ◌++◌, inl, inr, ℕ, Bool, true, false, true≢false, List, [], ◌∷◌, Some, None, Option, Vec, Global, length, nat_le, refl, ap, ◌∙◌, sym, subst, arith, if◌then◌else◌}
 use Rattle.std.specs.Prelude.{IsSomeAnd, IfSome, not, is_some, Contains}
 use Rattle.std.specs.List.{flat_map}
 use Rattle.std.proofs.lemmas.Bool.{eqb-true, eq-eqb}
@@ -8,10 +8,10 @@ use Rattle.nrt_base.specs.declared.doc.Doc.{Doc}
 use Rattle.nrt_base.specs.declared.numbers.At.{At}
 use Rattle.nrt_base.specs.declared.numbers.NodeNo.{NodeNo}
 use Rattle.disk_model.specs.Disk.{Name, Content, Cells, Image, IsImage, HasCrashed, reads_of, restarted}
-use Rattle.file_deleter.specs.Holdings.{Holdings, count_of, times}
+use Rattle.file_deleter.specs.Holdings.{Holdings, times}
 use Rattle.file_deleter.proofs.NameLemmas.{times-append, among_times}
 use Rattle.segment_infos.specs.declared.infos.Infos.{Infos}
-use Rattle.segment_infos.specs.Files.{files_of_segment, AreFilesOf}
+use Rattle.segment_infos.specs.Files.{files_of_segment}
 use Rattle.seg_reader.specs.Stands.{StandsFor}
 use Rattle.commit_steps.specs.declared.states.Commit.{Commit}
 use Rattle.commit_steps.specs.declared.stage.Stage.{Stage}
@@ -19,7 +19,7 @@ use Rattle.commit_steps.specs.declared.stage.Stage.TheVariants.{Begun, Synced, W
 use Rattle.commit_steps.specs.declared.stage.CommitBook.{CommitBook}
 use Rattle.commit_steps.specs.Found.{ShowsNothing}
 use Rattle.commit_steps.specs.Flights.{IsCommit, own_name, pending_name}
-use Rattle.commit_steps.specs.Commits.{HasCommit, HasInfos, Stays, MayStay}
+use Rattle.commit_steps.specs.Commits.{HasCommit, Stays, MayStay}
 use Rattle.commit_steps.specs.Book.{commit_of, shown_in, shown_by, stage_names, flying_names, last_names, book_names}
 use Rattle.commit_steps.proofs.Beside.{sound_images}
 use Rattle.commit_steps.proofs.Safe.{among_of}
@@ -39,8 +39,8 @@ use Rattle.replica_parts.specs.Sources.{HeldReadAs}
 use Rattle.history_entries.specs.declared.entry.Entry.{Entry}
 use Rattle.history_entries.specs.declared.entry.Event.{Event}
 use Rattle.history_entries.specs.declared.entry.Event.TheVariants.{Published, Opened, Closed, Crashed, Promoted, Publishing}
-use Rattle.history_entries.specs.Nodes.{Past, IsNode, is_at, primary_of, is_running, crashes, newest_version, generation_of, version_of}
-use Rattle.history_entries.specs.Lines.{start_entry, before_start, without_at, commit_in_flight, copy_in_flight, highest_copy}
+use Rattle.history_entries.specs.Nodes.{Past, IsNode, is_at, primary_of, is_running, crashes, newest_version, generation_of}
+use Rattle.history_entries.specs.Lines.{start_entry, before_start, without_at, commit_in_flight, copy_in_flight}
 use Rattle.history_entries.specs.Tickets.{Ticket, is_ticket, ticket_by, last_opened, while_alive, open_ticket, IsTicketOf}
 use Rattle.history_entries.specs.Points.{documents_at}
 use Rattle.history_entries.specs.Commits.{has_committed}
@@ -57,7 +57,7 @@ use Rattle.history_book.specs.Log.{Log, printed, shown}
 use Rattle.history_merges.specs.Merging.{Sheet}
 use Rattle.history_book.specs.Laws.{IsFresh}
 use Rattle.history_book.specs.Jobs.{last_job, job_at}
-use Rattle.history_book.specs.Turns.{InTurn, AreInTurn}
+use Rattle.history_book.specs.Turns.{AreInTurn}
 use Rattle.history_book.proofs.LineLaws.{without_some}
 use Rattle.history_book.proofs.ReignLaws.{node_crashes_rise}
 use Rattle.cluster_tasks.specs.declared.tasks.OpenMerge.{OpenMerge}
@@ -73,7 +73,7 @@ use Rattle.cluster_places.specs.Lives.{CrashesIn}
 use Rattle.cluster_places.proofs.OutCounts.{jobs_moved, jobs_none, job_counted, states_given, is_there}
 use Rattle.cluster_state.specs.Lookups.{IsSearching}
 use Rattle.cluster_state.specs.State.{NodeShows, PlaceShows, Shows, HoldsTickets}
-use Rattle.cluster_state.specs.Files.{JobShows, IsJobFor, ReplicaFiles, PrimaryFiles, NodeFiles, FilesShow}
+use Rattle.cluster_state.specs.Files.{JobShows, ReplicaFiles, PrimaryFiles, NodeFiles, FilesShow}
 use Rattle.cluster_state.specs.FileChanges.{SameJob}
 use Rattle.cluster_state.specs.Merging.{AreSentCopies, NodeMerges, KeepsMerges, PlaceKeepsMerges, KeepAllMerges}
 use Rattle.cluster_state.proofs.MergingStill.{node_keeps}
@@ -82,7 +82,7 @@ use Rattle.cluster_state.specs.Names.{NamesShow}
 use Rattle.cluster_state.specs.Disks.{IsPastPoint, MayFindPoint, LastShows, StageShows, BookShows, DirShows, DiskShows, DisksShow, PointsStay, CommitsStay}
 use Rattle.cluster_state.proofs.Growing.{lasts, same, fewer, not_flying}
 use Rattle.cluster_state.specs.Run.{Rest, Run}
-use Rattle.cluster_state.proofs.Frames.{some_at, some_then, place_same, was, now_is}
+use Rattle.cluster_state.proofs.Frames.{some_at, place_same, was, now_is}
 use Rattle.cluster_state.proofs.JobFrames.{begun_still}
 use Rattle.cluster_state.proofs.Drawn.{Grows, grows_shown}
 use Rattle.cluster_state.proofs.Naming.{FilesLast, means_more}

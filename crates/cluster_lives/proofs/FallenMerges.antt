@@ -1,24 +1,21 @@
 -- What is true of a cluster whose nodes lost the copies of merged segments, and where the merges in flight ended.
 use Rattle.std.proofs.Common.{◌≡◌, ◌∙◌, ◌==◌, ◌||◌, ℕ, Bool, true, false, true≢false, List, [], ◌∷◌, Some, None, Option, refl, ap, sym, subst, inl, if◌then◌else◌}
 use Rattle.std.specs.Prelude.{IsSomeAnd, ◌≤◌, Contains}
-use Rattle.std.specs.List.{All, list_any}
-use Rattle.std.proofs.lemmas.List.All.{All-nil}
+use Rattle.std.specs.List.{All}
+use Rattle.std.proofs.lemmas.List.Elements.{All-nil}
 use Rattle.nrt_base.specs.declared.numbers.At.{At}
 use Rattle.nrt_base.specs.declared.numbers.NodeNo.{NodeNo}
 use Rattle.disk_model.specs.Disk.{Name, Content, Cells}
 use Rattle.node_files.proofs.Appearing.{only_none}
 use Rattle.seg_reader.specs.Shown.{Shown}
 use Rattle.searcher_switch.specs.declared.open.Open.{Open}
-use Rattle.searcher_switch.specs.declared.open.Point.{Point}
-use Rattle.segment_infos.specs.declared.infos.Infos.{Infos}
-use Rattle.commit_steps.specs.declared.stage.CommitBook.{CommitBook}
 use Rattle.copy_job.specs.Jobs.{Job}
 use Rattle.primary_parts.specs.declared.states.Out.{Out}
-use Rattle.replica_parts.specs.declared.job.PointJob.{PointJob}
 use Rattle.replica_parts.specs.declared.parts.Parts.{Parts as ReplicaParts}
 use Rattle.replica_parts.specs.Merges.{copy_at}
 use Rattle.history_entries.specs.declared.entry.Event.TheVariants.{Crashed}
 use Rattle.history_entries.specs.Nodes.{Past, IsNode, is_at, primary_of, generation_of, version_of}
+use Rattle.history_entries.specs.Rules.{MayHaveName}
 use Rattle.history_book.specs.Log.{Log, printed, shown}
 use Rattle.history_book.specs.Jobs.{job_at}
 use Rattle.cluster_tasks.specs.declared.tasks.Posted.{Posted}
@@ -33,12 +30,13 @@ use Rattle.cluster_places.specs.declared.nodes.Place.{Place}
 use Rattle.cluster_places.specs.Places.{Disk, place_of, disk_of, disk_at, tickets_of}
 use Rattle.cluster_places.specs.Outs.{want_of, want_at, jobs_like, states_like}
 use Rattle.cluster_places.proofs.OutCounts.{jobs_same}
-use Rattle.cluster_falls.specs.Falls.{are_sent, EndsCopies, NodeLoses, PlaceLoses, AllLose, Falls}
+use Rattle.cluster_falls.specs.Falls.{are_sent, NodeLoses, PlaceLoses, AllLose, Falls}
 use Rattle.cluster_state.specs.State.{IsPointAt, HoldsTickets, NodeShows, PlaceShows, Shows}
-use Rattle.cluster_state.specs.Names.{MayHaveName, NamesShow}
-use Rattle.cluster_state.specs.Files.{JobShows, ReplicaFiles, NodeFiles, FilesShow}
+use Rattle.cluster_state.specs.Names.{NamesShow}
+use Rattle.cluster_state.specs.Files.{JobShows, NodeFiles, FilesShow}
 use Rattle.cluster_state.specs.Disks.{IsPastPoint, DiskShows}
 use Rattle.cluster_state.specs.Merging.{AreSentCopies, IsSentCopy, NodeMerges, IsFitKind, MergesStand}
+use Rattle.cluster_state.proofs.Disks.{disk_same}
 use Rattle.cluster_state.proofs.Drawn.{grows_none}
 use Rattle.cluster_state.proofs.Naming.{names_step}
 use Rattle.cluster_state.proofs.FileFrames.{some_both}
@@ -87,7 +85,7 @@ module _ {D : Type 0} (cells : D → Cells) (rows : List OpenMerge) where
       by (Down d) v ends = ap want ends
 
   same_disk : (m : ℕ) (x y : Node D) → NodeLoses cells m rows x y → disk_of y ≡ disk_of x
-  same_disk m (Replica r) (Replica s) ends = ap (λ (b : CommitBook). record { book = Some b; dir = None }) (ap (λ (z : ReplicaParts D). z.commits) ends.loses.others)
+  same_disk m (Replica r) (Replica s) ends = disk_same r.commits s.commits (ap (λ (z : ReplicaParts D). z.commits) ends.loses.others)
   same_disk m (Replica r) (Primary q) ends = ap disk_of ends
   same_disk m (Replica r) (Down e) ends = ap disk_of ends
   same_disk m (Primary p) y ends = ap disk_of ends
@@ -208,20 +206,20 @@ module _ {D : Type 0} (cells : D → Cells) (size : ℕ) (log : Log) (at : At) (
 
       unlike : ◌≡◌ {A = Node D} (Replica r) (Primary q) → ⊥
       unlike e = subst IsReplica e tt
-  none_left m (Replica r) (Replica s) here is sent lost cut jobs k c runs = by (copy_at k r.copies.running) refl (lost.loses.runs k c runs)
+  none_left m (Replica r) (Replica s) here is sent lost cut jobs = λ k c runs. by k c runs (copy_at k r.copies.running) refl (lost.loses.runs k c runs)
     where
-      none : IsSentCopy board.rows m k c → ⊥
-      none row = let no : ◌≡◌ {A = Option Job} None (Some c) = sym (lost.gone k (sent_among m k row.seg board.rows row.spread row.row row.sent)) ∙ runs in absurd (cc)
+      none : (k : ℕ) (c : Job) → copy_at k s.copies.running ≡ Some c → IsSentCopy board.rows m k c → ⊥
+      none k c runs row = let no : ◌≡◌ {A = Option Job} None (Some c) = sym (lost.gone k (sent_among m k row.seg board.rows row.spread row.row row.sent)) ∙ runs in absurd (cc)
 
-      by : (o : Option Job) → copy_at k r.copies.running ≡ o → IsSomeAnd o (λ d. c.want ≡ d.want) → IsSentCopy now.rows m k c
-      by None e was = absurd was
-      by (Some d) e same = let was = sent k d e in absurd (none (record { seg = was.seg; spread = was.spread; row = was.row; sent = was.sent; want = same ∙ was.want }))
+      by : (k : ℕ) (c : Job) → copy_at k s.copies.running ≡ Some c → (o : Option Job) → copy_at k r.copies.running ≡ o → IsSomeAnd o (λ d. c.want ≡ d.want) → IsSentCopy now.rows m k c
+      by k c runs None e was = absurd was
+      by k c runs (Some d) e same = let was = sent k d e in absurd (none k c runs (record { seg = was.seg; spread = was.spread; row = was.row; sent = was.sent; want = same ∙ was.want }))
 
   pub fallen : is_at (primary_of (printed log)) n.0 ≡ true → Falls cells board now old new → TasksShow size log board → ((m : ℕ) → IsNode size m → IsSomeAnd (place_of old m) (PlaceShows cells (shown at (Crashed n) ∷ log) m))
       → ((m : ℕ) → IsNode size m → IsSomeAnd (place_of old m) (λ z. RunsSent board.rows m z.node)) → MergesStand (shown at (Crashed n) ∷ log) false size now new
   fallen here falls tasks shows sent = record {
     tasks = tasks_fallen size log board now at n here falls.rows falls.posted falls.counts tasks;
-    fit = subst (λ (ps : List Posted). All (λ p. IsFitKind p.kind) ps) (sym falls.posted) (All-nil (λ p. IsFitKind p.kind));
+    fit = subst (λ (ps : List Posted). All (λ p. IsFitKind p.kind) ps) (sym falls.posted) (All-nil (λ (p : Posted). IsFitKind p.kind));
     each = lose_each cells board.rows size log old new falls.lose {P = λ m z. PlaceShows cells (shown at (Crashed n) ∷ log) m z × RunsSent board.rows m z.node} {Q = λ m z. NodeMerges (shown at (Crashed n) ∷ log) false (λ s. jobs_like new s size) now.rows m z.node}
         (λ m node. some_both (place_of old m) (shows m node) (sent m node) (λ z a b. (a, b)))
         (λ m x y held lost both. none_left m x.node y.node here both.0.node_shows both.1 lost false (λ s. jobs_like new s size));

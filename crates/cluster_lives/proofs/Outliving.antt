@@ -1,5 +1,5 @@
 -- What the crash of a node leaves of the others: what they are, their names, their commits and their jobs.
-use Rattle.std.proofs.Common.{◌≡◌, ◌==◌, ℕ, Bool, true, false, List, Some, None, Option, Vec, Global, refl, ap, ◌∙◌, sym, subst, arith}
+use Rattle.std.proofs.Common.{◌≡◌, ◌==◌, ℕ, Bool, true, false, List, Some, None, Option, Vec, Global, refl, ap, sym, subst, arith}
 use Rattle.std.specs.Prelude.{IsSomeAnd}
 use Rattle.std.proofs.lemmas.Bool.{eqb-true}
 use Rattle.nrt_base.specs.declared.numbers.Gen.{Gen}

@@ -1,10 +1,8 @@
 -- What a reopening makes of a node that was down, and leaves of the others.
-use Rattle.std.proofs.Common.{◌≡◌, ◌≢◌, ◌≤◌, ◌<◌, ◌+◌, ◌&&◌, ◌||◌, ◌==◌, inl, inr, ◌⊎◌, ℕ, Bool, true, false, true≢false, List, [], ◌∷◌, Some, None, Option, Vec, Global, refl, ap, ◌∙◌, sym, subst, arith, if◌then◌else◌}
-use Rattle.std.specs.Prelude.{IsSomeAnd, IfSome, not, is_some, nat_lt, Contains}
+use Rattle.std.proofs.Common.{◌≡◌, ◌≢◌, ◌&&◌, ◌||◌, ◌==◌, inl, inr, ◌⊎◌, ℕ, Bool, true, false, true≢false, List, [], ◌∷◌, Some, None, Option, refl, ap, ◌∙◌, sym, subst, arith, if◌then◌else◌}
+use Rattle.std.specs.Prelude.{IsSomeAnd, not, is_some, nat_lt, Contains}
 use Rattle.std.specs.List.{flat_map, list_any}
 use Rattle.std.proofs.lemmas.Bool.{eqb-true, eq-eqb}
-use Rattle.std.proofs.lemmas.Bool.Decides.{nat_tests}
-use Rattle.nrt_base.specs.declared.doc.Doc.{Doc}
 use Rattle.nrt_base.specs.declared.numbers.At.{At}
 use Rattle.nrt_base.specs.declared.numbers.Gen.{Gen}
 use Rattle.nrt_base.specs.declared.numbers.NodeNo.{NodeNo}
@@ -12,11 +10,10 @@ use Rattle.nrt_base.specs.declared.numbers.Version.{Version}
 use Rattle.disk_model.specs.Disk.{Name, Content, Cells, reads_of}
 use Rattle.disk_model.proofs.CellLemmas.{leaves_now}
 use Rattle.file_names.specs.Names.{is_commit_name, commit_number}
-use Rattle.file_deleter.specs.Holdings.{IsThere}
 use Rattle.segment_infos.specs.declared.infos.Infos.{Infos}
 use Rattle.segment_infos.specs.Files.{files_of_segment}
 use Rattle.seg_reader.specs.Shown.{Shown}
-use Rattle.seg_reader.specs.Stands.{StandsFor, AreSegmentsOf}
+use Rattle.seg_reader.specs.Stands.{StandsFor}
 use Rattle.commit_steps.specs.declared.states.Commit.{Commit}
 use Rattle.commit_steps.specs.declared.stage.Stage.{Stage}
 use Rattle.commit_steps.specs.Book.{shown_by}
@@ -26,7 +23,7 @@ use Rattle.commit_steps.proofs.Beside.{sound_images}
 use Rattle.node_files.proofs.Standing.{stands_along}
 use Rattle.searcher_switch.specs.declared.open.Open.{Open}
 use Rattle.primary_parts.specs.declared.states.Out.{Out}
-use Rattle.replica_opening.specs.Opening.{FindsPoint, number_of_last, opening_infos}
+use Rattle.replica_opening.specs.Opening.{FindsPoint, number_of_last}
 use Rattle.replica_opening.specs.Opened.{IsSettledOn}
 use Rattle.replica_opening.proofs.Clearings.{one_found}
 use Rattle.replica_parts.specs.declared.job.PointJob.{PointJob}
@@ -34,7 +31,7 @@ use Rattle.replica_parts.specs.declared.parts.Parts.{Parts as ReplicaParts}
 use Rattle.replica_parts.specs.Starting.{SearchesJust}
 use Rattle.history_entries.specs.declared.entry.Event.{Event}
 use Rattle.history_entries.specs.declared.entry.Event.TheVariants.{Copying, Crashed, Reopened, Publishing}
-use Rattle.history_entries.specs.Nodes.{Past, IsNode, is_at, primary_of, is_running, newest_version, generation_of, version_of}
+use Rattle.history_entries.specs.Nodes.{Past, IsNode, is_at, primary_of, is_running, newest_version, version_of}
 use Rattle.history_entries.specs.Lines.{is_reply, start_entry, without_at, commit_in_flight, copy_in_flight}
 use Rattle.history_entries.specs.Points.{documents_at}
 use Rattle.history_entries.specs.Commits.{has_committed, reopenable_versions}
@@ -48,29 +45,27 @@ use Rattle.history_book.specs.Laws.{IsFresh, may_find}
 use Rattle.history_book.specs.Log.{Log, printed, shown}
 use Rattle.history_merges.specs.Merging.{Sheet}
 use Rattle.history_book.specs.Jobs.{last_job, job_at}
-use Rattle.history_book.specs.Turns.{InTurn, AreInTurn}
-use Rattle.cluster_places.specs.declared.held.Held.{Held}
+use Rattle.history_book.specs.Turns.{AreInTurn}
 use Rattle.cluster_places.specs.declared.nodes.Node.{Node}
 use Rattle.cluster_places.specs.declared.nodes.Node.TheVariants.{Primary, Replica, Down}
 use Rattle.cluster_places.specs.declared.nodes.Place.{Place}
 use Rattle.cluster_places.specs.Places.{Disk, place_of, disk_of, disk_at, dir_of, tickets_of}
-use Rattle.cluster_places.specs.Outs.{want_of, want_at, jobs_like, states_like}
+use Rattle.cluster_places.specs.Outs.{want_of, want_at, jobs_like}
 use Rattle.cluster_places.specs.Lives.{OpensOn, ReopensIn}
 use Rattle.cluster_places.proofs.OutCounts.{jobs_same}
 use Rattle.cluster_state.specs.Run.{Rest, Run, IsNow}
 use Rattle.cluster_state.specs.State.{NodeShows, PlaceShows, Shows, HoldsTickets, StandForVersion}
-use Rattle.cluster_state.specs.Files.{JobShows, IsJobFor, ReplicaFiles, PrimaryFiles, NodeFiles, FilesShow, MeansDrawn}
-use Rattle.cluster_state.specs.FileChanges.{SameJob}
+use Rattle.cluster_state.specs.Files.{JobShows, ReplicaFiles, NodeFiles, FilesShow, MeansDrawn}
 use Rattle.cluster_state.specs.Names.{NamesShow}
 use Rattle.cluster_state.specs.Disks.{IsPastPoint, MayFindPoint, LastShows, StageShows, BookShows, DirShows, DiskShows, DisksShow, CommitsStay}
 use Rattle.cluster_state.proofs.Growing.{lasts, same, fewer, not_flying}
-use Rattle.cluster_state.proofs.Frames.{some_at, some_then, place_same, holds_same, was, now_is}
+use Rattle.cluster_state.proofs.Frames.{some_at, place_same, holds_same, was, now_is}
 use Rattle.cluster_state.proofs.JobFrames.{same_shown}
 use Rattle.cluster_state.proofs.Drawn.{Grows, grows_shown, file_more}
 use Rattle.cluster_state.proofs.Naming.{FilesLast, means_more, node_grows}
 use Rattle.cluster_state.proofs.Disks.{fresh_flights, commits_shown, disk_stays}
 use Rattle.cluster_state.proofs.Points.{points_shown, point_stays}
-use Rattle.cluster_state.proofs.FileFrames.{Both, both_of, one_each, replica_same, wants_same, node_files, replica_apart, before, files_was, files_is}
+use Rattle.cluster_state.proofs.FileFrames.{Both, both_of, one_each, wants_same, node_files, replica_apart, files_was, files_is}
 use Rattle.cluster_state.proofs.Turning.{past_has}
 
 -- ---- the past

@@ -5,7 +5,6 @@ use Rattle.std.specs.List.{All, Contains, list_any}
 use Rattle.std.specs.List.Sorted.{IsStrictlySortedBy}
 use Rattle.std.specs.Cmp.Lexicographic.{slice_cmp}
 use Rattle.std.specs.Ordering.{nat_cmp}
-use Rattle.std.proofs.lemmas.Bool.Decides.{nat_tests}
 use Rattle.std.proofs.lemmas.List.Elements.{All-nil, All-cons}
 use Rattle.std.proofs.lemmas.List.Sorted.{length_permutation}
 use Rattle.std.proofs.lemmas.Slice.Eq.{bytes_eq-Decides}
@@ -16,7 +15,7 @@ use Rattle.nrt_base.specs.declared.doc.Doc.{Doc}
 use Rattle.file_names.specs.Names.{is_ascending, is_less, is_commit_name, is_documents_name}
 use Rattle.disk_model.specs.Disk.{Name, Content, Cells, is_among, same}
 use Rattle.disk_model.proofs.CellLemmas.{same_true}
-use Rattle.file_deleter.specs.Holdings.{Holdings, IsThere, IsWhole, count_of, times}
+use Rattle.file_deleter.specs.Holdings.{Holdings, IsThere, count_of, times}
 use Rattle.file_deleter.proofs.Keeping.{known_counted}
 use Rattle.file_deleter.proofs.NameLemmas.{times-append, among_times}
 use Rattle.commit_steps.specs.Commits.{Stays}
@@ -38,7 +37,6 @@ use Rattle.replica_parts.specs.Replica.{replica_names, copying_names}
 use Rattle.history_entries.specs.declared.entry.Event.TheVariants.{Files}
 use Rattle.history_entries.specs.Nodes.{Past, IsNode, is_running, version_of}
 use Rattle.history_entries.specs.Points.{documents_at}
-use Rattle.history_entries.specs.Tickets.{open_ticket, IsTicketOf}
 use Rattle.history_entries.specs.Commits.{has_committed}
 use Rattle.history_entries.specs.Faults.{has_met_fault}
 use Rattle.history_entries.specs.Rules.{MayHaveName, MayListFiles, has_documents}

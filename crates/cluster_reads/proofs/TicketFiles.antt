@@ -1,5 +1,5 @@
 -- What each path of tickets and searches leaves of files and jobs, from what its calls say.
-use Rattle.std.proofs.Common.{ℕ, ◌≡◌, Bool, false, List, ◌∷◌, Some, Option, refl}
+use Rattle.std.proofs.Common.{◌≡◌, Bool, false, List, ◌∷◌, Some, Option, refl}
 use Rattle.nrt_base.specs.declared.numbers.At.{At}
 use Rattle.nrt_base.specs.declared.numbers.NodeNo.{NodeNo}
 use Rattle.nrt_base.specs.declared.numbers.TicketNo.{TicketNo}

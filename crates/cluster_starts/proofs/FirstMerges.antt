@@ -1,10 +1,9 @@
 -- Merges where a cluster has just started: nothing is in flight, and nothing was cut over.
-use Rattle.std.proofs.Common.{◌≡◌, ◌≤◌, ◌+◌, ◌*◌, ℕ, Bool, false, List, [], ◌∷◌, Some, None, Option, refl, ap, ◌∙◌, sym, subst, arith}
+use Rattle.std.proofs.Common.{◌≡◌, ℕ, Bool, false, List, [], Some, None, Option, refl, ap, ◌∙◌, sym, subst, arith}
 use Rattle.std.specs.Prelude.{IsSomeAnd}
 use Rattle.std.proofs.lemmas.List.Elements.{All-nil}
 use Rattle.disk_model.specs.Disk.{Cells}
 use Rattle.copy_job.specs.Jobs.{Job}
-use Rattle.primary_parts.specs.declared.parts.Parts.{Parts as PrimaryParts}
 use Rattle.primary_parts.specs.declared.states.Merging.{Merging}
 use Rattle.primary_parts.specs.declared.states.Out.{Out}
 use Rattle.primary_parts.specs.Merges.{merge_of}
@@ -51,7 +50,7 @@ module _ {D : Type 0} (cells : D → Cells) where
   none_merges : (size : ℕ) (places : List (Option (Place D))) → ((n : ℕ) → IsNode size n → IsSomeAnd (place_of places n) (OpensPlace cells n)) → MergesStand [] false size no_tasks places
   none_merges size places all = record {
     tasks = tasks_none size;
-    fit = All-nil (λ p. IsFitKind p.kind);
+    fit = All-nil (λ (p : Posted). IsFitKind p.kind);
     each = λ n node. at (place_of places n) n (all n node);
     vacant = λ none. (refl, (refl, refl));
   }

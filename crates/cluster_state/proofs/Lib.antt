@@ -11,10 +11,10 @@ pub mod FileFrames
 pub mod FileJobs
 pub mod JobMoves
 mod JobLaw
-mod BookLaws
+pub mod BookLaws
 pub mod PointStands
-mod Lasting
-mod Living
+pub mod Lasting
+pub mod Living
 pub mod Points
 pub mod Reigning
 pub mod Ledgers

@@ -17,7 +17,7 @@ use Rattle.primary_parts.specs.declared.states.Out.{Out}
 use Rattle.primary_parts.specs.Merges.{merge_of}
 use Rattle.replica_parts.specs.declared.merges.MergeCopies.{MergeCopies}
 use Rattle.replica_parts.specs.declared.parts.Parts.{Parts as ReplicaParts}
-use Rattle.replica_parts.specs.Merges.{copy_at, CopyApart, AreCopiesApart, no_copies}
+use Rattle.replica_parts.specs.Merges.{copy_at, copies_without, CopyApart, AreCopiesApart, no_copies}
 use Rattle.replica_parts.proofs.Merging.{number_at, all_at}
 use Rattle.replica_precopies.specs.Overlapping.{overlaps, copies_beside}
 use Rattle.history_entries.specs.declared.entry.Event.{Event}
@@ -85,6 +85,33 @@ beside_at names (x ∷ xs) apart k c at = left (beside_at names xs apart.1 k c) 
         let held = more got in
         absurd ((all_at (CopyApart x) k xs c held apart.0).numbers (eqb-true x.number k e ∙ sym (number_at k xs c held)))
     left more false false e got = more got
+
+-- a copy that is left once one has ended ran
+pub at_without : (number : ℕ) (cs : List Job) (k : ℕ) (c : Job) → AreCopiesApart cs → copy_at k (copies_without number cs) ≡ Some c → copy_at k cs ≡ Some c
+at_without number [] k c apart at = at
+at_without number (x ∷ xs) k c apart at = by (x.number == number) (x.number == k) refl (λ there. at_without number xs k c apart.1 there) at
+  where
+    by : (b t : Bool) → (x.number == k) ≡ t → (copy_at k (copies_without number xs) ≡ Some c → copy_at k xs ≡ Some c) → copy_at k (if b then xs else x ∷ copies_without number xs) ≡ Some c → (if t then Some x else copy_at k xs) ≡ Some c
+    by true true e more got = absurd ((all_at (CopyApart x) k xs c got apart.0).numbers (eqb-true x.number k e ∙ sym (number_at k xs c got)))
+    by true false e more got = got
+    by false true e more got = sym (ap (λ (u : Bool). if u then Some x else copy_at k (copies_without number xs)) e) ∙ got
+    by false false e more got = more (sym (ap (λ (u : Bool). if u then Some x else copy_at k (copies_without number xs)) e) ∙ got)
+
+-- and the one that ended does not run
+pub gone_without : (number : ℕ) (cs : List Job) → AreCopiesApart cs → copy_at number (copies_without number cs) ≡ None
+gone_without number cs apart = by (copy_at number (copies_without number cs)) refl
+  where
+    first : (xs : List Job) → AreCopiesApart xs → (c : Job) → copy_at number (copies_without number xs) ≡ Some c → ⊥
+    first [] apart c at = absurd (cc)
+    first (x ∷ xs) apart c at = tests (x.number == number) refl at (λ d there. first xs apart.1 d there)
+      where
+        tests : (b : Bool) → (x.number == number) ≡ b → copy_at number (if b then xs else x ∷ copies_without number xs) ≡ Some c → ((d : Job) → copy_at number (copies_without number xs) ≡ Some d → ⊥) → ⊥
+        tests true e got more = (all_at (CopyApart x) number xs c got apart.0).numbers (eqb-true x.number number e ∙ sym (number_at number xs c got))
+        tests false e got more = more c (sym (ap (λ (u : Bool). if u then Some x else copy_at number (copies_without number xs)) e) ∙ got)
+
+    by : (o : Option Job) → copy_at number (copies_without number cs) ≡ o → copy_at number (copies_without number cs) ≡ None
+    by None e = e
+    by (Some c) e = absurd (first cs apart c e)
 
 -- what is left of the copies where a job of this state begins ran
 pub begun_runs : (seen : ℕ) (state : CopyState) (c : MergeCopies) → AreCopiesApart c.running → RunsNoOther c.running (copies_begun seen state c).running

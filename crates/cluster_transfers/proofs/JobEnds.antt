@@ -1,5 +1,5 @@
 -- How the line of a job started, and that a primary runs while it goes on.
-use Rattle.std.proofs.Common.{List, ◌≡◌, ◌≢◌, ℕ, Bool, Some, None, refl, ap, ◌∙◌, sym, subst}
+use Rattle.std.proofs.Common.{◌≡◌, ◌≢◌, ℕ, Bool, Some, None, refl, ap, ◌∙◌, sym, subst}
 use Rattle.nrt_base.specs.declared.numbers.At.{At}
 use Rattle.history_entries.specs.Nodes.{Past, primary_of}
 use Rattle.history_entries.specs.Lines.{start_entry, SourceSurvives}

@@ -1,10 +1,10 @@
 -- Merges stand where a job goes on and where it ends.
-use Rattle.std.proofs.Common.{◌≡◌, ◌≢◌, ◌+◌, ◌==◌, ◌∷◌, ℕ, Bool, true, false, List, Some, None, Option, refl, ap, ◌∙◌, sym, subst, arith, if◌then◌else◌}
+use Rattle.std.proofs.Common.{◌≡◌, ◌==◌, ◌∷◌, ℕ, Bool, true, false, List, Some, Option, refl, ap, ◌∙◌, sym, subst, arith, if◌then◌else◌}
 use Rattle.std.specs.Prelude.{IfSome}
 use Rattle.std.proofs.lemmas.Bool.{eq-eqb}
 use Rattle.nrt_base.specs.declared.numbers.NodeNo.{NodeNo}
+use Rattle.nrt_base.specs.declared.numbers.Version.{Version}
 use Rattle.disk_model.specs.Disk.{Name, Cells}
-use Rattle.copy_job.specs.Jobs.{Job as CopyingJob}
 use Rattle.primary_parts.specs.declared.parts.Parts.{Parts as PrimaryParts}
 use Rattle.primary_parts.specs.declared.states.Out.{Out}
 use Rattle.primary_parts.specs.States.{is_out, out_of, states_without}
@@ -16,7 +16,7 @@ use Rattle.history_entries.specs.declared.entry.Event.TheVariants.{Copying, Swit
 use Rattle.history_entries.specs.Nodes.{IsNode, is_at, primary_of}
 use Rattle.history_tables.specs.declared.jobs.Job.{Job}
 use Rattle.history_tables.specs.declared.jobs.JobRow.{JobRow}
-use Rattle.history_book.specs.Log.{Log, printed, shown, kept}
+use Rattle.history_book.specs.Log.{Log, printed, shown}
 use Rattle.history_book.specs.declared.inner.Inner.TheVariants.{JobEnd}
 use Rattle.history_book.specs.Jobs.{job_at, LaneJobShows}
 use Rattle.history_merges.specs.Merging.{Sheet}
@@ -53,14 +53,14 @@ module _ {D : Type 0} (board : Board) (places : List (Option (Place D))) (job : 
       switched : MergesStand one.log one.cut one.nodes board places
       switched = stand_shown board places places b1 b1 one job.at (Switched job.node job.version) refl refl refl refl refl refl refl (all_keep b1.nodes board b1.log b1.cut places was) was
 
-      two : Sheet
-      two = record b1 { log = shown job.at (Copied job.node job.version) ∷ one.log }
+      two : NodeNo → Version → Sheet
+      two m v = record b1 { log = shown job.at (Copied m v) ∷ one.log }
 
-      copied : MergesStand two.log two.cut two.nodes board places
-      copied = stand_shown board places places one one two job.at (Copied job.node job.version) refl refl refl refl refl refl refl (all_keep one.nodes board one.log one.cut places switched) switched
+      copied : (m : NodeNo) (v : Version) → MergesStand (two m v).log (two m v).cut (two m v).nodes board places
+      copied m v = stand_shown board places places one one (two m v) job.at (Copied m v) refl refl refl refl refl refl refl (all_keep one.nodes board one.log one.cut places switched) switched
 
       by : (o : Option Event) → b2.log ≡ ended_log job o b1.log → MergesStand b2.log b2.cut b2.nodes board places
-      by (Some (Copying m v)) is = stand_kept board places places two b2 (JobEnd job.at.line job.node job.number) is n c refl (all_keep two.nodes board two.log two.cut places copied) copied
+      by (Some (Copying m v)) is = stand_kept board places places (two m v) b2 (JobEnd job.at.line job.node job.number) is n c refl (all_keep b1.nodes board (two m v).log b1.cut places (copied m v)) (copied m v)
       by begun is = stand_kept board places places one b2 (JobEnd job.at.line job.node job.number) is n c refl (all_keep one.nodes board one.log one.cut places switched) switched
 
 module _ {D : Type 0} (cells : D → Cells) where

@@ -21,10 +21,10 @@ begin_commit_in-requires-clause-none g c = uncommitting_there g.D.Dir.cells c.ar
 
 pub show-requires-clause-rule : goal.show-requires-clause-rule
 show-requires-clause-rule g c = rule_at c.args.cluster.now _ c.cluster.inside.ledger c.reserve.new.self c.args.at (Committing c.args.n (record { 0 = c.version.result })) c.cluster.view_is c.in_ok-reserve.ensures.log c.in_ok-reserve.ensures.nodes
-    (may_begin_commit g.D.Dir.cells c.args.cluster.now _ c.cluster.inside.ledger _ c.args.at c.args.n c.cluster.view_is c.requires.running (two_parts c.cluster.invariant) c.requires.node c.requires.up (record { 0 = c.version.result }) c.files_last.ensures (legal_of c.book-book.ensures.nodes c.book-book.ensures.log c.is_legal.ensures.legal) (turns_of c.book-book.ensures.log c.is_legal.ensures.turns) (version_at c.args.cluster.now _ c.cluster.inside.ledger c.args.n c.version.result c.cluster.view_is (told_of c.book-book.ensures.log (version_of c.args.n.0) c.version.ensures)) c.requires.free)
+    (may_begin_commit g.D.Dir.cells c.args.cluster.now _ c.cluster.inside.ledger _ c.args.at c.args.n c.cluster.view_is c.requires.running (two_parts c.cluster.invariant) c.requires.node c.requires.up (record { 0 = c.version.result }) (legal_of c.book-book.ensures.nodes c.book-book.ensures.log c.is_legal.ensures.legal) (turns_of c.book-book.ensures.log c.is_legal.ensures.turns) (version_at c.args.cluster.now _ c.cluster.inside.ledger c.args.n c.version.result c.cluster.view_is (told_of c.book-book.ensures.log (version_of c.args.n.0) c.version.ensures)) c.requires.free)
 
 pub invariant_of-cluster-2 : goal.invariant_of-cluster-2
-invariant_of-cluster-2 g c = λ running. three_parts (begin_commit_path g.D.Dir.cells c.args.cluster.now _ c.cluster.inside.ledger _ c.args.at c.args.n c.cluster.view_is c.requires.running (two_parts c.cluster.invariant) c.requires.node c.requires.up (record { 0 = c.version.result }) c.files_last.ensures (legal_of c.book-book.ensures.nodes c.book-book.ensures.log c.is_legal.ensures.legal) (turns_of c.book-book.ensures.log c.is_legal.ensures.turns) _ c.in_ok-begin_commit_in.ensures c.reserve.new.self c.show.new.self
+invariant_of-cluster-2 g c = λ running. three_parts (begin_commit_path g.D.Dir.cells c.args.cluster.now _ c.cluster.inside.ledger _ c.args.at c.args.n c.cluster.view_is c.requires.running (two_parts c.cluster.invariant) c.requires.node c.requires.up (record { 0 = c.version.result }) (legal_of c.book-book.ensures.nodes c.book-book.ensures.log c.is_legal.ensures.legal) (turns_of c.book-book.ensures.log c.is_legal.ensures.turns) _ c.in_ok-begin_commit_in.ensures c.reserve.new.self c.show.new.self
     c.in_ok-reserve.ensures.log c.in_ok-reserve.ensures.nodes c.show.ensures.log c.show.ensures.nodes (fresh_of c.book-book.ensures.log c.is_fresh.ensures) (version_at c.args.cluster.now _ c.cluster.inside.ledger c.args.n c.version.result c.cluster.view_is (told_of c.book-book.ensures.log (version_of c.args.n.0) c.version.ensures)) c.requires.free)
     (commit_shows g.D.Dir.cells HasBegun c.args.cluster.now _ c.cluster.inside.ledger c.reserve.new.self _ _ _ c.args.n.0 c.cluster.view_is c.in_ok-reserve.ensures.log c.in_ok-reserve.ensures.nodes c.in_ok-reserve.ensures.cut c.requires.node c.in_ok-begin_commit_in.ensures
     (third_at c.cluster.view_is c.requires.running c.cluster.invariant) c.show.new.self c.args.at (Committing c.args.n (record { 0 = c.version.result })) c.show.ensures.log c.show.ensures.nodes c.show.ensures.cut refl)
@@ -33,7 +33,7 @@ pub returns-clause-ok : goal.returns-clause-ok
 returns-clause-ok g c = record {
   node = refl;
   version = (version_at c.args.cluster.now _ c.cluster.inside.ledger c.args.n c.version.result c.cluster.view_is (told_of c.book-book.ensures.log (version_of c.args.n.0) c.version.ensures));
-  now = entry_now g.D.Dir.cells c.args.cluster.now _ c.cluster.inside.ledger _ c.args.at c.args.n c.cluster.view_is c.requires.running (two_parts c.cluster.invariant) c.requires.node c.requires.up (record { 0 = c.version.result }) c.files_last.ensures (legal_of c.book-book.ensures.nodes c.book-book.ensures.log c.is_legal.ensures.legal) (turns_of c.book-book.ensures.log c.is_legal.ensures.turns) (Committing c.args.n (record { 0 = c.version.result })) c.reserve.new.self c.show.new.self c.in_ok-reserve.ensures.log c.in_ok-reserve.ensures.nodes c.show.ensures.log c.show.ensures.nodes;
+  now = entry_now g.D.Dir.cells c.args.cluster.now _ c.cluster.inside.ledger _ c.args.at c.args.n c.cluster.view_is c.requires.running (two_parts c.cluster.invariant) c.requires.node c.requires.up (record { 0 = c.version.result }) (legal_of c.book-book.ensures.nodes c.book-book.ensures.log c.is_legal.ensures.legal) (turns_of c.book-book.ensures.log c.is_legal.ensures.turns) (Committing c.args.n (record { 0 = c.version.result })) c.reserve.new.self c.show.new.self c.in_ok-reserve.ensures.log c.in_ok-reserve.ensures.nodes c.show.ensures.log c.show.ensures.nodes;
   calls = begun_calls g.D.Dir.cells c.args.n.0 _ _ _ refl c.in_ok-begin_commit_in.ensures;
 }
 

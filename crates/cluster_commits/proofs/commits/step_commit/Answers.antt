@@ -26,12 +26,12 @@ pub show-requires-clause-turn : goal.show-requires-clause-turn
 show-requires-clause-turn g c = turn_at c.args.cluster.now _ c.cluster.inside.ledger c.reserve.new.self c.args.at c.args.n c.args.v c.cluster.view_is c.in_ok-reserve.ensures.log c.requires.flight
 
 pub invariant_of-cluster-then-not-branch : goal.invariant_of-cluster-then-not-branch
-invariant_of-cluster-then-not-branch g c = λ running. three_parts (go_commit_path g.D.Dir.cells c.args.cluster.now _ c.cluster.inside.ledger _ c.args.at c.args.n c.cluster.view_is c.requires.running (two_parts c.cluster.invariant) c.requires.node c.requires.up c.args.v c.files_last.ensures (legal_of c.book-book.ensures.nodes c.book-book.ensures.log c.is_legal.ensures.legal) (turns_of c.book-book.ensures.log c.is_legal.ensures.turns) c.in_ok-step_commit_in.field-0 c.if-not-branch.true _ c.in_ok-step_commit_in.ensures c.reserve.new.self c.in_ok-reserve.ensures.log c.in_ok-reserve.ensures.nodes)
+invariant_of-cluster-then-not-branch g c = λ running. three_parts (go_commit_path g.D.Dir.cells c.args.cluster.now _ c.cluster.inside.ledger _ c.args.at c.args.n c.cluster.view_is c.requires.running (two_parts c.cluster.invariant) c.requires.node c.requires.up c.args.v (legal_of c.book-book.ensures.nodes c.book-book.ensures.log c.is_legal.ensures.legal) (turns_of c.book-book.ensures.log c.is_legal.ensures.turns) c.in_ok-step_commit_in.field-0 c.if-not-branch.true _ c.in_ok-step_commit_in.ensures c.reserve.new.self c.in_ok-reserve.ensures.log c.in_ok-reserve.ensures.nodes)
     (commit_stands g.D.Dir.cells (StepsBook c.in_ok-step_commit_in.field-0) c.args.cluster.now _ c.cluster.inside.ledger c.reserve.new.self _ _ _ c.args.n.0 c.cluster.view_is c.in_ok-reserve.ensures.log c.in_ok-reserve.ensures.nodes c.in_ok-reserve.ensures.cut c.requires.node c.in_ok-step_commit_in.ensures
     (third_at c.cluster.view_is c.requires.running c.cluster.invariant))
 
 pub invariant_of-cluster-2 : goal.invariant_of-cluster-2
-invariant_of-cluster-2 g c = λ running. three_parts (end_commit_path g.D.Dir.cells c.args.cluster.now _ c.cluster.inside.ledger _ c.args.at c.args.n c.cluster.view_is c.requires.running (two_parts c.cluster.invariant) c.requires.node c.requires.up c.args.v c.files_last.ensures (legal_of c.book-book.ensures.nodes c.book-book.ensures.log c.is_legal.ensures.legal) (turns_of c.book-book.ensures.log c.is_legal.ensures.turns) c.in_ok-step_commit_in.field-0 c.if-not-branch.false _ c.in_ok-step_commit_in.ensures c.reserve.new.self c.show.new.self
+invariant_of-cluster-2 g c = λ running. three_parts (end_commit_path g.D.Dir.cells c.args.cluster.now _ c.cluster.inside.ledger _ c.args.at c.args.n c.cluster.view_is c.requires.running (two_parts c.cluster.invariant) c.requires.node c.requires.up c.args.v (legal_of c.book-book.ensures.nodes c.book-book.ensures.log c.is_legal.ensures.legal) (turns_of c.book-book.ensures.log c.is_legal.ensures.turns) c.in_ok-step_commit_in.field-0 c.if-not-branch.false _ c.in_ok-step_commit_in.ensures c.reserve.new.self c.show.new.self
     c.in_ok-reserve.ensures.log c.in_ok-reserve.ensures.nodes c.show.ensures.log c.show.ensures.nodes (commit_of c.book-book.ensures.nodes c.book-book.ensures.log c.commit_may_end.ensures) c.requires.flight c.requires.started)
     (commit_shows g.D.Dir.cells (StepsBook c.in_ok-step_commit_in.field-0) c.args.cluster.now _ c.cluster.inside.ledger c.reserve.new.self _ _ _ c.args.n.0 c.cluster.view_is c.in_ok-reserve.ensures.log c.in_ok-reserve.ensures.nodes c.in_ok-reserve.ensures.cut c.requires.node c.in_ok-step_commit_in.ensures
     (third_at c.cluster.view_is c.requires.running c.cluster.invariant) c.show.new.self c.args.at (Committed c.args.n c.args.v) c.show.ensures.log c.show.ensures.nodes c.show.ensures.cut refl)

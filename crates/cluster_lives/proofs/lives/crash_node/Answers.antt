@@ -1,4 +1,4 @@
-use Rattle.std.proofs.Common.{◌∙◌, ◌≡◌, []}
+use Rattle.std.proofs.Common.{◌≡◌, []}
 use Rattle.history_entries.specs.declared.entry.Event.TheVariants.{Crashed}
 use Rattle.cluster_state.proofs.Frames.{slot_at, there_at, rule_at}
 use Rattle.cluster_lives.proofs.Crashing.{can_end, crash_path}

@@ -1,4 +1,4 @@
-use Rattle.std.proofs.Common.{◌∙◌, refl, ◌≡◌, [], ap, ◌∷◌, ◌+◌, ℕ}
+use Rattle.std.proofs.Common.{◌∙◌, refl, ◌≡◌, [], ap, ◌∷◌, ℕ}
 use Rattle.cluster_places.specs.declared.held.Key.TheVariants.{Search}
 use Rattle.cluster_state.proofs.Frames.{slot_at, there_at, slot_kept}
 use Rattle.cluster_reads.proofs.TicketPaths.{may_open, search_path, running_at, search_held, search_reads}

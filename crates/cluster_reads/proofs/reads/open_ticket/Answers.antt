@@ -6,7 +6,7 @@ use Rattle.cluster_state.proofs.Ledgers.{asked_of, fresh_of, told_of, asked_size
 use Rattle.history_entries.specs.Nodes.{version_of, IsNode}
 use Rattle.history_entries.specs.Lines.{entries_of_line}
 use Rattle.history_book.specs.Log.{Log, printed, shown}
-use Rattle.std.proofs.Common.{◌≡◌, [], refl, ◌∙◌, ap, ◌∷◌, ◌+◌, ℕ}
+use Rattle.std.proofs.Common.{◌≡◌, [], refl, ◌∙◌, ap, ◌∷◌, ℕ}
 use Rattle.cluster_state.proofs.Turning.{fresh_turn_at, log_is, nodes_is}
 use Rattle.history_entries.specs.declared.entry.Event.TheVariants.{Opened}
 use Rattle.cluster_state.specs.Run.{Run}

@@ -9,7 +9,7 @@ use Rattle.cluster_transfers.proofs.HandPaths.{next_slot, next_job, can_read, ha
 use Rattle.cluster_transfers.proofs.Ending.{can_finish, copy_here, finish_path}
 use Rattle.cluster_state.proofs.Ledgers.{lane_of, legal_of, replica_of, turns_of, asked_of}
 use Rattle.history_book.specs.Jobs.{job_of}
-use Rattle.history_entries.specs.Lines.{NodeSurvives, SourceSurvives}
+use Rattle.history_entries.specs.Lines.{start_entry, NodeSurvives, SourceSurvives}
 use Rattle.cluster_state.proofs.MergingPaths.{two_parts, three_parts, third_at}
 use Rattle.cluster_state.proofs.MergingStill.{stand_same, stand_kept, all_keep}
 use Rattle.cluster_transfers.proofs.TransferMerges.{read_stand, ended_stand, finished_stand}
@@ -66,7 +66,7 @@ pub invariant_of-cluster-in-None : goal.invariant_of-cluster-in-None
 invariant_of-cluster-in-None g c = λ running. three_parts (finish_path g.D.Dir.cells c.args.cluster.now _ c.cluster.inside.ledger c.reserve.new.self c.show_end.new.ledger _ _ c.source_of-p.result c.args.row c.cluster.view_is c.requires.running (two_parts c.cluster.invariant) c.in_ok-reserve.ensures.log c.in_ok-reserve.ensures.nodes
     c.show_end.ensures.log c.show_end.ensures.nodes (legal_of c.book.ensures.nodes c.book.ensures.log c.is_legal-in-None.ensures.legal) (turns_of c.book.ensures.log c.is_legal-in-None.ensures.turns) c.sourced_stands.ensures c.files_last.ensures c.source_of-p.ensures.node c.source_of-p.ensures.is c.requires.runs (lane_of c.book-book.ensures.nodes c.book-book.ensures.log c.job_shows.ensures) (replica_of c.book-book.ensures.log c.job_replica.ensures)
     (subst (HasNextFile (place_of c.cluster.inside.places.items c.args.row.job.node.0)) c.in-None.is c.in_ok-next_in.ensures) c.in_ok-finish_in-in-None.ensures)
-    (ended_stand c.cluster.inside.tasks _ c.args.row.job c.reserve.new.self c.show_end.new.ledger _ c.show_end.ensures.log c.show_end.ensures.nodes c.show_end.ensures.cut
+    (ended_stand c.cluster.inside.tasks _ c.args.row.job c.reserve.new.self c.show_end.new.ledger (start_entry c.args.row.job.at (printed c.reserve.new.self.log)) c.show_end.ensures.log c.show_end.ensures.nodes c.show_end.ensures.cut
     (stand_same c.cluster.inside.tasks _ _ c.cluster.inside.ledger c.reserve.new.self c.in_ok-reserve.ensures.log c.in_ok-reserve.ensures.nodes c.in_ok-reserve.ensures.cut
     (finished_stand g.D.Dir.cells c.args.cluster.now _ c.cluster.inside.ledger _ _ c.source_of-p.result c.args.row c.cluster.view_is c.requires.running (two_parts c.cluster.invariant) c.source_of-p.ensures.node c.source_of-p.ensures.is c.requires.runs (lane_of c.book-book.ensures.nodes c.book-book.ensures.log c.job_shows.ensures) c.in_ok-finish_in-in-None.ensures)
     (third_at c.cluster.view_is c.requires.running c.cluster.invariant)))

@@ -1,7 +1,7 @@
 use Rattle.std.proofs.Common.{◌∙◌, sym, ◌≡◌, Some}
 use Rattle.cluster_transfers.proofs.JobEnds.{source_ends}
 use Rattle.cluster_state.proofs.Ledgers.{lane_of, legal_of, asked_of}
-use Rattle.history_book.specs.Log.{Log, printed}
+use Rattle.history_book.specs.Log.{Log}
 use Rattle.history_book.specs.Jobs.{job_of}
 use Rattle.cluster_transfers.proofs.transfers.source_of.Goals as goal
 
