@@ -11,14 +11,13 @@ use Rattle.history_entries.specs.declared.cause.Cause.TheVariants.{NoPrimary, No
 use Rattle.history_entries.specs.declared.entry.Event.TheVariants.{Merging, Drained, Refused}
 use Rattle.history_entries.specs.Nodes.{primary_of}
 use Rattle.history_entries.specs.Lines.{same_at, is_answered}
-use Rattle.history_entries.specs.Points.{names_drawn}
 use Rattle.history_tables.proofs.RowLemmas.{same_at_self}
 use Rattle.history_book.specs.Laws.{IsFresh}
 use Rattle.history_book.specs.Log.{Log, printed, shown, kept, name_by}
 use Rattle.history_book.specs.declared.inner.Inner.TheVariants.{MergeOut, MergeEnd, JobBegun, FileOut, TaskOut, TaskEnd}
 use Rattle.history_book.specs.declared.inner.Step.TheVariants.{Merge as MergeStep, PreCopy as PreCopyStep, Cut as CutStep}
 use Rattle.script_serving.specs.declared.script.LineCommand.TheVariants.{Merge, Drain}
-use Rattle.script_serving.specs.Refusals.{when, names_are_spent, may_be_refused}
+use Rattle.script_serving.specs.Refusals.{when, may_be_refused}
 use Rattle.script_serving.specs.Serves.{First}
 use Rattle.cluster_tasks.specs.declared.tasks.Task.{Task}
 use Rattle.cluster_tasks.specs.declared.tasks.Sent.{Sent}

@@ -1,5 +1,5 @@
 -- What is known of a task stays so, whatever is appended.
-use Rattle.std.proofs.Common.{◌≡◌, List, [], ◌∷◌, ◌++◌, Some, ap, ◌∙◌, sym, subst, ℕ}
+use Rattle.std.proofs.Common.{◌≡◌, List, [], ◌∷◌, ◌++◌, Some, ap, ◌∙◌, subst, ℕ}
 use Rattle.nrt_base.specs.declared.numbers.SegNo.{SegNo}
 use Rattle.disk_model.specs.Disk.{Name}
 use Rattle.seg_reader.specs.Shown.{Shown as Segment}
@@ -10,7 +10,6 @@ use Rattle.history_book.specs.declared.inner.Mark.TheVariants.{Shown, TaskFault,
 use Rattle.history_book.specs.Log.{Log}
 use Rattle.lane_walks.specs.Walks.{GrowsByOthers}
 use Rattle.cluster_tasks.specs.declared.tasks.Task.{Task}
-use Rattle.cluster_tasks.specs.declared.tasks.TaskKind.{TaskKind}
 use Rattle.cluster_tasks.specs.declared.tasks.TaskKind.TheVariants.{Merge}
 use Rattle.cluster_tasks.specs.TaskLog.{inputs_by, inputs_out, carries_as, carried_out}
 use Rattle.cluster_tasks.specs.Board.{IsToldKind}

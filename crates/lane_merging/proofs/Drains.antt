@@ -1,5 +1,5 @@
 -- A drain line that does tasks has no entry until its reply.
-use Rattle.std.proofs.Common.{◌≡◌, ℕ, false, [], Option, ap, ◌∙◌}
+use Rattle.std.proofs.Common.{◌≡◌, ℕ, [], Option, ap, ◌∙◌}
 use Rattle.std.specs.Prelude.{Result, Ok, Err, IfOk}
 use Rattle.nrt_base.specs.declared.numbers.At.{At}
 use Rattle.history_entries.specs.Lines.{entries_of_line}

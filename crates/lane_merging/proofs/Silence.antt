@@ -1,10 +1,9 @@
 -- Entries among which no line of a lane goes on.
-use Rattle.std.proofs.Common.{◌≡◌, ◌≢◌, ◌==◌, ℕ, Bool, false, List, [], ◌∷◌, ◌++◌, Option, None, refl, ap, ◌∙◌, sym, subst, inl, inr, arith, if◌then◌else◌}
+use Rattle.std.proofs.Common.{◌≡◌, ◌≢◌, ℕ, Bool, false, List, [], ◌∷◌, ◌++◌, Option, None, refl, ap, ◌∙◌, sym, subst, inl, inr, arith, if◌then◌else◌}
 use Rattle.std.specs.List.{AllByRecursion}
 use Rattle.std.proofs.lemmas.Bool.Decides.{eqb_tells}
 use Rattle.nrt_base.specs.declared.numbers.At.{At}
 use Rattle.history_entries.specs.Lines.{entries_of_line}
-use Rattle.history_book.specs.declared.inner.Mark.{Mark}
 use Rattle.history_book.specs.declared.inner.Mark.TheVariants.{Shown, TaskFault, Kept}
 use Rattle.history_book.specs.Log.{Log, printed, lane_name, name_by}
 use Rattle.script_serving.specs.declared.script.Line.{Line}
@@ -39,7 +38,7 @@ module _ (lane : ℕ) (by : Option At) where
     task_silent more old h.1,
   )
 
-  silent_first : (log : Log) → FaultsFit false log → GrowsSilently lane by log log
+  pub silent_first : (log : Log) → FaultsFit false log → GrowsSilently lane by log log
   silent_first log faults = record { more = []; log = refl; silent = tt; faults = faults }
 
   pub silent_then : (a b c : Log) → GrowsSilently lane by a b → GrowsSilently lane by b c → GrowsSilently lane by a c

@@ -1,5 +1,5 @@
 -- What a section of a call of a task did, for the lane or worker that took it.
-use Rattle.std.proofs.Common.{◌≡◌, ◌⊎◌, ◌∷◌, ℕ, false, [], Option, Some, None, refl, ap, ◌∙◌, sym, subst, inl, inr, reverse}
+use Rattle.std.proofs.Common.{◌≡◌, ◌⊎◌, ◌∷◌, ℕ, false, [], Option, Some, None, ap, ◌∙◌, sym, subst, inl, inr, reverse}
 use Rattle.std.specs.Prelude.{Result, Ok, Err, OnOk, OnErr, IfOk}
 use Rattle.std.proofs.lemmas.Result.{on_ok_weaker}
 use Rattle.nrt_base.specs.declared.numbers.At.{At}
