@@ -1,5 +1,5 @@
 -- What is known of a task stays so, whatever is appended.
-use Rattle.std.proofs.Common.{◌≡◌, List, [], ◌∷◌, ◌++◌, Some, ap, ◌∙◌, subst, ℕ}
+use Rattle.std.proofs.Common.{◌≡◌, false, List, [], ◌∷◌, ◌++◌, Some, ap, ◌∙◌, subst, ℕ}
 use Rattle.nrt_base.specs.declared.numbers.SegNo.{SegNo}
 use Rattle.disk_model.specs.Disk.{Name}
 use Rattle.seg_reader.specs.Shown.{Shown as Segment}
