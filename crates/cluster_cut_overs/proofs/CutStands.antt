@@ -1,24 +1,30 @@
 -- A merge that is cut over: what the primary shows, and what is true of merges.
-use Rattle.std.proofs.Common.{◌≡◌, ◌≤◌, ◌<◌, ◌+◌, ◌*◌, ◌==◌, ◌++◌, ℕ, zero, suc, Bool, true, false, List, [], ◌∷◌, map, length, Some, None, Option, Vec, Global, refl, ap, ◌∙◌, sym, subst, arith, if◌then◌else◌}
-use Rattle.std.specs.Prelude.{not}
-use Rattle.std.specs.List.{AllByRecursion, filter, zip}
+use Rattle.std.proofs.Common.{◌≡◌, ◌≤◌, ◌<◌, ◌+◌, ◌*◌, ◌==◌, ◌++◌, ℕ, zero, suc, Bool, true, false, true≢false, List, [], ◌∷◌, map, length, Some, None, Option, Vec, Global, refl, ap, ◌∙◌, sym, subst, arith, if◌then◌else◌}
+use Rattle.std.specs.Prelude.{not, IsSomeAnd}
+use Rattle.std.specs.List.{All, AllByRecursion, zip}
+use Rattle.std.proofs.Math.Nat.{min-le_left}
 use Rattle.std.proofs.lemmas.Bool.{eqb-true}
 use Rattle.std.proofs.lemmas.List.{length-append, length-map}
+use Rattle.std.proofs.lemmas.List.Filters.{length-filter_both}
+use Rattle.std.proofs.lemmas.Slice.Zip.{length-zip}
+use Rattle.nrt_base.specs.declared.numbers.At.{At}
+use Rattle.nrt_base.specs.declared.numbers.LineNo.{LineNo}
 use Rattle.nrt_base.specs.declared.numbers.SegNo.{SegNo}
 use Rattle.disk_model.specs.Disk.{Cells}
 use Rattle.copy_state.specs.declared.state.CopyState.{CopyState}
+use Rattle.copy_job.specs.Jobs.{Job}
 use Rattle.seg_reader.specs.Shown.{Shown}
 use Rattle.segment_infos.specs.declared.infos.Infos.{Infos}
-use Rattle.segment_infos.specs.declared.infos.SegRecord.{SegRecord}
 use Rattle.searcher_switch.specs.declared.open.Open.{Open}
 use Rattle.searcher_switch.specs.declared.open.Point.{Point}
-use Rattle.segment_steps.specs.Next.{Turn}
+use Rattle.segment_steps.specs.Next.{Turn, stays, staying}
 use Rattle.segment_steps.specs.CutOver.{Part, is_one_of, inputs_in, others_in, in_place, lives_of, part_after, merged_turn, merged_turns}
 use Rattle.history_entries.specs.Nodes.{version_of}
 use Rattle.history_entries.specs.Lines.{publish_in_flight}
 use Rattle.history_entries.specs.Tasks.{merge_count}
-use Rattle.history_book.specs.Log.{Log, printed}
-use Rattle.nrt_base.specs.declared.numbers.At.{At}
+use Rattle.history_book.specs.Log.{Log, printed, kept}
+use Rattle.history_book.specs.declared.inner.Inner.TheVariants.{MergeEnd, TaskEnd}
+use Rattle.history_book.specs.declared.inner.Step.TheVariants.{Cut as CutStep}
 use Rattle.primary_parts.specs.declared.parts.Parts.{Parts as PrimaryParts}
 use Rattle.primary_parts.specs.declared.states.Merging.{Merging}
 use Rattle.primary_parts.specs.declared.states.Out.{Out}
@@ -26,57 +32,54 @@ use Rattle.primary_parts.specs.Merges.{merge_of, merges_without, AreOtherMerges,
 use Rattle.primary_parts.specs.States.{out_of, is_out, states_without}
 use Rattle.primary_parts.proofs.MergeLists.{number_of, others_at}
 use Rattle.cluster_tasks.specs.declared.tasks.OpenMerge.{OpenMerge}
+use Rattle.cluster_tasks.specs.declared.tasks.Posted.{Posted}
+use Rattle.cluster_tasks.specs.declared.tasks.Sent.{Sent}
 use Rattle.cluster_tasks.specs.declared.tasks.Spread.{Spread}
-use Rattle.cluster_tasks.specs.Board.{open_merge, without_merge, due_of, due_all}
+use Rattle.cluster_tasks.specs.TaskLog.{ended_count}
+use Rattle.cluster_tasks.specs.Board.{Board, open_merge, spread_at, without_merge, is_sent_in, done_under, counts_one, due_all, IsToldTask, TasksShow}
+use Rattle.cluster_tasks.proofs.BoardRows.{open_without, due_closed}
+use Rattle.cluster_tasks.proofs.TaskFrames.{told_all, ends_most, tasks_closed}
 use Rattle.cluster_places.specs.declared.held.Held.{Held}
 use Rattle.cluster_places.specs.declared.nodes.Node.TheVariants.{Primary}
 use Rattle.cluster_places.specs.Outs.{one_like, states_like}
 use Rattle.cluster_places.proofs.OutCounts.{states_back}
 use Rattle.cluster_state.specs.State.{IsPointAt, FlightShows, HoldsTickets, WritesAt, PrimaryShows, PlaceShows}
-use Rattle.cluster_state.specs.Merging.{AreMergedAlike, out_at, PrimaryMerges}
+use Rattle.cluster_state.specs.Merging.{AreMergedAlike, AreSentCopies, out_at, PrimaryMerges}
 use Rattle.history_tables.proofs.RowLemmas.{by_test}
 use Rattle.node_merges.specs.MergeChanges.{CutsMerge}
-use Rattle.cluster_drains.proofs.StandSteps.{alike_closed, spreads_without}
+use Rattle.cluster_drains.proofs.StandSteps.{alike_closed, sent_still, spreads_without}
+use Rattle.cluster_drains.proofs.CopyRows.{counts_ends}
 
 -- ---- no more segments are there
-
-filter_few : {X : Type 0} (test : X → Bool) (xs : List X) → length (filter test xs) ≤ length xs
-filter_few test [] = omega arith
-filter_few test (x ∷ xs) = by (test x) (filter_few test xs)
-  where
-    by : (b : Bool) → length (filter test xs) ≤ length xs → length (if b then x ∷ filter test xs else filter test xs) ≤ length (x ∷ xs)
-    by true less = omega (arith, less)
-    by false less = omega (arith, less)
 
 in_place_few : (inputs : List SegNo) (new ps : List Part) → length new ≤ 1 → length (in_place inputs new ps) ≤ length ps
 in_place_few inputs new [] few = omega arith
 in_place_few inputs new (p ∷ ps) few = by (is_one_of inputs p) (in_place_few inputs new ps few)
   where
+    twice : (t : Bool) → t ≡ not (not t)
+    twice true = refl
+    twice false = refl
+
     by : (b : Bool) → length (in_place inputs new ps) ≤ length ps → length (if b then new ++ others_in inputs ps else p ∷ in_place inputs new ps) ≤ length (p ∷ ps)
     by true less =
         let both : length (new ++ others_in inputs ps) ≡ length new + length (others_in inputs ps) = length-append new (others_in inputs ps) in
-        let others : length (others_in inputs ps) ≤ length ps = filter_few (λ q. not (is_one_of inputs q)) ps in
+        let others : length (others_in inputs ps) + length (inputs_in inputs ps) ≡ length ps = length-filter_both (λ q. not (is_one_of inputs q)) (is_one_of inputs) (λ q. twice (is_one_of inputs q)) ps in
         omega (arith, both, few, others)
     by false less = omega (arith, less)
 
-zip_few : (rs : List SegRecord) (ss : List Shown) → length (zip rs ss) ≤ length rs
-zip_few [] ss = omega arith
-zip_few (r ∷ rs) [] = omega arith
-zip_few (r ∷ rs) (s ∷ ss) = let rest = zip_few rs ss in omega (arith, rest)
+turn_or_none : (g : ℕ) (t : Turn) → length (staying g [] (t ∷ [])) ≤ 1
+turn_or_none g t = elim (stays g [] t) as (λ b. length (if b then t ∷ [] else []) ≤ 1) [ true ↦ omega arith | false ↦ omega arith ]
 
 -- ---- a merge is in flight, so one was started
 
-due_some : (size seg : ℕ) (rows : List OpenMerge) (r : OpenMerge) → open_merge seg rows ≡ Some r → 1 ≤ due_all size rows
-due_some size seg [] r is = absurd (cc)
-due_some size seg (q ∷ rows) r is = let own = of q.spread in omega (arith, own)
-  where
-    of : (o : Option Spread) → 1 ≤ due_of size o
-    of None = omega arith
-    of (Some s) = elim s.all as (λ b. 1 ≤ (if b then length s.left + 1 else size + 1)) [ true ↦ omega arith | false ↦ omega arith ]
-
-pub some_started : (size ended due count : ℕ) → ended + due ≤ (size + 1) * count → 1 ≤ due → 0 < count
+some_started : (size ended due count : ℕ) → ended + due ≤ (size + 1) * count → 1 ≤ due → 0 < count
 some_started size ended due zero paid some = absurd (let none : (size + 1) * 0 ≡ 0 = grind arith in omega (arith, paid, some, none))
 some_started size ended due (suc count) paid some = omega arith
+
+pub merge_started : (size : ℕ) (log : Log) (board : Board) (seg : ℕ) (row : OpenMerge) → open_merge seg board.rows ≡ Some row → TasksShow size log board → 0 < merge_count (printed log)
+merge_started size log board seg row there tasks =
+    let due = due_closed size board.rows seg row there in
+    some_started size (ended_count log) (due_all size board.rows) (merge_count (printed log)) tasks.paid (omega (arith, due))
 
 -- ---- the primary
 
@@ -87,12 +90,12 @@ module _ {D : Type 0} (cells : D → Cells) (log : Log) (n : ℕ) (seg : SegNo) 
       let turns : List Turn = merged_turns p.infos.generation.0 cuts.cut.merged cuts.cut.shown (lives_of (inputs_in cuts.cut.m.inputs parts)) in
       let new : List Part = map (part_after p.infos.generation.0) turns in
       let segs : length q.infos.segs ≡ length cuts.cut.made.records = ap (λ (i : Infos). length i.segs) cuts.cut.infos in
-      let records : length cuts.cut.made.records ≡ length (map (λ x. x.0) (in_place cuts.cut.m.inputs new parts)) = ap length cuts.cut.cut.records_are in
+      let records : length cuts.cut.made.records ≡ length (map (λ (x : Part). x.0) (in_place cuts.cut.m.inputs new parts)) = ap length cuts.cut.cut.records_are in
       let mapped : length (map (λ (x : Part). x.0) (in_place cuts.cut.m.inputs new parts)) ≡ length (in_place cuts.cut.m.inputs new parts) = length-map (in_place cuts.cut.m.inputs new parts) (λ (x : Part). x.0) in
       let one : length new ≡ length turns = length-map turns (part_after p.infos.generation.0) in
-      let few : length turns ≤ 1 = filter_few _ (merged_turn cuts.cut.merged cuts.cut.shown (lives_of (inputs_in cuts.cut.m.inputs parts)) ∷ []) in
+      let few : length turns ≤ 1 = turn_or_none p.infos.generation.0 (merged_turn cuts.cut.merged cuts.cut.shown (lives_of (inputs_in cuts.cut.m.inputs parts))) in
       let placed = in_place_few cuts.cut.m.inputs new parts (omega (arith, one, few)) in
-      let zipped = zip_few p.infos.segs p.segs in
+      let zipped : length parts ≤ length p.infos.segs = subst (λ (k : ℕ). k ≤ length p.infos.segs) (sym (length-zip p.infos.segs p.segs)) (min-le_left (length p.infos.segs) (length p.segs)) in
       omega (arith, segs, records, mapped, placed, zipped)
 
   cut_writer : WritesAt (printed log) p.infos p.segs → WritesAt (printed log) q.infos q.segs
@@ -155,3 +158,45 @@ cut_merges log was now jobs count rows seg row s p q m there some found apart ou
       let fewer = low o in
       omega (arith, less, one, back, now', were, fewer);
 }
+
+-- ---- tasks
+
+-- the merge has ended and, behind it, the task to cut it over, which counts: there is one merge less for which tasks may come
+pub tasks_cut : (size : ℕ) (log : Log) (b new : Board) (line : LineNo) (seg : SegNo) (taker : Option At) (row : OpenMerge) → open_merge seg.0 b.rows ≡ Some row → new.rows ≡ without_merge seg.0 b.rows → new.posted ≡ b.posted
+    → ((x : At) → done_under x new.counts ≡ done_under x b.counts + counts_one x taker) → TasksShow size log b → TasksShow size (kept (TaskEnd line seg taker CutStep true) ∷ kept (MergeEnd seg) ∷ log) new
+tasks_cut size log b new line seg taker row there rows posted done s =
+    let less = due_closed size b.rows seg.0 row there in
+    let due : due_all size new.rows ≡ due_all size (without_merge seg.0 b.rows) = ap (due_all size) rows in
+    let closed : TasksShow size (kept (MergeEnd seg) ∷ log) (record { posted = b.posted; rows = new.rows; counts = b.counts }) =
+    tasks_closed size log b (record { posted = b.posted; rows = new.rows; counts = b.counts }) seg rows refl refl (omega (arith, less, due)) s in
+    record {
+      lines = closed.lines;
+      posted = subst (λ (l : List Posted). All (IsToldTask now) l) (sym posted) (told_all log now (λ n inputs is. is) b.posted s.posted);
+      noted = s.noted;
+      low = s.low;
+      paid = let paid = s.paid in omega (arith, paid, less, due);
+      drains = λ lines none. let low = s.drains lines none in let most = ends_most lines line seg taker CutStep true in omega (arith, low, most);
+      counts = λ at none. (let was = s.counts at none in let more = done at in let one = counts_ends at line seg taker CutStep in omega (arith, was, more, one));
+    }
+  where
+    now : Log
+    now = kept (TaskEnd line seg taker CutStep true) ∷ kept (MergeEnd seg) ∷ log
+
+-- ---- copies
+
+-- copies that run were sent by other merges, where all of this one have ended
+pub sent_without : (rows : List OpenMerge) (seg : ℕ) (s : Spread) (n : ℕ) (running : List Job) → spread_at (open_merge seg rows) ≡ Some s → s.left ≡ [] → AreSentCopies rows n running → AreSentCopies (without_merge seg rows) n running
+sent_without rows seg s n running there ended sent = sent_still rows (without_merge seg rows) n running keeps sent
+  where
+    none_sent : (u : Spread) (k : ℕ) → Some s ≡ Some u → is_sent_in n k u.left ≡ true → ⊥
+    none_sent u k both sent_one =
+        let one : s ≡ u = cc in
+        true≢false (sym sent_one ∙ (ap (λ (x : Spread). is_sent_in n k x.left) (sym one) ∙ ap (λ (l : List Sent). is_sent_in n k l) ended))
+
+    keeps : (other k : ℕ) (t : Spread) → spread_at (open_merge other rows) ≡ Some t → is_sent_in n k t.left ≡ true → IsSomeAnd (spread_at (open_merge other (without_merge seg rows))) (λ u. (is_sent_in n k u.left ≡ true) × (u.state ≡ t.state))
+    keeps other k t here is =
+        subst (λ (o : Option OpenMerge). IsSomeAnd (spread_at o) (λ u. (is_sent_in n k u.left ≡ true) × (u.state ≡ t.state))) (sym (open_without rows seg other))
+        (by_test (seg == other) (λ b. (seg == other) ≡ b → IsSomeAnd (spread_at (if b then None else open_merge other rows)) (λ u. (is_sent_in n k u.left ≡ true) × (u.state ≡ t.state)))
+        (λ same e. absurd (none_sent t k (sym there ∙ (ap (λ (j : ℕ). spread_at (open_merge j rows)) (eqb-true seg other e) ∙ here)) is))
+        (λ apart e. subst (λ (o : Option Spread). IsSomeAnd o (λ u. (is_sent_in n k u.left ≡ true) × (u.state ≡ t.state))) (sym here) (is, refl))
+        refl)

@@ -1,1 +1,3 @@
-pub mod CutStands
+mod CutStands
+mod CutFiles
+mod CutPaths

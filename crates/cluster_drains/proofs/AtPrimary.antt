@@ -31,5 +31,5 @@ module _ {D : Type 0} (cells : D → Cells) where
   pub has_primary_at : (r : Run) (b : Sheet) (places : List (Option (Place D))) (p : NodeNo) {ended : Bool} {left : Rest} → record { ended = ended; nodes = b.nodes; log = b.log; rest = left } ≡ r → r.ended ≡ false → (ended ≡ false → Shows cells b.log b.nodes places)
       → IsNode r.nodes p.0 → primary_of (printed r.log) ≡ Some p → HasPrimary (place_of places p.0)
   has_primary_at r b places p view running shows node primary =
-      primary_in_place cells b.log b.nodes p.0 places (ap (λ (o : Option NodeNo). is_at o p.0) (ap (λ (x : Run). primary_of (printed x.log)) view ∙ primary) ∙ eq-eqb p.0 p.0 refl)
+      primary_in_place b.log b.nodes p.0 places (ap (λ (o : Option NodeNo). is_at o p.0) (ap (λ (x : Run). primary_of (printed x.log)) view ∙ primary) ∙ eq-eqb p.0 p.0 refl)
       (subst (λ (k : ℕ). IsNode k p.0) (sym (ap (λ (x : Run). x.nodes) view)) node) (shows (ap (λ (x : Run). x.ended) view ∙ running))

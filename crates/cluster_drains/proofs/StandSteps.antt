@@ -40,8 +40,8 @@ pub merge_made : (ms : List Merging) (merged : Merged) (names : List Name) (m : 
 merge_made [] merged names m seg is = absurd (cc)
 merge_made (x ∷ ms) merged names m seg is =
     by_test (x.task.seg.0 == merged.files.seg.0) (λ b. (x.task.seg.0 == merged.files.seg.0) ≡ b → (if b then Some x else merge_of merged.files.seg.0 ms) ≡ Some m
-        → merge_of seg (if b then record x { merged = Some merged; names = names } ∷ ms else x ∷ merges_with merged names ms)
-        ≡ (if merged.files.seg.0 == seg then Some (record m { merged = Some merged; names = names }) else if x.task.seg.0 == seg then Some x else merge_of seg ms))
+    → merge_of seg (if b then record x { merged = Some merged; names = names } ∷ ms else x ∷ merges_with merged names ms)
+    ≡ (if merged.files.seg.0 == seg then Some (record m { merged = Some merged; names = names }) else if x.task.seg.0 == seg then Some x else merge_of seg ms))
     (λ here e is. let same : x ≡ m = cc in let all : Some (record x { merged = Some merged; names = names }) ≡ Some (record m { merged = Some merged; names = names }) = ap (λ (z : Merging). Some (record z { merged = Some merged; names = names })) same in
     grind (arith, nat_tests, e, all))
     (λ apart e is. let rest = merge_made ms merged names m seg is in grind (arith, nat_tests, e, rest))
@@ -160,7 +160,7 @@ pub spreads_with : (s : Out) (rows : List OpenMerge) (seg : ℕ) (spread : Optio
 spreads_with s [] seg spread r is = absurd (cc)
 spreads_with s (q ∷ rows) seg spread r is =
     by_test (q.seg.0 == seg) (λ b. (if b then Some q else open_merge seg rows) ≡ Some r
-        → spreads_like s (if b then record q { spread = spread } ∷ rows else q ∷ with_spread seg spread rows) + one_like s (out_at r.spread) ≡ spreads_like s (q ∷ rows) + one_like s (out_at spread))
+    → spreads_like s (if b then record q { spread = spread } ∷ rows else q ∷ with_spread seg spread rows) + one_like s (out_at r.spread) ≡ spreads_like s (q ∷ rows) + one_like s (out_at spread))
     (λ here is. let same : q ≡ r = cc in let one : one_like s (out_at q.spread) ≡ one_like s (out_at r.spread) = ap (λ (z : OpenMerge). one_like s (out_at z.spread)) same in omega (arith, one))
     (λ apart is. let rest = spreads_with s rows seg spread r is in omega (arith, rest))
     is

@@ -24,7 +24,7 @@ use Rattle.cluster_state.specs.Merging.{IsFitKind, MergesStand}
 use Rattle.cluster_state.proofs.Frames.{noted}
 use Rattle.cluster_state.proofs.FileFrames.{files_noted}
 use Rattle.cluster_state.proofs.Turning.{past_has, fresh_turn, fresh_line}
-use Rattle.cluster_state.proofs.BookLaws.{apart_of}
+use Rattle.cluster_state.proofs.Growing.{not_flying}
 use Rattle.cluster_state.proofs.Disks.{fresh_flights}
 use Rattle.cluster_drains.specs.MergePaths.{IsBoard, IsAsBefore, HandsTask}
 use Rattle.cluster_drains.specs.Running.{AllShown}
@@ -35,7 +35,7 @@ pub all_at : {A : Type 0} {r : Run} {ended : Bool} {nodes : ℕ} {log : Log} {re
 all_at view running all = all (ap (λ (x : Run). x.ended) view ∙ running)
 
 module _ (r : Run) (b0 b1 : Sheet) (board : Board) {ended cut : Bool} {calls : List ℕ} {sizes : List (Option ℕ)} (view : record { ended = ended; nodes = b0.nodes; log = b0.log; rest = record { calls_left = calls; cut = cut; sizes = sizes; tasks = board } } ≡ r)
-  (e1 : b1.log ≡ b0.log) (n1 : b1.nodes ≡ b0.nodes) where
+    (e1 : b1.log ≡ b0.log) (n1 : b1.nodes ≡ b0.nodes) where
   -- nothing changed
   pub as_before : (new : Board) (calls1 : List ℕ) (cut1 : Bool) (sizes1 : List (Option ℕ)) → new.rows ≡ board.rows → new.posted ≡ board.posted
       → IsAsBefore r (record { ended = false; nodes = b1.nodes; log = b1.log; rest = record { calls_left = calls1; cut = cut1; sizes = sizes1; tasks = new } })
@@ -112,9 +112,9 @@ module _ {D : Type 0} (cells : D → Cells) (places : List (Option (Place D))) (
 -- ---- a drain's reply
 
 module _ {D : Type 0} (cells : D → Cells) (r : Run) (places : List (Option (Place D))) (b0 b1 b2 : Sheet) (board new : Board) (at : At) (done most : ℕ) {ended cut : Bool} {calls : List ℕ} {sizes : List (Option ℕ)}
-  (view : record { ended = ended; nodes = b0.nodes; log = b0.log; rest = record { calls_left = calls; cut = cut; sizes = sizes; tasks = board } } ≡ r) (running : r.ended ≡ false) (all : ended ≡ false → AllShown cells b0 board places)
-  (e1 : b1.log ≡ b0.log) (n1 : b1.nodes ≡ b0.nodes) (c1 : b1.cut ≡ b0.cut) (legal : IsLegalPast b0.nodes (printed b0.log)) (turns : AreInTurn (printed b0.log)) (fresh : IsFresh at (printed b0.log))
-  (empty : entries_of_line at (printed r.log) ≡ []) (is : done ≡ counted_for at r.log) where
+    (view : record { ended = ended; nodes = b0.nodes; log = b0.log; rest = record { calls_left = calls; cut = cut; sizes = sizes; tasks = board } } ≡ r) (running : r.ended ≡ false) (all : ended ≡ false → AllShown cells b0 board places)
+    (e1 : b1.log ≡ b0.log) (n1 : b1.nodes ≡ b0.nodes) (c1 : b1.cut ≡ b0.cut) (legal : IsLegalPast b0.nodes (printed b0.log)) (turns : AreInTurn (printed b0.log)) (fresh : IsFresh at (printed b0.log))
+    (empty : entries_of_line at (printed r.log) ≡ []) (is : done ≡ counted_for at r.log) where
   none_yet : entries_of_line at (printed b0.log) ≡ []
   none_yet = ap (λ (x : Run). entries_of_line at (printed x.log)) view ∙ empty
 
@@ -123,6 +123,12 @@ module _ {D : Type 0} (cells : D → Cells) (r : Run) (places : List (Option (Pl
 
   fresh_now : IsFresh at (printed r.log)
   fresh_now = past_has (IsFresh at) r ended b0 view fresh
+
+  legal_now : IsLegalPast r.nodes (printed r.log)
+  legal_now = subst (λ (x : Run). IsLegalPast x.nodes (printed x.log)) view legal
+
+  turns_now : AreInTurn (printed r.log)
+  turns_now = past_has AreInTurn r ended b0 view turns
 
   pub drain_rule : KeepsRule r.nodes (printed r.log) at (Drained done most)
   drain_rule = subst (λ (x : Run). KeepsRule x.nodes (printed x.log) at (Drained done most)) view (record {
@@ -139,7 +145,7 @@ module _ {D : Type 0} (cells : D → Cells) (r : Run) (places : List (Option (Pl
   )
     where
       apart : publish_in_flight (printed r.log) ≢ Some at
-      apart = apart_of r ended b0 at view legal turns (fresh_line (printed r.log) at fresh_now)
+      apart = not_flying r.nodes (printed r.log) at legal_now turns_now (fresh_line (printed r.log) at fresh_now)
 
       flights : (m : ℕ) → commit_in_flight m (printed r.log) ≢ Some at
-      flights = fresh_flights r.nodes (printed r.log) at (subst (λ (x : Run). IsLegalPast x.nodes (printed x.log)) view legal) (past_has AreInTurn r ended b0 view turns) fresh_now.begun
+      flights = fresh_flights r.nodes (printed r.log) at legal_now turns_now fresh_now.begun

@@ -50,7 +50,7 @@ pub record BeginsMerge (at : At) (factor : ℕ) (old new : Run) : Type 0 where
   pub named : seg.0 ≡ next_name (printed old.log)
   pub few : factor ≤ put_publishes (printed old.log)
   pub begins : IsBoard old new (kept (MergeOut at.line seg inputs) ∷ shown at (Merging seg) ∷ old.log)
-    (old.rest.tasks.rows ++ record { seg = seg; line = at.line; spread = None } ∷ []) (old.rest.tasks.posted ++ posted_merge seg at.line (merge_task seg inputs) ∷ [])
+      (old.rest.tasks.rows ++ record { seg = seg; line = at.line; spread = None } ∷ []) (old.rest.tasks.posted ++ posted_merge seg at.line (merge_task seg inputs) ∷ [])
 
 -- A merge starts; or no inputs can be chosen; or some can, and the generation has drawn all its names.
 abbrev pub StartsMergeFor : At → ℕ → Run → Run → Option Cause → Type 0
@@ -92,8 +92,8 @@ pub record WritesMerge (line : LineNo) (seg : SegNo) (by : Option At) (old new :
   pub sent : List Sent
   pub replicas : AreReplicas old.nodes (printed old.log) (map (λ s. s.node) sent)
   pub writes : IsBoard old new (kept (TaskEnd line seg by MergeStep true) ∷ begun_log line sent old.log)
-    (with_spread seg.0 (Some (record { state = state; left = sent; all = true })) old.rest.tasks.rows)
-    ((old.rest.tasks.posted ++ posts_of seg line sent) ++ post_after seg line sent)
+      (with_spread seg.0 (Some (record { state = state; left = sent; all = true })) old.rest.tasks.rows)
+      ((old.rest.tasks.posted ++ posts_of seg line sent) ++ post_after seg line sent)
 
 -- the task to build the segment has ended, or had before
 abbrev pub EndsBuild : LineNo → SegNo → Option At → Run → Run → Bool → Type 0

@@ -177,13 +177,10 @@ module _ {D : Type 0} (cells : D → Cells) (size : ℕ) (log : Log) (at : At) (
           → KeepsHeldBytes cells p q → HoldsNoNew p q → DrawsOnly p q → ((m : ℕ) → (n == m) ≡ false → is_at (primary_of (printed log)) m ≡ false)
           → FilesShow cells log size old → FilesShow cells (kept (MergeOut number seg inputs) ∷ shown at (MergingEvent seg) ∷ log) size new
       begun_files number inputs m merges drawn low stays no_new draws others files =
-          files_still cells size (shown at (MergingEvent seg) ∷ log) (kept (MergeOut number seg inputs) ∷ shown at (MergingEvent seg) ∷ log) new (grows_none (printed log')) (λ name bytes out. out)
-          (λ k other. same_inner (shown at (MergingEvent seg) ∷ log) (MergeOut number seg inputs) k refl) (λ k. commits_alone (printed log') k) (shown_shows others)
+          files_still cells size (shown at (MergingEvent seg) ∷ log) (kept (MergeOut number seg inputs) ∷ shown at (MergingEvent seg) ∷ log) new (grows_none (printed (shown at (MergingEvent seg) ∷ log))) (λ name bytes out. out)
+          (λ k other. same_inner (shown at (MergingEvent seg) ∷ log) (MergeOut number seg inputs) k refl) (λ k. commits_alone (printed (shown at (MergingEvent seg) ∷ log)) k) (shown_shows others)
           (files_one cells size log (shown at (MergingEvent seg) ∷ log) old new n (record { node = Primary q; held = held }) (record { node = Primary p; held = held }) (grows_shown size (printed log) at (MergingEvent seg) legal rule) (λ name bytes out. out)
           (begun_holds m merges drawn low (some_at (PlaceShows cells log n) (place_of old n) (record { node = Primary p; held = held }) there (shows.each n node)).node_shows)
           (λ k other. same_shown size log at k legal turns other (MergingEvent seg) rule (fresh_turn (printed log) at (MergingEvent seg) fresh tt) refl)
           (λ k. commits_shown (printed log) at k size (MergingEvent seg) legal turns rule (fresh_turn (printed log) at (MergingEvent seg) fresh tt) refl (fresh_flights size (printed log) at legal turns fresh.begun k))
           moves node there (begun_alone stays no_new draws) shows files)
-        where
-          abbrev log' : Log
-          log' = shown at (MergingEvent seg) ∷ log

@@ -1,6 +1,6 @@
 -- A merge that starts: what is true of merges once its inputs are handed out and its task is posted.
-use Rattle.std.proofs.Common.{◌≡◌, ◌≢◌, ◌<◌, ◌+◌, ◌==◌, ◌++◌, ◌||◌, ℕ, Bool, true, false, true≢false, List, [], ◌∷◌, Some, None, Option, Vec, Global, refl, ap, ◌∙◌, sym, subst, arith, if◌then◌else◌}
-use Rattle.std.specs.Prelude.{IsSomeAnd, ⊤}
+use Rattle.std.proofs.Common.{◌≡◌, ◌≢◌, ◌<◌, ◌≤◌, ◌+◌, ◌==◌, ◌++◌, ◌||◌, ℕ, Bool, true, false, true≢false, List, [], ◌∷◌, Some, None, Option, Vec, Global, refl, ap, ◌∙◌, sym, subst, arith, if◌then◌else◌}
+use Rattle.std.specs.Prelude.{IsSomeAnd}
 use Rattle.std.specs.List.{All}
 use Rattle.std.proofs.lemmas.Bool.{eq-eqb, eqb-true, ltb-true}
 use Rattle.std.proofs.lemmas.List.Elements.{All-push}
@@ -11,6 +11,7 @@ use Rattle.nrt_base.specs.declared.numbers.SegNo.{SegNo}
 use Rattle.disk_model.specs.Disk.{Cells}
 use Rattle.seg_reader.specs.Shown.{Shown}
 use Rattle.seg_merge.specs.declared.task.MergeTask.{MergeTask}
+use Rattle.seg_merge.specs.declared.task.Merged.{Merged}
 use Rattle.copy_job.specs.Jobs.{Job}
 use Rattle.history_entries.specs.declared.entry.Event.{Event}
 use Rattle.history_entries.specs.declared.entry.Event.TheVariants.{Merging as MergingEvent}
@@ -54,18 +55,19 @@ use Rattle.cluster_merges.proofs.BegunShows.{starting, merge_drawn, HasStarted}
 
 started_drawn : (size seg : ℕ) (past : Past) → IsLegalPast size past → StartWithNames past → has_started seg past ≡ true → is_drawn seg past ≡ true
 started_drawn size seg [] legal low is = absurd (true≢false (sym is))
-started_drawn size seg (e ∷ past) legal low is = by e.at e.event legal.0 low.0 is
+started_drawn size seg (e ∷ past) legal low is = by e.at e.event (started_drawn size seg past legal.1 low.1) legal.0 low is
   where
-    before : (at : At) (x : Event) → KeepsRule size past at x → has_started seg past ≡ true → is_drawn seg (record { at = at; event = x } ∷ past) ≡ true
-    before at x rule was = (grows_shown size past at x legal.1 rule).drawn seg (started_drawn size seg past legal.1 low.1 was)
+    before : (at : At) (x : Event) → (has_started seg past ≡ true → is_drawn seg past ≡ true) → KeepsRule size past at x → has_started seg past ≡ true → is_drawn seg (record { at = at; event = x } ∷ past) ≡ true
+    before at x older rule was = (grows_shown size past at x legal.1 rule).drawn seg (older was)
 
-    by : (at : At) (x : Event) → KeepsRule size past at x → elim x [ MergingEvent s ↦ names_drawn past < segments_of_generation | _ ↦ ⊤ ] → (starts_merge seg x || has_started seg past) ≡ true → is_drawn seg (record { at = at; event = x } ∷ past) ≡ true
-    by at (MergingEvent s) rule names is =
+    by : (at : At) (x : Event) → (has_started seg past ≡ true → is_drawn seg past ≡ true) → KeepsRule size past at x → StartWithNames (record { at = at; event = x } ∷ past) → (starts_merge seg x || has_started seg past) ≡ true
+        → is_drawn seg (record { at = at; event = x } ∷ past) ≡ true
+    by at (MergingEvent s) older rule names is =
         by_test (s.0 == seg) (λ b. (s.0 == seg) ≡ b → (b || has_started seg past) ≡ true → is_drawn seg (starting at s ∷ past) ≡ true)
-        (λ here e got. subst (λ (k : ℕ). is_drawn k (starting at s ∷ past) ≡ true) (sym rule.next ∙ eqb-true s.0 seg e) (merge_drawn past at s names))
-        (λ apart e got. before at (MergingEvent s) rule got)
+        (λ here e got. subst (λ (k : ℕ). is_drawn k (starting at s ∷ past) ≡ true) (sym rule.next ∙ eqb-true s.0 seg e) (merge_drawn past at s names.0))
+        (λ apart e got. before at (MergingEvent s) older rule got)
         refl is
-    by at x rule names is = before at x rule is
+    by at x older rule names is = before at x older rule is
 
 next_undrawn : (past : Past) → names_drawn past < segments_of_generation → is_drawn (next_name past) past ≡ true → ⊥
 next_undrawn past low is =
@@ -151,7 +153,7 @@ module _ {D : Type 0} (cells : D → Cells) (size : ℕ) (log : Log) (cut : Bool
   is_row = record {
     inputs = ap (λ (k : SegNo). inputs_out k.0 now) number ∙ (out ∙ ap (λ (t : MergeTask). Some t.inputs) (sym task_is));
     task = task_is ∙ (of ∙ λ i. merge_task (number' i) (inputs' i));
-    written = subst (λ (o : Option _). AreWrittenAlike o None) (sym unmade) tt;
+    written = subst (λ (o : Option Merged). AreWrittenAlike o None) (sym unmade) tt;
   }
     where
       number' : seg ≡ m.task.seg
@@ -169,7 +171,7 @@ module _ {D : Type 0} (cells : D → Cells) (size : ℕ) (log : Log) (cut : Bool
     merges = λ k. subst (λ (ms : List Merging). AreMergedAlike now (merge_of k ms) (open_merge k (board.rows ++ row ∷ []))) (sym merges)
         (alike_begun now p.merges board.rows m row (ap (λ (x : SegNo). x.0) (sym number)) is_row fresh (λ j. alike_more log now stays (merge_of j p.merges) (open_merge j board.rows) (mine.merges j)) k);
     outs = λ s.
-        let was' = mine.outs s in
+        let was' : jobs_like old s size + spreads_like s board.rows ≤ states_like s p.states = mine.outs s in
         let more : spreads_like s (board.rows ++ row ∷ []) ≡ spreads_like s board.rows + one_like s None = spreads_end s board.rows row in
         let states : states_like s q.states ≡ states_like s p.states = ap (λ (z : PrimaryParts D). states_like s z.states) is in
         let jobs = low s in

@@ -1,7 +1,6 @@
 -- A merge that starts, and one that does not, in the terms of the call.
-use Rattle.std.proofs.Common.{◌≡◌, ◌≢◌, ◌≤◌, ◌<◌, ◌+◌, ◌==◌, ◌++◌, ℕ, zero, suc, Bool, true, false, true≢false, List, [], ◌∷◌, map, length, Some, None, Option, Ok, Err, Result, Vec, Global, slice_get, refl, ap, ◌∙◌, sym, subst, arith}
-use Rattle.std.specs.Prelude.{IsSomeAnd, IfSome, ⊤}
-use Rattle.std.specs.Result.{IfOk}
+use Rattle.std.proofs.Common.{◌≡◌, ◌≢◌, ◌≤◌, ◌<◌, ◌+◌, ◌==◌, ◌++◌, ℕ, zero, suc, Bool, true, false, true≢false, List, [], ◌∷◌, map, Some, None, Option, Ok, Err, Result, Vec, Global, slice_get, refl, ap, ◌∙◌, sym, subst, arith}
+use Rattle.std.specs.Prelude.{IsSomeAnd, IfSome, IfOk, ⊤}
 use Rattle.std.proofs.lemmas.Bool.{eq-eqb}
 use Rattle.std.proofs.lemmas.Bool.Decides.{nat_tests}
 use Rattle.std.proofs.lemmas.List.{length-map}
@@ -41,7 +40,7 @@ use Rattle.cluster_places.specs.declared.held.Held.{Held}
 use Rattle.cluster_places.specs.declared.nodes.Node.{Node}
 use Rattle.cluster_places.specs.declared.nodes.Node.TheVariants.{Primary, Replica, Down}
 use Rattle.cluster_places.specs.declared.nodes.Place.{Place}
-use Rattle.cluster_places.specs.Places.{place_of, HasPrimary, unwrapped}
+use Rattle.cluster_places.specs.Places.{place_of, unwrapped}
 use Rattle.cluster_places.specs.KeptFiles.{KeepsNodeFiles}
 use Rattle.cluster_places.proofs.TicketNodes.{node_alone}
 use Rattle.cluster_state.specs.Run.{Run}
@@ -88,12 +87,12 @@ module _ {D : Type 0} where
   sizes_found (Some y ∷ places) zero z p is there apart =
       let same : ◌≡◌ {A = Place D} y z = cc in
       ap (λ (x : Node D). elim x [ Primary q ↦ merge_sizes q | Replica r ↦ sizes_in places | Down d ↦ sizes_in places ]) (ap (λ (x : Place D). x.node) same ∙ there)
-  sizes_found (Some y ∷ places) (suc k) z p is there apart = by y.node (apart zero (omega arith))
+  sizes_found (Some y ∷ places) (suc k) z p is there apart = by y.node (apart zero (omega arith)) (sizes_found places k z p is there (λ j low. apart (suc j) (omega (arith, low))))
     where
-      by : (x : Node D) → is_beside x → elim x [ Primary q ↦ merge_sizes q | Replica r ↦ sizes_in places | Down d ↦ sizes_in places ] ≡ merge_sizes p
-      by (Primary q) none = absurd none
-      by (Replica r) none = sizes_found places k z p is there (λ j low. apart (suc j) (omega (arith, low)))
-      by (Down d) none = sizes_found places k z p is there (λ j low. apart (suc j) (omega (arith, low)))
+      by : (x : Node D) → is_beside x → sizes_in places ≡ merge_sizes p → elim x [ Primary q ↦ merge_sizes q | Replica r ↦ sizes_in places | Down d ↦ sizes_in places ] ≡ merge_sizes p
+      by (Primary q) none found = absurd none
+      by (Replica r) none found = found
+      by (Down d) none found = found
 
   beside_primary : (cells : D → Cells) (log : Log) (m : ℕ) (o : Option (Place D)) → is_at (primary_of (printed log)) m ≡ false → IsSomeAnd o (PlaceShows cells log m) → is_none_beside o
   beside_primary cells log m None away none = tt
@@ -116,9 +115,9 @@ module _ {D : Type 0} where
 -- ---- the call
 
 module _ {D : Type 0} (cells : D → Cells) (r : Run) (old new : List (Option (Place D))) (b0 b1 : Sheet) (board : Board) (at : At) (p : NodeNo) (factor : ℕ) (result : Result (Option MergeTask) PublishFault) {ended cut : Bool} {calls : List ℕ}
-  (view : record { ended = ended; nodes = b0.nodes; log = b0.log; rest = record { calls_left = calls; cut = cut; sizes = sizes_in old; tasks = board } } ≡ r) (running : r.ended ≡ false) (all : ended ≡ false → AllShown cells b0 board old)
-  (e1 : b1.log ≡ b0.log) (n1 : b1.nodes ≡ b0.nodes) (c1 : b1.cut ≡ b0.cut) (legal : IsLegalPast b0.nodes (printed b0.log)) (turns : AreInTurn (printed b0.log)) (fresh : IsFresh at (printed b0.log)) (node : IsNode r.nodes p.0) (primary : primary_of (printed r.log) ≡ Some p)
-  (asked : MovesPrimary (λ q s. AsksMerge cells factor q s result) p.0 old new) where
+    (view : record { ended = ended; nodes = b0.nodes; log = b0.log; rest = record { calls_left = calls; cut = cut; sizes = sizes_in old; tasks = board } } ≡ r) (running : r.ended ≡ false) (all : ended ≡ false → AllShown cells b0 board old)
+    (e1 : b1.log ≡ b0.log) (n1 : b1.nodes ≡ b0.nodes) (c1 : b1.cut ≡ b0.cut) (legal : IsLegalPast b0.nodes (printed b0.log)) (turns : AreInTurn (printed b0.log)) (fresh : IsFresh at (printed b0.log)) (node : IsNode r.nodes p.0) (primary : primary_of (printed r.log) ≡ Some p)
+    (asked : MovesPrimary (λ q s. AsksMerge cells factor q s result) p.0 old new) where
   was : AllShown cells b0 board old
   was = all (ap (λ (x : Run). x.ended) view ∙ running)
 
@@ -170,14 +169,17 @@ module _ {D : Type 0} (cells : D → Cells) (r : Run) (old new : List (Option (P
   answered : (x : Result (Option MergeTask) PublishFault) → result ≡ x → AnswersMerge factor q s x
   answered x is = subst (λ (y : Result (Option MergeTask) PublishFault). AnswersMerge factor q s y) is asked.step.answers
 
+  refused : (fault why : PublishFault) → result ≡ Err fault → fault ≡ why → AnswersMerge factor q s (Err why)
+  refused fault why is same = subst (λ (f : PublishFault). AnswersMerge factor q s (Err f)) same (answered (Err fault) is)
+
   pub not_many : (fault : PublishFault) → result ≡ Err fault → fault ≢ TooManySegments
-  not_many fault is many = answered (Err TooManySegments) (is ∙ ap Err many)
+  not_many fault is many = refused fault TooManySegments is many
 
   pub none_all : result ≡ Ok None → AllShown cells b1 board new
   none_all is = unasked_all (answered (Ok None) is).1
 
   pub spent_all : (fault : PublishFault) → result ≡ Err fault → fault ≡ Spent → AllShown cells b1 board new
-  spent_all fault is spent = unasked_all (answered (Err Spent) (is ∙ ap Err spent)).2
+  spent_all fault is spent = unasked_all (refused fault Spent is spent).2
 
   no_range : HasNoRange factor (merge_sizes q) → HasNoRange factor r.rest.sizes
   no_range none = subst (λ (l : List (Option ℕ)). HasNoRange factor l) (sym sizes) none
@@ -192,10 +194,10 @@ module _ {D : Type 0} (cells : D → Cells) (r : Run) (old new : List (Option (P
       → StartsMergeFor at factor r (record { ended = false; nodes = b1.nodes; log = b1.log; rest = record { calls_left = calls1; cut = cut1; sizes = sizes1; tasks = board } }) (Some Nothing)
   none_starts is {calls1} {cut1} {sizes1} = (as_before r b0 b1 board view e1 n1 board calls1 cut1 sizes1 refl refl, no_range (answered (Ok None) is).0)
 
-  pub spent_starts : (fault : PublishFault) (cause : Cause) → result ≡ Err fault → fault ≡ Spent → cause ≡ NamesSpent → {calls1 : List ℕ} {cut1 : Bool} {sizes1 : List (Option ℕ)}
+  pub spent_starts : (fault : PublishFault) (cause : Cause) → result ≡ Err fault → fault ≡ Spent → cause ≡ NamesSpent → (calls1 : List ℕ) (cut1 : Bool) (sizes1 : List (Option ℕ))
       → StartsMergeFor at factor r (record { ended = false; nodes = b1.nodes; log = b1.log; rest = record { calls_left = calls1; cut = cut1; sizes = sizes1; tasks = board } }) (Some cause)
-  spent_starts fault cause is spent named {calls1} {cut1} {sizes1} =
-      let all = answered (Err Spent) (is ∙ ap Err spent) in
+  spent_starts fault cause is spent named calls1 cut1 sizes1 =
+      let all = refused fault Spent is spent in
       subst (λ (c : Cause). StartsMergeFor at factor r (record { ended = false; nodes = b1.nodes; log = b1.log; rest = record { calls_left = calls1; cut = cut1; sizes = sizes1; tasks = board } }) (Some c)) (sym named)
       (as_before r b0 b1 board view e1 n1 board calls1 cut1 sizes1 refl refl, some_range all.0, all_drawn all.1)
 
@@ -227,7 +229,7 @@ module _ {D : Type 0} (cells : D → Cells) (r : Run) (old new : List (Option (P
     of = λ i. record { seg = task.seg; inputs = task.inputs; live = (starts.start.live_are ∙ ap (λ (l : List Shown). map (λ x. x.live) l) (sym starts.start.segs_are)) i }
 
     few : factor ≤ put_publishes (printed b0.log)
-    few = let within = starts.start.first.is.within in let puts = shows.writer.few in let count = length-map (size_by (merge_inputs q.merges)) q.infos.segs in omega (arith, within, puts, count)
+    few = let within = starts.start.first.is.within in let puts = shows.writer.few in let count = length-map q.infos.segs (size_by (merge_inputs q.merges)) in omega (arith, within, puts, count)
 
     pub merging_rule : MayStartMerge (printed b0.log) at task.seg
     merging_rule = record { running = λ none. some_none (sym primary0 ∙ none); next = next; spared = fresh.spared }
@@ -236,8 +238,8 @@ module _ {D : Type 0} (cells : D → Cells) (r : Run) (old new : List (Option (P
         some_none e = absurd (cc)
 
     module _ (b2 b3 : Sheet) (inputs : List Shown) (after : Board) (shared : inputs ≡ task.inputs) (e2 : b2.log ≡ shown at (MergingEvent task.seg) ∷ b1.log) (n2 : b2.nodes ≡ b1.nodes) (c2 : b2.cut ≡ b1.cut)
-      (e3 : b3.log ≡ kept (MergeOut at.line task.seg inputs) ∷ b2.log) (n3 : b3.nodes ≡ b2.nodes) (c3 : b3.cut ≡ b2.cut)
-      (rows : after.rows ≡ board.rows ++ record { seg = task.seg; line = at.line; spread = None } ∷ []) (posted : after.posted ≡ board.posted ++ posted_merge task.seg at.line task ∷ []) (counts : after.counts ≡ board.counts) where
+        (e3 : b3.log ≡ kept (MergeOut at.line task.seg inputs) ∷ b2.log) (n3 : b3.nodes ≡ b2.nodes) (c3 : b3.cut ≡ b2.cut)
+        (rows : after.rows ≡ board.rows ++ record { seg = task.seg; line = at.line; spread = None } ∷ []) (posted : after.posted ≡ board.posted ++ posted_merge task.seg at.line task ∷ []) (counts : after.counts ≡ board.counts) where
       abbrev now : Log
       now = kept (MergeOut at.line task.seg task.inputs) ∷ shown at (MergingEvent task.seg) ∷ b0.log
 

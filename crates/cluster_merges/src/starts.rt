@@ -19,7 +19,8 @@ use std::alloc::{AllocError, Global};
 // Why no merge starts, where memory was found.
 fn none_starts(fault: PublishFault) -> Result<Cause, NoMemory>
     requires { fault ≢ PublishFault.TooManySegments }
-    ensures { IfOk result (λ cause. (fault ≡ PublishFault.NamesSpent) × (cause ≡ Cause.NamesSpent)) }
+    ensures { IfOk result (λ cause. (fault ≡ PublishFault.NamesSpent)
+        × (cause ≡ Cause.NamesSpent)) }
 {
     match fault {
         PublishFault::NamesSpent => Ok(Cause::NamesSpent),

@@ -13,7 +13,7 @@ is_fresh-requires g c = asked_of (λ (l : Log). entries_of_line c.args.at (print
 
 pub show-requires-clause-rule : goal.show-requires-clause-rule
 show-requires-clause-rule g c = rule_at c.args.cluster.now _ c.cluster.inside.ledger c.reserve.new.self c.args.at (Drained c.args.done c.args.most) c.cluster.view_is c.in_ok-reserve.ensures.log c.in_ok-reserve.ensures.nodes
-    (drain_rule g.D.Dir.cells c.args.cluster.now c.cluster.inside.places.items c.cluster.inside.ledger c.reserve.new.self c.show.new.self c.cluster.inside.tasks c.drain.new.self c.args.at c.args.done c.args.most c.cluster.view_is c.requires.running c.cluster.invariant
+    (drain_rule g.D.Dir.cells c.args.cluster.now c.cluster.inside.places.items c.cluster.inside.ledger c.reserve.new.self c.reserve.new.self c.cluster.inside.tasks c.drain.new.self c.args.at c.args.done c.args.most c.cluster.view_is c.requires.running c.cluster.invariant
     c.in_ok-reserve.ensures.log c.in_ok-reserve.ensures.nodes c.in_ok-reserve.ensures.cut (legal_of c.book-book.ensures.nodes c.book-book.ensures.log c.is_legal.ensures.legal) (turns_of c.book-book.ensures.log c.is_legal.ensures.turns) (fresh_of c.book-book.ensures.log c.is_fresh.ensures)
     c.requires.fresh c.requires.done)
 
