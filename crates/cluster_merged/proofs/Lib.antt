@@ -1,3 +1,7 @@
-pub mod ReadyFiles
-pub mod WrittenStand
-pub mod SendSteps
+mod ReadyFiles
+mod WrittenStand
+mod ReplicaCount
+mod SendSteps
+mod SendLoop
+mod MaySending
+mod ReadyPaths

@@ -54,17 +54,27 @@ module _ {D : Type 0} (cells : D → Cells) where
     where
       plus_none : (k : ℕ) → k + 0 ≡ 0 + k
       plus_none k = omega arith
-  states_pushed (x ∷ ss) s name =
-      let more = states_pushed ss s name in
-      let a = times-append x.names (state_names (ss ++ s ∷ [])) name in
-      let b = times-append x.names (state_names ss) name in
-      omega (arith, more, a, b)
+  states_pushed (x ∷ ss) s name = sums (times (x.names ++ state_names (ss ++ s ∷ [])) name) (times x.names name) (times (state_names (ss ++ s ∷ [])) name) (times (x.names ++ state_names ss) name) (times (state_names ss) name) (times s.names name)
+      (times-append x.names (state_names (ss ++ s ∷ [])) name) (states_pushed ss s name) (times-append x.names (state_names ss) name)
+    where
+      sums : (all first rest before others last : ℕ) → all ≡ first + rest → rest ≡ others + last → before ≡ first + others → all ≡ before + last
+      sums all first rest before others last a more b = omega (arith, a, more, b)
+
+  -- who holds a file of the primary's
+  pub counts_split : (z : PrimaryParts D) → IsPrimary cells z → (name : Name)
+      → count_of z.files name ≡ times (searcher_names z.searchers) name + times z.names name + times (state_names z.states) name + times (merge_names z.merges) name + times (book_names z.commits) name
+  counts_split z is name =
+      let counts = is.node.counts name in
+      let one : times (primary_names z) name ≡ times (searcher_names z.searchers) name + times (z.names ++ rest_names z) name = times-append (searcher_names z.searchers) (z.names ++ rest_names z) name in
+      let two : times (z.names ++ rest_names z) name ≡ times z.names name + times (rest_names z) name = times-append z.names (rest_names z) name in
+      let three : times (rest_names z) name ≡ times (state_names z.states) name + times (merge_names z.merges) name = times-append (state_names z.states) (merge_names z.merges) name in
+      omega (arith, counts, one, two, three)
 
   -- a file that is counted now and was not is one of the merged segment
   newly_written : (merged : Merged) (state : CopyState) (p q : PrimaryParts D) → ReadiesMerge cells merged state p q → IsPrimary cells p → (name : Name) → count_of p.files name ≡ 0 → 0 < count_of q.files name → 0 < times (names_of merged.files.files) name
   newly_written merged state p q w was name none some =
-      let old = split p was in
-      let new = split q w.whole in
+      let old = counts_split p was name in
+      let new = counts_split q w.whole name in
       let searched : times (searcher_names q.searchers) name ≡ times (searcher_names p.searchers) name = ap (λ (z : PrimaryParts D). times (searcher_names z.searchers) name) w.others in
       let named : times q.names name ≡ times p.names name = ap (λ (z : PrimaryParts D). times z.names name) w.others in
       let book : times (book_names q.commits) name ≡ times (book_names p.commits) name = ap (λ (z : PrimaryParts D). times (book_names z.commits) name) w.others in
@@ -74,14 +84,6 @@ module _ {D : Type 0} (cells : D → Cells) where
       let with_names = names_with merged (w.merges.m.names ++ names_of merged.files.files) p.merges w.merges.m name w.merges.found in
       let both = times-append w.merges.m.names (names_of merged.files.files) name in
       omega (arith, none, some, old, new, searched, named, book, states, files, merges, with_names, both)
-    where
-      split : (z : PrimaryParts D) → IsPrimary cells z → count_of z.files name ≡ times (searcher_names z.searchers) name + times z.names name + times (state_names z.states) name + times (merge_names z.merges) name + times (book_names z.commits) name
-      split z is =
-          let counts = is.node.counts name in
-          let one : times (primary_names z) name ≡ times (searcher_names z.searchers) name + times (z.names ++ rest_names z) name = times-append (searcher_names z.searchers) (z.names ++ rest_names z) name in
-          let two : times (z.names ++ rest_names z) name ≡ times z.names name + times (rest_names z) name = times-append z.names (rest_names z) name in
-          let three : times (rest_names z) name ≡ times (state_names z.states) name + times (merge_names z.merges) name = times-append (state_names z.states) (merge_names z.merges) name in
-          omega (arith, counts, one, two, three)
 
   -- so no live file is
   pub written_low : (merged : Merged) (state : CopyState) (task : MergeTask) (p q : PrimaryParts D) (past : Past) → ReadiesMerge cells merged state p q → IsMergedOf task merged → merged.files.seg.0 < 2 ^ 64 → IsPrimary cells p
@@ -117,12 +119,12 @@ module _ {D : Type 0} (cells : D → Cells) where
     primary = was.primary;
     whole = w.whole;
     point = subst (λ (z : Point Shown). IsPointAt (printed log) (version_of n (printed log)) z) (sym (ap (λ (z : PrimaryParts D). z.searchers.point) w.others)) was.point;
-    writer = subst (λ (z : Infos × List Shown). WritesAt (printed log) z.0 z.1) (sym (ap (λ (z : PrimaryParts D). (z.infos, z.segs)) w.others)) was.writer;
+    writer = subst (λ (z : Infos × List Shown). WritesAt (printed log) z.0 z.1) (λ i. (sym (ap (λ (z : PrimaryParts D). z.infos) w.others) i, sym (ap (λ (z : PrimaryParts D). z.segs) w.others) i)) was.writer;
     waiting = ap (λ (z : PrimaryParts D). z.waiting) w.others ∙ was.waiting;
     accepted = ap (λ (z : PrimaryParts D). z.accepted) w.others ∙ was.accepted;
     uncut = λ none. ap (λ (z : PrimaryParts D). z.has_cut_over) w.others ∙ was.uncut none;
     calm = λ none. absurd (no_merge (sym (ap (λ (ms : List Merging). merge_of merged.files.seg.0 ms) (was.calm none)) ∙ w.merges.found));
-    flight = subst (λ (z : Option Publish × List Shown). FlightShows log (publish_in_flight (printed log)) z.0 z.1) (sym (ap (λ (z : PrimaryParts D). (z.publish, z.segs)) w.others)) was.flight;
+    flight = subst (λ (z : Option Publish × List Shown). FlightShows log (publish_in_flight (printed log)) z.0 z.1) (λ i. (sym (ap (λ (z : PrimaryParts D). z.publish) w.others) i, sym (ap (λ (z : PrimaryParts D). z.segs) w.others) i)) was.flight;
   }
     where
       no_merge : None ≡ Some w.merges.m → ⊥

@@ -1,12 +1,12 @@
 -- A copy of a merged segment that began at a replica: what is shown of nodes, of files and of merges is shown still.
-use Rattle.std.proofs.Common.{◌≡◌, ◌⊎◌, inl, inr, ◌≤◌, ◌+◌, ◌==◌, ◌||◌, ◌&&◌, ℕ, Bool, true, false, true≢false, List, [], ◌∷◌, ◌++◌, Some, None, Option, Vec, Global, refl, ap, ◌∙◌, sym, subst, arith, nat_lt, if◌then◌else◌}
-use Rattle.std.specs.Prelude.{IsSome, IsSomeAnd}
+use Rattle.std.proofs.Common.{◌≡◌, ◌⊎◌, inl, inr, ◌≤◌, ◌<◌, ◌+◌, ◌==◌, ◌||◌, ◌&&◌, ℕ, Bool, true, false, true≢false, List, [], ◌∷◌, ◌++◌, Some, None, Option, Vec, Global, length, take, get_or, refl, ap, ◌∙◌, sym, subst, arith, nat_lt, if◌then◌else◌}
+use Rattle.std.specs.Prelude.{IsSomeAnd}
 use Rattle.std.specs.List.{All, Contains}
 use Rattle.std.proofs.lemmas.Bool.{eqb-true, eq-eqb}
+use Rattle.std.proofs.lemmas.List.{take_more, take_all}
 use Rattle.nrt_base.specs.declared.numbers.Gen.{Gen}
 use Rattle.nrt_base.specs.declared.numbers.LineNo.{LineNo}
 use Rattle.nrt_base.specs.declared.numbers.NodeNo.{NodeNo}
-use Rattle.nrt_base.specs.declared.numbers.SegNo.{SegNo}
 use Rattle.disk_model.specs.Disk.{Name, Content, Cells}
 use Rattle.node_files.proofs.Appearing.{only_none}
 use Rattle.copy_state.specs.declared.state.CopyState.{CopyState}
@@ -46,23 +46,19 @@ use Rattle.node_merges.specs.MergeChanges.{SendsMerged}
 use Rattle.cluster_state.specs.State.{IsPointAt, HoldsTickets, PlaceShows, Shows}
 use Rattle.cluster_state.specs.Files.{JobShows, ReplicaFiles, NodeFiles, FilesShow}
 use Rattle.cluster_state.specs.Disks.{IsPastPoint}
-use Rattle.cluster_state.specs.Merging.{IsFitKind, IsSentCopy, AreSentCopies, NodeMerges, MergesStand}
+use Rattle.cluster_state.specs.Merging.{IsFitKind, IsSentCopy, AreSentCopies, NodeMerges}
 use Rattle.cluster_state.proofs.Disks.{commits_alone, disk_moved, disk_same, disks_kept}
 use Rattle.cluster_state.proofs.Drawn.{grows_none}
-use Rattle.cluster_state.proofs.Frames.{now_is, some_at}
-use Rattle.cluster_state.proofs.FileFrames.{Both, both_of, one_each, names_one, node_files, wants_same, files_still, files_is}
+use Rattle.cluster_state.proofs.Frames.{some_at}
+use Rattle.cluster_state.proofs.FileFrames.{Both, both_of, one_each, names_one, node_files, wants_same}
 use Rattle.cluster_state.proofs.JobFrames.{job_stays}
-use Rattle.cluster_state.proofs.JobMoves.{shows_kept}
 use Rattle.cluster_state.proofs.MergingStill.{node_stands, node_keeps}
 use Rattle.cluster_state.proofs.Naming.{NodeSteps}
 use Rattle.cluster_state.proofs.Points.{points_alone}
+use Rattle.cluster_drains.specs.MergePaths.{begun_log}
 use Rattle.cluster_drains.specs.Running.{AllShown}
 use Rattle.cluster_drains.proofs.CopyRows.{IsSpreadRow, spread_row, node_copied}
-use Rattle.cluster_drains.proofs.InsideSteps.{same_sent}
-
-pub some_of : {A : Type 0} {P : A → Type 0} (o : Option A) → IsSomeAnd o P → IsSome o
-some_of None none = absurd none
-some_of (Some x) is = refl
+use Rattle.cluster_drains.proofs.InsideSteps.{all_is, inside_path, same_sent}
 
 -- a copy that is the last of a list, or one before it
 last_or : (xs : List Job) (j : Job) (k : ℕ) (c : Job) → copy_at k (xs ++ j ∷ []) ≡ Some c → (copy_at k xs ≡ Some c) ⊎ ((j.number ≡ k) × (j ≡ c))
@@ -71,11 +67,11 @@ last_or [] j k c is = by (j.number == k) refl is
     by : (b : Bool) → (j.number == k) ≡ b → (if b then Some j else None) ≡ Some c → (copy_at k [] ≡ Some c) ⊎ ((j.number ≡ k) × (j ≡ c))
     by true here at = inr (eqb-true j.number k here, cc)
     by false apart at = absurd (cc)
-last_or (x ∷ xs) j k c is = by (x.number == k) is
+last_or (x ∷ xs) j k c is = by (last_or xs j k c) (x.number == k) is
   where
-    by : (b : Bool) → (if b then Some x else copy_at k (xs ++ j ∷ [])) ≡ Some c → ((if b then Some x else copy_at k xs) ≡ Some c) ⊎ ((j.number ≡ k) × (j ≡ c))
-    by true at = inl at
-    by false at = last_or xs j k c at
+    by : (copy_at k (xs ++ j ∷ []) ≡ Some c → (copy_at k xs ≡ Some c) ⊎ ((j.number ≡ k) × (j ≡ c))) → (b : Bool) → (if b then Some x else copy_at k (xs ++ j ∷ [])) ≡ Some c → ((if b then Some x else copy_at k xs) ≡ Some c) ⊎ ((j.number ≡ k) × (j ≡ c))
+    by more true at = inl at
+    by more false at = more at
 
 -- the copies that a generation left were there
 seen_there : (seen generation : ℕ) (m : MergeCopies) (k : ℕ) (c : Job) → copy_at k (copies_seen seen generation m).running ≡ Some c → copy_at k m.running ≡ Some c
@@ -96,11 +92,11 @@ sent_last (s ∷ left) n job = ap (λ (b : Bool). ((s.node.0 == n.0) && (s.job =
 
 sent_before : (left : List Sent) (s : Sent) (n k : ℕ) → is_sent_in n k left ≡ true → is_sent_in n k (left ++ s ∷ []) ≡ true
 sent_before [] s n k is = absurd (true≢false (sym is))
-sent_before (x ∷ left) s n k is = by ((x.node.0 == n) && (x.job == k)) is
+sent_before (x ∷ left) s n k is = by (sent_before left s n k) ((x.node.0 == n) && (x.job == k)) is
   where
-    by : (b : Bool) → (b || is_sent_in n k left) ≡ true → (b || is_sent_in n k (left ++ s ∷ [])) ≡ true
-    by true at = refl
-    by false at = sent_before left s n k at
+    by : (is_sent_in n k left ≡ true → is_sent_in n k (left ++ s ∷ []) ≡ true) → (b : Bool) → (b || is_sent_in n k left) ≡ true → (b || is_sent_in n k (left ++ s ∷ [])) ≡ true
+    by more true at = refl
+    by more false at = more at
 
 module _ {D : Type 0} (cells : D → Cells) where
   replica_sent : (source : Name → Content) (log : Log) (n number : ℕ) (state : CopyState) (r s : ReplicaParts D) → SendsMerged cells state number r s → ReplicaFiles source cells log n r → ReplicaFiles source cells log n s
@@ -159,39 +155,26 @@ module _ {D : Type 0} (cells : D → Cells) where
           carried = files.carried;
         }
 
-  -- all of it, with the entry
-  pub sent_path : (b0 b2 : Sheet) (old new : List (Option (Place D))) (board after : Board) (line : LineNo) (seg : SegNo) (n : NodeNo) (number : ℕ) (state : CopyState) (r s : ReplicaParts D) (held : Vec Held Global)
-      → b2.log ≡ kept (JobBegun line n number None None) ∷ b0.log → b2.nodes ≡ b0.nodes → b2.cut ≡ b0.cut → MovesOne n.0 (record { node = Replica s; held = held }) old new → IsNode b0.nodes n.0
-      → place_of old n.0 ≡ Some (record { node = Replica r; held = held }) → SendsMerged cells state number r s → state.primary_gen.0 ≡ generation_of (printed b0.log)
-      → IsSomeAnd (spread_at (open_merge seg.0 board.rows)) (λ z. (z.state ≡ state) × (z.all ≡ false)) → after.rows ≡ with_spread seg.0 (sent_more n number (spread_at (open_merge seg.0 board.rows))) board.rows → after.posted ≡ board.posted → after.counts ≡ board.counts
-      → AllShown cells b0 board old → AllShown cells b2 after new
-  sent_path b0 b2 old new board after line seg n number state r s held log nodes cut moves node there w generation sending rows posted counts all = (
-    now_is cells now b2.log b0.nodes b2.nodes new log nodes (shows_kept cells b0.nodes b0.log i new (λ at. refl) shows),
-    files_is cells now b2.log b0.nodes b2.nodes new log nodes (files_still cells b0.nodes b0.log now new (grows_none (printed b0.log)) (λ q bytes out. out) (λ m other. same_sent b0.log line n number m) (λ m. commits_alone (printed b0.log) m) shows files),
-    subst (λ (z : Log × (Bool × ℕ)). MergesStand z.0 z.1.0 z.1.1 after new) (λ j. (sym log j, (sym cut j, sym nodes j))) (record {
-      tasks = tasks_on b0.nodes now board after (λ k. ap (λ (l : List OpenMerge). line_told (open_merge k l)) rows ∙ lines_with board.rows seg.0 (sent_more n number (spread_at (open_merge seg.0 board.rows))) k)
-          (subst (λ (l : List Posted). All (IsToldTask now) l) (sym posted) (tasks_kept b0.nodes b0.log board i refl all.2.tasks).posted) due counts (tasks_kept b0.nodes b0.log board i refl all.2.tasks);
+  -- all of it
+  pub sent_path : (b : Sheet) (old new : List (Option (Place D))) (board after : Board) (seg : ℕ) (n : NodeNo) (number : ℕ) (state : CopyState) (r s : ReplicaParts D) (held : Vec Held Global)
+      → MovesOne n.0 (record { node = Replica s; held = held }) old new → IsNode b.nodes n.0 → place_of old n.0 ≡ Some (record { node = Replica r; held = held }) → SendsMerged cells state number r s → state.primary_gen.0 ≡ generation_of (printed b.log)
+      → IsSomeAnd (spread_at (open_merge seg board.rows)) (λ z. (z.state ≡ state) × (z.all ≡ false)) → after.rows ≡ with_spread seg (sent_more n number (spread_at (open_merge seg board.rows))) board.rows → after.posted ≡ board.posted → after.counts ≡ board.counts
+      → AllShown cells b board old → AllShown cells b after new
+  sent_path b old new board after seg n number state r s held moves node there w generation sending rows posted counts all = (
+    sent_shows b.nodes b.log old new n.0 number state r s held moves node there w all.0 generation,
+    sent_files b.nodes b.log old new n.0 number state r s held moves node there w all.0 all.1,
+    record {
+      tasks = tasks_on b.nodes b.log board after (λ k. ap (λ (l : List OpenMerge). line_told (open_merge k l)) rows ∙ lines_with board.rows seg (sent_more n number (spread_at (open_merge seg board.rows))) k)
+          (subst (λ (l : List Posted). All (IsToldTask b.log) l) (sym posted) all.2.tasks.posted) due counts all.2.tasks;
       fit = subst (λ (l : List Posted). All (λ p. IsFitKind p.kind) l) (sym posted) all.2.fit;
-      each = one_each {P = λ m z. NodeMerges b0.log b0.cut (λ o. jobs_like old o b0.nodes) board.rows m z.node} {Q = λ m z. NodeMerges now b0.cut (λ o. jobs_like new o b0.nodes) after.rows m z.node}
-          b0.nodes n.0 (record { node = Replica s; held = held }) old new moves all.2.each (λ m z at apart is. others m z.node is) mine;
-      vacant = λ none. absurd (gone (sym (ap (open_merge seg.0) (all.2.vacant none).1.1) ∙ found.0.there));
-    }),
+      each = one_each {P = λ m z. NodeMerges b.log b.cut (λ o. jobs_like old o b.nodes) board.rows m z.node} {Q = λ m z. NodeMerges b.log b.cut (λ o. jobs_like new o b.nodes) after.rows m z.node}
+          b.nodes n.0 (record { node = Replica s; held = held }) old new moves all.2.each (λ m z at apart is. others m z.node is) mine;
+      vacant = λ none. absurd (gone (sym (ap (open_merge seg) (all.2.vacant none).1.1) ∙ found.0.there));
+    },
   )
     where
-      i : Inner
-      i = JobBegun line n number None None
-
-      now : Log
-      now = kept (JobBegun line n number None None) ∷ b0.log
-
-      shows : Shows cells b0.log b0.nodes new
-      shows = sent_shows b0.nodes b0.log old new n.0 number state r s held moves node there w all.0 generation
-
-      files : FilesShow cells b0.log b0.nodes new
-      files = sent_files b0.nodes b0.log old new n.0 number state r s held moves node there w all.0 all.1
-
-      found : (z : IsSpreadRow seg.0 board.rows) × ((z.spread.state ≡ state) × (z.spread.all ≡ false))
-      found = spread_row seg.0 board.rows (λ z. (z.state ≡ state) × (z.all ≡ false)) sending
+      found : (z : IsSpreadRow seg board.rows) × ((z.spread.state ≡ state) × (z.spread.all ≡ false))
+      found = spread_row seg board.rows (λ z. (z.state ≡ state) × (z.all ≡ false)) sending
 
       gone : None ≡ Some found.0.row → ⊥
       gone e = absurd (cc)
@@ -199,26 +182,26 @@ module _ {D : Type 0} (cells : D → Cells) where
       t : Spread
       t = record found.0.spread { left = found.0.spread.left ++ record { node = n; job = number } ∷ [] }
 
-      rows_are : after.rows ≡ with_spread seg.0 (Some t) board.rows
-      rows_are = rows ∙ ap (λ (o : Option Spread). with_spread seg.0 (sent_more n number o) board.rows) (ap (λ (o : Option OpenMerge). spread_at o) found.0.there ∙ found.0.some)
+      rows_are : after.rows ≡ with_spread seg (Some t) board.rows
+      rows_are = rows ∙ ap (λ (o : Option Spread). with_spread seg (sent_more n number o) board.rows) (ap (λ (o : Option OpenMerge). spread_at o) found.0.there ∙ found.0.some)
 
-      due : due_all b0.nodes after.rows ≤ due_all b0.nodes board.rows
+      due : due_all b.nodes after.rows ≤ due_all b.nodes board.rows
       due =
-          let same : due_all b0.nodes after.rows ≡ due_all b0.nodes (with_spread seg.0 (sent_more n number found.0.row.spread) board.rows) = ap (due_all b0.nodes) (rows ∙ ap (λ (o : Option OpenMerge). with_spread seg.0 (sent_more n number (spread_at o)) board.rows) found.0.there) in
-          let sent = due_sent b0.nodes board.rows seg.0 found.0.row found.0.spread n number found.0.there found.0.some found.1.1 in
+          let same : due_all b.nodes after.rows ≡ due_all b.nodes (with_spread seg (sent_more n number found.0.row.spread) board.rows) = ap (due_all b.nodes) (rows ∙ ap (λ (o : Option OpenMerge). with_spread seg (sent_more n number (spread_at o)) board.rows) found.0.there) in
+          let sent = due_sent b.nodes board.rows seg found.0.row found.0.spread n number found.0.there found.0.some found.1.1 in
           omega (arith, same, sent)
 
-      jobs : (o : Out) → jobs_like new o b0.nodes ≡ jobs_like old o b0.nodes
-      jobs o = jobs_same old new o b0.nodes (λ m within. wants_same n.0 (record { node = Replica s; held = held }) (record { node = Replica r; held = held }) old new moves there (job_same b0.nodes b0.log old new n.0 number state r s held moves node there w all.0) m)
+      jobs : (o : Out) → jobs_like new o b.nodes ≡ jobs_like old o b.nodes
+      jobs o = jobs_same old new o b.nodes (λ m within. wants_same n.0 (record { node = Replica s; held = held }) (record { node = Replica r; held = held }) old new moves there (job_same b.nodes b.log old new n.0 number state r s held moves node there w all.0) m)
 
-      others : (m : ℕ) (x : Node D) → NodeMerges b0.log b0.cut (λ o. jobs_like old o b0.nodes) board.rows m x → NodeMerges now b0.cut (λ o. jobs_like new o b0.nodes) after.rows m x
-      others m x is = subst (λ (l : List OpenMerge). NodeMerges now b0.cut (λ o. jobs_like new o b0.nodes) l m x) (sym rows_are)
-          (node_copied seg.0 board.rows found.0 t refl now b0.cut (λ o. jobs_like new o b0.nodes) m x (λ k sent. sent_before found.0.spread.left (record { node = n; job = number }) m k sent)
-          (node_stands b0.log now b0.cut (λ o. jobs_like old o b0.nodes) (λ o. jobs_like new o b0.nodes) board.rows m (λ k inputs e. e) x x
-          (node_keeps (λ o. jobs_like old o b0.nodes) (λ o. jobs_like new o b0.nodes) x (λ o. let e = jobs o in omega (arith, e))) is))
+      others : (m : ℕ) (x : Node D) → NodeMerges b.log b.cut (λ o. jobs_like old o b.nodes) board.rows m x → NodeMerges b.log b.cut (λ o. jobs_like new o b.nodes) after.rows m x
+      others m x is = subst (λ (l : List OpenMerge). NodeMerges b.log b.cut (λ o. jobs_like new o b.nodes) l m x) (sym rows_are)
+          (node_copied seg board.rows found.0 t refl b.log b.cut (λ o. jobs_like new o b.nodes) m x (λ k sent. sent_before found.0.spread.left (record { node = n; job = number }) m k sent)
+          (node_stands b.log b.log b.cut (λ o. jobs_like old o b.nodes) (λ o. jobs_like new o b.nodes) board.rows m (λ k inputs e. e) x x
+          (node_keeps (λ o. jobs_like old o b.nodes) (λ o. jobs_like new o b.nodes) x (λ o. let e = jobs o in omega (arith, e))) is))
 
       was : AreSentCopies board.rows n.0 r.copies.running
-      was = some_at (λ z. NodeMerges b0.log b0.cut (λ o. jobs_like old o b0.nodes) board.rows n.0 z.node) (place_of old n.0) (record { node = Replica r; held = held }) there (all.2.each n.0 node)
+      was = some_at (λ z. NodeMerges b.log b.cut (λ o. jobs_like old o b.nodes) board.rows n.0 z.node) (place_of old n.0) (record { node = Replica r; held = held }) there (all.2.each n.0 node)
 
       mine : AreSentCopies after.rows n.0 s.copies.running
       mine k c at = by (last_or (copies_seen r.seen.0 state.primary_gen.0 r.copies).running (merge_job_on number state w.holdings) k c (sym (ap (λ (m : MergeCopies). copy_at k m.running) w.copies) ∙ at))
@@ -226,9 +209,42 @@ module _ {D : Type 0} (cells : D → Cells) where
           by : (copy_at k (copies_seen r.seen.0 state.primary_gen.0 r.copies).running ≡ Some c) ⊎ ((number ≡ k) × (merge_job_on number state w.holdings ≡ c)) → IsSentCopy after.rows n.0 k c
           by (inl before) = others n.0 (Replica r) was k c (seen_there r.seen.0 state.primary_gen.0 r.copies k c before)
           by (inr here) = record {
-            seg = seg.0;
+            seg = seg;
             spread = t;
-            row = ap (λ (l : List OpenMerge). spread_at (open_merge seg.0 l)) rows_are ∙ (ap spread_at (open_with board.rows seg.0 (Some t) found.0.row found.0.there seg.0) ∙ ap (λ (b : Bool). spread_at (if b then Some (record found.0.row { spread = Some t }) else open_merge seg.0 board.rows)) (eq-eqb seg.0 seg.0 refl));
+            row = ap (λ (l : List OpenMerge). spread_at (open_merge seg l)) rows_are ∙ (ap spread_at (open_with board.rows seg (Some t) found.0.row found.0.there seg) ∙ ap (λ (b : Bool). spread_at (if b then Some (record found.0.row { spread = Some t }) else open_merge seg board.rows)) (eq-eqb seg seg refl));
             sent = ap (λ (q : ℕ). is_sent_in n.0 q t.left) (sym here.0) ∙ sent_last found.0.spread.left n number;
             want = sym (ap (λ (j : Job). j.want) here.1) ∙ sym found.1.0;
           }
+
+-- ---- the entries
+
+-- one more at the end of the copies is one more entry
+begun_more : (line : LineNo) (sent : List Sent) (s : Sent) (log : Log) → begun_log line (sent ++ s ∷ []) log ≡ kept (JobBegun line s.node s.job None None) ∷ begun_log line sent log
+begun_more line [] s log = refl
+begun_more line (x ∷ sent) s log = begun_more line sent s (kept (JobBegun line x.node x.job None None) ∷ log)
+
+pub begun_next : (line : LineNo) (sent : List Sent) (i : ℕ) (s d : Sent) (log mid new : Log) → i < length sent → s ≡ get_or sent i d → mid ≡ begun_log line (take i sent) log → new ≡ kept (JobBegun line s.node s.job None None) ∷ mid
+    → new ≡ begun_log line (take (i + 1) sent) log
+begun_next line sent i s d log mid new within is was one =
+    one ∙ (ap (λ (l : Log). kept (JobBegun line s.node s.job None None) ∷ l) was
+    ∙ (sym (begun_more line (take i sent) s log) ∙ ap (λ (l : List Sent). begun_log line l log) (ap (λ (x : Sent). take i sent ++ x ∷ []) is ∙ sym (take_more sent i d within))))
+
+pub begun_last : (line : LineNo) (sent : List Sent) (i : ℕ) (log new : Log) → length sent ≤ i → new ≡ begun_log line (take i sent) log → new ≡ begun_log line sent log
+begun_last line sent i log new end was = was ∙ ap (λ (l : List Sent). begun_log line l log) (take_all i sent end)
+
+module _ {D : Type 0} (cells : D → Cells) where
+  -- that a copy has begun is noted
+  begun_path : (b0 b2 : Sheet) (places : List (Option (Place D))) (board : Board) (line : LineNo) (s : Sent) → b2.log ≡ kept (JobBegun line s.node s.job None None) ∷ b0.log → b2.nodes ≡ b0.nodes → b2.cut ≡ b0.cut
+      → AllShown cells b0 board places → AllShown cells b2 board places
+  begun_path b0 b2 places board line s log nodes cut all =
+      inside_path cells b0 b2 places board board i log nodes cut (λ at. refl) (λ q bytes out. out) (λ m. same_sent b0.log line s.node s.job m) (λ seg inputs is. is) (tasks_kept b0.nodes b0.log board i refl all.2.tasks) refl all.2.fit (λ none. none.0) all
+    where
+      i : Inner
+      i = JobBegun line s.node s.job None None
+
+  -- and of all
+  pub begun_all : (b0 b2 : Sheet) (places : List (Option (Place D))) (board : Board) (line : LineNo) (sent : List Sent) → b2.log ≡ begun_log line sent b0.log → b2.nodes ≡ b0.nodes → b2.cut ≡ b0.cut → AllShown cells b0 board places → AllShown cells b2 board places
+  begun_all b0 b2 places board line [] log nodes cut all = all_is cells b0 b2 board places log nodes cut all
+  begun_all b0 b2 places board line (s ∷ sent) log nodes cut all =
+      begun_all (record b0 { log = kept (JobBegun line s.node s.job None None) ∷ b0.log }) b2 places board line sent log nodes cut
+      (begun_path b0 (record b0 { log = kept (JobBegun line s.node s.job None None) ∷ b0.log }) places board line s refl refl refl all)

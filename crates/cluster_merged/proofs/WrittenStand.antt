@@ -116,7 +116,7 @@ module _ {D : Type 0} (cells : D → Cells) where
             let low = before.outs o in
             let jobs : jobs_like new o size ≡ jobs_like old o size = jobs_same old new o size (λ k within. wants_same n (record { node = Primary q; held = held }) (record { node = Primary p; held = held }) old new moves there refl k) in
             let like : spreads_like o after.rows ≡ spreads_like o (with_spread merged.files.seg.0 (Some s) board.rows) = ap (spreads_like o) rows in
-            let move = spreads_with o board.rows merged.files.seg.0 (Some s) row found in
+            let move : spreads_like o (with_spread merged.files.seg.0 (Some s) board.rows) + one_like o (out_at row.spread) ≡ spreads_like o board.rows + one_like o (Some (out_of state)) = spreads_with o board.rows merged.files.seg.0 (Some s) row found in
             let no : one_like o (out_at row.spread) ≡ 0 = ap (λ (x : Option Spread). one_like o (out_at x)) none in
             let states : states_like o q.states ≡ states_like o p.states + one_like o (Some (out_of state)) = ap (states_like o) w.states ∙ states_push o p.states (out_of state) in
             omega (arith, low, jobs, like, move, no, states);

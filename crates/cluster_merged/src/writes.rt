@@ -1,22 +1,20 @@
 //! A merged segment that is written, and copied to replicas.
 
-ghost use Rattle.std.specs.Prelude.{◌≡◌, ◌≢◌, ◌==◌, ◌∷◌, ◌++◌, [], true, false, Some, IfOk, OnOk, OnErr, map};
-ghost use Rattle.std.specs.List.{All, AllPairs};
+ghost use Rattle.std.specs.Prelude.{◌≡◌, ◌<◌, ◌≤◌, ◌+◌, ◌∷◌, [], true, false, None, Some, IsSome, IfOk, OnOk, OnErr, length};
 ghost use Rattle.copy_state.specs.States.{IsCopyState};
-ghost use Rattle.history_entries.specs.Nodes.{IsNode, IsReplica, primary_of};
+ghost use Rattle.history_entries.specs.Nodes.{IsNode, primary_of};
 ghost use Rattle.history_book.specs.Log.{printed, kept};
-ghost use Rattle.history_book.specs.declared.inner.Inner.TheVariants.{JobBegun};
-ghost use Rattle.cluster_places.specs.Places.{place_of};
-ghost use Rattle.cluster_tasks.specs.Board.{open_merge, spread_at, with_spread, is_unwritten, sent_more};
+ghost use Rattle.cluster_tasks.specs.Board.{open_merge, spread_at, is_unwritten};
+ghost use Rattle.node_merges.specs.MergeChanges.{MaySend};
+ghost use Rattle.node_merges.specs.MergePlaces.{IsReplicaIn};
 ghost use Rattle.cluster_state.specs.Run.{IsEnded};
-ghost use Rattle.cluster_drains.specs.MergePaths.{IsMergedOut, WritesMerge};
-ghost use Rattle.cluster_drains.specs.Running.{AllShown};
-ghost use Rattle.cluster_merged.specs.Sending.{IsSending, MaySendTo, SendsOn};
+ghost use Rattle.cluster_drains.specs.MergePaths.{IsMergedOut, WritesMerge, begun_log};
+ghost use Rattle.cluster_merged.specs.Sending.{spread_to, SendsOne, MaySendAll, SendsAll};
 
 use cluster_copies::replicas;
 use cluster_places::Place;
 use cluster_state::ClusterState;
-use cluster_tasks::Tasks;
+use cluster_tasks::{Sent, Tasks};
 use copy_state::CopyState;
 use disk_model::FaultDir;
 use history_book::{Inner, Step};
@@ -28,51 +26,79 @@ use replica_node::laws::files_last;
 use seg_merge::Merged;
 use std::alloc::Global;
 
-// Begins a copy of a merge that is written to a replica that may have it. What is true of a cluster that runs is true again.
+// Begins a copy of a merge that is written to a replica, notes it in the row of the merge, and answers it.
 fn send_one<D: FaultDir + Drop>(
     alloc: Global,
-    ledger: &mut Ledger,
     tasks: &mut Tasks,
     places: &mut Vec<Option<Place<D>>>,
-    line: LineNo,
     seg: SegNo,
     state: &CopyState,
     n: NodeNo,
-) -> Result<(), NoMemory>
-    requires shown { AllShown D.cells ledger.old tasks.old places.old.items }
-    requires sending { IsSending seg.0 state.now (printed ledger.old.log) n.0 tasks.old }
-    requires may { MaySendTo state.now (printed ledger.old.log) ledger.old.nodes n.0 places.old.items }
-    ensures { OnOk result (SendsOn D.cells line seg state.now n ledger.old ledger.new
+) -> Result<Sent, NoMemory>
+    requires copy { IsCopyState state.now }
+    requires may { IsReplicaIn (MaySend state.now) n.0 places.old.items }
+    requires written { IsSome (spread_at (open_merge seg.0 tasks.old.rows)) }
+    ensures { IfOk result (λ sent. SendsOne D.cells seg.0 state.now n sent
         tasks.old tasks.new places.old.items places.new.items) }
 {
-    ledger.reserve(1)?;
     let job = send_in(alloc, places, n, state)?;
     tasks.send(seg, n, job)?;
-    ledger.keep(Inner::JobBegun {
-        line,
-        node: n,
-        job,
-        version: None,
-        by: None,
-    });
-    Ok(())
+    Ok(Sent { node: n, job })
 }
 
-// Begins a copy of a merge that is written to each of these replicas.
+// Begins a copy of a merge that is written to each of these replicas, and answers the copies.
 fn send_all<D: FaultDir + Drop>(
     alloc: Global,
-    ledger: &mut Ledger,
     tasks: &mut Tasks,
     places: &mut Vec<Option<Place<D>>>,
-    line: LineNo,
     seg: SegNo,
     state: &CopyState,
     nodes: &[NodeNo],
-) -> Result<(), NoMemory> {
+) -> Result<Vec<Sent>, NoMemory>
+    requires copy { IsCopyState state.now }
+    requires may { MaySendAll state.now nodes.now places.old.items }
+    requires written { spread_at (open_merge seg.0 tasks.old.rows)
+        ≡ Some (spread_to state.now []) }
+    ensures { IfOk result (λ sent. SendsAll D.cells seg.0 state.now nodes.now sent.items
+        tasks.old tasks.new places.old.items places.new.items) }
+{
+    let mut sent = Vec::new(alloc);
     for n in nodes {
-        send_one(alloc, ledger, tasks, places, line, seg, state, *n)?;
+        let one = send_one(alloc, tasks, places, seg, state, *n)?;
+        sent.push(one)?;
     }
-    Ok(())
+    Ok(sent)
+}
+
+// Notes that a copy has begun.
+fn note_one(ledger: &mut Ledger, line: LineNo, sent: Sent)
+    requires room { 1 ≤ ledger.old.room }
+    ensures log { ledger.new.log
+        ≡ kept (Inner.JobBegun line sent.node sent.job None None) ∷ ledger.old.log }
+    ensures nodes { ledger.new.nodes ≡ ledger.old.nodes }
+    ensures cut { ledger.new.cut ≡ ledger.old.cut }
+    ensures room { ledger.old.room ≤ ledger.new.room + 1 }
+{
+    ledger.keep(Inner::JobBegun {
+        line,
+        node: sent.node,
+        job: sent.job,
+        version: None,
+        by: None,
+    });
+}
+
+// Notes that these copies have begun, in order. Room for one entry more is left.
+fn note_begun(ledger: &mut Ledger, line: LineNo, sent: &[Sent])
+    requires room { length sent.now < ledger.old.room }
+    ensures log { ledger.new.log ≡ begun_log line sent.now ledger.old.log }
+    ensures nodes { ledger.new.nodes ≡ ledger.old.nodes }
+    ensures cut { ledger.new.cut ≡ ledger.old.cut }
+    ensures room { 1 ≤ ledger.new.room }
+{
+    for s in sent {
+        note_one(ledger, line, *s);
+    }
 }
 
 /// Writes the files of a merge of which none is written, and begins a copy of them to each replica that runs: the task to build its segment
@@ -98,22 +124,21 @@ pub fn ready_merge<D: FaultDir + Drop>(
     files_last();
     cluster.ended = true;
     let nodes = replicas(alloc, cluster.ledger.book())?;
+    cluster.ledger.reserve(nodes.len() + 1)?;
     let state = ready_in(alloc, &mut cluster.places, p, merged)?;
     let copy = share_state(alloc, &state)?;
     cluster.tasks.write(alloc, seg, state);
-    send_all(
+    let sent = send_all(
         alloc,
-        &mut cluster.ledger,
         &mut cluster.tasks,
         &mut cluster.places,
-        line,
         seg,
         &copy,
         nodes.as_slice(),
     )?;
-    cluster.ledger.reserve(1)?;
     cluster.tasks.post(seg, line)?;
     cluster.tasks.count(by)?;
+    note_begun(&mut cluster.ledger, line, sent.as_slice());
     cluster.ledger.keep(Inner::TaskEnd {
         line,
         seg,
