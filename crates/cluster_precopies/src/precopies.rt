@@ -1,25 +1,29 @@
 //! Copies of merged segments to replicas.
 
-ghost use Rattle.std.specs.Prelude.{◌≡◌, true, false, Some, IfOk, OnOk, OnErr};
+ghost use Rattle.std.specs.Prelude.{◌≡◌, ◌≤◌, true, false, Some, IsSome, IfOk, OnOk, OnErr};
 ghost use Rattle.codec_frame.specs.Bytes.{AreBytes};
 ghost use Rattle.copy_state.specs.Meta.{IsMetaOf};
 ghost use Rattle.history_entries.specs.Nodes.{IsNode, primary_of};
 ghost use Rattle.history_book.specs.Log.{printed};
 ghost use Rattle.cluster_tasks.specs.TaskLog.{carried_out};
 ghost use Rattle.cluster_tasks.specs.Board.{open_merge, spread_at, has_copy_task};
+ghost use Rattle.node_merges.specs.MergeChanges.{MaySettle};
+ghost use Rattle.node_merges.specs.MergePlaces.{IsReplicaIn};
 ghost use Rattle.cluster_state.specs.Run.{IsEnded};
-ghost use Rattle.cluster_drains.specs.MergePaths.{IsAsBefore, HandsMergedFile, EndsCopyTask};
-ghost use Rattle.cluster_precopies.specs.CopyTurns.{TurnsCopy};
+ghost use Rattle.cluster_drains.specs.Running.{AllShown};
+ghost use Rattle.cluster_drains.specs.MergePaths.{IsAsBefore};
+ghost use Rattle.cluster_precopies.specs.CopyTurns.{EndsCopyOf, SettlesCopyOf, StepsCopyTo, TurnsCopy};
 
-use cluster_places::FileTask;
+use cluster_places::{FileTask, Place};
 use cluster_state::ClusterState;
+use cluster_tasks::Tasks;
 use copy_job::Part;
 use disk_model::FaultDir;
 use history_book::{Inner, Step};
+use history_merges::Ledger;
 use node_jobs::read_in;
 use node_merges::{CopyStep, runs_in, settle_in, step_in, take_merged_in};
 use nrt_base::{At, LineNo, NoMemory, NodeNo, SegNo, Share};
-use replica_node::laws::files_last;
 use std::alloc::Global;
 
 /// What came of the next step of a copy of a merged segment.
@@ -40,18 +44,25 @@ fn are_bytes(bytes: &[u8])
     let _bytes = bytes;
 }
 
-// Notes that the task of a copy has ended, and posts the task to cut over where no copy is left.
-fn end_task<D: FaultDir + Drop>(
-    cluster: &mut ClusterState<D>,
+// The task of a copy has ended: the copy is among those that are left no more, and where none is left the task to cut over is posted.
+fn end_task(
+    ledger: &mut Ledger,
+    tasks: &mut Tasks,
     line: LineNo,
     seg: SegNo,
     by: Option<At>,
     n: NodeNo,
     job: u64,
-) -> Result<(), NoMemory> {
-    cluster.tasks.settle(seg, line, n, job)?;
-    cluster.tasks.count(by)?;
-    cluster.ledger.keep(Inner::TaskEnd {
+) -> Result<(), NoMemory>
+    requires room { 1 ≤ ledger.old.room }
+    requires written { IsSome (spread_at (open_merge seg.0 tasks.old.rows)) }
+    ensures ok { OnOk result (EndsCopyOf line seg by n job ledger.old ledger.new
+        tasks.old tasks.new) }
+    ensures err { OnErr result (ledger.new ≡ ledger.old) }
+{
+    tasks.settle(seg, line, n, job)?;
+    tasks.count(by)?;
+    ledger.keep(Inner::TaskEnd {
         line,
         seg,
         by,
@@ -59,6 +70,81 @@ fn end_task<D: FaultDir + Drop>(
         counts: true,
     });
     Ok(())
+}
+
+// The files of a copy of which nothing is missing are pending from now on, and its task has ended.
+fn settle_copy<D: FaultDir + Drop>(
+    alloc: Global,
+    ledger: &mut Ledger,
+    tasks: &mut Tasks,
+    places: &mut Vec<Option<Place<D>>>,
+    line: LineNo,
+    seg: SegNo,
+    by: Option<At>,
+    n: NodeNo,
+    job: u64,
+) -> Result<(), NoMemory>
+    requires room { 1 ≤ ledger.old.room }
+    requires written { IsSome (spread_at (open_merge seg.0 tasks.old.rows)) }
+    requires complete { IsReplicaIn (MaySettle job) n.0 places.old.items }
+    ensures ok { OnOk result (SettlesCopyOf D.cells line seg by n job ledger.old ledger.new
+        tasks.old tasks.new places.old.items places.new.items) }
+    ensures err { OnErr result (ledger.new ≡ ledger.old) }
+{
+    settle_in(alloc, places, n, job)?;
+    end_task(ledger, tasks, line, seg, by, n, job)?;
+    Ok(())
+}
+
+// The next step of a copy, after which what is true of a cluster that runs is true again.
+fn step_copy<D: FaultDir + Drop>(
+    alloc: Global,
+    ledger: &mut Ledger,
+    tasks: &mut Tasks,
+    places: &mut Vec<Option<Place<D>>>,
+    p: NodeNo,
+    line: LineNo,
+    seg: SegNo,
+    by: Option<At>,
+    n: NodeNo,
+    job: u64,
+) -> Result<CopyTurn, NoMemory>
+    requires room { 1 ≤ ledger.old.room }
+    requires shown { AllShown D.cells ledger.old tasks.old places.old.items }
+    requires source { IsNode ledger.old.nodes p.0 }
+    requires primary { primary_of (printed ledger.old.log) ≡ Some p }
+    requires node { IsNode ledger.old.nodes n.0 }
+    requires sent { has_copy_task n.0 job (spread_at (open_merge seg.0 tasks.old.rows)) ≡ true }
+    ensures shown { OnOk result (AllShown D.cells ledger.new tasks.new places.new.items) }
+    ensures ok { IfOk result (StepsCopyTo line seg by n job ledger.old ledger.new
+        tasks.old tasks.new) }
+    ensures err { OnErr result (ledger.new ≡ ledger.old) }
+{
+    match step_in(alloc, places, n, job, seg)? {
+        CopyStep::Waits => Ok(CopyTurn::Waits),
+        CopyStep::Gone => {
+            end_task(ledger, tasks, line, seg, by, n, job)?;
+            Ok(CopyTurn::Ends)
+        }
+        CopyStep::Complete => {
+            settle_copy(alloc, ledger, tasks, places, line, seg, by, n, job)?;
+            Ok(CopyTurn::Ends)
+        }
+        CopyStep::Wants(name, meta) => {
+            let source = read_in(places, p, &name)?;
+            are_bytes(source.as_slice());
+            let copy = source.share(alloc)?;
+            ledger.keep(Inner::FileOut {
+                line,
+                node: n,
+                job,
+                name,
+                source: copy,
+                by: None,
+            });
+            Ok(CopyTurn::Hands(FileTask { name, source, meta }))
+        }
+    }
 }
 
 /// Goes on with a copy of a merged segment whose task has not ended: hands out the next file that it misses; where it misses none its
@@ -83,35 +169,20 @@ pub fn next_merged<D: FaultDir + Drop>(
     ensures ok { IfOk result (TurnsCopy line seg by n job cluster.old cluster.new) }
     ensures err { OnErr result (IsEnded cluster.old cluster.new) }
 {
-    files_last();
     cluster.ended = true;
     cluster.ledger.reserve(1)?;
-    let turn = match step_in(alloc, &cluster.places, n, job, seg)? {
-        CopyStep::Waits => CopyTurn::Waits,
-        CopyStep::Gone => {
-            end_task(cluster, line, seg, by, n, job)?;
-            CopyTurn::Ends
-        }
-        CopyStep::Complete => {
-            settle_in(alloc, &mut cluster.places, n, job)?;
-            end_task(cluster, line, seg, by, n, job)?;
-            CopyTurn::Ends
-        }
-        CopyStep::Wants(name, meta) => {
-            let source = read_in(&mut cluster.places, p, &name)?;
-            are_bytes(source.as_slice());
-            let copy = source.share(alloc)?;
-            cluster.ledger.keep(Inner::FileOut {
-                line,
-                node: n,
-                job,
-                name,
-                source: copy,
-                by: None,
-            });
-            CopyTurn::Hands(FileTask { name, source, meta })
-        }
-    };
+    let turn = step_copy(
+        alloc,
+        &mut cluster.ledger,
+        &mut cluster.tasks,
+        &mut cluster.places,
+        p,
+        line,
+        seg,
+        by,
+        n,
+        job,
+    )?;
     cluster.ended = false;
     Ok(turn)
 }
@@ -131,11 +202,12 @@ pub fn take_merged<D: FaultDir + Drop>(
     ensures ok { OnOk result (IsAsBefore cluster.old cluster.new) }
     ensures err { OnErr result (IsEnded cluster.old cluster.new) }
 {
-    files_last();
-    cluster.ended = true;
-    if runs_in(&cluster.places, n, job, seg) {
-        take_merged_in(&mut cluster.places, n, job, part)?;
+    cluster.ledger.book().is_legal();
+    if !runs_in(&cluster.places, n, job, seg) {
+        return Ok(());
     }
+    cluster.ended = true;
+    take_merged_in(&mut cluster.places, n, job, part)?;
     cluster.ended = false;
     Ok(())
 }

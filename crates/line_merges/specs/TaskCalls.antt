@@ -1,14 +1,17 @@
 -- What the calls of merge and drain lines, and of tasks, make of a cluster.
 use Rattle.std.specs.Prelude.{ℕ, ◌≡◌, ◌≢◌, ◌<◌, ◌⊎◌, ◌∷◌, [], Bool, true, false, Option, Some, None, IsSome}
+use Rattle.nrt_base.specs.SegNumbers.{segments_of_generation}
 use Rattle.nrt_base.specs.declared.numbers.At.{At}
 use Rattle.nrt_base.specs.declared.numbers.LineNo.{LineNo}
 use Rattle.nrt_base.specs.declared.numbers.NodeNo.{NodeNo}
 use Rattle.nrt_base.specs.declared.numbers.SegNo.{SegNo}
 use Rattle.history_entries.specs.declared.cause.Cause.{Cause}
-use Rattle.history_entries.specs.declared.cause.Cause.TheVariants.{NoPrimary}
+use Rattle.history_entries.specs.declared.cause.Cause.TheVariants.{NoPrimary, Nothing, NamesSpent}
 use Rattle.history_entries.specs.declared.entry.Event.TheVariants.{Drained, Refused}
 use Rattle.history_entries.specs.Nodes.{primary_of}
 use Rattle.history_entries.specs.Lines.{publish_in_flight}
+use Rattle.history_entries.specs.Points.{names_drawn}
+use Rattle.merge_choice.specs.Choice.{IsFirstRange, HasNoRange}
 use Rattle.history_book.specs.Log.{printed, shown}
 use Rattle.history_book.specs.Jobs.{job_at}
 use Rattle.cluster_tasks.specs.TaskLog.{counted_for}
@@ -23,10 +26,17 @@ use Rattle.line_turns.specs.declared.turn.Turn.TheVariants.{Work, Done, Busy}
 abbrev pub RefusesMerge : At → Cause → Run → Run → Type 0
 RefusesMerge at cause old new = IsBoard old new (shown at (Refused cause) ∷ old.log) old.rest.tasks.rows old.rest.tasks.posted
 
--- a merge starts, or the line is refused for this cause
+-- A merge starts; or the line is refused: no inputs can be chosen; or some can, and the generation has drawn all its names.
 abbrev pub StartsOrRefuses : At → ℕ → Run → Run → Option Cause → Type 0
 StartsOrRefuses at factor old new None = BeginsMerge at factor old new
-StartsOrRefuses at factor old new (Some cause) = RefusesMerge at cause old new
+StartsOrRefuses at factor old new (Some Nothing) = RefusesMerge at Nothing old new × HasNoRange factor old.rest.sizes
+StartsOrRefuses at factor old new (Some NamesSpent) =
+    RefusesMerge at NamesSpent old new × ((from : ℕ) × IsFirstRange factor old.rest.sizes from) × (names_drawn (printed old.log) ≡ segments_of_generation)
+StartsOrRefuses at factor old new (Some cause) = ⊥
+
+-- one of these is so
+abbrev pub StartsAtPrimary : At → ℕ → Run → Run → Type 0
+StartsAtPrimary at factor old new = (cause : Option Cause) × StartsOrRefuses at factor old new cause
 
 -- A merge line: refused where no primary runs; then where no inputs can be chosen; then where they can and no name is left; else a merge starts.
 pub record MergeLine (at : At) (factor : ℕ) (old new : Run) : Type 0 where

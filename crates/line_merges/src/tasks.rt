@@ -2,14 +2,14 @@
 
 ghost use Rattle.std.specs.Prelude.{◌≡◌, ◌≤◌, [], true, false, None, Some, IfOk, OnOk, OnErr};
 ghost use Rattle.copy_state.specs.Meta.{IsMetaOf};
-ghost use Rattle.history_entries.specs.Nodes.{IsNode};
+ghost use Rattle.history_entries.specs.Nodes.{IsNode, primary_of};
 ghost use Rattle.history_entries.specs.Lines.{entries_of_line};
 ghost use Rattle.history_book.specs.Log.{printed};
 ghost use Rattle.cluster_tasks.specs.TaskLog.{carried_out};
 ghost use Rattle.cluster_tasks.specs.Board.{open_merge, is_unwritten};
 ghost use Rattle.cluster_state.specs.Run.{IsEnded};
 ghost use Rattle.cluster_drains.specs.MergePaths.{IsMergedOut, EndsBuild, TakesTask};
-ghost use Rattle.line_merges.specs.TaskCalls.{MergeLine, PrecopyTurns, PartTurns, CutTurns};
+ghost use Rattle.line_merges.specs.TaskCalls.{MergeLine, StartsAtPrimary, PrecopyTurns, PartTurns, CutTurns};
 
 use cluster_cut_overs::cut_merge;
 use cluster_drains::take_task;
@@ -27,6 +27,31 @@ use nrt_base::{At, LineNo, NoMemory, NodeNo, SegNo};
 use seg_merge::Merged;
 use std::alloc::Global;
 
+// Starts a merge at the primary that runs, or refuses the line.
+fn start_at<D: FaultDir + Drop>(
+    state: &mut ClusterState<D>,
+    alloc: Global,
+    at: At,
+    p: NodeNo,
+    factor: u32,
+) -> Result<(), NoMemory>
+    requires running { state.old.ended ≡ false }
+    requires fresh { entries_of_line at (printed state.old.log) ≡ [] }
+    requires node { IsNode state.old.nodes p.0 }
+    requires primary { primary_of (printed state.old.log) ≡ Some p }
+    requires factor { 2 ≤ factor }
+    ensures ok { OnOk result (StartsAtPrimary at factor state.old state.new) }
+    ensures err { OnErr result (IsEnded state.old state.new) }
+{
+    match start_merge(alloc, state, at, p, factor)? {
+        None => Ok(()),
+        Some(cause) => {
+            refuse(state, at, cause)?;
+            Ok(())
+        }
+    }
+}
+
 /// Starts a merge.
 pub fn merge_start<D: FaultDir + Drop>(
     state: &mut ClusterState<D>,
@@ -43,10 +68,8 @@ pub fn merge_start<D: FaultDir + Drop>(
     let Some(p) = state.primary() else {
         return refuse(state, at, Cause::NoPrimary);
     };
-    match start_merge(alloc, state, at, p, factor)? {
-        None => Ok(()),
-        Some(cause) => refuse(state, at, cause),
-    }
+    start_at(state, alloc, at, p, factor)?;
+    Ok(())
 }
 
 /// Takes the task that was posted first.

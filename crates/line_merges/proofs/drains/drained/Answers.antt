@@ -5,7 +5,7 @@ use Rattle.cluster_tasks.specs.Board.{Board}
 use Rattle.cluster_tasks.specs.TaskLog.{counted_for}
 use Rattle.cluster_state.specs.Run.{Run}
 use Rattle.cluster_drains.specs.MergePaths.{IsBoard}
-use Rattle.line_merges.proofs.Turning.{as_before}
+use Rattle.cluster_precopies.proofs.CopyCalls.{nothing_done}
 use Rattle.line_merges.proofs.drains.drained.Goals.{else-done-most-via-then-done-most+else-not-is_idle, else-done-most-via-else-done-most}
 use Rattle.line_merges.proofs.drains.drained.Goals as goal
 
@@ -13,7 +13,7 @@ pub returns-then-not-is_idle-clause-ok : goal.returns-then-not-is_idle-clause-ok
 returns-then-not-is_idle-clause-ok g c =
     let tasks : c.state.inside.tasks ≡ c.args.state.now.rest.tasks = ap (λ (r : Run). r.rest.tasks) c.state.view_is in
     let less : counted_for c.args.at c.args.state.now.log < c.args.most = omega (arith, c.if-done-most.true, c.counted-done.ensures) in
-    (as_before c.args.state.now c.requires.running, less, λ none. true≢false (sym (c.if-not-is_idle.ensures.busy (ap (λ (b : Board). b.posted) tasks ∙ none))))
+    (nothing_done c.args.state.now c.requires.running, less, λ none. true≢false (sym (c.if-not-is_idle.ensures.busy (ap (λ (b : Board). b.posted) tasks ∙ none))))
 
 pub returns-clause-ok : goal.returns-clause-ok
 returns-clause-ok g c =

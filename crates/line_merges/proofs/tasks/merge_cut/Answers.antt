@@ -6,20 +6,21 @@ use Rattle.cluster_tasks.specs.declared.tasks.OpenMerge.{OpenMerge}
 use Rattle.cluster_tasks.specs.Board.{Board, open_merge, spread_at, is_copied}
 use Rattle.cluster_state.specs.Run.{Run}
 use Rattle.cluster_state.proofs.MergingPaths.{third_at}
+use Rattle.cluster_precopies.proofs.CopyCalls.{nothing_done}
 use Rattle.line_merges.specs.TaskCalls.{CutsOnce}
-use Rattle.line_merges.proofs.Turning.{as_before, no_row, none_of, some_of}
+use Rattle.line_merges.proofs.Turning.{no_row, none_of, some_of}
 use Rattle.line_merges.proofs.tasks.merge_cut.Goals as goal
 
 pub returns-then-not-is_copied-clause-ok : goal.returns-then-not-is_copied-clause-ok
 returns-then-not-is_copied-clause-ok g c =
     let tasks : c.state.inside.tasks ≡ c.args.state.now.rest.tasks = ap (λ (r : Run). r.rest.tasks) c.state.view_is in
     let test : is_copied (spread_at (open_merge c.args.seg.0 c.args.state.now.rest.tasks.rows)) ≡ false = ap (λ (b : Board). is_copied (spread_at (open_merge c.args.seg.0 b.rows))) (sym tasks) ∙ sym c.if-not-is_copied.ensures in
-    subst (λ (t : Bool). CutsOnce c.args.line c.args.seg c.args.by c.args.state.now c.args.state.now t) (sym test) (as_before c.args.state.now c.requires.running)
+    subst (λ (t : Bool). CutsOnce c.args.line c.args.seg c.args.by c.args.state.now c.args.state.now t) (sym test) (nothing_done c.args.state.now c.requires.running)
 
 pub returns-then-is_some-clause-ok : goal.returns-then-is_some-clause-ok
 returns-then-is_some-clause-ok g c =
     let tasks : c.state.inside.tasks ≡ c.args.state.now.rest.tasks = ap (λ (r : Run). r.rest.tasks) c.state.view_is in (
-      as_before c.args.state.now c.requires.running,
+      nothing_done c.args.state.now c.requires.running,
       ap (λ (b : Board). is_copied (spread_at (open_merge c.args.seg.0 b.rows))) (sym tasks) ∙ sym c.if-not-is_copied.ensures,
       λ none. some_of c.publishing.result c.if-is_some.ensures (c.publishing.ensures ∙ ap (λ (l : Log). publish_in_flight (printed l)) c.book.ensures.log ∙ none),
     )

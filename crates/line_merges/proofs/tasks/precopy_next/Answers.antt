@@ -7,15 +7,16 @@ use Rattle.cluster_state.specs.Run.{Run}
 use Rattle.cluster_state.proofs.MergingPaths.{third_at}
 use Rattle.cluster_precopies.specs.CopyTurns.{TurnsCopy}
 use Rattle.cluster_precopies.specs.declared.precopies.CopyTurn.{CopyTurn}
+use Rattle.cluster_precopies.proofs.CopyCalls.{nothing_done}
 use Rattle.line_merges.specs.TaskCalls.{EndsCopyOnce}
-use Rattle.line_merges.proofs.Turning.{as_before, no_row}
+use Rattle.line_merges.proofs.Turning.{no_row}
 use Rattle.line_merges.proofs.tasks.precopy_next.Goals as goal
 
 pub returns-then-not-has_copy_task-clause-ok : goal.returns-then-not-has_copy_task-clause-ok
 returns-then-not-has_copy_task-clause-ok g c =
     let tasks : c.state.inside.tasks ≡ c.args.state.now.rest.tasks = ap (λ (r : Run). r.rest.tasks) c.state.view_is in
     let test : has_copy_task c.args.n.0 c.args.job (spread_at (open_merge c.args.seg.0 c.args.state.now.rest.tasks.rows)) ≡ false = ap (λ (b : Board). has_copy_task c.args.n.0 c.args.job (spread_at (open_merge c.args.seg.0 b.rows))) (sym tasks) ∙ sym c.if-not-has_copy_task.ensures in
-    subst (λ (t : Bool). EndsCopyOnce c.args.line c.args.seg c.args.by c.args.n c.args.job c.args.state.now c.args.state.now t) (sym test) (as_before c.args.state.now c.requires.running)
+    subst (λ (t : Bool). EndsCopyOnce c.args.line c.args.seg c.args.by c.args.n c.args.job c.args.state.now c.args.state.now t) (sym test) (nothing_done c.args.state.now c.requires.running)
 
 pub unreachable-requires : goal.unreachable-requires
 unreachable-requires g c =
