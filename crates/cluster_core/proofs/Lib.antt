@@ -3,3 +3,4 @@ mod CopyDoes
 mod SettleStays
 mod LifeDoes
 mod PromoteDoes
+mod MergeDoes

@@ -2,7 +2,7 @@
 
 use crate::cluster::Cluster;
 use cluster_places::FileTask;
-use cluster_tasks::{Task, TaskKind};
+use cluster_tasks::{Sent, Task};
 use copy_job::Part;
 use disk_model::FaultDir;
 use line_merges::{
@@ -16,6 +16,7 @@ use std::alloc::Global;
 impl<D: FaultDir + Drop> Cluster<D> {
     ghost use Rattle.std.specs.Prelude.{◌≡◌, ◌≤◌, [], false, IfOk, OnOk, OnErr};
     ghost use Rattle.copy_state.specs.Meta.{IsMetaOf};
+    ghost use Rattle.history_entries.specs.Nodes.{IsNode};
     ghost use Rattle.history_entries.specs.Lines.{entries_of_line};
     ghost use Rattle.history_book.specs.Log.{printed};
     ghost use Rattle.script_serving.specs.declared.script.LineCommand.TheVariants.{Merge, Drain};
@@ -23,9 +24,9 @@ impl<D: FaultDir + Drop> Cluster<D> {
     ghost use Rattle.cluster_tasks.specs.Board.{open_merge, is_unwritten};
     ghost use Rattle.cluster_state.specs.Run.{IsEnded};
     ghost use Rattle.cluster_drains.specs.MergePaths.{IsMergedOut, EndsBuild, TakesTask};
-    ghost use Rattle.line_merges.specs.TaskCalls.{MergeLine, CutTurns, DrainTurns};
+    ghost use Rattle.line_merges.specs.TaskCalls.{MergeLine, PrecopyTurns, PartTurns, CutTurns, DrainTurns};
     ghost use Rattle.cluster_core.specs.Doing.{Does, IsReplied, IsRepliedAtDone};
-    ghost use Rattle.cluster_core.specs.Tasks.{DoesTask, IsPreCopyIn, TaskCopyTurns, TaskPartTurns};
+    ghost use Rattle.cluster_core.specs.Tasks.{DoesTask};
 
     /// Starts a merge. Its neighbours are chosen by their sizes; where none can be chosen, the line is refused.
     pub fn merge_start(&mut self, alloc: Global, at: At, factor: u32) -> Result<(), NoMemory>
@@ -86,49 +87,46 @@ impl<D: FaultDir + Drop> Cluster<D> {
         &mut self,
         alloc: Global,
         task: &Task,
+        copy: Sent,
     ) -> Result<Turn<FileTask>, NoMemory>
         requires running { self.old.ended ≡ false }
-        requires kind { IsPreCopyIn self.old.nodes task.now.kind }
-        ensures ok { IfOk result (TaskCopyTurns task.now self.old self.new) }
+        requires node { IsNode self.old.nodes copy.node.0 }
+        ensures ok { IfOk result (PrecopyTurns task.now.line task.now.seg task.now.by
+            copy.node copy.job self.old self.new) }
         ensures err { OnErr result (IsEnded self.old self.new) }
 
         // what its taker is owed
         ensures does { OnOk result (DoesTask task.now.by self.old self.new) }
     {
-        match &task.kind {
-            TaskKind::PreCopy(n, job) => precopy_next(
-                &mut self.state,
-                alloc,
-                task.line,
-                task.seg,
-                task.by,
-                *n,
-                *job,
-            ),
-            TaskKind::Merge(_) => unreachable!(),
-            TaskKind::Cut => unreachable!(),
-        }
+        precopy_next(
+            &mut self.state,
+            alloc,
+            task.line,
+            task.seg,
+            task.by,
+            copy.node,
+            copy.job,
+        )
     }
 
     /// Puts a part into the copy of a task. Done says that the task has ended.
-    pub fn precopy_arrived(&mut self, task: &Task, part: Part) -> Result<Turn<()>, NoMemory>
+    pub fn precopy_arrived(
+        &mut self,
+        task: &Task,
+        copy: Sent,
+        part: Part,
+    ) -> Result<Turn<()>, NoMemory>
         requires running { self.old.ended ≡ false }
-        requires kind { IsPreCopyIn self.old.nodes task.now.kind }
+        requires node { IsNode self.old.nodes copy.node.0 }
         requires out { carried_out part.name self.old.log ≡ Some part.bytes }
         requires meta { IsMetaOf part.bytes part.meta }
-        ensures ok { IfOk result (TaskPartTurns task.now self.old self.new) }
+        ensures ok { IfOk result (PartTurns task.now.seg copy.node copy.job self.old self.new) }
         ensures err { OnErr result (IsEnded self.old self.new) }
 
         // what its taker is owed
         ensures does { OnOk result (DoesTask task.now.by self.old self.new) }
     {
-        match &task.kind {
-            TaskKind::PreCopy(n, job) => {
-                precopy_arrived(&mut self.state, task.seg, *n, *job, part)
-            }
-            TaskKind::Merge(_) => unreachable!(),
-            TaskKind::Cut => unreachable!(),
-        }
+        precopy_arrived(&mut self.state, task.seg, copy.node, copy.job, part)
     }
 
     /// Cuts the merge of a task over. Busy comes exactly where it is to be cut over and a publish is in flight; where the task has ended

@@ -2,14 +2,12 @@
 use Rattle.std.specs.Prelude.{◌≡◌, Bool, true, false, IsTrue}
 use Rattle.std.specs.List.{list_all}
 use Rattle.script_serving.specs.declared.script.LineCommand.{LineCommand}
-use Rattle.script_serving.specs.declared.script.LineCommand.TheVariants.{Merge, Drain, Fault}
+use Rattle.script_serving.specs.declared.script.LineCommand.TheVariants.{Fault}
 use Rattle.script_serving.specs.declared.script.Script.{Script}
 use Rattle.script_serving.specs.Lines.{lines_of}
 
--- a line that asks for this is run: all but merges, drains and faults
+-- a line that asks for this is run: all but faults
 abbrev pub is_run : LineCommand → Bool
-is_run (Merge factor) = false
-is_run (Drain most) = false
 is_run (Fault n plan) = false
 is_run command = true
 

@@ -14,6 +14,7 @@ use hist_lock::{HistLock, LaneSeat};
 use lane_copying::{copy, settle};
 use lane_crew::Halt;
 use lane_lasting::{commit, crash, promote, reopen};
+use lane_merging::{drain, merge};
 use lane_reading::{ask, close, list_files, open, search};
 use lane_sections::Gate;
 use lane_writing::{publish, write};
@@ -68,8 +69,8 @@ pub fn do_line<R: Wait, D: FaultDir + Drop, G: Gate>(
         LineCommand::Crash(n, pick) => crash(rt, alloc, lock, nodes, seat, at, *n, *pick),
         LineCommand::Reopen(n) => reopen(rt, alloc, lock, nodes, seat, at, *n),
         LineCommand::Promote(n, force) => promote(rt, alloc, lock, nodes, seat, at, *n, *force),
-        LineCommand::Merge(_) => unreachable!(),
-        LineCommand::Drain(_) => unreachable!(),
+        LineCommand::Merge(factor) => merge(rt, alloc, lock, nodes, halt, seat, at, *factor),
+        LineCommand::Drain(most) => drain(rt, alloc, lock, nodes, gate, halt, seat, at, *most),
         LineCommand::Fault(..) => unreachable!(),
     }
 }

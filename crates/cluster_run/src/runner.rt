@@ -9,6 +9,7 @@ use cluster_core::Cluster;
 use disk_model::FaultDir;
 use hist_lock::{HistLock, LaneSeat};
 use lane_crew::{Halt, Lane, RunsLines};
+use lane_merging::do_posted;
 use lane_sections::Gate;
 use nrt_base::NoMemory;
 use script_serving::Line;
@@ -41,8 +42,6 @@ impl<'g, D: FaultDir + Drop, G: Gate> RunsLines<Cluster<D>> for ClusterLines<'g,
         )
     }
 
-    // No line posts a task.
-    #[tactic(auto, using(lane_parts::proofs::Hearing::heard_first))]
     fn do_task<R: Wait>(
         &self,
         rt: &R,
@@ -50,6 +49,6 @@ impl<'g, D: FaultDir + Drop, G: Gate> RunsLines<Cluster<D>> for ClusterLines<'g,
         halt: &Halt,
         lane: &mut Lane<Cluster<D>>,
     ) -> Result<bool, NoMemory> {
-        Ok(false)
+        do_posted(rt, self.alloc, lock, self.nodes, self.gate, halt, lane)
     }
 }

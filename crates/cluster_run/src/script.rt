@@ -15,6 +15,7 @@ use crate::runner::ClusterLines;
 use cluster_core::Cluster;
 use cluster_places::Place;
 use cluster_state::ClusterState;
+use cluster_tasks::Tasks;
 use disk_memory::MemDir;
 use history_merges::Ledger;
 use lane_sections::Gate;
@@ -61,6 +62,7 @@ pub fn run_script<R: Threads + Wait + Sync, G: Gate + Sync>(
 {
     book_crosses();
     sent::<Ledger>();
+    sent::<Tasks>();
     sent::<Vec<Option<Place<MemDir>>>>();
     sent::<ClusterState<MemDir>>();
     let nodes = script.nodes;

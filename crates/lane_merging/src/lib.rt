@@ -3,8 +3,9 @@
 
 pub mod draining;
 pub mod merging;
+pub mod precopying;
 pub mod tasks;
 
 pub use draining::drain;
 pub use merging::merge;
-pub use tasks::do_task;
+pub use tasks::do_posted;

@@ -9,18 +9,19 @@ ghost use Rattle.lane_seats.specs.Seats.{log_seen, IsLaneSeat, EndsItsLine};
 use cluster_core::Cluster;
 use disk_model::FaultDir;
 use hist_lock::{HistLock, LaneSeat};
-use lane_seats::leave;
+use lane_seats::{Halt, leave};
 use lane_sections::enter_cluster;
 use nrt_base::{At, NoMemory};
 use std::alloc::Global;
 use std::sync::Wait;
 
-/// Starts a merge.
+/// Starts a merge, and wakes the workers for its first task.
 pub fn merge<R: Wait, D: FaultDir + Drop>(
     rt: &R,
     alloc: Global,
     lock: &HistLock<Cluster<D>>,
     nodes: u8,
+    halt: &Halt,
     seat: &mut LaneSeat<Cluster<D>>,
     at: At,
     factor: u32,
@@ -33,5 +34,6 @@ pub fn merge<R: Wait, D: FaultDir + Drop>(
     let mut held = enter_cluster(rt, lock, nodes, at, seat)?;
     let answer = held.value().merge_start(alloc, at, factor);
     leave(lock, at.lane, seat, held);
+    halt.stir();
     answer
 }

@@ -1,29 +1,27 @@
-//! Tasks of merges, done by a lane or by a worker. Segments are merged and files carried outside the lock.
+//! Tasks of merges, done by a lane or by a worker. Segments are merged outside the lock.
 
-ghost use Rattle.std.specs.Prelude.{◌≡◌, false, None, Some, IfOk, OnOk};
-ghost use Rattle.copy_state.specs.Meta.{IsMetaOf};
-ghost use Rattle.lane_seats.specs.Seats.{log_seen, IsLaneSeat};
+ghost use Rattle.std.specs.Prelude.{◌≡◌, false, IfOk, OnOk};
 ghost use Rattle.cluster_drains.specs.MergePaths.{IsMergedOut};
-ghost use Rattle.cluster_tasks.specs.TaskLog.{carried_out};
-ghost use Rattle.cluster_core.specs.Tasks.{IsPreCopyIn};
-ghost use Rattle.lane_merging.specs.Taken.{IsTakerAt, IsTaskIn, WorksOn, TakesOn, HandsOn};
+ghost use Rattle.lane_seats.specs.Seats.{log_seen, IsLaneSeat};
+ghost use Rattle.lane_parts.specs.Parts.{IsIdleLane, HasHeard};
+ghost use Rattle.lane_merging.specs.Taken.{IsTakerAt, IsTaskIn, IsMergeIn, WorksOn, TakesOn};
 
+use crate::precopying::copy_over;
 use cluster_core::{Cluster, Turn};
-use cluster_places::FileTask;
-use cluster_tasks::{Task, TaskKind};
-use copy_job::Part;
+use cluster_tasks::{Sent, Task, TaskKind};
 use disk_model::FaultDir;
 use hist_lock::{HistLock, LaneSeat};
-use lane_copying::carry;
+use history_facts::is_node;
+use lane_parts::Lane;
 use lane_seats::{Halt, leave};
 use lane_sections::{Gate, Place, enter_cluster, give_way};
-use nrt_base::{At, NoMemory, NodeNo};
-use seg_merge::{Merged, merge};
+use nrt_base::{At, LineNo, NoMemory};
+use seg_merge::{MergeTask, Merged, merge};
 use std::alloc::{AllocError, Global};
 use std::sync::Wait;
 
-/// Takes the task that was posted first, by a drain line or by none. `at` is the drain line, or any line of a worker's number.
-pub fn take<R: Wait, D: FaultDir + Drop>(
+// Takes the task that was posted first, for a drain line or for none.
+fn take<R: Wait, D: FaultDir + Drop>(
     rt: &R,
     lock: &HistLock<Cluster<D>>,
     nodes: u8,
@@ -33,16 +31,16 @@ pub fn take<R: Wait, D: FaultDir + Drop>(
 ) -> Result<Option<Task>, NoMemory>
     requires seat { IsLaneSeat false lock.now at.lane.0 seat.old }
     requires by { IsTakerAt at by }
-    ensures { IfOk result (TakesOn lock.now at by seat.old seat.new) }
+    ensures { IfOk result (TakesOn lock.now at.lane.0 by seat.old seat.new) }
 {
     let mut held = enter_cluster(rt, lock, nodes, at, seat)?;
-    let taken = held.value().task_take(by);
+    let answer = held.value().task_take(by);
     leave(lock, at.lane, seat, held);
-    taken
+    answer
 }
 
 // Brings the merged segment of a task.
-fn ready<R: Wait, D: FaultDir + Drop>(
+fn bring_merged<R: Wait, D: FaultDir + Drop>(
     rt: &R,
     alloc: Global,
     lock: &HistLock<Cluster<D>>,
@@ -63,51 +61,32 @@ fn ready<R: Wait, D: FaultDir + Drop>(
     answer
 }
 
-// Asks for the next file of the copy of a task.
-fn next<R: Wait, D: FaultDir + Drop>(
+// Builds the merged segment of a task and brings it, which posts the tasks that copy it.
+fn build<R: Wait, D: FaultDir + Drop, G: Gate>(
     rt: &R,
     alloc: Global,
     lock: &HistLock<Cluster<D>>,
     nodes: u8,
+    gate: &G,
+    halt: &Halt,
     seat: &mut LaneSeat<Cluster<D>>,
     at: At,
     task: &Task,
-) -> Result<Turn<FileTask>, NoMemory>
+    work: &MergeTask,
+) -> Result<(), NoMemory>
     requires seat { IsLaneSeat false lock.now at.lane.0 seat.old }
     requires by { IsTakerAt at task.now.by }
-    requires kind { IsPreCopyIn nodes task.now.kind }
-    ensures { IfOk result (HandsOn lock.now at task.now.by seat.old seat.new) }
-{
-    let mut held = enter_cluster(rt, lock, nodes, at, seat)?;
-    let answer = held.value().precopy_next(alloc, task);
-    leave(lock, at.lane, seat, held);
-    answer
-}
-
-// Brings a part of the copy of a task.
-fn bring<R: Wait, D: FaultDir + Drop>(
-    rt: &R,
-    lock: &HistLock<Cluster<D>>,
-    nodes: u8,
-    seat: &mut LaneSeat<Cluster<D>>,
-    at: At,
-    task: &Task,
-    part: Part,
-) -> Result<Turn<()>, NoMemory>
-    requires seat { IsLaneSeat false lock.now at.lane.0 seat.old }
-    requires by { IsTakerAt at task.now.by }
-    requires kind { IsPreCopyIn nodes task.now.kind }
-    requires out { carried_out part.name (log_seen seat.old) ≡ Some part.bytes }
-    requires meta { IsMetaOf part.bytes part.meta }
+    requires work { IsMergeIn work.now task.now.seg (log_seen seat.old) }
     ensures { OnOk result (WorksOn lock.now at.lane.0 task.now.by seat.old seat.new) }
 {
-    let mut held = enter_cluster(rt, lock, nodes, at, seat)?;
-    let answer = held.value().precopy_arrived(task, part);
-    leave(lock, at.lane, seat, held);
+    gate.pass(Place::Merge(task.line));
+    let merged = merge(alloc, work)?;
+    let answer = bring_merged(rt, alloc, lock, nodes, seat, at, task, merged);
+    halt.stir();
     answer
 }
 
-// Cuts the merge of a task over, unless a publish is in flight.
+// Cuts the merge of a task over, where no publish is in flight.
 fn cut<R: Wait, D: FaultDir + Drop>(
     rt: &R,
     alloc: Global,
@@ -127,46 +106,7 @@ fn cut<R: Wait, D: FaultDir + Drop>(
     answer
 }
 
-// Copies the files of a merged segment to a node, until the task has ended.
-fn copy<R: Wait, D: FaultDir + Drop, G: Gate>(
-    rt: &R,
-    alloc: Global,
-    lock: &HistLock<Cluster<D>>,
-    nodes: u8,
-    gate: &G,
-    halt: &Halt,
-    seat: &mut LaneSeat<Cluster<D>>,
-    at: At,
-    task: &Task,
-    n: NodeNo,
-) -> Result<(), NoMemory>
-    requires seat { IsLaneSeat false lock.now at.lane.0 seat.old }
-    requires by { IsTakerAt at task.now.by }
-    requires kind { IsPreCopyIn nodes task.now.kind }
-    ensures { OnOk result (WorksOn lock.now at.lane.0 task.now.by seat.old seat.new) }
-{
-    for _ in rt.forever() {
-        match next(rt, alloc, lock, nodes, seat, at, task)? {
-            Turn::Done => return Ok(()),
-            Turn::Busy => give_way(halt)?,
-            Turn::Work(file) => {
-                let line = At {
-                    lane: at.lane,
-                    line: task.line,
-                };
-                let part = carry(alloc, gate, line, n, &file)?;
-                match bring(rt, lock, nodes, seat, at, task, part)? {
-                    Turn::Done => return Ok(()),
-                    Turn::Work(()) => {}
-                    Turn::Busy => {}
-                }
-            }
-        }
-    }
-    unreachable!()
-}
-
-// Cuts a merge over, once no publish is in flight.
+// Cuts the merge of a task over. While a publish is in flight it waits.
 fn cut_over<R: Wait, D: FaultDir + Drop>(
     rt: &R,
     alloc: Global,
@@ -191,8 +131,8 @@ fn cut_over<R: Wait, D: FaultDir + Drop>(
     unreachable!()
 }
 
-/// Does a task that was taken, to its end.
-pub fn do_task<R: Wait, D: FaultDir + Drop, G: Gate>(
+// Does a task that was taken, to its end. That its node is one is known of each cluster, but not of a value behind a lock.
+fn do_task<R: Wait, D: FaultDir + Drop, G: Gate>(
     rt: &R,
     alloc: Global,
     lock: &HistLock<Cluster<D>>,
@@ -210,16 +150,65 @@ pub fn do_task<R: Wait, D: FaultDir + Drop, G: Gate>(
 {
     match &task.kind {
         TaskKind::Merge(work) => {
-            gate.pass(Place::Merge(task.line));
-            let merged = merge(alloc, work)?;
-            ready(rt, alloc, lock, nodes, seat, at, task, merged)
+            build(rt, alloc, lock, nodes, gate, halt, seat, at, task, work)
         }
-        TaskKind::PreCopy(n, _) => {
-            if n.0 == 0 || n.0 > nodes {
+        TaskKind::PreCopy(n, job) => {
+            if !is_node(nodes, *n) {
                 return Err(AllocError);
             }
-            copy(rt, alloc, lock, nodes, gate, halt, seat, at, task, *n)
+            let copy = Sent {
+                node: *n,
+                job: *job,
+            };
+            copy_over(rt, alloc, lock, nodes, gate, halt, seat, at, task, copy)
         }
         TaskKind::Cut => cut_over(rt, alloc, lock, nodes, halt, seat, at, task),
     }
+}
+
+/// Does the task that was posted first, to its end, for a drain line or for none, and answers whether there was one. `at` is the drain
+/// line, or any line of a worker's number.
+pub fn do_first<R: Wait, D: FaultDir + Drop, G: Gate>(
+    rt: &R,
+    alloc: Global,
+    lock: &HistLock<Cluster<D>>,
+    nodes: u8,
+    gate: &G,
+    halt: &Halt,
+    seat: &mut LaneSeat<Cluster<D>>,
+    at: At,
+    by: Option<At>,
+) -> Result<bool, NoMemory>
+    requires seat { IsLaneSeat false lock.now at.lane.0 seat.old }
+    requires by { IsTakerAt at by }
+    ensures { OnOk result (WorksOn lock.now at.lane.0 by seat.old seat.new) }
+{
+    match take(rt, lock, nodes, seat, at, by)? {
+        None => Ok(false),
+        Some(task) => {
+            do_task(rt, alloc, lock, nodes, gate, halt, seat, at, &task)?;
+            Ok(true)
+        }
+    }
+}
+
+/// Does the task that was posted first, to its end, for no line, and answers whether there was one.
+pub fn do_posted<R: Wait, D: FaultDir + Drop, G: Gate>(
+    rt: &R,
+    alloc: Global,
+    lock: &HistLock<Cluster<D>>,
+    nodes: u8,
+    gate: &G,
+    halt: &Halt,
+    lane: &mut Lane<Cluster<D>>,
+) -> Result<bool, NoMemory>
+    requires { IsIdleLane false lock.now lane.old }
+    ensures number { lane.new.number ≡ lane.old.number }
+    ensures heard { OnOk result (HasHeard false lock.now lane.old lane.new) }
+{
+    let at = At {
+        lane: lane.number,
+        line: LineNo(0),
+    };
+    do_first(rt, alloc, lock, nodes, gate, halt, &mut lane.seat, at, None)
 }

@@ -1,0 +1,177 @@
+-- What merge and drain lines do for them, and what calls of tasks do for whoever took the task, from the entries that they add.
+use Rattle.std.proofs.Common.{◌≡◌, ◌≢◌, ◌≤◌, ◌==◌, ℕ, Bool, true, false, List, [], ◌∷◌, ◌++◌, Option, Some, None, is_some, refl, ap, ◌∙◌, sym, subst, inl, inr, true≢false}
+use Rattle.std.specs.Prelude.{is_none}
+use Rattle.nrt_base.specs.SegNumbers.{segments_of_generation}
+use Rattle.nrt_base.specs.declared.numbers.At.{At}
+use Rattle.nrt_base.specs.declared.numbers.LineNo.{LineNo}
+use Rattle.nrt_base.specs.declared.numbers.NodeNo.{NodeNo}
+use Rattle.nrt_base.specs.declared.numbers.SegNo.{SegNo}
+use Rattle.history_entries.specs.declared.cause.Cause.{Cause}
+use Rattle.history_entries.specs.declared.cause.Cause.TheVariants.{NoPrimary, Nothing, NamesSpent}
+use Rattle.history_entries.specs.declared.entry.Event.TheVariants.{Merging, Drained, Refused}
+use Rattle.history_entries.specs.Nodes.{primary_of}
+use Rattle.history_entries.specs.Lines.{same_at, is_answered}
+use Rattle.history_tables.proofs.RowLemmas.{same_at_self}
+use Rattle.history_book.specs.Laws.{IsFresh}
+use Rattle.history_book.specs.Log.{Log, printed, shown, kept, name_by}
+use Rattle.history_book.specs.declared.inner.Inner.TheVariants.{MergeOut, MergeEnd, JobBegun, FileOut, TaskOut, TaskEnd}
+use Rattle.history_book.specs.declared.inner.Step.TheVariants.{Merge as MergeStep, PreCopy as PreCopyStep, Cut as CutStep}
+use Rattle.script_serving.specs.declared.script.LineCommand.TheVariants.{Merge, Drain}
+use Rattle.script_serving.specs.Refusals.{when, may_be_refused}
+use Rattle.script_serving.specs.Serves.{First}
+use Rattle.cluster_tasks.specs.declared.tasks.Task.{Task}
+use Rattle.cluster_tasks.specs.declared.tasks.Sent.{Sent}
+use Rattle.cluster_tasks.specs.TaskLog.{counted_for}
+use Rattle.cluster_tasks.specs.Board.{step_of}
+use Rattle.cluster_places.specs.declared.tasks.FileTask.{FileTask}
+use Rattle.cluster_state.specs.Run.{Run, IsNow}
+use Rattle.cluster_drains.specs.MergePaths.{IsAsBefore, TakesTask, EndsBuild, begun_log}
+use Rattle.line_turns.specs.declared.turn.Turn.{Turn}
+use Rattle.line_turns.specs.declared.turn.Turn.TheVariants.{Work, Done, Busy}
+use Rattle.line_merges.specs.TaskCalls.{RefusesMerge, StartsOrRefuses, MergeLine, EndsCopyOnce, PrecopyTurns, PartTurns, CutsOnce, CutTurns, DrainTurns}
+use Rattle.lane_walks.specs.Owes.{AddsByTask, GoesByTask}
+use Rattle.lane_walks.proofs.WalkLemmas.{lane_self}
+use Rattle.cluster_core.specs.Doing.{Does, IsReplied, IsRepliedAtDone}
+use Rattle.cluster_core.specs.Tasks.{DoesTask}
+use Rattle.cluster_core.proofs.Does.{one_does, none_does, first_suits, refused_does, one_replied, replied_by}
+
+-- ---- merge lines
+
+when_some : (o : Option NodeNo) → o ≢ None → when (is_none o) NoPrimary ≡ None
+when_some None some = absurd (some refl)
+when_some (Some p) some = refl
+
+module _ (at : At) (factor : ℕ) (old new : Run) where
+  -- a line that may be refused so, where a primary runs
+  may_does : (cause : Cause) → IsFresh at (printed old.log) → primary_of (printed old.log) ≢ None → may_be_refused (Merge factor) at (printed old.log) cause ≡ true
+      → RefusesMerge at cause old new → Does (Merge factor) at old new
+  may_does cause fresh some may refused =
+      one_does (Merge factor) at old new (Refused cause) refused.is
+      (first_suits (Merge factor) at (printed old.log) (Refused cause) fresh
+      (subst (λ (r : Option Cause). First (Merge factor) at (printed old.log) r (Refused cause)) (sym (when_some (primary_of (printed old.log)) some)) may))
+
+  starts_does : (cause : Option Cause) → IsFresh at (printed old.log) → primary_of (printed old.log) ≢ None → StartsOrRefuses at factor old new cause → Does (Merge factor) at old new
+  starts_does None fresh some starts =
+      let is = starts.begins.is in
+      record {
+        running = is.running;
+        nodes = is.nodes;
+        goes = record {
+          more = kept (MergeOut at.line starts.seg starts.inputs) ∷ shown at (Merging starts.seg) ∷ [];
+          log = is.log;
+          adds = (
+            inr refl,
+            (
+              refl,
+              first_suits (Merge factor) at (printed old.log) (Merging starts.seg) fresh
+                  (subst (λ (r : Option Cause). First (Merge factor) at (printed old.log) r (Merging starts.seg)) (sym (when_some (primary_of (printed old.log)) some)) starts.few),
+              tt,
+            ),
+          );
+        };
+      }
+  starts_does (Some Nothing) fresh some starts = may_does Nothing fresh some refl starts.0
+  starts_does (Some NamesSpent) fresh some starts =
+      may_does NamesSpent fresh some (ap (λ (n : ℕ). n == segments_of_generation) starts.2 ∙ lane_self segments_of_generation) starts.0
+  starts_does (Some cause) fresh some starts = absurd starts
+
+  starts_replied : (cause : Option Cause) → StartsOrRefuses at factor old new cause → IsReplied at new
+  starts_replied None starts =
+      subst (λ (log : Log). is_answered at (printed log) ≡ true) (sym starts.begins.is.log) (replied_by true (same_at at at) (is_answered at (printed old.log)) refl (same_at_self at))
+  starts_replied (Some Nothing) starts = one_replied at old new (Refused Nothing) refl starts.0.is
+  starts_replied (Some NamesSpent) starts = one_replied at old new (Refused NamesSpent) refl starts.0.is
+  starts_replied (Some cause) starts = absurd starts
+
+  pub merge_does : IsFresh at (printed old.log) → MergeLine at factor old new → Does (Merge factor) at old new
+  merge_does fresh line = by_primary (primary_of (printed old.log)) refl
+    where
+      by_primary : (o : Option NodeNo) → primary_of (printed old.log) ≡ o → Does (Merge factor) at old new
+      by_primary None none = refused_does (Merge factor) at old new NoPrimary fresh (ap (λ (o : Option NodeNo). when (is_none o) NoPrimary) none) (line.vacant none).is
+      by_primary (Some p) some =
+          let there : primary_of (printed old.log) ≢ None = λ none. true≢false (ap is_some (sym some ∙ none)) in starts_does line.cause fresh there (line.starts there)
+
+  pub merge_replied : MergeLine at factor old new → IsReplied at new
+  merge_replied line = by_primary (primary_of (printed old.log)) refl
+    where
+      by_primary : (o : Option NodeNo) → primary_of (printed old.log) ≡ o → IsReplied at new
+      by_primary None none = one_replied at old new (Refused NoPrimary) refl (line.vacant none).is
+      by_primary (Some p) some = starts_replied line.cause (line.starts (λ none. true≢false (ap is_some (sym some ∙ none))))
+
+-- ---- drain lines
+
+pub drain_does : (at : At) (most : ℕ) (old new : Run) (turn : Turn (Unit {0})) → counted_for at old.log ≤ most → IsFresh at (printed old.log) → DrainTurns at most old new turn → Does (Drain most) at old new
+drain_does at most old new (Work w) few fresh turns = absurd turns
+drain_does at most old new Busy few fresh turns = none_does (Drain most) at old new turns.0.is
+drain_does at most old new Done few fresh turns =
+    one_does (Drain most) at old new (Drained (counted_for at old.log) most) turns.0.is (first_suits (Drain most) at (printed old.log) (Drained (counted_for at old.log) most) fresh (refl, few))
+
+pub drain_replied : (at : At) (most : ℕ) (old new : Run) (turn : Turn (Unit {0})) → DrainTurns at most old new turn → IsRepliedAtDone at new turn
+drain_replied at most old new (Work w) turns = absurd turns
+drain_replied at most old new Busy turns = tt
+drain_replied at most old new Done turns = one_replied at old new (Drained (counted_for at old.log) most) refl turns.0.is
+
+-- ---- tasks
+
+module _ (by : Option At) (old new : Run) where
+  -- these entries were added
+  task_does : (more : Log) → IsNow old new (more ++ old.log) → AddsByTask false (name_by by) more old.log → DoesTask by old new
+  task_does more now adds = record { running = now.running; nodes = now.nodes; goes = record { more = more; log = now.log; adds = adds } }
+
+  stays_does : IsAsBefore old new → DoesTask by old new
+  stays_does same = task_does [] same.is tt
+
+  pub taken_does : (task : Option Task) → TakesTask by old new task → DoesTask by old new
+  taken_does None takes = stays_does takes.0
+  taken_does (Some task) takes = task_does (kept (TaskOut task.line task.seg by (step_of task.kind)) ∷ []) takes.taken.is (inl refl, tt)
+
+  -- copies begin for nobody
+  begun_goes : (line : LineNo) (sent : List Sent) (log : Log) → GoesByTask false (name_by by) old.log log → GoesByTask false (name_by by) old.log (begun_log line sent log)
+  begun_goes line [] log goes = goes
+  begun_goes line (s ∷ sent) log goes =
+      begun_goes line sent (kept (JobBegun line s.node s.job None None) ∷ log) (record {
+        more = kept (JobBegun line s.node s.job None None) ∷ goes.more;
+        log = ap (λ (l : Log). kept (JobBegun line s.node s.job None None) ∷ l) goes.log;
+        adds = (inr refl, goes.adds);
+      })
+
+  pub built_does : (line : LineNo) (seg : SegNo) (unwritten : Bool) → EndsBuild line seg by old new unwritten → DoesTask by old new
+  built_does line seg false ends = stays_does ends
+  built_does line seg true ends =
+      let is = ends.writes.is in
+      let begun = begun_goes line ends.sent old.log (record { more = []; log = refl; adds = tt }) in
+      record {
+        running = is.running;
+        nodes = is.nodes;
+        goes = record {
+          more = kept (TaskEnd line seg by MergeStep true) ∷ begun.more;
+          log = is.log ∙ ap (λ (l : Log). kept (TaskEnd line seg by MergeStep true) ∷ l) begun.log;
+          adds = (inl refl, begun.adds);
+        };
+      }
+
+  copied_once : (line : LineNo) (seg : SegNo) (n : NodeNo) (job : ℕ) (sent : Bool) → EndsCopyOnce line seg by n job old new sent → DoesTask by old new
+  copied_once line seg n job true ends = task_does (kept (TaskEnd line seg by (PreCopyStep n job) true) ∷ []) ends.is (inl refl, tt)
+  copied_once line seg n job false ends = stays_does ends
+
+  pub copy_does : (line : LineNo) (seg : SegNo) (n : NodeNo) (job : ℕ) (turn : Turn FileTask) → PrecopyTurns line seg by n job old new turn → DoesTask by old new
+  copy_does line seg n job (Work file) turns = task_does (kept (FileOut line n job file.name file.source None) ∷ []) turns.1.hands.is (inr refl, tt)
+  copy_does line seg n job Busy turns = stays_does turns.2
+  copy_does line seg n job Done turns = copied_once line seg n job _ turns
+
+  pub part_does : (seg : SegNo) (n : NodeNo) (job : ℕ) (turn : Turn (Unit {0})) → PartTurns seg n job old new turn → DoesTask by old new
+  part_does seg n job (Work w) turns = stays_does turns.0
+  part_does seg n job Done turns = stays_does turns.0
+  part_does seg n job Busy turns = absurd turns
+
+  cut_once : (line : LineNo) (seg : SegNo) (copied : Bool) → CutsOnce line seg by old new copied → DoesTask by old new
+  cut_once line seg true cuts = task_does (kept (TaskEnd line seg by CutStep true) ∷ kept (MergeEnd seg) ∷ []) cuts.cuts.is (inl refl, (inr refl, tt))
+  cut_once line seg false cuts = stays_does cuts
+
+  pub cut_does : (line : LineNo) (seg : SegNo) (turn : Turn (Unit {0})) → CutTurns line seg by old new turn → DoesTask by old new
+  cut_does line seg (Work w) turns = absurd turns
+  cut_does line seg Busy turns = stays_does turns.0
+  cut_does line seg Done turns = cut_once line seg _ turns
+
+-- in the terms of a call, whose cluster has this state
+pub task_was : (by : Option At) (s r new : Run) → s ≡ r → DoesTask by s new → DoesTask by r new
+task_was by s r new is does = subst (λ (x : Run). DoesTask by x new) is does

@@ -1,0 +1,5 @@
+mod Silence
+mod Claims
+mod Works
+mod Drains
+mod Hearing
