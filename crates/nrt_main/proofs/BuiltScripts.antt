@@ -1,43 +1,24 @@
 -- A script of which the program runs every statement is built: it has no log, and its lines are such as are run.
-use Rattle.std.proofs.Common.{◌≡◌, ◌<◌, ◌≤◌, ◌^◌, ◌==◌, ◌&&◌, ◌||◌, ◌++◌, ℕ, zero, suc, ◌+◌, Bool, true, false, List, [], ◌∷◌, length, map, filter, Some, None, Option, refl, ap, ◌∙◌, sym, subst, arith, inl, inr, if◌then◌else◌}
-use Rattle.std.specs.Prelude.{codes, bytes_eq, IsTrue}
+use Rattle.std.proofs.Common.{◌≡◌, ◌==◌, ◌&&◌, ◌++◌, ℕ, zero, suc, ◌+◌, Bool, true, false, List, [], ◌∷◌, map, Some, None, refl, ap, ◌∙◌, sym, inl, inr, if◌then◌else◌}
 use Rattle.std.specs.List.{list_all, flat_map}
-use Rattle.std.specs.Fmt.{decimal}
 use Rattle.std.proofs.lemmas.Bool.{false≢true, cases_Bool, and_from, and_parts}
 use Rattle.std.proofs.lemmas.List.Folds.{list_all-append}
 use Rattle.nrt_base.specs.declared.numbers.LaneNo.{LaneNo}
 use Rattle.script_serving.specs.declared.script.Line.{Line}
 use Rattle.script_serving.specs.declared.script.LineCommand.{LineCommand}
-use Rattle.script_serving.specs.declared.script.LineCommand.TheVariants.{Merge, Drain, Fault}
+use Rattle.script_serving.specs.declared.script.LineCommand.TheVariants.{Fault}
 use Rattle.script_serving.specs.declared.script.Phase.{Phase}
 use Rattle.script_serving.specs.declared.script.Script.{Script}
 use Rattle.script_serving.specs.Lines.{lines_of, lines_of_phase}
-use Rattle.script_text.specs.Grammar.{Statement, statements_of, words_in, word_at, command_words, Ends, SpellsPhases, SpellsLogged, SpellsBody, SpellsStatements, of_lane, lane_entry, lanes_from, phase_of}
-use Rattle.script_text.specs.Refused.{is_digit}
-use Rattle.script_text.proofs.NumberLaws.{digits_of-decimal, other_word}
-use Rattle.script_text.proofs.RightLines.{between_high}
+use Rattle.script_text.specs.Grammar.{Statement, statements_of, words_in, Ends, SpellsPhases, SpellsLogged, SpellsBody, SpellsStatements, of_lane, lane_entry, lanes_from, phase_of}
 use Rattle.cluster_run.specs.Built.{is_run, IsPlainScript}
-use Rattle.nrt_main.specs.Built.{is_built_command, is_built, first_unbuilt}
+use Rattle.nrt_main.specs.Built.{is_built, first_unbuilt}
 use Rattle.nrt_main.specs.Headline.{IsRunnable}
 
--- a line is run by its command
-by_command : (lane : List ℕ) (words : List (List ℕ)) → list_all is_digit lane ≡ true → is_built (lane ∷ words) ≡ is_built_command (word_at 0 words)
-by_command lane words digits =
-    let workers : bytes_eq (codes "workers") lane ≡ false = other_word 119 (codes "orkers") lane refl digits in
-    let nodes : bytes_eq (codes "nodes") lane ≡ false = other_word 110 (codes "odes") lane refl digits in
-    let join : bytes_eq (codes "join") lane ≡ false = other_word 106 (codes "oin") lane refl digits in
-    rw (nodes, workers, join) refl
-
-module _ (line : List ℕ) (lane : ℕ) (narrow : lane < 2 ^ 64) (built : is_built (words_in line) ≡ true) where
-  -- the command of a line that is run is one that is
-  not_command : (words : List (List ℕ)) → words_in line ≡ decimal lane ∷ words → is_built_command (word_at 0 words) ≡ true
-  not_command words e = sym (by_command (decimal lane) words (digits_of-decimal lane narrow)) ∙ (ap is_built (sym e) ∙ built)
-
-  built_command : (c : LineCommand) → Ends c line lane → is_run c ≡ true
-  built_command (Merge factor) ends = absurd (false≢true (not_command (command_words (Merge factor)) ends))
-  built_command (Drain most) ends = absurd (false≢true (not_command (command_words (Drain most)) ends))
-  built_command (Fault n plan) ends = absurd (false≢true (not_command (command_words (Fault n plan)) ends))
-  built_command c ends = refl
+-- the command of a line that is run is one that is
+built_command : (line : List ℕ) (lane : ℕ) (c : LineCommand) → is_built (words_in line) ≡ true → Ends c line lane → is_run c ≡ true
+built_command line lane (Fault n plan) built ends = absurd (false≢true (sym (ap is_built ends) ∙ built))
+built_command line lane c built ends = refl
 
 -- the program runs the first statement, and those behind it
 record AreBuilt (statement : Statement) (statements : List Statement) : Type 0 where
@@ -67,8 +48,7 @@ built_phases size (statement ∷ statements) [] spells built = absurd spells
 built_phases size (statement ∷ statements) ([] ∷ phases) spells built = built_phases size statements phases spells.1 (built_parts statement statements built).others
 built_phases size (statement ∷ statements) ((line ∷ phase) ∷ phases) spells built =
     let parts = built_parts statement statements built in
-    let lane : line.at.lane.0 < 2 ^ 64 = omega (arith, between_high 1 8 line.at.lane.0 spells.0.lane) in
-    let here = built_command statement.line line.at.lane.0 lane parts.first line.command spells.0.words in
+    let here = built_command statement.line line.at.lane.0 line.command parts.first spells.0.words in
     let rest = and_parts (all_run phase) (phases_run phases) (built_phases size statements (phase ∷ phases) spells.1 parts.others) in
     and_from (is_run line.command && all_run phase) (phases_run phases) (and_from (is_run line.command) (all_run phase) here rest.0) rest.1
 

@@ -2,7 +2,7 @@
 
 ghost use Rattle.std.specs.Prelude.{◌≡◌, ◌≢◌, ◌≤◌, ◌<◌, ◌↔◌, ℕ, None, codes, IsTrue, IsSomeAnd, IfOk, MatchOption};
 ghost use Rattle.nrt_base.specs.Causes.{Rose};
-ghost use Rattle.nrt_main.specs.Load.{IsLoadOf, IsLoad, IsSummary, LeavesSummary, LeavesSummaryInPart, IsUnrun, IsLoadAnswer};
+ghost use Rattle.nrt_main.specs.Load.{IsLoadOf, IsLoad, IsSummary, LeavesSummary, LeavesSummaryInPart, IsLoadAnswer};
 
 use crate::status::Status;
 use crate::writing::write_all;
@@ -11,18 +11,12 @@ use cluster_run::run_script;
 use disk_memory::MemDir;
 use lane_sections::Gate;
 use load_script::{generated, summary};
-use nrt_base::{LineNo, NoMemory};
+use nrt_base::NoMemory;
 use nrt_streams::{Arg, Sink};
-use script_text::{LineFault, number_u32};
+use script_text::number_u32;
 use std::alloc::Global;
 use std::sync::Wait;
 use std::thread::Threads;
-
-/// The first document whose turn merges, which the program does not run yet.
-const FIRST_MERGE: u32 = 200;
-
-/// The line of that merge.
-const MERGE_LINE: u32 = 229;
 
 fn is_load(word: &[u8]) -> bool
     ensures { IsTrue result ↔ (word.now ≡ codes "load") }
@@ -55,7 +49,7 @@ fn run_load<R: Threads + Wait + Sync, G: Gate + Sync>(
     n: u32,
 ) -> Result<(Cluster<MemDir>, Vec<u8>), NoMemory>
     requires some { 1 ≤ n }
-    requires few { n < 200 }
+    requires most { n ≤ 10000 }
     ensures { IfOk result (λ run. IsSummary n run.0 run.1.items) }
 {
     let script = generated(alloc, n)?;
@@ -80,9 +74,7 @@ fn load_documents<R: Threads + Wait + Sync, K: Sink, G: Gate + Sync>(
         (LeavesSummary n (K.held sink.old) (K.held sink.new)) }
     ensures part { result ≡ Status.WriteFault → IsSomeAnd left.new
         (LeavesSummaryInPart n (K.held sink.old) (K.held sink.new)) }
-    ensures bad { (line : LineNo) (cause : LineFault) → result ≡ Status.BadScript line cause
-        → IsUnrun n line.0 cause }
-    ensures answers { result ≢ Status.Memory → IsLoadAnswer n result }
+    ensures answers { result ≢ Status.Memory → IsLoadAnswer result }
     ensures write { result ≡ Status.WriteFault → Rose (K.fault_count sink.old)
         (K.fault_count sink.new) }
     ensures kept { result ≢ Status.Done → result ≢ Status.WriteFault → sink.new ≡ sink.old }
@@ -91,9 +83,6 @@ fn load_documents<R: Threads + Wait + Sync, K: Sink, G: Gate + Sync>(
         (result ≢ Status.TooLarge) × (result ≢ Status.BadIndex) × (result ≢ Status.BadImage) ×
         ((k : ℕ) → result ≢ Status.BadStream k) }
 {
-    if n >= FIRST_MERGE {
-        return Status::BadScript(LineNo(MERGE_LINE), LineFault::NotBuilt);
-    }
     let Ok((cluster, text)) = run_load(rt, alloc, gate, n) else {
         return Status::Memory;
     };
@@ -120,10 +109,7 @@ pub fn load<R: Threads + Wait + Sync, K: Sink, G: Gate + Sync>(
         → IsSomeAnd left.new (LeavesSummary k (K.held sink.old) (K.held sink.new)) }
     ensures part { (k : ℕ) → IsLoadOf words.now k → result ≡ Status.WriteFault
         → IsSomeAnd left.new (LeavesSummaryInPart k (K.held sink.old) (K.held sink.new)) }
-    ensures bad { (k : ℕ) (line : LineNo) (cause : LineFault) → IsLoadOf words.now k
-        → result ≡ Status.BadScript line cause → IsUnrun k line.0 cause }
-    ensures answers { (k : ℕ) → IsLoadOf words.now k → result ≢ Status.Memory
-        → IsLoadAnswer k result }
+    ensures answers { result ≢ Status.Memory → IsLoadAnswer result }
     ensures write { result ≡ Status.WriteFault → Rose (K.fault_count sink.old)
         (K.fault_count sink.new) }
     ensures kept { result ≢ Status.Done → result ≢ Status.WriteFault → sink.new ≡ sink.old }

@@ -145,15 +145,17 @@ fn check(rt: HostRuntime) -> Result<(), Fail> {
 
 const SUMMARY: &[u8] = b"load 100\ndocuments 90\na0 13\na0 AND b0 1\n\"a1 b1\" 2\n";
 
+// The lanes of a load of 400 documents merge twice.
+const SUMMARY_MERGED: &[u8] = b"load 400\ndocuments 360\na0 52\na0 AND b0 5\n\"a1 b1\" 5\n";
+
 #[test]
 fn loads(rt: HostRuntime) -> Result<(), Fail> {
-    let unbuilt = Status::BadScript(LineNo(229), LineFault::NotBuilt);
     let rows: &[(&[u8], Status, &[u8])] = &[
         (b"100", Status::Done, SUMMARY),
         (b"0", Status::Usage, b""),
         (b"007", Status::Usage, b""),
         (b"10001", Status::Usage, b""),
-        (b"200", unbuilt, b""),
+        (b"400", Status::Done, SUMMARY_MERGED),
     ];
     for (number, wanted, summary) in rows {
         let (status, text) = run(&rt, rt.alloc(), &[b"load", number], b"", &[], &[])?;
@@ -231,10 +233,8 @@ fn refused_lines(rt: HostRuntime) -> Result<(), Fail> {
 fn lines_not_built(rt: HostRuntime) -> Result<(), Fail> {
     let rows: &[(&[u8], u32)] = &[
         (b"nodes 2\nlog", 2),
-        (b"nodes 2\n1 crash 1 0\n1 promote 2 auto\n1 merge 2", 4),
+        (b"nodes 2\n1 merge 2\n1 drain 9\n1 fault link 2 1", 4),
         (b"nodes 3\n8 commit 3\njoin\n2 fault stop 1 1", 4),
-        (b"nodes 2\n1 merge 2", 2),
-        (b"nodes 2\n# x\n2 drain 1", 3),
     ];
     for (script, line) in rows {
         let (status, text) = run(&rt, rt.alloc(), &[b"run"], script, &[], &[])?;
@@ -335,6 +335,148 @@ fn promotions(rt: HostRuntime) -> Result<(), Fail> {
     Ok(())
 }
 
+// A ticket holds a version whose segments are merged since.
+const HELD: &[u8] =
+    b"nodes 2\n1 put a red fox\n1 publish\n1 copy 2\n1 open 2 7\n1 put b red hen\n1 publish\n1 merge 2\n1 drain 9\n1 publish\n1 copy 2\n1 ask 7 red\n1 files 2\n1 close 7\n1 files 2\n";
+
+// A deletion between a merge's start and its cut-over.
+const DELETED: &[u8] =
+    b"nodes 2\n1 put a cat\n1 publish\n1 put b cat\n1 publish\n1 merge 2\n1 delete a\n1 publish\n1 drain 9\n1 publish\n1 search 1 cat\n1 files 1\n";
+
+// A merged segment that no point takes.
+const UNTAKEN: &[u8] =
+    b"nodes 2\n1 put a cat\n1 publish\n1 put b cat\n1 publish\n1 merge 2\n1 drain 2\n1 files 2\n1 delete a\n1 delete b\n1 publish\n1 drain 1\n1 publish\n1 copy 2\n1 files 2\n";
+
+// The end of a phase does the tasks that are left.
+const JOINED: &[u8] =
+    b"nodes 2\n1 put a x\n1 publish\n1 put b x\n1 publish\n1 merge 2\njoin\n1 drain 1\n1 files 1\n";
+
+// Each refusal that changes nothing, a merge of nothing among them.
+const UNCHANGED: &[u8] =
+    b"nodes 3\n1 open 2 1\n1 open 3 1\n1 close 1\n1 ask 1 x\n1 copy 1\n1 promote 2 auto\n1 reopen 2\n1 merge 2\n1 publish\n1 crash 1 0\n1 put a x\n1 crash 1 0\n1 settle\n1 promote 2 0\n1 copy 2\n";
+
+// A replica is opened again, and the copy of another merge has the number of one that went with the crash.
+const NUMBERED_AGAIN: &[u8] =
+    b"nodes 2\n1 put a x\n1 publish\n1 put b x\n1 publish\n1 put c x\n1 publish\n1 put d x\n1 publish\n1 merge 2\n1 merge 2\n1 drain 1\n1 crash 2 0\n1 reopen 2\n1 drain 1\n1 drain 1\n1 files 2\n1 drain 1\n1 files 2\n1 drain 9\n1 publish\n1 copy 2\n1 files 2\n";
+
+#[test]
+fn merges(rt: HostRuntime) -> Result<(), Fail> {
+    let rows: &[(&[u8], &[u8])] = &[
+        (
+            HELD,
+            b"\n8 merging _10002\n9 drained 3\n10 publishing\n10 published 1 4\n11 copying 2 4\n11 switched 2 4\n11 copied 2 4\n12 asking 2 7 2\n12 answer 2 7 2 1 1:a\n13 files 2 _10000.docs _10000.post _10000.si _10002.docs _10002.post _10002.si\n14 closed 2 7\n15 files 2 _10002.docs _10002.post _10002.si\n",
+        ),
+        (
+            DELETED,
+            b"\n6 merging _10002\n7 accepted 3\n8 publishing\n8 published 1 4\n9 drained 3\n10 publishing\n10 published 1 5\n11 opened 1 0 5\n11 answer 1 0 5 1 1:b\n12 files 1 _10002.docs _10002.post _10002.si _10002_1.liv\n",
+        ),
+        (
+            UNTAKEN,
+            b"\n7 drained 2\n8 files 2 _10002.docs _10002.post _10002.si\n9 accepted 3\n10 accepted 4\n11 publishing\n11 published 1 4\n12 drained 1\n13 publishing\n13 published 1 5\n14 copying 2 5\n14 switched 2 5\n14 copied 2 5\n15 files 2\n",
+        ),
+        (
+            JOINED,
+            b"\n8 drained 0\n9 files 1 _10000.docs _10000.post _10000.si _10001.docs _10001.post _10001.si _10002.docs _10002.post _10002.si\n",
+        ),
+        (
+            UNCHANGED,
+            b"2 opened 2 1 1\n3 refused name-used\n4 closed 2 1\n5 refused no-ticket\n6 refused primary\n7 refused primary-up\n8 refused up\n9 refused none\n10 refused none\n11 crashed 1\n12 refused no-primary\n13 refused down\n14 refused no-primary\n15 refused force-low 1\n16 refused no-primary\n",
+        ),
+        (
+            NUMBERED_AGAIN,
+            b"\n15 drained 1\n16 drained 1\n17 files 2\n18 drained 1\n19 files 2 _10005.docs _10005.post _10005.si\n20 drained 2\n21 publishing\n21 published 1 6\n22 copying 2 6\n22 switched 2 6\n22 copied 2 6\n23 files 2 _10004.docs _10004.post _10004.si _10005.docs _10005.post _10005.si\n",
+        ),
+    ];
+    for (script, wanted) in rows {
+        let (status, text) = run(&rt, rt.alloc(), &[b"run"], script, &[], &[])?;
+        assert_eq!(rt; status, Status::Done);
+        assert!(rt; text.ends_with(wanted));
+    }
+    Ok(())
+}
+
+// The primary of a merge crashes, and a replica keeps what it was given of it until the next generation merges.
+const FALLEN: &[u8] =
+    b"nodes 3\n1 put a x\n1 publish\n1 put b x\n1 publish\n1 settle\n1 merge 2\n1 drain 2\n1 files 2\n1 crash 1 0\n1 drain 9\n1 merge 2\n1 promote 3 auto\n1 files 2\n1 merge 2\n1 drain 1\n1 files 2\n1 drain 1\n1 files 2\n1 delete b\n1 publish\n1 drain 9\n1 publish\n1 search 3 x\n1 files 3\n1 copy 2\n1 files 2\n";
+
+// The node that is promoted was given files of the old primary's merge; a replica that comes back is no part of a merge that was begun.
+const PROMOTED: &[u8] =
+    b"nodes 3\n1 put a x\n1 publish\n1 put b x\n1 publish\n1 copy 2\n1 merge 2\n1 drain 2\n1 files 2\n1 crash 1 0\n1 promote 2 auto\n1 files 2\n1 merge 2\n1 drain 9\n1 publish\n1 crash 3 0\n1 put c x\n1 put d x\n1 publish\n1 put e x\n1 publish\n1 merge 2\n1 merge 2\n1 drain 1\n1 reopen 3\n1 drain 1\n1 publish\n1 settle\n1 files 3\n";
+
+#[test]
+fn merges_of_fallen_primaries(rt: HostRuntime) -> Result<(), Fail> {
+    let rows: &[(&[u8], &[u8])] = &[
+        (
+            FALLEN,
+            b"\n7 merging _10002\n8 drained 2\n9 files 2 _10000.docs _10000.post _10000.si _10001.docs _10001.post _10001.si _10002.docs _10002.post _10002.si\n10 crashed 1\n11 drained 0\n12 refused no-primary\n13 promoted 3 2 3 4\n14 files 2 _10000.docs _10000.post _10000.si _10001.docs _10001.post _10001.si _10002.docs _10002.post _10002.si\n15 merging _20000\n16 drained 1\n17 files 2 _10000.docs _10000.post _10000.si _10001.docs _10001.post _10001.si\n18 drained 1\n19 files 2 _10000.docs _10000.post _10000.si _10001.docs _10001.post _10001.si _20000.docs _20000.post _20000.si\n20 accepted 3\n21 publishing\n21 published 2 5\n22 drained 1\n23 publishing\n23 published 2 6\n24 opened 3 0 6\n24 answer 3 0 6 1 1:a\n25 files 3 _20000.docs _20000.post _20000.si _20000_1.liv\n26 copying 2 6\n26 switched 2 6\n26 copied 2 6\n27 files 2 _20000.docs _20000.post _20000.si _20000_1.liv\n",
+        ),
+        (
+            PROMOTED,
+            b"\n8 drained 2\n9 files 2 _10000.docs _10000.post _10000.si _10001.docs _10001.post _10001.si _10002.docs _10002.post _10002.si\n10 crashed 1\n11 promoted 2 2 3 4\n12 files 2 _10000.docs _10000.post _10000.si _10001.docs _10001.post _10001.si\n13 merging _20000\n14 drained 3\n15 publishing\n15 published 2 5\n16 crashed 3\n17 accepted 3\n18 accepted 4\n19 publishing\n19 published 2 6\n20 accepted 5\n21 publishing\n21 published 2 7\n22 merging _20003\n23 refused none\n24 drained 1\n25 reopened 3 1\n26 drained 1\n27 publishing\n27 published 2 8\n28 settling 8\n28 switched 3 8\n28 settled 8\n29 files 3 _20002.docs _20002.post _20002.si _20003.docs _20003.post _20003.si\n",
+        ),
+    ];
+    for (script, wanted) in rows {
+        let (status, text) = run(&rt, rt.alloc(), &[b"run"], script, &[], &[])?;
+        assert_eq!(rt; status, Status::Done);
+        assert!(rt; text.ends_with(wanted));
+    }
+    Ok(())
+}
+
+/// A script whose eight lanes put, search, copy, publish and merge at the same time, 2,000 lines in all.
+fn eight_lanes(alloc: Global) -> Result<Vec<u8>, Fail> {
+    let mut script = b"nodes 3\nworkers 4\n".to_vec(alloc)?;
+    for turn in 1..=250u32 {
+        for lane in 1..=8u32 {
+            let line = match turn % 10 {
+                1 | 6 => format!(in alloc; "{lane} put {lane}-{turn} wide w1\n")?,
+                2 | 7 => format!(in alloc; "{lane} search 1 w1\n")?,
+                3 | 8 => format!(in alloc; "{lane} copy 2\n")?,
+                4 | 9 => format!(in alloc; "{lane} put {lane}-x w2\n")?,
+                5 => format!(in alloc; "{lane} publish\n")?,
+                _ => format!(in alloc; "{lane} merge 4\n")?,
+            };
+            script.extend_from_slice(line.as_bytes())?;
+        }
+    }
+    Ok(script)
+}
+
+/// Whether a line of a report is the reply to a line of that script: no start of one, and no switch.
+fn is_reply(line: &[u8]) -> bool {
+    match line.split(|byte| *byte == b' ').nth(1) {
+        Some(word) => {
+            word != b"publishing".as_slice()
+                && word != b"copying".as_slice()
+                && word != b"switched".as_slice()
+                && word != b"opened".as_slice()
+        }
+        None => false,
+    }
+}
+
+#[test]
+fn eight_lanes_and_four_workers(rt: HostRuntime) -> Result<(), Fail> {
+    let alloc = rt.alloc();
+    let words = words(alloc, &[b"run"])?;
+    let mut source = MemSource::new(eight_lanes(alloc)?, 4096, Vec::new(alloc));
+    let mut sink = MemSink::new(alloc, 1_048_576, 4096, Vec::new(alloc))?;
+    let mut kept = None;
+    let status = run_nrt(
+        &rt,
+        alloc,
+        words.as_slice(),
+        &mut source,
+        &mut sink,
+        &OpenGate,
+        &mut kept,
+    );
+    assert_eq!(rt; status, Status::Done);
+    let lines = sink.bytes().split(|byte| *byte == b'\n');
+    assert_eq!(rt; lines.filter(|line| is_reply(line)).count(), 2000);
+    Ok(())
+}
+
 /// The answer to so many line feeds.
 fn line_feeds<R: Threads + Wait + Sync>(
     rt: &R,
@@ -391,33 +533,37 @@ fn each_prefix(rt: HostRuntime) -> Result<(), Fail> {
     Ok(())
 }
 
-/// Holds the copy of a file until a search is about to be evaluated.
+/// A place that one lane comes to, and at which another waits for it.
 #[derive(Drop)]
-struct HoldsCopies {
-    searched: AtomicU64,
+struct Meeting {
+    come: AtomicU64,
     late: AtomicU64,
 }
 
-impl HoldsCopies {
+impl Meeting {
     fn new() -> Self {
-        HoldsCopies {
-            searched: AtomicU64::new(0),
+        Meeting {
+            come: AtomicU64::new(0),
             late: AtomicU64::new(0),
         }
     }
 
-    // Looks a hundred times whether the search has come.
+    fn arrive(&self) {
+        self.come.store(1, Ordering::SeqCst);
+    }
+
+    // Looks a hundred times whether the other has come.
     fn has_come(&self) -> bool {
         for _ in 0..100 {
-            if self.searched.load(Ordering::SeqCst) == 1 {
+            if self.come.load(Ordering::SeqCst) == 1 {
                 return true;
             }
         }
         false
     }
 
-    // Waits for the search, 10,000,000 turns at most.
-    fn wait_for_search(&self) {
+    // Waits for the other, 10,000,000 turns at most.
+    fn wait(&self) {
         for _ in 0..10_000_000 {
             if self.has_come() {
                 return;
@@ -427,22 +573,48 @@ impl HoldsCopies {
     }
 
     fn was_in_time(&self) -> bool {
-        self.searched.load(Ordering::SeqCst) == 1 && self.late.load(Ordering::SeqCst) == 0
+        self.come.load(Ordering::SeqCst) == 1 && self.late.load(Ordering::SeqCst) == 0
     }
+}
+
+/// Holds the copy of a file until a search is about to be evaluated.
+#[derive(Drop)]
+struct HoldsCopies {
+    meeting: Meeting,
 }
 
 impl Gate for HoldsCopies {
     fn pass(&self, place: Place) {
         match place {
-            Place::Evaluate(..) => self.searched.store(1, Ordering::SeqCst),
-            Place::Chunk(..) => self.wait_for_search(),
+            Place::Evaluate(..) => self.meeting.arrive(),
+            Place::Chunk(..) => self.meeting.wait(),
             Place::Build(_) | Place::Merge(_) => {}
+        }
+    }
+}
+
+/// Holds the evaluation of a search until a merge is about to be made.
+#[derive(Drop)]
+struct HoldsSearches {
+    meeting: Meeting,
+}
+
+impl Gate for HoldsSearches {
+    fn pass(&self, place: Place) {
+        match place {
+            Place::Merge(_) => self.meeting.arrive(),
+            Place::Evaluate(..) => self.meeting.wait(),
+            Place::Build(_) | Place::Chunk(..) => {}
         }
     }
 }
 
 // A copy in one lane, a search in another.
 const BESIDE: &[u8] = b"nodes 2\n1 put a x\n1 publish\njoin\n1 copy 2\n2 search 2 x\n";
+
+// A merge that a worker does, while its lane goes on.
+const MERGED_BESIDE: &[u8] =
+    b"nodes 2\nworkers 1\n1 put a x\n1 publish\n1 put b x\n1 publish\n1 merge 2\n1 search 1 x\n";
 
 // A run of the script past the gate, without the program round it.
 fn run_alone<R: Threads + Wait + Sync, G: Gate + Sync>(
@@ -464,11 +636,31 @@ fn run_alone<R: Threads + Wait + Sync, G: Gate + Sync>(
 #[test]
 fn search_beside_copy(rt: HostRuntime) -> Result<(), Fail> {
     let alloc = rt.alloc();
-    let gate = HoldsCopies::new();
+    let gate = HoldsCopies {
+        meeting: Meeting::new(),
+    };
     let (status, _) = run_gated(&rt, alloc, &gate, &[b"run"], BESIDE, &[], &[])?;
-    assert!(rt; status == Status::Done && gate.was_in_time());
-    let gate = HoldsCopies::new();
+    assert!(rt; status == Status::Done && gate.meeting.was_in_time());
+    let gate = HoldsCopies {
+        meeting: Meeting::new(),
+    };
     run_alone(&rt, alloc, &gate, BESIDE)?;
-    assert!(rt; gate.was_in_time());
+    assert!(rt; gate.meeting.was_in_time());
+    Ok(())
+}
+
+#[test]
+fn merge_beside_lane(rt: HostRuntime) -> Result<(), Fail> {
+    let alloc = rt.alloc();
+    let gate = HoldsSearches {
+        meeting: Meeting::new(),
+    };
+    let (status, _) = run_gated(&rt, alloc, &gate, &[b"run"], MERGED_BESIDE, &[], &[])?;
+    assert!(rt; status == Status::Done && gate.meeting.was_in_time());
+    let gate = HoldsSearches {
+        meeting: Meeting::new(),
+    };
+    run_alone(&rt, alloc, &gate, MERGED_BESIDE)?;
+    assert!(rt; gate.meeting.was_in_time());
     Ok(())
 }

@@ -6,7 +6,7 @@ ghost use Rattle.nrt_main.specs.Headline.{Ran, Answers, RanInPart, AnswersInPart
 ghost use Rattle.frames_run.specs.Runs.{GaveBadStream, GaveMore};
 ghost use Rattle.nrt_main.specs.Frames.{IsFrames, RanFrames, RanFramesInPart, IsFramesAnswer};
 ghost use Rattle.nrt_main.specs.Check.{IsCheck, RanCheck, FoundWrong, RanCheckInPart, GaveNoImage, AnswersCheck};
-ghost use Rattle.nrt_main.specs.Load.{IsLoad, IsLoadOf, LeavesSummary, LeavesSummaryInPart, IsUnrun, IsLoadAnswer};
+ghost use Rattle.nrt_main.specs.Load.{IsLoad, IsLoadOf, LeavesSummary, LeavesSummaryInPart, IsLoadAnswer};
 ghost use Rattle.nrt_main.specs.Rows.{IsKnownRow};
 ghost use Rattle.nrt_main.specs.TopCalls.{IsRefusal, IsReport, LeavesText, LeavesFront};
 
@@ -226,7 +226,7 @@ fn frames_source<S: Source, K: Sink>(alloc: Global, source: &mut S, sink: &mut K
 ///
 /// `load N`: it runs the generated script of N documents, N from 1 to 10,000, and writes its summary to the sink; it reads nothing. Where
 /// it is done, the totals that the sink gained are those of the scan over the documents that the script leaves, whatever the lanes'
-/// threads did in between, and `kept` has the cluster that ran it. `BadScript` names the first line that the program does not run yet.
+/// threads did in between, and `kept` has the cluster that ran it. But for want of memory a load is done, or the sink failed.
 ///
 /// On every answer but `Done`, `WriteFault` and `BadIndex` the sink is as before.
 #[tactic(auto, using(crate::proofs::Loads::one_word, crate::proofs::Loads::no_word, crate::proofs::Loads::takes_none))]
@@ -297,10 +297,7 @@ pub fn run_nrt<R: Threads + Wait + Sync, S: Source, K: Sink, G: Gate + Sync>(
         → IsSomeAnd kept.new (LeavesSummary n (K.held sink.old) (K.held sink.new)) }
     ensures load_part { (n : ℕ) → IsLoadOf words.now n → result ≡ Status.WriteFault
         → IsSomeAnd kept.new (LeavesSummaryInPart n (K.held sink.old) (K.held sink.new)) }
-    ensures load_bad { (n : ℕ) (line : LineNo) (cause : LineFault) → IsLoadOf words.now n
-        → result ≡ Status.BadScript line cause → IsUnrun n line.0 cause }
-    ensures load_answers { (n : ℕ) → IsLoadOf words.now n → result ≢ Status.Memory
-        → IsLoadAnswer n result }
+    ensures load_answers { IsLoad words.now → result ≢ Status.Memory → IsLoadAnswer result }
     ensures load_unread { IsLoad words.now → source.new ≡ source.old }
 
     // All four.

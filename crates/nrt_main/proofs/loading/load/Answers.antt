@@ -1,4 +1,4 @@
-use Rattle.nrt_main.proofs.Loads.{one_load, same_summary, same_front, same_unrun, same_answer}
+use Rattle.nrt_main.proofs.Loads.{one_load, same_summary, same_front}
 use Rattle.nrt_main.proofs.loading.load.Goals as goal
 
 pub returns-clause-done : goal.returns-clause-done
@@ -6,9 +6,3 @@ returns-clause-done g c k asked is = same_summary c.args.n k _ _ _ (one_load c.a
 
 pub returns-clause-part : goal.returns-clause-part
 returns-clause-part g c k asked is = same_front c.args.n k _ _ _ (one_load c.args.words.now c.args.n k c.requires.asked asked) (c.load_documents.ensures.part is)
-
-pub returns-clause-bad : goal.returns-clause-bad
-returns-clause-bad g c k line cause asked is = same_unrun c.args.n k line cause (one_load c.args.words.now c.args.n k c.requires.asked asked) (c.load_documents.ensures.bad line cause is)
-
-pub returns-clause-answers : goal.returns-clause-answers
-returns-clause-answers g c k asked known = same_answer c.args.n k c.load_documents.result (one_load c.args.words.now c.args.n k c.requires.asked asked) (c.load_documents.ensures.answers known)

@@ -1,12 +1,10 @@
-use Rattle.std.proofs.Common.{arith}
 use Rattle.nrt_main.proofs.Loads.{plain_of, summary_is}
 use Rattle.nrt_main.proofs.loading.run_load.Goals as goal
 
 pub run_script-requires-clause-built : goal.run_script-requires-clause-built
-run_script-requires-clause-built g c κs within = plain_of c.args.n c.in_ok-script.script c.requires.few c.in_ok-script.ensures.script
+run_script-requires-clause-built g c κs within = plain_of c.args.n c.in_ok-script.script c.in_ok-script.ensures.script
 
 pub returns : goal.returns
 returns g c =
-    let few = c.requires.few in
-    summary_is c.args.n c.in_ok-script.script c.in_ok-cluster.cluster c.entries.result.now c.in_ok-text.text.items (omega (arith, few)) c.in_ok-script.ensures.script
+    summary_is c.args.n c.in_ok-script.script c.in_ok-cluster.cluster c.entries.result.now c.in_ok-text.text.items c.requires.most c.in_ok-script.ensures.script
     c.in_ok-cluster.ensures.running c.in_ok-cluster.ensures.legal c.in_ok-cluster.ensures.serves c.entries.ensures c.in_ok-text.ensures
