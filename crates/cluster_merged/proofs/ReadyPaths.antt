@@ -76,10 +76,10 @@ use Rattle.cluster_merged.proofs.WrittenStand.{stand_written}
 -- ---- a call that found no memory
 
 -- before an entry was kept the history is as it was
-pub ended_before : {T E : Type 0} (result : Result T E) (r : Run) (b b1 : Sheet) {was : Bool} {rest left : Rest} → record { ended = was; nodes = b.nodes; log = b.log; rest = rest } ≡ r → b1.log ≡ b.log → b1.nodes ≡ b.nodes
+pub ended_before : {T E : Type 0} (result : Result T E) (r : Run) (b b1 : Sheet) (left : Rest) {was : Bool} {rest : Rest} → record { ended = was; nodes = b.nodes; log = b.log; rest = rest } ≡ r → b1.log ≡ b.log → b1.nodes ≡ b.nodes
     → OnErr result (IsEnded r (record { ended = true; nodes = b1.nodes; log = b1.log; rest = left }))
-ended_before (Ok x) r b b1 view log nodes = tt
-ended_before (Err e) r b b1 view log nodes = record { ended = refl; nodes = nodes ∙ ap (λ (x : Run). x.nodes) view; log = log ∙ ap (λ (x : Run). x.log) view }
+ended_before (Ok x) r b b1 left view log nodes = tt
+ended_before (Err e) r b b1 left view log nodes = record { ended = refl; nodes = nodes ∙ ap (λ (x : Run). x.nodes) view; log = log ∙ ap (λ (x : Run). x.log) view }
 
 -- ---- a merge of which nothing is written
 

@@ -62,10 +62,10 @@ returns-clause-ok g c = writes_merge g.D.Dir.cells c.args.cluster.now c.cluster.
     c.keep.ensures.log c.keep.ensures.nodes c.keep.ensures.cut c.post.new.self c.count.new.self c.in_ok-post.ensures.rows c.in_ok-post.ensures.posted c.post.ensures.counts c.count.ensures.rows c.count.ensures.posted c.in_ok-count.ensures.counts
 
 pub returns-in_err-sent-clause-err : goal.returns-in_err-sent-clause-err
-returns-in_err-sent-clause-err g c = ended_before c.from_residual-in_err-sent.result c.args.cluster.now c.cluster.inside.ledger c.reserve.new.self c.cluster.view_is c.in_ok-reserve.ensures.log c.in_ok-reserve.ensures.nodes
+returns-in_err-sent-clause-err g c = ended_before c.from_residual-in_err-sent.result c.args.cluster.now c.cluster.inside.ledger c.reserve.new.self _ c.cluster.view_is c.in_ok-reserve.ensures.log c.in_ok-reserve.ensures.nodes
 
 pub returns-in_err-post-clause-err : goal.returns-in_err-post-clause-err
-returns-in_err-post-clause-err g c = ended_before c.from_residual-in_err-post.result c.args.cluster.now c.cluster.inside.ledger c.reserve.new.self c.cluster.view_is c.in_ok-reserve.ensures.log c.in_ok-reserve.ensures.nodes
+returns-in_err-post-clause-err g c = ended_before c.from_residual-in_err-post.result c.args.cluster.now c.cluster.inside.ledger c.reserve.new.self _ c.cluster.view_is c.in_ok-reserve.ensures.log c.in_ok-reserve.ensures.nodes
 
 pub returns-in_err-count-clause-err : goal.returns-in_err-count-clause-err
-returns-in_err-count-clause-err g c = ended_before c.from_residual-in_err-count.result c.args.cluster.now c.cluster.inside.ledger c.reserve.new.self c.cluster.view_is c.in_ok-reserve.ensures.log c.in_ok-reserve.ensures.nodes
+returns-in_err-count-clause-err g c = ended_before c.from_residual-in_err-count.result c.args.cluster.now c.cluster.inside.ledger c.reserve.new.self _ c.cluster.view_is c.in_ok-reserve.ensures.log c.in_ok-reserve.ensures.nodes
