@@ -23,7 +23,7 @@ pub refuse-requires-clause-cause : goal.refuse-requires-clause-cause
 refuse-requires-clause-cause g c =
     plain_cause c.args.at c.args.factor c.args.state.now c.start_merge.new.cluster c.in-Some.cause (subst (λ (o : Option Cause). StartsMergeFor c.args.at c.args.factor c.args.state.now c.start_merge.new.cluster o) c.in-Some.is c.in_ok-start_merge.ensures.ok)
 
-pub returns-in-Some-clause-ok : goal.returns-in-Some-clause-ok
-returns-in-Some-clause-ok g c =
+pub returns-in_ok-refuse-in-Some-clause-ok : goal.returns-in_ok-refuse-in-Some-clause-ok
+returns-in_ok-refuse-in-Some-clause-ok g c =
     refused_so c.args.at c.args.factor c.args.state.now c.start_merge.new.cluster c.refuse.new.state c.in-Some.cause (subst (λ (o : Option Cause). StartsMergeFor c.args.at c.args.factor c.args.state.now c.start_merge.new.cluster o) c.in-Some.is c.in_ok-start_merge.ensures.ok)
-    c.in_ok-refuse.ensures.ok c.in_ok-refuse.ensures.tasks
+    c.in_ok-refuse-in-Some.ensures.ok c.in_ok-refuse-in-Some.ensures.tasks
