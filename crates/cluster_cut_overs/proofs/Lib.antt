@@ -1,3 +1,3 @@
-pub mod CutStands
-pub mod CutFiles
-pub mod CutPaths
+mod CutStands
+mod CutFiles
+mod CutPaths
