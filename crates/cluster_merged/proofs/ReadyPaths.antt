@@ -100,8 +100,8 @@ unwritten_row seg rows is = by (open_merge seg rows) refl is
     by (Some r) e is = of_row r e r.spread refl is
 
 module _ {D : Type 0} (cells : D → Cells) (r : Run) (b : Sheet) (board : Board) (old : List (Option (Place D))) (p : NodeNo) (seg : SegNo) (merged : Merged) {was cut : Bool} {calls : List ℕ} {sizes : List (Option ℕ)}
-  (view : record { ended = was; nodes = b.nodes; log = b.log; rest = record { calls_left = calls; cut = cut; sizes = sizes; tasks = board } } ≡ r) (running : r.ended ≡ false) (invariant : was ≡ false → AllShown cells b board old)
-  (asked_node : IsNode r.nodes p.0) (asked_primary : primary_of (printed r.log) ≡ Some p) (asked_row : is_unwritten (open_merge seg.0 r.rest.tasks.rows) ≡ true) (asked_merged : IsMergedOut r.log seg merged) where
+    (view : record { ended = was; nodes = b.nodes; log = b.log; rest = record { calls_left = calls; cut = cut; sizes = sizes; tasks = board } } ≡ r) (running : r.ended ≡ false) (invariant : was ≡ false → AllShown cells b board old)
+    (asked_node : IsNode r.nodes p.0) (asked_primary : primary_of (printed r.log) ≡ Some p) (asked_row : is_unwritten (open_merge seg.0 r.rest.tasks.rows) ≡ true) (asked_merged : IsMergedOut r.log seg merged) where
   all : AllShown cells b board old
   all = invariant (ap (λ (x : Run). x.ended) view ∙ running)
 
@@ -296,9 +296,9 @@ module _ {D : Type 0} (cells : D → Cells) (r : Run) (b : Sheet) (board : Board
           as_many = sym (length-map sent (λ (x : Sent). x.node)) ∙ ap length sends.to
 
           module _ (line : LineNo) (by : Option At) (b1 b2 b3 : Sheet) (e1 : b1.log ≡ b.log) (n1 : b1.nodes ≡ b.nodes) (c1 : b1.cut ≡ b.cut) (e2 : b2.log ≡ begun_log line sent b1.log) (n2 : b2.nodes ≡ b1.nodes) (c2 : b2.cut ≡ b1.cut)
-            (e3 : b3.log ≡ kept (TaskEnd line seg by MergeStep true) ∷ b2.log) (n3 : b3.nodes ≡ b2.nodes) (c3 : b3.cut ≡ b2.cut) (done ended : Board) (done_rows : done.rows ≡ with_spread seg.0 (all_sent (spread_at (open_merge seg.0 last.rows))) last.rows)
-            (done_posted : done.posted ≡ (last.posted ++ posts_of seg line (sent_left (spread_at (open_merge seg.0 last.rows)))) ++ post_after seg line (sent_left (spread_at (open_merge seg.0 last.rows)))) (done_counts : done.counts ≡ last.counts)
-            (ended_rows : ended.rows ≡ done.rows) (ended_posted : ended.posted ≡ done.posted) (ended_counts : (x : At) → done_under x ended.counts ≡ done_under x done.counts + counts_one x by) where
+              (e3 : b3.log ≡ kept (TaskEnd line seg by MergeStep true) ∷ b2.log) (n3 : b3.nodes ≡ b2.nodes) (c3 : b3.cut ≡ b2.cut) (done ended : Board) (done_rows : done.rows ≡ with_spread seg.0 (all_sent (spread_at (open_merge seg.0 last.rows))) last.rows)
+              (done_posted : done.posted ≡ (last.posted ++ posts_of seg line (sent_left (spread_at (open_merge seg.0 last.rows)))) ++ post_after seg line (sent_left (spread_at (open_merge seg.0 last.rows)))) (done_counts : done.counts ≡ last.counts)
+              (ended_rows : ended.rows ≡ done.rows) (ended_posted : ended.posted ≡ done.posted) (ended_counts : (x : At) → done_under x ended.counts ≡ done_under x done.counts + counts_one x by) where
             pub ready_all : FilesLast → AllShown cells b3 ended places
             ready_all lasting = post_path cells b2 b3 places last ended line seg by e3 n3 c3
                 (subst (λ (o : Option Spread). IsSomeAnd o (λ z. (z.all ≡ false) × (length z.left < b2.nodes))) (sym sent_at) (refl, few)) (ended_rows ∙ done_rows) (ended_posted ∙ done_posted)

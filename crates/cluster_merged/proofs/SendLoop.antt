@@ -46,7 +46,7 @@ spread_with rows new seg was now there is = ap (λ (l : List OpenMerge). spread_
     written [] there = absurd (cc)
     written (r ∷ rs) there =
         by_test (r.seg.0 == seg) (λ b. (r.seg.0 == seg) ≡ b → spread_at (if b then Some r else open_merge seg rs) ≡ Some was
-            → spread_at (open_merge seg (if b then record r { spread = Some now } ∷ rs else r ∷ with_spread seg (Some now) rs)) ≡ Some now)
+        → spread_at (open_merge seg (if b then record r { spread = Some now } ∷ rs else r ∷ with_spread seg (Some now) rs)) ≡ Some now)
         (λ here e there. ap (λ (b : Bool). spread_at (if b then Some (record r { spread = Some now }) else open_merge seg rs)) e)
         (λ apart e there. ap (λ (b : Bool). spread_at (if b then Some r else open_merge seg (with_spread seg (Some now) rs))) e ∙ written rs there)
         refl there

@@ -108,7 +108,7 @@ module _ {D : Type 0} (cells : D → Cells) where
   }
 
   module _ (size : ℕ) (log : Log) (old new : List (Option (Place D))) (n number : ℕ) (state : CopyState) (r s : ReplicaParts D) (held : Vec Held Global) (moves : MovesOne n (record { node = Replica s; held = held }) old new) (node : IsNode size n)
-    (there : place_of old n ≡ Some (record { node = Replica r; held = held })) (w : SendsMerged cells state number r s) (shows : Shows cells log size old) where
+      (there : place_of old n ≡ Some (record { node = Replica r; held = held })) (w : SendsMerged cells state number r s) (shows : Shows cells log size old) where
     sent_shows : state.primary_gen.0 ≡ generation_of (printed log) → Shows cells log size new
     sent_shows generation = record {
       some = shows.some;

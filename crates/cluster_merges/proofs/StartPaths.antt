@@ -114,10 +114,6 @@ module _ {D : Type 0} where
 
 -- ---- the call
 
--- what it answered
-pub told_ok : {T E : Type 0} (r : Result T E) (x y : T) → r ≡ Ok x → x ≡ y → r ≡ Ok y
-told_ok {T} {E} r x y is same = subst (λ (z : T). r ≡ Ok z) same is
-
 module _ {D : Type 0} (cells : D → Cells) (r : Run) (old new : List (Option (Place D))) (b0 b1 : Sheet) (board : Board) (at : At) (p : NodeNo) (factor : ℕ) (result : Result (Option MergeTask) PublishFault) {ended cut : Bool} {calls : List ℕ}
     (view : record { ended = ended; nodes = b0.nodes; log = b0.log; rest = record { calls_left = calls; cut = cut; sizes = sizes_in old; tasks = board } } ≡ r) (running : r.ended ≡ false) (all : ended ≡ false → AllShown cells b0 board old)
     (e1 : b1.log ≡ b0.log) (n1 : b1.nodes ≡ b0.nodes) (c1 : b1.cut ≡ b0.cut) (legal : IsLegalPast b0.nodes (printed b0.log)) (turns : AreInTurn (printed b0.log)) (fresh : IsFresh at (printed b0.log)) (node : IsNode r.nodes p.0) (primary : primary_of (printed r.log) ≡ Some p)

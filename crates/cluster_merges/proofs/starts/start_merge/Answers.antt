@@ -1,4 +1,4 @@
-use Rattle.std.proofs.Common.{◌≡◌, [], Some, None, sym, subst}
+use Rattle.std.proofs.Common.{◌≡◌, [], Ok, ap, ◌∙◌, sym, subst}
 use Rattle.history_entries.specs.Lines.{entries_of_line}
 use Rattle.history_entries.specs.Rules.{MayStartMerge}
 use Rattle.history_book.specs.Log.{Log, printed}
@@ -7,7 +7,7 @@ use Rattle.cluster_state.specs.Sizes.{sizes_in}
 use Rattle.cluster_state.proofs.Frames.{slot_at}
 use Rattle.cluster_state.proofs.Ledgers.{asked_of, fresh_of, legal_of, turns_of}
 use Rattle.cluster_drains.proofs.AtPrimary.{has_primary_at}
-use Rattle.cluster_merges.proofs.StartPaths.{told_ok, not_many, none_all, spent_all, none_starts, spent_starts, merging_rule, started_all, begins_merge}
+use Rattle.cluster_merges.proofs.StartPaths.{not_many, none_all, spent_all, none_starts, spent_starts, merging_rule, started_all, begins_merge}
 use Rattle.cluster_merges.proofs.starts.start_merge.Goals as goal
 
 pub is_fresh-requires : goal.is_fresh-requires
@@ -27,12 +27,12 @@ none_starts-requires g c = not_many g.D.Dir.cells c.args.cluster.now c.cluster.i
 pub invariant_of-cluster-in-Ok-None : goal.invariant_of-cluster-in-Ok-None
 invariant_of-cluster-in-Ok-None g c = λ running. none_all g.D.Dir.cells c.args.cluster.now c.cluster.inside.places.items c.ask_in.new.places.items c.cluster.inside.ledger c.reserve.new.self c.cluster.inside.tasks c.args.at c.args.p c.args.factor c.ask_in.result c.cluster.view_is c.requires.running c.cluster.invariant
     c.in_ok-reserve.ensures.log c.in_ok-reserve.ensures.nodes c.in_ok-reserve.ensures.cut (legal_of c.book-book.ensures.nodes c.book-book.ensures.log c.is_legal.ensures.legal) (turns_of c.book-book.ensures.log c.is_legal.ensures.turns) (fresh_of c.book-book.ensures.log c.is_fresh.ensures)
-    c.requires.node c.requires.primary c.ask_in.ensures (told_ok c.ask_in.result c.in-Ok-None.field-0 None c.in-Ok-None.is c.in-Ok-None.field-0-is)
+    c.requires.node c.requires.primary c.ask_in.ensures (c.in-Ok-None.is ∙ ap Ok c.in-Ok-None.field-0-is)
 
 pub returns-in-Ok-None-clause-ok : goal.returns-in-Ok-None-clause-ok
 returns-in-Ok-None-clause-ok g c = none_starts g.D.Dir.cells c.args.cluster.now c.cluster.inside.places.items c.ask_in.new.places.items c.cluster.inside.ledger c.reserve.new.self c.cluster.inside.tasks c.args.at c.args.p c.args.factor c.ask_in.result c.cluster.view_is c.requires.running c.cluster.invariant
     c.in_ok-reserve.ensures.log c.in_ok-reserve.ensures.nodes c.in_ok-reserve.ensures.cut (legal_of c.book-book.ensures.nodes c.book-book.ensures.log c.is_legal.ensures.legal) (turns_of c.book-book.ensures.log c.is_legal.ensures.turns) (fresh_of c.book-book.ensures.log c.is_fresh.ensures)
-    c.requires.node c.requires.primary c.ask_in.ensures (told_ok c.ask_in.result c.in-Ok-None.field-0 None c.in-Ok-None.is c.in-Ok-None.field-0-is)
+    c.requires.node c.requires.primary c.ask_in.ensures (c.in-Ok-None.is ∙ ap Ok c.in-Ok-None.field-0-is)
 
 pub invariant_of-cluster-in-Err : goal.invariant_of-cluster-in-Err
 invariant_of-cluster-in-Err g c = λ running. spent_all g.D.Dir.cells c.args.cluster.now c.cluster.inside.places.items c.ask_in.new.places.items c.cluster.inside.ledger c.reserve.new.self c.cluster.inside.tasks c.args.at c.args.p c.args.factor c.ask_in.result c.cluster.view_is c.requires.running c.cluster.invariant
@@ -49,18 +49,18 @@ pub show_merging-requires-clause-rule : goal.show_merging-requires-clause-rule
 show_merging-requires-clause-rule g c = subst (λ (l : Log). MayStartMerge (printed l) c.args.at c.in-Ok-Some.task.seg) (sym c.in_ok-reserve.ensures.log)
     (merging_rule g.D.Dir.cells c.args.cluster.now c.cluster.inside.places.items c.ask_in.new.places.items c.cluster.inside.ledger c.reserve.new.self c.cluster.inside.tasks c.args.at c.args.p c.args.factor c.ask_in.result c.cluster.view_is c.requires.running c.cluster.invariant
     c.in_ok-reserve.ensures.log c.in_ok-reserve.ensures.nodes c.in_ok-reserve.ensures.cut (legal_of c.book-book.ensures.nodes c.book-book.ensures.log c.is_legal.ensures.legal) (turns_of c.book-book.ensures.log c.is_legal.ensures.turns) (fresh_of c.book-book.ensures.log c.is_fresh.ensures)
-    c.requires.node c.requires.primary c.ask_in.ensures c.in-Ok-Some.task (told_ok c.ask_in.result c.in-Ok-Some.field-0 (Some c.in-Ok-Some.task) c.in-Ok-Some.is c.in-Ok-Some.field-0-is))
+    c.requires.node c.requires.primary c.ask_in.ensures c.in-Ok-Some.task (c.in-Ok-Some.is ∙ ap Ok c.in-Ok-Some.field-0-is))
 
 pub invariant_of-cluster-2 : goal.invariant_of-cluster-2
 invariant_of-cluster-2 g c = λ running. started_all g.D.Dir.cells c.args.cluster.now c.cluster.inside.places.items c.ask_in.new.places.items c.cluster.inside.ledger c.reserve.new.self c.cluster.inside.tasks c.args.at c.args.p c.args.factor c.ask_in.result c.cluster.view_is c.requires.running c.cluster.invariant
     c.in_ok-reserve.ensures.log c.in_ok-reserve.ensures.nodes c.in_ok-reserve.ensures.cut (legal_of c.book-book.ensures.nodes c.book-book.ensures.log c.is_legal.ensures.legal) (turns_of c.book-book.ensures.log c.is_legal.ensures.turns) (fresh_of c.book-book.ensures.log c.is_fresh.ensures)
-    c.requires.node c.requires.primary c.ask_in.ensures c.in-Ok-Some.task (told_ok c.ask_in.result c.in-Ok-Some.field-0 (Some c.in-Ok-Some.task) c.in-Ok-Some.is c.in-Ok-Some.field-0-is)
+    c.requires.node c.requires.primary c.ask_in.ensures c.in-Ok-Some.task (c.in-Ok-Some.is ∙ ap Ok c.in-Ok-Some.field-0-is)
     c.show_merging.new.self c.keep.new.self c.in_ok-inputs.inputs c.begin.new.self c.in_ok-inputs.ensures c.show_merging.ensures.log c.show_merging.ensures.nodes c.show_merging.ensures.cut
     c.keep.ensures.log c.keep.ensures.nodes c.keep.ensures.cut c.in_ok-begin.ensures.rows c.in_ok-begin.ensures.posted c.begin.ensures.counts
 
 pub returns-clause-ok : goal.returns-clause-ok
 returns-clause-ok g c = begins_merge g.D.Dir.cells c.args.cluster.now c.cluster.inside.places.items c.ask_in.new.places.items c.cluster.inside.ledger c.reserve.new.self c.cluster.inside.tasks c.args.at c.args.p c.args.factor c.ask_in.result c.cluster.view_is c.requires.running c.cluster.invariant
     c.in_ok-reserve.ensures.log c.in_ok-reserve.ensures.nodes c.in_ok-reserve.ensures.cut (legal_of c.book-book.ensures.nodes c.book-book.ensures.log c.is_legal.ensures.legal) (turns_of c.book-book.ensures.log c.is_legal.ensures.turns) (fresh_of c.book-book.ensures.log c.is_fresh.ensures)
-    c.requires.node c.requires.primary c.ask_in.ensures c.in-Ok-Some.task (told_ok c.ask_in.result c.in-Ok-Some.field-0 (Some c.in-Ok-Some.task) c.in-Ok-Some.is c.in-Ok-Some.field-0-is)
+    c.requires.node c.requires.primary c.ask_in.ensures c.in-Ok-Some.task (c.in-Ok-Some.is ∙ ap Ok c.in-Ok-Some.field-0-is)
     c.show_merging.new.self c.keep.new.self c.in_ok-inputs.inputs c.begin.new.self c.in_ok-inputs.ensures c.show_merging.ensures.log c.show_merging.ensures.nodes c.show_merging.ensures.cut
     c.keep.ensures.log c.keep.ensures.nodes c.keep.ensures.cut c.in_ok-begin.ensures.rows c.in_ok-begin.ensures.posted c.begin.ensures.counts

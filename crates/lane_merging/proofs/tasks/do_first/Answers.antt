@@ -26,8 +26,8 @@ do_task-requires-clause-task g c =
     subst (λ (o : Option Task). TakesOn c.args.lock.now c.args.at.lane.0 c.args.by c.args.seat.now c.take.new.seat o) c.in-Some.is c.in_ok-take.ensures in
     takes.1
 
-pub returns-in-Some : goal.returns-in-Some
-returns-in-Some g c =
+pub returns-in_ok-do_task-in-Some : goal.returns-in_ok-do_task-in-Some
+returns-in_ok-do_task-in-Some g c =
     let takes : TakesOn c.args.lock.now c.args.at.lane.0 c.args.by c.args.seat.now c.take.new.seat (Some c.in-Some.task) =
     subst (λ (o : Option Task). TakesOn c.args.lock.now c.args.at.lane.0 c.args.by c.args.seat.now c.take.new.seat o) c.in-Some.is c.in_ok-take.ensures in
     works_then c.args.lock.now c.args.at.lane.0 c.args.by c.args.seat.now c.take.new.seat c.do_task.new.seat takes.0
