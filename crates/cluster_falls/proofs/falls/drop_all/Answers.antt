@@ -1,4 +1,4 @@
-use Rattle.cluster_falls.proofs.Dropping.{no_place, one_place, all_places}
+use Rattle.cluster_falls.proofs.Dropping.{no_place, one_place}
 use Rattle.cluster_falls.proofs.falls.drop_all.Goals as goal
 
 pub loop-k-init : goal.loop-k-init
