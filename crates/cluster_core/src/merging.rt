@@ -71,14 +71,7 @@ impl<D: FaultDir + Drop> Cluster<D> {
         // what its taker is owed
         ensures does { OnOk result (DoesTask task.now.by self.old self.new) }
     {
-        merge_ready(
-            &mut self.state,
-            alloc,
-            task.line,
-            task.seg,
-            task.by,
-            merged,
-        )
+        merge_ready(&mut self.state, alloc, task.line, task.seg, task.by, merged)
     }
 
     /// Hands out the next file of the copy of a task. Done says that the task has ended, and Busy that the copy lets the job of a point

@@ -45,7 +45,7 @@ use Rattle.cluster_precopies.proofs.CopyFacts.{at_replica, slot_here, whole_here
 -- ---- the next step
 
 module _ (r : Run) (b0 b1 : Sheet) (board : Board) {ended cut : Bool} {calls : List ℕ} {sizes : List (Option ℕ)} (view : record { ended = ended; nodes = b0.nodes; log = b0.log; rest = record { calls_left = calls; cut = cut; sizes = sizes; tasks = board } } ≡ r)
-  (e1 : b1.log ≡ b0.log) (n1 : b1.nodes ≡ b0.nodes) (b2 : Sheet) (after : Board) (line : LineNo) (seg : SegNo) (taker : Option At) (n : NodeNo) (job : ℕ) (calls1 : List ℕ) (cut1 : Bool) (sizes1 : List (Option ℕ)) where
+    (e1 : b1.log ≡ b0.log) (n1 : b1.nodes ≡ b0.nodes) (b2 : Sheet) (after : Board) (line : LineNo) (seg : SegNo) (taker : Option At) (n : NodeNo) (job : ℕ) (calls1 : List ℕ) (cut1 : Bool) (sizes1 : List (Option ℕ)) where
   pub turns_so : (turn : CopyTurn) → StepsCopyTo line seg taker n job b1 b2 board after turn
       → TurnsCopy line seg taker n job r (record { ended = false; nodes = b2.nodes; log = b2.log; rest = record { calls_left = calls1; cut = cut1; sizes = sizes1; tasks = after } }) turn
   turns_so Waits is = (
@@ -114,7 +114,7 @@ module _ {D : Type 0} where
   replica_there places n r held there = subst HasReplica (sym there) tt
 
 module _ {D : Type 0} (cells : D → Cells) (b : Sheet) (board : Board) (places : List (Option (Place D))) (all : AllShown cells b board places) (legal : IsLegalPast b.nodes (printed b.log)) (seg : SegNo) (n : NodeNo) (number : ℕ) (node : IsNode b.nodes n.0)
-  (runs : RunsCopyOf seg.0 number (place_of places n.0)) where
+    (runs : RunsCopyOf seg.0 number (place_of places n.0)) where
   -- a primary runs, since without one no merge is in flight
   record SourceRuns : Type 0 where
     source : NodeNo

@@ -107,11 +107,11 @@ module _ {D : Type 0} (cells : D → Cells) where
           (carried_means b0.log line n job name bytes all.1.source all.1.carried is)
 
   module _ (b0 b2 : Sheet) (board : Board) (old new : List (Option (Place D))) (all : AllShown cells b0 board old) (p : NodeNo) (node_p : IsNode b0.nodes p.0) (primary : primary_of (printed b0.log) ≡ Some p)
-    (line : LineNo) (seg : SegNo) (n : NodeNo) (job : ℕ) (node : IsNode b0.nodes n.0) where
+      (line : LineNo) (seg : SegNo) (n : NodeNo) (job : ℕ) (node : IsNode b0.nodes n.0) where
     -- ---- the next file
 
     module _ (name : Name) (meta : FileMetaData) (bytes copy : List ℕ) (step : IsStepAt seg.0 job (place_of old n.0) (Wants name meta)) (read : ReadsIn cells p.0 name bytes old new) (shared : copy ≡ bytes)
-      (log : b2.log ≡ kept (FileOut line n job name copy None) ∷ b0.log) (nodes : b2.nodes ≡ b0.nodes) where
+        (log : b2.log ≡ kept (FileOut line n job name copy None) ∷ b0.log) (nodes : b2.nodes ≡ b0.nodes) where
       log_now : b2.log ≡ kept (FileOut line n job name bytes None) ∷ b0.log
       log_now = log ∙ ap (λ (x : List ℕ). kept (FileOut line n job name x None) ∷ b0.log) shared
 

@@ -69,7 +69,7 @@ module _ {D : Type 0} (cells : D → Cells) where
     pub runs : RunsNoOther r.copies.running s.copies.running
 
   module _ (size : ℕ) (log : Log) (old new : List (Option (Place D))) (n : ℕ) (r s : ReplicaParts D) (held : Vec Held Global) (moves : MovesOne n (record { node = Replica s; held = held }) old new) (node : IsNode size n)
-    (there : place_of old n ≡ Some (record { node = Replica r; held = held })) (shows : Shows cells log size old) (files : FilesShow cells log size old) (w : MovesCopies files.source (printed log) r s) where
+      (there : place_of old n ≡ Some (record { node = Replica r; held = held })) (shows : Shows cells log size old) (files : FilesShow cells log size old) (w : MovesCopies files.source (printed log) r s) where
     place_moved : PlaceShows cells log n (record { node = Replica r; held = held }) → PlaceShows cells log n (record { node = Replica s; held = held })
     place_moved was = record {
       node_shows = record {

@@ -149,9 +149,7 @@ fn do_task<R: Wait, D: FaultDir + Drop, G: Gate>(
     ensures { OnOk result (WorksOn lock.now at.lane.0 task.now.by seat.old seat.new) }
 {
     match &task.kind {
-        TaskKind::Merge(work) => {
-            build(rt, alloc, lock, nodes, gate, halt, seat, at, task, work)
-        }
+        TaskKind::Merge(work) => { build(rt, alloc, lock, nodes, gate, halt, seat, at, task, work) }
         TaskKind::PreCopy(n, job) => {
             if !is_node(nodes, *n) {
                 return Err(AllocError);
