@@ -1,3 +1,4 @@
 mod BookParts
 mod EmptyDirs
 mod Scripts
+mod StateParts

@@ -1,3 +1,10 @@
+use denote.Exit.{yes}
+use denote.Param.Send.{IsSend, sendable, param_send, arg_send}
+use Rattle.disk_memory.specs.contracts.memory.MemDir as mem
+use Rattle.disk_memory.specs.contracts.memory.MemDirFaultDir.TheImpl as fault
+use Rattle.disk_memory.specs.contracts.memory.MemDirDir.TheImpl as dir
+use Rattle.cluster_state.specs.contracts.cluster.ClusterState as state
+use Rattle.cluster_run.proofs.StateParts.{state_send}
 use Rattle.cluster_run.proofs.Scripts.{lines_run, left_serves}
 use Rattle.cluster_run.proofs.script.run_script.Goals as goal
 
@@ -6,3 +13,15 @@ run_script-requires-clause-runs g c = λ κs lives. lines_run c.args.script.now 
 
 pub returns-clause-serves : goal.returns-clause-serves
 returns-clause-serves g c = left_serves c.args.script.now c.in_ok-left.left c.in_ok-left.ensures.setup c.in_ok-left.ensures.serves
+
+pub sent-requires-4-send-T : goal.sent-requires-4-send-T
+sent-requires-4-send-T g c κs =
+    let row : IsSend (state.the_row mem.the_row fault.ghosts dir.ghosts) =
+    state_send mem.the_row fault.ghosts dir.ghosts (λ d. (
+      (λ vs. c.sent.ensures.owned d.ledger vs, λ k. c.sent.ensures.leaving yes d.ledger),
+      (
+        (λ vs. c.sent-2.ensures.owned d.tasks vs, λ k. c.sent-2.ensures.leaving yes d.tasks),
+        ((λ vs. c.sent-3.ensures.owned d.places vs, λ k. c.sent-3.ensures.leaving yes d.places), (search sendable, tt)),
+      ),
+    )) in
+    param_send _ _ (arg_send _ yes _ row)

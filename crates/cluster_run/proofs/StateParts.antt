@@ -1,0 +1,16 @@
+-- The state of a cluster crosses threads where its parts do.
+use denote.RattleType.{RattleType}
+use denote.Struct.Struct.{Struct}
+use denote.Struct.Declared.{shape as struct_shape}
+use denote.Param.Send.{IsSend, SendAt, FieldsAt, struct_send_at, recorded_send_of, view_send}
+use Rattle.disk_model.specs.declared.dir.FaultDir.{Ghosts as FaultGhosts}
+use Rattle.disk_model.specs.declared.dir.Dir.{Ghosts as DirGhosts}
+use Rattle.cluster_state.specs.contracts.cluster.ClusterState as state
+use Rattle.cluster_state.specs.contracts.cluster.ClusterState.TheInside as inside
+
+module _ (T : RattleType) (f : FaultGhosts T.Denot) (g : DirGhosts T.Denot) where
+  pub state_send : ((d : (inside.the_type T f g).D) → FieldsAt SendAt (struct_shape (inside.the_type T f g)).fields ((inside.the_type T f g).to d)) → IsSend (state.the_row T f g)
+  state_send fields =
+      view_send (inside.the_row T f g) _ _ _ _
+      (recorded_send_of (Struct (struct_shape (inside.the_type T f g))) (inside.the_type T f g).D (inside.the_type T f g).to (inside.the_type T f g).to_one
+      (λ d. struct_send_at (struct_shape (inside.the_type T f g)) ((inside.the_type T f g).to d) (fields d)))
