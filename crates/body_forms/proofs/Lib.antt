@@ -7,3 +7,4 @@ pub mod ItemTables
 pub mod TableTests
 pub mod FileLaws
 pub mod WritingTables
+pub mod Given

@@ -4,3 +4,4 @@ pub mod Numbers
 pub mod ItemTable
 pub mod File
 pub mod TableParts
+pub mod Given

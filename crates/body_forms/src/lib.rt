@@ -10,6 +10,9 @@ mod strings;
 mod table_parts;
 mod vint;
 
+pub use codec_frame::{
+    FileFault, FrameFault, Framed, Want, check, write_footer, write_index_header,
+};
 pub use item_table::{is_item_table, item_at, item_count};
 pub use numbers::{
     difference_of, positive_of, push_difference, push_u32, push_u64, skip_ascending, u32_of,

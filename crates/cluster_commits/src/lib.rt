@@ -3,4 +3,5 @@
 
 mod commits;
 
+pub use cluster_places::CommitTask;
 pub use commits::{begin_commit, step_commit};

@@ -23,9 +23,9 @@ use Rattle.cluster_tasks.specs.declared.tasks.Task.{Task}
 use Rattle.cluster_tasks.specs.declared.tasks.Sent.{Sent}
 use Rattle.cluster_tasks.specs.TaskLog.{counted_for}
 use Rattle.cluster_tasks.specs.Board.{step_of}
-use Rattle.cluster_places.specs.declared.tasks.FileTask.{FileTask}
+use Rattle.cluster_state.specs.Given.{FileTask}
 use Rattle.cluster_state.specs.Run.{Run, IsNow}
-use Rattle.cluster_drains.specs.MergePaths.{IsAsBefore, TakesTask, EndsBuild, begun_log}
+use Rattle.line_merges.specs.Given.{IsAsBefore, TakesTask, EndsBuild, begun_log}
 use Rattle.line_turns.specs.declared.turn.Turn.{Turn}
 use Rattle.line_turns.specs.declared.turn.Turn.TheVariants.{Work, Done, Busy}
 use Rattle.line_merges.specs.TaskCalls.{RefusesMerge, StartsOrRefuses, MergeLine, EndsCopyOnce, PrecopyTurns, PartTurns, CutsOnce, CutTurns, DrainTurns}

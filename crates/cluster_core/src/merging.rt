@@ -1,7 +1,7 @@
 //! The calls of lines that merge and drain, and of the tasks of merges.
 
 use crate::cluster::Cluster;
-use cluster_places::FileTask;
+use cluster_state::FileTask;
 use cluster_tasks::{Sent, Task};
 use copy_job::Part;
 use disk_model::FaultDir;
@@ -23,7 +23,7 @@ impl<D: FaultDir + Drop> Cluster<D> {
     ghost use Rattle.cluster_tasks.specs.TaskLog.{carried_out, counted_for};
     ghost use Rattle.cluster_tasks.specs.Board.{open_merge, is_unwritten};
     ghost use Rattle.cluster_state.specs.Run.{IsEnded};
-    ghost use Rattle.cluster_drains.specs.MergePaths.{IsMergedOut, EndsBuild, TakesTask};
+    ghost use Rattle.line_merges.specs.Given.{IsMergedOut, EndsBuild, TakesTask};
     ghost use Rattle.line_merges.specs.TaskCalls.{MergeLine, PrecopyTurns, PartTurns, CutTurns, DrainTurns};
     ghost use Rattle.cluster_core.specs.Doing.{Does, IsReplied, IsRepliedAtDone};
     ghost use Rattle.cluster_core.specs.Tasks.{DoesTask};

@@ -25,7 +25,7 @@ use Rattle.primary_parts.proofs.Keeping.{states_split}
 use Rattle.primary_parts.proofs.MergeLists.{loose_without, names_split}
 use Rattle.replica_parts.specs.Sources.{HeldReadAs}
 use Rattle.history_entries.specs.Nodes.{Past, generation_of}
-use Rattle.cluster_places.specs.declared.nodes.Node.TheVariants.{Primary}
+use Rattle.cluster_state.specs.Given.{Primary}
 use Rattle.cluster_state.proofs.Lasting.{live_lasts, unheld}
 use Rattle.cluster_state.proofs.Living.{live_low}
 use Rattle.cluster_state.proofs.Naming.{HoldsFrom, HoldsLow, named_in}

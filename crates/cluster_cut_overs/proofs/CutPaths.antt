@@ -29,13 +29,8 @@ use Rattle.cluster_tasks.specs.declared.tasks.Sent.{Sent}
 use Rattle.cluster_tasks.specs.declared.tasks.Spread.{Spread}
 use Rattle.cluster_tasks.specs.Board.{Board, open_merge, spread_at, without_merge, is_none_left, is_copied, done_under, counts_one, TasksShow}
 use Rattle.cluster_tasks.proofs.BoardRows.{line_told, some_open}
-use Rattle.cluster_places.specs.declared.held.Held.{Held}
-use Rattle.cluster_places.specs.declared.nodes.Node.{Node}
-use Rattle.cluster_places.specs.declared.nodes.Node.TheVariants.{Primary, Replica, Down}
-use Rattle.cluster_places.specs.declared.nodes.Place.{Place}
-use Rattle.cluster_places.specs.Places.{place_of}
-use Rattle.cluster_places.specs.Outs.{one_like, states_like, jobs_like}
-use Rattle.cluster_places.proofs.OutCounts.{jobs_same, is_there, one_self, states_back}
+use Rattle.cluster_state.specs.Given.{Held, Node, Primary, Replica, Down, Place, place_of, one_like, states_like, jobs_like}
+use Rattle.cluster_state.proofs.Given.{jobs_same, is_there, one_self, states_back}
 use Rattle.node_merges.specs.MergeChanges.{MayCut, CutsMerge}
 use Rattle.node_merges.specs.MergePlaces.{IsPrimaryIn, MovesPrimary}
 use Rattle.cluster_state.specs.Run.{Run}

@@ -39,10 +39,8 @@ use Rattle.cluster_tasks.specs.TaskLog.{ended_count}
 use Rattle.cluster_tasks.specs.Board.{Board, open_merge, spread_at, without_merge, is_sent_in, done_under, counts_one, due_all, IsToldTask, TasksShow}
 use Rattle.cluster_tasks.proofs.BoardRows.{open_without, due_closed}
 use Rattle.cluster_tasks.proofs.TaskFrames.{told_all, ends_most, tasks_closed}
-use Rattle.cluster_places.specs.declared.held.Held.{Held}
-use Rattle.cluster_places.specs.declared.nodes.Node.TheVariants.{Primary}
-use Rattle.cluster_places.specs.Outs.{one_like, states_like}
-use Rattle.cluster_places.proofs.OutCounts.{states_back}
+use Rattle.cluster_state.specs.Given.{Held, Primary, one_like, states_like}
+use Rattle.cluster_state.proofs.Given.{states_back}
 use Rattle.cluster_state.specs.State.{IsPointAt, FlightShows, HoldsTickets, WritesAt, PrimaryShows, PlaceShows}
 use Rattle.cluster_state.specs.Merging.{AreMergedAlike, AreSentCopies, out_at, PrimaryMerges}
 use Rattle.history_tables.proofs.RowLemmas.{by_test}

@@ -8,12 +8,11 @@ ghost use Rattle.cluster_tasks.specs.Board.{open_merge, spread_at, is_copied};
 ghost use Rattle.cluster_state.specs.Run.{IsEnded};
 ghost use Rattle.cluster_drains.specs.MergePaths.{CutsOver};
 
-use cluster_state::ClusterState;
+use cluster_state::{ClusterState, files_last};
 use disk_model::FaultDir;
 use history_book::{Inner, Step};
 use node_merges::cut_in;
 use nrt_base::{At, LineNo, NoMemory, NodeNo, SegNo};
-use replica_node::laws::files_last;
 use std::alloc::Global;
 
 /// Cuts a merge over whose copies have all ended, while no publish is in flight. `Err` is want of memory, or a disk that failed: the

@@ -3,4 +3,5 @@
 
 mod cuts;
 
+pub use cluster_drains::{note_drained, take_task};
 pub use cuts::cut_merge;

@@ -7,11 +7,7 @@ use Rattle.disk_model.specs.Disk.{Cells}
 use Rattle.history_entries.specs.Nodes.{IsNode, is_at, primary_of}
 use Rattle.history_book.specs.Log.{Log, printed}
 use Rattle.history_merges.specs.Merging.{Sheet}
-use Rattle.cluster_places.specs.declared.held.Held.{Held}
-use Rattle.cluster_places.specs.declared.nodes.Node.{Node}
-use Rattle.cluster_places.specs.declared.nodes.Node.TheVariants.{Primary, Replica, Down}
-use Rattle.cluster_places.specs.declared.nodes.Place.{Place}
-use Rattle.cluster_places.specs.Places.{place_of, HasPrimary}
+use Rattle.cluster_state.specs.Given.{Held, Node, Primary, Replica, Down, Place, place_of, HasPrimary}
 use Rattle.cluster_state.specs.Run.{Run, Rest}
 use Rattle.cluster_state.specs.State.{NodeShows, PlaceShows, Shows}
 

@@ -29,11 +29,7 @@ use Rattle.cluster_tasks.specs.TaskLog.{ends_task_by}
 use Rattle.cluster_tasks.specs.Board.{Board, open_merge, spread_at, with_spread, is_sent_in, all_sent, sent_left, posts_of, post_after, done_under, counts_one, due_all, IsToldTask, TasksShow}
 use Rattle.cluster_tasks.proofs.BoardRows.{line_told, open_with, lines_with, due_posted}
 use Rattle.cluster_tasks.proofs.TaskFrames.{tasks_ended}
-use Rattle.cluster_places.specs.declared.nodes.Node.{Node}
-use Rattle.cluster_places.specs.declared.nodes.Node.TheVariants.{Primary, Replica, Down}
-use Rattle.cluster_places.specs.declared.nodes.Place.{Place}
-use Rattle.cluster_places.specs.Places.{place_of}
-use Rattle.cluster_places.specs.Outs.{one_like, jobs_like}
+use Rattle.cluster_state.specs.Given.{Node, Primary, Replica, Down, Place, place_of, one_like, jobs_like}
 use Rattle.cluster_state.specs.Merging.{AreSentCopies, NodeMerges, IsFitKind, out_at, spreads_like}
 use Rattle.cluster_state.proofs.Frames.{some_then}
 use Rattle.cluster_state.proofs.JobFrames.{same_inner}

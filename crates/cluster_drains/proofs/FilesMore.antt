@@ -16,13 +16,8 @@ use Rattle.replica_opening.specs.Known.{IsLasting}
 use Rattle.replica_parts.specs.Sources.{HeldReadAs}
 use Rattle.history_entries.specs.Nodes.{IsNode, is_at, primary_of}
 use Rattle.history_book.specs.Log.{Log, printed}
-use Rattle.cluster_places.specs.declared.held.Held.{Held}
-use Rattle.cluster_places.specs.declared.nodes.Node.TheVariants.{Primary}
-use Rattle.cluster_places.specs.declared.nodes.Place.{Place}
-use Rattle.cluster_places.specs.Places.{place_of}
-use Rattle.cluster_places.specs.Outs.{states_like, jobs_like}
-use Rattle.cluster_places.specs.JobPlaces.{MovesOne}
-use Rattle.cluster_places.proofs.OutCounts.{jobs_same}
+use Rattle.cluster_state.specs.Given.{Held, Primary, Place, place_of, states_like, jobs_like, MovesOne}
+use Rattle.cluster_state.proofs.Given.{jobs_same}
 use Rattle.cluster_state.specs.Disks.{IsPastPoint}
 use Rattle.cluster_state.specs.Names.{NamesShow}
 use Rattle.cluster_state.specs.State.{Shows}

@@ -22,9 +22,7 @@ use Rattle.cluster_tasks.specs.TaskLog.{carried_out}
 use Rattle.cluster_tasks.specs.Board.{Board, open_merge, due_all, step_of, TasksShow, IsToldTask}
 use Rattle.cluster_tasks.proofs.BoardRows.{line_told}
 use Rattle.cluster_tasks.proofs.TaskFrames.{tasks_kept, tasks_on}
-use Rattle.cluster_places.specs.declared.nodes.Place.{Place}
-use Rattle.cluster_places.specs.Places.{place_of}
-use Rattle.cluster_places.specs.Outs.{jobs_like}
+use Rattle.cluster_state.specs.Given.{Place, place_of, jobs_like}
 use Rattle.cluster_state.specs.FileChanges.{SameJob, CarriesNoMore}
 use Rattle.cluster_state.specs.Merging.{IsFitKind, NodeMerges, MergesStand}
 use Rattle.cluster_drains.specs.Running.{AllShown}

@@ -19,7 +19,7 @@ use Rattle.cluster_tasks.specs.declared.tasks.OpenMerge.{OpenMerge}
 use Rattle.cluster_tasks.specs.declared.tasks.Spread.{Spread}
 use Rattle.cluster_tasks.specs.Board.{open_merge, spread_at, with_spread, without_merge, is_sent_in}
 use Rattle.cluster_tasks.proofs.BoardRows.{open_end, open_without, open_with}
-use Rattle.cluster_places.specs.Outs.{one_like}
+use Rattle.cluster_state.specs.Given.{one_like}
 use Rattle.cluster_state.specs.Merging.{IsStateOfMerged, AreWrittenAlike, IsMergeOfRow, AreMergedAlike, out_at, spreads_like, IsSentCopy, AreSentCopies}
 
 -- ---- the primary's merges by their numbers

@@ -18,7 +18,7 @@ use Rattle.cluster_tasks.specs.declared.tasks.Posted.{Posted}
 use Rattle.cluster_tasks.specs.TaskLog.{counted_for}
 use Rattle.cluster_tasks.specs.Board.{Board, step_of, IsToldKind, IsToldTask, without_count}
 use Rattle.cluster_tasks.proofs.TaskFrames.{tasks_drained, told_all, may_drain_most}
-use Rattle.cluster_places.specs.declared.nodes.Place.{Place}
+use Rattle.cluster_state.specs.Given.{Place}
 use Rattle.cluster_state.specs.Run.{Run, Rest}
 use Rattle.cluster_state.specs.Merging.{IsFitKind, MergesStand}
 use Rattle.cluster_state.proofs.Frames.{noted}

@@ -27,7 +27,7 @@ use Rattle.cluster_tasks.specs.declared.tasks.Task.{Task}
 use Rattle.cluster_tasks.specs.declared.tasks.Sent.{Sent}
 use Rattle.cluster_tasks.specs.TaskLog.{inputs_out, merge_task, carried_out}
 use Rattle.cluster_tasks.specs.Board.{open_merge, spread_at, with_spread, without_merge, sent_left, sent_less, posts_of, post_after, posted_merge, step_of, IsToldKind}
-use Rattle.cluster_places.specs.declared.tasks.FileTask.{FileTask}
+use Rattle.cluster_state.specs.Given.{FileTask}
 use Rattle.cluster_state.specs.Run.{Run, IsNow}
 use Rattle.cluster_state.specs.Settles.{AreReplicas}
 use Rattle.cluster_state.specs.Merging.{IsFitKind}

@@ -3,7 +3,7 @@ use Rattle.std.specs.Prelude.{List, Option}
 use Rattle.disk_model.specs.Disk.{Cells}
 use Rattle.history_merges.specs.Merging.{Sheet}
 use Rattle.cluster_tasks.specs.Board.{Board}
-use Rattle.cluster_places.specs.declared.nodes.Place.{Place}
+use Rattle.cluster_state.specs.Given.{Place}
 use Rattle.cluster_state.specs.State.{Shows}
 use Rattle.cluster_state.specs.Files.{FilesShow}
 use Rattle.cluster_state.specs.Merging.{MergesStand}

@@ -14,8 +14,7 @@ use Rattle.cluster_tasks.specs.declared.tasks.OpenMerge.{OpenMerge}
 use Rattle.cluster_tasks.specs.declared.tasks.Sent.{Sent}
 use Rattle.cluster_tasks.specs.declared.tasks.Spread.{Spread}
 use Rattle.cluster_tasks.specs.Board.{is_sent_in, is_sent_to}
-use Rattle.cluster_places.specs.declared.nodes.Place.{Place}
-use Rattle.cluster_places.specs.Places.{place_of}
+use Rattle.cluster_state.specs.Given.{Place, place_of}
 use Rattle.node_merges.specs.MergeChanges.{DropsMerged}
 use Rattle.cluster_state.specs.Merging.{RunsNoOther}
 use Rattle.cluster_state.proofs.MergingPaths.{at_without, gone_without}

@@ -11,10 +11,7 @@ use Rattle.cluster_tasks.specs.declared.tasks.OpenMerge.{OpenMerge}
 use Rattle.cluster_tasks.specs.declared.tasks.Sent.{Sent}
 use Rattle.cluster_tasks.specs.declared.tasks.Spread.{Spread}
 use Rattle.cluster_tasks.specs.Board.{Board, is_sent_to}
-use Rattle.cluster_places.specs.declared.nodes.Node.{Node}
-use Rattle.cluster_places.specs.declared.nodes.Node.TheVariants.{Replica}
-use Rattle.cluster_places.specs.declared.nodes.Place.{Place}
-use Rattle.cluster_places.specs.Places.{place_of}
+use Rattle.cluster_state.specs.Given.{Node, Replica, Place, place_of}
 use Rattle.cluster_state.specs.Merging.{RunsNoOther}
 
 -- one of these merges sent a copy under this number to the node

@@ -3,16 +3,15 @@
 ghost use Rattle.std.specs.Prelude.{ℕ, ◌≡◌, ◌==◌, true, false, None, length};
 ghost use Rattle.history_entries.specs.Nodes.{is_at};
 ghost use Rattle.replica_parts.specs.Merges.{copy_at};
-ghost use Rattle.cluster_places.specs.Places.{place_of, IsSlot};
+ghost use Rattle.cluster_state.specs.Given.{place_of, IsSlot};
 ghost use Rattle.cluster_tasks.specs.Board.{is_sent_in};
 ghost use Rattle.cluster_falls.specs.Falls.{LosesCopies, EndsSent, EndsSpread, EndsCopies, NodeLoses, PlaceLoses, AllLose, Falls};
 
-use cluster_places::{Node, Place};
+use cluster_state::{Node, Place, Replica};
 use cluster_tasks::{OpenMerge, Sent, Spread, Tasks};
 use disk_model::Dir;
 use node_merges::drop_copy;
 use nrt_base::NodeNo;
-use replica_node::Replica;
 
 // Ends a copy that was sent to this replica, where it runs.
 fn drop_one<D: Dir + Drop>(replica: &mut Replica<D>, n: usize, sent: &Sent)

@@ -12,17 +12,15 @@ ghost use Rattle.cluster_drains.specs.MergePaths.{IsMergedOut, WritesMerge, begu
 ghost use Rattle.cluster_merged.specs.Sending.{spread_to, SendsOne, MaySendAll, SendsAll};
 
 use cluster_copies::replicas;
-use cluster_places::Place;
+use cluster_places::{Place, files_last};
 use cluster_state::ClusterState;
 use cluster_tasks::{Sent, Tasks};
 use copy_state::CopyState;
 use disk_model::FaultDir;
 use history_book::{Inner, Step};
 use history_merges::Ledger;
-use node_jobs::share_state;
-use node_merges::{ready_in, send_in};
+use node_merges::{ready_in, send_in, share_state};
 use nrt_base::{At, LineNo, NoMemory, NodeNo, SegNo};
-use replica_node::laws::files_last;
 use seg_merge::Merged;
 use std::alloc::Global;
 

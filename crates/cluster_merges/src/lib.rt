@@ -3,4 +3,5 @@
 
 mod starts;
 
+pub use cluster_places::FileTask;
 pub use starts::start_merge;

@@ -7,11 +7,11 @@ ghost use Rattle.history_book.specs.Log.{printed};
 ghost use Rattle.cluster_state.specs.Run.{IsEnded};
 ghost use Rattle.cluster_drains.specs.MergePaths.{StartsMergeFor};
 
+use cluster_places::PublishFault;
 use cluster_state::ClusterState;
 use disk_model::FaultDir;
 use history_book::Inner;
 use history_entries::Cause;
-use index_primary::PublishFault;
 use node_merges::ask_in;
 use nrt_base::{At, NoMemory, NodeNo, Share};
 use std::alloc::{AllocError, Global};

@@ -6,8 +6,8 @@ use Rattle.nrt_base.specs.declared.doc.Doc.{Doc}
 use Rattle.disk_model.specs.Disk.{Name, Content, Cells, reads_of}
 use Rattle.file_deleter.specs.Holdings.{Holdings, count_of, times}
 use Rattle.file_names.specs.Names.{temp_name_of}
-use Rattle.node_files.specs.Appearing.{NoneAppears, AppearsOnly}
-use Rattle.node_files.proofs.Appearing.{only_none}
+use Rattle.replica_node.specs.Given.{NoneAppears, AppearsOnly, PointJob, MergeCopies, Parts as ReplicaParts, copies_seen, no_copies, IsWholeReplica, AreStanding, IsPointJob, IsSourced, KeepsSource, IsWantedName, copies_beside, pending_after}
+use Rattle.replica_node.proofs.Given.{only_none}
 use Rattle.seg_reader.specs.Stands.{StandsFor}
 use Rattle.copy_state.specs.declared.state.CopyState.{CopyState}
 use Rattle.copy_state.specs.States.{meta_names}
@@ -19,15 +19,6 @@ use Rattle.primary_parts.specs.Primary.{IsPrimary, KeepsHeldBytes, loose_of, IsU
 use Rattle.primary_parts.specs.Held.{IsUndrawn}
 use Rattle.primary_parts.specs.Calls.{HoldsNoNew}
 use Rattle.primary_parts.specs.States.{out_of, states_without, is_out, same_out, IsStateOf}
-use Rattle.replica_parts.specs.declared.job.PointJob.{PointJob}
-use Rattle.replica_parts.specs.declared.merges.MergeCopies.{MergeCopies}
-use Rattle.replica_parts.specs.declared.parts.Parts.{Parts as ReplicaParts}
-use Rattle.replica_parts.specs.Merges.{copies_seen, no_copies}
-use Rattle.replica_parts.specs.Replica.{IsWholeReplica, AreStanding}
-use Rattle.replica_parts.specs.Jobs.{IsPointJob}
-use Rattle.replica_parts.specs.Sources.{IsSourced, KeepsSource, IsWantedName}
-use Rattle.replica_precopies.specs.Overlapping.{copies_beside}
-use Rattle.replica_switches.specs.Parting.{pending_after}
 use Rattle.cluster_places.specs.Outs.{want_of}
 use Rattle.cluster_places.specs.JobChanges.{given_back, copies_begun, AltersStates, AltersJob, BeginsAt, FinishesAt, TakesPart, IsTemporaryIn}
 use Rattle.cluster_places.specs.Ends.{EndsJob, TakesBack}

@@ -9,7 +9,7 @@ use Rattle.primary_parts.specs.Calls.{HoldsNoNew}
 use Rattle.cluster_places.proofs.Stepping.{alters_by, none_by}
 use Rattle.disk_model.specs.Disk.{Name, Cells}
 use Rattle.primary_parts.specs.declared.parts.Parts.{Parts as PrimaryParts}
-use Rattle.replica_parts.specs.declared.parts.Parts.{Parts as ReplicaParts}
+use Rattle.replica_node.specs.Given.{Parts as ReplicaParts}
 use Rattle.cluster_places.specs.declared.held.Held.{Held}
 use Rattle.cluster_places.specs.declared.nodes.Node.TheVariants.{Primary, Replica}
 use Rattle.cluster_places.specs.declared.nodes.Place.{Place}

@@ -1,16 +1,14 @@
 -- What a ticket that is opened or closed leaves of the files of its node.
 use Rattle.std.proofs.Common.{◌≡◌, ◌∙◌, ℕ, List, refl, ap, sym, subst}
 use Rattle.disk_model.specs.Disk.{Cells}
-use Rattle.node_files.specs.Appearing.{NoneAppears}
+use Rattle.replica_node.specs.Given.{NoneAppears, Parts as ReplicaParts, KeepsSource}
 use Rattle.segment_infos.specs.declared.infos.Infos.{Infos}
 use Rattle.primary_parts.specs.declared.parts.Parts.{Parts as PrimaryParts}
 use Rattle.primary_parts.specs.Held.{IsUndrawn}
 use Rattle.primary_parts.specs.Primary.{KeepsHeldBytes, loose_of, filled_of}
 use Rattle.primary_parts.specs.Calls.{HoldsNoNew}
 use Rattle.seg_reader.specs.Shown.{Shown}
-use Rattle.searcher_switch.specs.declared.open.Point.{Point}
-use Rattle.replica_parts.specs.declared.parts.Parts.{Parts as ReplicaParts}
-use Rattle.replica_parts.specs.Sources.{KeepsSource}
+use Rattle.primary_parts.specs.Given.{Point}
 use Rattle.cluster_places.specs.declared.nodes.Node.{Node}
 use Rattle.cluster_places.specs.declared.nodes.Node.TheVariants.{Primary, Replica, Down}
 use Rattle.cluster_places.specs.KeptFiles.{KeepsNodeFiles}

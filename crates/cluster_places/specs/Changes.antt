@@ -2,11 +2,9 @@
 use Rattle.std.specs.Prelude.{ℕ, ◌≡◌, ◌∷◌, ◌++◌, [], false, Option, Some, None, is_some, true, IfSome, IsSomeAnd, if◌then◌else◌}
 use Rattle.disk_model.specs.Disk.{Cells}
 use Rattle.seg_reader.specs.Shown.{Shown}
-use Rattle.searcher_switch.specs.declared.searchers.Lease.{Lease}
-use Rattle.searcher_switch.specs.Searching.{IsLeaseOf}
-use Rattle.searcher_switch.specs.Tickets.{ticket_at, tickets_without}
+use Rattle.primary_parts.specs.Given.{Lease, IsLeaseOf, ticket_at, tickets_without}
 use Rattle.primary_parts.specs.Primary.{IsPrimary}
-use Rattle.replica_parts.specs.Replica.{IsWholeReplica, AreStanding}
+use Rattle.replica_node.specs.Given.{IsWholeReplica, AreStanding}
 use Rattle.cluster_places.specs.declared.held.Key.{Key}
 use Rattle.cluster_places.specs.declared.nodes.Node.{Node}
 use Rattle.cluster_places.specs.declared.nodes.Node.TheVariants.{Primary, Replica, Down}

@@ -5,13 +5,9 @@ use Rattle.segment_infos.specs.declared.infos.Infos.{Infos}
 use Rattle.commit_steps.specs.declared.stage.Stage.{Stage}
 use Rattle.commit_steps.specs.declared.stage.CommitBook.{CommitBook}
 use Rattle.commit_steps.specs.Book.{book_after, is_last_step}
-use Rattle.node_files.specs.Node.{HoldsNoMore}
-use Rattle.node_files.specs.Appearing.{AppearsOnly, IsNameInFlight}
+use Rattle.replica_node.specs.Given.{HoldsNoMore, AppearsOnly, IsNameInFlight, Parts as ReplicaParts, IsWholeReplica, AreStanding, KeepsSource}
 use Rattle.primary_parts.specs.declared.parts.Parts.{Parts as PrimaryParts}
 use Rattle.primary_parts.specs.Primary.{IsPrimary, KeepsHeldBytes}
-use Rattle.replica_parts.specs.declared.parts.Parts.{Parts as ReplicaParts}
-use Rattle.replica_parts.specs.Replica.{IsWholeReplica, AreStanding}
-use Rattle.replica_parts.specs.Sources.{KeepsSource}
 use Rattle.cluster_places.specs.declared.nodes.Node.{Node}
 use Rattle.cluster_places.specs.declared.nodes.Node.TheVariants.{Primary, Replica, Down}
 use Rattle.cluster_places.specs.declared.nodes.Place.{Place}

@@ -5,7 +5,7 @@ use Rattle.nrt_base.specs.declared.doc.Doc.{Doc}
 use Rattle.disk_model.specs.Disk.{Name, Content, Cells, reads_of}
 use Rattle.file_deleter.specs.Holdings.{times}
 use Rattle.file_names.specs.Names.{temp_name_of}
-use Rattle.node_files.specs.Appearing.{NoneAppears, AppearsOnly}
+use Rattle.replica_node.specs.Given.{NoneAppears, AppearsOnly, PointJob, MergeCopies, Parts as ReplicaParts, copies_seen, IsWholeReplica, AreStanding, IsSourced, KeepsSource, IsWantedName, copies_beside, pending_after}
 use Rattle.seg_reader.specs.Stands.{StandsFor}
 use Rattle.segment_infos.specs.Infos.{IsInfosFile}
 use Rattle.copy_state.specs.declared.state.CopyState.{CopyState}
@@ -17,14 +17,6 @@ use Rattle.primary_parts.specs.declared.parts.Parts.{Parts as PrimaryParts}
 use Rattle.primary_parts.specs.declared.states.Out.{Out}
 use Rattle.primary_parts.specs.Primary.{IsPrimary}
 use Rattle.primary_parts.specs.States.{out_of, states_without, IsMetaIn}
-use Rattle.replica_parts.specs.declared.job.PointJob.{PointJob}
-use Rattle.replica_parts.specs.declared.merges.MergeCopies.{MergeCopies}
-use Rattle.replica_parts.specs.declared.parts.Parts.{Parts as ReplicaParts}
-use Rattle.replica_parts.specs.Merges.{copies_seen}
-use Rattle.replica_parts.specs.Replica.{IsWholeReplica, AreStanding}
-use Rattle.replica_parts.specs.Sources.{IsSourced, KeepsSource, IsWantedName}
-use Rattle.replica_precopies.specs.Overlapping.{copies_beside}
-use Rattle.replica_switches.specs.Parting.{pending_after}
 use Rattle.cluster_places.specs.declared.nodes.Place.{Place}
 use Rattle.cluster_places.specs.declared.nodes.Node.TheVariants.{Primary, Replica, Down}
 use Rattle.cluster_places.specs.Outs.{want_of}

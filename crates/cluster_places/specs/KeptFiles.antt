@@ -5,12 +5,10 @@ use Rattle.disk_model.specs.Disk.{Name, Cells}
 use Rattle.file_deleter.specs.Holdings.{count_of}
 use Rattle.segment_infos.specs.Files.{files_of_segment}
 use Rattle.primary_parts.specs.declared.parts.Parts.{Parts as PrimaryParts}
-use Rattle.node_files.specs.Appearing.{NoneAppears, AppearsOnly}
+use Rattle.replica_node.specs.Given.{NoneAppears, AppearsOnly, Parts as ReplicaParts, KeepsSource}
 use Rattle.primary_parts.specs.Held.{IsOwnFile}
 use Rattle.primary_parts.specs.Primary.{KeepsHeldBytes, loose_of}
 use Rattle.primary_parts.specs.Calls.{FillsUndrawn, DrawsOnly, HoldsNoNew}
-use Rattle.replica_parts.specs.declared.parts.Parts.{Parts as ReplicaParts}
-use Rattle.replica_parts.specs.Sources.{KeepsSource}
 use Rattle.cluster_places.specs.declared.nodes.Node.{Node}
 use Rattle.cluster_places.specs.declared.nodes.Node.TheVariants.{Primary, Replica, Down}
 

@@ -4,7 +4,7 @@ ghost use Rattle.std.specs.Prelude.{◌≡◌, None, Some, OnOk, not, if◌then�
 ghost use Rattle.std.specs.List.{filter};
 ghost use Rattle.cluster_places.specs.Held.{same_key, held_number};
 
-use history_facts::same_at;
+use history_tables::same_at;
 use nrt_base::{At, LaneNo, NoMemory, TicketNo};
 
 /// For what a ticket of a node is held: a ticket of a lane, or the search of a line.

@@ -1,8 +1,7 @@
 //! Tickets of nodes: opened, closed, and what a search reads under one.
 
 ghost use Rattle.std.specs.Prelude.{◌≡◌, None, Some, true, is_some, IsSome, IfSome, IfOk, OnOk};
-ghost use Rattle.searcher_switch.specs.Tickets.{ticket_at, tickets_without};
-ghost use Rattle.searcher_switch.specs.Searching.{IsLeaseOf};
+ghost use Rattle.primary_parts.specs.Given.{ticket_at, tickets_without, IsLeaseOf};
 ghost use Rattle.cluster_places.specs.Held.{held_number};
 ghost use Rattle.cluster_places.specs.Places.{place_of, IsSlot, searchers_of, tickets_of};
 ghost use Rattle.cluster_places.specs.KeptFiles.{KeepsNodeFiles};
@@ -12,7 +11,7 @@ use crate::held::{Held, Key, hold, let_go, number_held};
 use crate::nodes::{Node, Place};
 use disk_model::Dir;
 use nrt_base::{NoMemory, NodeNo};
-use searcher_switch::{Lease, Ticket};
+use primary_parts::{Lease, Ticket};
 use seg_reader::Segment;
 use std::alloc::Global;
 

@@ -21,8 +21,7 @@ use copy_job::Part;
 use disk_model::FaultDir;
 use history_book::{Inner, Step};
 use history_merges::Ledger;
-use node_jobs::read_in;
-use node_merges::{CopyStep, runs_in, settle_in, step_in, take_merged_in};
+use node_merges::{CopyStep, read_in, runs_in, settle_in, step_in, take_merged_in};
 use nrt_base::{At, LineNo, NoMemory, NodeNo, SegNo, Share};
 use std::alloc::Global;
 

@@ -10,7 +10,7 @@ use Rattle.history_entries.specs.Nodes.{IsNode, primary_of}
 use Rattle.history_book.specs.Log.{Log, printed, shown}
 use Rattle.history_merges.specs.Merging.{Sheet}
 use Rattle.cluster_tasks.specs.Board.{Board}
-use Rattle.cluster_places.specs.declared.nodes.Place.{Place}
+use Rattle.cluster_state.specs.Given.{Place}
 use Rattle.node_promotions.specs.Promoting.{PromotesIn}
 use Rattle.cluster_state.specs.Run.{Run, Rest}
 use Rattle.cluster_state.specs.State.{Shows}

@@ -9,14 +9,12 @@ ghost use Rattle.cluster_state.specs.State.{PrimaryShows};
 ghost use Rattle.cluster_state.specs.Files.{PrimaryFiles};
 ghost use Rattle.cluster_state.specs.Names.{NamesShow};
 
-use cluster_places::{Node, Place};
+use cluster_places::{Node, NodeParts, Place, Primary, Replica};
 use cluster_state::ClusterState;
 use cluster_tasks::Tasks;
 use disk_model::{Dir, FaultDir};
 use history_merges::Ledger;
-use index_primary::Primary;
 use nrt_base::NoMemory;
-use replica_node::{NodeParts, Replica};
 use std::alloc::{AllocError, Global};
 
 // A replica on an empty directory.

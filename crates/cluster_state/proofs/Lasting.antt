@@ -12,7 +12,7 @@ use Rattle.file_deleter.specs.Holdings.{Holdings, count_of}
 use Rattle.file_deleter.proofs.Keeping.{known_counted}
 use Rattle.commit_steps.specs.declared.stage.CommitBook.{CommitBook}
 use Rattle.node_files.specs.Node.{IsWholeNode}
-use Rattle.replica_opening.specs.Known.{IsLasting}
+use Rattle.replica_parts.specs.Given.{IsLasting}
 use Rattle.replica_parts.specs.Sources.{HeldReadAs}
 
 -- a name with another ending than `.tmp` is no temporary one

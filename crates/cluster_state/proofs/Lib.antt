@@ -20,3 +20,4 @@ pub mod Reigning
 pub mod Ledgers
 pub mod MergingStill
 pub mod MergingPaths
+pub mod Given

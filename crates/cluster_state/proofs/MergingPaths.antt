@@ -19,7 +19,7 @@ use Rattle.replica_parts.specs.declared.merges.MergeCopies.{MergeCopies}
 use Rattle.replica_parts.specs.declared.parts.Parts.{Parts as ReplicaParts}
 use Rattle.replica_parts.specs.Merges.{copy_at, copies_without, CopyApart, AreCopiesApart, no_copies}
 use Rattle.replica_parts.proofs.Merging.{number_at, all_at}
-use Rattle.replica_precopies.specs.Overlapping.{overlaps, copies_beside}
+use Rattle.cluster_places.specs.Given.{overlaps, copies_beside}
 use Rattle.history_entries.specs.declared.entry.Event.{Event}
 use Rattle.history_entries.specs.declared.entry.Event.TheVariants.{Crashed, Promoted, Published, Merging as MergingEvent, Drained}
 use Rattle.history_entries.specs.Nodes.{IsNode, is_at, primary_of}

@@ -26,7 +26,7 @@ use Rattle.primary_parts.specs.Held.{IsOwnSegment, IsOwnFile, IsDrawnRecord}
 use Rattle.primary_parts.specs.Primary.{IsPrimary, loose_of, primary_names, rest_names}
 use Rattle.copy_state.specs.States.{meta_names}
 use Rattle.copy_job.specs.declared.copying.Part.{Part}
-use Rattle.replica_opening.specs.Known.{IsLasting, HasMeta}
+use Rattle.replica_parts.specs.Given.{IsLasting, HasMeta}
 use Rattle.replica_parts.specs.declared.job.PointJob.{PointJob}
 use Rattle.replica_parts.specs.Replica.{IsJobAbove}
 use Rattle.replica_parts.proofs.Metas.{some_meta}

@@ -19,7 +19,7 @@ use Rattle.primary_parts.specs.declared.parts.Parts.{Parts as PrimaryParts}
 use Rattle.searcher_switch.specs.Tickets.{ticket_names}
 use Rattle.searcher_switch.specs.Searching.{searcher_names}
 use Rattle.primary_parts.specs.Primary.{IsPrimary, primary_names, rest_names, loose_of}
-use Rattle.replica_opening.specs.Known.{HasMeta}
+use Rattle.replica_parts.specs.Given.{HasMeta, opening_infos}
 use Rattle.replica_parts.specs.Sources.{HeldReadAs}
 use Rattle.nrt_base.specs.declared.numbers.Version.{Version}
 use Rattle.history_entries.specs.Nodes.{Past, version_of}
@@ -30,7 +30,6 @@ use Rattle.cluster_state.specs.Disks.{IsWritable, IsPastPoint}
 use Rattle.cluster_state.proofs.Points.{unloosed}
 use Rattle.cluster_state.proofs.Naming.{FilesLast}
 use Rattle.cluster_places.specs.JobChanges.{IsStateOfPoint}
-use Rattle.replica_opening.specs.Opening.{opening_infos}
 
 no_segments : AreSegmentsOf [] []
 no_segments = record { sound = λ k d lt. absurd (omega (arith, lt)); apart = λ i j d lt in'. absurd (omega (arith, lt, in')); documents = search rules }

@@ -16,7 +16,7 @@ use Rattle.segment_steps.specs.Next.{record_generation, live_base}
 use Rattle.commit_steps.specs.declared.stage.CommitBook.{CommitBook}
 use Rattle.node_files.specs.Node.{IsWholeNode}
 use Rattle.primary_parts.specs.Held.{IsUnused, IsNextLive, IsUndrawn, part, live, next_live, AreUndrawn, IsDrawnRecord, AreNumbered}
-use Rattle.replica_opening.specs.Known.{IsLasting}
+use Rattle.replica_parts.specs.Given.{IsLasting}
 use Rattle.replica_parts.specs.Sources.{HeldReadAs}
 use Rattle.history_entries.specs.Nodes.{Past, generation_of}
 use Rattle.history_entries.specs.Points.{names_drawn_in, is_drawn}

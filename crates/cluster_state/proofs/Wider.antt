@@ -19,7 +19,7 @@ use Rattle.copy_job.specs.Jobs.{Job as CopyingJob}
 use Rattle.primary_parts.specs.declared.parts.Parts.{Parts as PrimaryParts}
 use Rattle.primary_parts.specs.declared.states.Out.{Out}
 use Rattle.primary_parts.specs.Primary.{IsPrimary}
-use Rattle.replica_opening.specs.Known.{IsLasting, HasMeta}
+use Rattle.replica_parts.specs.Given.{IsLasting, HasMeta}
 use Rattle.replica_parts.specs.declared.job.PointJob.{PointJob}
 use Rattle.replica_parts.specs.declared.parts.Parts.{Parts as ReplicaParts}
 use Rattle.replica_parts.specs.Replica.{IsWholeReplica, HasMetas, IsMergeCopy}

@@ -14,8 +14,7 @@ use Rattle.commit_steps.specs.Book.{commit_of}
 use Rattle.commit_steps.specs.declared.states.Commit.{Commit}
 use Rattle.commit_steps.specs.declared.stage.Stage.{Stage}
 use Rattle.commit_steps.specs.declared.stage.CommitBook.{CommitBook}
-use Rattle.replica_opening.specs.Opening.{FindsPoint}
-use Rattle.replica_opening.specs.Opened.{IsSettledOn}
+use Rattle.replica_parts.specs.Given.{FindsPoint, IsSettledOn}
 use Rattle.history_entries.specs.declared.entry.Event.TheVariants.{Committing}
 use Rattle.history_entries.specs.Nodes.{Past, IsNode, generation_of, newest_version}
 use Rattle.history_entries.specs.Lines.{start_entry, commit_in_flight}

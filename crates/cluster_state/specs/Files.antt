@@ -11,7 +11,7 @@ use Rattle.primary_parts.specs.declared.parts.Parts.{Parts as PrimaryParts}
 use Rattle.primary_parts.specs.declared.states.Out.{Out}
 use Rattle.primary_parts.specs.Primary.{loose_of, IsUnwritten}
 use Rattle.primary_parts.specs.Held.{IsUndrawn}
-use Rattle.replica_opening.specs.Known.{HasMeta, IsLasting}
+use Rattle.replica_parts.specs.Given.{HasMeta, IsLasting}
 use Rattle.replica_parts.specs.declared.job.PointJob.{PointJob}
 use Rattle.replica_parts.specs.declared.parts.Parts.{Parts as ReplicaParts}
 use Rattle.replica_parts.specs.Sources.{HeldReadAs, IsSourced}

@@ -16,3 +16,4 @@ pub mod Settles
 pub mod Lists
 pub mod Merging
 pub mod Sizes
+pub mod Given

@@ -4,7 +4,7 @@ use Rattle.std.specs.List.{All}
 use Rattle.disk_model.specs.Disk.{Name, Content}
 use Rattle.copy_state.specs.States.{meta_names, IsCopyState}
 use Rattle.copy_job.specs.Jobs.{Job}
-use Rattle.seg_merge.specs.declared.task.Merged.{Merged}
+use Rattle.segment_steps.specs.Given.{Merged}
 use Rattle.primary_parts.specs.declared.parts.Parts.{Parts as PrimaryParts}
 use Rattle.primary_parts.specs.declared.states.Merging.{Merging}
 use Rattle.primary_parts.specs.declared.states.Out.{Out}
@@ -15,7 +15,7 @@ use Rattle.replica_parts.specs.declared.parts.Parts.{Parts as ReplicaParts}
 use Rattle.replica_parts.specs.Merges.{copy_at}
 use Rattle.history_entries.specs.Nodes.{IsNode, primary_of}
 use Rattle.history_book.specs.Log.{Log, printed}
-use Rattle.primary_starts.specs.StartCalls.{IsFitTask}
+use Rattle.cluster_places.specs.Given.{IsFitTask}
 use Rattle.cluster_tasks.specs.declared.tasks.TaskKind.{TaskKind}
 use Rattle.cluster_tasks.specs.declared.tasks.TaskKind.TheVariants.{Merge, PreCopy, Cut}
 use Rattle.cluster_tasks.specs.declared.tasks.Spread.{Spread}

@@ -1,6 +1,6 @@
 -- The sizes of the primary's segments, of which merges are chosen.
 use Rattle.std.specs.Prelude.{ℕ, List, [], ◌∷◌, Option, Some, None}
-use Rattle.primary_starts.specs.StartCalls.{merge_sizes}
+use Rattle.cluster_places.specs.Given.{merge_sizes}
 use Rattle.cluster_places.specs.declared.nodes.Node.{Node}
 use Rattle.cluster_places.specs.declared.nodes.Node.TheVariants.{Primary, Replica, Down}
 use Rattle.cluster_places.specs.declared.nodes.Place.{Place}

@@ -5,3 +5,6 @@ mod cluster;
 mod laws;
 
 pub use cluster::ClusterState;
+pub use cluster_places::{
+    CommitTask, CopyTask, FileTask, Node, Place, Replica, SettleTask, files_last,
+};

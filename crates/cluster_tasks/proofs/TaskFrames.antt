@@ -10,7 +10,7 @@ use Rattle.nrt_base.specs.declared.numbers.At.{At}
 use Rattle.nrt_base.specs.declared.numbers.LineNo.{LineNo}
 use Rattle.nrt_base.specs.declared.numbers.NodeNo.{NodeNo}
 use Rattle.nrt_base.specs.declared.numbers.SegNo.{SegNo}
-use Rattle.seg_reader.specs.Shown.{Shown}
+use Rattle.seg_merge.specs.Given.{Shown}
 use Rattle.history_entries.specs.declared.cause.FaultKind.{FaultKind}
 use Rattle.history_entries.specs.declared.entry.Entry.{Entry}
 use Rattle.history_entries.specs.declared.entry.Event.{Event}
@@ -21,11 +21,7 @@ use Rattle.nrt_base.specs.SegNumbers.{segments_of_generation}
 use Rattle.history_entries.specs.Lines.{same_at, entries_of_line}
 use Rattle.history_entries.specs.Tasks.{merge_count, drained_count}
 use Rattle.history_tables.proofs.RowLemmas.{by_test, same_at_self, same_at_is}
-use Rattle.history_book.specs.Log.{Log, printed, shown, kept, mark_for}
-use Rattle.history_book.specs.declared.inner.Inner.{Inner}
-use Rattle.history_book.specs.declared.inner.Inner.TheVariants.{MergeOut, MergeEnd, TaskEnd}
-use Rattle.history_book.specs.declared.inner.Mark.TheVariants.{Shown as ShownMark, TaskFault as FaultMark, Kept as KeptMark}
-use Rattle.history_book.specs.declared.inner.Step.{Step}
+use Rattle.history_merges.specs.Given.{Log, printed, shown, kept, mark_for, Inner, MergeOut, MergeEnd, TaskEnd, Shown as ShownMark, TaskFault as FaultMark, Kept as KeptMark, Step}
 use Rattle.history_merges.specs.Merging.{merge_by, merge_on, ends_reign}
 use Rattle.cluster_tasks.specs.declared.tasks.TaskKind.{TaskKind}
 use Rattle.cluster_tasks.specs.declared.tasks.TaskKind.TheVariants.{Merge, PreCopy, Cut}

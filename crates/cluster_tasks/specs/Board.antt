@@ -9,9 +9,7 @@ use Rattle.nrt_base.specs.declared.numbers.SegNo.{SegNo}
 use Rattle.seg_merge.specs.declared.task.MergeTask.{MergeTask}
 use Rattle.history_entries.specs.Lines.{same_at}
 use Rattle.history_entries.specs.Tasks.{merge_count, drained_count}
-use Rattle.history_book.specs.Log.{Log, printed}
-use Rattle.history_book.specs.declared.inner.Step.{Step}
-use Rattle.history_book.specs.declared.inner.Step.TheVariants.{Merge as MergeStep, PreCopy as PreCopyStep, Cut as CutStep}
+use Rattle.history_merges.specs.Given.{Log, printed, Step, Merge as MergeStep, PreCopy as PreCopyStep, Cut as CutStep}
 use Rattle.history_merges.specs.Merging.{merge_on}
 use Rattle.cluster_tasks.specs.declared.drains.Counted.{Counted}
 use Rattle.cluster_tasks.specs.declared.tasks.TaskKind.{TaskKind}

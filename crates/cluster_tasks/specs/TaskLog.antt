@@ -6,17 +6,14 @@ use Rattle.nrt_base.specs.declared.numbers.At.{At}
 use Rattle.nrt_base.specs.declared.numbers.NodeNo.{NodeNo}
 use Rattle.nrt_base.specs.declared.numbers.SegNo.{SegNo}
 use Rattle.disk_model.specs.Disk.{Name, Content, same}
-use Rattle.seg_reader.specs.Shown.{Shown}
+use Rattle.seg_merge.specs.Given.{Shown}
 use Rattle.seg_merge.specs.declared.task.MergeTask.{MergeTask}
 use Rattle.history_entries.specs.declared.entry.Event.{Event}
 use Rattle.history_entries.specs.declared.entry.Event.TheVariants.{Merging, Drained, Crashed}
 use Rattle.history_entries.specs.Nodes.{Past, is_at}
 use Rattle.history_entries.specs.Lines.{same_at}
 use Rattle.history_entries.specs.Points.{names_drawn}
-use Rattle.history_book.specs.Log.{Log}
-use Rattle.history_book.specs.declared.inner.Inner.{Inner}
-use Rattle.history_book.specs.declared.inner.Inner.TheVariants.{MergeOut, MergeEnd, FileOut, TaskEnd}
-use Rattle.history_book.specs.declared.inner.Mark.TheVariants.{Kept}
+use Rattle.history_merges.specs.Given.{Log, Inner, MergeOut, MergeEnd, FileOut, TaskEnd, Kept}
 
 -- the older of two, where there is one
 abbrev pub or_first : {A : Type 0} → (older mine : Option A) → Option A

@@ -5,7 +5,7 @@ ghost use Rattle.std.specs.List.{filter};
 ghost use Rattle.history_entries.specs.Lines.{same_at};
 ghost use Rattle.cluster_tasks.specs.Board.{done_under};
 
-use history_facts::same_at;
+use history_tables::same_at;
 use nrt_base::{At, NoMemory};
 use std::alloc::AllocError;
 

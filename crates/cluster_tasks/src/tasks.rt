@@ -4,7 +4,7 @@ ghost use Rattle.std.specs.Prelude.{◌≡◌};
 ghost use Rattle.cluster_tasks.specs.Board.{step_of};
 
 use copy_state::CopyState;
-use history_book::Step;
+use history_merges::Step;
 use nrt_base::{At, LineNo, List, NodeNo, SegNo};
 use seg_merge::MergeTask;
 

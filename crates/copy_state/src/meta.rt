@@ -3,7 +3,7 @@
 ghost use Rattle.std.specs.Prelude.{◌≡◌, ◌↔◌, IsTrue};
 
 use codec_frame::FrameFault;
-use nrt_base::{NameBytes, NoMemory, Share};
+use segment_infos::{NameBytes, NoMemory, Share};
 use std::alloc::Global;
 
 /// The index header of a file, its last sixteen bytes, its length, and its last eight bytes as a number.

@@ -7,7 +7,7 @@ ghost use Rattle.copy_state.specs.Meta.{name_length, told_header, meta_fault, me
 
 use crate::meta::{FileMetaData, MetaFault};
 use codec_frame::{FOOTER_LENGTH, FOOTER_MAGIC, FrameFault, HEADER_MAGIC};
-use nrt_base::NameBytes;
+use segment_infos::NameBytes;
 use std::alloc::Global;
 
 /// How many bytes a file has at least: an index header without a name and a suffix, and a footer.

@@ -2,7 +2,7 @@
 
 use super::*;
 use codec_frame::FrameFault;
-use nrt_base::{NoMemory, Share};
+use segment_infos::{NoMemory, Share};
 use std::alloc::Global;
 use std::test::Fail;
 

@@ -17,9 +17,7 @@ use crate::slot::Slot;
 use crate::state::State;
 use crate::table;
 use bytes::Bytes;
-use disk_model::{Dir, DirFault, FaultDir};
-use file_names::FileName;
-use nrt_base::NoMemory;
+use disk_model::{Dir, DirFault, FaultDir, FileName, NoMemory};
 use std::alloc::Global;
 use std::collections::BTreeMap;
 

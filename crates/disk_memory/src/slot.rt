@@ -5,7 +5,7 @@ ghost use Rattle.disk_memory.specs.Held.{untouched, content_of, outcome_of, ends
 ghost use Rattle.disk_memory.specs.Crash.{picked, is_picked, started};
 
 use crate::state::{Outcome, State, place_picked};
-use nrt_base::NoMemory;
+use disk_model::NoMemory;
 use std::alloc::Global;
 use std::marker::Model;
 use std::mem;

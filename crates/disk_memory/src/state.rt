@@ -5,7 +5,7 @@ ghost use Rattle.disk_memory.specs.Held.{content_of, outcome_of, is_same};
 ghost use Rattle.disk_memory.specs.Crash.{place_picked, length_left, content_left, started, drawn_below, next_number};
 
 use bytes::Bytes;
-use nrt_base::NoMemory;
+use disk_model::NoMemory;
 
 /// What reads now under a name: nothing, bytes that are not synced, or synced bytes.
 #[derive(Drop)]

@@ -14,9 +14,7 @@ ghost use Rattle.std.specs.Ordering.{nat_cmp};
 use crate::slot::Slot;
 use crate::state::{Outcome, State, next_number};
 use bytes::Bytes;
-use disk_model::DirFault;
-use file_names::FileName;
-use nrt_base::NoMemory;
+use disk_model::{DirFault, FileName, NoMemory};
 use std::alloc::Global;
 use std::collections::BTreeMap;
 

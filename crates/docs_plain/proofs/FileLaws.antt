@@ -1,8 +1,7 @@
 -- A file of documents, as one of the framed files.
 use Rattle.std.proofs.Common.{◌≡◌, ℕ, ◌^◌, ◌<◌, ◌++◌, List, [], length, refl, arith}
 use Rattle.std.specs.Prelude.{codes}
-use Rattle.codec_frame.specs.Frame.{IsFramed, index_header, with_footer}
-use Rattle.codec_frame.specs.declared.frame.Framed.{Framed}
+use Rattle.body_forms.specs.Given.{IsFramed, index_header, with_footer, Framed}
 use Rattle.body_forms.specs.File.{IsOneToOne, HasSmallBody}
 use Rattle.body_forms.proofs.FileLaws.{IsFileKind, body_of, same_body, framed_file, of_each_body}
 use Rattle.docs_plain.specs.Documents.{SpellsDocuments, documents_wanted}

@@ -4,7 +4,7 @@ use Rattle.std.specs.Prelude.{IsTrue, ◌&&◌}
 use Rattle.std.proofs.lemmas.Bool.{and_parts, and_from, leb-true}
 use Rattle.nrt_base.specs.Bytes.{is_key, is_text}
 use Rattle.nrt_base.specs.declared.doc.Doc.{Doc}
-use Rattle.codec_frame.specs.Bytes.{AreBytes}
+use Rattle.body_forms.specs.Given.{AreBytes}
 use Rattle.body_forms.specs.Format.{Read, IsFormat}
 use Rattle.body_forms.specs.Numbers.{string, string_at}
 use Rattle.body_forms.proofs.Formats.{read_is, tested_format}

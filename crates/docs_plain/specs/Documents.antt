@@ -6,7 +6,7 @@ use Rattle.nrt_base.specs.declared.doc.Doc.{Doc}
 use Rattle.body_forms.specs.Numbers.{string}
 use Rattle.body_forms.specs.ItemTable.{IsItemTable}
 use Rattle.body_forms.specs.File.{IsFile}
-use Rattle.codec_frame.specs.Frame.{Wanted}
+use Rattle.body_forms.specs.Given.{Wanted}
 
 -- a row: the key as a string, then the text
 abbrev pub row : Doc → List ℕ

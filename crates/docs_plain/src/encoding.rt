@@ -7,9 +7,8 @@ ghost use Rattle.docs_plain.specs.Rows.{SpellsSmall};
 
 use crate::file::{NAME, VERSION};
 use crate::row::push_row;
-use body_forms::{push_end, push_table};
+use body_forms::{push_end, push_table, write_footer, write_index_header};
 use bytes::Bytes;
-use codec_frame::{write_footer, write_index_header};
 use nrt_base::{Doc, NoMemory};
 use std::alloc::Global;
 

@@ -4,14 +4,13 @@ ghost use Rattle.std.specs.Prelude.{◌≡◌, ◌↔◌, ◌<◌, IsTrue, IfSom
 ghost use Rattle.std.specs.List.{All};
 ghost use Rattle.nrt_base.specs.Bytes.{is_key, is_text};
 ghost use Rattle.nrt_base.specs.declared.doc.Doc.{Doc};
-ghost use Rattle.codec_frame.specs.Checking.{IsChecked};
+ghost use Rattle.body_forms.specs.Given.{IsChecked};
 ghost use Rattle.body_forms.specs.File.{IsFileRead};
 ghost use Rattle.docs_plain.specs.Documents.{IsRow, SpellsDocuments, documents_wanted};
 
 use crate::row::{is_row, parts_of};
-use body_forms::{is_item_table, item_at, item_count};
+use body_forms::{FileFault, FrameFault, Framed, Want, check, is_item_table, item_at, item_count};
 use bytes::Bytes;
-use codec_frame::{FileFault, FrameFault, Framed, Want, check};
 use nrt_base::{NoMemory, Share};
 use std::alloc::Global;
 use std::marker::Model;

@@ -1,6 +1,6 @@
 use super::*;
+use body_forms::{FileFault, FrameFault, write_footer, write_index_header};
 use bytes::Bytes;
-use codec_frame::{FileFault, FrameFault, write_footer, write_index_header};
 use nrt_base::{Doc, Key, Text};
 use std::alloc::Global;
 use std::test::Fail;

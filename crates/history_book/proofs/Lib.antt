@@ -8,3 +8,4 @@ pub mod CommitLaws
 pub mod JobLaws
 mod BookLemmas
 mod Weaving
+pub mod Given

@@ -12,7 +12,7 @@ use Rattle.history_entries.specs.Lines.{start_entry, before_start, last_of_line,
 use Rattle.history_entries.specs.Faults.{has_met_fault}
 use Rattle.history_entries.specs.Commits.{is_stuck, reopenable_versions}
 use Rattle.history_entries.specs.Points.{accepted_at_start, published_in_generation, operations_of_generation, operations_at, operations_at_start, operations_written, cut_of}
-use Rattle.history_facts.specs.Origins.{operations_before_generation}
+use Rattle.history_tables.specs.Given.{operations_before_generation}
 use Rattle.history_tables.specs.declared.lines.Begun.{Begun}
 use Rattle.history_tables.specs.declared.lines.Start.TheVariants.{Publishing as PublishStart}
 use Rattle.history_tables.specs.Begins.{event_of, open_line}

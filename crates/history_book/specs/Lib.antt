@@ -4,3 +4,4 @@ pub mod Tells
 pub mod Laws
 pub mod Steps
 pub mod Jobs
+pub mod Given

@@ -16,7 +16,7 @@ use Rattle.history_book.specs.Laws.{Flying}
 use Rattle.history_entries.specs.Lines.{same_at, is_start, is_reply, before_start, without_at, publish_in_flight}
 use Rattle.history_entries.specs.Points.{operations_of_generation, accepted_at_start, published_in_generation, names_drawn, merges_started, idle_publishes, adds_none, cut_has_put}
 use Rattle.history_entries.specs.Legal.{IsLegalPast}
-use Rattle.history_tables.proofs.RowLemmas.{same_at_self}
+use Rattle.history_book.proofs.Given.{same_at_self}
 use Rattle.history_book.specs.Turns.{StartsOnce, InTurn, AreInTurn}
 use Rattle.history_book.specs.Log.{Log, printed, shown, kept, mark_for}
 use Rattle.history_book.specs.Steps.{publish_by}

@@ -43,8 +43,8 @@ impl Ledger {
     ghost use Rattle.history_entries.specs.Points.{cut_of, merges_started, idle_publishes};
     ghost use Rattle.history_entries.specs.Rules.{MayStartMerge, MayPromote};
     ghost use Rattle.history_entries.specs.Legal.{KeepsRule, IsLegalPast};
-    ghost use Rattle.history_tables.specs.Openings.{opens_ticket};
-    ghost use Rattle.history_tables.specs.JobRows.{is_begin};
+    ghost use Rattle.history_book.specs.Given.{opens_ticket};
+    ghost use Rattle.history_book.specs.Given.{is_begin};
     ghost use Rattle.history_book.specs.Turns.{IsUnbegun, InTurn, AreInTurn};
     ghost use Rattle.history_book.specs.Jobs.{job_step, IsInside};
     ghost use Rattle.history_book.specs.Log.{printed, shown, kept, mark_for, FollowsMerging};

@@ -6,5 +6,6 @@ pub mod merges;
 #[cfg(test)]
 mod tests;
 
+pub use history_book::Step;
 pub use ledger::Ledger;
 pub use merges::{MergeRow, Merges};

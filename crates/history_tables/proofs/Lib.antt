@@ -1,3 +1,4 @@
 pub mod RowLemmas
 mod NodeRowLemmas
 mod JobRowLemmas
+pub mod Given

@@ -5,3 +5,4 @@ pub mod WorkRows
 pub mod PlanRows
 pub mod Openings
 pub mod JobRows
+pub mod Given

@@ -12,6 +12,7 @@ mod tests;
 pub mod tickets;
 pub mod work;
 
+pub use history_facts::same_at;
 pub use jobs::{Job, JobRow, JobStep, JobTable};
 pub use lines::{Begun, Lines, Start};
 pub use numbers::Numbers;

@@ -1,3 +1,4 @@
 mod Stays
 mod JobCalls
 mod Steps
+pub mod Given

@@ -5,4 +5,5 @@ pub mod committing;
 pub mod lives;
 
 pub use committing::commit;
+pub use lane_sections::{Cluster, Gate, Place};
 pub use lives::{crash, promote, reopen};

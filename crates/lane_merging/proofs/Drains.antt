@@ -12,10 +12,8 @@ use Rattle.hist_lock.specs.declared.lock.LaneSeat.{LaneSeat}
 use Rattle.lane_seats.specs.Seats.{log_seen}
 use Rattle.line_turns.specs.declared.turn.Turn.{Turn}
 use Rattle.line_turns.specs.declared.turn.Turn.TheVariants.{Work, Done, Busy}
-use Rattle.line_merges.specs.TaskCalls.{DrainTurns}
+use Rattle.lane_copying.specs.Given.{DrainTurns, IsRepliedAtDone, NeverWaits, IsUnbegunIn, TurnShows, TakesLineTo}
 use Rattle.cluster_state.specs.Run.{Run}
-use Rattle.cluster_core.specs.Doing.{IsRepliedAtDone}
-use Rattle.lane_sections.specs.Turns.{NeverWaits, IsUnbegunIn, TurnShows, TakesLineTo}
 use Rattle.lane_merging.specs.Taken.{WorksOn}
 use Rattle.lane_merging.proofs.Silence.{silent_serves, silent_fresh}
 

@@ -25,10 +25,8 @@ use Rattle.cluster_state.specs.Run.{Run, IsEnded}
 use Rattle.cluster_drains.specs.MergePaths.{TakesTask}
 use Rattle.line_turns.specs.declared.turn.Turn.{Turn}
 use Rattle.line_turns.specs.declared.turn.Turn.TheVariants.{Work, Done, Busy}
-use Rattle.line_merges.specs.TaskCalls.{PrecopyTurns}
-use Rattle.cluster_core.specs.Doing.{Does}
-use Rattle.cluster_core.specs.Tasks.{DoesTask}
-use Rattle.lane_sections.proofs.Sections.{IsLeft, call_extends}
+use Rattle.lane_copying.specs.Given.{PrecopyTurns, Does, DoesTask}
+use Rattle.lane_copying.proofs.Given.{IsLeft, call_extends}
 use Rattle.lane_merging.specs.Taken.{IsTakerAt, GrowsSilently, WorksOn, TakesOn, HandsOn}
 use Rattle.lane_merging.proofs.Silence.{silent_first, silent_then, section_silent}
 

@@ -4,17 +4,15 @@ ghost use Rattle.std.specs.Prelude.{◌≡◌, [], false, Some, IfOk, OnOk, OnEr
 ghost use Rattle.history_entries.specs.Lines.{entries_of_line};
 ghost use Rattle.history_book.specs.Log.{printed};
 ghost use Rattle.script_serving.specs.declared.script.LineCommand.TheVariants.{Drain};
-ghost use Rattle.cluster_core.specs.Doing.{Does};
+ghost use Rattle.lane_copying.specs.Given.{Does, IsUnbegunIn, NeverWaits, TurnShows, TurnsLine};
 ghost use Rattle.lane_seats.specs.Seats.{log_seen, IsLaneSeat, EndsItsLine};
-ghost use Rattle.lane_sections.specs.Turns.{IsUnbegunIn, NeverWaits, TurnShows, TurnsLine};
 ghost use Rattle.lane_merging.specs.Taken.{WorksOn};
 
 use crate::tasks::do_first;
-use cluster_core::{Cluster, Turn};
 use disk_model::FaultDir;
 use hist_lock::{HistLock, LaneSeat};
+use lane_copying::{Cluster, Gate, Turn, enter_cluster, give_way};
 use lane_seats::{Halt, leave};
-use lane_sections::{Gate, enter_cluster, give_way};
 use nrt_base::{At, NoMemory};
 use std::alloc::{AllocError, Global};
 use std::sync::Wait;

@@ -7,5 +7,6 @@ pub mod precopying;
 pub mod tasks;
 
 pub use draining::drain;
+pub use lane_copying::{copy, settle};
 pub use merging::merge;
 pub use tasks::do_posted;

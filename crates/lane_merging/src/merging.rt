@@ -6,11 +6,10 @@ ghost use Rattle.history_book.specs.Log.{printed};
 ghost use Rattle.script_serving.specs.declared.script.LineCommand.TheVariants.{Merge};
 ghost use Rattle.lane_seats.specs.Seats.{log_seen, IsLaneSeat, EndsItsLine};
 
-use cluster_core::Cluster;
 use disk_model::FaultDir;
 use hist_lock::{HistLock, LaneSeat};
+use lane_copying::{Cluster, enter_cluster};
 use lane_seats::{Halt, leave};
-use lane_sections::enter_cluster;
 use nrt_base::{At, NoMemory};
 use std::alloc::Global;
 use std::sync::Wait;

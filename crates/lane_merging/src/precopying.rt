@@ -7,15 +7,14 @@ ghost use Rattle.cluster_tasks.specs.TaskLog.{carried_out};
 ghost use Rattle.lane_seats.specs.Seats.{log_seen, IsLaneSeat};
 ghost use Rattle.lane_merging.specs.Taken.{IsTakerAt, IsCarriedIn, WorksOn, HandsOn};
 
-use cluster_core::{Cluster, Turn};
 use cluster_places::FileTask;
 use cluster_tasks::{Sent, Task};
 use copy_job::Part;
 use disk_model::FaultDir;
 use hist_lock::{HistLock, LaneSeat};
 use lane_copying::carrying::carry;
+use lane_copying::{Cluster, Gate, Turn, enter_cluster, give_way};
 use lane_seats::{Halt, leave};
-use lane_sections::{Gate, enter_cluster, give_way};
 use nrt_base::{At, NoMemory};
 use std::alloc::Global;
 use std::sync::Wait;

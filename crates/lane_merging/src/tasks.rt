@@ -7,14 +7,13 @@ ghost use Rattle.lane_parts.specs.Parts.{IsIdleLane, HasHeard};
 ghost use Rattle.lane_merging.specs.Taken.{IsTakerAt, IsTaskIn, IsMergeIn, WorksOn, TakesOn};
 
 use crate::precopying::copy_over;
-use cluster_core::{Cluster, Turn};
 use cluster_tasks::{Sent, Task, TaskKind};
 use disk_model::FaultDir;
 use hist_lock::{HistLock, LaneSeat};
 use history_facts::is_node;
+use lane_copying::{Cluster, Gate, Place, Turn, enter_cluster, give_way};
 use lane_parts::Lane;
 use lane_seats::{Halt, leave};
-use lane_sections::{Gate, Place, enter_cluster, give_way};
 use nrt_base::{At, LineNo, NoMemory};
 use seg_merge::{MergeTask, Merged, merge};
 use std::alloc::{AllocError, Global};

@@ -9,14 +9,13 @@ use Rattle.history_entries.specs.Commits.{is_disk_fault}
 use Rattle.history_entries.specs.Lines.{entries_of_line}
 use Rattle.history_entries.specs.Nodes.{primary_of}
 use Rattle.history_book.specs.Log.{Log, printed, shown}
-use Rattle.cluster_places.specs.declared.nodes.Place.{Place}
+use Rattle.cluster_merges.specs.Given.{Place}
 use Rattle.cluster_tasks.specs.declared.tasks.OpenMerge.{OpenMerge}
 use Rattle.cluster_tasks.specs.TaskLog.{counted_for}
 use Rattle.cluster_tasks.specs.Board.{Board, done_under}
 use Rattle.cluster_tasks.proofs.TaskFrames.{undrained}
-use Rattle.cluster_state.specs.Run.{Run}
-use Rattle.cluster_state.specs.Merging.{MergesStand}
-use Rattle.cluster_drains.specs.MergePaths.{IsAsBefore, StartsMergeFor}
+use Rattle.line_turns.specs.Given.{Run, MergesStand}
+use Rattle.cluster_cut_overs.specs.Given.{IsAsBefore, StartsMergeFor}
 use Rattle.line_turns.specs.Calls.{LineRefused}
 use Rattle.line_merges.specs.TaskCalls.{RefusesMerge, StartsAtPrimary, MergeLine}
 

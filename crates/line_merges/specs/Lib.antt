@@ -1,1 +1,2 @@
 pub mod TaskCalls
+pub mod Given

@@ -16,9 +16,9 @@ use Rattle.history_book.specs.Log.{printed, shown}
 use Rattle.history_book.specs.Jobs.{job_at}
 use Rattle.cluster_tasks.specs.TaskLog.{counted_for}
 use Rattle.cluster_tasks.specs.Board.{open_merge, spread_at, has_copy_task, is_copied}
-use Rattle.cluster_places.specs.declared.tasks.FileTask.{FileTask}
-use Rattle.cluster_state.specs.Run.{Run}
-use Rattle.cluster_drains.specs.MergePaths.{IsBoard, IsAsBefore, BeginsMerge, HandsMergedFile, EndsCopyTask, CutsOver}
+use Rattle.cluster_merges.specs.Given.{FileTask}
+use Rattle.line_turns.specs.Given.{Run}
+use Rattle.cluster_cut_overs.specs.Given.{IsBoard, IsAsBefore, BeginsMerge, HandsMergedFile, EndsCopyTask, CutsOver}
 use Rattle.line_turns.specs.declared.turn.Turn.{Turn}
 use Rattle.line_turns.specs.declared.turn.Turn.TheVariants.{Work, Done, Busy}
 

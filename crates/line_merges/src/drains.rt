@@ -4,13 +4,12 @@ ghost use Rattle.std.specs.Prelude.{◌≡◌, ◌≤◌, [], false, IfOk, OnErr
 ghost use Rattle.history_entries.specs.Lines.{entries_of_line};
 ghost use Rattle.history_book.specs.Log.{printed};
 ghost use Rattle.cluster_tasks.specs.TaskLog.{counted_for};
-ghost use Rattle.cluster_state.specs.Run.{IsEnded};
+ghost use Rattle.line_turns.specs.Given.{IsEnded};
 ghost use Rattle.line_merges.specs.TaskCalls.{DrainTurns};
 
-use cluster_drains::note_drained;
-use cluster_state::ClusterState;
+use cluster_cut_overs::note_drained;
 use disk_model::FaultDir;
-use line_turns::Turn;
+use line_turns::{ClusterState, Turn};
 use nrt_base::{At, NoMemory};
 
 /// How many tasks count for a line of which nothing stands there.

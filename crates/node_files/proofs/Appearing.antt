@@ -4,10 +4,8 @@ use Rattle.disk_model.specs.Disk.{Name, Content, Cells, is_among, same}
 use Rattle.disk_model.proofs.CellLemmas.{same_true}
 use Rattle.file_names.specs.Names.{is_commit_name, is_pending_name, commit_number, pending_number}
 use Rattle.file_names.proofs.NameLaws.{pending_number-pending_name}
-use Rattle.file_deleter.specs.Holdings.{Holdings, count_of, times, IsThere, IsWhole}
-use Rattle.file_deleter.specs.Moves.{KeepsFiles, Shifts}
-use Rattle.file_deleter.proofs.NameLemmas.{times-append, times-cons}
-use Rattle.file_deleter.proofs.Keeping.{known_counted}
+use Rattle.commit_steps.specs.Given.{Holdings, count_of, times, IsThere, IsWhole, KeepsFiles, Shifts}
+use Rattle.commit_steps.proofs.Given.{times-append, times-cons, known_counted}
 use Rattle.commit_steps.specs.declared.states.Commit.{Commit}
 use Rattle.commit_steps.specs.declared.stage.Stage.{Stage}
 use Rattle.commit_steps.specs.declared.stage.Stage.TheVariants.{Begun, Synced, Written, Pending, Named, Renamed}

@@ -3,10 +3,8 @@ use Rattle.std.proofs.Common.{◌≡◌, ◌⊎◌, ◌<◌, ◌≤◌, true≢f
 use Rattle.std.proofs.lemmas.List.Elements.{All-contains_itself}
 use Rattle.disk_model.specs.Disk.{Name, Cells, same, is_among}
 use Rattle.file_names.specs.Names.{is_commit_name, is_pending_name}
-use Rattle.file_deleter.specs.Holdings.{Holdings, count_of, times, AreThere, AreCounted}
-use Rattle.file_deleter.specs.Moves.{KeepsFiles, LetsGo, MovesCounts, Shifts}
-use Rattle.file_deleter.proofs.NameLemmas.{times-append, among_times}
-use Rattle.file_deleter.proofs.Keeping.{keeps_refl, known_counted}
+use Rattle.commit_steps.specs.Given.{Holdings, count_of, times, AreThere, AreCounted, KeepsFiles, LetsGo, MovesCounts, Shifts}
+use Rattle.commit_steps.proofs.Given.{times-append, among_times, keeps_refl, known_counted}
 use Rattle.commit_steps.specs.Commits.{ImagesAre}
 use Rattle.commit_steps.specs.Book.{book_names, shown_by, IsBookSound}
 use Rattle.commit_steps.specs.declared.stage.CommitBook.{CommitBook}

@@ -4,11 +4,8 @@ use Rattle.std.specs.Prelude.{IfSome}
 use Rattle.disk_model.specs.Disk.{Name, Cells}
 use Rattle.disk_model.proofs.CellLemmas.{same_apart}
 use Rattle.file_names.specs.Names.{is_commit_name, is_pending_name}
-use Rattle.file_deleter.specs.Holdings.{Holdings, times}
-use Rattle.file_deleter.proofs.NameLemmas.{times-append, times-cons}
-use Rattle.segment_infos.specs.declared.infos.Infos.{Infos}
-use Rattle.segment_infos.specs.Files.{AreFilesOf}
-use Rattle.segment_infos.proofs.SetLaws.{one_list_of}
+use Rattle.commit_steps.specs.Given.{Holdings, times, Infos, AreFilesOf}
+use Rattle.commit_steps.proofs.Given.{times-append, times-cons, one_list_of}
 use Rattle.commit_steps.specs.declared.states.Commit.{Commit}
 use Rattle.commit_steps.specs.declared.stage.Stage.{Stage}
 use Rattle.commit_steps.specs.declared.stage.Stage.TheVariants.{Begun, Synced, Written, Pending, Named, Renamed}

@@ -5,10 +5,8 @@ use Rattle.disk_model.specs.Disk.{Name, Cells, is_among}
 use Rattle.disk_model.proofs.CellLemmas.{same_apart}
 use Rattle.file_names.specs.Names.{is_commit_name, is_pending_name, commit_number, pending_number, commit_name_of, pending_name_of}
 use Rattle.file_names.proofs.NameLaws.{commit_number-commit_name, pending_number-pending_name, commit_name_is_one, pending_name_is_one, commit_name_not_pending, pending_name_not_commit, commit_name_only, pending_name_only}
-use Rattle.file_deleter.specs.Holdings.{Holdings, count_of, is_known, times, IsWhole}
-use Rattle.file_deleter.specs.Moves.{Shifts}
-use Rattle.file_deleter.proofs.NameLemmas.{times-append, times-cons, not_among_times}
-use Rattle.file_deleter.proofs.Keeping.{known_counted, known_uncounted}
+use Rattle.commit_steps.specs.Given.{Holdings, count_of, is_known, times, IsWhole, Shifts}
+use Rattle.commit_steps.proofs.Given.{times-append, times-cons, not_among_times, known_counted, known_uncounted}
 use Rattle.commit_steps.specs.declared.states.Commit.{Commit}
 use Rattle.commit_steps.specs.declared.stage.Stage.{Stage}
 use Rattle.commit_steps.specs.declared.stage.Stage.TheVariants.{Begun, Synced, Written, Pending, Named, Renamed}

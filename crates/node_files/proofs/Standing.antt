@@ -8,12 +8,9 @@ use Rattle.nrt_base.specs.declared.doc.Doc.{Doc}
 use Rattle.file_names.specs.Names.{part_name_of, live_name_of}
 use Rattle.file_names.specs.declared.composed.SegPart.TheVariants.{Docs, Post, Info}
 use Rattle.disk_model.specs.Disk.{Name, Content, Cells, Image, is_among}
-use Rattle.segment_infos.specs.declared.infos.SegRecord.{SegRecord}
-use Rattle.segment_infos.specs.declared.infos.Infos.{Infos}
-use Rattle.segment_infos.specs.Files.{files_of_segment}
+use Rattle.commit_steps.specs.Given.{SegRecord, Infos, files_of_segment, Holdings}
 use Rattle.seg_reader.specs.Shown.{Shown}
 use Rattle.seg_reader.specs.Stands.{IsLiveFileIn, IsSegmentIn, StandsFor}
-use Rattle.file_deleter.specs.Holdings.{Holdings}
 use Rattle.commit_steps.specs.declared.states.Commit.{Commit}
 use Rattle.commit_steps.specs.declared.stage.Stage.{Stage}
 use Rattle.commit_steps.specs.declared.stage.Stage.TheVariants.{Begun, Synced, Written, Pending, Named, Renamed}

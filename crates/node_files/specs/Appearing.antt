@@ -2,7 +2,7 @@
 use Rattle.std.specs.Prelude.{◌≡◌, ◌⊎◌, true, Option, None, IsSomeAnd}
 use Rattle.disk_model.specs.Disk.{Name, Cells}
 use Rattle.file_names.specs.Names.{is_commit_name, is_pending_name, commit_number, pending_number}
-use Rattle.file_deleter.specs.Holdings.{IsThere}
+use Rattle.commit_steps.specs.Given.{IsThere}
 use Rattle.commit_steps.specs.declared.stage.Stage.{Stage}
 use Rattle.commit_steps.specs.Book.{commit_of}
 

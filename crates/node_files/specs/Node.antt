@@ -2,7 +2,7 @@
 use Rattle.std.specs.Prelude.{◌≡◌, ◌≤◌, ◌<◌, ◌+◌, ℕ, true, false, None, List}
 use Rattle.disk_model.specs.Disk.{Name, Cells, is_among}
 use Rattle.file_names.specs.Names.{is_commit_name, is_pending_name, commit_number, pending_number}
-use Rattle.file_deleter.specs.Holdings.{Holdings, count_of, times, IsWhole}
+use Rattle.commit_steps.specs.Given.{Holdings, count_of, times, IsWhole}
 use Rattle.commit_steps.specs.Book.{book_names, IsBookSound}
 use Rattle.commit_steps.specs.declared.stage.CommitBook.{CommitBook}
 

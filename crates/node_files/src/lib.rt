@@ -2,3 +2,8 @@
 #![tactic(auto)]
 
 pub mod laws;
+
+pub use commit_steps::{CommitBook, MemDir};
+pub use disk_model::Dir;
+pub use file_names::{FileName, commit_name};
+pub use seg_reader::Segment;

@@ -22,14 +22,10 @@ use Rattle.replica_parts.specs.Merges.{copy_at, copies_with, copies_without, cop
 use Rattle.replica_parts.specs.Jobs.{merge_job_on}
 use Rattle.replica_parts.specs.Replica.{IsWholeReplica, AreStanding, MayLaunch}
 use Rattle.replica_parts.specs.Sources.{IsSourced, KeepsSource}
-use Rattle.replica_node.specs.Running.{running_job, with_job, without_job}
+use Rattle.node_jobs.specs.Given.{running_job, with_job, without_job, Node, Primary, Replica, Down, Place, IsNextToFetch}
 use Rattle.history_tables.proofs.RowLemmas.{by_test}
 use Rattle.node_jobs.proofs.JobFiles.{wanted_meta}
 use Rattle.primary_parts.specs.declared.parts.Parts.{Parts as PrimaryParts}
-use Rattle.cluster_places.specs.declared.nodes.Node.{Node}
-use Rattle.cluster_places.specs.declared.nodes.Node.TheVariants.{Primary, Replica, Down}
-use Rattle.cluster_places.specs.declared.nodes.Place.{Place}
-use Rattle.cluster_places.specs.JobChanges.{IsNextToFetch}
 use Rattle.node_merges.specs.declared.copies.CopyStep.{CopyStep}
 use Rattle.node_merges.specs.declared.copies.CopyStep.TheVariants.{Gone}
 use Rattle.node_merges.specs.MergeChanges.{is_copy_of, MaySend, SendsMerged, IsStepOf, TakesMerged, DropsMerged}

@@ -13,13 +13,9 @@ use Rattle.primary_parts.specs.Held.{IsOwnFile}
 use Rattle.primary_parts.specs.States.{out_of, is_out, states_without}
 use Rattle.primary_parts.specs.Primary.{IsPrimary, KeepsHeldBytes, IsUnwritten, loose_of}
 use Rattle.primary_parts.specs.Calls.{FillsUndrawn, DrawsOnly, HoldsNoNew}
-use Rattle.primary_cut_overs.specs.CutOverCalls.{IsCutOver, KeepsDocuments}
+use Rattle.node_jobs.specs.Given.{IsCutOver, KeepsDocuments, Held, Primary, Replica, Place, place_of, IsSlot}
 use Rattle.replica_parts.specs.declared.parts.Parts.{Parts as ReplicaParts}
-use Rattle.cluster_places.specs.declared.held.Held.{Held}
-use Rattle.cluster_places.specs.declared.nodes.Node.TheVariants.{Primary, Replica}
-use Rattle.cluster_places.specs.declared.nodes.Place.{Place}
-use Rattle.cluster_places.specs.Places.{place_of, IsSlot}
-use Rattle.cluster_places.proofs.Taking.{moved_one}
+use Rattle.node_jobs.proofs.Given.{moved_one}
 use Rattle.node_merges.specs.MergeChanges.{CutsMerge}
 use Rattle.node_merges.specs.MergePlaces.{MovesPrimary, MovesReplica}
 

@@ -23,16 +23,12 @@ use Rattle.primary_parts.specs.States.{out_of, is_out, states_without, IsStateOf
 use Rattle.primary_parts.specs.Written.{names_of, ReadsSo}
 use Rattle.primary_parts.specs.Primary.{IsPrimary, KeepsHeldBytes, loose_of}
 use Rattle.primary_parts.specs.Calls.{FillsUndrawn, DrawsOnly, HoldsNoNew}
-use Rattle.primary_starts.specs.StartCalls.{AnswersMerge, IsFitTask}
-use Rattle.primary_merges.specs.MergeCalls.{IsReadied}
-use Rattle.primary_cut_overs.specs.CutOverCalls.{IsFilledMerge, IsCutOver, KeepsDocuments}
+use Rattle.node_jobs.specs.Given.{AnswersMerge, IsFitTask, IsReadied, IsFilledMerge, IsCutOver, KeepsDocuments, SettlesCopy, IsNextToFetch}
 use Rattle.replica_parts.specs.declared.parts.Parts.{Parts as ReplicaParts}
 use Rattle.replica_parts.specs.Merges.{copy_at, copies_with, copies_without, copies_seen, IsSegmentState, SharesNone}
 use Rattle.replica_parts.specs.Jobs.{merge_job_on}
 use Rattle.replica_parts.specs.Replica.{IsWholeReplica, AreStanding}
 use Rattle.replica_parts.specs.Sources.{IsSourced, KeepsSource}
-use Rattle.replica_precopies.specs.Settling.{SettlesCopy}
-use Rattle.cluster_places.specs.JobChanges.{IsNextToFetch}
 use Rattle.node_merges.specs.declared.copies.CopyStep.{CopyStep}
 use Rattle.node_merges.specs.declared.copies.CopyStep.TheVariants.{Gone, Waits, Complete, Wants}
 

@@ -9,15 +9,9 @@ use Rattle.seg_merge.specs.declared.task.MergeTask.{MergeTask}
 use Rattle.seg_merge.specs.declared.task.Merged.{Merged}
 use Rattle.primary_parts.specs.declared.parts.Parts.{Parts as PrimaryParts}
 use Rattle.primary_parts.specs.declared.parts.PublishFault.{PublishFault}
-use Rattle.primary_merges.specs.MergeCalls.{IsMadeFor}
+use Rattle.node_jobs.specs.Given.{IsMadeFor, Held, Primary, Replica, Down, Place, place_of, IsSlot, HasPrimary, HasReplica, IsPrimaryAt, IsReplicaAt, MovesOne}
 use Rattle.replica_parts.specs.declared.parts.Parts.{Parts as ReplicaParts}
 use Rattle.replica_parts.specs.Merges.{copy_at}
-use Rattle.cluster_places.specs.declared.held.Held.{Held}
-use Rattle.cluster_places.specs.declared.nodes.Node.TheVariants.{Primary, Replica, Down}
-use Rattle.cluster_places.specs.declared.nodes.Place.{Place}
-use Rattle.cluster_places.specs.Places.{place_of, IsSlot, HasPrimary}
-use Rattle.cluster_places.specs.JobChanges.{HasReplica}
-use Rattle.cluster_places.specs.JobPlaces.{IsPrimaryAt, IsReplicaAt, MovesOne}
 use Rattle.node_merges.specs.declared.copies.CopyStep.{CopyStep}
 use Rattle.node_merges.specs.declared.copies.CopyStep.TheVariants.{Gone}
 use Rattle.node_merges.specs.MergeChanges.{is_copy_of, AsksMerge, ReadiesMerge, MayCut, CutsMerge, MaySend, SendsMerged, IsStepOf, MayTakeMerged, TakesMerged, MaySettle, SettlesMerged, DropsMerged}

@@ -2,16 +2,13 @@
 
 ghost use Rattle.std.specs.Prelude.{◌≡◌, ◌≤◌, true, IfOk, OnOk};
 ghost use Rattle.primary_parts.specs.States.{out_of, is_out};
-ghost use Rattle.primary_merges.specs.MergeCalls.{IsMadeFor};
-ghost use Rattle.cluster_places.specs.Places.{place_of, IsSlot, HasPrimary};
+ghost use Rattle.node_jobs.specs.Given.{IsMadeFor, place_of, IsSlot, HasPrimary};
 ghost use Rattle.node_merges.specs.MergeChanges.{AsksMerge, ReadiesMerge, MayCut, CutsMerge};
 ghost use Rattle.node_merges.specs.MergePlaces.{IsPrimaryIn, MovesPrimary};
 
-use cluster_places::{Node, Place, put};
 use copy_state::CopyState;
 use disk_model::Dir;
-use index_primary::{Primary, PublishFault};
-use node_jobs::take_primary;
+use node_jobs::{Node, Place, Primary, PublishFault, put, take_primary};
 use nrt_base::{NoMemory, NodeNo, SegNo};
 use seg_merge::{MergeTask, Merged};
 use std::alloc::{AllocError, Global};

@@ -7,7 +7,7 @@ use Rattle.segment_infos.specs.declared.infos.Infos.{Infos}
 use Rattle.segment_infos.specs.Files.{AreFilesOf}
 use Rattle.segment_infos.proofs.SetLaws.{one_list_of}
 use Rattle.copy_state.specs.States.{AreShortNames}
-use Rattle.seg_reader.specs.Shown.{Shown}
+use Rattle.node_files.specs.Given.{Shown}
 use Rattle.file_deleter.specs.Holdings.{Holdings, times, AreThere}
 use Rattle.file_deleter.specs.Moves.{HoldsFiles}
 use Rattle.file_deleter.proofs.NameLemmas.{times-append}

@@ -12,10 +12,10 @@ ghost use Rattle.searcher_switch.specs.Searching.{searcher_names};
 use commit_steps::CommitBook;
 use disk_model::Dir;
 use file_deleter::FileDeleter;
+use node_files::Segment;
 use nrt_base::{List, NoMemory, Share};
 use primary_parts::Parts;
 use searcher_switch::Searchers;
-use seg_reader::Segment;
 use segment_infos::{Infos, files_of};
 use std::alloc::Global;
 

@@ -7,10 +7,10 @@ ghost use Rattle.primary_parts.specs.Calls.{HoldsNoNew};
 ghost use Rattle.searcher_switch.specs.Searching.{IsLeaseOf};
 
 use disk_model::Dir;
+use node_files::Segment;
 use nrt_base::NoMemory;
 use primary_parts::Parts;
 use searcher_switch::{Lease, Ticket};
-use seg_reader::Segment;
 use std::alloc::Global;
 
 /// Opens a ticket.

@@ -14,9 +14,7 @@ use Rattle.std.proofs.lemmas.Slice.Zip.{AllZip-long}
 use Rattle.nrt_base.specs.declared.numbers.SegNo.{SegNo}
 use Rattle.disk_model.specs.Disk.{Name, Cells, reads_of}
 use Rattle.seg_reader.specs.Stands.{IsSegmentIn}
-use Rattle.seg_build.specs.Built.{record_of}
-use Rattle.seg_merge.specs.declared.task.Merged.{Merged}
-use Rattle.seg_merge.specs.Merging.{docs_by_input, all_live_docs, origins, IsWithin}
+use Rattle.segment_steps.specs.Given.{record_of, Merged, docs_by_input, all_live_docs, origins, IsWithin}
 use Rattle.segment_steps.specs.Next.{IsBounded, IsBuiltWork}
 use Rattle.segment_steps.specs.CutOver.{Part, inputs_in, lives_of}
 use Rattle.segment_steps.proofs.AfterPublish.{new_fine}

@@ -18,9 +18,7 @@ use Rattle.segment_infos.specs.Infos.{CanSpell, IsRecord}
 use Rattle.segment_infos.specs.Files.{files_of_segment}
 use Rattle.seg_reader.specs.Shown.{Shown}
 use Rattle.seg_reader.specs.Stands.{IsSegmentIn, AreSegmentsOf, StandsWith}
-use Rattle.seg_build.specs.Built.{File, record_of}
-use Rattle.seg_merge.specs.declared.task.Merged.{Merged}
-use Rattle.seg_merge.specs.Merging.{docs_by_input}
+use Rattle.segment_steps.specs.Given.{File, record_of, Merged, docs_by_input}
 use Rattle.file_deleter.specs.Holdings.{times}
 use Rattle.file_deleter.proofs.NameLemmas.{times-cons}
 use Rattle.commit_steps.proofs.Safe.{among_of}

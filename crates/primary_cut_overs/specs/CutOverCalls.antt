@@ -13,7 +13,7 @@ use Rattle.segment_infos.specs.Infos.{CanSpell}
 use Rattle.segment_infos.specs.Files.{AreFilesOf}
 use Rattle.seg_reader.specs.Shown.{Shown}
 use Rattle.seg_reader.specs.Stands.{IsSegmentIn, AreSegmentsOf}
-use Rattle.seg_merge.specs.declared.task.Merged.{Merged}
+use Rattle.segment_steps.specs.Given.{Merged}
 use Rattle.segment_steps.specs.declared.next.NextSegments.{NextSegments}
 use Rattle.segment_steps.specs.Next.{IsReadBack}
 use Rattle.segment_steps.specs.CutOver.{IsCutOf}

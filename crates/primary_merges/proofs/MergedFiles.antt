@@ -21,12 +21,12 @@ use Rattle.live_bits.specs.LiveRows.{live_rows}
 use Rattle.live_bits.proofs.Editing.{all_live}
 use Rattle.segment_infos.specs.declared.infos.SegRecord.{SegRecord}
 use Rattle.segment_infos.specs.Files.{files_of_segment}
-use Rattle.seg_build.specs.Built.{File, record_of, first_live_gen, live_file_of}
-use Rattle.seg_build.proofs.NameOrder.{names_ascend}
+use Rattle.seg_merge.specs.Given.{File, record_of, first_live_gen, live_file_of}
+use Rattle.seg_merge.proofs.Given.{names_ascend}
 use Rattle.seg_merge.specs.declared.task.MergeTask.{MergeTask}
 use Rattle.seg_merge.specs.declared.task.Merged.{Merged}
 use Rattle.seg_merge.specs.Merging.{docs_by_input, all_live_docs, IsMergedOf}
-use Rattle.segment_steps.proofs.NextNames.{new_names}
+use Rattle.primary_parts.proofs.Given.{new_names}
 use Rattle.copy_state.specs.States.{AreShortNames}
 use Rattle.primary_parts.specs.States.{IsFramedFile}
 use Rattle.primary_parts.specs.Written.{names_of}

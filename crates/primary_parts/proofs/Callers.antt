@@ -12,16 +12,9 @@ use Rattle.segment_infos.specs.declared.infos.Infos.{Infos}
 use Rattle.segment_infos.specs.declared.infos.SegRecord.{SegRecord}
 use Rattle.segment_infos.specs.Infos.{CanSpell}
 use Rattle.segment_infos.specs.Files.{files_of_segment, AreFilesOf}
-use Rattle.seg_reader.specs.Shown.{Shown}
-use Rattle.seg_reader.specs.Sound.{IsSound}
-use Rattle.seg_reader.specs.Stands.{IsSegmentIn, AreSegmentsOf}
+use Rattle.segment_steps.specs.Given.{Shown, IsSound, IsSegmentIn, AreSegmentsOf}
 use Rattle.file_deleter.specs.Holdings.{Holdings, count_in, count_of, is_known, times}
-use Rattle.commit_steps.specs.declared.states.Commit.{Commit}
-use Rattle.commit_steps.specs.declared.stage.Stage.{Stage}
-use Rattle.commit_steps.specs.declared.stage.CommitBook.{CommitBook}
-use Rattle.commit_steps.specs.Book.{commit_of, last_names, flying_names, book_names, IsBookSound}
-use Rattle.node_files.specs.Node.{IsWholeNode}
-use Rattle.node_files.specs.Standing.{StandsForSome, IsStanding}
+use Rattle.searcher_switch.specs.Given.{Commit, Stage, CommitBook, commit_of, last_names, flying_names, book_names, IsBookSound, IsWholeNode, StandsForSome, IsStanding}
 use Rattle.segment_steps.specs.declared.flushing.FlushTask.{FlushTask}
 use Rattle.segment_steps.specs.declared.flushing.FlushWork.{FlushWork}
 use Rattle.segment_steps.specs.Next.{IsFlushOf}

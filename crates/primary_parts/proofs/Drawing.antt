@@ -5,7 +5,7 @@ use Rattle.std.proofs.lemmas.List.Elements.{All-weaker}
 use Rattle.disk_model.specs.Disk.{Name, Content}
 use Rattle.segment_infos.specs.declared.infos.SegRecord.{SegRecord}
 use Rattle.segment_infos.specs.declared.infos.Infos.{Infos}
-use Rattle.seg_reader.specs.Shown.{Shown}
+use Rattle.segment_steps.specs.Given.{Shown}
 use Rattle.primary_parts.specs.Held.{IsHeld, IsUnused, drawn_to, IsDrawnRecord, AreNumbered}
 
 abbrev pub counted_on : Infos → Infos

@@ -3,7 +3,7 @@ use Rattle.std.proofs.Common.{◌≡◌, ◌⊎◌, ◌==◌, if◌then◌else�
 use Rattle.std.specs.List.{AllZip, Contains, flat_map}
 use Rattle.std.specs.List.Sorted.{IsStrictlySortedBy}
 use Rattle.std.proofs.lemmas.List.Elements.{Contains-append_cases, Contains-get_or}
-use Rattle.body_forms.specs.File.{IsFile}
+use Rattle.segment_infos.specs.Given.{IsFile}
 use Rattle.codec_frame.specs.Frame.{Wanted}
 use Rattle.disk_model.specs.Disk.{Name, Content}
 use Rattle.file_names.specs.Names.{part_name_of, live_name_of}
@@ -13,9 +13,7 @@ use Rattle.segment_infos.specs.declared.infos.SegRecord.{SegRecord}
 use Rattle.segment_infos.specs.declared.infos.Infos.{Infos}
 use Rattle.segment_infos.specs.Infos.{RecordFits}
 use Rattle.segment_infos.specs.Files.{files_of_segment}
-use Rattle.seg_reader.specs.Shown.{Shown}
-use Rattle.seg_reader.specs.Files.{AreLiveRowsOf}
-use Rattle.seg_reader.specs.Stands.{IsLiveFileIn, IsSegmentIn}
+use Rattle.segment_steps.specs.Given.{Shown, AreLiveRowsOf, IsLiveFileIn, IsSegmentIn}
 use Rattle.std.proofs.lemmas.Bool.Decides.{nat_tests}
 use Rattle.file_names.specs.Base36.{base36_of}
 use Rattle.file_names.proofs.Base36Lemmas.{spelling_of}

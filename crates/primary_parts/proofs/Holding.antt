@@ -6,14 +6,12 @@ use Rattle.file_names.proofs.NameLaws.{part_name_not_commit, part_name_not_pendi
 use Rattle.disk_model.specs.Disk.{Name, Content, Cells}
 use Rattle.segment_infos.specs.declared.infos.Infos.{Infos}
 use Rattle.segment_infos.specs.Files.{files_of_segment}
-use Rattle.seg_reader.specs.Shown.{Shown}
+use Rattle.segment_steps.specs.Given.{Shown}
 use Rattle.file_deleter.specs.Holdings.{Holdings, times}
 use Rattle.file_deleter.specs.Moves.{MovesCounts}
 use Rattle.file_deleter.proofs.NameLemmas.{times-append, among_times}
-use Rattle.commit_steps.proofs.Safe.{among_of}
-use Rattle.node_files.specs.Node.{AddsOnly, HoldsNoMore, KeepsBytes}
-use Rattle.node_files.specs.Standing.{StandsForSome}
-use Rattle.node_files.proofs.Standing.{segments_along}
+use Rattle.searcher_switch.proofs.Given.{among_of, segments_along}
+use Rattle.searcher_switch.specs.Given.{AddsOnly, HoldsNoMore, KeepsBytes, StandsForSome}
 use Rattle.primary_parts.specs.Held.{IsHeld, IsUndrawn, part, live, next_live, AreUndrawn}
 
 pub named_times : (infos : Infos) (segs : List Shown) (names : List Name) (reads : Name → Content) → IsHeld reads infos segs names → (q : Name) → Contains (flat_map files_of_segment infos.segs) q → 0 < times names q

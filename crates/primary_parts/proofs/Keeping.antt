@@ -3,24 +3,17 @@ use Rattle.std.proofs.Common.{◌≡◌, ◌<◌, ◌+◌, true, List, [], ◌++
 use Rattle.std.specs.List.{Contains, AllByRecursion, flat_map}
 use Rattle.disk_model.specs.Disk.{Name, Cells, is_among}
 use Rattle.segment_infos.specs.Files.{files_of_segment}
-use Rattle.seg_reader.specs.Shown.{Shown}
+use Rattle.segment_steps.specs.Given.{Shown}
 use Rattle.file_deleter.specs.Holdings.{Holdings, count_of, times, IsThere, AreThere, AreCounted}
 use Rattle.file_deleter.specs.Moves.{MovesCounts, Shifts}
 use Rattle.file_deleter.proofs.NameLemmas.{times-append, among_times}
-use Rattle.commit_steps.specs.declared.stage.Stage.{Stage}
-use Rattle.commit_steps.specs.declared.stage.Stage.TheVariants.{Begun, Synced, Written, Pending, Named, Renamed}
-use Rattle.commit_steps.specs.declared.stage.CommitBook.{CommitBook}
+use Rattle.searcher_switch.specs.Given.{Stage, Begun, Synced, Written, Pending, Named, Renamed, CommitBook, book_names, IsBookSound, book_after, HasBegun, IsWholeNode, AddsOnly, IsStanding}
 use Rattle.disk_model.specs.Disk.{reads_of}
-use Rattle.commit_steps.specs.Book.{book_names, IsBookSound, book_after, HasBegun}
 use Rattle.searcher_switch.specs.declared.open.Point.{Point}
 use Rattle.searcher_switch.specs.declared.searchers.Searchers.{Searchers}
 use Rattle.searcher_switch.specs.Tickets.{ticket_names}
 use Rattle.searcher_switch.specs.Searching.{searcher_names}
-use Rattle.node_files.specs.Node.{IsWholeNode, AddsOnly}
-use Rattle.node_files.specs.Standing.{IsStanding}
-use Rattle.node_files.proofs.Carry.{node_front, node_moves, nothing_written, node_commits, node_begins, node_exist, node_there, node_counted}
-use Rattle.node_files.proofs.Standing.{standing_kept, standing_step, standing_begun}
-use Rattle.node_files.proofs.Fewer.{no_more_beside, no_more_step, no_more_begun}
+use Rattle.searcher_switch.proofs.Given.{node_front, node_moves, nothing_written, node_commits, node_begins, node_exist, node_there, node_counted, standing_kept, standing_step, standing_begun, no_more_beside, no_more_step, no_more_begun}
 use Rattle.primary_parts.specs.declared.parts.Parts.{Parts}
 use Rattle.primary_parts.specs.Held.{IsHeld}
 use Rattle.primary_parts.specs.States.{state_names}

@@ -3,8 +3,8 @@ use Rattle.std.specs.Prelude.{◌≡◌, ◌+◌, ◌<◌, false, List, [], Opti
 use Rattle.disk_model.specs.Disk.{Name}
 use Rattle.file_deleter.specs.Holdings.{count_of}
 use Rattle.segment_infos.specs.declared.infos.Infos.{Infos}
-use Rattle.seg_reader.specs.Shown.{Shown}
-use Rattle.commit_steps.specs.declared.stage.CommitBook.{CommitBook}
+use Rattle.segment_steps.specs.Given.{Shown}
+use Rattle.searcher_switch.specs.Given.{CommitBook}
 use Rattle.searcher_switch.specs.declared.searchers.Searchers.{Searchers}
 use Rattle.segment_steps.specs.declared.flushing.FlushTask.{FlushTask}
 use Rattle.segment_steps.specs.declared.flushing.FlushWork.{FlushWork}

@@ -7,8 +7,8 @@ use Rattle.nrt_base.specs.declared.numbers.SegNo.{SegNo}
 use Rattle.documents.specs.declared.operation.Op.{Op}
 use Rattle.documents.specs.Documents.{is_put}
 use Rattle.segment_infos.specs.declared.infos.Infos.{Infos}
-use Rattle.seg_reader.specs.Shown.{Shown}
-use Rattle.commit_steps.specs.declared.stage.CommitBook.{CommitBook}
+use Rattle.segment_steps.specs.Given.{Shown}
+use Rattle.searcher_switch.specs.Given.{CommitBook}
 use Rattle.primary_parts.specs.declared.parts.Publish.{Publish}
 use Rattle.primary_parts.specs.Held.{drawn_to}
 

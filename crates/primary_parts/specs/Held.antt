@@ -12,8 +12,7 @@ use Rattle.segment_infos.specs.declared.infos.SegRecord.{SegRecord}
 use Rattle.segment_infos.specs.declared.infos.Infos.{Infos}
 use Rattle.segment_infos.specs.Infos.{CanSpell}
 use Rattle.segment_infos.specs.Files.{AreFilesOf}
-use Rattle.seg_reader.specs.Shown.{Shown}
-use Rattle.seg_reader.specs.Stands.{StandsWith}
+use Rattle.segment_steps.specs.Given.{Shown, StandsWith}
 
 -- where files read so, the infos can be spelled, are of some documents, show this and have these files
 pub record IsHeld (reads : Name → Content) (infos : Infos) (segs : List Shown) (names : List Name) : Type 0 where

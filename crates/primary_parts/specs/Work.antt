@@ -2,7 +2,7 @@
 use Rattle.std.specs.Prelude.{◌≡◌, List, Some, take}
 use Rattle.nrt_base.specs.declared.doc.Doc.{Doc}
 use Rattle.documents.specs.Documents.{after_ops}
-use Rattle.seg_reader.specs.Stands.{AreSegmentsOf}
+use Rattle.segment_steps.specs.Given.{AreSegmentsOf}
 use Rattle.segment_steps.specs.declared.flushing.FlushTask.{FlushTask}
 use Rattle.segment_steps.specs.declared.flushing.FlushWork.{FlushWork}
 use Rattle.segment_steps.specs.Next.{IsFlushOf}

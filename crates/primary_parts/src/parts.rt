@@ -2,14 +2,13 @@
 ghost use Rattle.std.specs.Prelude.{◌≡◌};
 
 use crate::states::{Merging, Out};
-use commit_steps::CommitBook;
 use documents::Op;
 use file_deleter::FileDeleter;
 use file_names::FileName;
 use nrt_base::{List, NoMemory, SegNo};
-use searcher_switch::Searchers;
-use seg_reader::Segment;
+use searcher_switch::{CommitBook, Searchers};
 use segment_infos::Infos;
+use segment_steps::Segment;
 
 /// Why a call of a primary is refused.
 #[derive(Clone, Copy, Debug, PartialEq, Eq)]

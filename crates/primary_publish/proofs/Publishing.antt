@@ -4,7 +4,7 @@ use Rattle.file_names.specs.Names.{is_commit_name, is_pending_name}
 use Rattle.nrt_base.specs.declared.numbers.Version.{Version}
 use Rattle.std.specs.Prelude.{◌==◌}
 use Rattle.std.specs.List.{AllByRecursion, list_any}
-use Rattle.seg_merge.specs.Merging.{docs_by_input}
+use Rattle.segment_steps.specs.Given.{docs_by_input}
 use Rattle.segment_infos.specs.declared.infos.SegRecord.{SegRecord}
 use Rattle.seg_build.specs.Built.{File}
 use Rattle.disk_model.specs.Disk.{Name, Content, Cells, is_among}
@@ -17,11 +17,7 @@ use Rattle.file_deleter.specs.Moves.{KeepsFiles, HoldsFiles, LetsGo}
 use Rattle.file_deleter.proofs.NameLemmas.{times-append, among_times, not_among_times}
 use Rattle.disk_model.specs.Disk.{reads_of}
 use Rattle.commit_steps.proofs.Safe.{among_of, contains_of}
-use Rattle.searcher_switch.specs.declared.open.Point.{Point}
-use Rattle.searcher_switch.specs.declared.open.Open.{Open}
-use Rattle.searcher_switch.specs.declared.searchers.Searchers.{Searchers}
-use Rattle.searcher_switch.specs.Tickets.{ticket_names}
-use Rattle.searcher_switch.specs.Searching.{searcher_names}
+use Rattle.primary_parts.specs.Given.{Point, Open, Searchers, ticket_names, searcher_names}
 use Rattle.node_files.specs.Node.{IsWholeNode, IsApart, HasNoPending}
 use Rattle.node_files.proofs.Carry.{node_gathers, node_lets_go, node_same_names, node_same_counts, node_there, nothing_written, unheld_apart, front_counted}
 use Rattle.node_files.proofs.Standing.{segments_along, standing_kept}

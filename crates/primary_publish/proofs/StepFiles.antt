@@ -11,8 +11,7 @@ use Rattle.seg_build.specs.Built.{File}
 use Rattle.file_deleter.specs.Holdings.{count_of, times}
 use Rattle.file_deleter.proofs.NameLemmas.{times-append}
 use Rattle.commit_steps.specs.Book.{book_names}
-use Rattle.searcher_switch.specs.Tickets.{ticket_names}
-use Rattle.searcher_switch.specs.Searching.{searcher_names}
+use Rattle.primary_parts.specs.Given.{ticket_names, searcher_names}
 use Rattle.primary_parts.specs.declared.parts.Parts.{Parts}
 use Rattle.primary_parts.specs.declared.parts.Publish.{Publish}
 use Rattle.primary_parts.specs.Held.{IsUndrawn, drawn_to}

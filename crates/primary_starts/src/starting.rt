@@ -14,10 +14,8 @@ use disk_model::Dir;
 use file_deleter::FileDeleter;
 use file_names::FileName;
 use nrt_base::{List, NoMemory, SegNo, Share};
-use primary_parts::{Merging, Parts, PublishFault, inputs_of};
-use seg_merge::MergeTask;
+use primary_parts::{MergeStart, MergeTask, Merging, Parts, PublishFault, inputs_of, start_merge};
 use segment_infos::{Infos, SegRecord, files_of};
-use segment_steps::{MergeStart, start_merge};
 use std::alloc::Global;
 
 // Whether the number is one of these.

@@ -7,7 +7,7 @@ use Rattle.disk_model.specs.Disk.{Name, Content, Cells, reads_of}
 use Rattle.file_deleter.specs.Holdings.{Holdings, count_of, times}
 use Rattle.file_deleter.specs.Moves.{MovesCounts}
 use Rattle.file_deleter.proofs.NameLemmas.{times-append, once}
-use Rattle.node_files.specs.Node.{KeepsBytes}
+use Rattle.replica_parts.specs.Given.{KeepsBytes}
 use Rattle.copy_state.specs.declared.meta.FileMetaData.{FileMetaData}
 use Rattle.copy_state.specs.Meta.{IsMetaOf}
 use Rattle.copy_state.specs.States.{meta_names, meta_in}

@@ -6,7 +6,7 @@ ghost use Rattle.file_deleter.specs.Holdings.{count_of};
 ghost use Rattle.segment_infos.specs.declared.infos.Infos.{Infos};
 ghost use Rattle.replica_parts.specs.Replica.{IsPointState, IsWholeReplica, AreStanding, IsWanted};
 ghost use Rattle.std.specs.List.{All, AllByRecursion};
-ghost use Rattle.node_files.specs.Node.{KeepsBytes};
+ghost use Rattle.replica_parts.specs.Given.{KeepsBytes};
 ghost use Rattle.copy_state.specs.States.{meta_names, IsCopyState};
 ghost use Rattle.replica_parts.specs.Merges.{copied_names, SharesNone};
 ghost use Rattle.replica_parts.specs.Jobs.{IsPointJob, Agrees, IsStartingFault};

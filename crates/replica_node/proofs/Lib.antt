@@ -2,3 +2,4 @@ mod Mids
 mod Numbered
 mod Sourced
 mod Started
+pub mod Given

@@ -10,7 +10,7 @@ use Rattle.copy_state.specs.declared.meta.FileMetaData.{FileMetaData}
 use Rattle.copy_state.specs.declared.state.CopyState.{CopyState}
 use Rattle.copy_state.specs.States.{meta_names}
 use Rattle.copy_job.specs.declared.fault.JobFault.{JobFault}
-use Rattle.replica_opening.specs.Known.{IsLasting}
+use Rattle.replica_parts.specs.Given.{IsLasting}
 use Rattle.replica_parts.specs.declared.job.PointJob.{PointJob}
 use Rattle.replica_parts.specs.declared.merges.MergeCopies.{MergeCopies}
 use Rattle.replica_parts.specs.declared.parts.Parts.{Parts}

@@ -17,8 +17,8 @@ use Rattle.copy_state.proofs.MetaLaws.{one_meta}
 use Rattle.copy_job.specs.declared.fault.JobFault.{JobFault}
 use Rattle.copy_job.specs.declared.fault.JobFault.TheVariants.{Memory, LinkFailed, Damaged, DirFailed, NameClash}
 use Rattle.copy_job.specs.Jobs.{Job, reads_under}
-use Rattle.replica_opening.specs.Known.{IsLasting, HasMeta}
-use Rattle.replica_opening.proofs.Clearings.{same_bytes}
+use Rattle.replica_parts.specs.Given.{IsLasting, HasMeta}
+use Rattle.replica_parts.proofs.Given.{same_bytes}
 use Rattle.replica_parts.specs.Jobs.{IsStartingFault}
 use Rattle.replica_parts.specs.Sources.{CopiesFrom}
 use Rattle.replica_parts.proofs.Named.{file_counted}

@@ -12,20 +12,14 @@ use Rattle.segment_infos.specs.Files.{files_of_segment, AreFilesOf}
 use Rattle.seg_reader.specs.Shown.{Shown}
 use Rattle.node_files.specs.Node.{IsWholeNode}
 use Rattle.node_files.proofs.Carry.{node_same_names}
-use Rattle.searcher_switch.specs.declared.open.Open.{Open}
-use Rattle.searcher_switch.specs.declared.searchers.Searchers.{Searchers}
-use Rattle.searcher_switch.specs.Tickets.{ticket_names}
-use Rattle.searcher_switch.specs.Searching.{searcher_names}
-use Rattle.replica_opening.specs.Known.{IsLasting}
-use Rattle.replica_opening.specs.Opening.{FindsPoint, number_of_last}
+use Rattle.replica_switches.specs.Given.{Open, Searchers, ticket_names, searcher_names}
+use Rattle.replica_parts.specs.Given.{IsLasting, FindsPoint, number_of_last, Opened, IsNodeOpened, IsHandedBack}
 use Rattle.replica_parts.specs.declared.merges.MergeCopies.{MergeCopies}
 use Rattle.replica_parts.specs.declared.parts.Parts.{Parts}
 use Rattle.replica_parts.specs.Merges.{no_copies}
 use Rattle.replica_parts.specs.Sources.{IsSourced}
 use Rattle.replica_parts.proofs.Named.{among_file, some_among}
 use Rattle.commit_steps.proofs.Safe.{own_is, number_of_own}
-use Rattle.replica_opening.specs.declared.opening.Opened.{Opened}
-use Rattle.replica_opening.specs.Opened.{IsNodeOpened, IsHandedBack}
 use Rattle.replica_parts.specs.Waiting.{HasNoTemporary}
 use Rattle.replica_parts.specs.Replica.{IsWholeReplica}
 use Rattle.replica_parts.proofs.Temporary.{joins, files_no_temporary}

@@ -6,5 +6,4 @@ pub mod laws;
 mod replica;
 
 pub use replica::{Refused, Replica};
-pub use replica_opening::StartFault;
-pub use replica_parts::{NodeParts, Parts, PointAnswer, PointJob};
+pub use replica_parts::{NodeParts, Parts, PointAnswer, PointJob, StartFault};

@@ -13,10 +13,7 @@ ghost use Rattle.segment_infos.specs.Files.{files_of_segment};
 ghost use Rattle.seg_reader.specs.Stands.{StandsFor};
 ghost use Rattle.node_files.specs.Appearing.{NoneAppears};
 ghost use Rattle.copy_job.specs.Placing.{IsPlacingFault};
-ghost use Rattle.replica_opening.specs.declared.fault.StartFault.{StartFault};
-ghost use Rattle.replica_opening.specs.Known.{IsLasting};
-ghost use Rattle.replica_opening.specs.Opening.{FindsPoint, number_of_last, IsStartRefusal, IsCutOffOr};
-ghost use Rattle.replica_opening.specs.Opened.{IsSettledOn, IsHandedBack};
+ghost use Rattle.replica_parts.specs.Given.{StartFault, IsLasting, FindsPoint, number_of_last, IsStartRefusal, IsCutOffOr, IsSettledOn, IsHandedBack};
 ghost use Rattle.replica_parts.specs.Sources.{IsSourced};
 ghost use Rattle.replica_parts.specs.Starting.{IsJustOpened, SearchesJust, HasJustItsFiles};
 ghost use Rattle.replica_node.specs.Refusals.{IsHandedOut};
@@ -30,15 +27,12 @@ use disk_model::{Dir, FaultDir};
 use file_names::FileName;
 use merge_precopy::Precopies;
 use nrt_base::{Gen, NoMemory, Version};
-use replica_calls::{
-    acquire, commit_begin, commit_step, into_dir, lease, new_point, plan, release, stop_at,
-    take_apart,
+use replica_parts::{MergeCopies, NodeParts, Parts, PointAnswer, RunningCopies, StartFault, open};
+use replica_precopies::{
+    acquire, commit_begin, commit_step, finish_precopy, into_dir, launch_precopy, lease, new_point,
+    plan, release, stop_at, take_apart,
 };
-use replica_opening::{StartFault, open};
-use replica_parts::{MergeCopies, NodeParts, Parts, PointAnswer, RunningCopies};
-use replica_precopies::{finish_precopy, launch_precopy};
-use replica_switches::finish;
-use searcher_switch::{Lease, Ticket};
+use replica_switches::{Lease, Ticket, finish};
 use seg_reader::Segment;
 use std::alloc::Global;
 use std::marker::Model;
@@ -132,8 +126,8 @@ impl<D: Dir> Replica<D> {
     ghost use Rattle.node_files.specs.Node.{IsWholeNode, KeepsBytes};
     ghost use Rattle.commit_steps.specs.Commits.{ImagesAre, ImagesHave};
     ghost use Rattle.commit_steps.specs.Book.{commit_of, shown_by, book_after, is_last_step, HasBegun};
-    ghost use Rattle.searcher_switch.specs.Tickets.{ticket_at, tickets_without};
-    ghost use Rattle.searcher_switch.specs.Searching.{IsLeaseOf, searcher_names};
+    ghost use Rattle.replica_switches.specs.Given.{ticket_at, tickets_without};
+    ghost use Rattle.replica_switches.specs.Given.{IsLeaseOf, searcher_names};
     ghost use Rattle.copy_state.specs.Meta.{IsMetaOf};
     ghost use Rattle.std.specs.Option.{option_map};
     ghost use Rattle.copy_state.specs.States.{meta_in, meta_names, IsCopyState};

@@ -7,7 +7,7 @@ use Rattle.std.proofs.Math.Dec.{ltb as nat_lt}
 use Rattle.std.proofs.lemmas.List.Elements.{Contains-append_cases}
 use Rattle.std.proofs.lemmas.Bool.Decides.{nat_tests}
 use Rattle.codec_frame.specs.Frame.{Wanted, IsFramed}
-use Rattle.body_forms.specs.File.{IsFile}
+use Rattle.segment_infos.specs.Given.{IsFile}
 use Rattle.disk_model.specs.Disk.{Name, Content, Cells, same, reads_of}
 use Rattle.disk_model.proofs.CellLemmas.{same_true}
 use Rattle.file_names.specs.Base36.{base36_of}
@@ -19,9 +19,7 @@ use Rattle.file_deleter.proofs.NameLemmas.{same_self}
 use Rattle.segment_infos.specs.declared.infos.SegRecord.{SegRecord}
 use Rattle.segment_infos.specs.Infos.{RecordFits}
 use Rattle.segment_infos.specs.Files.{files_of_segment, live_files}
-use Rattle.postings_plain.specs.declared.format.Format.{Format}
-use Rattle.postings_plain.specs.declared.format.Format.TheVariants.{One, Two}
-use Rattle.postings_plain.specs.Postings.{format_number}
+use Rattle.seg_reader.specs.Given.{Format, One, Two, format_number}
 use Rattle.seg_reader.specs.declared.parts.SegParts.{SegParts}
 use Rattle.seg_reader.specs.Shown.{Shown}
 use Rattle.seg_reader.specs.Files.{IsSegmentOf, AreLiveRowsOf}

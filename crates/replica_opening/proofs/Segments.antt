@@ -19,14 +19,14 @@ use Rattle.replica_opening.specs.declared.fault.StartFault.TheVariants.{Memory, 
 use Rattle.replica_opening.specs.Readers.{AreReaders, IsRefusedIn, IsFirstRefusedSegment}
 use Rattle.replica_opening.specs.Opening.{IsReadNext, IsRefusedNext, IsRefusedAmong, IsStartCutOff, IsCutOffOr}
 use Rattle.file_deleter.specs.Holdings.{IsThere}
-use Rattle.live_bits.specs.LiveRows.{live_rows}
+use Rattle.seg_reader.specs.Given.{live_rows}
 use Rattle.segment_infos.specs.declared.infos.SegRecord.{SegRecord}
 use Rattle.segment_infos.specs.Infos.{IsRecord}
 use Rattle.seg_reader.specs.declared.parts.SegParts.{SegParts}
 use Rattle.seg_reader.specs.Shown.{Shown}
 use Rattle.seg_reader.specs.Files.{AreLiveRowsOf, IsSegmentOf}
 use Rattle.seg_reader.proofs.StandingLaws.{one_parts}
-use Rattle.live_bits.proofs.Editing.{all_live}
+use Rattle.seg_reader.proofs.Given.{all_live}
 use Rattle.nrt_base.proofs.Plain.{ok_never_err, same_err}
 use Rattle.seg_reader.specs.Stands.{IsLiveFileIn, ArePartsIn, IsSegmentIn}
 

@@ -9,8 +9,11 @@ mod opening;
 mod reading;
 mod sharing;
 
+pub use commit_steps::CommitBook;
 pub use fault::StartFault;
 pub use known::Known;
 pub use opening::{Opened, open};
 pub use reading::{ReadFault, SegmentRead, read_segment};
+pub use searcher_switch::Searchers;
+pub use seg_reader::Segment;
 pub use sharing::readers_of;

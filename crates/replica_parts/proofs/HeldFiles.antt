@@ -15,7 +15,7 @@ use Rattle.file_deleter.specs.Holdings.{Holdings, count_of, times}
 use Rattle.file_deleter.proofs.NameLemmas.{times-append, times-cons, among_times}
 use Rattle.segment_infos.specs.declared.infos.Infos.{Infos}
 use Rattle.segment_infos.specs.Files.{AreFilesOf}
-use Rattle.commit_steps.proofs.Safe.{among_of}
+use Rattle.replica_opening.proofs.Given.{among_of}
 use Rattle.copy_state.specs.declared.meta.FileMetaData.{FileMetaData}
 use Rattle.copy_state.specs.declared.state.CopyState.{CopyState}
 use Rattle.copy_state.specs.States.{meta_names, meta_in}

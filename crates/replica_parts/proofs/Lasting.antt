@@ -9,7 +9,7 @@ use Rattle.file_deleter.specs.Holdings.{times}
 use Rattle.segment_infos.specs.declared.infos.Infos.{Infos}
 use Rattle.segment_infos.specs.Files.{files_of_segment, AreFilesOf}
 use Rattle.segment_infos.proofs.SetLaws.{files_plain}
-use Rattle.commit_steps.proofs.Safe.{contains_of}
+use Rattle.replica_opening.proofs.Given.{contains_of}
 use Rattle.replica_opening.specs.Known.{IsLasting}
 use Rattle.replica_parts.proofs.Named.{some_among}
 use Rattle.replica_parts.proofs.Temporary.{file_apart}

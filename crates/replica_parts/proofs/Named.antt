@@ -7,7 +7,7 @@ use Rattle.file_deleter.specs.Holdings.{times}
 use Rattle.file_deleter.proofs.NameLemmas.{among_times, not_among_times}
 use Rattle.segment_infos.specs.declared.infos.Infos.{Infos}
 use Rattle.segment_infos.specs.Files.{files_of_segment, AreFilesOf}
-use Rattle.commit_steps.proofs.Safe.{among_of, contains_of}
+use Rattle.replica_opening.proofs.Given.{among_of, contains_of}
 
 -- files of infos are counted with the names of a list that has them
 pub file_counted : (infos : Infos) (names : List Name) → AreFilesOf infos names → (q : Name) → Contains (flat_map files_of_segment infos.segs) q → 0 < times names q

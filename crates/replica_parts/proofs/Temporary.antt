@@ -15,14 +15,8 @@ use Rattle.file_deleter.proofs.NameLemmas.{times-append, times_one, times-cons, 
 use Rattle.segment_infos.specs.declared.infos.SegRecord.{SegRecord}
 use Rattle.segment_infos.specs.declared.infos.Infos.{Infos}
 use Rattle.segment_infos.specs.Files.{files_of_segment, live_files, AreFilesOf}
-use Rattle.commit_steps.specs.declared.states.Commit.{Commit}
-use Rattle.commit_steps.specs.declared.stage.Stage.{Stage}
-use Rattle.commit_steps.specs.declared.stage.Stage.TheVariants.{Begun, Synced, Written, Pending, Named, Renamed}
-use Rattle.commit_steps.specs.declared.stage.CommitBook.{CommitBook}
-use Rattle.commit_steps.specs.Flights.{own_name, pending_name, IsCommit}
-use Rattle.commit_steps.specs.Commits.{Stays}
-use Rattle.commit_steps.specs.Book.{book_names, last_names, flying_names, Stands, IsBookSound}
-use Rattle.commit_steps.proofs.Safe.{own_is, pending_is, contains_of}
+use Rattle.replica_opening.specs.Given.{Commit, Stage, Begun, Synced, Written, Pending, Named, Renamed, CommitBook, own_name, pending_name, IsCommit, Stays, book_names, last_names, flying_names, Stands, IsBookSound}
+use Rattle.replica_opening.proofs.Given.{own_is, pending_is, contains_of}
 use Rattle.replica_parts.specs.Waiting.{HasNoTemporary}
 
 -- ---- the last byte of a name

@@ -15,12 +15,12 @@ use Rattle.node_files.proofs.Appearing.{keeps_only}
 use Rattle.node_files.specs.Node.{IsApart, KeepsBytes}
 use Rattle.node_files.proofs.Carry.{unheld_apart}
 use Rattle.commit_steps.specs.Book.{book_names}
-use Rattle.searcher_switch.specs.Searching.{searcher_names}
+use Rattle.replica_calls.specs.Given.{searcher_names}
 use Rattle.copy_state.specs.declared.meta.FileMetaData.{FileMetaData}
 use Rattle.copy_state.specs.Meta.{IsMetaOf}
 use Rattle.copy_state.specs.States.{meta_names, meta_in}
 use Rattle.copy_job.specs.Jobs.{Job, IsJob, job_names, with_part}
-use Rattle.replica_opening.specs.Known.{IsLasting}
+use Rattle.replica_parts.specs.Given.{IsLasting}
 use Rattle.replica_parts.specs.declared.job.PointJob.{PointJob}
 use Rattle.replica_parts.specs.declared.parts.Parts.{Parts}
 use Rattle.copy_job.specs.declared.copying.Part.{Part}

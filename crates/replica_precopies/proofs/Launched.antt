@@ -8,7 +8,7 @@ use Rattle.file_deleter.specs.Moves.{HoldsFiles}
 use Rattle.file_deleter.proofs.NameLemmas.{times-append}
 use Rattle.segment_infos.specs.Files.{AreFilesOf}
 use Rattle.node_files.proofs.Carry.{node_kept, nothing_written}
-use Rattle.searcher_switch.specs.Searching.{searcher_names}
+use Rattle.replica_calls.specs.Given.{searcher_names}
 use Rattle.copy_state.specs.declared.state.CopyState.{CopyState}
 use Rattle.copy_state.specs.States.{meta_names, IsCopyState}
 use Rattle.copy_job.specs.declared.part.JobKind.TheVariants.{Merge as MergeKind}

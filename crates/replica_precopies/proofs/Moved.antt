@@ -9,12 +9,11 @@ use Rattle.file_deleter.specs.Moves.{MovesCounts}
 use Rattle.file_deleter.proofs.NameLemmas.{times-append}
 use Rattle.node_files.specs.Node.{IsWholeNode, IsApart}
 use Rattle.node_files.proofs.Carry.{node_moves}
-use Rattle.searcher_switch.specs.Tickets.{ticket_names}
-use Rattle.searcher_switch.specs.Searching.{searcher_names}
+use Rattle.replica_calls.specs.Given.{ticket_names, searcher_names}
 use Rattle.copy_state.specs.declared.meta.FileMetaData.{FileMetaData}
 use Rattle.copy_state.specs.States.{meta_names}
 use Rattle.copy_job.specs.Jobs.{Job, IsJob, job_names}
-use Rattle.replica_opening.specs.Known.{KnowsHeld, IsLasting}
+use Rattle.replica_parts.specs.Given.{KnowsHeld, IsLasting}
 use Rattle.replica_parts.specs.declared.job.PointJob.{PointJob}
 use Rattle.replica_parts.specs.declared.parts.Parts.{Parts}
 use Rattle.replica_parts.specs.Merges.{copy_at, copies_with, copies_without, running_names, copies_names, copied_names, CopyApart}

@@ -9,14 +9,14 @@ use Rattle.segment_infos.specs.Files.{AreFilesOf}
 use Rattle.node_files.specs.Node.{IsWholeNode, IsApart, KeepsBytes}
 use Rattle.node_files.proofs.Carry.{node_same_names}
 use Rattle.commit_steps.specs.Book.{book_names}
-use Rattle.searcher_switch.specs.Searching.{searcher_names}
+use Rattle.replica_calls.specs.Given.{searcher_names}
 use Rattle.copy_state.specs.declared.meta.FileMetaData.{FileMetaData}
 use Rattle.copy_state.specs.declared.state.CopyState.{CopyState}
 use Rattle.copy_state.specs.States.{meta_names, meta_in}
 use Rattle.copy_job.specs.Parts.{own_names, written_names, ArePlaceable}
 use Rattle.copy_job.specs.Placing.{Places}
 use Rattle.copy_job.specs.Jobs.{Job, IsJob, job_names, present_of, reads_under}
-use Rattle.replica_opening.specs.Known.{IsLasting, KnowsHeld}
+use Rattle.replica_parts.specs.Given.{IsLasting, KnowsHeld}
 use Rattle.replica_parts.specs.declared.parts.Parts.{Parts}
 use Rattle.replica_parts.specs.Held.{LearnsSome, LearnsAll}
 use Rattle.replica_parts.specs.Merges.{copy_at, copies_with, copies_without, running_names, copies_names, copied_names, CopyApart, IsSegmentState}

@@ -10,7 +10,7 @@ use Rattle.disk_model.proofs.CellLemmas.{same_true}
 use Rattle.file_deleter.specs.Holdings.{times}
 use Rattle.file_deleter.proofs.NameLemmas.{times-append}
 use Rattle.node_files.proofs.Carry.{node_same_names}
-use Rattle.searcher_switch.specs.Searching.{searcher_names}
+use Rattle.replica_calls.specs.Given.{searcher_names}
 use Rattle.copy_state.specs.declared.meta.FileMetaData.{FileMetaData}
 use Rattle.copy_state.specs.States.{meta_names}
 use Rattle.copy_job.specs.declared.part.JobPart.{JobPart}

@@ -6,3 +6,4 @@ mod finishing;
 mod parting;
 
 pub use finishing::finish;
+pub use searcher_switch::{Lease, Ticket};

@@ -6,9 +6,8 @@ ghost use Rattle.node_files.specs.Node.{AddsOnly};
 ghost use Rattle.searcher_switch.specs.Tickets.{ticket_at, tickets_without};
 
 use crate::open::{self, Open, Point};
-use disk_model::Dir;
 use file_deleter::FileDeleter;
-use file_names::FileName;
+use node_files::{Dir, FileName};
 use nrt_base::{List, NoMemory, Share, Version};
 use std::alloc::{AllocError, Global};
 

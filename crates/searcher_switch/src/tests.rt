@@ -6,10 +6,8 @@ ghost use Rattle.searcher_switch.specs.Searching.{searcher_names};
 
 use crate::Searchers;
 use bytes::Bytes;
-use disk_memory::MemDir;
-use disk_model::Dir;
 use file_deleter::FileDeleter;
-use file_names::{FileName, commit_name};
+use node_files::{Dir, FileName, MemDir, commit_name};
 use nrt_base::{List, Version};
 use std::alloc::Global;
 use std::test::Fail;

@@ -4,3 +4,4 @@ pub mod NameOrder
 mod Records
 mod ReadBack
 mod WordCounts
+pub mod Given

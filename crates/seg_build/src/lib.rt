@@ -11,8 +11,10 @@ mod rows;
 pub use building::build;
 pub use files::{SegFiles, first_record};
 pub use joining::build_joined;
+pub use postings_plain::Joined;
 pub use reading::read_back;
 pub use rows::Prepared;
+pub use seg_reader::{LiveBits, Segment, segment_id};
 
 #[cfg(test)]
 mod tests;

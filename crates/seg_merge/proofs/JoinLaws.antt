@@ -3,12 +3,7 @@ use Rattle.std.proofs.Common.{◌≡◌, ℕ, suc, ◌+◌, ◌<◌, Bool, true,
 use Rattle.std.proofs.lemmas.List.{append-nil, map-append, length-map, length-append}
 use Rattle.std.proofs.lemmas.List.Sums.{sum_by-cons}
 use Rattle.nrt_base.specs.declared.doc.Doc.{Doc}
-use Rattle.live_bits.specs.LiveRows.{live_rows}
-use Rattle.postings_plain.specs.declared.row.TermRow.{TermRow}
-use Rattle.postings_plain.specs.Gathering.{FoundTerms, Gathers}
-use Rattle.postings_plain.specs.Joining.{numbers_from, live_terms, JoinsEntries}
-use Rattle.seg_reader.specs.Shown.{Shown}
-use Rattle.seg_reader.specs.Sound.{IsSound, term_row}
+use Rattle.seg_build.specs.Given.{live_rows, TermRow, FoundTerms, Gathers, numbers_from, live_terms, JoinsEntries, Shown, IsSound, term_row}
 use Rattle.seg_merge.specs.Merging.{live_docs, all_live_docs, docs_by_input}
 use Rattle.seg_merge.proofs.Gathering.{inputs_step}
 

@@ -5,8 +5,8 @@ ghost use Rattle.std.specs.List.{AllZip};
 ghost use Rattle.seg_merge.specs.Merging.{origins, carried, AreAsLong};
 
 use crate::task::Merged;
-use live_bits::LiveBits;
 use nrt_base::NoMemory;
+use seg_build::LiveBits;
 use std::alloc::Global;
 
 /// The rows of a merged segment that are live now: those that are live where they come from. `task_live` are the rows of the

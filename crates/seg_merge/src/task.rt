@@ -1,9 +1,7 @@
 //! What a merge is made from, and what it makes.
 
-use live_bits::LiveBits;
 use nrt_base::{List, SegNo};
-use seg_build::SegFiles;
-use seg_reader::Segment;
+use seg_build::{LiveBits, SegFiles, Segment};
 
 /// What a merge is to make a segment of.
 #[derive(Debug, Drop)]

@@ -4,3 +4,4 @@ mod Numbers
 mod Answering
 pub mod SortedLists
 pub mod StandingLaws
+pub mod Given

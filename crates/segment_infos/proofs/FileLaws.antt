@@ -3,13 +3,8 @@ use Rattle.std.proofs.Common.{◌≡◌, ℕ, ◌-◌, ◌⊎◌, Bool, true, fa
 use Rattle.std.specs.Prelude.{codes, IsOkAnd, nat_eq}
 use Rattle.std.specs.Cmp.Lexicographic.{pointwise}
 use Rattle.std.proofs.lemmas.Slice.Eq.{bytes_eq-Decides}
-use Rattle.codec_frame.specs.Frame.{Wanted, IsFramed, index_header, with_footer}
-use Rattle.codec_frame.specs.Checking.{IsChecked}
-use Rattle.codec_frame.specs.declared.frame.Framed.{Framed}
-use Rattle.codec_frame.specs.declared.frame.FrameFault.{FrameFault}
-use Rattle.codec_frame.specs.declared.frame.FileFault.TheVariants.{Frame, Body}
-use Rattle.codec_frame.specs.Bytes.{AreBytes}
-use Rattle.codec_frame.proofs.ByteLaws.{AreBytes-take}
+use Rattle.body_forms.specs.Given.{Wanted, IsFramed, index_header, with_footer, IsChecked, Framed, FrameFault, Frame, Body, AreBytes}
+use Rattle.body_forms.proofs.Given.{AreBytes-take}
 use Rattle.body_forms.proofs.Formats.{AreBytes-drop}
 use Rattle.body_forms.specs.File.{IsOneToOne, IsFileAnswer}
 use Rattle.body_forms.proofs.FileLaws.{OneVersion, IsFileKind, body_of, StandsIn, Tells, frame_refused, body_refused, file_read, one_file_value, one_file_bytes, framed_file}

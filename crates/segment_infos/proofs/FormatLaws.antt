@@ -5,7 +5,7 @@ use Rattle.std.specs.List.{flat_map, All}
 use Rattle.std.proofs.lemmas.Bool.{cases_lt, ltb-true, leb-true, eqb-true, lt-ltb}
 use Rattle.std.proofs.lemmas.Bool.Decides.{nat_tests}
 use Rattle.std.proofs.lemmas.List.Elements.{All-cons, All-nil}
-use Rattle.codec_frame.specs.Bytes.{AreBytes}
+use Rattle.body_forms.specs.Given.{AreBytes}
 use Rattle.body_forms.specs.Format.{Read, ◌>>=◌, Takes, IsFormat, chain, ChainFits, then_at}
 use Rattle.body_forms.specs.Numbers.{u32_bytes, u32_at, u64_bytes, u64_at}
 use Rattle.body_forms.proofs.Formats.{bind_some, passed, read_is, pair_of, then_format, chain_format}

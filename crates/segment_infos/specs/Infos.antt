@@ -2,7 +2,7 @@
 use Rattle.std.specs.Prelude.{◌≡◌, ◌≢◌, ℕ, ◌^◌, ◌<◌, ◌≤◌, List, [], ◌++◌, length, codes, None}
 use Rattle.std.specs.List.{All, AllPairs, flat_map}
 use Rattle.std.specs.Fmt.{decimal}
-use Rattle.codec_frame.specs.Frame.{Wanted, IsFramedAs}
+use Rattle.body_forms.specs.Given.{Wanted, IsFramedAs}
 use Rattle.body_forms.specs.Numbers.{u32_bytes, u64_bytes, string}
 use Rattle.body_forms.specs.File.{IsFile}
 use Rattle.segment_infos.specs.declared.infos.SegRecord.{SegRecord}

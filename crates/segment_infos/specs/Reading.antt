@@ -1,9 +1,6 @@
 -- How the fronts of bodies are read, and what reading a file of infos is to answer.
 use Rattle.std.specs.Prelude.{◌≡◌, ℕ, ◌&&◌, ◌||◌, ◌==◌, ◌↔◌, nat_lt, nat_le, Bool, List, [], ◌∷◌, Option, Some, None, Result, Err, IfOk, if◌then◌else◌}
-use Rattle.codec_frame.specs.Frame.{IsFramed}
-use Rattle.codec_frame.specs.Checking.{IsFirstFault}
-use Rattle.codec_frame.specs.declared.frame.FrameFault.{FrameFault}
-use Rattle.codec_frame.specs.declared.frame.FileFault.TheVariants.{Frame, Body}
+use Rattle.body_forms.specs.Given.{IsFramed, IsFirstFault, FrameFault, Frame, Body}
 use Rattle.body_forms.specs.Format.{Read, ◌>>=◌, then_at, chain_at}
 use Rattle.body_forms.specs.Numbers.{u32_at, u64_at}
 use Rattle.segment_infos.specs.declared.info.SegInfo.{SegInfo}

@@ -1,6 +1,6 @@
 -- What a segment's info file says of it: the body, and the file.
 use Rattle.std.specs.Prelude.{◌≡◌, ℕ, ◌^◌, ◌<◌, ◌≤◌, List, [], ◌∷◌, ◌++◌, codes, Some}
-use Rattle.codec_frame.specs.Frame.{Wanted}
+use Rattle.body_forms.specs.Given.{Wanted}
 use Rattle.body_forms.specs.Numbers.{u32_bytes, u64_bytes}
 use Rattle.body_forms.specs.File.{IsFile}
 use Rattle.segment_infos.specs.declared.info.SegInfo.{SegInfo}

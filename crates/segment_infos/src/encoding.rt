@@ -6,10 +6,9 @@ ghost use Rattle.body_forms.specs.Numbers.{u64_bytes, string};
 ghost use Rattle.segment_infos.specs.Infos.{record_bytes, RecordFits, user_data, infos_body, CanSpell, SpellsInfos, IsInfosFile};
 
 use crate::infos::{Infos, SegRecord};
-use body_forms::{push_string, push_u32, push_u64};
+use body_forms::{push_string, push_u32, push_u64, write_footer, write_index_header};
 use bytes::Bytes;
-use codec_frame::{write_footer, write_index_header};
-use nrt_base::{Gen, NoMemory, Version};
+use file_names::{Gen, NoMemory, Version};
 use std::alloc::Global;
 
 /// The name of the format in the header.

@@ -1,15 +1,17 @@
 //! The info file of a segment.
 
 ghost use Rattle.std.specs.Prelude.{◌≡◌, ◌++◌, IfOk, OnOk};
-ghost use Rattle.codec_frame.specs.Checking.{IsChecked};
+ghost use Rattle.body_forms.specs.Given.{IsChecked};
 ghost use Rattle.body_forms.specs.File.{IsFileRead};
 ghost use Rattle.segment_infos.specs.SegmentInfo.{info_body, CanSpellInfo, SpellsSegmentInfo, info_wanted, IsInfoFile};
 ghost use Rattle.segment_infos.specs.Reading.{info_in};
 
-use body_forms::{push_u32, push_u64, u32_of, u64_of};
+use body_forms::{
+    FileFault, FrameFault, Framed, Want, check, push_u32, push_u64, u32_of, u64_of, write_footer,
+    write_index_header,
+};
 use bytes::Bytes;
-use codec_frame::{FileFault, FrameFault, Framed, Want, check, write_footer, write_index_header};
-use nrt_base::{NoMemory, SegNo};
+use file_names::{NoMemory, SegNo};
 use std::alloc::Global;
 
 /// The name of the format in the header.

@@ -4,15 +4,14 @@ ghost use Rattle.std.specs.Prelude.{◌≡◌, ◌≢◌, ◌↔◌, ◌⊎◌, 
 ghost use Rattle.std.specs.List.{AllPairs};
 ghost use Rattle.std.specs.List.Sorted.{IsStrictlyIncreasing};
 ghost use Rattle.std.specs.Option.{option_map};
-ghost use Rattle.codec_frame.specs.Checking.{IsChecked, IsFirstFault};
+ghost use Rattle.body_forms.specs.Given.{IsChecked, IsFirstFault};
 ghost use Rattle.segment_infos.specs.Infos.{user_data, SpellsInfos, SpellsNoInfos, infos_wanted, IsInfosFile, IsOfNoInfos};
 ghost use Rattle.segment_infos.specs.Reading.{head_at, record_at, records_at, IsDecoded};
 
 use crate::encoding::{NAME, VERSION, id_of, push_user_data};
 use crate::infos::{Infos, SegRecord};
-use body_forms::{ReadFault, u32_of, u64_of};
-use codec_frame::{FileFault, FrameFault, Framed, Want, check};
-use nrt_base::{Gen, List, NoMemory, SegNo, Version};
+use body_forms::{FileFault, FrameFault, Framed, ReadFault, Want, check, u32_of, u64_of};
+use file_names::{Gen, List, NoMemory, SegNo, Version};
 use std::alloc::Global;
 
 /// The most segments that infos may have.

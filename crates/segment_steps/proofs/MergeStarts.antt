@@ -10,8 +10,7 @@ use Rattle.nrt_base.specs.declared.doc.Doc.{Doc}
 use Rattle.nrt_base.specs.declared.numbers.SegNo.{SegNo}
 use Rattle.disk_model.specs.Disk.{Name, Content}
 use Rattle.segment_infos.specs.declared.infos.SegRecord.{SegRecord}
-use Rattle.seg_reader.specs.Shown.{Shown}
-use Rattle.seg_reader.specs.Stands.{IsSegmentIn}
+use Rattle.seg_merge.specs.Given.{Shown, IsSegmentIn}
 use Rattle.live_bits.specs.LiveRows.{live_rows}
 use Rattle.seg_merge.specs.Merging.{docs_by_input, all_live_docs, live_docs, HasAsManyRows}
 use Rattle.merge_choice.specs.Choice.{IsClass}

@@ -7,8 +7,7 @@ use Rattle.documents.specs.declared.operation.Op.{Op}
 use Rattle.documents.specs.Documents.{after_op, after_ops, documents_after}
 use Rattle.segment_infos.specs.declared.infos.SegRecord.{SegRecord}
 use Rattle.segment_infos.specs.declared.infos.Infos.{Infos}
-use Rattle.seg_reader.specs.Shown.{Shown}
-use Rattle.seg_reader.specs.Stands.{IsSegmentIn, StandsWith}
+use Rattle.seg_merge.specs.Given.{Shown, IsSegmentIn, StandsWith}
 use Rattle.segment_steps.specs.Next.{record_generation, IsBounded}
 
 -- A PROMOTION: infos with the same segments stand for the same documents

@@ -17,12 +17,7 @@ use Rattle.live_bits.specs.LiveRows.{live_rows, IsLiveFile}
 use Rattle.segment_infos.specs.declared.infos.SegRecord.{SegRecord}
 use Rattle.segment_infos.specs.declared.infos.Infos.{Infos}
 use Rattle.segment_infos.specs.Files.{files_of_segment, live_files}
-use Rattle.seg_reader.specs.Shown.{Shown, shown_with, live_documents, live_documents_of}
-use Rattle.seg_reader.specs.Files.{record_id, AreLiveRowsOf, IsSegmentOf}
-use Rattle.seg_reader.specs.Sound.{IsSound}
-use Rattle.seg_reader.specs.Stands.{IsLiveFileIn, IsSegmentIn, AreSegmentsOf, StandsWith}
-use Rattle.seg_build.specs.declared.files.SegFiles.{SegFiles}
-use Rattle.seg_build.specs.Built.{File, record_of, live_file_of, files_of, IsBuilt}
+use Rattle.seg_merge.specs.Given.{Shown, shown_with, live_documents, live_documents_of, record_id, AreLiveRowsOf, IsSegmentOf, IsSound, IsLiveFileIn, IsSegmentIn, AreSegmentsOf, StandsWith, SegFiles, File, record_of, live_file_of, files_of, IsBuilt}
 use Rattle.segment_steps.specs.declared.flushing.FlushTask.{FlushTask}
 use Rattle.segment_steps.specs.declared.flushing.FlushWork.{FlushWork}
 use Rattle.segment_steps.specs.declared.next.NextSegments.{NextSegments}

@@ -6,7 +6,7 @@ use Rattle.std.proofs.lemmas.Bool.{eq-eqb}
 use Rattle.std.proofs.lemmas.List.Folds.{list_any-append}
 use Rattle.nrt_base.specs.declared.doc.Doc.{Doc}
 use Rattle.live_bits.specs.LiveRows.{live_rows}
-use Rattle.seg_reader.specs.Shown.{Shown}
+use Rattle.seg_merge.specs.Given.{Shown}
 use Rattle.documents.specs.declared.operation.Op.TheVariants.{Delete, Drop}
 use Rattle.documents.specs.Documents.{removes}
 use Rattle.segment_steps.specs.Cut.{live_left, has_key_of, has_word_of}

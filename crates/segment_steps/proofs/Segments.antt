@@ -19,11 +19,9 @@ use Rattle.documents.specs.declared.operation.Op.{Op}
 use Rattle.documents.specs.Documents.{key_cmp, IsAscending, after_ops}
 use Rattle.documents.proofs.DocumentLemmas.{ascending_after_all}
 use Rattle.live_bits.specs.LiveRows.{live_rows}
-use Rattle.seg_reader.specs.Shown.{Shown, shown_with, live_documents, live_documents_of, IsInKeyOrder}
-use Rattle.seg_reader.specs.Sound.{IsSound}
-use Rattle.seg_reader.proofs.SortedLists.{live_ascend}
+use Rattle.seg_merge.specs.Given.{Shown, shown_with, live_documents, live_documents_of, IsInKeyOrder, IsSound, AreSegmentsOf}
+use Rattle.seg_merge.proofs.Given.{live_ascend}
 use Rattle.segment_steps.specs.Cut.{removed_by, lacking, live_left}
-use Rattle.seg_reader.specs.Stands.{AreSegmentsOf}
 use Rattle.segment_steps.specs.Segments.{left_of, live_change, changed}
 use Rattle.segment_steps.proofs.Documents.{live_docs, puts_left, no_tie, after_cut_documents}
 

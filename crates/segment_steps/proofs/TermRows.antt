@@ -12,8 +12,7 @@ use Rattle.postings_plain.specs.Postings.{Hit, row_of}
 use Rattle.postings_plain.specs.Body.{HasEntry, HasNoEntry}
 use Rattle.postings_plain.specs.Rows.{from_row, IsLeastFrom}
 use Rattle.postings_plain.specs.Inverting.{has_term, term_positions, rows_with}
-use Rattle.seg_reader.specs.Shown.{Shown}
-use Rattle.seg_reader.specs.Sound.{term_row, IsSound}
+use Rattle.seg_merge.specs.Given.{Shown, term_row, IsSound}
 use Rattle.segment_steps.specs.Cut.{live_left}
 use Rattle.segment_steps.specs.Segments.{changed}
 use Rattle.segment_steps.specs.Killing.{HasAllRows, is_row_hit, KillsHits, KillsDocs}

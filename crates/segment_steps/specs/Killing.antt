@@ -4,7 +4,7 @@ use Rattle.std.specs.List.{list_any}
 use Rattle.nrt_base.specs.declared.doc.Doc.{Doc}
 use Rattle.live_bits.specs.LiveRows.{live_rows}
 use Rattle.postings_plain.specs.Postings.{Hit, row_of}
-use Rattle.seg_reader.specs.Shown.{Shown}
+use Rattle.seg_merge.specs.Given.{Shown}
 use Rattle.segment_steps.specs.Cut.{live_left}
 use Rattle.segment_steps.specs.Segments.{changed}
 

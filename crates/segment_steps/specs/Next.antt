@@ -10,11 +10,7 @@ use Rattle.disk_model.specs.Disk.{Name, Content}
 use Rattle.documents.specs.declared.operation.Op.{Op}
 use Rattle.live_bits.specs.LiveRows.{live_rows, IsLiveFile}
 use Rattle.segment_infos.specs.declared.infos.SegRecord.{SegRecord}
-use Rattle.seg_reader.specs.Shown.{Shown}
-use Rattle.seg_reader.specs.Files.{record_id, IsSegmentOf}
-use Rattle.seg_reader.specs.Sound.{IsSound}
-use Rattle.seg_build.specs.declared.files.SegFiles.{SegFiles}
-use Rattle.seg_build.specs.Built.{File, record_of, IsNewSegment}
+use Rattle.seg_merge.specs.Given.{Shown, record_id, IsSegmentOf, IsSound, SegFiles, File, record_of, IsNewSegment}
 use Rattle.segment_steps.specs.declared.flushing.FlushTask.{FlushTask}
 use Rattle.segment_steps.specs.declared.flushing.FlushWork.{FlushWork}
 use Rattle.segment_steps.specs.declared.next.NextSegments.{NextSegments}

@@ -2,7 +2,7 @@
 use Rattle.std.specs.Prelude.{◌≡◌, ◌==◌, List, length, Bool, Option, Some, None, if◌then◌else◌}
 use Rattle.nrt_base.specs.declared.doc.Doc.{Doc}
 use Rattle.live_bits.specs.LiveRows.{live_rows}
-use Rattle.seg_reader.specs.Shown.{Shown, shown_with}
+use Rattle.seg_merge.specs.Given.{Shown, shown_with}
 use Rattle.segment_steps.specs.Cut.{live_left}
 
 -- a segment whose rows are dead where their documents are gone

@@ -6,7 +6,7 @@ ghost use Rattle.nrt_base.specs.declared.doc.Doc.{Doc};
 ghost use Rattle.documents.specs.declared.operation.Op.TheVariants.{Delete, Drop};
 ghost use Rattle.documents.specs.Documents.{removes};
 ghost use Rattle.postings_plain.specs.Postings.{row_of};
-ghost use Rattle.seg_reader.specs.Sound.{IsSound};
+ghost use Rattle.seg_merge.specs.Given.{IsSound};
 ghost use Rattle.live_bits.specs.LiveRows.{AreDeadFrom, IsFirstLive};
 ghost use Rattle.segment_steps.specs.Segments.{live_change, changed};
 ghost use Rattle.segment_steps.specs.Killing.{HasAllRows, where_fewer, KillsRow, KillsHits, KillsDocs};
@@ -16,7 +16,7 @@ use crate::cut::Gone;
 use live_bits::LiveBits;
 use nrt_base::{Key, NoMemory, Share, Word};
 use postings_plain::Postings;
-use seg_reader::Segment;
+use seg_merge::Segment;
 use std::alloc::Global;
 
 // The first row at or above this one that is live after the change.

@@ -9,7 +9,7 @@ use bytes::Bytes;
 use file_names::{FileName, live_name};
 use live_bits::LiveBits;
 use nrt_base::{Gen, List, NoMemory, SegNo, Share};
-use seg_reader::{Segment, segment_id};
+use seg_merge::{Segment, segment_id};
 use segment_infos::SegRecord;
 use std::alloc::Global;
 

@@ -1,5 +1,5 @@
 use Rattle.std.proofs.Common.{refl}
-use Rattle.codec_frame.specs.declared.frame.FileFault.TheVariants.{Frame}
+use Rattle.body_forms.specs.Given.{Frame}
 use Rattle.docs_plain.specs.Rows.{docs_in}
 use Rattle.body_forms.proofs.FileLaws.{err_of, frame_lies, body_of, frame_told, value_told}
 use Rattle.docs_plain.proofs.FileLaws.{documents_kind, own_docs}

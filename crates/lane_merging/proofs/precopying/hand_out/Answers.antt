@@ -1,4 +1,4 @@
-use Rattle.lane_sections.proofs.Sections.{found_entered}
+use Rattle.lane_copying.proofs.Given.{found_entered}
 use Rattle.lane_merging.proofs.Works.{task_extends, on_hands}
 use Rattle.lane_merging.proofs.precopying.hand_out.Goals as goal
 

@@ -1,6 +1,6 @@
 use Rattle.lane_seats.specs.Seats.{log_seen}
 use Rattle.lane_merging.proofs.Claims.{merged_stays}
-use Rattle.lane_sections.proofs.Sections.{found_entered}
+use Rattle.lane_copying.proofs.Given.{found_entered}
 use Rattle.lane_merging.proofs.Works.{task_extends, on_works}
 use Rattle.lane_merging.proofs.tasks.bring_merged.Goals as goal
 

@@ -2,8 +2,8 @@ use Rattle.std.proofs.Common.{◌≡◌, ◌∙◌, ap}
 use Rattle.history_entries.specs.Lines.{entries_of_line}
 use Rattle.history_book.specs.Log.{Log, printed}
 use Rattle.cluster_tasks.specs.TaskLog.{counted_for}
-use Rattle.cluster_state.specs.Run.{Run}
-use Rattle.cluster_state.proofs.MergingPaths.{third_at}
+use Rattle.line_turns.specs.Given.{Run}
+use Rattle.line_turns.proofs.Given.{third_at}
 use Rattle.line_merges.proofs.Turning.{noted_count}
 use Rattle.line_merges.proofs.drains.counted.Goals as goal
 

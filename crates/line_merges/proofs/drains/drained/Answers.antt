@@ -3,8 +3,8 @@ use Rattle.history_entries.specs.declared.entry.Event.TheVariants.{Drained}
 use Rattle.history_book.specs.Log.{shown}
 use Rattle.cluster_tasks.specs.Board.{Board}
 use Rattle.cluster_tasks.specs.TaskLog.{counted_for}
-use Rattle.cluster_state.specs.Run.{Run}
-use Rattle.cluster_drains.specs.MergePaths.{IsBoard}
+use Rattle.line_turns.specs.Given.{Run}
+use Rattle.cluster_cut_overs.specs.Given.{IsBoard}
 use Rattle.cluster_precopies.proofs.CopyCalls.{nothing_done}
 use Rattle.line_merges.proofs.drains.drained.Goals.{else-done-most-via-then-done-most+else-not-is_idle, else-done-most-via-else-done-most}
 use Rattle.line_merges.proofs.drains.drained.Goals as goal

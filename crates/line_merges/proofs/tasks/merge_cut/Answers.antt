@@ -4,8 +4,8 @@ use Rattle.history_entries.specs.Nodes.{primary_of}
 use Rattle.history_book.specs.Log.{Log, printed}
 use Rattle.cluster_tasks.specs.declared.tasks.OpenMerge.{OpenMerge}
 use Rattle.cluster_tasks.specs.Board.{Board, open_merge, spread_at, is_copied}
-use Rattle.cluster_state.specs.Run.{Run}
-use Rattle.cluster_state.proofs.MergingPaths.{third_at}
+use Rattle.line_turns.specs.Given.{Run}
+use Rattle.line_turns.proofs.Given.{third_at}
 use Rattle.cluster_precopies.proofs.CopyCalls.{nothing_done}
 use Rattle.line_merges.specs.TaskCalls.{CutsOnce}
 use Rattle.line_merges.proofs.Turning.{no_row, none_of, some_of}

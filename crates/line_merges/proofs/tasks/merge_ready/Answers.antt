@@ -3,8 +3,8 @@ use Rattle.history_entries.specs.Nodes.{primary_of}
 use Rattle.history_book.specs.Log.{Log, printed}
 use Rattle.cluster_tasks.specs.declared.tasks.OpenMerge.{OpenMerge}
 use Rattle.cluster_tasks.specs.Board.{open_merge, is_unwritten}
-use Rattle.cluster_state.specs.Run.{Run}
-use Rattle.cluster_state.proofs.MergingPaths.{third_at}
+use Rattle.line_turns.specs.Given.{Run}
+use Rattle.line_turns.proofs.Given.{third_at}
 use Rattle.line_merges.proofs.Turning.{no_row}
 use Rattle.line_merges.proofs.tasks.merge_ready.Goals as goal
 

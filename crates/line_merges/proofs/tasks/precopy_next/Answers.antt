@@ -3,8 +3,8 @@ use Rattle.history_entries.specs.Nodes.{primary_of}
 use Rattle.history_book.specs.Log.{Log, printed}
 use Rattle.cluster_tasks.specs.declared.tasks.OpenMerge.{OpenMerge}
 use Rattle.cluster_tasks.specs.Board.{Board, open_merge, spread_at, has_copy_task}
-use Rattle.cluster_state.specs.Run.{Run}
-use Rattle.cluster_state.proofs.MergingPaths.{third_at}
+use Rattle.line_turns.specs.Given.{Run}
+use Rattle.line_turns.proofs.Given.{third_at}
 use Rattle.cluster_precopies.specs.CopyTurns.{TurnsCopy}
 use Rattle.cluster_precopies.specs.declared.precopies.CopyTurn.{CopyTurn}
 use Rattle.cluster_precopies.proofs.CopyCalls.{nothing_done}

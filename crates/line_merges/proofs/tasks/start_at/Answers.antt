@@ -2,7 +2,7 @@ use Rattle.std.proofs.Common.{◌≡◌, ◌∙◌, [], Option, Some, None, ap, 
 use Rattle.history_entries.specs.declared.cause.Cause.{Cause}
 use Rattle.history_entries.specs.Lines.{entries_of_line}
 use Rattle.history_book.specs.Log.{Log, printed}
-use Rattle.cluster_drains.specs.MergePaths.{StartsMergeFor}
+use Rattle.cluster_cut_overs.specs.Given.{StartsMergeFor}
 use Rattle.line_merges.proofs.Turning.{plain_cause, not_started, refused_so}
 use Rattle.line_merges.proofs.tasks.start_at.Goals as goal
 

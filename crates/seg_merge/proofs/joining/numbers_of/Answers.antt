@@ -1,8 +1,7 @@
 use Rattle.std.proofs.Common.{◌≡◌, ◌<◌, ◌∙◌, ap, arith, length, drop, sym, ◌++◌, List, Bool, []}
 use Rattle.std.proofs.Math.ListN.{drop_of_length-le}
 use Rattle.std.proofs.lemmas.List.{append-nil}
-use Rattle.live_bits.specs.LiveRows.{live_rows}
-use Rattle.postings_plain.specs.Joining.{numbers_from}
+use Rattle.seg_build.specs.Given.{live_rows, numbers_from}
 use Rattle.seg_merge.proofs.JoinLaws.{numbered, counted_on}
 use Rattle.seg_merge.proofs.joining.numbers_of.Goals as goal
 

@@ -1,6 +1,5 @@
 use Rattle.std.proofs.Common.{◌≡◌, ◌+◌, ◌++◌, drop}
-use Rattle.live_bits.specs.LiveRows.{live_rows}
-use Rattle.postings_plain.specs.Joining.{numbers_from}
+use Rattle.seg_build.specs.Given.{live_rows, numbers_from}
 use Rattle.seg_merge.proofs.joining.numbers_of.Given as goal
 
 abbrev pub invariant-loop-row : goal.invariant-loop-row

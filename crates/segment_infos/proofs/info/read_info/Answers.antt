@@ -1,5 +1,5 @@
 use Rattle.std.proofs.Common.{refl, arith, sym}
-use Rattle.codec_frame.specs.declared.frame.FileFault.TheVariants.{Frame}
+use Rattle.body_forms.specs.Given.{Frame}
 use Rattle.body_forms.proofs.FileLaws.{err_of, frame_lies, body_of, frame_told, body_told, value_told}
 use Rattle.segment_infos.proofs.InfoLaws.{info_spelled, none_spelled_in}
 use Rattle.segment_infos.proofs.FileLaws.{info_kind, body_fits}

@@ -1,5 +1,5 @@
 use Rattle.std.proofs.Common.{refl}
-use Rattle.codec_frame.specs.declared.frame.FileFault.TheVariants.{Frame}
+use Rattle.body_forms.specs.Given.{Frame}
 use Rattle.body_forms.proofs.FileLaws.{err_of, frame_lies}
 use Rattle.body_forms.specs.declared.read_fault.ReadFault.TheVariants.{File}
 use Rattle.segment_infos.proofs.FileLaws.{frame_is_refused, infos_are_read, another_id, same_id, other_id}
