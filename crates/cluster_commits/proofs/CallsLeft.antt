@@ -10,12 +10,7 @@ use Rattle.commit_steps.specs.declared.stage.Stage.{Stage}
 use Rattle.commit_steps.specs.declared.stage.Stage.TheVariants.{Begun, Synced, Written, Pending, Named, Renamed}
 use Rattle.commit_steps.specs.declared.stage.CommitBook.{CommitBook}
 use Rattle.commit_steps.specs.Book.{HasBegun, IsBegun, book_by, is_last_step}
-use Rattle.cluster_places.specs.declared.nodes.Node.{Node}
-use Rattle.cluster_places.specs.declared.nodes.Node.TheVariants.{Primary, Replica, Down}
-use Rattle.cluster_places.specs.declared.nodes.Place.{Place}
-use Rattle.cluster_places.specs.Places.{place_of, unwrapped, disk_of}
-use Rattle.cluster_places.specs.JobPlaces.{MovesOne}
-use Rattle.cluster_places.specs.Commits.{StepsBook, AltersCommits, CommitsIn, HasStageAt}
+use Rattle.cluster_state.specs.Given.{Node, Primary, Replica, Down, Place, place_of, unwrapped, disk_of, MovesOne, StepsBook, AltersCommits, CommitsIn, HasStageAt}
 use Rattle.cluster_state.specs.Run.{Run, calls_at}
 use Rattle.cluster_state.specs.CallsLeft.{stage_calls, book_calls, place_calls, calls_in}
 use Rattle.cluster_state.specs.Lives.{MakesCall}

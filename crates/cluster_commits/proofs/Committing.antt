@@ -41,14 +41,8 @@ use Rattle.history_merges.specs.Merging.{Sheet}
 use Rattle.history_book.specs.Jobs.{job_at}
 use Rattle.history_book.specs.Turns.{InTurn, AreInTurn}
 use Rattle.history_book.proofs.FoundLaws.{commit_found}
-use Rattle.cluster_places.specs.declared.held.Held.{Held}
-use Rattle.cluster_places.specs.declared.nodes.Node.{Node}
-use Rattle.cluster_places.specs.declared.nodes.Node.TheVariants.{Primary, Replica, Down}
-use Rattle.cluster_places.specs.declared.nodes.Place.{Place}
-use Rattle.cluster_places.specs.Places.{Disk, place_of, disk_of, disk_at, tickets_of}
-use Rattle.cluster_places.specs.Outs.{want_of, want_at, jobs_like, states_like}
-use Rattle.cluster_places.specs.Commits.{HasStageAt, StepsBook, AltersPrimaryCommits, AltersReplicaCommits, AltersCommits, CommitsIn}
-use Rattle.cluster_places.proofs.OutCounts.{jobs_same}
+use Rattle.cluster_state.specs.Given.{Held, Node, Primary, Replica, Down, Place, Disk, place_of, disk_of, disk_at, tickets_of, want_of, want_at, jobs_like, states_like, HasStageAt, StepsBook, AltersPrimaryCommits, AltersReplicaCommits, AltersCommits, CommitsIn}
+use Rattle.cluster_state.proofs.Given.{jobs_same}
 use Rattle.cluster_state.specs.Run.{Run, IsNow}
 use Rattle.cluster_state.specs.Lookups.{flush_out}
 use Rattle.cluster_state.specs.State.{IsPointAt, FlightShows, WritesAt, NodeShows, PlaceShows, Shows, HoldsTickets}

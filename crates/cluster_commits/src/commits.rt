@@ -7,13 +7,11 @@ ghost use Rattle.history_book.specs.Log.{printed};
 ghost use Rattle.cluster_state.specs.Run.{IsEnded};
 ghost use Rattle.cluster_state.specs.Lives.{BeginsCommit, StepsCommit};
 
-use cluster_places::CommitTask;
-use cluster_state::ClusterState;
+use cluster_state::{ClusterState, CommitTask, files_last};
 use disk_model::FaultDir;
 use history_entries::Event;
 use node_commits::{begin_commit_in, step_commit_in};
 use nrt_base::{At, NoMemory, NodeNo, Version};
-use replica_node::laws::files_last;
 use std::alloc::Global;
 
 /// Begins a commit of the version that the running node searches, where none of it is in flight. The directory is not called.

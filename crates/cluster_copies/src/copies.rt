@@ -10,14 +10,13 @@ ghost use Rattle.cluster_state.specs.Run.{IsNow, IsEnded};
 ghost use Rattle.cluster_state.specs.Copies.{newest_of, BeginsJob};
 ghost use Rattle.cluster_state.specs.Settles.{WaitsFor};
 
-use cluster_places::CopyTask;
+use cluster_places::{CopyTask, files_last};
 use cluster_state::ClusterState;
 use disk_model::FaultDir;
 use history_book::Inner;
 use history_entries::Event;
 use node_jobs::begin_in;
 use nrt_base::{At, NoMemory, NodeNo, Version};
-use replica_node::laws::files_last;
 use std::alloc::Global;
 
 /// A copy to a replica that searches the newest version: it starts, and has its reply.

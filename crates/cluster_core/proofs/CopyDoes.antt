@@ -27,9 +27,7 @@ use Rattle.script_serving.specs.declared.script.LineCommand.{LineCommand}
 use Rattle.script_serving.specs.declared.script.LineCommand.TheVariants.{Copy, Settle}
 use Rattle.script_serving.specs.Refusals.{refusal, is_copy_cause}
 use Rattle.script_serving.specs.Serves.{First, Follows, Suits}
-use Rattle.cluster_places.specs.declared.tasks.CopyTask.{CopyTask}
-use Rattle.cluster_places.specs.declared.tasks.FileTask.{FileTask}
-use Rattle.cluster_places.specs.declared.tasks.SettleTask.{SettleTask}
+use Rattle.cluster_state.specs.Given.{CopyTask, FileTask, SettleTask}
 use Rattle.cluster_state.specs.Run.{Run, IsNow}
 use Rattle.cluster_state.specs.Copies.{newest_of, GoesOn, ended_log}
 use Rattle.cluster_state.specs.Settles.{IsSettling}

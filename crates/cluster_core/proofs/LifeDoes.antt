@@ -12,7 +12,7 @@ use Rattle.history_book.specs.Log.{printed, shown}
 use Rattle.history_book.specs.Turns.{AreInTurn}
 use Rattle.script_serving.specs.declared.script.LineCommand.TheVariants.{Commit, Crash, Reopen}
 use Rattle.script_serving.specs.Refusals.{without_node}
-use Rattle.cluster_places.specs.declared.tasks.CommitTask.{CommitTask}
+use Rattle.cluster_state.specs.Given.{CommitTask}
 use Rattle.cluster_state.specs.Run.{Run, IsNow}
 use Rattle.line_turns.specs.declared.turn.Turn.{Turn}
 use Rattle.line_turns.specs.declared.turn.Turn.TheVariants.{Work, Done, Busy}

@@ -19,8 +19,7 @@ use Rattle.history_tables.specs.Begins.{open_line}
 use Rattle.history_tables.proofs.RowLemmas.{same_at_self}
 use Rattle.history_book.specs.Log.{Log, printed, shown}
 use Rattle.history_book.proofs.ReignLaws.{start_kept}
-use Rattle.cluster_places.specs.declared.tasks.FileTask.{FileTask}
-use Rattle.cluster_places.specs.declared.tasks.SettleTask.{SettleTask}
+use Rattle.cluster_state.specs.Given.{FileTask, SettleTask}
 use Rattle.cluster_state.specs.Run.{Run, IsNow}
 use Rattle.cluster_state.specs.Copies.{ended_log}
 use Rattle.cluster_state.specs.Settles.{IsLeft, IsSettling}

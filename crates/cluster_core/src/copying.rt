@@ -1,7 +1,7 @@
 //! The calls of lines that copy and settle.
 
 use crate::cluster::Cluster;
-use cluster_places::{CopyTask, FileTask, SettleTask};
+use cluster_state::{CopyTask, FileTask, SettleTask};
 use copy_job::Part;
 use disk_model::FaultDir;
 use history_entries::Event;
@@ -22,7 +22,7 @@ impl<D: FaultDir + Drop> Cluster<D> {
     ghost use Rattle.history_book.specs.Jobs.{job_of};
     ghost use Rattle.script_serving.specs.declared.script.LineCommand.{LineCommand};
     ghost use Rattle.script_serving.specs.declared.script.LineCommand.TheVariants.{Copy, Settle};
-    ghost use Rattle.cluster_places.specs.declared.tasks.SettleTask.{SettleTask};
+    ghost use Rattle.cluster_state.specs.Given.{SettleTask};
     ghost use Rattle.cluster_state.specs.Run.{IsNow, IsEnded};
     ghost use Rattle.cluster_state.specs.FilesOut.{file_out};
     ghost use Rattle.cluster_state.specs.Copies.{newest_of, IsCopying, JobRuns};

@@ -1,7 +1,7 @@
 //! The calls of lines that commit nodes, crash them and reopen them.
 
 use crate::cluster::Cluster;
-use cluster_places::CommitTask;
+use cluster_state::CommitTask;
 use disk_model::FaultDir;
 use history_entries::Event;
 use line_lives::{commit_start, commit_step, crash, reopen};

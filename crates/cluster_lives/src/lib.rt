@@ -3,4 +3,5 @@
 
 mod lives;
 
+pub use cluster_places::CommitTask;
 pub use lives::{crash_node, reopen_node};

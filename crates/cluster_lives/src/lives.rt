@@ -7,12 +7,12 @@ ghost use Rattle.history_book.specs.Log.{printed, shown};
 ghost use Rattle.cluster_state.specs.Run.{IsNow, IsEnded};
 ghost use Rattle.cluster_state.specs.Lives.{Reopens};
 
+use cluster_places::files_last;
 use cluster_state::ClusterState;
 use disk_model::FaultDir;
 use history_entries::Event;
 use node_lives::{crash_in, reopen_in};
 use nrt_base::{At, NoMemory, NodeNo};
-use replica_node::laws::files_last;
 use std::alloc::Global;
 
 /// Crashes a running node. Its tickets and searches are gone with it, and its directory is one that a crash may leave: the

@@ -26,8 +26,7 @@ use Rattle.replica_parts.specs.Merges.{copies_seen, no_copies}
 use Rattle.replica_parts.specs.Replica.{IsWholeReplica, AreStanding}
 use Rattle.replica_parts.specs.Jobs.{IsPointJob}
 use Rattle.replica_parts.specs.Sources.{IsSourced, KeepsSource, IsWantedName}
-use Rattle.replica_precopies.specs.Overlapping.{copies_beside}
-use Rattle.replica_switches.specs.Parting.{pending_after}
+use Rattle.replica_node.specs.Given.{copies_beside, pending_after}
 use Rattle.cluster_places.specs.Outs.{want_of}
 use Rattle.cluster_places.specs.JobChanges.{given_back, copies_begun, AltersStates, AltersJob, BeginsAt, FinishesAt, TakesPart, IsTemporaryIn}
 use Rattle.cluster_places.specs.Ends.{EndsJob, TakesBack}

@@ -23,8 +23,7 @@ use Rattle.replica_parts.specs.declared.parts.Parts.{Parts as ReplicaParts}
 use Rattle.replica_parts.specs.Merges.{copies_seen}
 use Rattle.replica_parts.specs.Replica.{IsWholeReplica, AreStanding}
 use Rattle.replica_parts.specs.Sources.{IsSourced, KeepsSource, IsWantedName}
-use Rattle.replica_precopies.specs.Overlapping.{copies_beside}
-use Rattle.replica_switches.specs.Parting.{pending_after}
+use Rattle.replica_node.specs.Given.{copies_beside, pending_after}
 use Rattle.cluster_places.specs.declared.nodes.Place.{Place}
 use Rattle.cluster_places.specs.declared.nodes.Node.TheVariants.{Primary, Replica, Down}
 use Rattle.cluster_places.specs.Outs.{want_of}

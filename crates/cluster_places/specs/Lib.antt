@@ -9,3 +9,4 @@ pub mod Listed
 pub mod Ends
 pub mod Lives
 pub mod Commits
+pub mod Given

@@ -8,8 +8,7 @@ use Rattle.nrt_base.specs.declared.numbers.Version.{Version}
 use Rattle.disk_model.specs.Disk.{Name, Content, Cells, HasCrashed, reads_of}
 use Rattle.segment_infos.specs.Files.{files_of_segment}
 use Rattle.seg_reader.specs.Stands.{StandsFor}
-use Rattle.replica_opening.specs.Opening.{FindsPoint, number_of_last}
-use Rattle.replica_opening.specs.Opened.{IsHandedBack}
+use Rattle.replica_parts.specs.Given.{FindsPoint, number_of_last, IsHandedBack}
 use Rattle.replica_parts.specs.declared.parts.Parts.{Parts as ReplicaParts}
 use Rattle.replica_parts.specs.Replica.{IsWholeReplica}
 use Rattle.replica_parts.specs.Sources.{IsSourced}

@@ -47,14 +47,8 @@ use Rattle.history_book.specs.Jobs.{last_job, job_at}
 use Rattle.history_book.specs.Turns.{AreInTurn}
 use Rattle.history_book.proofs.LineLaws.{flying}
 use Rattle.script_serving.specs.Refusals.{put_publishes}
-use Rattle.cluster_places.specs.declared.held.Held.{Held}
-use Rattle.cluster_places.specs.declared.nodes.Node.{Node}
-use Rattle.cluster_places.specs.declared.nodes.Node.TheVariants.{Primary, Replica, Down}
-use Rattle.cluster_places.specs.declared.nodes.Place.{Place}
-use Rattle.cluster_places.specs.Places.{place_of}
-use Rattle.cluster_places.specs.Outs.{want_of, want_at, jobs_like}
-use Rattle.cluster_places.specs.JobChanges.{HasReplica}
-use Rattle.cluster_places.proofs.OutCounts.{jobs_none}
+use Rattle.cluster_state.specs.Given.{Held, Node, Primary, Replica, Down, Place, place_of, want_of, want_at, jobs_like, HasReplica}
+use Rattle.cluster_state.proofs.Given.{jobs_none}
 use Rattle.node_promotions.specs.Promoting.{CanPromote, PromotesTo, CanPromoteIn, PromotesIn}
 use Rattle.cluster_state.specs.Run.{Run}
 use Rattle.cluster_state.specs.State.{StandForVersion, IsPointAt, WritesAt, HoldsTickets, FlightShows, NodeShows, PrimaryShows, ReplicaShows, PlaceShows, Shows}

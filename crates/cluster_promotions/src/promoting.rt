@@ -7,11 +7,10 @@ ghost use Rattle.history_entries.specs.Lines.{entries_of_line};
 ghost use Rattle.history_book.specs.Log.{printed, shown};
 ghost use Rattle.cluster_state.specs.Run.{IsNow, IsEnded};
 
-use cluster_state::ClusterState;
+use cluster_state::{ClusterState, files_last};
 use disk_model::FaultDir;
 use node_promotions::promote_in;
 use nrt_base::{At, Gen, NoMemory, NodeNo, Version};
-use replica_node::laws::files_last;
 use std::alloc::{AllocError, Global};
 
 /// The generations are below this one.

@@ -4,5 +4,6 @@
 mod lists;
 mod reads;
 
+pub use cluster_places::Key;
 pub use lists::list_files;
 pub use reads::{ask_ticket, note_without, open_search, open_ticket};

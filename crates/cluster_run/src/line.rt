@@ -7,15 +7,13 @@ ghost use Rattle.script_serving.specs.Form.{is_command};
 ghost use Rattle.lane_seats.specs.Seats.{log_seen, IsLaneSeat, EndsItsLine};
 ghost use Rattle.cluster_run.specs.Built.{is_run};
 
-use cluster_core::Cluster;
 use disk_model::FaultDir;
 use documents::Op;
 use hist_lock::{HistLock, LaneSeat};
-use lane_copying::{copy, settle};
+use lane_copying::{Cluster, Gate, copy, settle};
 use lane_crew::Halt;
 use lane_lasting::{commit, crash, promote, reopen};
 use lane_reading::{ask, close, list_files, open, search};
-use lane_sections::Gate;
 use lane_writing::{publish, write};
 use nrt_base::{NoMemory, Share};
 use script_serving::{Line, LineCommand};

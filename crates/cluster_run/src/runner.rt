@@ -5,11 +5,10 @@ ghost use Rattle.script_serving.specs.Form.{is_command};
 ghost use Rattle.cluster_run.specs.Built.{is_run};
 
 use crate::line::do_line;
-use cluster_core::Cluster;
 use disk_model::FaultDir;
 use hist_lock::{HistLock, LaneSeat};
+use lane_copying::{Cluster, Gate};
 use lane_crew::{Halt, Lane, RunsLines};
-use lane_sections::Gate;
 use nrt_base::NoMemory;
 use script_serving::Line;
 use std::alloc::Global;

@@ -12,12 +12,11 @@ ghost use Rattle.cluster_run.specs.Running.{history_of};
 
 use crate::crossing::{book_crosses, sent};
 use crate::runner::ClusterLines;
-use cluster_core::Cluster;
 use cluster_places::Place;
 use cluster_state::ClusterState;
 use disk_memory::MemDir;
 use history_merges::Ledger;
-use lane_sections::Gate;
+use lane_copying::{Cluster, Gate};
 use nrt_base::NoMemory;
 use script_serving::Script;
 use std::alloc::Global;

@@ -44,16 +44,12 @@ use Rattle.node_files.specs.Appearing.{NoneAppears}
 use Rattle.primary_parts.specs.Held.{IsHeld, AreUndrawn, AreNumbered}
 use Rattle.primary_parts.specs.Calls.{IsOpenedOn}
 use Rattle.primary_parts.proofs.Callers.{empty_numbered}
-use Rattle.cluster_places.specs.declared.held.Held.{Held}
-use Rattle.cluster_places.specs.declared.nodes.Node.TheVariants.{Primary, Replica, Down}
-use Rattle.cluster_places.specs.declared.nodes.Place.{Place}
-use Rattle.cluster_places.specs.Places.{place_of, unwrapped, disk_at}
+use Rattle.cluster_state.specs.Given.{Held, Primary, Replica, Down, Place, place_of, unwrapped, disk_at, want_of, one_like, want_at, jobs_like, Node}
 use Rattle.cluster_state.specs.Names.{AreNamesShown, NamesShow}
 use Rattle.cluster_state.proofs.Frames.{some_then}
 use Rattle.cluster_state.specs.Starting.{IsEmptyDir, IsUncommitted, IsOpening, OpensPlace}
 use Rattle.cluster_state.specs.Disks.{IsPastPoint, LastShows, StageShows, DiskShows}
 use Rattle.cluster_state.specs.Files.{JobShows, PrimaryFiles, ReplicaFiles, NodeFiles, FilesShow}
-use Rattle.cluster_places.specs.Outs.{want_of, one_like, want_at, jobs_like}
 use Rattle.primary_parts.specs.declared.states.Out.{Out}
 use Rattle.primary_parts.specs.Primary.{primary_names}
 use Rattle.primary_parts.specs.States.{state_names}
@@ -61,7 +57,6 @@ use Rattle.primary_parts.specs.Merges.{merge_names, merge_loose}
 use Rattle.file_deleter.specs.Holdings.{count_of}
 use Rattle.nrt_base.specs.declared.numbers.At.{At}
 use Rattle.replica_parts.specs.declared.job.PointJob.{PointJob}
-use Rattle.cluster_places.specs.declared.nodes.Node.{Node}
 use Rattle.cluster_state.specs.State.{IsPointAt, WritesAt, HoldsTickets, PrimaryShows, PlaceShows, Shows}
 use Rattle.cluster_state.proofs.PointStands.{opening_stands, opening_writable}
 

@@ -9,8 +9,7 @@ use Rattle.std.specs.declared.vec.IntoIter.{IntoIter}
 use Rattle.disk_model.specs.Disk.{Cells}
 use Rattle.history_entries.specs.Nodes.{IsNode}
 use Rattle.history_book.specs.Log.{Log}
-use Rattle.cluster_places.specs.declared.nodes.Place.{Place}
-use Rattle.cluster_places.specs.Places.{place_of}
+use Rattle.cluster_state.specs.Given.{Place, place_of}
 use Rattle.cluster_state.specs.State.{PlaceShows, Shows}
 use Rattle.cluster_state.specs.Files.{FilesShow}
 use Rattle.cluster_state.specs.Starting.{OpensPlace}

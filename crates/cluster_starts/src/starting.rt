@@ -3,19 +3,16 @@
 ghost use Rattle.std.specs.Prelude.{◌≡◌, ◌≤◌, [], false, None, ℕ, IfOk, IsSomeAnd, length};
 ghost use Rattle.std.specs.List.{All};
 ghost use Rattle.history_entries.specs.Nodes.{IsNode};
-ghost use Rattle.cluster_places.specs.Places.{place_of};
+ghost use Rattle.cluster_state.specs.Given.{place_of};
 ghost use Rattle.cluster_state.specs.Starting.{IsEmptyDir, IsUncommitted, IsOpening, OpensPlace};
 ghost use Rattle.cluster_state.specs.State.{PrimaryShows};
 ghost use Rattle.cluster_state.specs.Files.{PrimaryFiles};
 ghost use Rattle.cluster_state.specs.Names.{NamesShow};
 
-use cluster_places::{Node, Place};
-use cluster_state::ClusterState;
+use cluster_state::{ClusterState, Node, NodeParts, Place, Primary, Replica};
 use disk_model::{Dir, FaultDir};
 use history_merges::Ledger;
-use index_primary::Primary;
 use nrt_base::NoMemory;
-use replica_node::{NodeParts, Replica};
 use std::alloc::{AllocError, Global};
 
 // A replica on an empty directory.

@@ -18,3 +18,4 @@ mod Living
 pub mod Points
 pub mod Reigning
 pub mod Ledgers
+pub mod Given

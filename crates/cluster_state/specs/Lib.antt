@@ -14,3 +14,4 @@ pub mod FileChanges
 pub mod Copies
 pub mod Settles
 pub mod Lists
+pub mod Given

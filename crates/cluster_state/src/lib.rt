@@ -5,3 +5,7 @@ mod cluster;
 mod laws;
 
 pub use cluster::ClusterState;
+pub use cluster_places::{
+    CommitTask, CopyTask, FileTask, Node, NodeParts, Place, Primary, Replica, SettleTask,
+    files_last,
+};

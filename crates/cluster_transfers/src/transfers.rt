@@ -11,7 +11,7 @@ ghost use Rattle.cluster_state.specs.Copies.{is_copy_start, JobRuns, ended_log, 
 ghost use Rattle.cluster_state.specs.Run.{IsNow, IsEnded};
 ghost use Rattle.cluster_state.specs.FilesOut.{file_out};
 
-use cluster_places::FileTask;
+use cluster_places::{FileTask, files_last, sourced_stands};
 use cluster_state::ClusterState;
 use copy_job::Part;
 use disk_model::FaultDir;
@@ -20,7 +20,6 @@ use history_entries::Event;
 use history_merges::Ledger;
 use node_jobs::{finish_in, next_in, read_in, take_in};
 use nrt_base::{At, NoMemory, NodeNo, Share};
-use replica_node::laws::{files_last, sourced_stands};
 use std::alloc::Global;
 
 // Each is a byte. A law.

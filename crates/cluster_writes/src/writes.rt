@@ -9,15 +9,15 @@ ghost use Rattle.history_book.specs.Log.{printed, shown};
 ghost use Rattle.cluster_state.specs.Run.{IsNow, IsEnded};
 ghost use Rattle.cluster_state.specs.Writes.{StartsPublish, IsFlushed};
 
-use cluster_places::{Node, Place, primary_in, put, take};
+use cluster_places::{
+    FlushTask, FlushWork, Node, Place, PublishFault, files_last, primary_in, put, take,
+};
 use cluster_state::ClusterState;
 use disk_model::FaultDir;
 use documents::Op;
 use history_book::Inner;
 use history_entries::Event;
-use index_primary::{FlushTask, FlushWork, PublishFault};
 use nrt_base::{At, Gen, NoMemory, NodeNo, Share};
-use replica_node::laws::files_last;
 use std::alloc::{AllocError, Global};
 
 // The number of the next operation, where there is one.

@@ -7,3 +7,4 @@ mod Recovering
 pub mod Recovered
 pub mod Beside
 mod TestLaws
+pub mod Given

@@ -9,8 +9,7 @@ use Rattle.codec_frame.specs.Checking.{IsFirstFault}
 use Rattle.codec_frame.specs.declared.frame.FrameFault.{FrameFault}
 use Rattle.codec_frame.specs.declared.frame.FileFault.{FileFault}
 use Rattle.codec_frame.specs.declared.frame.FileFault.TheVariants.{Frame, Body}
-use Rattle.body_forms.specs.declared.read_fault.ReadFault.{ReadFault}
-use Rattle.body_forms.specs.declared.read_fault.ReadFault.TheVariants.{File, Memory as ReadMemory}
+use Rattle.segment_infos.specs.Given.{ReadFault, File, Memory as ReadMemory}
 use Rattle.segment_infos.specs.Infos.{infos_wanted, IsInfosFile, IsOfNoInfos}
 use Rattle.segment_infos.specs.Files.{AreFilesOf}
 use Rattle.segment_infos.specs.declared.infos.Infos.{Infos}

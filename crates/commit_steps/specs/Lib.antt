@@ -5,3 +5,4 @@ pub mod Commits
 pub mod Flights
 pub mod Found
 pub mod Recovery
+pub mod Given

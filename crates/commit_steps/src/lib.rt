@@ -10,6 +10,7 @@ mod stage;
 mod states;
 mod steps;
 
+pub use disk_memory::MemDir;
 pub use recovery::{RecoverFault, load_infos, newest_number, recover};
 pub use stage::{CommitBook, Progress, Stage};
 pub use states::{

@@ -7,12 +7,11 @@ ghost use Rattle.nrt_base.specs.Causes.{Rose};
 ghost use Rattle.commit_steps.specs.Found.{ShowsNothing, IsNewestAnswer, IsNewestNumber, ShowsCommit};
 ghost use Rattle.commit_steps.specs.Recovery.{IsCutOff, IsAnswered, IsWholeCommit, IsBrokenCommit, IsGone, SaysHowBroken, Recovers, IsLoaded, IsRecoverAnswer};
 
-use body_forms::ReadFault;
 use codec_frame::FileFault;
 use disk_model::{Dir, DirFault, first_missing};
 use file_names::{FileName, commit_name};
 use nrt_base::NoMemory;
-use segment_infos::{Infos, decode, files_of, last_commit};
+use segment_infos::{Infos, ReadFault, decode, files_of, last_commit};
 use std::alloc::Global;
 
 /// Why no commit is recovered.

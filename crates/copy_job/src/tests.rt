@@ -8,11 +8,10 @@ ghost use Rattle.copy_state.specs.States.{IsCopyState};
 use super::*;
 use bytes::Bytes;
 use codec_frame::{write_footer, write_index_header};
-use copy_state::{CopyState, FileMetaData, read_meta};
+use copy_state::{CopyState, FileMetaData, Infos, encode, read_meta};
 use file_names::{FileName, file_name};
 use link_model::{Fate, Link, LinkFault, MemLink};
 use nrt_base::{Gen, List, NoMemory, Share, Version};
-use segment_infos::{Infos, encode};
 use std::alloc::Global;
 use std::test::Fail;
 

@@ -8,6 +8,7 @@ mod state;
 
 pub use meta::{FileMetaData, MetaFault, same};
 pub use reading::read_meta;
+pub use segment_infos::{Infos, encode};
 pub use state::CopyState;
 
 #[cfg(test)]

@@ -2,8 +2,8 @@
 
 use crate::meta::FileMetaData;
 use bytes::Bytes;
-use file_names::FileName;
 use nrt_base::{Gen, List, Version};
+use segment_infos::FileName;
 
 /// The files of a point with their metadata, and the infos of the point.
 #[derive(Debug, Drop)]

@@ -2,8 +2,7 @@
 
 use crate::MemDir;
 use bytes::Bytes;
-use disk_model::{Dir, DirFault, FaultDir};
-use file_names::{FileName, file_name};
+use disk_model::{Dir, DirFault, FaultDir, FileName, file_name};
 use std::alloc::Global;
 use std::test::Fail;
 

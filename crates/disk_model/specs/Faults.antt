@@ -1,6 +1,6 @@
 -- When a call of a directory fails, and the faults that are planned for one.
 use Rattle.std.specs.Prelude.{◌≡◌, ℕ, ◌+◌, ◌-◌, ◌^◌, ◌≤◌, Bool, true, false, ◌||◌, ◌&&◌, if◌then◌else◌, nat_eq, nat_lt, Option, Some, None, Result, Ok, Err, IsErrOf}
-use Rattle.nrt_base.specs.Causes.{Rose}
+use Rattle.file_names.specs.Given.{Rose}
 use Rattle.disk_model.specs.declared.dir.DirFault.{DirFault}
 use Rattle.disk_model.specs.declared.dir.DirFault.TheVariants.{Memory, Missing, Exists, Failed}
 

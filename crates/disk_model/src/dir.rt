@@ -8,8 +8,7 @@ ghost use Rattle.disk_model.specs.Disk.{Cell, Cells, Content, is_among, after_wr
 ghost use Rattle.disk_model.specs.Faults.{Plans, CountsFaults, FailsByPlans, ended, faults_met};
 
 use bytes::Bytes;
-use file_names::FileName;
-use nrt_base::NoMemory;
+use file_names::{FileName, NoMemory};
 
 /// Why a call of a directory is refused. Missing is looked at before Exists, and both before Failed.
 #[derive(Clone, Copy, Debug, PartialEq, Eq)]

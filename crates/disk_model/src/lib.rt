@@ -4,3 +4,4 @@
 mod dir;
 
 pub use dir::{Dir, DirFault, FaultDir, first_missing};
+pub use file_names::{FileName, NoMemory, file_name};

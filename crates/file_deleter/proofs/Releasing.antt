@@ -3,7 +3,7 @@ use Rattle.std.proofs.Common.{◌≡◌, ◌<◌, ◌≤◌, ◌||◌, ◌&&◌,
 use Rattle.std.proofs.Math.Dec.{ltb as nat_lt}
 use Rattle.std.proofs.Math.Bool.{and-true}
 use Rattle.std.proofs.lemmas.List.Sums.{count_by-le-length}
-use Rattle.nrt_base.specs.Causes.{Rose}
+use Rattle.disk_model.specs.Given.{Rose}
 use Rattle.disk_model.specs.Faults.{one_if}
 use Rattle.disk_model.specs.Disk.{Name, same, is_among}
 use Rattle.file_deleter.specs.Holdings.{Holdings, count_of, is_due, is_known, times}

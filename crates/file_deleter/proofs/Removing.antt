@@ -1,7 +1,7 @@
 -- Removals in a row: how they are joined, and what they do at one name.
 use Rattle.std.proofs.Common.{◌≡◌, ◌≢◌, ◌⊎◌, ℕ, suc, ◌+◌, ◌<◌, ◌≤◌, ◌||◌, Bool, true, false, List, [], ◌∷◌, ◌++◌, length, take, drop, get_or, set, length-set, add-one, drop-cons, Some, None, Result, Ok, Err, refl, sym, ap, subst, ◌∙◌, cond, arith, inl, inr, true≢false, is_none}
 use Rattle.std.proofs.lemmas.List.{take_more, take_more_set, drop-set-lt, append-nil}
-use Rattle.nrt_base.specs.Causes.{Rose}
+use Rattle.disk_model.specs.Given.{Rose}
 use Rattle.disk_model.specs.Disk.{Name, Content, Cell, Cells, same, is_among, may_leave, left_by, removed, half_removed}
 use Rattle.disk_model.specs.declared.dir.DirFault.{DirFault}
 use Rattle.disk_model.specs.declared.dir.DirFault.TheVariants.{Missing, Failed}

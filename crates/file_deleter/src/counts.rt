@@ -9,9 +9,8 @@ ghost use Rattle.disk_model.specs.Disk.{same, is_among};
 ghost use Rattle.file_deleter.specs.Holdings.{count_in, times};
 ghost use Rattle.file_deleter.specs.Tally.{IsPositive, CountsMore, CountsFewer};
 
-use file_names::FileName;
+use disk_model::{FileName, NoMemory};
 use indexmap::IndexMap;
-use nrt_base::NoMemory;
 use std::alloc::Global;
 
 pub(crate) type Counts = IndexMap<FileName, u64>;

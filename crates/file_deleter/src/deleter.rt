@@ -4,7 +4,7 @@ ghost use Rattle.std.specs.Prelude.{◌≡◌, ◌+◌, ◌-◌, false, ◌<◌,
 ghost use Rattle.std.specs.Cmp.Lexicographic.{slice_cmp};
 ghost use Rattle.std.specs.Ordering.{nat_cmp};
 ghost use Rattle.std.specs.List.Sorted.{IsStrictlySortedBy};
-ghost use Rattle.nrt_base.specs.Causes.{Rose};
+ghost use Rattle.disk_model.specs.Given.{Rose};
 ghost use Rattle.disk_model.specs.Disk.{is_among, reads_of, first_missing, after_write, after_rename};
 ghost use Rattle.disk_model.specs.Faults.{FailsByPlans, IsMemoryOrFailed};
 ghost use Rattle.file_deleter.specs.Holdings.{Holdings, count_of, is_due, is_known, times, IsDueBut, IsInTheWay, IsWhole, AreThere, AreCounted};
@@ -13,9 +13,7 @@ ghost use Rattle.file_deleter.specs.Moves.{HoldsFiles, Releases, LetsGo, Creates
 
 use crate::tally::Tally;
 use bytes::Bytes;
-use disk_model::{Dir, DirFault, first_missing};
-use file_names::FileName;
-use nrt_base::NoMemory;
+use disk_model::{Dir, DirFault, FileName, NoMemory, first_missing};
 use std::alloc::Global;
 use std::marker::Model;
 

@@ -11,8 +11,7 @@ ghost use Rattle.file_deleter.specs.Holdings.{times};
 ghost use Rattle.file_deleter.specs.Removals.{directory_of, Removes, RemovesOrLacks, Removals};
 
 use crate::counts::Counts;
-use disk_model::{Dir, DirFault};
-use file_names::FileName;
+use disk_model::{Dir, DirFault, FileName};
 
 /// Removes a file, and answers whether that failed. A file that is not there is gone too.
 pub(crate) fn stays<D: Dir>(name: &FileName, dir: &mut D) -> bool

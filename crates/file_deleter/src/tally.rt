@@ -4,7 +4,7 @@ ghost use Rattle.std.specs.Prelude.{◌≡◌, ◌+◌, ◌-◌, ◌<◌, ◌≤
 ghost use Rattle.std.specs.Cmp.Lexicographic.{slice_cmp};
 ghost use Rattle.std.specs.Ordering.{nat_cmp};
 ghost use Rattle.std.specs.List.Sorted.{IsStrictlySortedBy};
-ghost use Rattle.nrt_base.specs.Causes.{Rose};
+ghost use Rattle.disk_model.specs.Given.{Rose};
 ghost use Rattle.disk_model.specs.Disk.{is_among, after_write, after_rename};
 ghost use Rattle.disk_model.specs.Faults.{FailsByPlans};
 ghost use Rattle.file_deleter.specs.Holdings.{count_of, is_due, is_known, IsInTheWay, AreCounted};
@@ -15,10 +15,8 @@ ghost use Rattle.file_deleter.specs.Tally.{holdings_of, IsInOrder, HasRoom, IsTa
 use crate::counts::{self, Counts};
 use crate::removals::{drop_counted, merge, stays, try_each};
 use bytes::Bytes;
-use disk_model::{Dir, DirFault};
-use file_names::FileName;
+use disk_model::{Dir, DirFault, FileName, NoMemory};
 use indexmap::IndexMap;
-use nrt_base::NoMemory;
 use std::alloc::{AllocError, Global};
 
 /// The counted names with their counts; the names whose removal is due, ascending; within a release those whose

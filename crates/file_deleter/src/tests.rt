@@ -4,8 +4,7 @@ ghost use Rattle.std.specs.Prelude.{◌≡◌, None, false};
 
 use crate::{FileDeleter, HoldFault};
 use bytes::Bytes;
-use disk_model::{Dir, DirFault};
-use file_names::{FileName, file_name};
+use disk_model::{Dir, DirFault, FileName, file_name};
 use std::test::Fail;
 
 // A directory without a file, which is always out of memory.

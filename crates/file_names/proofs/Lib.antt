@@ -4,3 +4,4 @@ mod NameLemmas
 mod ReadingLemmas
 mod SpellingLemmas
 pub mod NameReading
+pub mod Given

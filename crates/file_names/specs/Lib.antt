@@ -2,3 +2,4 @@ pub mod Base36
 pub mod Base36Layout
 pub mod FileNames
 pub mod Names
+pub mod Given

@@ -4,6 +4,7 @@
 mod primary;
 
 pub use primary::Primary;
-pub use primary_parts::{Merging, Out, Parts, PrimaryFault, Publish, PublishFault};
-pub use seg_merge::{MergeTask, Merged};
-pub use segment_steps::{FlushTask, FlushWork, NextSegments, flush};
+pub use primary_cut_overs::{
+    FlushTask, FlushWork, MergeTask, Merged, Merging, NextSegments, Out, Parts, PrimaryFault,
+    Publish, PublishFault, flush,
+};

@@ -10,12 +10,11 @@ ghost use Rattle.file_deleter.specs.Holdings.{times};
 ghost use Rattle.commit_steps.specs.Commits.{ImagesHave};
 ghost use Rattle.commit_steps.specs.Book.{commit_of, shown_by, book_after, is_last_step, HasBegun};
 ghost use Rattle.copy_state.specs.States.{IsCopyState};
-ghost use Rattle.searcher_switch.specs.Tickets.{ticket_at, tickets_without};
+ghost use Rattle.primary_calls.specs.Given.{ticket_at, tickets_without};
 ghost use Rattle.node_files.specs.Node.{IsWholeNode};
 ghost use Rattle.node_files.specs.Standing.{IsStanding, ImagesStand};
 ghost use Rattle.node_files.specs.Appearing.{NoneAppears, AppearsOnly, IsNameInFlight};
-ghost use Rattle.primary_parts.specs.States.{state_names, is_out, out_of, states_without, IsStateOf};
-ghost use Rattle.primary_parts.specs.Cut.{last_number, IsIdle, AreSpent, AreTooMany};
+ghost use Rattle.primary_cut_overs.specs.Given.{state_names, is_out, out_of, states_without, IsStateOf, last_number, IsIdle, AreSpent, AreTooMany};
 
 use bytes::Bytes;
 use commit_steps::{CommitBook, CommitFault};
@@ -25,12 +24,12 @@ use documents::Op;
 use file_deleter::FileDeleter;
 use file_names::FileName;
 use nrt_base::{List, NoMemory, SegNo, Version};
-use primary_parts::{Parts, PrimaryFault, PublishFault};
-use searcher_switch::{Lease, Searchers, Ticket};
-use seg_merge::{MergeTask, Merged};
+use primary_calls::{Lease, Searchers, Ticket};
+use primary_cut_overs::{
+    FlushTask, FlushWork, MergeTask, Merged, Parts, PrimaryFault, PublishFault,
+};
 use seg_reader::Segment;
 use segment_infos::Infos;
-use segment_steps::{FlushTask, FlushWork};
 use std::alloc::Global;
 use std::marker::Model;
 
@@ -42,8 +41,8 @@ pub struct Primary<D: Dir> {
 }
 
 impl<D: Dir> Model for Primary<D> {
-    ghost use Rattle.primary_parts.specs.declared.parts.Parts.{Parts};
-    ghost use Rattle.primary_parts.specs.Primary.{IsPrimary};
+    ghost use Rattle.primary_cut_overs.specs.Given.{Parts};
+    ghost use Rattle.primary_cut_overs.specs.Given.{IsPrimary};
 
     ghost Value = { Parts D };
 
@@ -53,16 +52,16 @@ impl<D: Dir> Model for Primary<D> {
 }
 
 impl<D: Dir> Primary<D> {
-    ghost use Rattle.primary_parts.specs.Merges.{merges_without};
-    ghost use Rattle.primary_parts.specs.Written.{names_of, ReadsSo};
+    ghost use Rattle.primary_cut_overs.specs.Given.{merges_without};
+    ghost use Rattle.primary_cut_overs.specs.Given.{names_of, ReadsSo};
     ghost use Rattle.primary_starts.specs.StartCalls.{IsFitTask, AnswersMerge};
-    ghost use Rattle.primary_merges.specs.MergeCalls.{IsMadeFor, IsReadied};
+    ghost use Rattle.primary_cut_overs.specs.Given.{IsMadeFor, IsReadied};
     ghost use Rattle.primary_cut_overs.specs.CutOverCalls.{IsFilledMerge, IsCutOver, KeepsDocuments};
-    ghost use Rattle.primary_parts.specs.Primary.{IsPrimary, KeepsHeldBytes, loose_of};
-    ghost use Rattle.primary_parts.specs.Held.{IsHeld, IsOwnFile, AreUndrawn, AreNumbered};
-    ghost use Rattle.primary_parts.specs.Calls.{IsOpenedOn, IsTaskOf, after_start, IsPublished, KeepsPoint, KeepsOthers, HasSameCounts, FillsUndrawn, DrawsOnly, HoldsNoNew};
-    ghost use Rattle.primary_parts.specs.Work.{IsWorkOf, AreOfCut};
-    ghost use Rattle.searcher_switch.specs.Searching.{IsLeaseOf, searcher_names};
+    ghost use Rattle.primary_cut_overs.specs.Given.{IsPrimary, KeepsHeldBytes, loose_of};
+    ghost use Rattle.primary_cut_overs.specs.Given.{IsHeld, IsOwnFile, AreUndrawn, AreNumbered};
+    ghost use Rattle.primary_cut_overs.specs.Given.{IsOpenedOn, IsTaskOf, after_start, IsPublished, KeepsPoint, KeepsOthers, HasSameCounts, FillsUndrawn, DrawsOnly, HoldsNoNew};
+    ghost use Rattle.primary_cut_overs.specs.Given.{IsWorkOf, AreOfCut};
+    ghost use Rattle.primary_calls.specs.Given.{IsLeaseOf, searcher_names};
 
     /// The primary of a directory, whose deleter counts just the files of the searchers and of the commits, and whose
     /// searchers have the files of these infos. It searches the infos from now on, at their version. The directory is not
@@ -196,7 +195,7 @@ impl<D: Dir> Primary<D> {
         ensures later { D.faults self.old.dir ≤ D.faults self.new.dir }
         ensures whole { IsPrimary D.cells self.new }
     {
-        primary_merges::merge_ready(alloc, &mut self.parts, merged)
+        primary_cut_overs::merge_ready(alloc, &mut self.parts, merged)
     }
 
     /// Puts the merged segment of a merge whose files are written in the place of its inputs. Rows that died since the merge started
@@ -418,7 +417,7 @@ impl<D: Dir> Primary<D> {
 }
 
 impl<D: FaultDir> Primary<D> {
-    ghost use Rattle.primary_parts.specs.Primary.{IsPrimary};
+    ghost use Rattle.primary_cut_overs.specs.Given.{IsPrimary};
 
     /// The k-th counted call of the directory from now fails once.
     pub fn plan(&mut self, k: u64)

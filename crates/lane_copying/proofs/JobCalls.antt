@@ -41,7 +41,7 @@ use Rattle.line_turns.specs.declared.standing.Standing.TheVariants.{Runs, Passed
 use Rattle.line_turns.specs.declared.turn.Turn.{Turn}
 use Rattle.line_turns.specs.declared.turn.Turn.TheVariants.{Work, Done, Busy}
 use Rattle.line_turns.specs.CopyCalls.{is_node_lost, overtaken, standing_of, log_after, stopped_log, StopsTurn, JobGoesOn, JobHasPart, AreFrom, CopyStarts, SettleStarts, SettleGoesOn, SettlesOn}
-use Rattle.cluster_core.specs.Doing.{Does, IsReplied, IsRepliedAtDone, IsBegunAtWork}
+use Rattle.lane_sections.specs.Given.{Does, IsReplied, IsRepliedAtDone, IsBegunAtWork}
 use Rattle.lane_sections.specs.Turns.{IsUnbegunIn, NeverWaits, TurnShows}
 use Rattle.lane_copying.specs.Jobs.{IsJobStart, IsCopyStart, IsCopyingBy, HasFileOut, IsCopyReplied, BeginsCopy, BeginsNextJob, HasBegunToSettle, IsSettlingOn, LeavesJob, LeavesJobAt}
 

@@ -21,7 +21,7 @@ use Rattle.cluster_places.specs.declared.tasks.CopyTask.{CopyTask}
 use Rattle.cluster_places.specs.declared.tasks.SettleTask.{SettleTask}
 use Rattle.cluster_state.specs.Run.{Run}
 use Rattle.cluster_state.specs.Settles.{IsSettling}
-use Rattle.cluster_core.specs.Doing.{Does}
+use Rattle.lane_sections.specs.Given.{Does}
 use Rattle.line_turns.specs.declared.turn.Turn.{Turn}
 use Rattle.line_turns.specs.declared.turn.Turn.TheVariants.{Work, Done, Busy}
 use Rattle.line_turns.specs.CopyCalls.{CopiesFor, AreFrom}

@@ -8,13 +8,12 @@ ghost use Rattle.lane_copying.specs.Jobs.{IsCopyingBy, HasFileOut, IsCopyReplied
 
 use crate::calls::{next_file, take_part};
 use crate::carrying::carry;
-use cluster_core::{Cluster, Turn};
 use cluster_places::{CopyTask, FileTask};
 use copy_job::Part;
 use disk_model::FaultDir;
 use hist_lock::{HistLock, LaneSeat};
 use lane_seats::leave;
-use lane_sections::{Gate, enter_cluster};
+use lane_sections::{Cluster, Gate, Turn, enter_cluster};
 use nrt_base::{At, NoMemory};
 use std::alloc::Global;
 use std::sync::Wait;

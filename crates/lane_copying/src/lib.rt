@@ -8,4 +8,5 @@ pub mod jobs;
 pub mod settling;
 
 pub use copying::copy;
+pub use lane_sections::{Cluster, Gate, Place};
 pub use settling::settle;

@@ -10,12 +10,11 @@ ghost use Rattle.lane_copying.specs.Jobs.{HasBegunToSettle, IsStillSettling, Beg
 
 use crate::calls::next_job;
 use crate::jobs::bring_over;
-use cluster_core::{Cluster, Turn};
 use cluster_places::{CopyTask, SettleTask};
 use disk_model::FaultDir;
 use hist_lock::{HistLock, LaneSeat};
 use lane_seats::{Halt, leave};
-use lane_sections::{Gate, enter_cluster, give_way};
+use lane_sections::{Cluster, Gate, Turn, enter_cluster, give_way};
 use nrt_base::{At, NoMemory};
 use std::alloc::Global;
 use std::sync::Wait;

@@ -17,7 +17,7 @@ use Rattle.cluster_state.specs.Run.{Run}
 use Rattle.line_turns.specs.declared.turn.Turn.{Turn}
 use Rattle.line_turns.specs.declared.turn.Turn.TheVariants.{Work, Done, Busy}
 use Rattle.line_turns.specs.LifeCalls.{CommitStarts, CommitSteps}
-use Rattle.cluster_core.specs.Doing.{IsRepliedAtDone, IsBegunAtWork}
+use Rattle.lane_sections.specs.Given.{IsRepliedAtDone, IsBegunAtWork}
 use Rattle.lane_sections.specs.Turns.{IsUnbegunIn, NeverWaits, TurnShows}
 use Rattle.lane_lasting.specs.Commits.{HasBegunCommit, IsCommitting}
 

@@ -9,12 +9,11 @@ ghost use Rattle.lane_seats.specs.Seats.{log_seen, IsLaneSeat, EndsItsLine};
 ghost use Rattle.lane_sections.specs.Turns.{IsUnbegunIn, NeverWaits, TurnsLine};
 ghost use Rattle.lane_lasting.specs.Commits.{HasBegunCommit, IsCommitting};
 
-use cluster_core::{Cluster, Turn};
 use cluster_places::CommitTask;
 use disk_model::FaultDir;
 use hist_lock::{HistLock, LaneSeat};
 use lane_seats::{Halt, leave};
-use lane_sections::{enter_cluster, give_way};
+use lane_sections::{Cluster, Turn, enter_cluster, give_way};
 use nrt_base::{At, NoMemory, NodeNo};
 use std::alloc::Global;
 use std::sync::Wait;

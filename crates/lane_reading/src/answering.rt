@@ -4,16 +4,15 @@ ghost use Rattle.std.specs.Prelude.{◌≡◌, false, OnOk};
 ghost use Rattle.history_entries.specs.Lines.{last_of_line};
 ghost use Rattle.history_book.specs.Log.{printed};
 ghost use Rattle.script_serving.specs.declared.script.LineCommand.{LineCommand};
-ghost use Rattle.cluster_core.specs.Doing.{AsksFor};
+ghost use Rattle.lane_sections.specs.Given.{AsksFor};
 ghost use Rattle.lane_seats.specs.Seats.{log_seen, IsLaneSeat, EndsItsLine};
 ghost use Rattle.lane_reading.specs.Reads.{IsEvaluated};
 
-use cluster_core::Cluster;
 use disk_model::FaultDir;
 use documents::{Answer, Query};
 use hist_lock::{HistLock, LaneSeat};
 use lane_seats::leave;
-use lane_sections::enter_cluster;
+use lane_sections::{Cluster, enter_cluster};
 use nrt_base::{At, NoMemory};
 use std::alloc::Global;
 use std::sync::Wait;

@@ -13,12 +13,11 @@ ghost use Rattle.lane_reading.specs.Reads.{IsSearchingNode, IsAskingTicket};
 
 use crate::answering::answer_line;
 use crate::evaluation::evaluate;
-use cluster_core::{Cluster, Turn};
 use disk_model::FaultDir;
 use documents::Query;
 use hist_lock::{HistLock, LaneSeat};
 use lane_seats::leave;
-use lane_sections::{Gate, Place, enter_cluster};
+use lane_sections::{Cluster, Gate, Place, Turn, enter_cluster};
 use nrt_base::{At, NoMemory, NodeNo, TicketNo};
 use searcher_switch::Lease;
 use seg_reader::Segment;

@@ -7,11 +7,10 @@ ghost use Rattle.history_book.specs.Log.{printed};
 ghost use Rattle.script_serving.specs.declared.script.LineCommand.TheVariants.{Open, Close, Files};
 ghost use Rattle.lane_seats.specs.Seats.{log_seen, IsLaneSeat, EndsItsLine};
 
-use cluster_core::Cluster;
 use disk_model::FaultDir;
 use hist_lock::{HistLock, LaneSeat};
 use lane_seats::leave;
-use lane_sections::enter_cluster;
+use lane_sections::{Cluster, enter_cluster};
 use nrt_base::{At, NoMemory, NodeNo, TicketNo};
 use std::alloc::Global;
 use std::sync::Wait;

@@ -18,9 +18,7 @@ use Rattle.lane_walks.proofs.WalkLemmas.{goes_then}
 use Rattle.lane_walks.proofs.LineLemmas.{goes_first, ran_after}
 use Rattle.lane_seats.specs.Seats.{log_seen, IsLaneSeat, HasEntered, EndsItsLine}
 use Rattle.lane_seats.proofs.SeatLemmas.{section_extends, section_taken, section_ended}
-use Rattle.cluster_state.specs.Run.{Run, IsEnded}
-use Rattle.line_turns.specs.declared.turn.Turn.{Turn}
-use Rattle.line_turns.specs.declared.turn.Turn.TheVariants.{Work, Done, Busy}
+use Rattle.cluster_core.specs.Given.{Run, IsEnded, Turn, Work, Done, Busy}
 use Rattle.cluster_core.specs.Doing.{Does, IsReplied}
 use Rattle.lane_sections.specs.Turns.{TakesLineTo, IsUnbegunIn, TurnShows, TurnsLine}
 

@@ -9,9 +9,7 @@ use Rattle.hist_lock.specs.declared.grows.Grows.{Ghosts}
 use Rattle.hist_lock.specs.declared.lock.LaneSeat.{LaneSeat}
 use Rattle.hist_lock.specs.declared.lock.HistLock.{HistLock}
 use Rattle.lane_seats.specs.Seats.{log_seen, TakesLineOn, EndsItsLine}
-use Rattle.line_turns.specs.declared.turn.Turn.{Turn}
-use Rattle.line_turns.specs.declared.turn.Turn.TheVariants.{Work, Done, Busy}
-use Rattle.cluster_state.specs.Run.{Run}
+use Rattle.cluster_core.specs.Given.{Turn, Work, Done, Busy, Run}
 use Rattle.cluster_core.specs.Doing.{IsReplied}
 
 -- a line that never waits

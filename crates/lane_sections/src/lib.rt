@@ -6,6 +6,7 @@ pub mod gate;
 pub mod section;
 pub mod waiting;
 
+pub use cluster_core::{Cluster, Turn};
 pub use gate::{Gate, Place};
 pub use section::enter_cluster;
 pub use waiting::give_way;

@@ -21,7 +21,7 @@ use Rattle.cluster_state.specs.Writes.{IsFlushed}
 use Rattle.line_turns.specs.declared.turn.Turn.{Turn}
 use Rattle.line_turns.specs.declared.turn.Turn.TheVariants.{Work, Done, Busy}
 use Rattle.line_turns.specs.Calls.{PublishStarts}
-use Rattle.cluster_core.specs.Doing.{IsRepliedAtDone, IsBegunAtWork}
+use Rattle.lane_sections.specs.Given.{IsRepliedAtDone, IsBegunAtWork}
 use Rattle.lane_sections.specs.Turns.{IsUnbegunIn, TurnShows}
 use Rattle.lane_writing.specs.Flushes.{IsFlushing}
 

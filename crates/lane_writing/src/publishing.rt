@@ -10,11 +10,10 @@ ghost use Rattle.lane_seats.specs.Seats.{log_seen, IsLaneSeat, EndsItsLine};
 ghost use Rattle.lane_sections.specs.Turns.{IsUnbegunIn, TurnsLine};
 ghost use Rattle.lane_writing.specs.Flushes.{IsFlushing};
 
-use cluster_core::{Cluster, Turn};
 use disk_model::FaultDir;
 use hist_lock::{HistLock, LaneSeat};
 use lane_seats::{Halt, leave};
-use lane_sections::{Gate, Place, enter_cluster, give_way};
+use lane_sections::{Cluster, Gate, Place, Turn, enter_cluster, give_way};
 use nrt_base::{At, NoMemory};
 use segment_steps::{FlushTask, FlushWork, flush};
 use std::alloc::Global;

@@ -3,15 +3,14 @@
 ghost use Rattle.std.specs.Prelude.{◌≡◌, [], false, OnOk};
 ghost use Rattle.history_entries.specs.Lines.{entries_of_line};
 ghost use Rattle.history_book.specs.Log.{printed};
-ghost use Rattle.cluster_core.specs.Doing.{writing_command};
+ghost use Rattle.lane_sections.specs.Given.{writing_command};
 ghost use Rattle.lane_seats.specs.Seats.{log_seen, IsLaneSeat, EndsItsLine};
 
-use cluster_core::Cluster;
 use disk_model::FaultDir;
 use documents::Op;
 use hist_lock::{HistLock, LaneSeat};
 use lane_seats::leave;
-use lane_sections::enter_cluster;
+use lane_sections::{Cluster, enter_cluster};
 use nrt_base::{At, NoMemory};
 use std::alloc::Global;
 use std::sync::Wait;

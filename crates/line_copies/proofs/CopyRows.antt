@@ -31,12 +31,11 @@ use Rattle.history_book.proofs.OpenLaws.{last_started}
 use Rattle.history_book.proofs.ReignLaws.{start_kept, reigns_on}
 use Rattle.script_serving.specs.declared.script.LineCommand.TheVariants.{Copy}
 use Rattle.script_serving.specs.Refusals.{refusal}
-use Rattle.cluster_places.specs.declared.tasks.CopyTask.{CopyTask}
-use Rattle.cluster_state.specs.Run.{Run}
+use Rattle.cluster_copies.specs.Given.{CopyTask}
+use Rattle.line_turns.specs.Given.{Run, IsCopying}
 use Rattle.line_turns.specs.declared.turn.Turn.{Turn}
 use Rattle.line_turns.specs.declared.turn.Turn.TheVariants.{Work, Done, Busy}
 use Rattle.line_turns.specs.Calls.{IsRefusedTurn}
-use Rattle.cluster_state.specs.Copies.{IsCopying}
 use Rattle.line_turns.specs.CopyCalls.{CopyAnswered, CopyStarts, CopyStartsWhen, IsOpenJob}
 use Rattle.line_turns.proofs.Rows.{legal_at}
 

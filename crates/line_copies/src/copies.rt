@@ -13,21 +13,17 @@ ghost use Rattle.history_book.specs.Log.{printed};
 ghost use Rattle.history_book.specs.Jobs.{job_of};
 ghost use Rattle.script_serving.specs.declared.script.LineCommand.TheVariants.{Copy};
 ghost use Rattle.script_serving.specs.Refusals.{refusal};
-ghost use Rattle.cluster_state.specs.Run.{IsEnded};
-ghost use Rattle.cluster_state.specs.Copies.{JobRuns};
-ghost use Rattle.cluster_state.specs.FilesOut.{file_out};
+ghost use Rattle.line_turns.specs.Given.{IsEnded, JobRuns, file_out};
 ghost use Rattle.line_turns.specs.Calls.{LineRefused};
 ghost use Rattle.line_turns.specs.CopyCalls.{IsBeingCopied, IsNotBeingCopied, CopyStarts, CopyStartsWhen, IsSourceFor, IsOpenJob, standing_of, MayEnd, stopped_log, Stops, RunsOn, JobGoesOn, JobSteps, JobHasPart, PartArrives};
 
-use cluster_copies::{begin_copy, note_copied};
-use cluster_places::{CopyTask, FileTask};
-use cluster_state::ClusterState;
+use cluster_copies::{CopyTask, FileTask, begin_copy, note_copied};
 use cluster_transfers::{go_on, take_part};
 use copy_job::Part;
 use disk_model::FaultDir;
 use history_book::{Book, JobRow, Start};
 use history_entries::{Cause, Event};
-use line_turns::{Standing, Turn, refuse_turn};
+use line_turns::{ClusterState, Standing, Turn, refuse_turn};
 use nrt_base::{At, NoMemory, NodeNo};
 use std::alloc::Global;
 

@@ -3,17 +3,14 @@
 ghost use Rattle.std.specs.Prelude.{◌≡◌, [], false, OnErr, IfOk};
 ghost use Rattle.history_entries.specs.Lines.{entries_of_line};
 ghost use Rattle.history_book.specs.Log.{printed};
-ghost use Rattle.cluster_state.specs.Run.{IsEnded};
-ghost use Rattle.cluster_state.specs.Settles.{IsSettling};
+ghost use Rattle.line_turns.specs.Given.{IsEnded, IsSettling};
 ghost use Rattle.line_turns.specs.CopyCalls.{SettleStarts, SettleGoesOn};
 
 use crate::copies::is_being_copied;
-use cluster_copies::{begin_settle, begin_settling, next_left};
-use cluster_places::{CopyTask, SettleTask};
-use cluster_state::ClusterState;
+use cluster_copies::{CopyTask, SettleTask, begin_settle, begin_settling, next_left};
 use disk_model::FaultDir;
 use history_entries::{Cause, Event};
-use line_turns::{Turn, refuse_turn};
+use line_turns::{ClusterState, Turn, refuse_turn};
 use nrt_base::{At, NoMemory};
 use std::alloc::Global;
 

@@ -5,16 +5,15 @@ ghost use Rattle.history_entries.specs.Nodes.{IsNode, crashes};
 ghost use Rattle.history_entries.specs.Lines.{entries_of_line, last_of_line, start_entry, before_start};
 ghost use Rattle.history_tables.specs.Begins.{open_line};
 ghost use Rattle.history_book.specs.Log.{printed};
-ghost use Rattle.cluster_state.specs.Run.{IsEnded};
+ghost use Rattle.line_turns.specs.Given.{IsEnded};
 ghost use Rattle.line_turns.specs.Calls.{LineRefused};
 ghost use Rattle.line_turns.specs.LifeCalls.{CommitStarts, CommitSteps};
 
 use cluster_commits::{begin_commit, step_commit};
-use cluster_places::CommitTask;
-use cluster_state::ClusterState;
+use cluster_lives::CommitTask;
 use disk_model::FaultDir;
 use history_entries::{Cause, Event};
-use line_turns::{Turn, refuse_turn};
+use line_turns::{ClusterState, Turn, refuse_turn};
 use nrt_base::{At, NoMemory, NodeNo, Version};
 use std::alloc::Global;
 

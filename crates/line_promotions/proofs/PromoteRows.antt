@@ -16,7 +16,7 @@ use Rattle.history_book.specs.Log.{Log, printed, shown}
 use Rattle.script_serving.specs.declared.script.Force.{Force}
 use Rattle.script_serving.specs.declared.script.LineCommand.TheVariants.{Promote}
 use Rattle.script_serving.specs.Refusals.{when, forced_version, refusal}
-use Rattle.cluster_state.specs.Run.{Run, IsNow}
+use Rattle.line_turns.specs.Given.{Run, IsNow}
 use Rattle.line_turns.specs.Calls.{by_refusal, LineRefused}
 use Rattle.line_promotions.specs.PromoteCalls.{promote_event, ForcesAbove}
 

@@ -5,15 +5,14 @@ ghost use Rattle.history_entries.specs.Nodes.{IsNode};
 ghost use Rattle.history_entries.specs.Lines.{entries_of_line};
 ghost use Rattle.history_book.specs.Log.{printed, shown};
 ghost use Rattle.script_serving.specs.Refusals.{forced_version as forced_version_lem};
-ghost use Rattle.cluster_state.specs.Run.{IsNow, IsEnded};
+ghost use Rattle.line_turns.specs.Given.{IsNow, IsEnded};
 ghost use Rattle.line_promotions.specs.PromoteCalls.{promote_event, ForcesAbove};
 
 use cluster_promotions::promote_node;
-use cluster_state::ClusterState;
 use disk_model::FaultDir;
 use history_book::Book;
 use history_entries::Cause;
-use line_turns::refuse;
+use line_turns::{ClusterState, refuse};
 use nrt_base::{At, NoMemory, NodeNo, Version};
 use script_serving::Force;
 use std::alloc::Global;

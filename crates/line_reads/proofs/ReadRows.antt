@@ -25,7 +25,7 @@ use Rattle.history_tables.specs.declared.tickets.Opening.{Opening}
 use Rattle.history_tables.specs.Begins.{event_of, open_line}
 use Rattle.history_tables.specs.Openings.{ticket_of}
 use Rattle.history_book.specs.Log.{Log, printed, shown}
-use Rattle.cluster_state.specs.Run.{Run, IsNow}
+use Rattle.line_turns.specs.Given.{Run, IsNow}
 use Rattle.history_book.proofs.LineLaws.{open_started}
 use Rattle.history_book.proofs.OpenLaws.{last_started}
 use Rattle.history_book.proofs.ReignLaws.{start_kept}

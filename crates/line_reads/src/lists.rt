@@ -4,14 +4,13 @@ ghost use Rattle.std.specs.Prelude.{◌≡◌, [], false, OnOk, OnErr};
 ghost use Rattle.history_entries.specs.Nodes.{IsNode};
 ghost use Rattle.history_entries.specs.Lines.{entries_of_line};
 ghost use Rattle.history_book.specs.Log.{printed};
-ghost use Rattle.cluster_state.specs.Run.{IsEnded};
+ghost use Rattle.line_turns.specs.Given.{IsEnded};
 ghost use Rattle.line_turns.specs.Calls.{ListsFiles};
 
 use cluster_reads::list_files;
-use cluster_state::ClusterState;
 use disk_model::FaultDir;
 use history_entries::Cause;
-use line_turns::refuse;
+use line_turns::{ClusterState, refuse};
 use nrt_base::{At, NoMemory, NodeNo};
 use std::alloc::Global;
 

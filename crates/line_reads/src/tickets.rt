@@ -5,15 +5,13 @@ ghost use Rattle.history_entries.specs.Nodes.{IsNode};
 ghost use Rattle.history_entries.specs.Lines.{entries_of_line};
 ghost use Rattle.history_entries.specs.Tickets.{open_ticket};
 ghost use Rattle.history_book.specs.Log.{printed, shown};
-ghost use Rattle.cluster_state.specs.Run.{IsNow, IsEnded};
+ghost use Rattle.line_turns.specs.Given.{IsNow, IsEnded};
 ghost use Rattle.line_turns.specs.Calls.{open_event, close_by};
 
-use cluster_places::Key;
-use cluster_reads::{note_without, open_ticket};
-use cluster_state::ClusterState;
+use cluster_reads::{Key, note_without, open_ticket};
 use disk_model::FaultDir;
 use history_entries::{Cause, Event};
-use line_turns::refuse;
+use line_turns::{ClusterState, refuse};
 use nrt_base::{At, NoMemory, NodeNo, TicketNo};
 use std::alloc::Global;
 

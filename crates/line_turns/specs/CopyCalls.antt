@@ -20,9 +20,7 @@ use Rattle.history_book.specs.Jobs.{job_at, job_of, IsOlder}
 use Rattle.script_serving.specs.declared.script.LineCommand.{LineCommand}
 use Rattle.script_serving.specs.declared.script.LineCommand.TheVariants.{Copy, Settle}
 use Rattle.script_serving.specs.Refusals.{refusal}
-use Rattle.cluster_places.specs.declared.tasks.CopyTask.{CopyTask}
-use Rattle.cluster_places.specs.declared.tasks.FileTask.{FileTask}
-use Rattle.cluster_places.specs.declared.tasks.SettleTask.{SettleTask}
+use Rattle.cluster_state.specs.Given.{CopyTask, FileTask, SettleTask}
 use Rattle.cluster_state.specs.Run.{Run, IsNow}
 use Rattle.cluster_state.specs.Copies.{newest_of, JobRuns, BeginsJob, GoesOn}
 use Rattle.cluster_state.specs.Settles.{IsSettling, WaitsFor}

@@ -1,3 +1,4 @@
 pub mod Calls
 pub mod CopyCalls
 pub mod LifeCalls
+pub mod Given

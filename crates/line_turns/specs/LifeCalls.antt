@@ -13,7 +13,7 @@ use Rattle.history_entries.specs.Rules.{is_lost}
 use Rattle.history_book.specs.Laws.{may_find}
 use Rattle.history_book.specs.Log.{printed, shown}
 use Rattle.script_serving.specs.Refusals.{when, without_node}
-use Rattle.cluster_places.specs.declared.tasks.CommitTask.{CommitTask}
+use Rattle.cluster_state.specs.Given.{CommitTask}
 use Rattle.cluster_state.specs.Run.{Run, calls_at, IsNow}
 use Rattle.cluster_state.specs.Lives.{BeginsCommit, MakesCall}
 use Rattle.line_turns.specs.declared.turn.Turn.{Turn}

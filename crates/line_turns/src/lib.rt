@@ -5,6 +5,7 @@ mod refusals;
 mod standing;
 mod turn;
 
+pub use cluster_state::ClusterState;
 pub use refusals::{refuse, refuse_turn};
 pub use standing::Standing;
 pub use turn::Turn;

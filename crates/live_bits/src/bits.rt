@@ -4,7 +4,7 @@ ghost use Rattle.std.specs.Prelude.{◌≡◌, ◌↔◌, ℕ, ◌+◌, ◌*◌,
 ghost use Rattle.live_bits.specs.LiveRows.{has_bit, live_rows, AreDeadFrom, IsFirstLive};
 ghost use Rattle.live_bits.specs.Held.{rows_in, HoldsRows, ClearsBit};
 
-use nrt_base::NoMemory;
+use file_names::NoMemory;
 use std::alloc::Global;
 
 /// How many bytes the bits of so many rows take.

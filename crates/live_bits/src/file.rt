@@ -14,8 +14,7 @@ use crate::live::LiveBits;
 use body_forms::{ReadFault, push_u32, u32_of};
 use bytes::Bytes;
 use codec_frame::{FileFault, FrameFault, Framed, Want, check, write_footer, write_index_header};
-use file_names::{Base36, base36};
-use nrt_base::NoMemory;
+use file_names::{Base36, NoMemory, base36};
 use std::alloc::Global;
 
 /// The name of the format in the header.

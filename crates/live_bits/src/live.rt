@@ -4,7 +4,7 @@ ghost use Rattle.std.specs.Prelude.{◌≡◌, ◌<◌, length, replicate, slice
 ghost use Rattle.live_bits.specs.LiveRows.{live_rows, AreDeadFrom, IsFirstLive};
 
 use crate::bits::{all_set, clear, is_set, next_set};
-use nrt_base::{NoMemory, Share};
+use file_names::{NoMemory, Share};
 use std::alloc::Global;
 use std::marker::Model;
 

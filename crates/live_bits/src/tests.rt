@@ -2,7 +2,7 @@ use super::*;
 use body_forms::ReadFault;
 use bytes::Bytes;
 use codec_frame::{FileFault, FrameFault, write_footer, write_index_header};
-use nrt_base::Share;
+use file_names::Share;
 use std::alloc::Global;
 use std::test::Fail;
 

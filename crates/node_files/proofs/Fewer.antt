@@ -6,9 +6,8 @@ use Rattle.disk_model.proofs.CellLemmas.{same_apart}
 use Rattle.file_names.specs.Names.{is_commit_name, is_pending_name}
 use Rattle.file_deleter.specs.Holdings.{Holdings, times}
 use Rattle.file_deleter.proofs.NameLemmas.{times-append, times-cons}
-use Rattle.segment_infos.specs.declared.infos.Infos.{Infos}
-use Rattle.segment_infos.specs.Files.{AreFilesOf}
-use Rattle.segment_infos.proofs.SetLaws.{one_list_of}
+use Rattle.commit_steps.specs.Given.{Infos, AreFilesOf}
+use Rattle.commit_steps.proofs.Given.{one_list_of}
 use Rattle.commit_steps.specs.declared.states.Commit.{Commit}
 use Rattle.commit_steps.specs.declared.stage.Stage.{Stage}
 use Rattle.commit_steps.specs.declared.stage.Stage.TheVariants.{Begun, Synced, Written, Pending, Named, Renamed}

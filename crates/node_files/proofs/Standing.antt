@@ -8,9 +8,7 @@ use Rattle.nrt_base.specs.declared.doc.Doc.{Doc}
 use Rattle.file_names.specs.Names.{part_name_of, live_name_of}
 use Rattle.file_names.specs.declared.composed.SegPart.TheVariants.{Docs, Post, Info}
 use Rattle.disk_model.specs.Disk.{Name, Content, Cells, Image, is_among}
-use Rattle.segment_infos.specs.declared.infos.SegRecord.{SegRecord}
-use Rattle.segment_infos.specs.declared.infos.Infos.{Infos}
-use Rattle.segment_infos.specs.Files.{files_of_segment}
+use Rattle.commit_steps.specs.Given.{SegRecord, Infos, files_of_segment}
 use Rattle.seg_reader.specs.Shown.{Shown}
 use Rattle.seg_reader.specs.Stands.{IsLiveFileIn, IsSegmentIn, StandsFor}
 use Rattle.file_deleter.specs.Holdings.{Holdings}

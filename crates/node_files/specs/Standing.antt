@@ -2,7 +2,7 @@
 use Rattle.std.specs.Prelude.{◌≡◌, ◌⊎◌, List, Option, None, IfSome, IsSomeAnd}
 use Rattle.nrt_base.specs.declared.doc.Doc.{Doc}
 use Rattle.disk_model.specs.Disk.{Name, Content, Cells, Image, IsImage}
-use Rattle.segment_infos.specs.declared.infos.Infos.{Infos}
+use Rattle.commit_steps.specs.Given.{Infos}
 use Rattle.seg_reader.specs.Stands.{StandsFor}
 use Rattle.disk_model.specs.Disk.{reads_of}
 use Rattle.commit_steps.specs.Found.{ShowsNothing}

@@ -12,7 +12,7 @@ use Rattle.replica_parts.specs.declared.job.PointJob.{PointJob}
 use Rattle.replica_parts.specs.declared.parts.Parts.{Parts as ReplicaParts}
 use Rattle.replica_parts.specs.Replica.{IsWholeReplica, AreStanding}
 use Rattle.replica_parts.specs.Sources.{KeepsSource}
-use Rattle.replica_node.specs.Running.{running_job, with_job, without_job}
+use Rattle.cluster_places.specs.Given.{running_job, with_job, without_job}
 use Rattle.cluster_places.specs.Outs.{want_of}
 use Rattle.cluster_places.specs.JobChanges.{given_back, AltersStates}
 use Rattle.cluster_places.specs.Ends.{EndsJob, TakesBack}

@@ -1,2 +1,3 @@
 pub mod JobFiles
 mod JobNumbers
+pub mod Given

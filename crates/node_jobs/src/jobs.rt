@@ -13,12 +13,10 @@ ghost use Rattle.cluster_places.specs.JobChanges.{BeginsAt, FinishesAt, TakesPar
 ghost use Rattle.cluster_places.specs.Ends.{EndsJob, TakesBack};
 
 use crate::states::{lacks, share_state};
+use cluster_places::{Primary, Replica, point_runs};
 use copy_job::Part;
 use disk_model::Dir;
-use index_primary::Primary;
 use nrt_base::NoMemory;
-use replica_node::Replica;
-use replica_node::laws::point_runs;
 use std::alloc::{AllocError, Global};
 
 /// Ends the job of a replica that copies a point, where it has one.

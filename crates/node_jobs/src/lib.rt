@@ -5,6 +5,7 @@ mod jobs;
 mod states;
 mod transfers;
 
+pub use cluster_places::{Node, NodeParts, Place, Primary, Replica, put};
 pub use jobs::end_job;
 pub use states::{lacks, next_file, share_state};
 pub use transfers::{begin_in, finish_in, next_in, read_in, take_in, take_primary, take_replica};

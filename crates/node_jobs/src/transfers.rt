@@ -9,14 +9,12 @@ ghost use Rattle.cluster_places.specs.JobPlaces.{CanBegin, BeginsIn, CanFinish, 
 use crate::jobs::{begin_job, finish_job, take_part};
 use crate::states::next_file;
 use bytes::Bytes;
-use cluster_places::{Held, Node, Place, primary_in, put, take};
+use cluster_places::{Held, Node, Place, Primary, Replica, primary_in, put, take};
 use copy_job::Part;
 use copy_state::FileMetaData;
 use disk_model::Dir;
 use file_names::FileName;
-use index_primary::Primary;
 use nrt_base::{NoMemory, NodeNo};
-use replica_node::Replica;
 use std::alloc::{AllocError, Global};
 
 // The replica that is in this place.

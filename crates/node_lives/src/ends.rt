@@ -7,12 +7,11 @@ ghost use Rattle.cluster_places.specs.Outs.{want_of, want_at};
 ghost use Rattle.cluster_places.specs.Places.{place_of, IsSlot};
 ghost use Rattle.cluster_places.specs.Ends.{EndsNodeJob, EndsPlaceJob, CanTakeBack, TakesBackIn, CanEnd, EndsWith};
 
-use cluster_places::{Node, Place, primary_in, put, take};
+use cluster_places::{Node, Place, Replica, primary_in, put, take};
 use copy_state::CopyState;
 use disk_model::Dir;
 use node_jobs::{end_job, share_state};
 use nrt_base::{NoMemory, NodeNo};
-use replica_node::Replica;
 use std::alloc::Global;
 
 // Ends the job of a node that copies a point, where it is a replica and has one.

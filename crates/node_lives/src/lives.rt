@@ -8,10 +8,9 @@ ghost use Rattle.cluster_places.specs.Ends.{CanEnd};
 ghost use Rattle.cluster_places.specs.Lives.{CrashesIn, OpensOn, ReopensIn};
 
 use crate::ends::end_with;
-use cluster_places::{Node, Place, put, take};
+use cluster_places::{Node, Place, Replica, put, take};
 use disk_model::{Dir, FaultDir};
 use nrt_base::{NoMemory, NodeNo, Version};
-use replica_node::Replica;
 use std::alloc::{AllocError, Global};
 
 // The directory of a node.

@@ -12,12 +12,7 @@ use Rattle.replica_parts.specs.declared.parts.Parts.{Parts as ReplicaParts}
 use Rattle.replica_parts.specs.Replica.{IsWholeReplica, AreStanding}
 use Rattle.replica_parts.specs.Sources.{HeldReadAs, IsSourced}
 use Rattle.promotion.specs.Generations.{promoted_infos}
-use Rattle.cluster_places.specs.declared.held.Held.{Held}
-use Rattle.cluster_places.specs.declared.nodes.Node.TheVariants.{Primary, Replica}
-use Rattle.cluster_places.specs.declared.nodes.Place.{Place}
-use Rattle.cluster_places.specs.Places.{place_of, IsSlot}
-use Rattle.cluster_places.specs.JobChanges.{HasReplica}
-use Rattle.cluster_places.specs.JobPlaces.{IsReplicaAt, MovesOne}
+use Rattle.node_jobs.specs.Given.{Held, Primary, Replica, Place, place_of, IsSlot, HasReplica, IsReplicaAt, MovesOne}
 
 module _ {D : Type 0} where
   -- The replica can become the primary of this generation: it is whole, its point and its commits are of documents, the generation is above

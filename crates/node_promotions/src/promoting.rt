@@ -12,13 +12,10 @@ ghost use Rattle.promotion.specs.declared.fault.PromoteFault.TheVariants.{Memory
 ghost use Rattle.promotion.specs.Generations.{promoted_infos};
 ghost use Rattle.node_promotions.specs.Promoting.{CanPromote, PromotesTo, CanPromoteIn, PromotesIn};
 
-use cluster_places::{Node, Place, put};
 use disk_model::Dir;
-use index_primary::Primary;
-use node_jobs::take_replica;
+use node_jobs::{Node, NodeParts, Place, Primary, Replica, put, take_replica};
 use nrt_base::{Gen, NoMemory, NodeNo, Version};
 use promotion::{PromoteFault, open_generation};
-use replica_node::{NodeParts, Replica};
 use segment_infos::Infos;
 use std::alloc::{AllocError, Global};
 

@@ -1,6 +1,6 @@
 //! A gate that holds no lane.
 
-use lane_sections::{Gate, Place};
+use cluster_run::{Gate, Place};
 
 /// The program's gate: every lane passes.
 pub struct OpenGate;

@@ -6,10 +6,8 @@ ghost use Rattle.nrt_main.specs.Load.{IsLoadOf, IsLoad, IsSummary, LeavesSummary
 
 use crate::status::Status;
 use crate::writing::write_all;
-use cluster_core::Cluster;
-use cluster_run::run_script;
+use cluster_run::{Cluster, Gate, run_script};
 use disk_memory::MemDir;
-use lane_sections::Gate;
 use load_script::{generated, summary};
 use nrt_base::{LineNo, NoMemory};
 use nrt_streams::{Arg, Sink};

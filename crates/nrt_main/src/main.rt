@@ -24,7 +24,7 @@ use crate::standard::{StdSink, StdSource};
 use crate::status::Status;
 use crate::top::run_nrt;
 use check_run::{check_image, name_and_number, words_of};
-use cluster_core::Cluster;
+use cluster_run::Cluster;
 use disk_memory::MemDir;
 use nrt_streams::Arg;
 use script_text::LineFault;

@@ -17,8 +17,7 @@ use Rattle.commit_steps.proofs.Safe.{among_of, contains_of}
 use Rattle.commit_steps.specs.Book.{book_names}
 use Rattle.commit_steps.specs.declared.stage.CommitBook.{CommitBook}
 use Rattle.seg_reader.specs.Shown.{Shown}
-use Rattle.searcher_switch.specs.declared.searchers.Searchers.{Searchers}
-use Rattle.searcher_switch.specs.Searching.{searcher_names}
+use Rattle.primary_parts.specs.Given.{Searchers, searcher_names}
 use Rattle.node_files.specs.Node.{IsWholeNode, IsApart, HasNoPending}
 use Rattle.node_files.specs.Appearing.{AppearsOnly}
 use Rattle.node_files.proofs.Appearing.{keeps_only}

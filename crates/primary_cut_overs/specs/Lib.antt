@@ -1,1 +1,2 @@
 pub mod CutOverCalls
+pub mod Given

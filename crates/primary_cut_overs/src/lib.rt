@@ -4,3 +4,7 @@
 mod cutting;
 
 pub use cutting::{CutReady, merge_cut};
+pub use primary_merges::merge_ready;
+pub use primary_parts::{Merging, Out, Parts, PrimaryFault, Publish, PublishFault};
+pub use seg_merge::{MergeTask, Merged};
+pub use segment_steps::{FlushTask, FlushWork, NextSegments, flush};

@@ -8,7 +8,7 @@ use Rattle.disk_model.specs.Disk.{Name, Cells, reads_of}
 use Rattle.file_deleter.specs.Holdings.{Holdings, count_of, times, AreCounted}
 use Rattle.file_deleter.specs.Moves.{KeepsFiles, LetsGo}
 use Rattle.file_deleter.proofs.NameLemmas.{times-append}
-use Rattle.searcher_switch.specs.Searching.{searcher_names}
+use Rattle.primary_parts.specs.Given.{searcher_names}
 use Rattle.node_files.specs.Node.{IsWholeNode}
 use Rattle.node_files.proofs.Carry.{node_lets_go, node_same_names, front_counted}
 use Rattle.primary_parts.specs.declared.parts.Parts.{Parts}

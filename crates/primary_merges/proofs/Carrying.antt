@@ -6,7 +6,7 @@ use Rattle.file_deleter.specs.Holdings.{Holdings, count_of, times}
 use Rattle.node_files.specs.Node.{IsWholeNode}
 use Rattle.node_files.specs.Standing.{IsStanding}
 use Rattle.node_files.proofs.Standing.{standing_kept}
-use Rattle.searcher_switch.specs.Searching.{searcher_names}
+use Rattle.primary_parts.specs.Given.{searcher_names}
 use Rattle.primary_parts.specs.declared.parts.Parts.{Parts}
 use Rattle.primary_parts.specs.declared.states.Out.{Out}
 use Rattle.primary_parts.specs.declared.states.Merging.{Merging}

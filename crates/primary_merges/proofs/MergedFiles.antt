@@ -26,7 +26,7 @@ use Rattle.seg_build.proofs.NameOrder.{names_ascend}
 use Rattle.seg_merge.specs.declared.task.MergeTask.{MergeTask}
 use Rattle.seg_merge.specs.declared.task.Merged.{Merged}
 use Rattle.seg_merge.specs.Merging.{docs_by_input, all_live_docs, IsMergedOf}
-use Rattle.segment_steps.proofs.NextNames.{new_names}
+use Rattle.primary_parts.proofs.Given.{new_names}
 use Rattle.copy_state.specs.States.{AreShortNames}
 use Rattle.primary_parts.specs.States.{IsFramedFile}
 use Rattle.primary_parts.specs.Written.{names_of}

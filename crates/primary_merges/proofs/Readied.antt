@@ -12,7 +12,7 @@ use Rattle.seg_merge.specs.Merging.{IsMergedOf}
 use Rattle.file_deleter.specs.Holdings.{Holdings, count_of, times, AreThere}
 use Rattle.file_deleter.specs.Moves.{KeepsFiles, LetsGo, MovesCounts}
 use Rattle.file_deleter.proofs.NameLemmas.{times-append, among_times, not_among_times}
-use Rattle.searcher_switch.specs.Searching.{searcher_names}
+use Rattle.primary_parts.specs.Given.{searcher_names}
 use Rattle.node_files.specs.Node.{IsWholeNode, IsApart, HasNoPending, AddsOnly, KeepsBytes}
 use Rattle.node_files.specs.Appearing.{AppearsOnly}
 use Rattle.node_files.proofs.Appearing.{keeps_only}

@@ -20,8 +20,7 @@ use Rattle.commit_steps.specs.declared.states.Commit.{Commit}
 use Rattle.commit_steps.specs.declared.stage.Stage.{Stage}
 use Rattle.commit_steps.specs.declared.stage.CommitBook.{CommitBook}
 use Rattle.commit_steps.specs.Book.{commit_of, last_names, flying_names, book_names, IsBookSound}
-use Rattle.node_files.specs.Node.{IsWholeNode}
-use Rattle.node_files.specs.Standing.{StandsForSome, IsStanding}
+use Rattle.searcher_switch.specs.Given.{IsWholeNode, StandsForSome, IsStanding}
 use Rattle.segment_steps.specs.declared.flushing.FlushTask.{FlushTask}
 use Rattle.segment_steps.specs.declared.flushing.FlushWork.{FlushWork}
 use Rattle.segment_steps.specs.Next.{IsFlushOf}

@@ -11,9 +11,8 @@ use Rattle.file_deleter.specs.Holdings.{Holdings, times}
 use Rattle.file_deleter.specs.Moves.{MovesCounts}
 use Rattle.file_deleter.proofs.NameLemmas.{times-append, among_times}
 use Rattle.commit_steps.proofs.Safe.{among_of}
-use Rattle.node_files.specs.Node.{AddsOnly, HoldsNoMore, KeepsBytes}
-use Rattle.node_files.specs.Standing.{StandsForSome}
-use Rattle.node_files.proofs.Standing.{segments_along}
+use Rattle.searcher_switch.specs.Given.{AddsOnly, HoldsNoMore, KeepsBytes, StandsForSome}
+use Rattle.searcher_switch.proofs.Given.{segments_along}
 use Rattle.primary_parts.specs.Held.{IsHeld, IsUndrawn, part, live, next_live, AreUndrawn}
 
 pub named_times : (infos : Infos) (segs : List Shown) (names : List Name) (reads : Name → Content) → IsHeld reads infos segs names → (q : Name) → Contains (flat_map files_of_segment infos.segs) q → 0 < times names q

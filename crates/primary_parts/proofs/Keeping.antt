@@ -16,11 +16,8 @@ use Rattle.searcher_switch.specs.declared.open.Point.{Point}
 use Rattle.searcher_switch.specs.declared.searchers.Searchers.{Searchers}
 use Rattle.searcher_switch.specs.Tickets.{ticket_names}
 use Rattle.searcher_switch.specs.Searching.{searcher_names}
-use Rattle.node_files.specs.Node.{IsWholeNode, AddsOnly}
-use Rattle.node_files.specs.Standing.{IsStanding}
-use Rattle.node_files.proofs.Carry.{node_front, node_moves, nothing_written, node_commits, node_begins, node_exist, node_there, node_counted}
-use Rattle.node_files.proofs.Standing.{standing_kept, standing_step, standing_begun}
-use Rattle.node_files.proofs.Fewer.{no_more_beside, no_more_step, no_more_begun}
+use Rattle.searcher_switch.specs.Given.{IsWholeNode, AddsOnly, IsStanding}
+use Rattle.searcher_switch.proofs.Given.{node_front, node_moves, nothing_written, node_commits, node_begins, node_exist, node_there, node_counted, standing_kept, standing_step, standing_begun, no_more_beside, no_more_step, no_more_begun}
 use Rattle.primary_parts.specs.declared.parts.Parts.{Parts}
 use Rattle.primary_parts.specs.Held.{IsHeld}
 use Rattle.primary_parts.specs.States.{state_names}

@@ -7,3 +7,4 @@ pub mod Framing
 pub mod NewFiles
 pub mod Drawing
 pub mod Callers
+pub mod Given

@@ -10,7 +10,7 @@ use Rattle.file_deleter.specs.Holdings.{times}
 use Rattle.file_deleter.proofs.NameLemmas.{times-append}
 use Rattle.segment_infos.specs.declared.infos.SegRecord.{SegRecord}
 use Rattle.seg_reader.specs.Shown.{Shown}
-use Rattle.seg_merge.specs.declared.task.Merged.{Merged}
+use Rattle.segment_steps.specs.Given.{Merged}
 use Rattle.segment_steps.specs.CutOver.{Part, is_one_of, inputs_in, IsMergeOf}
 use Rattle.primary_parts.specs.declared.states.Merging.{Merging}
 use Rattle.primary_parts.specs.Merges.{merge_names, merge_loose, merge_filled, merge_inputs, merge_of, merge_place, merges_without, merges_with, IsMadeBy, IsMerging, AreOtherMerges, AreApartMerges}

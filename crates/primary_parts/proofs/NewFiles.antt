@@ -10,7 +10,7 @@ use Rattle.file_deleter.proofs.NameLemmas.{among_is}
 use Rattle.commit_steps.proofs.Safe.{contains_of}
 use Rattle.commit_steps.specs.Book.{book_names}
 use Rattle.commit_steps.specs.declared.stage.CommitBook.{CommitBook}
-use Rattle.node_files.specs.Node.{AddsOnly}
+use Rattle.searcher_switch.specs.Given.{AddsOnly}
 use Rattle.primary_parts.specs.declared.parts.Parts.{Parts}
 use Rattle.primary_parts.specs.declared.parts.Publish.{Publish}
 use Rattle.primary_parts.specs.Held.{IsUndrawn, IsUnused, IsNextLive, part, live, next_live}

@@ -9,7 +9,7 @@ use Rattle.copy_state.specs.declared.meta.FileMetaData.{FileMetaData}
 use Rattle.disk_model.specs.Disk.{Name, Cells}
 use Rattle.file_deleter.specs.Holdings.{Holdings, count_of, times, AreCounted}
 use Rattle.file_deleter.specs.Moves.{HoldsFiles, LetsGo, MovesCounts}
-use Rattle.node_files.specs.Node.{AddsOnly}
+use Rattle.searcher_switch.specs.Given.{AddsOnly}
 use Rattle.file_deleter.proofs.Keeping.{moves_held, moves_released}
 use Rattle.file_deleter.proofs.NameLemmas.{times-append, same_self}
 use Rattle.primary_parts.specs.declared.states.Out.{Out}

@@ -10,7 +10,7 @@ use Rattle.file_deleter.specs.Holdings.{Holdings, count_of, times}
 use Rattle.file_deleter.specs.Moves.{KeepsFiles, Creates, LetsGo}
 use Rattle.file_deleter.proofs.NameLemmas.{times-append, times_within, among_times, same_self}
 use Rattle.primary_parts.specs.Written.{names_of, ReadsSo}
-use Rattle.seg_build.specs.Built.{File}
+use Rattle.segment_steps.specs.Given.{File}
 
 -- calls in a row that write only among these names
 pub keeps_within : (w v : List Name) (old mid new : Holdings) (a b c : Cells) → KeepsFiles w old mid a b → KeepsFiles v mid new b c

@@ -6,3 +6,4 @@ pub mod Primary
 pub mod Calls
 pub mod Work
 pub mod Written
+pub mod Given

@@ -6,8 +6,7 @@ use Rattle.file_deleter.specs.Holdings.{times}
 use Rattle.nrt_base.specs.declared.numbers.SegNo.{SegNo}
 use Rattle.segment_infos.specs.declared.infos.SegRecord.{SegRecord}
 use Rattle.seg_reader.specs.Shown.{Shown}
-use Rattle.seg_merge.specs.declared.task.Merged.{Merged}
-use Rattle.seg_merge.specs.Merging.{docs_by_input, IsMergedOf}
+use Rattle.segment_steps.specs.Given.{Merged, docs_by_input, IsMergedOf}
 use Rattle.segment_steps.specs.CutOver.{IsMergeOf}
 use Rattle.primary_parts.specs.declared.states.Merging.{Merging}
 use Rattle.primary_parts.specs.Written.{names_of}

@@ -6,8 +6,7 @@ use Rattle.nrt_base.specs.declared.numbers.SegNo.{SegNo}
 use Rattle.copy_state.specs.States.{AreShortNames}
 use Rattle.searcher_switch.specs.Searching.{searcher_names}
 use Rattle.disk_model.specs.Disk.{reads_of}
-use Rattle.node_files.specs.Node.{IsWholeNode, KeepsBytes}
-use Rattle.node_files.specs.Standing.{IsStanding}
+use Rattle.searcher_switch.specs.Given.{IsWholeNode, KeepsBytes, IsStanding}
 use Rattle.primary_parts.specs.declared.parts.Parts.{Parts}
 use Rattle.primary_parts.specs.declared.parts.Publish.{Publish}
 use Rattle.primary_parts.specs.Held.{IsHeld, IsUndrawn, AreUndrawn, AreNumbered}

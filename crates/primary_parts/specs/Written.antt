@@ -1,7 +1,7 @@
 -- Files that are written: their names, and that they read so.
 use Rattle.std.specs.Prelude.{◌≡◌, List, map, Some}
 use Rattle.disk_model.specs.Disk.{Name, Cells}
-use Rattle.seg_build.specs.Built.{File}
+use Rattle.segment_steps.specs.Given.{File}
 
 -- the names of files
 abbrev pub names_of : List File → List Name

@@ -6,5 +6,6 @@ mod states;
 mod write;
 
 pub use parts::{Parts, PrimaryFault, Publish, PublishFault};
+pub use segment_steps::{MergeStart, start_merge};
 pub use states::{Merging, Out, inputs_of, lend, meta_told, metas_of, take_back};
 pub use write::{joined, names_in, write_all};

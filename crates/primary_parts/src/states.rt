@@ -7,7 +7,7 @@ ghost use Rattle.disk_model.specs.Disk.{same, reads_of};
 ghost use Rattle.file_deleter.specs.Holdings.{AreThere, AreCounted};
 ghost use Rattle.file_deleter.specs.Moves.{MovesCounts};
 ghost use Rattle.disk_model.specs.Faults.{IsMemoryOrFailed};
-ghost use Rattle.node_files.specs.Node.{AddsOnly};
+ghost use Rattle.searcher_switch.specs.Given.{AddsOnly};
 ghost use Rattle.copy_state.specs.Meta.{IsMetaOf};
 ghost use Rattle.copy_state.specs.States.{meta_names};
 ghost use Rattle.primary_parts.specs.Merges.{merge_inputs};
@@ -18,7 +18,7 @@ use disk_model::{Dir, DirFault};
 use file_deleter::FileDeleter;
 use file_names::FileName;
 use nrt_base::{List, NoMemory, SegNo, Version};
-use seg_merge::{MergeTask, Merged};
+use segment_steps::{MergeTask, Merged};
 use std::alloc::{AllocError, Global};
 
 /// A merge in flight.

@@ -4,7 +4,7 @@ use Rattle.file_names.specs.Names.{is_commit_name, is_pending_name}
 use Rattle.nrt_base.specs.declared.numbers.Version.{Version}
 use Rattle.std.specs.Prelude.{◌==◌}
 use Rattle.std.specs.List.{AllByRecursion, list_any}
-use Rattle.seg_merge.specs.Merging.{docs_by_input}
+use Rattle.segment_steps.specs.Given.{docs_by_input}
 use Rattle.segment_infos.specs.declared.infos.SegRecord.{SegRecord}
 use Rattle.seg_build.specs.Built.{File}
 use Rattle.disk_model.specs.Disk.{Name, Content, Cells, is_among}

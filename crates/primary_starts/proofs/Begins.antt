@@ -11,10 +11,8 @@ use Rattle.seg_reader.specs.Shown.{Shown}
 use Rattle.seg_reader.specs.Sound.{IsSound}
 use Rattle.seg_merge.specs.declared.task.MergeTask.{MergeTask}
 use Rattle.seg_merge.specs.Merging.{docs_by_input}
-use Rattle.segment_steps.specs.declared.starting.MergeStart.{MergeStart}
-use Rattle.segment_steps.specs.Starting.{IsStart}
-use Rattle.segment_steps.specs.CutOver.{IsMergeOf}
-use Rattle.segment_steps.proofs.MergeStarts.{start_is_merge, start_fits, start_apart}
+use Rattle.primary_parts.specs.Given.{MergeStart, IsStart, IsMergeOf}
+use Rattle.primary_parts.proofs.Given.{start_is_merge, start_fits, start_apart}
 use Rattle.primary_parts.specs.declared.parts.Parts.{Parts}
 use Rattle.primary_parts.specs.declared.states.Merging.{Merging}
 use Rattle.primary_parts.specs.Held.{drawn_to}

@@ -13,10 +13,8 @@ use Rattle.file_deleter.specs.Moves.{HoldsFiles}
 use Rattle.file_deleter.proofs.NameLemmas.{times-append}
 use Rattle.seg_merge.specs.declared.task.Merged.{Merged}
 use Rattle.seg_merge.specs.Merging.{docs_by_input}
-use Rattle.segment_steps.specs.CutOver.{IsMergeOf}
-use Rattle.searcher_switch.specs.Searching.{searcher_names}
-use Rattle.node_files.specs.Node.{IsWholeNode}
-use Rattle.node_files.proofs.Carry.{node_kept, node_there, nothing_written}
+use Rattle.primary_parts.specs.Given.{IsMergeOf, searcher_names, IsWholeNode}
+use Rattle.primary_parts.proofs.Given.{node_kept, node_there, nothing_written}
 use Rattle.primary_parts.specs.declared.parts.Parts.{Parts}
 use Rattle.primary_parts.specs.declared.parts.Publish.{Publish}
 use Rattle.primary_parts.specs.declared.states.Merging.{Merging}

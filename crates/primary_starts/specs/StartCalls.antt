@@ -9,8 +9,7 @@ use Rattle.seg_reader.specs.Sound.{IsSound}
 use Rattle.merge_choice.specs.Choice.{IsFirstRange, HasNoRange}
 use Rattle.seg_merge.specs.declared.task.MergeTask.{MergeTask}
 use Rattle.seg_merge.specs.Merging.{HasAsManyRows, all_live_docs, docs_by_input}
-use Rattle.segment_steps.specs.declared.starting.MergeStart.{MergeStart}
-use Rattle.segment_steps.specs.Starting.{size_by, IsStart}
+use Rattle.primary_parts.specs.Given.{MergeStart, size_by, IsStart}
 use Rattle.primary_parts.specs.declared.parts.Parts.{Parts}
 use Rattle.primary_parts.specs.declared.parts.PublishFault.{PublishFault}
 use Rattle.primary_parts.specs.declared.parts.PublishFault.TheVariants.{Memory, NamesSpent, TooManySegments}

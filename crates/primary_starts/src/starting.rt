@@ -14,10 +14,9 @@ use disk_model::Dir;
 use file_deleter::FileDeleter;
 use file_names::FileName;
 use nrt_base::{List, NoMemory, SegNo, Share};
-use primary_parts::{Merging, Parts, PublishFault, inputs_of};
+use primary_parts::{MergeStart, Merging, Parts, PublishFault, inputs_of, start_merge};
 use seg_merge::MergeTask;
 use segment_infos::{Infos, SegRecord, files_of};
-use segment_steps::{MergeStart, start_merge};
 use std::alloc::Global;
 
 // Whether the number is one of these.

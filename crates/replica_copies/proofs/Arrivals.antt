@@ -10,8 +10,7 @@ use Rattle.file_deleter.specs.Moves.{MovesCounts}
 use Rattle.file_deleter.proofs.NameLemmas.{times-append, times_one, among_times}
 use Rattle.node_files.specs.Node.{IsWholeNode, IsApart, HasNoPending, AddsOnly}
 use Rattle.node_files.proofs.Carry.{node_moves, unheld_apart}
-use Rattle.searcher_switch.specs.Tickets.{ticket_names}
-use Rattle.searcher_switch.specs.Searching.{searcher_names}
+use Rattle.replica_parts.specs.Given.{ticket_names, searcher_names, IsLasting}
 use Rattle.copy_job.specs.Jobs.{Job, job_names}
 use Rattle.replica_parts.specs.declared.parts.Parts.{Parts}
 use Rattle.replica_parts.specs.Merges.{copies_names}
@@ -20,7 +19,6 @@ use Rattle.replica_parts.specs.declared.job.PointJob.{PointJob}
 use Rattle.std.specs.Prelude.{IfSome}
 use Rattle.copy_state.specs.declared.state.CopyState.{CopyState}
 use Rattle.copy_job.specs.Jobs.{IsJob, with_part}
-use Rattle.replica_opening.specs.Known.{IsLasting}
 use Rattle.replica_parts.specs.Waiting.{IsWaiting}
 use Rattle.replica_parts.proofs.Waiting.{temp_free, waits_arrived}
 use Rattle.replica_parts.proofs.Temporary.{book_no_temporary}

@@ -7,7 +7,7 @@ use Rattle.file_deleter.specs.Moves.{HoldsFiles}
 use Rattle.file_deleter.proofs.NameLemmas.{times-append}
 use Rattle.segment_infos.specs.declared.infos.Infos.{Infos}
 use Rattle.node_files.proofs.Carry.{node_kept, nothing_written}
-use Rattle.searcher_switch.specs.Searching.{searcher_names}
+use Rattle.replica_parts.specs.Given.{searcher_names}
 use Rattle.nrt_base.specs.declared.numbers.Version.{Version}
 use Rattle.copy_state.specs.declared.state.CopyState.{CopyState}
 use Rattle.copy_state.specs.States.{meta_names}

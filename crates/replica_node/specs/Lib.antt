@@ -1,2 +1,3 @@
 pub mod Refusals
 pub mod Running
+pub mod Given

@@ -19,10 +19,9 @@ ghost use Rattle.replica_node.specs.Running.{is_job_number, running_job, with_jo
 use copy_job::{JobFault, Part};
 use copy_state::CopyState;
 use disk_model::Dir;
-use replica_calls::{end_copy, end_job};
 use replica_copies::{arrived, start_job};
 use replica_parts::Parts;
-use replica_precopies::{arrived_precopy, end_overlapping};
+use replica_precopies::{arrived_precopy, end_copy, end_job, end_overlapping};
 use std::alloc::Global;
 
 // Whether the job of a newer point has this number.

@@ -30,13 +30,12 @@ use disk_model::{Dir, FaultDir};
 use file_names::FileName;
 use merge_precopy::Precopies;
 use nrt_base::{Gen, NoMemory, Version};
-use replica_calls::{
-    acquire, commit_begin, commit_step, into_dir, lease, new_point, plan, release, stop_at,
-    take_apart,
-};
 use replica_opening::{StartFault, open};
 use replica_parts::{MergeCopies, NodeParts, Parts, PointAnswer, RunningCopies};
-use replica_precopies::{finish_precopy, launch_precopy};
+use replica_precopies::{
+    acquire, commit_begin, commit_step, finish_precopy, into_dir, launch_precopy, lease, new_point,
+    plan, release, stop_at, take_apart,
+};
 use replica_switches::finish;
 use searcher_switch::{Lease, Ticket};
 use seg_reader::Segment;

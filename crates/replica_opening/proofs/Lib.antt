@@ -6,3 +6,4 @@ mod Recoveries
 mod Releasing
 pub mod Segments
 pub mod Settled
+pub mod Given

@@ -3,9 +3,8 @@ use Rattle.std.proofs.Common.{◌≡◌, ◌<◌}
 use Rattle.disk_model.specs.Disk.{Name, Cells, reads_of}
 use Rattle.file_deleter.specs.Holdings.{times}
 use Rattle.segment_infos.specs.declared.infos.Infos.{Infos}
-use Rattle.seg_reader.specs.Shown.{Shown}
-use Rattle.node_files.proofs.Standing.{segments_along}
-use Rattle.searcher_switch.specs.declared.open.Point.{Point}
+use Rattle.replica_opening.specs.Given.{Shown, Point}
+use Rattle.replica_opening.proofs.Given.{segments_along}
 use Rattle.replica_parts.specs.Replica.{IsPointOf}
 use Rattle.replica_parts.proofs.Named.{file_counted}
 

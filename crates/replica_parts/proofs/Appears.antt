@@ -7,8 +7,8 @@ use Rattle.disk_model.specs.Disk.{Name, Cells, is_among, same}
 use Rattle.disk_model.proofs.CellLemmas.{same_true}
 use Rattle.file_deleter.specs.Holdings.{Holdings, count_of, times}
 use Rattle.file_deleter.specs.Moves.{KeepsFiles}
-use Rattle.node_files.specs.Appearing.{AppearsOnly}
-use Rattle.node_files.proofs.Appearing.{uncounted, keeps_only}
+use Rattle.replica_opening.specs.Given.{AppearsOnly}
+use Rattle.replica_opening.proofs.Given.{uncounted, keeps_only}
 use Rattle.copy_state.specs.States.{meta_names}
 use Rattle.copy_job.specs.declared.part.JobPart.{JobPart}
 use Rattle.copy_job.specs.Parts.{written_names}

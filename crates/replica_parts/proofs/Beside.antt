@@ -9,16 +9,10 @@ use Rattle.file_deleter.specs.Holdings.{Holdings, count_of, times}
 use Rattle.file_deleter.proofs.NameLemmas.{times-append, among_times}
 use Rattle.segment_infos.specs.declared.infos.Infos.{Infos}
 use Rattle.segment_infos.specs.Files.{files_of_segment}
-use Rattle.seg_reader.specs.Shown.{Shown}
+use Rattle.replica_opening.specs.Given.{Shown, IsWholeNode, HoldsNoMore, AddsOnly, KeepsBytes, StandsForSome, IsStanding, Searchers, searcher_names, ticket_names}
 use Rattle.commit_steps.specs.declared.stage.CommitBook.{CommitBook}
 use Rattle.commit_steps.specs.Book.{book_names}
-use Rattle.node_files.specs.Node.{IsWholeNode, HoldsNoMore, AddsOnly, KeepsBytes}
-use Rattle.node_files.specs.Standing.{StandsForSome, IsStanding}
-use Rattle.node_files.proofs.Fewer.{no_more_beside}
-use Rattle.node_files.proofs.Standing.{stands_along, standing_kept}
-use Rattle.searcher_switch.specs.declared.searchers.Searchers.{Searchers}
-use Rattle.searcher_switch.specs.Searching.{searcher_names}
-use Rattle.searcher_switch.specs.Tickets.{ticket_names}
+use Rattle.replica_opening.proofs.Given.{no_more_beside, stands_along, standing_kept}
 use Rattle.copy_state.specs.declared.meta.FileMetaData.{FileMetaData}
 use Rattle.replica_parts.specs.declared.job.PointJob.{PointJob}
 use Rattle.replica_parts.specs.declared.parts.Parts.{Parts}

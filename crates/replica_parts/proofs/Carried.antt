@@ -6,7 +6,7 @@ use Rattle.disk_model.specs.Disk.{Name, Content, Cells, same}
 use Rattle.disk_model.proofs.CellLemmas.{same_true}
 use Rattle.file_deleter.specs.Holdings.{Holdings, count_of, times}
 use Rattle.file_deleter.proofs.NameLemmas.{times-append, times-cons, times_one, same_self}
-use Rattle.node_files.specs.Node.{HoldsNoMore, KeepsBytes}
+use Rattle.replica_opening.specs.Given.{HoldsNoMore, KeepsBytes}
 use Rattle.copy_state.specs.States.{meta_names}
 use Rattle.copy_job.specs.declared.part.JobPart.{JobPart}
 use Rattle.copy_job.specs.Parts.{placed, part_at, present_names, own_names, placed_to}

@@ -2,8 +2,7 @@
 use Rattle.std.specs.Prelude.{IfSome}
 use Rattle.disk_model.specs.Disk.{Cells, reads_of}
 use Rattle.segment_infos.specs.Infos.{CanSpell}
-use Rattle.node_files.specs.Node.{IsWholeNode}
-use Rattle.searcher_switch.specs.Searching.{searcher_names}
+use Rattle.replica_opening.specs.Given.{IsWholeNode, searcher_names}
 use Rattle.replica_parts.specs.declared.parts.Parts.{Parts}
 use Rattle.replica_parts.specs.Waiting.{HasNoTemporary, IsWaiting}
 use Rattle.replica_parts.specs.Replica.{IsPointOf, IsJobAbove, replica_names}

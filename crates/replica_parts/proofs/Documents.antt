@@ -3,10 +3,8 @@ use Rattle.std.proofs.Common.{List, subst}
 use Rattle.nrt_base.specs.declared.doc.Doc.{Doc}
 use Rattle.disk_model.specs.Disk.{Name, Content, Cells, reads_of}
 use Rattle.segment_infos.specs.declared.infos.Infos.{Infos}
-use Rattle.seg_reader.specs.Shown.{Shown}
-use Rattle.seg_reader.specs.Stands.{StandsFor, AreSegmentsOf}
-use Rattle.seg_reader.proofs.StandingLaws.{one_segs}
-use Rattle.node_files.proofs.Standing.{stands_along}
+use Rattle.replica_opening.specs.Given.{Shown, StandsFor, AreSegmentsOf}
+use Rattle.replica_opening.proofs.Given.{one_segs, stands_along}
 use Rattle.replica_opening.specs.Readers.{AreReaders}
 use Rattle.replica_opening.specs.Opening.{FindsPoint}
 use Rattle.replica_opening.specs.Opened.{IsHandedBack}

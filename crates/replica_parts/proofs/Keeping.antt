@@ -6,11 +6,10 @@ use Rattle.file_names.specs.Names.{temp_name_of}
 use Rattle.disk_model.specs.Disk.{Name, Content, Cells, reads_of}
 use Rattle.file_deleter.specs.Holdings.{Holdings, count_of, times}
 use Rattle.file_deleter.proofs.NameLemmas.{times-append}
-use Rattle.node_files.specs.Node.{KeepsBytes}
+use Rattle.replica_opening.specs.Given.{KeepsBytes, searcher_names}
 use Rattle.copy_state.specs.declared.meta.FileMetaData.{FileMetaData}
 use Rattle.copy_state.specs.States.{meta_names, meta_in}
 use Rattle.copy_job.specs.Jobs.{Job, IsJob, job_names, reads_under}
-use Rattle.searcher_switch.specs.Searching.{searcher_names}
 use Rattle.replica_opening.specs.Known.{HasMeta, KnowsFile, KnowsHeld, IsLasting}
 use Rattle.replica_parts.specs.declared.job.PointJob.{PointJob}
 use Rattle.replica_parts.specs.declared.merges.MergeCopies.{MergeCopies}

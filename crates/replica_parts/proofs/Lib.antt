@@ -22,3 +22,4 @@ pub mod Sparing
 pub mod Temporary
 pub mod Waiting
 pub mod Written
+pub mod Given

@@ -6,7 +6,7 @@ use Rattle.disk_model.specs.Disk.{Name, same, is_among}
 use Rattle.disk_model.proofs.CellLemmas.{same_true}
 use Rattle.file_deleter.specs.Holdings.{times}
 use Rattle.file_deleter.proofs.NameLemmas.{times-append, times_one, among_times}
-use Rattle.node_files.specs.Node.{AddsOnly}
+use Rattle.replica_opening.specs.Given.{AddsOnly}
 use Rattle.copy_job.specs.Parts.{present_names}
 use Rattle.copy_job.specs.Jobs.{Job, job_names}
 use Rattle.copy_job.specs.Jobs.{with_part}

@@ -15,7 +15,7 @@ use Rattle.segment_infos.specs.declared.infos.Infos.{Infos}
 use Rattle.segment_infos.specs.Files.{files_of_segment, AreFilesOf}
 use Rattle.segment_infos.proofs.SetLaws.{files_plain}
 use Rattle.commit_steps.proofs.Safe.{contains_of}
-use Rattle.node_files.specs.Node.{HoldsNoMore}
+use Rattle.replica_opening.specs.Given.{HoldsNoMore}
 use Rattle.copy_state.specs.States.{meta_names}
 use Rattle.copy_job.specs.declared.part.JobPart.{JobPart}
 use Rattle.copy_job.specs.Parts.{part_at, present_names, own_names, written_names, placed_to, IsPlaceable, ArePlaceable}

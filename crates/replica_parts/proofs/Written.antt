@@ -7,8 +7,8 @@ use Rattle.file_deleter.specs.Moves.{MovesCounts}
 use Rattle.file_deleter.proofs.NameLemmas.{times-append, among_times}
 use Rattle.commit_steps.specs.declared.stage.CommitBook.{CommitBook}
 use Rattle.commit_steps.specs.Book.{book_names}
-use Rattle.node_files.specs.Node.{IsWholeNode, IsApart}
-use Rattle.node_files.proofs.Carry.{node_moves}
+use Rattle.replica_opening.specs.Given.{IsWholeNode, IsApart}
+use Rattle.replica_opening.proofs.Given.{node_moves}
 use Rattle.copy_job.specs.declared.part.JobPart.{JobPart}
 use Rattle.copy_job.specs.Parts.{present_names, written_names, placed_to}
 use Rattle.copy_job.specs.Jobs.{Job, job_names}

@@ -7,3 +7,4 @@ pub mod Replica
 pub mod Sources
 pub mod Starting
 pub mod Waiting
+pub mod Given

@@ -7,11 +7,7 @@ use Rattle.file_deleter.specs.Holdings.{Holdings, times}
 use Rattle.segment_infos.specs.declared.infos.Infos.{Infos}
 use Rattle.segment_infos.specs.Infos.{CanSpell, IsInfosFile}
 use Rattle.segment_infos.specs.Files.{AreFilesOf}
-use Rattle.seg_reader.specs.Shown.{Shown}
-use Rattle.node_files.specs.Node.{IsWholeNode}
-use Rattle.node_files.specs.Standing.{StandsForSome, IsStanding}
-use Rattle.searcher_switch.specs.declared.open.Point.{Point}
-use Rattle.searcher_switch.specs.Searching.{searcher_names}
+use Rattle.replica_opening.specs.Given.{Shown, IsWholeNode, StandsForSome, IsStanding, Point, searcher_names}
 use Rattle.copy_state.specs.declared.meta.FileMetaData.{FileMetaData}
 use Rattle.copy_state.specs.declared.state.CopyState.{CopyState}
 use Rattle.copy_state.specs.States.{meta_names, meta_in}

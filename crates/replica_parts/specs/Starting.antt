@@ -6,7 +6,7 @@ use Rattle.disk_model.specs.Disk.{Name, Cells, reads_of}
 use Rattle.file_names.specs.Names.{is_commit_name, commit_number}
 use Rattle.file_deleter.specs.Holdings.{IsThere}
 use Rattle.segment_infos.specs.Files.{files_of_segment}
-use Rattle.seg_reader.specs.Stands.{StandsFor, AreSegmentsOf}
+use Rattle.replica_opening.specs.Given.{StandsFor, AreSegmentsOf}
 use Rattle.replica_parts.specs.declared.parts.Parts.{Parts}
 use Rattle.replica_parts.specs.Merges.{no_copies}
 use Rattle.replica_parts.specs.Replica.{AreStanding}

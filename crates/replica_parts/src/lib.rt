@@ -13,4 +13,5 @@ pub use held::{held_of, note_wanted};
 pub use job::{PointJob, told};
 pub use merges::{MergeCopies, RunningCopies};
 pub use parts::Parts;
+pub use replica_opening::{ReadFault, readers_of};
 pub use taking::NodeParts;

@@ -5,9 +5,7 @@ use crate::merges::MergeCopies;
 use commit_steps::CommitBook;
 use file_deleter::FileDeleter;
 use nrt_base::{Gen, List};
-use replica_opening::Known;
-use searcher_switch::Searchers;
-use seg_reader::Segment;
+use replica_opening::{Known, Searchers, Segment};
 use segment_infos::Infos;
 
 /// What a replica has: its directory, the counts of its files, the point that it searches with the open tickets, its commits,

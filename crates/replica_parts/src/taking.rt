@@ -3,8 +3,7 @@
 use commit_steps::CommitBook;
 use file_deleter::FileDeleter;
 use nrt_base::List;
-use searcher_switch::Searchers;
-use seg_reader::Segment;
+use replica_opening::{Searchers, Segment};
 use segment_infos::Infos;
 
 /// What a node is made of beside its jobs: its directory, the counts of its files, the point that it searches with the open

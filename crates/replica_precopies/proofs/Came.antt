@@ -20,7 +20,7 @@ use Rattle.copy_state.specs.declared.meta.FileMetaData.{FileMetaData}
 use Rattle.copy_state.specs.Meta.{IsMetaOf}
 use Rattle.copy_state.specs.States.{meta_names, meta_in}
 use Rattle.copy_job.specs.Jobs.{Job, IsJob, job_names, with_part}
-use Rattle.replica_opening.specs.Known.{IsLasting}
+use Rattle.replica_parts.specs.Given.{IsLasting}
 use Rattle.replica_parts.specs.declared.job.PointJob.{PointJob}
 use Rattle.replica_parts.specs.declared.parts.Parts.{Parts}
 use Rattle.copy_job.specs.declared.copying.Part.{Part}

@@ -14,7 +14,7 @@ use Rattle.searcher_switch.specs.Searching.{searcher_names}
 use Rattle.copy_state.specs.declared.meta.FileMetaData.{FileMetaData}
 use Rattle.copy_state.specs.States.{meta_names}
 use Rattle.copy_job.specs.Jobs.{Job, IsJob, job_names}
-use Rattle.replica_opening.specs.Known.{KnowsHeld, IsLasting}
+use Rattle.replica_parts.specs.Given.{KnowsHeld, IsLasting}
 use Rattle.replica_parts.specs.declared.job.PointJob.{PointJob}
 use Rattle.replica_parts.specs.declared.parts.Parts.{Parts}
 use Rattle.replica_parts.specs.Merges.{copy_at, copies_with, copies_without, running_names, copies_names, copied_names, CopyApart}

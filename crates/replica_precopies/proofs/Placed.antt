@@ -16,7 +16,7 @@ use Rattle.copy_state.specs.States.{meta_names, meta_in}
 use Rattle.copy_job.specs.Parts.{own_names, written_names, ArePlaceable}
 use Rattle.copy_job.specs.Placing.{Places}
 use Rattle.copy_job.specs.Jobs.{Job, IsJob, job_names, present_of, reads_under}
-use Rattle.replica_opening.specs.Known.{IsLasting, KnowsHeld}
+use Rattle.replica_parts.specs.Given.{IsLasting, KnowsHeld}
 use Rattle.replica_parts.specs.declared.parts.Parts.{Parts}
 use Rattle.replica_parts.specs.Held.{LearnsSome, LearnsAll}
 use Rattle.replica_parts.specs.Merges.{copy_at, copies_with, copies_without, running_names, copies_names, copied_names, CopyApart, IsSegmentState}

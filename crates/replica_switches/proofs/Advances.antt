@@ -23,7 +23,7 @@ use Rattle.copy_job.specs.Jobs.{Job, job_names, present_of, reads_under}
 use Rattle.copy_job.proofs.Placings.{joined}
 use Rattle.copy_job.proofs.Points.{reads_placed, all_placed}
 use Rattle.replica_switches.specs.declared.advancing.NewPoint.{NewPoint}
-use Rattle.replica_opening.specs.Readers.{AreReaders}
+use Rattle.replica_parts.specs.Given.{AreReaders}
 use Rattle.replica_parts.specs.Replica.{IsPointOf, KeepsReads}
 use Rattle.replica_switches.specs.Advancing.{IsJobReady, TakesInHand}
 use Rattle.replica_parts.proofs.Partly.{placed_moves, reads_partly}

@@ -9,7 +9,7 @@ use Rattle.file_deleter.proofs.NameLemmas.{times-append}
 use Rattle.node_files.specs.Node.{KeepsBytes}
 use Rattle.searcher_switch.specs.Searching.{searcher_names}
 use Rattle.copy_job.specs.Jobs.{Job, job_names}
-use Rattle.replica_opening.specs.Known.{IsLasting}
+use Rattle.replica_parts.specs.Given.{IsLasting}
 use Rattle.replica_parts.specs.declared.job.PointJob.{PointJob}
 use Rattle.replica_parts.specs.declared.parts.Parts.{Parts}
 use Rattle.replica_parts.specs.Merges.{running_names, copied_names, CopyApart}

@@ -22,7 +22,7 @@ use Rattle.copy_state.specs.declared.meta.FileMetaData.{FileMetaData}
 use Rattle.copy_state.specs.States.{meta_names, meta_in}
 use Rattle.copy_job.specs.Parts.{placed_to, own_names, present_names}
 use Rattle.copy_job.specs.Jobs.{Job, IsJob, job_names, present_of, reads_under}
-use Rattle.replica_opening.specs.Known.{KnowsHeld, IsLasting}
+use Rattle.replica_parts.specs.Given.{KnowsHeld, IsLasting}
 use Rattle.replica_parts.specs.declared.job.PointJob.{PointJob}
 use Rattle.replica_parts.specs.declared.parts.Parts.{Parts}
 use Rattle.replica_parts.specs.Held.{LearnsSome, LearnsAll}

@@ -42,7 +42,7 @@ use Rattle.replica_parts.proofs.Waiting.{can_place, waits_placed}
 use Rattle.replica_parts.specs.Replica.{names_of_job, IsPointOf, IsJobAbove}
 use Rattle.replica_switches.specs.Advancing.{IsJobReady, TakesInHand}
 use Rattle.replica_parts.proofs.Named.{file_counted}
-use Rattle.replica_opening.proofs.Openings.{plain_none}
+use Rattle.replica_parts.proofs.Given.{plain_none}
 
 -- the newer point is in hand
 module _ (a : Cells) (h0 : Holdings) (others : List Name) (j : Job) (infos : Infos) (book : CommitBook) (node : IsWholeNode a h0 (others ++ job_names j) book) (ready : IsJobReady a h0 j infos)

@@ -11,7 +11,7 @@ use Rattle.node_files.specs.Standing.{StandsForSome}
 use Rattle.copy_job.specs.Parts.{own_names, written_names}
 use Rattle.copy_job.specs.Jobs.{Job, job_names, reads_under}
 use Rattle.replica_switches.specs.declared.advancing.NewPoint.{NewPoint}
-use Rattle.replica_opening.specs.Readers.{AreReaders}
+use Rattle.replica_parts.specs.Given.{AreReaders}
 use Rattle.replica_parts.specs.Replica.{CanPlace}
 
 -- nothing is missing of the job's point, its parts can be given their own names, and its files, read under the names that they have now, are of some documents

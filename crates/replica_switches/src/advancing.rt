@@ -9,7 +9,7 @@ ghost use Rattle.copy_job.specs.Parts.{placed_to, written_names, ArePlaceable};
 ghost use Rattle.copy_job.specs.Placing.{IsPlacingFault};
 ghost use Rattle.copy_job.specs.Jobs.{job_names};
 ghost use Rattle.segment_infos.specs.Infos.{CanSpell};
-ghost use Rattle.replica_opening.specs.Reading.{IsReadCutOff};
+ghost use Rattle.replica_parts.specs.Given.{IsReadCutOff};
 ghost use Rattle.replica_parts.specs.Replica.{IsPointOf, KeepsReads};
 ghost use Rattle.replica_switches.specs.Advancing.{IsJobReady, TakesInHand};
 
@@ -18,7 +18,7 @@ use disk_model::Dir;
 use file_deleter::FileDeleter;
 use file_names::FileName;
 use nrt_base::{List, NoMemory, Share};
-use replica_opening::{ReadFault, readers_of};
+use replica_parts::{ReadFault, readers_of};
 use searcher_switch::Point;
 use seg_reader::Segment;
 use segment_infos::{Infos, files_of};

@@ -6,10 +6,10 @@ ghost use Rattle.searcher_switch.specs.Searching.{searcher_names};
 
 use crate::Searchers;
 use bytes::Bytes;
-use disk_memory::MemDir;
 use disk_model::Dir;
 use file_deleter::FileDeleter;
 use file_names::{FileName, commit_name};
+use node_files::MemDir;
 use nrt_base::{List, Version};
 use std::alloc::Global;
 use std::test::Fail;

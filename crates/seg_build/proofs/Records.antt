@@ -10,7 +10,7 @@ use Rattle.postings_plain.specs.declared.format.Format.{Format}
 use Rattle.postings_plain.specs.Postings.{Entry, format_for}
 use Rattle.postings_plain.specs.Body.{in_format, IsPostingsFile, IsRowCount}
 use Rattle.postings_plain.specs.Inverting.{AreEntriesOf}
-use Rattle.live_bits.specs.LiveRows.{live_rows, IsLiveFile}
+use Rattle.seg_reader.specs.Given.{live_rows, IsLiveFile}
 use Rattle.segment_infos.specs.declared.infos.SegRecord.{SegRecord}
 use Rattle.segment_infos.specs.SegmentInfo.{IsInfoFile}
 use Rattle.seg_reader.specs.declared.parts.SegParts.{SegParts}

@@ -4,11 +4,11 @@ use Rattle.file_names.specs.Names.{part_name_of, live_name_of}
 use Rattle.nrt_base.specs.declared.doc.Doc.{Doc}
 use Rattle.file_names.specs.declared.composed.SegPart.TheVariants.{Docs, Post, Info}
 use Rattle.nrt_base.specs.declared.numbers.SegNo.{SegNo}
-use Rattle.body_forms.specs.File.{HasSmallBody}
+use Rattle.segment_infos.specs.Given.{HasSmallBody}
 use Rattle.docs_plain.specs.Documents.{documents_wanted}
 use Rattle.postings_plain.specs.Postings.{Entry, format_for}
 use Rattle.postings_plain.specs.Body.{format_wanted}
-use Rattle.live_bits.specs.LiveRows.{live_rows}
+use Rattle.seg_reader.specs.Given.{live_rows}
 use Rattle.segment_infos.specs.declared.infos.SegRecord.{SegRecord}
 use Rattle.seg_reader.specs.declared.parts.SegParts.{SegParts}
 use Rattle.seg_reader.specs.Shown.{Shown}

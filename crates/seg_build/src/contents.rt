@@ -2,7 +2,7 @@
 
 ghost use Rattle.std.specs.Prelude.{◌≡◌, ◌↔◌, ◌<◌, length, map, IfOk, IsSome};
 ghost use Rattle.std.specs.List.{All};
-ghost use Rattle.body_forms.specs.File.{HasSmallBody};
+ghost use Rattle.segment_infos.specs.Given.{HasSmallBody};
 ghost use Rattle.docs_plain.specs.Documents.{documents_wanted, IsDocumentsFile};
 ghost use Rattle.postings_plain.specs.Body.{format_wanted};
 ghost use Rattle.postings_plain.specs.Inverting.{IsPostingsFileOf};
@@ -14,10 +14,9 @@ ghost use Rattle.seg_build.specs.Built.{IsRecordOf, IsReadAs, HaveSmallBodies};
 
 use crate::rows::{Prepared, documents, term_rows};
 use bytes::Bytes;
-use live_bits::LiveBits;
 use nrt_base::NoMemory;
 use postings_plain::{Format, encode_in};
-use seg_reader::{SegParts, segment_id};
+use seg_reader::{LiveBits, SegParts, segment_id};
 use segment_infos::{SegInfo, SegRecord, encode_info};
 use std::alloc::Global;
 
@@ -80,7 +79,7 @@ pub fn live_file(
     if segment.live_gen == 0 {
         return Ok(None);
     }
-    let file = live_bits::encode(alloc, id, segment.live_gen, live)?;
+    let file = seg_reader::encode(alloc, id, segment.live_gen, live)?;
     Ok(Some(file))
 }
 

@@ -5,9 +5,8 @@ ghost use Rattle.seg_build.specs.Built.{record_of, files_of};
 
 use bytes::Bytes;
 use file_names::{FileName, SegPart, live_name, part_name};
-use live_bits::LiveBits;
 use nrt_base::{List, NoMemory, SegNo};
-use seg_reader::SegParts;
+use seg_reader::{LiveBits, SegParts};
 use segment_infos::SegRecord;
 use std::alloc::Global;
 

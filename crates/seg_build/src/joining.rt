@@ -7,10 +7,9 @@ ghost use Rattle.seg_build.specs.Built.{IsRecordOf, IsReadAs, HaveSmallBodies, I
 
 use crate::contents::{info_file, live_file};
 use crate::files::{SegFiles, first_record, name_parts};
-use live_bits::LiveBits;
 use nrt_base::{Doc, List, NoMemory, SegNo};
 use postings_plain::{Format, Joined};
-use seg_reader::{SegParts, segment_id};
+use seg_reader::{LiveBits, SegParts, segment_id};
 use segment_infos::SegRecord;
 use std::alloc::{AllocError, Global};
 

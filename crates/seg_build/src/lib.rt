@@ -13,6 +13,7 @@ pub use files::{SegFiles, first_record};
 pub use joining::build_joined;
 pub use reading::read_back;
 pub use rows::Prepared;
+pub use seg_reader::Segment;
 
 #[cfg(test)]
 mod tests;

@@ -6,9 +6,9 @@ ghost use Rattle.seg_reader.specs.Sound.{term_row};
 ghost use Rattle.seg_build.specs.Rows.{IsPrepared, docs_of, live_of};
 
 use documents::words;
-use live_bits::LiveBits;
 use nrt_base::{Doc, List, NoMemory, Share, Word};
 use postings_plain::TermRow;
+use seg_reader::LiveBits;
 use std::alloc::{AllocError, Global};
 
 /// The most rows of a segment.

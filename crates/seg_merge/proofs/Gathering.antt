@@ -4,7 +4,7 @@ use Rattle.std.specs.List.{AllZip}
 use Rattle.std.proofs.lemmas.List.{append_assoc, length-append}
 use Rattle.nrt_base.specs.declared.doc.Doc.{Doc}
 use Rattle.nrt_base.specs.declared.numbers.SegNo.{SegNo}
-use Rattle.seg_reader.specs.Shown.{Shown}
+use Rattle.seg_build.specs.Given.{Shown}
 use Rattle.seg_build.specs.declared.files.SegFiles.{SegFiles}
 use Rattle.seg_build.specs.Built.{record_of, IsBuilt}
 use Rattle.seg_merge.specs.declared.task.RowFrom.{RowFrom}

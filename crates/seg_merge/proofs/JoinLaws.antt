@@ -7,8 +7,7 @@ use Rattle.live_bits.specs.LiveRows.{live_rows}
 use Rattle.postings_plain.specs.declared.row.TermRow.{TermRow}
 use Rattle.postings_plain.specs.Gathering.{FoundTerms, Gathers}
 use Rattle.postings_plain.specs.Joining.{numbers_from, live_terms, JoinsEntries}
-use Rattle.seg_reader.specs.Shown.{Shown}
-use Rattle.seg_reader.specs.Sound.{IsSound, term_row}
+use Rattle.seg_build.specs.Given.{Shown, IsSound, term_row}
 use Rattle.seg_merge.specs.Merging.{live_docs, all_live_docs, docs_by_input}
 use Rattle.seg_merge.proofs.Gathering.{inputs_step}
 

@@ -2,7 +2,7 @@
 use Rattle.std.specs.Prelude.{◌≡◌, ℕ, ◌+◌, List, [], ◌∷◌, ◌++◌, length, map, slice_index_or, replicate, Bool, true, false, if◌then◌else◌}
 use Rattle.std.specs.List.{filter, zip}
 use Rattle.nrt_base.specs.declared.doc.Doc.{Doc}
-use Rattle.seg_reader.specs.Shown.{Shown}
+use Rattle.seg_build.specs.Given.{Shown}
 use Rattle.seg_build.specs.Built.{IsNewSegment}
 use Rattle.seg_merge.specs.declared.task.MergeTask.{MergeTask}
 use Rattle.seg_merge.specs.declared.task.RowFrom.{RowFrom}

@@ -5,13 +5,13 @@ ghost use Rattle.std.specs.List.{All, AllZip};
 ghost use Rattle.postings_plain.specs.Gathering.{Gathers};
 ghost use Rattle.postings_plain.specs.Joining.{numbers_from};
 ghost use Rattle.live_bits.specs.LiveRows.{live_rows};
-ghost use Rattle.seg_reader.specs.Sound.{IsSound, term_row};
+ghost use Rattle.seg_build.specs.Given.{IsSound, term_row};
 ghost use Rattle.seg_merge.specs.Merging.{docs_by_input, all_live_docs, HasAsManyRows};
 
 use live_bits::LiveBits;
 use nrt_base::NoMemory;
 use postings_plain::Joined;
-use seg_reader::Segment;
+use seg_build::Segment;
 use std::alloc::{AllocError, Global};
 
 // The number of a row where it is live, which is the next one, and none of another.

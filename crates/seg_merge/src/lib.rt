@@ -8,6 +8,7 @@ mod task;
 
 pub use carrying::carry;
 pub use merging::merge;
+pub use seg_build::{Prepared, SegFiles, build, first_record, read_back};
 pub use task::{MergeTask, Merged, RowFrom};
 
 #[cfg(test)]

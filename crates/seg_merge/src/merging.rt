@@ -3,15 +3,14 @@
 ghost use Rattle.std.specs.Prelude.{◌≡◌, ◌++◌, ◌∷◌, [], ◌<◌, length, slice_index_or, IfOk, OnOk};
 ghost use Rattle.std.specs.List.{All, AllZip};
 ghost use Rattle.nrt_base.specs.declared.doc.Doc.{Doc};
-ghost use Rattle.seg_reader.specs.Sound.{IsSound};
+ghost use Rattle.seg_build.specs.Given.{IsSound};
 ghost use Rattle.seg_merge.specs.Merging.{docs_by_input, all_live_docs, live_docs, row_from, origins_in, HasAsManyRows, IsGathered, IsMergedOf};
 
 use crate::joining::join;
 use crate::task::{MergeTask, Merged, RowFrom};
 use live_bits::LiveBits;
 use nrt_base::{Doc, Key, List, NoMemory, Text};
-use seg_build::build_joined;
-use seg_reader::Segment;
+use seg_build::{Segment, build_joined};
 use std::alloc::{AllocError, Global};
 
 /// The most inputs of a merge.

@@ -2,8 +2,7 @@
 
 use live_bits::LiveBits;
 use nrt_base::{List, SegNo};
-use seg_build::SegFiles;
-use seg_reader::Segment;
+use seg_build::{SegFiles, Segment};
 
 /// What a merge is to make a segment of.
 #[derive(Debug, Drop)]

@@ -1,13 +1,12 @@
 ghost use Rattle.std.specs.Prelude.{◌≡◌, ◌∷◌, [], length, true, false, IfOk, IsTrue};
 ghost use Rattle.nrt_base.specs.Bytes.{is_key, is_text};
-ghost use Rattle.seg_reader.specs.Sound.{IsSound};
+ghost use Rattle.seg_build.specs.Given.{IsSound};
 ghost use Rattle.seg_merge.specs.Merging.{origins};
 
 use super::*;
 use live_bits::LiveBits;
 use nrt_base::{Doc, Key, List, NoMemory, SegNo, Text};
-use seg_build::{Prepared, build, read_back};
-use seg_reader::Segment;
+use seg_build::{Prepared, Segment, build, read_back};
 use std::alloc::Global;
 use std::test::Fail;
 

@@ -7,10 +7,8 @@ use Rattle.codec_frame.specs.Frame.{Wanted}
 use Rattle.codec_frame.specs.declared.frame.FileFault.{FileFault}
 use Rattle.codec_frame.specs.declared.frame.FileFault.TheVariants.{Frame, Body}
 use Rattle.codec_frame.proofs.CheckLaws.{not_framed}
-use Rattle.body_forms.specs.declared.read_fault.ReadFault.{ReadFault}
-use Rattle.body_forms.specs.declared.read_fault.ReadFault.TheVariants.{File as FileOf, Memory as NoMemory}
-use Rattle.body_forms.specs.File.{IsFile, IsFileRead, IsFileAnswer}
-use Rattle.body_forms.proofs.FileLaws.{one_value_of}
+use Rattle.segment_infos.specs.Given.{ReadFault, File as FileOf, Memory as NoMemory, IsFile, IsFileRead, IsFileAnswer}
+use Rattle.segment_infos.proofs.Given.{one_value_of}
 use Rattle.nrt_base.proofs.Plain.{ok_never_err, same_ok, same_err}
 use Rattle.docs_plain.specs.Documents.{SpellsDocuments, documents_wanted, IsDocumentsFile}
 use Rattle.postings_plain.specs.Body.{postings_wanted, FormattedEntries, IsPostingsFile, IsPostingsRead}

@@ -4,7 +4,7 @@ use Rattle.std.specs.List.{AllZip}
 use Rattle.nrt_base.specs.declared.doc.Doc.{Doc}
 use Rattle.disk_model.specs.Disk.{Name, Content}
 use Rattle.nrt_base.proofs.Plain.{cons_from}
-use Rattle.body_forms.proofs.FileLaws.{one_value_of}
+use Rattle.segment_infos.proofs.Given.{one_value_of}
 use Rattle.docs_plain.proofs.FileLaws.{documents_kind}
 use Rattle.postings_plain.specs.Postings.{Entry}
 use Rattle.postings_plain.specs.Body.{FormattedEntries, in_format}

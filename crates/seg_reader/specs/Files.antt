@@ -1,7 +1,7 @@
 -- The files of a segment: its id, and what they say where each is in its grammar.
 use Rattle.std.specs.Prelude.{◌≡◌, ℕ, List, ◌++◌, length, replicate, Bool, true, Option, Some, None}
 use Rattle.nrt_base.specs.SegNumbers.{segment_generation, segment_place}
-use Rattle.body_forms.specs.Numbers.{u64_bytes}
+use Rattle.segment_infos.specs.Given.{u64_bytes}
 use Rattle.docs_plain.specs.Documents.{IsDocumentsFile}
 use Rattle.postings_plain.specs.declared.format.Format.{Format}
 use Rattle.postings_plain.specs.Postings.{format_number}

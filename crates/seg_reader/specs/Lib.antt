@@ -4,3 +4,4 @@ pub mod Faults
 pub mod Reading
 pub mod Sound
 pub mod Stands
+pub mod Given

@@ -1,9 +1,8 @@
 -- What it is for a directory to stand for documents.
 use Rattle.std.specs.Prelude.{◌≡◌, ◌≢◌, ℕ, ◌<◌, List, Option, Some, None}
 use Rattle.std.specs.List.{All, AllZip, AllPairs}
-use Rattle.file_names.specs.Names.{part_name_of, live_name_of}
+use Rattle.disk_model.specs.Given.{part_name_of, live_name_of, Docs, Post, Info}
 use Rattle.nrt_base.specs.declared.doc.Doc.{Doc}
-use Rattle.file_names.specs.declared.composed.SegPart.TheVariants.{Docs, Post, Info}
 use Rattle.disk_model.specs.Disk.{Name, Content}
 use Rattle.live_bits.specs.LiveRows.{live_rows}
 use Rattle.segment_infos.specs.declared.infos.SegRecord.{SegRecord}

@@ -10,6 +10,7 @@ mod reading;
 mod segment;
 
 pub use id::segment_id;
+pub use live_bits::{LiveBits, encode};
 pub use parts::{SegFault, SegFile, SegParts};
 pub use segment::Segment;
 

@@ -6,13 +6,12 @@ ghost use Rattle.seg_reader.specs.Reading.{IsLiveRead, IsRead};
 
 use crate::id::segment_id;
 use crate::parts::{SegFault, SegFile, SegParts};
-use body_forms::ReadFault;
 use bytes::Bytes;
 use codec_frame::FileFault;
 use docs_plain::{DocsFile, read_docs};
 use live_bits::{LiveBits, read_live};
 use postings_plain::{PostFile, read_postings};
-use segment_infos::{SegInfo, SegRecord, read_info};
+use segment_infos::{ReadFault, SegInfo, SegRecord, read_info};
 use std::alloc::Global;
 
 /// What the files of a segment say.

@@ -2,9 +2,8 @@
 use Rattle.std.proofs.Common.{◌≡◌, ℕ, ◌≤◌, ◌↔◌, Bool, false, List, ◌++◌, length, Some, None, refl, sym, ap, subst, ◌∙◌, arith}
 use Rattle.std.specs.Prelude.{◌≢◌, IsTrue}
 use Rattle.std.specs.List.{flat_map, AllPairs}
-use Rattle.nrt_base.specs.declared.numbers.Gen.{Gen}
-use Rattle.nrt_base.specs.declared.numbers.Version.{Version}
-use Rattle.nrt_base.proofs.Plain.{false_never}
+use Rattle.file_names.specs.Given.{Gen, Version}
+use Rattle.file_names.proofs.Given.{false_never}
 use Rattle.codec_frame.specs.Bytes.{AreBytes}
 use Rattle.body_forms.specs.Format.{Read}
 use Rattle.body_forms.specs.Numbers.{u32_bytes, u64_bytes}

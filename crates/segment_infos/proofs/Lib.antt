@@ -10,3 +10,4 @@ pub mod SortedLists
 pub mod SetLaws
 pub mod CommitLaws
 pub mod TestLaws
+pub mod Given

@@ -3,3 +3,4 @@ pub mod Infos
 pub mod Files
 pub mod Commits
 pub mod Reading
+pub mod Given

@@ -9,7 +9,7 @@ use crate::infos::{Infos, SegRecord};
 use body_forms::{push_string, push_u32, push_u64};
 use bytes::Bytes;
 use codec_frame::{write_footer, write_index_header};
-use nrt_base::{Gen, NoMemory, Version};
+use file_names::{Gen, NoMemory, Version};
 use std::alloc::Global;
 
 /// The name of the format in the header.

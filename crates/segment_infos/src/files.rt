@@ -5,8 +5,7 @@ ghost use Rattle.std.specs.List.{flat_map};
 ghost use Rattle.segment_infos.specs.Files.{files_of_segment, AreFilesOf};
 
 use crate::infos::{Infos, SegRecord};
-use file_names::{FileName, SegPart, live_name, part_name};
-use nrt_base::NoMemory;
+use file_names::{FileName, NoMemory, SegPart, live_name, part_name};
 use std::alloc::Global;
 
 // Puts the names of a segment's files at the end.

@@ -9,7 +9,7 @@ ghost use Rattle.segment_infos.specs.Reading.{info_in};
 use body_forms::{push_u32, push_u64, u32_of, u64_of};
 use bytes::Bytes;
 use codec_frame::{FileFault, FrameFault, Framed, Want, check, write_footer, write_index_header};
-use nrt_base::{NoMemory, SegNo};
+use file_names::{NoMemory, SegNo};
 use std::alloc::Global;
 
 /// The name of the format in the header.

@@ -1,6 +1,6 @@
 //! Infos: what the segments of a point are.
 
-use nrt_base::{Gen, List, NoMemory, SegNo, Share, Version};
+use file_names::{Gen, List, NoMemory, SegNo, Share, Version};
 use std::alloc::Global;
 
 /// A segment of a point.

@@ -9,8 +9,10 @@ mod infos;
 pub mod laws;
 mod reading;
 
+pub use body_forms::ReadFault;
 pub use commits::{last_commit, next_commit};
 pub use encoding::encode;
+pub use file_names::FileName;
 pub use files::files_of;
 pub use info::{SegInfo, encode_info, read_info};
 pub use infos::{Infos, SegRecord};

@@ -12,7 +12,7 @@ use crate::encoding::{NAME, VERSION, id_of, push_user_data};
 use crate::infos::{Infos, SegRecord};
 use body_forms::{ReadFault, u32_of, u64_of};
 use codec_frame::{FileFault, FrameFault, Framed, Want, check};
-use nrt_base::{Gen, List, NoMemory, SegNo, Version};
+use file_names::{Gen, List, NoMemory, SegNo, Version};
 use std::alloc::Global;
 
 /// The most segments that infos may have.

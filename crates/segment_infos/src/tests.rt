@@ -5,8 +5,9 @@ use super::*;
 use crate::encoding::id_of;
 use body_forms::ReadFault;
 use codec_frame::{FileFault, write_footer, write_index_header};
-use file_names::{SegPart, commit_name, part_name, pending_name};
-use nrt_base::{Gen, List, NoMemory, SegNo, Share, Version};
+use file_names::{
+    Gen, List, NoMemory, SegNo, SegPart, Share, Version, commit_name, part_name, pending_name,
+};
 use std::alloc::Global;
 use std::test::Fail;
 

@@ -12,7 +12,7 @@ use Rattle.live_bits.specs.LiveRows.{live_rows}
 use Rattle.segment_infos.specs.declared.infos.SegRecord.{SegRecord}
 use Rattle.segment_infos.specs.Files.{files_of_segment}
 use Rattle.seg_reader.specs.Shown.{Shown}
-use Rattle.seg_build.specs.Built.{record_of}
+use Rattle.seg_merge.specs.Given.{record_of}
 use Rattle.seg_merge.specs.declared.task.MergeTask.{MergeTask}
 use Rattle.seg_merge.specs.declared.task.Merged.{Merged}
 use Rattle.seg_merge.specs.Merging.{carried, is_live_at, IsMergedOf, all_live_docs, docs_by_input}

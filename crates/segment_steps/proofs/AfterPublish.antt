@@ -14,8 +14,7 @@ use Rattle.segment_infos.specs.Infos.{IsRecord}
 use Rattle.seg_reader.specs.Shown.{Shown}
 use Rattle.seg_reader.specs.Files.{AreLiveRowsOf}
 use Rattle.seg_reader.specs.Stands.{IsSegmentIn}
-use Rattle.seg_build.specs.declared.files.SegFiles.{SegFiles}
-use Rattle.seg_build.specs.Built.{record_of}
+use Rattle.seg_merge.specs.Given.{SegFiles, record_of}
 use Rattle.segment_steps.specs.declared.flushing.FlushTask.{FlushTask}
 use Rattle.segment_steps.specs.declared.flushing.FlushWork.{FlushWork}
 use Rattle.segment_steps.specs.declared.next.NextSegments.{NextSegments}

@@ -12,7 +12,7 @@ use Rattle.documents.specs.declared.operation.Op.{Op}
 use Rattle.documents.specs.declared.operation.Op.TheVariants.{Put, Delete, Drop}
 use Rattle.documents.specs.Documents.{key_cmp, removes}
 use Rattle.documents.specs.Words.{words_of, has_word}
-use Rattle.seg_build.specs.Rows.{live_of}
+use Rattle.seg_merge.specs.Given.{live_of}
 use Rattle.segment_steps.specs.Cut.{removed_by, with_put, puts_of, puts_live}
 use Rattle.segment_steps.specs.declared.cut.Gone.{Gone}
 use Rattle.segment_steps.specs.declared.cut.Marks.{Marks}

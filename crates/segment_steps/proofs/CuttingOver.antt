@@ -20,7 +20,7 @@ use Rattle.segment_infos.specs.Files.{files_of_segment}
 use Rattle.seg_reader.specs.Shown.{Shown, live_documents, live_documents_of}
 use Rattle.seg_reader.specs.Sound.{IsSound}
 use Rattle.seg_reader.specs.Stands.{IsSegmentIn, AreSegmentsOf, StandsWith}
-use Rattle.seg_build.specs.Built.{File, record_of}
+use Rattle.seg_merge.specs.Given.{File, record_of}
 use Rattle.seg_merge.specs.declared.task.MergeTask.{MergeTask}
 use Rattle.seg_merge.specs.declared.task.Merged.{Merged}
 use Rattle.seg_merge.specs.declared.task.RowFrom.{RowFrom}

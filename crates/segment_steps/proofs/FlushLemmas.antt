@@ -17,9 +17,7 @@ use Rattle.documents.specs.Documents.{is_put}
 use Rattle.live_bits.specs.LiveRows.{live_rows}
 use Rattle.seg_reader.specs.Shown.{Shown}
 use Rattle.seg_reader.specs.Sound.{IsSound}
-use Rattle.seg_build.specs.declared.files.SegFiles.{SegFiles}
-use Rattle.seg_build.specs.Rows.{live_of}
-use Rattle.seg_build.specs.Built.{record_of, IsBuilt}
+use Rattle.seg_merge.specs.Given.{SegFiles, live_of, record_of, IsBuilt}
 use Rattle.segment_steps.specs.Cut.{puts_of, puts_live, has_key_of, has_word_of}
 use Rattle.segment_steps.specs.Marks.{is_gone}
 use Rattle.segment_steps.specs.declared.cut.Gone.{Gone}

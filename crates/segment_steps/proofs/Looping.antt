@@ -7,7 +7,7 @@ use Rattle.std.proofs.lemmas.Slice.Zip.{length-zip, get_or-zip}
 use Rattle.nrt_base.specs.declared.numbers.SegNo.{SegNo}
 use Rattle.segment_infos.specs.declared.infos.SegRecord.{SegRecord}
 use Rattle.seg_reader.specs.Shown.{Shown}
-use Rattle.seg_build.specs.Built.{File}
+use Rattle.seg_merge.specs.Given.{File}
 use Rattle.segment_steps.specs.declared.next.NextSegments.{NextSegments}
 use Rattle.segment_steps.specs.Next.{Turn, turns, record_after, shown_after, staying, is_changed, IsLiveFileAfter, TakesSegment, AreTakenTo}
 use Rattle.segment_steps.proofs.PublishLaws.{AllZip-append}

@@ -7,8 +7,7 @@ use Rattle.nrt_base.specs.declared.numbers.SegNo.{SegNo}
 use Rattle.documents.specs.declared.operation.Op.{Op}
 use Rattle.segment_infos.specs.declared.infos.SegRecord.{SegRecord}
 use Rattle.seg_reader.specs.Shown.{Shown}
-use Rattle.seg_build.specs.declared.files.SegFiles.{SegFiles}
-use Rattle.seg_build.specs.Built.{File, record_of}
+use Rattle.seg_merge.specs.Given.{SegFiles, File, record_of}
 use Rattle.segment_steps.specs.declared.flushing.FlushWork.{FlushWork}
 use Rattle.segment_steps.specs.declared.next.NextSegments.{NextSegments}
 use Rattle.segment_steps.specs.declared.publishing.Fresh.{Fresh}

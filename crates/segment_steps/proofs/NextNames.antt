@@ -12,9 +12,8 @@ use Rattle.disk_model.specs.Disk.{Name}
 use Rattle.segment_infos.specs.declared.infos.SegRecord.{SegRecord}
 use Rattle.segment_infos.specs.Files.{files_of_segment, live_files}
 use Rattle.seg_reader.specs.Shown.{Shown}
-use Rattle.seg_build.specs.declared.files.SegFiles.{SegFiles}
-use Rattle.seg_build.specs.Built.{File, record_of}
-use Rattle.seg_build.proofs.NameOrder.{names_are}
+use Rattle.seg_merge.specs.Given.{SegFiles, File, record_of}
+use Rattle.seg_merge.proofs.Given.{names_are}
 use Rattle.segment_steps.specs.declared.flushing.FlushWork.{FlushWork}
 use Rattle.segment_steps.specs.declared.next.NextSegments.{NextSegments}
 use Rattle.segment_steps.specs.Next.{Turn, turns, next_live_gen, record_by, record_after, stays, staying, is_changed, IsLiveFileAfter, new_records, new_files, IsBuiltWork, IsNextOf}

@@ -21,9 +21,8 @@ use Rattle.disk_model.specs.Disk.{Name}
 use Rattle.live_bits.specs.LiveRows.{live_rows}
 use Rattle.segment_infos.specs.declared.infos.SegRecord.{SegRecord}
 use Rattle.seg_reader.specs.Shown.{Shown}
-use Rattle.seg_build.specs.declared.files.SegFiles.{SegFiles}
-use Rattle.seg_build.specs.Built.{File, record_of, live_file_of, IsBuilt}
-use Rattle.seg_build.proofs.NameOrder.{names_ascend, names_are}
+use Rattle.seg_merge.specs.Given.{SegFiles, File, record_of, live_file_of, IsBuilt}
+use Rattle.seg_merge.proofs.Given.{names_ascend, names_are}
 use Rattle.segment_steps.specs.declared.flushing.FlushWork.{FlushWork}
 use Rattle.segment_steps.specs.declared.next.NextSegments.{NextSegments}
 use Rattle.segment_steps.specs.Next.{Turn, turns, next_live_gen, record_after, stays, staying, is_changed, IsLiveFileAfter, new_records, new_files, IsBuiltWork, IsNextOf}

@@ -6,7 +6,7 @@ use Rattle.std.proofs.lemmas.Slice.Zip.{length-zip, get_or-zip}
 use Rattle.nrt_base.specs.declared.numbers.SegNo.{SegNo}
 use Rattle.segment_infos.specs.declared.infos.SegRecord.{SegRecord}
 use Rattle.seg_reader.specs.Shown.{Shown}
-use Rattle.seg_build.specs.Built.{File, record_of}
+use Rattle.seg_merge.specs.Given.{File, record_of}
 use Rattle.seg_merge.specs.declared.task.Merged.{Merged}
 use Rattle.seg_merge.specs.Merging.{carried, IsWithin, AreAsLong}
 use Rattle.segment_steps.specs.declared.next.NextSegments.{NextSegments}

@@ -21,8 +21,7 @@ use Rattle.seg_reader.specs.Shown.{Shown, shown_with, live_documents, live_docum
 use Rattle.seg_reader.specs.Files.{record_id, AreLiveRowsOf, IsSegmentOf}
 use Rattle.seg_reader.specs.Sound.{IsSound}
 use Rattle.seg_reader.specs.Stands.{IsLiveFileIn, IsSegmentIn, AreSegmentsOf, StandsWith}
-use Rattle.seg_build.specs.declared.files.SegFiles.{SegFiles}
-use Rattle.seg_build.specs.Built.{File, record_of, live_file_of, files_of, IsBuilt}
+use Rattle.seg_merge.specs.Given.{SegFiles, File, record_of, live_file_of, files_of, IsBuilt}
 use Rattle.segment_steps.specs.declared.flushing.FlushTask.{FlushTask}
 use Rattle.segment_steps.specs.declared.flushing.FlushWork.{FlushWork}
 use Rattle.segment_steps.specs.declared.next.NextSegments.{NextSegments}

@@ -10,7 +10,7 @@ use Rattle.live_bits.specs.LiveRows.{IsLiveFile}
 use Rattle.segment_infos.specs.declared.infos.SegRecord.{SegRecord}
 use Rattle.seg_reader.specs.Shown.{Shown}
 use Rattle.seg_reader.specs.Files.{record_id}
-use Rattle.seg_build.specs.Built.{File}
+use Rattle.seg_merge.specs.Given.{File}
 use Rattle.segment_steps.specs.declared.next.NextSegments.{NextSegments}
 use Rattle.segment_steps.specs.Segments.{changed}
 use Rattle.segment_steps.specs.Next.{record_by, stays, AddsLiveFile, TakesSegment}

@@ -6,7 +6,7 @@ use Rattle.nrt_base.specs.declared.numbers.SegNo.{SegNo}
 use Rattle.live_bits.specs.LiveRows.{live_rows}
 use Rattle.segment_infos.specs.declared.infos.SegRecord.{SegRecord}
 use Rattle.seg_reader.specs.Shown.{Shown}
-use Rattle.seg_build.specs.Built.{File, record_of}
+use Rattle.seg_merge.specs.Given.{File, record_of}
 use Rattle.seg_merge.specs.declared.task.Merged.{Merged}
 use Rattle.seg_merge.specs.Merging.{carried, IsWithin}
 use Rattle.segment_steps.specs.declared.next.NextSegments.{NextSegments}

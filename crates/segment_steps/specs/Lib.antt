@@ -5,3 +5,4 @@ pub mod CutOver
 pub mod Marks
 pub mod Killing
 pub mod Starting
+pub mod Given

@@ -13,8 +13,7 @@ use Rattle.segment_infos.specs.declared.infos.SegRecord.{SegRecord}
 use Rattle.seg_reader.specs.Shown.{Shown}
 use Rattle.seg_reader.specs.Files.{record_id, IsSegmentOf}
 use Rattle.seg_reader.specs.Sound.{IsSound}
-use Rattle.seg_build.specs.declared.files.SegFiles.{SegFiles}
-use Rattle.seg_build.specs.Built.{File, record_of, IsNewSegment}
+use Rattle.seg_merge.specs.Given.{SegFiles, File, record_of, IsNewSegment}
 use Rattle.segment_steps.specs.declared.flushing.FlushTask.{FlushTask}
 use Rattle.segment_steps.specs.declared.flushing.FlushWork.{FlushWork}
 use Rattle.segment_steps.specs.declared.next.NextSegments.{NextSegments}

@@ -5,13 +5,13 @@ ghost use Rattle.std.specs.List.{All, list_any};
 ghost use Rattle.std.specs.BTreeSet.{contains};
 ghost use Rattle.documents.specs.Documents.{key_cmp};
 ghost use Rattle.documents.specs.Words.{words_of};
-ghost use Rattle.seg_build.specs.Rows.{IsPrepared, docs_of};
+ghost use Rattle.seg_merge.specs.Given.{IsPrepared, docs_of};
 ghost use Rattle.segment_steps.specs.Cut.{with_put, puts_of};
 ghost use Rattle.segment_steps.specs.Marks.{is_gone, IsMarkedBefore, AreMarksOf};
 
 use documents::{Op, words};
 use nrt_base::{Doc, Key, NoMemory, Share, Text, Word};
-use seg_build::Prepared;
+use seg_merge::Prepared;
 use std::alloc::Global;
 use std::collections::BTreeSet;
 

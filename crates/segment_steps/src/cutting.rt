@@ -2,7 +2,7 @@
 
 ghost use Rattle.std.specs.Prelude.{◌≡◌, ◌<◌, ◌^◌, length, replicate, true, Some, IfOk, OnOk};
 ghost use Rattle.std.specs.List.{AllZip, zip};
-ghost use Rattle.seg_build.specs.Built.{record_of};
+ghost use Rattle.seg_merge.specs.Given.{record_of};
 ghost use Rattle.seg_reader.specs.Shown.{Shown};
 ghost use Rattle.seg_merge.specs.Merging.{origins, IsWithin};
 ghost use Rattle.segment_steps.specs.Segments.{HasItsRows};
@@ -12,8 +12,7 @@ ghost use Rattle.segment_steps.specs.CutOver.{change_by, inputs_in, lives_of, Ke
 use crate::next::{NextSegments, is_held, take_over};
 use live_bits::LiveBits;
 use nrt_base::{Gen, List, NoMemory, SegNo, Share};
-use seg_build::{first_record, read_back};
-use seg_merge::{Merged, carry};
+use seg_merge::{Merged, carry, first_record, read_back};
 use seg_reader::Segment;
 use segment_infos::SegRecord;
 use std::alloc::Global;

@@ -4,7 +4,7 @@ ghost use Rattle.std.specs.Prelude.{◌≡◌, ◌↔◌, map, not, IfOk, IsSome
 ghost use Rattle.std.specs.List.{All, list_any};
 ghost use Rattle.documents.specs.Documents.{is_put};
 ghost use Rattle.seg_reader.specs.Sound.{IsSound};
-ghost use Rattle.seg_build.specs.Rows.{live_of};
+ghost use Rattle.seg_merge.specs.Given.{live_of};
 ghost use Rattle.segment_steps.specs.Cut.{puts_live};
 ghost use Rattle.segment_steps.specs.Marks.{is_gone};
 ghost use Rattle.segment_steps.specs.Segments.{live_change};
@@ -15,7 +15,7 @@ use crate::killing::change_of;
 use documents::Op;
 use live_bits::LiveBits;
 use nrt_base::{List, NoMemory, SegNo};
-use seg_build::{SegFiles, build};
+use seg_merge::{SegFiles, build};
 use seg_reader::Segment;
 use std::alloc::Global;
 

@@ -11,7 +11,7 @@ use bytes::Bytes;
 use file_names::FileName;
 use live_bits::LiveBits;
 use nrt_base::{Gen, List, NoMemory, SegNo};
-use seg_build::{SegFiles, first_record, read_back};
+use seg_merge::{SegFiles, first_record, read_back};
 use seg_reader::Segment;
 use segment_infos::SegRecord;
 use std::alloc::Global;

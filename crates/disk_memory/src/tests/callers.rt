@@ -5,8 +5,7 @@ ghost use Rattle.disk_model.specs.Disk.{Image, same, may_leave, is_among, IsImag
 ghost use Rattle.nrt_base.specs.Causes.{Rose};
 
 use bytes::Bytes;
-use disk_model::{Dir, DirFault};
-use file_names::FileName;
+use disk_model::{Dir, DirFault, FileName};
 
 /// Writes a file under another name first, so that its own name never shows a part of it.
 pub fn save_whole<D: Dir>(

@@ -2,8 +2,7 @@
 
 use super::{bytes, named};
 use crate::MemDir;
-use disk_model::{Dir, DirFault, FaultDir};
-use file_names::FileName;
+use disk_model::{Dir, DirFault, FaultDir, FileName};
 use std::alloc::Global;
 use std::test::Fail;
 

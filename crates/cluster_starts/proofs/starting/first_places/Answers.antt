@@ -3,7 +3,7 @@ use Rattle.std.proofs.IntoIterSteps.{All-taken}
 use Rattle.history_entries.specs.Nodes.{IsNode}
 use Rattle.std.specs.Prelude.{IsSomeAnd}
 use Rattle.cluster_state.specs.Starting.{IsEmptyDir, OpensPlace}
-use Rattle.cluster_places.specs.Places.{place_of}
+use Rattle.cluster_state.specs.Given.{place_of}
 use Rattle.cluster_starts.proofs.FirstPlaces.{given_has, more_count, more_each}
 use Rattle.cluster_starts.proofs.starting.first_places.Goals as goal
 

@@ -1,7 +1,7 @@
 use Rattle.std.proofs.Common.{◌≡◌, ℕ, length}
 use Rattle.std.specs.Prelude.{IsSomeAnd}
 use Rattle.history_entries.specs.Nodes.{IsNode}
-use Rattle.cluster_places.specs.Places.{place_of}
+use Rattle.cluster_state.specs.Given.{place_of}
 use Rattle.cluster_state.specs.Starting.{OpensPlace}
 use Rattle.cluster_starts.proofs.starting.first_places.Given as goal
 

@@ -1,7 +1,7 @@
 use Rattle.std.proofs.Common.{sym, subst}
 use Rattle.disk_model.specs.Disk.{reads_of}
 use Rattle.segment_infos.specs.Files.{AreFilesOf}
-use Rattle.body_forms.proofs.FileLaws.{err_of}
+use Rattle.segment_infos.proofs.Given.{err_of}
 use Rattle.commit_steps.specs.Recovery.{IsRecoverAnswer}
 use Rattle.commit_steps.proofs.Recovered.{nothing_found, not_loaded, all_found, one_gone}
 use Rattle.commit_steps.proofs.recovery.answer.Goals as goal

@@ -4,7 +4,7 @@ use Rattle.cluster_places.specs.declared.tasks.CopyTask.{CopyTask}
 use Rattle.line_turns.specs.declared.turn.Turn.{Turn}
 use Rattle.line_turns.specs.declared.turn.Turn.TheVariants.{Work, Done, Busy}
 use Rattle.line_turns.specs.CopyCalls.{SettleGoesOn}
-use Rattle.cluster_core.specs.Doing.{IsRepliedAtDone}
+use Rattle.lane_sections.specs.Given.{IsRepliedAtDone}
 use Rattle.lane_copying.proofs.JobCalls.{settle_copied, begins_shows, waits_shows, closed_settle}
 use Rattle.lane_copying.proofs.calls.next_job.Goals as goal
 

@@ -1,6 +1,6 @@
 use Rattle.line_copies.proofs.CopyRows.{settle_source}
 use Rattle.std.proofs.Common.{ap}
-use Rattle.cluster_state.specs.FileChanges.{is_commit_line}
+use Rattle.line_turns.specs.Given.{is_commit_line}
 use Rattle.line_copies.proofs.settles.settle_next.Goals as goal
 
 pub has_no_commit-requires : goal.has_no_commit-requires

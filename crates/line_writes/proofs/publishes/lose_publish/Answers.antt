@@ -1,6 +1,6 @@
 use Rattle.line_turns.proofs.Rows.{lost_flight, legal_at, turns_at}
 use Rattle.std.proofs.Common.{ap}
-use Rattle.cluster_state.specs.FileChanges.{is_commit_line}
+use Rattle.line_turns.specs.Given.{is_commit_line}
 use Rattle.line_writes.proofs.publishes.lose_publish.Goals as goal
 
 pub has_no_commit-requires : goal.has_no_commit-requires

@@ -1,4 +1,4 @@
-use Rattle.cluster_places.proofs.Taking.{moved_one}
+use Rattle.node_jobs.proofs.Given.{moved_one}
 use Rattle.node_promotions.proofs.promoting.promote_in.Goals as goal
 
 pub take_replica-replica-requires-clause-slot : goal.take_replica-replica-requires-clause-slot

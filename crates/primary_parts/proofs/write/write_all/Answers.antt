@@ -4,7 +4,7 @@ use Rattle.disk_model.specs.Disk.{Name, is_among}
 use Rattle.file_deleter.specs.Holdings.{count_of, times}
 use Rattle.file_deleter.specs.Moves.{KeepsFiles, LetsGo}
 use Rattle.primary_parts.specs.Written.{names_of, ReadsSo}
-use Rattle.seg_build.specs.Built.{File}
+use Rattle.segment_steps.specs.Given.{File}
 use Rattle.primary_parts.proofs.Writing.{free_at, counts_more, keeps_more, reads_more, keeps_back}
 use Rattle.primary_parts.proofs.write.write_all.Goals as goal
 

@@ -1,7 +1,7 @@
 use Rattle.std.proofs.Common.{Option, refl, subst}
 use Rattle.std.specs.Prelude.{MatchOption}
 use Rattle.merge_choice.specs.Choice.{HasNoRange}
-use Rattle.segment_steps.specs.declared.starting.MergeStart.{MergeStart}
+use Rattle.primary_parts.specs.Given.{MergeStart}
 use Rattle.primary_starts.specs.StartCalls.{merge_sizes, IsChosen}
 use Rattle.primary_starts.proofs.starting.merge_start.Goals as goal
 

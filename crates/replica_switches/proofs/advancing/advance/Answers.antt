@@ -7,7 +7,7 @@ use Rattle.segment_infos.specs.declared.infos.SegRecord.{SegRecord}
 use Rattle.segment_infos.specs.Files.{AreFilesOf}
 use Rattle.seg_reader.specs.Shown.{Shown}
 use Rattle.copy_job.specs.Jobs.{Job, job_names}
-use Rattle.replica_opening.specs.Readers.{AreReaders}
+use Rattle.replica_parts.specs.Given.{AreReaders}
 use Rattle.replica_switches.specs.Advancing.{TakesInHand}
 use Rattle.replica_switches.proofs.Advances.{stands_now, old_readers, files_there, advanced, still_reads, still_moves}
 use Rattle.replica_switches.proofs.advancing.advance.Goals as goal

@@ -4,7 +4,7 @@ use Rattle.std.proofs.Math.ListN.{drop_of_length-le}
 use Rattle.std.proofs.lemmas.List.Elements.{All-get_or}
 use Rattle.postings_plain.specs.Postings.{Hit, Entry, row_of, hits_of}
 use Rattle.postings_plain.specs.Joining.{JoinsEntries}
-use Rattle.seg_reader.specs.Sound.{IsSound}
+use Rattle.seg_build.specs.Given.{IsSound}
 use Rattle.seg_merge.proofs.Gathering.{many_lives, its_rows}
 use Rattle.seg_merge.proofs.JoinLaws.{length-numbers_from, joined_no_input, joined_input, joined_each}
 use Rattle.seg_merge.proofs.joining.join.Goals as goal

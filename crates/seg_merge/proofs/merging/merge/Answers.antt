@@ -2,8 +2,7 @@ use Rattle.std.proofs.Common.{◌≡◌, ◌<◌, ◌∙◌, subst, sym, length,
 use Rattle.std.specs.List.{AllZip}
 use Rattle.nrt_base.specs.declared.doc.Doc.{Doc}
 use Rattle.postings_plain.specs.Gathering.{Gathers}
-use Rattle.seg_reader.specs.Shown.{Shown}
-use Rattle.seg_reader.specs.Sound.{term_row}
+use Rattle.seg_build.specs.Given.{Shown, term_row}
 use Rattle.seg_merge.specs.Merging.{docs_by_input, all_live_docs, origins, HasAsManyRows, IsGathered}
 use Rattle.seg_merge.proofs.Gathering.{all_live, built_for}
 use Rattle.seg_merge.proofs.merging.merge.Goals as goal

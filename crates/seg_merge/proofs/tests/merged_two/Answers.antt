@@ -2,8 +2,7 @@ use Rattle.std.proofs.Common.{◌≡◌, ◌<◌, ◌++◌, ◌∷◌, [], ◌�
 use Rattle.std.specs.List.{All}
 use Rattle.std.proofs.lemmas.List.Elements.{All-cons, All-nil}
 use Rattle.nrt_base.specs.declared.doc.Doc.{Doc}
-use Rattle.seg_reader.specs.Shown.{Shown}
-use Rattle.seg_reader.specs.Sound.{IsSound}
+use Rattle.seg_build.specs.Given.{Shown, IsSound}
 use Rattle.seg_merge.specs.Merging.{live_docs, all_live_docs, docs_by_input}
 use Rattle.seg_merge.proofs.tests.merged_two.Goals as goal
 

@@ -4,7 +4,7 @@ use Rattle.seg_reader.specs.declared.parts.SegFault.{SegFault}
 use Rattle.seg_reader.specs.Reading.{IsRead}
 use Rattle.seg_reader.proofs.Files.{DocsAnswers, PostAnswers, InfoAnswers, docs_answers, post_answers, info_answers}
 use Rattle.seg_reader.proofs.Contents.{docs_refused, post_refused, info_refused, live_refused, read_whole}
-use Rattle.body_forms.proofs.FileLaws.{err_of}
+use Rattle.segment_infos.proofs.Given.{err_of}
 use Rattle.seg_reader.proofs.reading.read_contents.Goals as goal
 
 pub returns-in-Err : goal.returns-in-Err

@@ -1,5 +1,5 @@
 use Rattle.std.proofs.Common.{Err, subst, sym}
-use Rattle.body_forms.proofs.FileLaws.{err_of}
+use Rattle.segment_infos.proofs.Given.{err_of}
 use Rattle.seg_reader.specs.Reading.{IsSegmentAnswer}
 use Rattle.seg_reader.proofs.Answering.{refused, one_differs, all_agree, kept, answered}
 use Rattle.seg_reader.proofs.segment.answer.Goals as goal

@@ -1,6 +1,6 @@
 use Rattle.std.proofs.Common.{◌≡◌, ◌∙◌, ap, sym, arith, length, drop, reverse, [], List}
 use Rattle.documents.specs.declared.operation.Op.{Op}
-use Rattle.seg_build.specs.Rows.{live_of}
+use Rattle.seg_merge.specs.Given.{live_of}
 use Rattle.segment_steps.specs.Cut.{removed_by, puts_live}
 use Rattle.std.proofs.Math.Seq.{drop-length}
 use Rattle.segment_steps.proofs.CutRows.{nothing_gone}

@@ -1,6 +1,6 @@
 use Rattle.std.proofs.Common.{◌≡◌, ◌≤◌, length, drop, reverse}
 use Rattle.nrt_base.specs.declared.doc.Doc.{Doc}
-use Rattle.seg_build.specs.Rows.{live_of}
+use Rattle.seg_merge.specs.Given.{live_of}
 use Rattle.segment_steps.specs.Cut.{removed_by, puts_live}
 use Rattle.segment_steps.specs.Marks.{is_gone}
 use Rattle.segment_steps.proofs.cut.marks_of.Given as goal

@@ -1,0 +1,3 @@
+-- The words of the crates below that this crate gives on to those above.
+pub use Rattle.seg_reader.specs.Shown.{Shown}
+pub use Rattle.seg_reader.specs.Sound.{IsSound, term_row}
