@@ -21,10 +21,10 @@ fn one_document(rt: HostRuntime) -> Result<(), Fail> {
 fn a_hundred_documents(rt: HostRuntime) -> Result<(), Fail> {
     let alloc = rt.alloc();
     let script = generated(alloc, 100)?;
-    let mut lines = 0;
+    let mut lines: usize = 0;
     for phase in script.phases.as_slice() {
         for lane in phase.lanes.as_slice() {
-            lines += lane.1.as_slice().len();
+            lines = lines.wrapping_add(lane.1.as_slice().len());
         }
     }
     assert_eq!(rt; lines, 119);
