@@ -403,7 +403,7 @@ impl<D: Dir> Primary<D> {
 
     /// Each image of the directory shows the last commit or the one in flight, of the documents that the directory has of it
     /// now, or nothing where there is no last one.
-    #[tactic(auto, using(primary_calls::Standing::images_stand))]
+    #[tactic(auto, using(node_files::proofs::Standing::images_stand))]
     pub fn images(&self)
         ensures { ImagesStand (D.cells self.now.dir) self.now.commits.last
             (shown_by self.now.commits.stage) }

@@ -10,7 +10,6 @@ mod tickets;
 pub use beside::{accept, names, plan, stop_at};
 pub use commits::{commit_begin, commit_step};
 pub use copies::{give_back, source, take_state};
-pub use node_files::proofs::Standing;
 pub use opens::{from_parts, into_dir};
 pub use searcher_switch::{Lease, Searchers, Ticket};
 pub use tickets::{acquire, lease, release};
