@@ -1,5 +1,5 @@
 -- What the steps of a merge make of a cluster.
-use Rattle.std.specs.Prelude.{ℕ, ◌≡◌, ◌≤◌, ◌∷◌, ◌++◌, [], List, map, Bool, true, false, Option, Some, None}
+use Rattle.std.specs.Prelude.{ℕ, ◌≡◌, ◌≤◌, ◌<◌, ◌∷◌, ◌++◌, [], List, length, map, Bool, true, false, Option, Some, None}
 use Rattle.nrt_base.specs.SegNumbers.{segments_of_generation}
 use Rattle.nrt_base.specs.declared.numbers.At.{At}
 use Rattle.nrt_base.specs.declared.numbers.LineNo.{LineNo}
@@ -42,12 +42,16 @@ pub record IsBoard (old new : Run) (now : Log) (rows : List OpenMerge) (posted :
 abbrev pub IsAsBefore : Run → Run → Type 0
 IsAsBefore old new = IsBoard old new old.log old.rest.tasks.rows old.rest.tasks.posted
 
--- A merge starts into the next segment: its inputs stand in the log, and the task to build it is posted. There are no more of them than publishes
--- had puts.
+-- A merge starts into the next segment, of as many neighbours as the factor, the first that can be chosen, and a name was left for it: its inputs stand
+-- in the log, and the task to build it is posted. There are no more of them than publishes had puts.
 pub record BeginsMerge (at : At) (factor : ℕ) (old new : Run) : Type 0 where
   pub seg : SegNo
   pub inputs : List Shown
   pub named : seg.0 ≡ next_name (printed old.log)
+  pub from : ℕ
+  pub first : IsFirstRange factor old.rest.sizes from
+  pub many : length inputs ≡ factor
+  pub unspent : names_drawn (printed old.log) < segments_of_generation
   pub few : factor ≤ put_publishes (printed old.log)
   pub begins : IsBoard old new (kept (MergeOut at.line seg inputs) ∷ shown at (Merging seg) ∷ old.log)
       (old.rest.tasks.rows ++ record { seg = seg; line = at.line; spread = None } ∷ []) (old.rest.tasks.posted ++ posted_merge seg at.line (merge_task seg inputs) ∷ [])

@@ -1,15 +1,17 @@
 -- A merge that starts, and one that does not, in the terms of the call.
-use Rattle.std.proofs.Common.{◌≡◌, ◌≢◌, ◌≤◌, ◌<◌, ◌+◌, ◌==◌, ◌++◌, ℕ, zero, suc, Bool, true, false, true≢false, List, [], ◌∷◌, map, Some, None, Option, Ok, Err, Result, Vec, Global, slice_get, refl, ap, ◌∙◌, sym, subst, arith}
+use Rattle.std.proofs.Common.{◌≡◌, ◌≢◌, ◌≤◌, ◌<◌, ◌+◌, ◌==◌, ◌++◌, ℕ, zero, suc, Bool, true, false, true≢false, List, [], ◌∷◌, length, drop, map, Some, None, Option, Ok, Err, Result, Vec, Global, slice_get, refl, ap, ◌∙◌, sym, subst, arith}
 use Rattle.std.specs.Prelude.{IsSomeAnd, IfSome, IfOk, ⊤}
 use Rattle.std.proofs.lemmas.Bool.{eq-eqb}
 use Rattle.std.proofs.lemmas.Bool.Decides.{nat_tests}
-use Rattle.std.proofs.lemmas.List.{length-map}
+use Rattle.std.proofs.lemmas.List.{length-drop, length-map, length-take-le}
+use Rattle.std.proofs.lemmas.Slice.Zip.{AllZip-long}
 use Rattle.nrt_base.specs.SegNumbers.{segment_number, segments_of_generation}
 use Rattle.nrt_base.specs.declared.numbers.At.{At}
 use Rattle.nrt_base.specs.declared.numbers.NodeNo.{NodeNo}
 use Rattle.nrt_base.specs.declared.numbers.SegNo.{SegNo}
-use Rattle.disk_model.specs.Disk.{Cells}
+use Rattle.disk_model.specs.Disk.{Cells, reads_of}
 use Rattle.seg_reader.specs.Shown.{Shown}
+use Rattle.seg_reader.specs.Stands.{IsSegmentIn}
 use Rattle.seg_merge.specs.declared.task.MergeTask.{MergeTask}
 use Rattle.merge_choice.specs.Choice.{IsFirstRange, HasNoRange}
 use Rattle.script_serving.specs.Refusals.{put_publishes}
@@ -231,6 +233,14 @@ module _ {D : Type 0} (cells : D → Cells) (r : Run) (old new : List (Option (P
     few : factor ≤ put_publishes (printed b0.log)
     few = let within = starts.start.first.is.within in let puts = shows.writer.few in let count = length-map q.infos.segs (size_by (merge_inputs q.merges)) in omega (arith, within, puts, count)
 
+    many : length task.inputs ≡ factor
+    many =
+        let within = starts.start.first.is.within in
+        let rows = length-map q.infos.segs (size_by (merge_inputs q.merges)) in
+        let segs = AllZip-long (IsSegmentIn (reads_of (cells q.dir))) q.infos.segs q.segs shows.whole.writer.stands.each in
+        let rest = length-drop starts.start.from q.segs in
+        ap length starts.start.segs_are ∙ length-take-le factor (drop starts.start.from q.segs) (omega (arith, within, rows, segs, rest))
+
     pub merging_rule : MayStartMerge (printed b0.log) at task.seg
     merging_rule = record { running = λ none. some_none (sym primary0 ∙ none); next = next; spared = fresh.spared }
       where
@@ -266,6 +276,10 @@ module _ {D : Type 0} (cells : D → Cells) (r : Run) (old new : List (Option (P
         seg = task.seg;
         inputs = task.inputs;
         named = subst (λ (x : Run). task.seg.0 ≡ next_name (printed x.log)) view next;
+        from = starts.start.from;
+        first = subst (λ (l : List (Option ℕ)). IsFirstRange factor l starts.start.from) (sym sizes) starts.start.first;
+        many = many;
+        unspent = subst (λ (x : Run). names_drawn (printed x.log) < segments_of_generation) view names;
         few = subst (λ (x : Run). factor ≤ put_publishes (printed x.log)) view few;
         begins = record {
           is = record { running = refl; nodes = n3 ∙ (n2 ∙ (n1 ∙ ap (λ (x : Run). x.nodes) view)); log = log_now ∙ ap (λ (x : Run). kept (MergeOut at.line task.seg task.inputs) ∷ shown at (MergingEvent task.seg) ∷ x.log) view };
