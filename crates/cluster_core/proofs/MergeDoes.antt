@@ -164,7 +164,7 @@ module _ (by : Option At) (old new : Run) where
   part_does seg n job Busy turns = absurd turns
 
   cut_once : (line : LineNo) (seg : SegNo) (copied : Bool) → CutsOnce line seg by old new copied → DoesTask by old new
-  cut_once line seg true cuts = task_does (kept (TaskEnd line seg by CutStep true) ∷ kept (MergeEnd seg) ∷ []) cuts.cuts.is (inl refl, (inr refl, tt))
+  cut_once line seg true cuts = task_does (kept (TaskEnd line seg by CutStep true) ∷ kept (MergeEnd seg) ∷ []) cuts.0.cuts.is (inl refl, (inr refl, tt))
   cut_once line seg false cuts = stays_does cuts
 
   pub cut_does : (line : LineNo) (seg : SegNo) (turn : Turn (Unit {0})) → CutTurns line seg by old new turn → DoesTask by old new

@@ -61,9 +61,9 @@ PartTurns seg n job old new (Work w) = IsAsBefore old new × (has_copy_task n.0 
 PartTurns seg n job old new Done = IsAsBefore old new × (has_copy_task n.0 job (spread_at (open_merge seg.0 old.rest.tasks.rows)) ≡ false)
 PartTurns seg n job old new Busy = ⊥
 
--- the merge was cut over, or was to be cut over no more
+-- no publish was in flight and the merge was cut over, or it was to be cut over no more
 abbrev pub CutsOnce : LineNo → SegNo → Option At → Run → Run → Bool → Type 0
-CutsOnce line seg by old new true = CutsOver line seg by old new
+CutsOnce line seg by old new true = CutsOver line seg by old new × (publish_in_flight (printed old.log) ≡ None)
 CutsOnce line seg by old new false = IsAsBefore old new
 
 -- Busy exactly where the merge is to be cut over and a publish is in flight

@@ -37,4 +37,5 @@ pub returns-clause-ok : goal.returns-clause-ok
 returns-clause-ok g c =
     let tasks : c.state.inside.tasks ≡ c.args.state.now.rest.tasks = ap (λ (r : Run). r.rest.tasks) c.state.view_is in
     let test : is_copied (spread_at (open_merge c.args.seg.0 c.args.state.now.rest.tasks.rows)) ≡ true = ap (λ (b : Board). is_copied (spread_at (open_merge c.args.seg.0 b.rows))) (sym tasks) ∙ sym c.if-not-is_copied.ensures in
-    subst (λ (t : Bool). CutsOnce c.args.line c.args.seg c.args.by c.args.state.now c.cut_merge.new.cluster t) (sym test) c.in_ok-cut_merge.ensures.ok
+    subst (λ (t : Bool). CutsOnce c.args.line c.args.seg c.args.by c.args.state.now c.cut_merge.new.cluster t) (sym test)
+    (c.in_ok-cut_merge.ensures.ok, sym (c.publishing.ensures ∙ ap (λ (l : Log). publish_in_flight (printed l)) c.book.ensures.log) ∙ none_of c.publishing.result (sym c.if-is_some.ensures))
