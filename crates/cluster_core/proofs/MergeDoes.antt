@@ -150,7 +150,7 @@ module _ (by : Option At) (old new : Run) where
       }
 
   copied_once : (line : LineNo) (seg : SegNo) (n : NodeNo) (job : ℕ) (sent : Bool) → EndsCopyOnce line seg by n job old new sent → DoesTask by old new
-  copied_once line seg n job true ends = task_does (kept (TaskEnd line seg by (PreCopyStep n job) true) ∷ []) ends.is (inl refl, tt)
+  copied_once line seg n job true ends = task_does (kept (TaskEnd line seg by (PreCopyStep n job) true) ∷ []) ends.0.is (inl refl, tt)
   copied_once line seg n job false ends = stays_does ends
 
   pub copy_does : (line : LineNo) (seg : SegNo) (n : NodeNo) (job : ℕ) (turn : Turn FileTask) → PrecopyTurns line seg by n job old new turn → DoesTask by old new

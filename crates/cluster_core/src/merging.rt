@@ -74,8 +74,8 @@ impl<D: FaultDir + Drop> Cluster<D> {
         merge_ready(&mut self.state, alloc, task.line, task.seg, task.by, merged)
     }
 
-    /// Hands out the next file of the copy of a task. Done says that the task has ended, and Busy that the copy lets the job of a point
-    /// at its node go before.
+    /// Hands out the next file of the copy of a task. Done says that the task has ended. Busy comes exactly where it has not, the copy
+    /// misses a file, and the job of a point runs at its node, which goes before.
     pub fn precopy_next(
         &mut self,
         alloc: Global,

@@ -33,7 +33,7 @@ use Rattle.cluster_state.specs.Given.{Held, Node, Primary, Replica, Down, Place,
 use Rattle.cluster_state.proofs.Given.{jobs_same, is_there, one_self, states_back}
 use Rattle.node_merges.specs.MergeChanges.{MayCut, CutsMerge}
 use Rattle.node_merges.specs.MergePlaces.{IsPrimaryIn, MovesPrimary}
-use Rattle.cluster_state.specs.Run.{Run}
+use Rattle.cluster_state.specs.Run.{MergedCopy, Run}
 use Rattle.cluster_state.specs.State.{FlightShows, NodeShows, PlaceShows, Shows}
 use Rattle.cluster_state.specs.Files.{FilesShow}
 use Rattle.cluster_state.specs.Merging.{AreWrittenAlike, AreMergedAlike, out_at, spreads_like, IsFitKind, PrimaryMerges, NodeMerges}
@@ -102,8 +102,8 @@ out_by rows seg jobs states row s there some low =
 
 -- ---- the call
 
-module _ {D : Type 0} (cells : D → Cells) (r : Run) (old : List (Option (Place D))) (b0 : Sheet) (board : Board) (p : NodeNo) (seg : SegNo) {ended cut : Bool} {calls : List ℕ} {sizes : List (Option ℕ)}
-    (view : record { ended = ended; nodes = b0.nodes; log = b0.log; rest = record { calls_left = calls; cut = cut; sizes = sizes; tasks = board } } ≡ r) (running : r.ended ≡ false) (all : ended ≡ false → AllShown cells b0 board old)
+module _ {D : Type 0} (cells : D → Cells) (r : Run) (old : List (Option (Place D))) (b0 : Sheet) (board : Board) (p : NodeNo) (seg : SegNo) {ended cut : Bool} {calls : List ℕ} {sizes : List (Option ℕ)} {copies : List (List MergedCopy)}
+    (view : record { ended = ended; nodes = b0.nodes; log = b0.log; rest = record { calls_left = calls; cut = cut; sizes = sizes; copies = copies; tasks = board } } ≡ r) (running : r.ended ≡ false) (all : ended ≡ false → AllShown cells b0 board old)
     (node : IsNode r.nodes p.0) (primary : primary_of (printed r.log) ≡ Some p) (copied : is_copied (spread_at (open_merge seg.0 r.rest.tasks.rows)) ≡ true) (calm : publish_in_flight (printed r.log) ≡ None) where
   was : AllShown cells b0 board old
   was = all (ap (λ (x : Run). x.ended) view ∙ running)
@@ -275,7 +275,7 @@ module _ {D : Type 0} (cells : D → Cells) (r : Run) (old : List (Option (Place
             reigns none = let clash : Some p ≡ None = sym primary0 ∙ none in absurd (cc)
 
         -- and what the call answers
-        pub cuts_over : {calls1 : List ℕ} {sizes1 : List (Option ℕ)} → CutsOver line seg taker r (record { ended = false; nodes = b3.nodes; log = b3.log; rest = record { calls_left = calls1; cut = b3.cut; sizes = sizes1; tasks = after } })
+        pub cuts_over : {calls1 : List ℕ} {sizes1 : List (Option ℕ)} {copies1 : List (List MergedCopy)} → CutsOver line seg taker r (record { ended = false; nodes = b3.nodes; log = b3.log; rest = record { calls_left = calls1; cut = b3.cut; sizes = sizes1; copies = copies1; tasks = after } })
         cuts_over = record {
           cuts = record {
             is = record {

@@ -19,7 +19,7 @@ use Rattle.cluster_tasks.specs.TaskLog.{counted_for}
 use Rattle.cluster_tasks.specs.Board.{Board, step_of, IsToldKind, IsToldTask, without_count}
 use Rattle.cluster_tasks.proofs.TaskFrames.{tasks_drained, told_all, may_drain_most}
 use Rattle.cluster_state.specs.Given.{Place}
-use Rattle.cluster_state.specs.Run.{Run, Rest}
+use Rattle.cluster_state.specs.Run.{MergedCopy, Rest, Run}
 use Rattle.cluster_state.specs.Merging.{IsFitKind, MergesStand}
 use Rattle.cluster_state.proofs.Frames.{noted}
 use Rattle.cluster_state.proofs.FileFrames.{files_noted}
@@ -34,25 +34,25 @@ use Rattle.cluster_drains.proofs.InsideSteps.{all_is, each_still, take_path}
 pub all_at : {A : Type 0} {r : Run} {ended : Bool} {nodes : ℕ} {log : Log} {rest : Rest} → record { ended = ended; nodes = nodes; log = log; rest = rest } ≡ r → r.ended ≡ false → (ended ≡ false → A) → A
 all_at view running all = all (ap (λ (x : Run). x.ended) view ∙ running)
 
-module _ (r : Run) (b0 b1 : Sheet) (board : Board) {ended cut : Bool} {calls : List ℕ} {sizes : List (Option ℕ)} (view : record { ended = ended; nodes = b0.nodes; log = b0.log; rest = record { calls_left = calls; cut = cut; sizes = sizes; tasks = board } } ≡ r)
+module _ (r : Run) (b0 b1 : Sheet) (board : Board) {ended cut : Bool} {calls : List ℕ} {sizes : List (Option ℕ)} {copies : List (List MergedCopy)} (view : record { ended = ended; nodes = b0.nodes; log = b0.log; rest = record { calls_left = calls; cut = cut; sizes = sizes; copies = copies; tasks = board } } ≡ r)
     (e1 : b1.log ≡ b0.log) (n1 : b1.nodes ≡ b0.nodes) where
   -- nothing changed
-  pub as_before : (new : Board) (calls1 : List ℕ) (cut1 : Bool) (sizes1 : List (Option ℕ)) → new.rows ≡ board.rows → new.posted ≡ board.posted
-      → IsAsBefore r (record { ended = false; nodes = b1.nodes; log = b1.log; rest = record { calls_left = calls1; cut = cut1; sizes = sizes1; tasks = new } })
+  pub as_before : (new : Board) (calls1 : List ℕ) (cut1 : Bool) (sizes1 : List (Option ℕ)) {copies1 : List (List MergedCopy)} → new.rows ≡ board.rows → new.posted ≡ board.posted
+      → IsAsBefore r (record { ended = false; nodes = b1.nodes; log = b1.log; rest = record { calls_left = calls1; cut = cut1; sizes = sizes1; copies = copies1; tasks = new } })
   as_before new calls1 cut1 sizes1 rows posted = record {
     is = record { running = refl; nodes = n1 ∙ ap (λ (x : Run). x.nodes) view; log = e1 ∙ ap (λ (x : Run). x.log) view };
     rows_are = rows ∙ ap (λ (x : Run). x.rest.tasks.rows) view;
     posted_are = posted ∙ ap (λ (x : Run). x.rest.tasks.posted) view;
   }
 
-  pub none_taken : (new : Board) (calls1 : List ℕ) (cut1 : Bool) (sizes1 : List (Option ℕ)) → new.rows ≡ board.rows → new.posted ≡ board.posted → board.posted ≡ []
-      → IsAsBefore r (record { ended = false; nodes = b1.nodes; log = b1.log; rest = record { calls_left = calls1; cut = cut1; sizes = sizes1; tasks = new } }) × (r.rest.tasks.posted ≡ [])
+  pub none_taken : (new : Board) (calls1 : List ℕ) (cut1 : Bool) (sizes1 : List (Option ℕ)) {copies1 : List (List MergedCopy)} → new.rows ≡ board.rows → new.posted ≡ board.posted → board.posted ≡ []
+      → IsAsBefore r (record { ended = false; nodes = b1.nodes; log = b1.log; rest = record { calls_left = calls1; cut = cut1; sizes = sizes1; copies = copies1; tasks = new } }) × (r.rest.tasks.posted ≡ [])
   none_taken new calls1 cut1 sizes1 rows posted none = (as_before new calls1 cut1 sizes1 rows posted, sym (ap (λ (x : Run). x.rest.tasks.posted) view) ∙ none)
 
   -- the first task was taken
-  pub hands_task : {D : Type 0} (places : List (Option (Place D))) (b2 : Sheet) (new : Board) (p : Posted) (by : Option At) (step : Step) (calls1 : List ℕ) (cut1 : Bool) (sizes1 : List (Option ℕ)) → step ≡ step_of p.kind
+  pub hands_task : {D : Type 0} (places : List (Option (Place D))) (b2 : Sheet) (new : Board) (p : Posted) (by : Option At) (step : Step) (calls1 : List ℕ) (cut1 : Bool) (sizes1 : List (Option ℕ)) {copies1 : List (List MergedCopy)} → step ≡ step_of p.kind
       → b2.log ≡ kept (TaskOut p.line p.seg by step) ∷ b1.log → b2.nodes ≡ b1.nodes → board.posted ≡ p ∷ new.posted → new.rows ≡ board.rows → MergesStand b0.log b0.cut b0.nodes board places
-      → HandsTask by r (record { ended = false; nodes = b2.nodes; log = b2.log; rest = record { calls_left = calls1; cut = cut1; sizes = sizes1; tasks = new } }) (record { line = p.line; seg = p.seg; by = by; kind = p.kind })
+      → HandsTask by r (record { ended = false; nodes = b2.nodes; log = b2.log; rest = record { calls_left = calls1; cut = cut1; sizes = sizes1; copies = copies1; tasks = new } }) (record { line = p.line; seg = p.seg; by = by; kind = p.kind })
   hands_task places b2 new p by step calls1 cut1 sizes1 is_step log nodes first rows was = record {
     rest = new.posted;
     first = sym (ap (λ (x : Run). x.rest.tasks.posted) view) ∙ first;
@@ -75,8 +75,8 @@ module _ (r : Run) (b0 b1 : Sheet) (board : Board) {ended cut : Bool} {calls : L
       now = kept (TaskOut p.line p.seg by step) ∷ b0.log
 
   -- a drain has its reply
-  pub drained_now : (b2 : Sheet) (new : Board) (at : At) (done most : ℕ) (calls1 : List ℕ) (cut1 : Bool) (sizes1 : List (Option ℕ)) → b2.log ≡ shown at (Drained done most) ∷ b1.log → b2.nodes ≡ b1.nodes → new.rows ≡ board.rows → new.posted ≡ board.posted
-      → IsBoard r (record { ended = false; nodes = b2.nodes; log = b2.log; rest = record { calls_left = calls1; cut = cut1; sizes = sizes1; tasks = new } }) (shown at (Drained done most) ∷ r.log) r.rest.tasks.rows r.rest.tasks.posted
+  pub drained_now : (b2 : Sheet) (new : Board) (at : At) (done most : ℕ) (calls1 : List ℕ) (cut1 : Bool) (sizes1 : List (Option ℕ)) {copies1 : List (List MergedCopy)} → b2.log ≡ shown at (Drained done most) ∷ b1.log → b2.nodes ≡ b1.nodes → new.rows ≡ board.rows → new.posted ≡ board.posted
+      → IsBoard r (record { ended = false; nodes = b2.nodes; log = b2.log; rest = record { calls_left = calls1; cut = cut1; sizes = sizes1; copies = copies1; tasks = new } }) (shown at (Drained done most) ∷ r.log) r.rest.tasks.rows r.rest.tasks.posted
   drained_now b2 new at done most calls1 cut1 sizes1 log nodes rows posted = record {
     is = record { running = refl; nodes = nodes ∙ (n1 ∙ ap (λ (x : Run). x.nodes) view); log = log ∙ ap (λ (l : Log). shown at (Drained done most) ∷ l) (e1 ∙ ap (λ (x : Run). x.log) view) };
     rows_are = rows ∙ ap (λ (x : Run). x.rest.tasks.rows) view;
@@ -111,8 +111,8 @@ module _ {D : Type 0} (cells : D → Cells) (places : List (Option (Place D))) (
 
 -- ---- a drain's reply
 
-module _ {D : Type 0} (cells : D → Cells) (r : Run) (places : List (Option (Place D))) (b0 b1 b2 : Sheet) (board new : Board) (at : At) (done most : ℕ) {ended cut : Bool} {calls : List ℕ} {sizes : List (Option ℕ)}
-    (view : record { ended = ended; nodes = b0.nodes; log = b0.log; rest = record { calls_left = calls; cut = cut; sizes = sizes; tasks = board } } ≡ r) (running : r.ended ≡ false) (all : ended ≡ false → AllShown cells b0 board places)
+module _ {D : Type 0} (cells : D → Cells) (r : Run) (places : List (Option (Place D))) (b0 b1 b2 : Sheet) (board new : Board) (at : At) (done most : ℕ) {ended cut : Bool} {calls : List ℕ} {sizes : List (Option ℕ)} {copies : List (List MergedCopy)}
+    (view : record { ended = ended; nodes = b0.nodes; log = b0.log; rest = record { calls_left = calls; cut = cut; sizes = sizes; copies = copies; tasks = board } } ≡ r) (running : r.ended ≡ false) (all : ended ≡ false → AllShown cells b0 board places)
     (e1 : b1.log ≡ b0.log) (n1 : b1.nodes ≡ b0.nodes) (c1 : b1.cut ≡ b0.cut) (legal : IsLegalPast b0.nodes (printed b0.log)) (turns : AreInTurn (printed b0.log)) (fresh : IsFresh at (printed b0.log))
     (empty : entries_of_line at (printed r.log) ≡ []) (is : done ≡ counted_for at r.log) where
   none_yet : entries_of_line at (printed b0.log) ≡ []

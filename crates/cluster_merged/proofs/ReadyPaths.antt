@@ -51,7 +51,7 @@ use Rattle.cluster_places.specs.JobChanges.{HasReplica}
 use Rattle.cluster_places.specs.Outs.{states_like, jobs_like}
 use Rattle.node_merges.specs.MergeChanges.{ReadiesMerge, MaySend}
 use Rattle.node_merges.specs.MergePlaces.{IsPrimaryIn, IsReplicaIn, MovesPrimary}
-use Rattle.cluster_state.specs.Run.{Rest, Run, IsEnded}
+use Rattle.cluster_state.specs.Run.{MergedCopy, Rest, Run, IsEnded}
 use Rattle.cluster_state.specs.Settles.{AreReplicas}
 use Rattle.cluster_state.specs.State.{NodeShows, PrimaryShows, ReplicaShows, PlaceShows}
 use Rattle.cluster_state.specs.Files.{PrimaryFiles, ReplicaFiles, NodeFiles}
@@ -99,8 +99,8 @@ unwritten_row seg rows is = by (open_merge seg rows) refl is
     by None e is = absurd (true≢false (sym is))
     by (Some r) e is = of_row r e r.spread refl is
 
-module _ {D : Type 0} (cells : D → Cells) (r : Run) (b : Sheet) (board : Board) (old : List (Option (Place D))) (p : NodeNo) (seg : SegNo) (merged : Merged) {was cut : Bool} {calls : List ℕ} {sizes : List (Option ℕ)}
-    (view : record { ended = was; nodes = b.nodes; log = b.log; rest = record { calls_left = calls; cut = cut; sizes = sizes; tasks = board } } ≡ r) (running : r.ended ≡ false) (invariant : was ≡ false → AllShown cells b board old)
+module _ {D : Type 0} (cells : D → Cells) (r : Run) (b : Sheet) (board : Board) (old : List (Option (Place D))) (p : NodeNo) (seg : SegNo) (merged : Merged) {was cut : Bool} {calls : List ℕ} {sizes : List (Option ℕ)} {copies : List (List MergedCopy)}
+    (view : record { ended = was; nodes = b.nodes; log = b.log; rest = record { calls_left = calls; cut = cut; sizes = sizes; copies = copies; tasks = board } } ≡ r) (running : r.ended ≡ false) (invariant : was ≡ false → AllShown cells b board old)
     (asked_node : IsNode r.nodes p.0) (asked_primary : primary_of (printed r.log) ≡ Some p) (asked_row : is_unwritten (open_merge seg.0 r.rest.tasks.rows) ≡ true) (asked_merged : IsMergedOut r.log seg merged) where
   all : AllShown cells b board old
   all = invariant (ap (λ (x : Run). x.ended) view ∙ running)
@@ -324,8 +324,8 @@ module _ {D : Type 0} (cells : D → Cells) (r : Run) (b : Sheet) (board : Board
                 ∙ ap (λ (l : List Posted). (l ++ posts_of seg line sent) ++ post_after seg line sent) (sends.posted ∙ posted)))
 
             -- what callers see
-            pub writes_merge : {calls1 : List ℕ} {cut1 : Bool} {sizes1 : List (Option ℕ)}
-                → WritesMerge line seg by r (record { ended = false; nodes = b3.nodes; log = b3.log; rest = record { calls_left = calls1; cut = cut1; sizes = sizes1; tasks = ended } })
+            pub writes_merge : {calls1 : List ℕ} {cut1 : Bool} {sizes1 : List (Option ℕ)} {copies1 : List (List MergedCopy)}
+                → WritesMerge line seg by r (record { ended = false; nodes = b3.nodes; log = b3.log; rest = record { calls_left = calls1; cut = cut1; sizes = sizes1; copies = copies1; tasks = ended } })
             writes_merge = record {
               state = copy;
               sent = sent;

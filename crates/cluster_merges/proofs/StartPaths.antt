@@ -45,7 +45,7 @@ use Rattle.cluster_places.specs.declared.nodes.Place.{Place}
 use Rattle.cluster_places.specs.Places.{place_of, unwrapped}
 use Rattle.cluster_places.specs.KeptFiles.{KeepsNodeFiles}
 use Rattle.cluster_places.proofs.TicketNodes.{node_alone}
-use Rattle.cluster_state.specs.Run.{Run}
+use Rattle.cluster_state.specs.Run.{MergedCopy, Run}
 use Rattle.cluster_state.specs.Sizes.{sizes_in}
 use Rattle.cluster_state.specs.State.{NodeShows, PlaceShows, PrimaryShows, Shows}
 use Rattle.cluster_state.proofs.Frames.{some_at, now_is}
@@ -116,8 +116,8 @@ module _ {D : Type 0} where
 
 -- ---- the call
 
-module _ {D : Type 0} (cells : D → Cells) (r : Run) (old new : List (Option (Place D))) (b0 b1 : Sheet) (board : Board) (at : At) (p : NodeNo) (factor : ℕ) (result : Result (Option MergeTask) PublishFault) {ended cut : Bool} {calls : List ℕ}
-    (view : record { ended = ended; nodes = b0.nodes; log = b0.log; rest = record { calls_left = calls; cut = cut; sizes = sizes_in old; tasks = board } } ≡ r) (running : r.ended ≡ false) (all : ended ≡ false → AllShown cells b0 board old)
+module _ {D : Type 0} (cells : D → Cells) (r : Run) (old new : List (Option (Place D))) (b0 b1 : Sheet) (board : Board) (at : At) (p : NodeNo) (factor : ℕ) (result : Result (Option MergeTask) PublishFault) {ended cut : Bool} {calls : List ℕ} {copies : List (List MergedCopy)}
+    (view : record { ended = ended; nodes = b0.nodes; log = b0.log; rest = record { calls_left = calls; cut = cut; sizes = sizes_in old; copies = copies; tasks = board } } ≡ r) (running : r.ended ≡ false) (all : ended ≡ false → AllShown cells b0 board old)
     (e1 : b1.log ≡ b0.log) (n1 : b1.nodes ≡ b0.nodes) (c1 : b1.cut ≡ b0.cut) (legal : IsLegalPast b0.nodes (printed b0.log)) (turns : AreInTurn (printed b0.log)) (fresh : IsFresh at (printed b0.log)) (node : IsNode r.nodes p.0) (primary : primary_of (printed r.log) ≡ Some p)
     (asked : MovesPrimary (λ q s. AsksMerge cells factor q s result) p.0 old new) where
   was : AllShown cells b0 board old
@@ -192,15 +192,15 @@ module _ {D : Type 0} (cells : D → Cells) (r : Run) (old new : List (Option (P
   all_drawn : q.infos.counter ≡ segments_of_generation → names_drawn (printed r.log) ≡ segments_of_generation
   all_drawn full = sym (ap (λ (x : Run). names_drawn (printed x.log)) view) ∙ (sym shows.writer.counter ∙ full)
 
-  pub none_starts : result ≡ Ok None → {calls1 : List ℕ} {cut1 : Bool} {sizes1 : List (Option ℕ)}
-      → StartsMergeFor at factor r (record { ended = false; nodes = b1.nodes; log = b1.log; rest = record { calls_left = calls1; cut = cut1; sizes = sizes1; tasks = board } }) (Some Nothing)
+  pub none_starts : result ≡ Ok None → {calls1 : List ℕ} {cut1 : Bool} {sizes1 : List (Option ℕ)} {copies1 : List (List MergedCopy)}
+      → StartsMergeFor at factor r (record { ended = false; nodes = b1.nodes; log = b1.log; rest = record { calls_left = calls1; cut = cut1; sizes = sizes1; copies = copies1; tasks = board } }) (Some Nothing)
   none_starts is {calls1} {cut1} {sizes1} = (as_before r b0 b1 board view e1 n1 board calls1 cut1 sizes1 refl refl, no_range (answered (Ok None) is).0)
 
-  pub spent_starts : (fault : PublishFault) (cause : Cause) → result ≡ Err fault → fault ≡ Spent → cause ≡ NamesSpent → (calls1 : List ℕ) (cut1 : Bool) (sizes1 : List (Option ℕ))
-      → StartsMergeFor at factor r (record { ended = false; nodes = b1.nodes; log = b1.log; rest = record { calls_left = calls1; cut = cut1; sizes = sizes1; tasks = board } }) (Some cause)
-  spent_starts fault cause is spent named calls1 cut1 sizes1 =
+  pub spent_starts : (fault : PublishFault) (cause : Cause) → result ≡ Err fault → fault ≡ Spent → cause ≡ NamesSpent → (calls1 : List ℕ) (cut1 : Bool) (sizes1 : List (Option ℕ)) (copies1 : List (List MergedCopy))
+      → StartsMergeFor at factor r (record { ended = false; nodes = b1.nodes; log = b1.log; rest = record { calls_left = calls1; cut = cut1; sizes = sizes1; copies = copies1; tasks = board } }) (Some cause)
+  spent_starts fault cause is spent named calls1 cut1 sizes1 copies1 =
       let all = refused fault Spent is spent in
-      subst (λ (c : Cause). StartsMergeFor at factor r (record { ended = false; nodes = b1.nodes; log = b1.log; rest = record { calls_left = calls1; cut = cut1; sizes = sizes1; tasks = board } }) (Some c)) (sym named)
+      subst (λ (c : Cause). StartsMergeFor at factor r (record { ended = false; nodes = b1.nodes; log = b1.log; rest = record { calls_left = calls1; cut = cut1; sizes = sizes1; copies = copies1; tasks = board } }) (Some c)) (sym named)
       (as_before r b0 b1 board view e1 n1 board calls1 cut1 sizes1 refl refl, some_range all.0, all_drawn all.1)
 
   -- ---- a merge starts
@@ -271,7 +271,7 @@ module _ {D : Type 0} (cells : D → Cells) (r : Run) (old new : List (Option (P
             asked.moves node0 asked.at.there was.0 here others rows told counts was.2,
       )
 
-      pub begins_merge : {calls1 : List ℕ} {cut1 : Bool} {sizes1 : List (Option ℕ)} → BeginsMerge at factor r (record { ended = false; nodes = b3.nodes; log = b3.log; rest = record { calls_left = calls1; cut = cut1; sizes = sizes1; tasks = after } })
+      pub begins_merge : {calls1 : List ℕ} {cut1 : Bool} {sizes1 : List (Option ℕ)} {copies1 : List (List MergedCopy)} → BeginsMerge at factor r (record { ended = false; nodes = b3.nodes; log = b3.log; rest = record { calls_left = calls1; cut = cut1; sizes = sizes1; copies = copies1; tasks = after } })
       begins_merge = record {
         seg = task.seg;
         inputs = task.inputs;

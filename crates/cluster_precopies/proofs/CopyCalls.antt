@@ -1,6 +1,8 @@
 -- The next step of a copy of a merged segment, and a part that comes to one, in the terms of a call.
-use Rattle.std.proofs.Common.{◌≡◌, ◌++◌, ℕ, Bool, true, false, true≢false, List, [], ◌∷◌, Some, None, Option, Vec, Global, is_some, refl, ap, ◌∙◌, sym, subst}
-use Rattle.std.specs.Prelude.{IfSome, IsSome, IsSomeAnd}
+use Rattle.std.proofs.Common.{◌≡◌, ◌++◌, ℕ, zero, suc, Bool, true, false, true≢false, List, [], ◌∷◌, Some, None, Option, Vec, Global, is_some, refl, ap, ◌∙◌, sym, subst}
+use Rattle.std.specs.Prelude.{unwrap_or, option_map, IfSome, IsSome, IsSomeAnd}
+use Rattle.std.specs.List.{slice_get}
+use Rattle.std.proofs.lemmas.Option.{slice_get-map}
 use Rattle.nrt_base.specs.declared.numbers.At.{At}
 use Rattle.nrt_base.specs.declared.numbers.LineNo.{LineNo}
 use Rattle.nrt_base.specs.declared.numbers.NodeNo.{NodeNo}
@@ -27,27 +29,28 @@ use Rattle.cluster_places.specs.declared.held.Held.{Held}
 use Rattle.cluster_places.specs.declared.nodes.Node.{Node}
 use Rattle.cluster_places.specs.declared.nodes.Node.TheVariants.{Primary, Replica, Down}
 use Rattle.cluster_places.specs.declared.nodes.Place.{Place}
-use Rattle.cluster_places.specs.Places.{place_of}
+use Rattle.cluster_places.specs.Places.{place_of, unwrapped}
 use Rattle.cluster_places.specs.JobChanges.{HasReplica}
 use Rattle.node_merges.specs.MergeChanges.{is_copy_of, MayTakeMerged, TakesMerged}
 use Rattle.node_merges.specs.MergePlaces.{IsReplicaIn, MovesReplica, RunsCopyOf}
-use Rattle.cluster_state.specs.Run.{Rest, Run}
+use Rattle.cluster_state.specs.Run.{MergedCopy, Rest, Run, misses_file, misses_at}
+use Rattle.cluster_state.specs.MergedCopies.{place_copies, copies_in}
 use Rattle.cluster_state.proofs.BookLaws.{primary_node}
 use Rattle.cluster_drains.specs.Running.{AllShown}
 use Rattle.cluster_drains.specs.MergePaths.{IsAsBefore}
 use Rattle.cluster_drains.proofs.TaskPaths.{as_before}
 use Rattle.cluster_precopies.specs.declared.precopies.CopyTurn.{CopyTurn}
 use Rattle.cluster_precopies.specs.declared.precopies.CopyTurn.TheVariants.{Waits, Hands, Ends}
-use Rattle.cluster_precopies.specs.CopyTurns.{StepsCopyTo, TurnsCopy}
+use Rattle.cluster_precopies.specs.CopyTurns.{IsTurnWhere, StepsCopyTo, TurnsCopy}
 use Rattle.cluster_precopies.proofs.MovedCopies.{copies_path, taken_moves}
 use Rattle.cluster_precopies.proofs.CopyFacts.{at_replica, slot_here, whole_here, sent_here, copy_here, copy_drawn, carried_meta}
 
 -- ---- the next step
 
-module _ (r : Run) (b0 b1 : Sheet) (board : Board) {ended cut : Bool} {calls : List ℕ} {sizes : List (Option ℕ)} (view : record { ended = ended; nodes = b0.nodes; log = b0.log; rest = record { calls_left = calls; cut = cut; sizes = sizes; tasks = board } } ≡ r)
-    (e1 : b1.log ≡ b0.log) (n1 : b1.nodes ≡ b0.nodes) (b2 : Sheet) (after : Board) (line : LineNo) (seg : SegNo) (taker : Option At) (n : NodeNo) (job : ℕ) (calls1 : List ℕ) (cut1 : Bool) (sizes1 : List (Option ℕ)) where
+module _ (r : Run) (b0 b1 : Sheet) (board : Board) {ended cut : Bool} {calls : List ℕ} {sizes : List (Option ℕ)} {copies : List (List MergedCopy)} (view : record { ended = ended; nodes = b0.nodes; log = b0.log; rest = record { calls_left = calls; cut = cut; sizes = sizes; copies = copies; tasks = board } } ≡ r)
+    (e1 : b1.log ≡ b0.log) (n1 : b1.nodes ≡ b0.nodes) (b2 : Sheet) (after : Board) (line : LineNo) (seg : SegNo) (taker : Option At) (n : NodeNo) (job : ℕ) (calls1 : List ℕ) (cut1 : Bool) (sizes1 : List (Option ℕ)) (copies1 : List (List MergedCopy)) where
   pub turns_so : (turn : CopyTurn) → StepsCopyTo line seg taker n job b1 b2 board after turn
-      → TurnsCopy line seg taker n job r (record { ended = false; nodes = b2.nodes; log = b2.log; rest = record { calls_left = calls1; cut = cut1; sizes = sizes1; tasks = after } }) turn
+      → TurnsCopy line seg taker n job r (record { ended = false; nodes = b2.nodes; log = b2.log; rest = record { calls_left = calls1; cut = cut1; sizes = sizes1; copies = copies1; tasks = after } }) turn
   turns_so Waits is = (
     as_before r b0 b2 board view (ap (λ (b : Sheet). b.log) is.0 ∙ e1) (ap (λ (b : Sheet). b.nodes) is.0 ∙ n1) after calls1 cut1 sizes1 (ap (λ (t : Board). t.rows) is.1) (ap (λ (t : Board). t.posted) is.1),
     subst (λ (l : Log). IsSome (job_at n.0 l)) (e1 ∙ ap (λ (x : Run). x.log) view) is.2,
@@ -75,6 +78,27 @@ module _ (r : Run) (b0 b1 : Sheet) (board : Board) {ended cut : Bool} {calls : L
     rows_are = is.rows ∙ ap (λ (x : Run). with_spread seg.0 (sent_less n.0 job (spread_at (open_merge seg.0 x.rest.tasks.rows))) x.rest.tasks.rows) view;
     posted_are = is.posted ∙ ap (λ (x : Run). x.rest.tasks.posted ++ post_after seg line (sent_left (sent_less n.0 job (spread_at (open_merge seg.0 x.rest.tasks.rows))))) view;
   }
+
+-- ---- what callers see of the copies that run
+
+module _ {D : Type 0} where
+  copies_told : (o : Option (Option (Place D))) → unwrap_or (option_map place_copies o) [] ≡ place_copies (unwrapped o)
+  copies_told None = refl
+  copies_told (Some place) = refl
+
+  misses_are : (seg n number : ℕ) (r : Run) (places : List (Option (Place D))) → r.rest.copies ≡ copies_in places → misses_at seg n number r ≡ misses_file seg number (place_copies (place_of places n))
+  misses_are seg zero number r places is = refl
+  misses_are seg (suc k) number r places is =
+      ap (λ (l : List (List MergedCopy)). misses_file seg number (unwrap_or (slice_get l k) [])) is
+      ∙ ap (λ (l : List MergedCopy). misses_file seg number l) (ap (λ (o : Option (List MergedCopy)). unwrap_or o []) (slice_get-map place_copies places k) ∙ copies_told (slice_get places k))
+
+  -- the turn is that of the copy that callers see
+  pub turn_where : (r : Run) (b0 b1 : Sheet) (board : Board) (places : List (Option (Place D))) → {ended cut : Bool} {calls : List ℕ} {sizes : List (Option ℕ)}
+      → record { ended = ended; nodes = b0.nodes; log = b0.log; rest = record { calls_left = calls; cut = cut; sizes = sizes; copies = copies_in places; tasks = board } } ≡ r → b1.log ≡ b0.log → (seg : SegNo) (n : NodeNo) (job : ℕ) (turn : CopyTurn)
+      → IsTurnWhere (misses_file seg.0 job (place_copies (place_of places n.0))) (job_at n.0 b1.log) turn → IsTurnWhere (misses_at seg.0 n.0 job r) (job_at n.0 r.log) turn
+  turn_where r b0 b1 board places view e1 seg n job turn is =
+      subst (λ (misses : Bool). IsTurnWhere misses (job_at n.0 r.log) turn) (sym (misses_are seg.0 n.0 job r places (sym (ap (λ (x : Run). x.rest.copies) view))))
+      (subst (λ (l : Log). IsTurnWhere (misses_file seg.0 job (place_copies (place_of places n.0))) (job_at n.0 l) turn) (e1 ∙ ap (λ (x : Run). x.log) view) is)
 
 -- ---- a part that comes
 

@@ -1,10 +1,12 @@
 -- What is known of the copies that run where a merge is copied, and of what is next to do for one.
-use Rattle.std.proofs.Common.{◌≡◌, ◌<◌, ◌+◌, ℕ, Bool, true, false, true≢false, List, [], Some, None, Option, Vec, Global, is_some, refl, ap, ◌∙◌, sym, subst, arith}
+use Rattle.std.proofs.Common.{◌≡◌, ◌≢◌, ◌<◌, ◌+◌, ◌==◌, ◌&&◌, if◌then◌else◌, ℕ, Bool, true, false, true≢false, List, [], ◌∷◌, map, Some, None, Option, Vec, Global, is_some, refl, ap, ◌∙◌, sym, subst, arith}
 use Rattle.std.specs.Prelude.{IfSome, IsSome, IsSomeAnd, ⊤}
 use Rattle.std.proofs.lemmas.Bool.{eq-eqb}
 use Rattle.nrt_base.specs.declared.numbers.NodeNo.{NodeNo}
-use Rattle.disk_model.specs.Disk.{Name, Content, Cells}
+use Rattle.disk_model.specs.Disk.{Name, Content, Cells, same}
 use Rattle.file_deleter.specs.Holdings.{times}
+use Rattle.file_names.specs.Names.{part_name_of}
+use Rattle.file_names.specs.declared.composed.SegPart.TheVariants.{Docs}
 use Rattle.codec_frame.specs.Bytes.{AreBytes}
 use Rattle.codec_frame.specs.Checking.{HasFooter}
 use Rattle.copy_state.specs.declared.meta.FileMetaData.{FileMetaData}
@@ -40,6 +42,8 @@ use Rattle.node_merges.specs.declared.copies.CopyStep.{CopyStep}
 use Rattle.node_merges.specs.declared.copies.CopyStep.TheVariants.{Gone, Waits, Complete, Wants}
 use Rattle.node_merges.specs.MergeChanges.{is_copy_of, IsStepOf, MaySettle}
 use Rattle.node_merges.specs.MergePlaces.{IsReplicaIn, IsStepAt}
+use Rattle.cluster_state.specs.Run.{is_docs_of, misses_file}
+use Rattle.cluster_state.specs.MergedCopies.{told_copy, place_copies}
 use Rattle.cluster_state.specs.State.{PlaceShows}
 use Rattle.cluster_state.specs.Files.{JobShows, NodeFiles}
 use Rattle.cluster_state.specs.Merging.{AreSentCopies, PrimaryMerges, NodeMerges}
@@ -66,6 +70,81 @@ job_shown : (source : Name → Content) (log : Log) (n : ℕ) (o : Option LineJo
 job_shown source log n None None shows some = absurd (true≢false (sym some))
 job_shown source log n None (Some j) shows some = absurd shows
 job_shown source log n (Some job) j shows some = refl
+
+-- and none where it has none
+none_shown : (source : Name → Content) (log : Log) (n : ℕ) (o : Option LineJob) (j : Option PointJob) → JobShows source log n o j → j ≡ None → o ≡ None
+none_shown source log n None j shows none = refl
+none_shown source log n (Some job) None shows none = absurd shows
+none_shown source log n (Some job) (Some j) shows none = absurd (true≢false (ap is_some none))
+
+-- ---- whether a copy misses a file
+
+abbrev is_short : List Name → Bool
+is_short [] = false
+is_short (q ∷ qs) = true
+
+short_some : (missing : List Name) → missing ≢ [] → is_short missing ≡ true
+short_some [] some = absurd (some refl)
+short_some (q ∷ qs) some = refl
+
+short_times : (missing : List Name) (q : Name) → 0 < times missing q → is_short missing ≡ true
+short_times [] q some = absurd (omega (arith, some))
+short_times (p ∷ ps) q some = refl
+
+short_told : (missing : List Name) → elim missing [ [] ↦ false | q ∷ qs ↦ true ] ≡ is_short missing
+short_told [] = refl
+short_told (q ∷ qs) = refl
+
+docs_told : (seg : ℕ) (files : List (Name × FileMetaData)) → is_docs_of seg (elim files [ [] ↦ None | f ∷ fs ↦ Some f.0 ]) ≡ elim files [ [] ↦ false | f ∷ fs ↦ same f.0 (part_name_of seg Docs) ]
+docs_told seg [] = refl
+docs_told seg (f ∷ fs) = refl
+
+-- the copy of this segment misses a file
+abbrev copy_short : ℕ → Option Job → Bool
+copy_short seg None = false
+copy_short seg (Some c) = is_copy_of seg c && is_short c.missing
+
+misses_told : (seg number : ℕ) (copies : List Job) → misses_file seg number (map told_copy copies) ≡ copy_short seg (copy_at number copies)
+misses_told seg number [] = refl
+misses_told seg number (c ∷ copies) = by (c.number == number) (misses_told seg number copies)
+  where
+    by : (t : Bool) → misses_file seg number (map told_copy copies) ≡ copy_short seg (copy_at number copies)
+        → (if t then is_docs_of seg (told_copy c).first && (told_copy c).misses else misses_file seg number (map told_copy copies)) ≡ copy_short seg (if t then Some c else copy_at number copies)
+    by true rest = λ i. docs_told seg c.want.files i && short_told c.missing i
+    by false rest = rest
+
+-- what is to be done is to fetch a file, or to wait with that
+abbrev is_fetch : CopyStep → Bool
+is_fetch Gone = false
+is_fetch Complete = false
+is_fetch Waits = true
+is_fetch (Wants q meta) = true
+
+gone_misses : (seg : ℕ) (o : Option Job) → ((c : Job) → o ≡ Some c → is_copy_of seg c ≡ false) → copy_short seg o ≡ false
+gone_misses seg None other = refl
+gone_misses seg (Some c) other = ap (λ (t : Bool). t && is_short c.missing) (other c refl)
+
+short_copy : (seg : ℕ) (o : Option Job) (t : Bool) (P : Job → Type 0) → ((c : Job) → P c → is_short c.missing ≡ t) → IsSomeAnd o (λ c. (is_copy_of seg c ≡ true) × P c) → copy_short seg o ≡ t
+short_copy seg None t P tells is = absurd is
+short_copy seg (Some c) t P tells is = ap (λ (b : Bool). b && is_short c.missing) is.0 ∙ tells c is.1
+
+module _ {D : Type 0} where
+  -- a copy misses a file exactly where one is to be fetched
+  step_misses : (seg number : ℕ) (step : CopyStep) (r : ReplicaParts D) → IsStepOf seg number r step → copy_short seg (copy_at number r.copies.running) ≡ is_fetch step
+  step_misses seg number Gone r is = gone_misses seg (copy_at number r.copies.running) is
+  step_misses seg number Complete r is = short_copy seg (copy_at number r.copies.running) false (λ (c : Job). c.missing ≡ []) (λ c none. ap is_short none) is
+  step_misses seg number Waits r is = short_copy seg (copy_at number r.copies.running) true (λ (c : Job). c.missing ≢ []) (λ c some. short_some c.missing some) is.0
+  step_misses seg number (Wants q meta) r is =
+      short_copy seg (copy_at number r.copies.running) true (λ (c : Job). IsNextToFetch c (Some (q, meta))) (λ c next. short_times c.missing q next.0) is.0
+
+  pub place_misses : (seg number : ℕ) (step : CopyStep) (o : Option (Place D)) → IsStepAt seg number o step → misses_file seg number (place_copies o) ≡ is_fetch step
+  place_misses seg number step None is = sym (ap is_fetch is)
+  place_misses seg number step (Some place) is = of_node place.node place.held is
+    where
+      of_node : (x : Node D) (held : Vec Held Global) → IsStepAt seg number (Some (record { node = x; held = held })) step → misses_file seg number (place_copies (Some (record { node = x; held = held }))) ≡ is_fetch step
+      of_node (Primary p) held is = sym (ap is_fetch is)
+      of_node (Replica r) held is = misses_told seg number r.copies.running ∙ step_misses seg number step r is
+      of_node (Down d) held is = sym (ap is_fetch is)
 
 module _ {D : Type 0} where
   -- more than nothing is to be done at replicas alone
@@ -123,6 +202,19 @@ module _ {D : Type 0} (cells : D → Cells) (b : Sheet) (board : Board) (places 
       of_node (Down d) held step files = absurd (not_waits step)
 
       by : (o : Option (Place D)) → IsStepAt seg number o Waits → IsSomeAnd o (λ z. NodeFiles all.1.source cells b.log (λ o. jobs_like places o b.nodes) n z.node) → IsSome (job_at n b.log)
+      by None step files = absurd files
+      by (Some z) step files = of_node z.node z.held step files
+
+  -- a file is to be fetched while the log shows none
+  pub no_job : (n seg number : ℕ) (q : Name) (meta : FileMetaData) → IsNode b.nodes n → IsStepAt seg number (place_of places n) (Wants q meta) → job_at n b.log ≡ None
+  no_job n seg number q meta node is = by (place_of places n) is (all.1.each n node)
+    where
+      of_node : (x : Node D) (held : Vec Held Global) → IsStepAt seg number (Some (record { node = x; held = held })) (Wants q meta) → NodeFiles all.1.source cells b.log (λ o. jobs_like places o b.nodes) n x → job_at n b.log ≡ None
+      of_node (Primary p) held step files = absurd (not_wants q meta step)
+      of_node (Replica r) held step files = none_shown all.1.source b.log n (job_at n b.log) r.job files.job step.1
+      of_node (Down d) held step files = absurd (not_wants q meta step)
+
+      by : (o : Option (Place D)) → IsStepAt seg number o (Wants q meta) → IsSomeAnd o (λ z. NodeFiles all.1.source cells b.log (λ o. jobs_like places o b.nodes) n z.node) → job_at n b.log ≡ None
       by None step files = absurd files
       by (Some z) step files = of_node z.node z.held step files
 

@@ -1,5 +1,5 @@
 -- What the next step of a copy of a merged segment makes of a cluster.
-use Rattle.std.specs.Prelude.{ℕ, ◌≡◌, ◌+◌, ◌∷◌, ◌++◌, true, List, Option, Some, None, IsSome}
+use Rattle.std.specs.Prelude.{ℕ, ◌≡◌, ◌+◌, ◌∷◌, ◌++◌, Bool, true, false, List, Option, Some, None, IsSome}
 use Rattle.nrt_base.specs.declared.numbers.At.{At}
 use Rattle.nrt_base.specs.declared.numbers.LineNo.{LineNo}
 use Rattle.nrt_base.specs.declared.numbers.NodeNo.{NodeNo}
@@ -7,6 +7,7 @@ use Rattle.nrt_base.specs.declared.numbers.SegNo.{SegNo}
 use Rattle.disk_model.specs.Disk.{Cells}
 use Rattle.codec_frame.specs.Checking.{HasFooter}
 use Rattle.copy_state.specs.Meta.{IsMetaOf}
+use Rattle.history_tables.specs.declared.jobs.Job.{Job}
 use Rattle.history_book.specs.Jobs.{job_at}
 use Rattle.history_book.specs.Log.{kept}
 use Rattle.history_book.specs.declared.inner.Inner.TheVariants.{FileOut, TaskEnd}
@@ -22,6 +23,13 @@ use Rattle.cluster_state.specs.Run.{Run}
 use Rattle.cluster_drains.specs.MergePaths.{IsAsBefore, HandsMergedFile, EndsCopyTask}
 use Rattle.cluster_precopies.specs.declared.precopies.CopyTurn.{CopyTurn}
 use Rattle.cluster_precopies.specs.declared.precopies.CopyTurn.TheVariants.{Waits, Hands, Ends}
+
+-- A copy that misses a file waits where the job of a point runs at its node, and is handed the file where none runs; one that misses none, or
+-- does not run, ends.
+abbrev pub IsTurnWhere : Bool → Option Job → CopyTurn → Type 0
+IsTurnWhere misses job Waits = (misses ≡ true) × IsSome job
+IsTurnWhere misses job (Hands file) = (misses ≡ true) × (job ≡ None)
+IsTurnWhere misses job Ends = misses ≡ false
 
 -- ---- over what a path has in hand
 

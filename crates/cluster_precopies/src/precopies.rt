@@ -4,15 +4,18 @@ ghost use Rattle.std.specs.Prelude.{◌≡◌, ◌≤◌, true, false, Some, IsS
 ghost use Rattle.codec_frame.specs.Bytes.{AreBytes};
 ghost use Rattle.copy_state.specs.Meta.{IsMetaOf};
 ghost use Rattle.history_entries.specs.Nodes.{IsNode, primary_of};
+ghost use Rattle.history_book.specs.Jobs.{job_at};
 ghost use Rattle.history_book.specs.Log.{printed};
 ghost use Rattle.cluster_tasks.specs.TaskLog.{carried_out};
 ghost use Rattle.cluster_tasks.specs.Board.{open_merge, spread_at, has_copy_task};
 ghost use Rattle.node_merges.specs.MergeChanges.{MaySettle};
 ghost use Rattle.node_merges.specs.MergePlaces.{IsReplicaIn};
-ghost use Rattle.cluster_state.specs.Run.{IsEnded};
+ghost use Rattle.cluster_places.specs.Places.{place_of};
+ghost use Rattle.cluster_state.specs.Run.{IsEnded, misses_file, misses_at};
+ghost use Rattle.cluster_state.specs.MergedCopies.{place_copies};
 ghost use Rattle.cluster_drains.specs.Running.{AllShown};
 ghost use Rattle.cluster_drains.specs.MergePaths.{IsAsBefore};
-ghost use Rattle.cluster_precopies.specs.CopyTurns.{EndsCopyOf, SettlesCopyOf, StepsCopyTo, TurnsCopy};
+ghost use Rattle.cluster_precopies.specs.CopyTurns.{IsTurnWhere, EndsCopyOf, SettlesCopyOf, StepsCopyTo, TurnsCopy};
 
 use cluster_places::{FileTask, Place};
 use cluster_state::ClusterState;
@@ -117,6 +120,9 @@ fn step_copy<D: FaultDir + Drop>(
     ensures shown { OnOk result (AllShown D.cells ledger.new tasks.new places.new.items) }
     ensures ok { IfOk result (StepsCopyTo line seg by n job ledger.old ledger.new
         tasks.old tasks.new) }
+    ensures turn { IfOk result (IsTurnWhere
+        (misses_file seg.0 job (place_copies (place_of places.old.items n.0)))
+        (job_at n.0 ledger.old.log)) }
     ensures err { OnErr result (ledger.new ≡ ledger.old) }
 {
     match step_in(alloc, places, n, job, seg)? {
@@ -166,6 +172,8 @@ pub fn next_merged<D: FaultDir + Drop>(
     requires sent { has_copy_task n.0 job
         (spread_at (open_merge seg.0 cluster.old.rest.tasks.rows)) ≡ true }
     ensures ok { IfOk result (TurnsCopy line seg by n job cluster.old cluster.new) }
+    ensures turn { IfOk result (IsTurnWhere (misses_at seg.0 n.0 job cluster.old)
+        (job_at n.0 cluster.old.log)) }
     ensures err { OnErr result (IsEnded cluster.old cluster.new) }
 {
     cluster.ended = true;

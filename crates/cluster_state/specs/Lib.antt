@@ -16,4 +16,5 @@ pub mod Settles
 pub mod Lists
 pub mod Merging
 pub mod Sizes
+pub mod MergedCopies
 pub mod Given

@@ -1,15 +1,26 @@
 -- What callers see of a cluster.
-use Rattle.std.specs.Prelude.{ℕ, zero, suc, ◌≡◌, List, Bool, true, false, Option, unwrap_or}
+use Rattle.std.specs.Prelude.{ℕ, zero, suc, ◌≡◌, ◌==◌, ◌&&◌, if◌then◌else◌, List, [], ◌∷◌, Bool, true, false, Option, Some, None, unwrap_or}
 use Rattle.std.specs.List.{slice_get}
+use Rattle.disk_model.specs.Disk.{Name, same}
+use Rattle.file_names.specs.Names.{part_name_of}
+use Rattle.file_names.specs.declared.composed.SegPart.TheVariants.{Docs}
 use Rattle.history_book.specs.declared.inner.Mark.{Mark}
 use Rattle.cluster_tasks.specs.Board.{Board}
 
+-- a copy of a merged segment that runs at a node: its number, the first of the files that it wants, and whether it misses one
+pub record MergedCopy : Type 0 where
+  pub number : ℕ
+  pub first : Option Name
+  pub misses : Bool
+
 -- How many calls of its directory the commit in flight at each node still needs, 0 where none is in flight; whether a merge was cut over
--- since the last point; the sizes of the primary's segments, of which merges are chosen; and the tasks of merges.
+-- since the last point; the sizes of the primary's segments, of which merges are chosen; the copies of merged segments that run at each
+-- node; and the tasks of merges.
 pub record Rest : Type 0 where
   pub calls_left : List ℕ
   pub cut : Bool
   pub sizes : List (Option ℕ)
+  pub copies : List (List MergedCopy)
   pub tasks : Board
 
 -- whether it has ended, how many nodes it has, all that happened, newest first, and what else callers are told
@@ -23,6 +34,21 @@ pub record Run : Type 0 where
 abbrev pub calls_at : ℕ → Run → ℕ
 calls_at zero r = 0
 calls_at (suc k) r = unwrap_or (slice_get r.rest.calls_left k) 0
+
+-- the file is that of the stored documents of this segment
+abbrev pub is_docs_of : ℕ → Option Name → Bool
+is_docs_of seg None = false
+is_docs_of seg (Some q) = same q (part_name_of seg Docs)
+
+-- among these copies the one of this number is of this segment, and misses a file
+abbrev pub misses_file : ℕ → ℕ → List MergedCopy → Bool
+misses_file seg number [] = false
+misses_file seg number (c ∷ copies) = if c.number == number then is_docs_of seg c.first && c.misses else misses_file seg number copies
+
+-- the same of the copies at a node
+abbrev pub misses_at : ℕ → ℕ → ℕ → Run → Bool
+misses_at seg zero number r = false
+misses_at seg (suc k) number r = misses_file seg number (unwrap_or (slice_get r.rest.copies k) [])
 
 -- the call has ended well, and this is the log now
 pub record IsNow (old new : Run) (now : List Mark) : Type 0 where

@@ -33,6 +33,7 @@ impl<D: FaultDir> Model for ClusterState<D> {
     ghost use Rattle.cluster_state.specs.Merging.{MergesStand};
     ghost use Rattle.cluster_state.specs.CallsLeft.{calls_in};
     ghost use Rattle.cluster_state.specs.Sizes.{sizes_in};
+    ghost use Rattle.cluster_state.specs.MergedCopies.{copies_in};
 
     ghost view = { λ c. record {
       ended = c.ended;
@@ -42,6 +43,7 @@ impl<D: FaultDir> Model for ClusterState<D> {
         calls_left = calls_in c.places.items;
         cut = c.ledger.cut;
         sizes = sizes_in c.places.items;
+        copies = copies_in c.places.items;
         tasks = c.tasks;
       };
     } };

@@ -17,7 +17,7 @@ use Rattle.history_book.specs.Jobs.{job_at}
 use Rattle.cluster_tasks.specs.TaskLog.{counted_for}
 use Rattle.cluster_tasks.specs.Board.{open_merge, spread_at, has_copy_task, is_copied}
 use Rattle.cluster_merges.specs.Given.{FileTask}
-use Rattle.line_turns.specs.Given.{Run}
+use Rattle.line_turns.specs.Given.{Run, misses_at}
 use Rattle.cluster_cut_overs.specs.Given.{IsBoard, IsAsBefore, BeginsMerge, HandsMergedFile, EndsCopyTask, CutsOver}
 use Rattle.line_turns.specs.declared.turn.Turn.{Turn}
 use Rattle.line_turns.specs.declared.turn.Turn.TheVariants.{Work, Done, Busy}
@@ -44,15 +44,20 @@ pub record MergeLine (at : At) (factor : ℕ) (old new : Run) : Type 0 where
   pub cause : Option Cause
   pub starts : primary_of (printed old.log) ≢ None → StartsOrRefuses at factor old new cause
 
--- the task of a copy has ended, or had before
+-- the copy misses no file, or does not run any more, and its task has ended; or that had before
 abbrev pub EndsCopyOnce : LineNo → SegNo → Option At → NodeNo → ℕ → Run → Run → Bool → Type 0
-EndsCopyOnce line seg by n job old new true = EndsCopyTask line seg by n job old new
+EndsCopyOnce line seg by n job old new true = EndsCopyTask line seg by n job old new × (misses_at seg.0 n.0 job old ≡ false)
 EndsCopyOnce line seg by n job old new false = IsAsBefore old new
 
--- the merge into the segment has no task of this kind that has not ended, and nothing has changed; or it goes on
+-- Work and Busy exactly where the task has not ended and the copy misses a file: Busy while the job of a point runs at its node, and Work, with the
+-- next file, where none runs.
 abbrev pub PrecopyTurns : LineNo → SegNo → Option At → NodeNo → ℕ → Run → Run → Turn FileTask → Type 0
-PrecopyTurns line seg by n job old new (Work file) = (has_copy_task n.0 job (spread_at (open_merge seg.0 old.rest.tasks.rows)) ≡ true) × HandsMergedFile line n job old new file
-PrecopyTurns line seg by n job old new Busy = (has_copy_task n.0 job (spread_at (open_merge seg.0 old.rest.tasks.rows)) ≡ true) × IsSome (job_at n.0 old.log) × IsAsBefore old new
+PrecopyTurns line seg by n job old new (Work file) =
+    (has_copy_task n.0 job (spread_at (open_merge seg.0 old.rest.tasks.rows)) ≡ true) × HandsMergedFile line n job old new file
+    × (misses_at seg.0 n.0 job old ≡ true) × (job_at n.0 old.log ≡ None)
+PrecopyTurns line seg by n job old new Busy =
+    (has_copy_task n.0 job (spread_at (open_merge seg.0 old.rest.tasks.rows)) ≡ true) × IsSome (job_at n.0 old.log) × IsAsBefore old new
+    × (misses_at seg.0 n.0 job old ≡ true)
 PrecopyTurns line seg by n job old new Done = EndsCopyOnce line seg by n job old new (has_copy_task n.0 job (spread_at (open_merge seg.0 old.rest.tasks.rows)))
 
 -- a part has come for a copy whose task has not ended, or has ended

@@ -106,7 +106,8 @@ pub fn merge_ready<D: FaultDir + Drop>(
     ready_merge(alloc, state, p, line, seg, by, merged)
 }
 
-/// Goes on with a copy of a merged segment. Done says that its task has ended.
+/// Goes on with a copy of a merged segment. Done says that its task has ended. Busy comes exactly where it has not, the copy misses a
+/// file, and the job of a point runs at its node.
 pub fn precopy_next<D: FaultDir + Drop>(
     state: &mut ClusterState<D>,
     alloc: Global,

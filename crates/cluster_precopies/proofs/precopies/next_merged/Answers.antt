@@ -6,7 +6,7 @@ use Rattle.cluster_state.specs.Run.{Run}
 use Rattle.cluster_state.proofs.Ledgers.{asked_of, asked_size}
 use Rattle.cluster_drains.proofs.InsideSteps.{all_is}
 use Rattle.cluster_drains.proofs.TaskPaths.{all_at}
-use Rattle.cluster_precopies.proofs.CopyCalls.{turns_so}
+use Rattle.cluster_precopies.proofs.CopyCalls.{turns_so, turn_where}
 use Rattle.cluster_precopies.proofs.precopies.next_merged.Goals as goal
 
 pub step_copy-requires-clause-shown : goal.step_copy-requires-clause-shown
@@ -32,4 +32,8 @@ invariant_of-cluster-2 g c = λ running. c.in_ok-turn.ensures.shown
 pub returns-clause-ok : goal.returns-clause-ok
 returns-clause-ok g c =
     turns_so c.args.cluster.now c.cluster.inside.ledger c.reserve.new.self c.cluster.inside.tasks c.cluster.view_is c.in_ok-reserve.ensures.log c.in_ok-reserve.ensures.nodes c.step_copy.new.ledger c.step_copy.new.tasks c.args.line c.args.seg c.args.by c.args.n c.args.job
-    _ _ _ c.in_ok-turn.turn c.in_ok-turn.ensures.ok
+    _ _ _ _ c.in_ok-turn.turn c.in_ok-turn.ensures.ok
+
+pub returns-clause-turn : goal.returns-clause-turn
+returns-clause-turn g c =
+    turn_where c.args.cluster.now c.cluster.inside.ledger c.reserve.new.self c.cluster.inside.tasks c.cluster.inside.places.items c.cluster.view_is c.in_ok-reserve.ensures.log c.args.seg c.args.n c.args.job c.in_ok-turn.turn c.in_ok-turn.ensures.turn

@@ -1,11 +1,12 @@
 use Rattle.std.proofs.Common.{◌≡◌, ◌∙◌, Bool, true, false, List, refl, ap, sym, subst}
 use Rattle.history_entries.specs.Nodes.{primary_of}
+use Rattle.history_book.specs.Jobs.{job_at}
 use Rattle.history_book.specs.Log.{Log, printed}
 use Rattle.cluster_tasks.specs.declared.tasks.OpenMerge.{OpenMerge}
 use Rattle.cluster_tasks.specs.Board.{Board, open_merge, spread_at, has_copy_task}
-use Rattle.line_turns.specs.Given.{Run}
+use Rattle.line_turns.specs.Given.{Run, misses_at}
 use Rattle.line_turns.proofs.Given.{third_at}
-use Rattle.cluster_precopies.specs.CopyTurns.{TurnsCopy}
+use Rattle.cluster_precopies.specs.CopyTurns.{IsTurnWhere, TurnsCopy}
 use Rattle.cluster_precopies.specs.declared.precopies.CopyTurn.{CopyTurn}
 use Rattle.cluster_precopies.proofs.CopyCalls.{nothing_done}
 use Rattle.line_merges.specs.TaskCalls.{EndsCopyOnce}
@@ -28,18 +29,20 @@ returns-in-Waits-clause-ok g c =
     let tasks : c.state.inside.tasks ≡ c.args.state.now.rest.tasks = ap (λ (r : Run). r.rest.tasks) c.state.view_is in
     let test : has_copy_task c.args.n.0 c.args.job (spread_at (open_merge c.args.seg.0 c.args.state.now.rest.tasks.rows)) ≡ true = ap (λ (b : Board). has_copy_task c.args.n.0 c.args.job (spread_at (open_merge c.args.seg.0 b.rows))) (sym tasks) ∙ sym c.if-not-has_copy_task.ensures in
     let turn = subst (λ (t : CopyTurn). TurnsCopy c.args.line c.args.seg c.args.by c.args.n c.args.job c.args.state.now c.next_merged.new.cluster t) c.in-Waits.is c.in_ok-next_merged.ensures.ok in
-    (test, turn.1, turn.0)
+    (test, turn.1, turn.0, (subst (λ (t : CopyTurn). IsTurnWhere (misses_at c.args.seg.0 c.args.n.0 c.args.job c.args.state.now) (job_at c.args.n.0 c.args.state.now.log) t) c.in-Waits.is c.in_ok-next_merged.ensures.turn).0)
 
 pub returns-in-Hands-clause-ok : goal.returns-in-Hands-clause-ok
 returns-in-Hands-clause-ok g c =
     let tasks : c.state.inside.tasks ≡ c.args.state.now.rest.tasks = ap (λ (r : Run). r.rest.tasks) c.state.view_is in
     let test : has_copy_task c.args.n.0 c.args.job (spread_at (open_merge c.args.seg.0 c.args.state.now.rest.tasks.rows)) ≡ true = ap (λ (b : Board). has_copy_task c.args.n.0 c.args.job (spread_at (open_merge c.args.seg.0 b.rows))) (sym tasks) ∙ sym c.if-not-has_copy_task.ensures in
     let turn = subst (λ (t : CopyTurn). TurnsCopy c.args.line c.args.seg c.args.by c.args.n c.args.job c.args.state.now c.next_merged.new.cluster t) c.in-Hands.is c.in_ok-next_merged.ensures.ok in
-    (test, turn)
+    let where_is = subst (λ (t : CopyTurn). IsTurnWhere (misses_at c.args.seg.0 c.args.n.0 c.args.job c.args.state.now) (job_at c.args.n.0 c.args.state.now.log) t) c.in-Hands.is c.in_ok-next_merged.ensures.turn in
+    (test, turn, where_is.0, where_is.1)
 
 pub returns-in-Ends-clause-ok : goal.returns-in-Ends-clause-ok
 returns-in-Ends-clause-ok g c =
     let tasks : c.state.inside.tasks ≡ c.args.state.now.rest.tasks = ap (λ (r : Run). r.rest.tasks) c.state.view_is in
     let test : has_copy_task c.args.n.0 c.args.job (spread_at (open_merge c.args.seg.0 c.args.state.now.rest.tasks.rows)) ≡ true = ap (λ (b : Board). has_copy_task c.args.n.0 c.args.job (spread_at (open_merge c.args.seg.0 b.rows))) (sym tasks) ∙ sym c.if-not-has_copy_task.ensures in
     let turn = subst (λ (t : CopyTurn). TurnsCopy c.args.line c.args.seg c.args.by c.args.n c.args.job c.args.state.now c.next_merged.new.cluster t) c.in-Ends.is c.in_ok-next_merged.ensures.ok in
-    subst (λ (t : Bool). EndsCopyOnce c.args.line c.args.seg c.args.by c.args.n c.args.job c.args.state.now c.next_merged.new.cluster t) (sym test) turn
+    subst (λ (t : Bool). EndsCopyOnce c.args.line c.args.seg c.args.by c.args.n c.args.job c.args.state.now c.next_merged.new.cluster t) (sym test)
+    (turn, subst (λ (t : CopyTurn). IsTurnWhere (misses_at c.args.seg.0 c.args.n.0 c.args.job c.args.state.now) (job_at c.args.n.0 c.args.state.now.log) t) c.in-Ends.is c.in_ok-next_merged.ensures.turn)
