@@ -2,7 +2,7 @@
 use Rattle.std.proofs.Common.{◌≡◌, ◌≢◌, ◌<◌, ◌≤◌, ◌⊎◌, ◌&&◌, ◌||◌, ◌==◌, ℕ, Bool, true, false, List, [], ◌∷◌, Some, None, Option, length, not, refl, ap, ◌∙◌, sym, subst, if◌then◌else◌, true≢false}
 use Rattle.std.specs.Prelude.{Result, Ok, Err, IfOk, OnOk, IsTrue, ◌↔◌, IsSomeAnd}
 use Rattle.std.specs.List.{All, AllPairs, Contains}
-use Rattle.std.proofs.lemmas.Bool.{eqb-true, eq-eqb}
+use Rattle.std.proofs.lemmas.Bool.{eqb-true, eq-eqb, not-false}
 use Rattle.history_tables.proofs.RowLemmas.{same_at_self}
 use Rattle.file_deleter.proofs.NameLemmas.{same_self}
 use Rattle.disk_model.specs.Disk.{Content, same}
@@ -72,10 +72,6 @@ is_copying at task log found tells is c =
 same_log : (a b : Log) → ◌≡◌ {A = Option Log} (Some a) (Some b) → a ≡ b
 same_log a b is = cc
 
-not_false : (b : Bool) → not b ≡ false → b ≡ true
-not_false true is = refl
-not_false false is = absurd (true≢false is)
-
 -- what is said of a job that was not stopped
 pub record IsUnstopped (past : Past) (row : JobRow) : Type 0 where
   pub alone : row.later ≡ None
@@ -85,12 +81,12 @@ pub record IsUnstopped (past : Past) (row : JobRow) : Type 0 where
 -- a line that copies by the job is lost where its source is
 source_lost : (past start : Past) (n : ℕ) (begun : Event) → IsJobStart n (Some begun) → is_lost past start begun ≡ false → primary_crashes past ≡ primary_crashes start
 source_lost past start n (Copying m v) job unlost =
-    eqb-true (primary_crashes past) (primary_crashes start) (not_false (primary_crashes past == primary_crashes start) (right_false (not (crashes m.0 past == crashes m.0 start)) (not (primary_crashes past == primary_crashes start)) unlost))
+    eqb-true (primary_crashes past) (primary_crashes start) (not-false (primary_crashes past == primary_crashes start) (right_false (not (crashes m.0 past == crashes m.0 start)) (not (primary_crashes past == primary_crashes start)) unlost))
   where
     right_false : (a b : Bool) → (a || b) ≡ false → b ≡ false
     right_false true b is = absurd (true≢false is)
     right_false false b is = is
-source_lost past start n (Settling v) job unlost = eqb-true (primary_crashes past) (primary_crashes start) (not_false (primary_crashes past == primary_crashes start) unlost)
+source_lost past start n (Settling v) job unlost = eqb-true (primary_crashes past) (primary_crashes start) (not-false (primary_crashes past == primary_crashes start) unlost)
 source_lost past start n begun job unlost = absurd job
 
 pub unstopped : (begun : Event) (row : JobRow) (log : Log) → IsJobStart row.job.node.0 (Some begun) → stopped_log begun row log ≡ None → IsUnstopped (printed log) row
@@ -112,7 +108,7 @@ unstopped begun row log job none = by (is_lost past start begun) refl (is_node_l
     by false is false is' None is'' =
         record {
           alone = is'';
-          node = eqb-true (crashes row.job.node.0 past) (crashes row.job.node.0 start) (not_false (crashes row.job.node.0 past == crashes row.job.node.0 start) is');
+          node = eqb-true (crashes row.job.node.0 past) (crashes row.job.node.0 start) (not-false (crashes row.job.node.0 past == crashes row.job.node.0 start) is');
           source = source_lost past start row.job.node.0 begun job is;
         }
 

@@ -2,7 +2,7 @@
 use Rattle.std.proofs.Common.{◌≡◌, ℕ, zero, suc, ◌+◌, ◌≤◌, ◌<◌, List, [], ◌∷◌, ◌++◌, ◌&&◌, ◌||◌, Bool, true, false, Option, Some, None, length, filter, refl, ap, ◌∙◌, sym, subst, arith, append_assoc, append-nil, if◌then◌else◌}
 use Rattle.std.specs.Prelude.{⊤, ◌==◌, not, is_none}
 use Rattle.std.specs.List.{list_all, flat_map}
-use Rattle.std.proofs.lemmas.Bool.{false≢true, true≢false, and_from, and_parts, or_left, or_right, eqb-true, eq-eqb}
+use Rattle.std.proofs.lemmas.Bool.{false≢true, true≢false, and_from, and_parts, or_left, or_right, eqb-true, eq-eqb, and_right}
 use Rattle.std.proofs.lemmas.Bool.Decides.{nat_tests}
 use Rattle.std.proofs.lemmas.Grind.{flat_map-append}
 use Rattle.std.proofs.lemmas.List.Folds.{list_all-append}
@@ -243,10 +243,6 @@ stays_open : (x b : Bool) → x ≡ false → not b ≡ true → not (x || b) �
 stays_open true b e h = absurd (true≢false e)
 stays_open false b e h = h
 
-and_off : (r s : Bool) → s ≡ false → (r && s) ≡ false
-and_off true s e = e
-and_off false s e = refl
-
 at_self : (a : At) → same_at a a ≡ true
 at_self a = and_from (a.lane.0 == a.lane.0) (a.line.0 == a.line.0) (eq-eqb a.lane.0 a.lane.0 refl) (eq-eqb a.line.0 a.line.0 refl)
 
@@ -292,7 +288,7 @@ module _ (n : ℕ) (few : n ≤ 10000) (past : Past) (e : Entry) (quiet : IsCalm
       let above : m ≤ number_of l = ascends.0 in
       let apart : same_at e.at l.at ≡ false = lower_apart e.at l.at (omega (arith, low, above)) in
       and_from (not (is_answered l.at (e ∷ past))) (list_all (λ k. not (is_answered k.at (e ∷ past))) lines)
-      (stays_open (is_reply e.event && same_at e.at l.at) (is_answered l.at past) (and_off (is_reply e.event) (same_at e.at l.at) apart) parts.0)
+      (stays_open (is_reply e.event && same_at e.at l.at) (is_answered l.at past) (and_right (is_reply e.event) (same_at e.at l.at) apart) parts.0)
       (behind_open (number_of l + 1) lines ascends.1 (omega (arith, low, above)) parts.1)
     where
       lower_apart : (a b : At) → a.line.0 < b.line.0 → same_at a b ≡ false
@@ -339,7 +335,7 @@ module _ (n : ℕ) (few : n ≤ 10000) (past : Past) (e : Entry) (quiet : IsCalm
       by_tests : (r s : Bool) → is_reply e.event ≡ r → (e.at.lane.0 == lane) ≡ s → Split n lane (e ∷ past)
       by_tests false s f g = aside lane split (λ l mine. ap (λ (b : Bool). b && same_at e.at l.at) f) (ap (owned lane) (gained ∙ ap (λ (b : Bool). if b then operations_asked turn.command else []) f))
       by_tests true false f g =
-          aside lane split (λ l mine. and_off (is_reply e.event) (same_at e.at l.at) (other_lane e.at l.at g mine))
+          aside lane split (λ l mine. and_right (is_reply e.event) (same_at e.at l.at) (other_lane e.at l.at g mine))
           (ap (owned lane) (gained ∙ ap (λ (b : Bool). if b then operations_asked turn.command else []) f) ∙ (owned_asked lane e.at.lane.0 (operations_asked turn.command) asked ∙ ap (λ (b : Bool). if b then operations_asked turn.command else []) g))
         where
           other_lane : (a b : At) → (a.lane.0 == lane) ≡ false → (b.lane.0 == lane) ≡ true → same_at a b ≡ false

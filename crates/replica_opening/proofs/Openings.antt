@@ -26,6 +26,7 @@ use Rattle.std.proofs.Math.Bool.{or-true}
 use Rattle.std.specs.Ordering.{nat_cmp}
 use Rattle.std.specs.Cmp.Lexicographic.{slice_cmp}
 use Rattle.std.specs.List.Sorted.{IsStrictlySortedBy}
+use Rattle.std.proofs.lemmas.Bool.{and_left}
 use Rattle.nrt_base.specs.declared.numbers.Version.{Version}
 use Rattle.segment_infos.specs.Infos.{IsRecord, CanSpell}
 use Rattle.seg_reader.specs.Shown.{Shown}
@@ -105,9 +106,6 @@ pub or_false : (b : Bool) → (b || false) ≡ b
 or_false true = refl
 or_false false = refl
 
-and_false : (p b : Bool) → p ≡ false → (p && b) ≡ false
-and_false p b e = ap (λ x. x && b) e
-
 module _ (cells : Cells) (h0 h1 h2 h3 : Holdings) (listed names : List Name) (book : CommitBook) (counts0 : h0.counts ≡ []) (pending0 : h0.due ≡ [])
     (holds1 : HoldsFiles listed h0 h1 cells) (pending1 : (q : Name) → is_due h1 q ≡ (is_due h0 q && not (is_among listed q))) (holds2 : HoldsFiles names h1 h2 cells) (holds3 : HoldsFiles (book_names book) h2 h3 cells)
     (listed_is : (q : Name) → is_among listed q ≡ is_some (cells q).now) where
@@ -115,7 +113,7 @@ module _ (cells : Cells) (h0 h1 h2 h3 : Holdings) (listed names : List Name) (bo
   count1 q = let z : count_of h0 q ≡ 0 = ap (λ (cs : List (Name × ℕ)). count_in cs q) counts0 in omega (arith, z, holds1.counts q)
 
   clear1 : (q : Name) → is_due h1 q ≡ false
-  clear1 q = pending1 q ∙ and_false (is_due h0 q) (not (is_among listed q)) (ap (λ (ns : List Name). is_among ns q) pending0)
+  clear1 q = pending1 q ∙ and_left (is_due h0 q) (not (is_among listed q)) (ap (λ (ns : List Name). is_among ns q) pending0)
 
   whole1 : IsWhole cells h1
   whole1 = record {

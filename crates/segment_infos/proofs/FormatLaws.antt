@@ -2,7 +2,7 @@
 use Rattle.std.proofs.Common.{◌≡◌, ℕ, suc, ◌^◌, ◌<◌, ◌≤◌, ◌⊎◌, Bool, true, false, cond, List, [], ◌∷◌, ◌++◌, length, Some, None, refl, sym, ap, subst, ◌∙◌, arith, inl, inr}
 use Rattle.std.specs.Prelude.{◌&&◌, ◌||◌, ◌==◌, nat_lt, nat_le}
 use Rattle.std.specs.List.{flat_map, All}
-use Rattle.std.proofs.lemmas.Bool.{cases_lt, ltb-true, leb-true, eqb-true, lt-ltb}
+use Rattle.std.proofs.lemmas.Bool.{cases_lt, ltb-true, leb-true, eqb-true, lt-ltb, eq-eqb, and_parts}
 use Rattle.std.proofs.lemmas.Bool.Decides.{nat_tests}
 use Rattle.std.proofs.lemmas.List.Elements.{All-cons, All-nil}
 use Rattle.body_forms.specs.Given.{AreBytes}
@@ -52,20 +52,13 @@ pub record IsHead (head : Head) : Type 0 where
   pub version : 0 < head.version.0
   pub few : head.count ≤ 256
 
-both : (a b : Bool) → (a && b) ≡ true → (a ≡ true) × (b ≡ true)
-both true b h = (refl, h)
-both false b h = absurd cc
-
 le_true : (m n : ℕ) → m ≤ n → nat_le m n ≡ true
 le_true m n h = grind (arith, nat_tests)
 
-eq_true : (m n : ℕ) → m ≡ n → (m == n) ≡ true
-eq_true m n h = grind (arith, nat_tests)
-
 head_from_test : (head : Head) → is_head head ≡ true → IsHead head
 head_from_test head h =
-    let p = both (nat_lt 0 head.generation.0) (nat_lt 0 head.version.0 && nat_le head.count 256) h in
-    let q = both (nat_lt 0 head.version.0) (nat_le head.count 256) p.1 in
+    let p = and_parts (nat_lt 0 head.generation.0) (nat_lt 0 head.version.0 && nat_le head.count 256) h in
+    let q = and_parts (nat_lt 0 head.version.0) (nat_le head.count 256) p.1 in
     record { generation = ltb-true 0 head.generation.0 p.0; version = ltb-true 0 head.version.0 q.0; few = leb-true head.count 256 q.1 }
 
 head_passes : (head : Head) → IsHead head → is_head head ≡ true
@@ -111,7 +104,7 @@ record_from_test r h =
     elim (first_or (r.live == r.rows) (nat_lt r.live r.rows && nat_lt 0 r.live_gen) h) [
       | inl e ↦ let same : r.live ≡ r.rows = eqb-true r.live r.rows e in record { most = omega (arith, same); all = λ _. same }
       | inr e ↦
-          let p = both (nat_lt r.live r.rows) (nat_lt 0 r.live_gen) e in
+          let p = and_parts (nat_lt r.live r.rows) (nat_lt 0 r.live_gen) e in
           let less : r.live < r.rows = ltb-true r.live r.rows p.0 in
           let some : 0 < r.live_gen = ltb-true 0 r.live_gen p.1 in
           record { most = omega (arith, less); all = λ z. absurd (omega (arith, z, some)) }
@@ -124,7 +117,7 @@ record_passes r h = elim (cases_lt r.live r.rows) [
         | inl some ↦ let a : nat_lt r.live r.rows ≡ true = lt-ltb r.live r.rows lt in let b : nat_lt 0 r.live_gen ≡ true = lt-ltb 0 r.live_gen some in rw (a, b) (or_true (r.live == r.rows))
         | inr none ↦ absurd (omega (arith, lt, h.all (omega (arith, none))))
       ]
-  | inr ge ↦ let a : (r.live == r.rows) ≡ true = eq_true r.live r.rows (omega (arith, ge, h.most)) in rw a refl
+  | inr ge ↦ let a : (r.live == r.rows) ≡ true = eq-eqb r.live r.rows (omega (arith, ge, h.most)) in rw a refl
 ]
   where
     or_true : (b : Bool) → (b || true) ≡ true
