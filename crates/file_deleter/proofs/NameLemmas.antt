@@ -109,9 +109,6 @@ all_there cells (x ∷ xs) q all h = by (all_there cells xs q (λ k d lt. all (s
     by more false e h = more h
 
 -- ---- names that ascend stand once each, and names that stand once each and are sorted ascend
-not_same : (o : Ordering) → o ≡ Less → is_eq o ≡ false
-not_same o e = ap is_eq e
-
 above_apart : (x q : Name) (xs : List Name) → same x q ≡ true → AllByRecursion (λ y. slice_cmp nat_cmp x y ≡ Less) xs → times xs q ≡ 0
 above_apart x q [] e h = refl
 above_apart x q (y ∷ ys) e h = by (above_apart x q ys e h.1) (same y q) refl
@@ -119,7 +116,7 @@ above_apart x q (y ∷ ys) e h = by (above_apart x q ys e h.1) (same y q) refl
     by : times ys q ≡ 0 → (b : Bool) → same y q ≡ b → times (y ∷ ys) q ≡ 0
     by rest true f =
         let i : x ≡ y = same_true x q e ∙ sym (same_true y q f) in
-        absurd (true≢false (sym (same_self y) ∙ ap (λ (n : Name). same n y) (sym i) ∙ sym (is_eq-slice_cmp x y) ∙ not_same (slice_cmp nat_cmp x y) h.0))
+        absurd (true≢false (sym (same_self y) ∙ ap (λ (n : Name). same n y) (sym i) ∙ sym (is_eq-slice_cmp x y) ∙ ap is_eq h.0))
     by rest false f = times-cons y ys q ∙ ap (λ b. cond b 1 0 + times ys q) f ∙ ap (λ n. 0 + n) rest
 
 pub once : (xs : List Name) (q : Name) → IsStrictlySortedBy (slice_cmp nat_cmp) xs → times xs q ≤ 1
@@ -173,7 +170,7 @@ sorted_of (x ∷ y ∷ ys) up = λ k d low high. by k d high (sorted_of (y ∷ y
 pub found_at : (xs : List Name) (q : Name) (i : ℕ) → HoldsAt (λ y. slice_cmp nat_cmp y q ≡ Equal) xs i → q ≡ get_or xs i q
 found_at xs q i h = sym (same_true (get_or xs i q) q (sym (is_eq-slice_cmp (get_or xs i q) q) ∙ ap is_eq (h q)))
 
-never_less : (q : Name) → slice_cmp nat_cmp q q ≡ Less → ⊥
+pub never_less : (q : Name) → slice_cmp nat_cmp q q ≡ Less → ⊥
 never_less q e = true≢false (sym (same_self q) ∙ sym (is_eq-slice_cmp q q) ∙ ap is_eq e)
 
 never_greater : (q : Name) → slice_cmp nat_cmp q q ≡ Greater → ⊥

@@ -16,7 +16,7 @@ use Rattle.file_names.proofs.Base36Lemmas.{spelling_of, list_all-append, value_g
 
 -- ---- each is a name
 
-digits_are_name_bytes : (bytes : List ℕ) → list_all is_base36_digit bytes ≡ true → list_all is_name_byte bytes ≡ true
+pub digits_are_name_bytes : (bytes : List ℕ) → list_all is_base36_digit bytes ≡ true → list_all is_name_byte bytes ≡ true
 digits_are_name_bytes [] h = refl
 digits_are_name_bytes (b ∷ bytes) h =
     let e = and_parts (is_base36_digit b) (list_all is_base36_digit bytes) h in

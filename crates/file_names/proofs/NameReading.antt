@@ -3,6 +3,7 @@ use Rattle.std.proofs.Common.{◌≡◌, ℕ, ◌+◌, ◌^◌, ◌<◌, ◌≤�
 use Rattle.std.specs.Option.{option_or}
 use Rattle.std.specs.Prelude.{IfSome}
 use Rattle.std.proofs.lemmas.List.{append_assoc, append_cancel_left, append_cancel_right, take_all}
+use Rattle.std.proofs.lemmas.Option.{same_Some}
 use Rattle.file_names.specs.declared.composed.SegPart.{SegPart}
 use Rattle.file_names.specs.declared.composed.SegPart.TheVariants.{Docs, Post, Info}
 use Rattle.nrt_base.specs.declared.numbers.SegNo.{SegNo}
@@ -170,8 +171,5 @@ module _ (name : List ℕ) (docs post info live : Option ℕ) (d : IfSome docs (
 pub not_none : (n : ℕ) → ◌≡◌ {A = Option ℕ} None (Some n) → ⊥
 not_none n e = cc
 
-pub same_numbered : (m n : ℕ) → ◌≡◌ {A = Option ℕ} (Some m) (Some n) → m ≡ n
-same_numbered m n e = cc
-
 pub same_segment : (m : ℕ) (seg : SegNo) → ◌≡◌ {A = Option ℕ} (Some m) (Some seg.0) → ◌≡◌ {A = Option SegNo} (Some (record { 0 = m })) (Some seg)
-same_segment m seg e = ap (λ (k : ℕ). Some (record { 0 = k })) (same_numbered m seg.0 e)
+same_segment m seg e = ap (λ (k : ℕ). Some (record { 0 = k })) (same_Some m seg.0 e)

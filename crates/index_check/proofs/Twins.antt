@@ -11,11 +11,11 @@ use Rattle.std.proofs.lemmas.Map.Keys.{IsDistinct-push, apart_from_distinct}
 use Rattle.std.proofs.lemmas.Slice.Eq.{bytes_eq-Decides}
 use Rattle.std.proofs.lemmas.List.{drop_more, take_more, take_all, take-append-drop}
 use Rattle.std.proofs.lemmas.List.Folds.{list_any-append}
+use Rattle.std.proofs.lemmas.Bool.{cases_order}
 use Rattle.documents.specs.Documents.{key_cmp}
 use Rattle.nrt_base.proofs.Plain.{cons_parts}
 use Rattle.index_check.specs.declared.rows.LiveRow.{LiveRow}
 use Rattle.index_check.specs.Rows.{keys_of, HaveOwnKeys, IsFirstTwin}
-use Rattle.index_check.proofs.Places.{order}
 
 -- ---- lists
 get_or-front : {X : Type 0} (xs ys : List X) (i : ℕ) (d : X) → i < length xs → get_or (xs ++ ys) i d ≡ get_or xs i d
@@ -68,13 +68,9 @@ not_before rows a b x y lt =
 
 pub one_twin : (rows : List LiveRow) (a b : LiveRow) → IsFirstTwin rows a → IsFirstTwin rows b → a ≡ b
 one_twin rows a b x y =
-    elim (order (length x.before) (length y.before)) [
-      | inl less ↦ absurd (not_before rows a b x y less)
-      | inr rest ↦
-          elim rest [
-            | inl same ↦ same_place x.before y.before a b x.after y.after (sym x.parts ∙ y.parts) same
-            | inr more ↦ absurd (not_before rows b a y x more)
-          ]
+    elim (cases_order (length x.before) (length y.before)) [
+      | inl same ↦ same_place x.before y.before a b x.after y.after (sym x.parts ∙ y.parts) same
+      | inr rest ↦ elim rest [ inl less ↦ absurd (not_before rows a b x y less) | inr more ↦ absurd (not_before rows b a y x more) ]
     ]
 
 -- ---- the set of the keys that were seen

@@ -3,6 +3,7 @@ use Rattle.std.proofs.Common.{◌≡◌, ◌≢◌, ◌<◌, ◌≤◌, ◌⊎�
 use Rattle.std.specs.Prelude.{Result, Ok, Err, IfOk, OnOk, IsTrue, ◌↔◌, IsSomeAnd}
 use Rattle.std.specs.List.{All, AllPairs, Contains}
 use Rattle.std.proofs.lemmas.Bool.{eqb-true, eq-eqb, not-false}
+use Rattle.std.proofs.lemmas.Option.{same_Some}
 use Rattle.history_tables.proofs.RowLemmas.{same_at_self}
 use Rattle.file_deleter.proofs.NameLemmas.{same_self}
 use Rattle.disk_model.specs.Disk.{Content, same}
@@ -68,9 +69,6 @@ is_copying at task log found tells is c =
     }
 
 -- ---- where the job stands
-
-same_log : (a b : Log) → ◌≡◌ {A = Option Log} (Some a) (Some b) → a ≡ b
-same_log a b is = cc
 
 -- what is said of a job that was not stopped
 pub record IsUnstopped (past : Past) (row : JobRow) : Type 0 where
@@ -188,12 +186,12 @@ module _ (at : At) (task : CopyTask) (old new : Run) (row : JobRow) (mine : row.
       by : (st : Standing) → standing_of s.begun row (printed old.log) ≡ st → log_after row.job.at st old.log ≡ Some log → LeavesJob at task (IsCopyReplied at) old new
       by Runs is' after = absurd (cc)
       by Passed is' after =
-          let same : IsNow old new old.log = subst (IsNow old new) (sym (same_log old.log log after)) now in
+          let same : IsNow old new old.log = subst (IsNow old new) (sym (same_Some old.log log after)) now in
           leaves_same at task (IsCopyReplied at) old new same
           (λ copy. absurd (passed_settle s.begun row (printed old.log) there is' (subst IsCopyStart s.start copy)))
       by (Ends cause) is' after =
           let refused : new.log ≡ shown at (Refused cause) ∷ old.log =
-          now.log ∙ (sym (same_log (shown row.job.at (Refused cause) ∷ old.log) log after) ∙ ap (λ (a : At). shown a (Refused cause) ∷ old.log) mine) in
+          now.log ∙ (sym (same_Some (shown row.job.at (Refused cause) ∷ old.log) log after) ∙ ap (λ (a : At). shown a (Refused cause) ∷ old.log) mine) in
           record {
             start = ap (λ (l : Log). start_entry at (printed l)) refused;
             settles = λ left settling from line. absurd (line (ap (λ (l : Log). open_line at (printed l)) refused ∙ refused_closed at (printed old.log) cause));

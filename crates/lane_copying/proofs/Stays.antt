@@ -29,6 +29,7 @@ use Rattle.history_book.specs.Jobs.{job_step, job_of}
 use Rattle.history_book.proofs.ReignLaws.{since_start, node_crashes_rise}
 use Rattle.lane_walks.specs.Walks.{NoneOf, GrowsByOthers, LineStays}
 use Rattle.lane_walks.proofs.WalkLemmas.{other_lane}
+use Rattle.lane_walks.proofs.StayLemmas.{other_line, more_printed}
 use Rattle.cluster_places.specs.declared.tasks.CopyTask.{CopyTask}
 use Rattle.cluster_places.specs.declared.tasks.SettleTask.{SettleTask}
 use Rattle.cluster_state.specs.FilesOut.{file_out, handed_file, is_job}
@@ -36,9 +37,6 @@ use Rattle.cluster_state.specs.Settles.{IsLeft, IsSettling}
 use Rattle.lane_copying.specs.Jobs.{IsJobStart, IsCopyingBy, IsStillSettling}
 
 -- ---- the line
-
-other_line : (a b : At) → lane_name a.lane.0 ≢ lane_name b.lane.0 → same_at a b ≡ false
-other_line a b e = ap (λ (t : Bool). t && (a.line.0 == b.line.0)) (other_lane a.lane.0 b.lane.0 e)
 
 still_by : (b : Bool) (a : At) (e : Event) (past : Past) (n m : ℕ) (o : Option Begun) → FollowsMerging a e past → (if b then begun_by e n m o else o) ≡ o
 still_by true a (Met k kind) past n m o h = refl
@@ -156,12 +154,6 @@ module _ (at : At) (old new : Log) (grows : GrowsByOthers false at.lane.0 old ne
       }
 
 -- ---- what a settle has left
-
-more_printed : (more old : Log) → printed (more ++ old) ≡ printed more ++ printed old
-more_printed [] old = refl
-more_printed (Shown e ∷ more) old = ap (λ (p : Past). e ∷ p) (more_printed more old)
-more_printed (TaskFault e ∷ more) old = ap (λ (p : Past). e ∷ p) (more_printed more old)
-more_printed (Kept i ∷ more) old = more_printed more old
 
 crashes_more : (n : ℕ) (more past : Past) → crashes n past ≤ crashes n (more ++ past)
 crashes_more n [] past = omega arith

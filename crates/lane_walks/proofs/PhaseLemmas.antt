@@ -19,6 +19,7 @@ use Rattle.script_serving.specs.Lines.{command_at, has_line, all_answered, lines
 use Rattle.script_serving.specs.Form.{is_phase, are_ascending}
 use Rattle.script_serving.specs.Replays.{due}
 use Rattle.script_serving.specs.Serves.{is_merge_fault}
+use Rattle.script_serving.proofs.ServingLemmas.{in_front}
 use Rattle.history_book.specs.declared.inner.Mark.TheVariants.{Shown, TaskFault, Kept}
 use Rattle.history_book.specs.Log.{Log, printed, FollowsMerging}
 use Rattle.lane_walks.specs.Owes.{FaultsFit}
@@ -27,7 +28,7 @@ use Rattle.lane_walks.specs.Phases.{lines_in, lane_lines, ArePhasesInForm, Serve
 use Rattle.lane_walks.proofs.WalkLemmas.{other_lane, on_other, on_map, none_serves, all_answered_stays}
 use Rattle.lane_walks.proofs.StayLemmas.{merging_there}
 use Rattle.lane_walks.proofs.PartLemmas.{IsMergeAt, has_command, fits_line, merge_command, serves_part, fresh_since}
-use Rattle.lane_walks.proofs.FormLemmas.{answered-append, answered_front, answered_back, command_of_lane, has-append_left, line_of_phase, line_behind, ascending_back, ascending_front, lane_answered, under_owned, lane_owned}
+use Rattle.lane_walks.proofs.FormLemmas.{answered-append, answered_front, answered_back, command_of_lane, line_of_phase, line_behind, ascending_back, ascending_front, lane_answered, under_owned, lane_owned}
 
 -- ---- lines without entries
 
@@ -97,7 +98,7 @@ module _ (logged : Bool) (lane : ℕ) (phases before after : List Phase) (phase 
   not_before : (at : At) (c : LineCommand) → command_at (lines_under lane phase.lanes) at ≡ Some c → has_line (lane_lines lane before) at ≡ false
   not_before at c h =
       line_behind (lane_lines lane before) _ at ordered
-      (has-append_left (lines_under lane phase.lanes) (lane_lines lane after) at (has_command (lines_under lane phase.lanes) at c h))
+      (in_front (lines_under lane phase.lanes) (lane_lines lane after) at (has_command (lines_under lane phase.lanes) at c h))
 
   serves_on : (more old : Log) → ServesSince logged lane (lines_under lane phase.lanes) more old → FaultsFit logged (more ++ old)
       → all_answered (lines_in before) (printed old) ≡ true → ServesLane logged lane (lane_lines lane phases) (printed old)

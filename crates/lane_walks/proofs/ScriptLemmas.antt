@@ -7,6 +7,7 @@ use Rattle.std.proofs.lemmas.Bool.Decides.{nat_tests}
 use Rattle.history_tables.proofs.RowLemmas.{by_test}
 use Rattle.nrt_base.specs.declared.numbers.At.{At}
 use Rattle.nrt_base.specs.Bytes.{is_between}
+use Rattle.nrt_base.proofs.Plain.{between_high}
 use Rattle.history_entries.specs.declared.entry.History.{History}
 use Rattle.history_entries.specs.Nodes.{Past}
 use Rattle.history_entries.specs.Lines.{same_at}
@@ -33,9 +34,6 @@ form_of script f = record { under = f.phases; ordered = f.ordered }
 
 pub between_low : (low high n : ℕ) → is_between low high n ≡ true → low ≤ n
 between_low low high n h = grind (arith, nat_tests)
-
-pub between_high : (low high n : ℕ) → is_between low high n ≡ true → n ≤ high
-between_high low high n h = grind (arith, nat_tests)
 
 name_beyond : (lane : ℕ) → is_between 1 8 lane ≡ false → 8 < lane_name lane
 name_beyond lane h = grind (arith, nat_tests)

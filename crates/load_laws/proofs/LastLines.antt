@@ -6,6 +6,8 @@ use Rattle.std.proofs.lemmas.Bool.{false≢true, true≢false, and_from, and_par
 use Rattle.std.proofs.lemmas.Bool.Decides.{nat_tests}
 use Rattle.std.proofs.lemmas.List.Folds.{list_all-append}
 use Rattle.std.proofs.lemmas.List.Elements.{filter-append}
+use Rattle.std.proofs.lemmas.Option.{none-some}
+use Rattle.history_tables.proofs.RowLemmas.{same_at_is}
 use Rattle.nrt_base.specs.declared.numbers.At.{At}
 use Rattle.nrt_base.specs.declared.numbers.Gen.{Gen}
 use Rattle.nrt_base.specs.declared.numbers.Version.{Version}
@@ -30,7 +32,7 @@ use Rattle.load_script.specs.Generated.{load_lines, lines_numbered, last_command
 use Rattle.load_script.specs.Totals.{place_behind}
 use Rattle.load_script.proofs.LoadForm.{load_count, last_of}
 use Rattle.load_laws.proofs.CalmPasts.{is_calm_event, IsCalm}
-use Rattle.load_laws.proofs.LoadTurns.{all_of, is_calm_command, at_same, found, command_lane, Turn, turn_of, command_calm, serves_calm, turn_open, turn_suits}
+use Rattle.load_laws.proofs.LoadTurns.{all_of, is_calm_command, found, command_lane, Turn, turn_of, command_calm, serves_calm, turn_open, turn_suits}
 use Rattle.load_laws.proofs.LaneSplits.{all_more, below, first_answered}
 use Rattle.load_laws.proofs.FewNames.{published_by}
 
@@ -66,7 +68,7 @@ pub record Replied (at : At) (past : Past) : Type 0 where
   pub reply : is_reply event ≡ true
 
 pub at_is : (a b : At) → same_at a b ≡ true → (e : Event) → ◌≡◌ {A = Entry} (record { at = a; event = e }) (record { at = b; event = e })
-at_is a b same e = ap (λ (x : At). record { at = x; event = e }) (at_same a b same)
+at_is a b same e = ap (λ (x : At). record { at = x; event = e }) (same_at_is a b same)
 
 pub replied : (at : At) (past : Past) → is_answered at past ≡ true → Replied at past
 replied at [] is = absurd (false≢true is)
@@ -310,16 +312,13 @@ first_start c at past (Some x) e calm first = inr (ap is_reply first)
 first_start c at past None (Refused x) calm first = inr refl
 first_start c at past None e calm first = begins_start c past e calm first
 
-some_none : (y : Event) → Some y ≡ None → ⊥
-some_none y f = cc
-
 or_off : (r b a : Bool) → (r && b || a) ≡ false → a ≡ false
 or_off true true a h = absurd (true≢false h)
 or_off true false a h = h
 or_off false b a h = h
 
 start_off : (s b : Bool) (e : Event) (o : Option Event) → (if s && b then Some e else o) ≡ None → ((s && b) ≡ false) × (o ≡ None)
-start_off true true e o h = absurd (some_none e h)
+start_off true true e o h = absurd (none-some e (sym h))
 start_off true false e o h = (refl, h)
 start_off false b e o h = (refl, h)
 
@@ -343,7 +342,7 @@ has_start n at (e ∷ past) x known last unmet none = by_place (same_at e.at at)
         → start_entry at past ≡ None → ((y : Event) → last_of_line at past ≡ Some y → is_answered at past ≡ false → start_entry at past ≡ None → ⊥) → ⊥
     none_of (Some y) is same off g h ih = ih y is (or_off (is_reply e.event) true (is_answered at past) g) h
     none_of None is same off g h ih =
-        elim (starts n past e known (ap (λ (a : At). last_of_line a past) (at_same e.at at same) ∙ is)) [
+        elim (starts n past e known (ap (λ (a : At). last_of_line a past) (same_at_is e.at at same) ∙ is)) [
           | inl start ↦ true≢false (sym (ap (λ (b : Bool). b && true) start) ∙ off)
           | inr reply ↦ true≢false (sym (ap (λ (b : Bool). b && true || is_answered at past) reply) ∙ g)
         ]

@@ -6,6 +6,7 @@ use Rattle.std.proofs.lemmas.Bool.{false≢true, and_from, and_parts, eq-eqb, eq
 use Rattle.std.proofs.lemmas.Bool.Decides.{nat_tests}
 use Rattle.std.proofs.lemmas.List.Folds.{list_all-append}
 use Rattle.std.proofs.lemmas.List.Elements.{filter-append}
+use Rattle.std.proofs.lemmas.Option.{none-some}
 use Rattle.nrt_base.specs.declared.numbers.At.{At}
 use Rattle.nrt_base.specs.declared.numbers.LaneNo.{LaneNo}
 use Rattle.documents.specs.declared.operation.Op.{Op}
@@ -16,7 +17,7 @@ use Rattle.history_entries.specs.declared.entry.Event.TheVariants.{Accepted, Pub
 use Rattle.history_entries.specs.Nodes.{Past}
 use Rattle.history_entries.specs.Lines.{same_at, is_reply, is_answered, last_of_line}
 use Rattle.history_entries.specs.Legal.{KeepsRule, IsLegalPast}
-use Rattle.history_tables.proofs.RowLemmas.{by_test}
+use Rattle.history_tables.proofs.RowLemmas.{by_test, same_at_is}
 use Rattle.script_serving.specs.declared.script.Line.{Line}
 use Rattle.script_serving.specs.declared.script.LineCommand.{LineCommand}
 use Rattle.script_serving.specs.declared.script.LineCommand.TheVariants.{Put, Delete, Publish, Copy, Settle, Search, Merge}
@@ -174,14 +175,6 @@ command_lane (l ∷ lines) at = by_lane (l.at.lane.0 == at.lane.0) refl (command
         ∙ ap (λ (o : Option LineCommand). if same_at l.at at then Some l.command else o) ih
     by_lane false e ih = rw e ih
 
-pub at_same : (a b : At) → same_at a b ≡ true → a ≡ b
-at_same a b e =
-    let parts = and_parts (a.lane.0 == b.lane.0) (a.line.0 == b.line.0) e in
-    same_parts a.lane.0 b.lane.0 a.line.0 b.line.0 (eqb-true a.lane.0 b.lane.0 parts.0) (eqb-true a.line.0 b.line.0 parts.1)
-  where
-    same_parts : (k l m n : ℕ) → k ≡ l → m ≡ n → ◌≡◌ {A = At} (record { lane = record { 0 = k }; line = record { 0 = m } }) (record { lane = record { 0 = l }; line = record { 0 = n } })
-    same_parts k l m n f g = cc
-
 -- the line at a place
 pub record Found (p : Line → Bool) (at : At) (c : LineCommand) : Type 0 where
   pub line : Line
@@ -200,7 +193,7 @@ found p (l ∷ lines) at c all is = by_place (same_at l.at at) refl is (found p 
     one x y e = cc
 
     by_place : (b : Bool) → same_at l.at at ≡ b → (if b then Some l.command else command_at lines at) ≡ Some c → (command_at lines at ≡ Some c → Found p at c) → Found p at c
-    by_place true e f ih = record { line = l; place = at_same l.at at e; asks = one l.command c f; holds = (and_parts (p l) (list_all p lines) all).0 }
+    by_place true e f ih = record { line = l; place = same_at_is l.at at e; asks = one l.command c f; holds = (and_parts (p l) (list_all p lines) all).0 }
     by_place false e f ih = ih f
 
 -- ---- entries
@@ -288,10 +281,7 @@ serves_calm n size (e ∷ past) legal serves =
 
 unanswered_by : (event : Event) (last : Option Event) → ◌≡◌ {A = Option Event} (elim event [ Fault n kind ↦ last | e ↦ Some e ]) None → (is_reply event ≡ false) × (last ≡ None)
 unanswered_by (Fault n kind) last h = (refl, h)
-unanswered_by event last h = absurd (some_none event h)
-  where
-    some_none : (e : Event) → Some e ≡ None → ⊥
-    some_none e k = cc
+unanswered_by event last h = absurd (none-some event (sym h))
 
 -- a line without an entry but faults has no reply
 unanswered : (at : At) (past : Past) → last_of_line at past ≡ None → is_answered at past ≡ false

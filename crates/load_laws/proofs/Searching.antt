@@ -5,6 +5,7 @@ use Rattle.std.specs.List.{list_all, flat_map}
 use Rattle.std.specs.Option.{option_or}
 use Rattle.std.proofs.lemmas.Bool.{false≢true, true≢false, and_from, and_parts, or_left, or_right, eq-eqb, eqb-true}
 use Rattle.std.proofs.lemmas.Bool.Decides.{nat_tests}
+use Rattle.history_tables.proofs.RowLemmas.{same_at_self}
 use Rattle.nrt_base.specs.declared.numbers.At.{At}
 use Rattle.nrt_base.specs.declared.numbers.NodeNo.{NodeNo}
 use Rattle.nrt_base.specs.declared.numbers.TicketNo.{TicketNo}
@@ -43,14 +44,11 @@ use Rattle.load_script.specs.Totals.{load_documents, place_behind, total_by, tot
 use Rattle.load_script.proofs.LoadForm.{last_of}
 use Rattle.load_laws.proofs.CalmPasts.{IsCalm, calm_primary, calm_runs, calm_crashes, calm_primary_crashes, calm_fault, calm_published, nothing_left}
 use Rattle.load_laws.proofs.LaneSplits.{all_more, all_parts, under_has, with_primary, documents_written}
-use Rattle.load_laws.proofs.FewNames.{never_full, never_spent, at_self}
+use Rattle.load_laws.proofs.FewNames.{never_full, never_spent}
 use Rattle.load_laws.proofs.LastLines.{Known, known_before, known_calm, at_is, replied, started_at, behind, Behind, IsLate, late_of, late_behind, late_more, newest_stays, has_start, place}
 
 abbrev entry : At → Event → Entry
 entry at e = record { at = at; event = e }
-
-some_none : {X : Type 0} (x : X) → Some x ≡ None → ⊥
-some_none x e = cc
 
 -- ---- late refusals
 
@@ -213,7 +211,7 @@ module _ (n : ℕ) (few : n ≤ 10000) where
       let end = publish_end at reply.older (last_of_line at reply.older) reply.event reply.reply has.suits in
       let full = publishes reply.older reply.event there reply.reply end in
       let met : is_answered at (now ∷ reply.older) ≡ true =
-      or_left (is_reply reply.event && same_at at at) (is_answered at reply.older) (and_from (is_reply reply.event) (same_at at at) reply.reply (at_self at)) in
+      or_left (is_reply reply.event && same_at at at) (is_answered at reply.older) (and_from (is_reply reply.event) (same_at at at) reply.reply (same_at_self at)) in
       let late = late_of n (now ∷ reply.older) (still_first reply.older now has.first) met in
       let same = newest_stays n reply.newer (now ∷ reply.older) whole late in
       let v : ℕ = newest_version (now ∷ reply.older) in

@@ -1,8 +1,10 @@
 -- Small facts that every crate needs and std lacks: of the cells of lists, of pairs, results and tests.
 -- std has those of `&&` and `||` (`and_parts`, `and_from`, `or_cases`, ..), of `<` and `≤` as tests (`ltb-true`, `leb-true`, `eqb-true`, ..)
 -- and of `Some` (`same_Some`, `none-some`).
-use Rattle.std.proofs.Common.{◌≡◌, Bool, false, List, [], ◌∷◌, Result, Ok, Err}
-use Rattle.std.specs.Prelude.{IsTrue}
+use Rattle.std.proofs.Common.{◌≡◌, ◌≤◌, ℕ, Bool, true, false, List, [], ◌∷◌, Result, Ok, Err}
+use Rattle.std.specs.Prelude.{IsTrue, nat_le}
+use Rattle.std.proofs.lemmas.Bool.{leb-true, and_parts}
+use Rattle.nrt_base.specs.Bytes.{is_between}
 
 -- ---- lists
 
@@ -41,6 +43,10 @@ same_err d e same = cc
 
 pub false_never : (b : Bool) → b ≡ false → IsTrue b → ⊥
 false_never b e h = cc
+
+-- what a number between two others is at most
+pub between_high : (low high n : ℕ) → is_between low high n ≡ true → n ≤ high
+between_high low high n h = leb-true n high (and_parts (nat_le low n) (nat_le n high) h).1
 
 -- what never holds is what `false` says
 pub false_says : (X : Type 0) → (X → ⊥) → (IsTrue false → X) × (X → IsTrue false)

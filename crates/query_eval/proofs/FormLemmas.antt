@@ -5,14 +5,11 @@ use Rattle.std.specs.Prelude.{◌&&◌, nat_le, IsTrue}
 use Rattle.std.specs.List.{list_all}
 use Rattle.std.proofs.Math.Bool.{and-true}
 use Rattle.std.proofs.lemmas.Bool.{and_parts, leb-true}
+use Rattle.text_query.proofs.TreeLemmas.{all_have_form-row}
 use Rattle.documents.specs.declared.query.Query.{Query, Phrase, All, Any, Not, Row_of-Query, end_of-Query, more_of-Query, items-the_row-Query, items_hidden-the_row-Query-0}
 use Rattle.documents.specs.declared.query.Query.TheBlock.{hidden-the_row-Query-1}
 use Rattle.documents.specs.Matching.{has_form, all_have_form, count_parts}
 use Rattle.documents.proofs.MatchingLemmas.{row_of}
-
-all_have_form-row : (n : _) (row : Row_of-Query n) → all_have_form row ≡ list_all has_form (items-the_row-Query n row)
-all_have_form-row n end_of-Query = refl
-all_have_form-row n (more_of-Query part parts) = ap (λ (b : Bool). has_form part && b) (all_have_form-row _ parts)
 
 pub form_all : (query : Query) (parts : List Query) → query ≡ All parts → IsTrue (has_form query) → IsTrue (list_all has_form parts)
 form_all query parts e form =

@@ -4,6 +4,7 @@ use Rattle.std.specs.Prelude.{Contains, IfSome}
 use Rattle.std.specs.List.{flat_map}
 use Rattle.std.proofs.Math.Dec.{ltb as nat_lt}
 use Rattle.std.proofs.lemmas.List.{take-append-drop}
+use Rattle.std.proofs.lemmas.Bool.{cases_order}
 use Rattle.disk_model.specs.Disk.{Name, Content, Cell, Cells, Image, is_among, reads_of}
 use Rattle.file_names.specs.Names.{commit_name_of, commit_number}
 use Rattle.file_names.proofs.NameLaws.{commit_name_is_one, commit_number-commit_name}
@@ -44,16 +45,10 @@ not_above image m n x y a b lt =
     let at : commit_number (commit_name_of n) ≡ n = commit_number-commit_name n (omega (arith, b.newest.below)) in
     some_none (image (commit_name_of n)) b.bytes b.newest.there (a.newest.greatest (commit_name_of n) (commit_name_is_one n b.newest.some b.newest.below) (omega (arith, at, lt)))
 
-order : (m n : ℕ) → (m < n) ⊎ ((m ≡ n) ⊎ (n < m))
-order m n = grind arith
-
 one_shown : (image : Image) (m n : ℕ) (x y : Infos) → ShowsCommit image m x → ShowsCommit image n y → (m ≡ n) × (x ≡ y)
-one_shown image m n x y a b = elim (order m n) [
-  | inl less ↦ absurd (not_above image m n x y a b less)
-  | inr rest ↦ elim rest [
-    | inl same ↦ (same, infos_files_one_to_one.one_value b.bytes x y (subst (λ (t : List ℕ). IsInfosFile x t) (same_bytes (image (commit_name_of n)) a.bytes b.bytes (ap (λ k. image (commit_name_of k)) (sym same) ∙ a.newest.there) b.newest.there) a.spelled) b.spelled)
-    | inr more ↦ absurd (not_above image n m y x b a more)
-  ]
+one_shown image m n x y a b = elim (cases_order m n) [
+  | inl same ↦ (same, infos_files_one_to_one.one_value b.bytes x y (subst (λ (t : List ℕ). IsInfosFile x t) (same_bytes (image (commit_name_of n)) a.bytes b.bytes (ap (λ k. image (commit_name_of k)) (sym same) ∙ a.newest.there) b.newest.there) a.spelled) b.spelled)
+  | inr rest ↦ elim rest [ inl less ↦ absurd (not_above image m n x y a b less) | inr more ↦ absurd (not_above image n m y x b a more) ]
 ]
 
 pub one_found : (image : Image) (a b : Option ℕ) (x y : Infos) → FindsPoint image a x → FindsPoint image b y → (a ≡ b) × (x ≡ y)

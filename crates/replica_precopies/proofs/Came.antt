@@ -38,6 +38,7 @@ use Rattle.replica_parts.proofs.Segments.{segment_infos, segment_files}
 use Rattle.replica_parts.proofs.Sparing.{copied_part}
 use Rattle.replica_parts.proofs.Temporary.{book_no_temporary}
 use Rattle.replica_parts.proofs.Waiting.{temp_free, waits_arrived}
+use Rattle.replica_parts.proofs.Appears.{only_one}
 use Rattle.replica_precopies.proofs.Moved.{moved_whole, moved_sourced}
 
 -- a copy in its own place
@@ -48,9 +49,6 @@ with_same number (x ∷ xs) c e = by (with_same number xs c) (x.number == number
     by : (copy_at number xs ≡ Some c → copies_with number c xs ≡ xs) → (b : Bool) → (if b then Some x else copy_at number xs) ≡ Some c → (if b then c ∷ xs else x ∷ copies_with number c xs) ≡ x ∷ xs
     by more true g = let here : x ≡ c = cc in ap (λ (y : Job). y ∷ xs) (sym here)
     by more false g = ap (λ (ys : List Job). x ∷ ys) (more g)
-
-one_name : (x q : Name) → is_among (x ∷ []) q ≡ true → x ≡ q
-one_name x q there = elim (or_cases (same x q) false there) [ inl here ↦ same_true x q here | inr none ↦ absurd (true≢false (sym none)) ]
 
 module _ {D : Type 0} (cells : D → Cells) (p : Parts D) (is : IsWholeReplica cells p) (number : ℕ) (c : Job) (e : copy_at number p.copies.running ≡ Some c) (name : Name) (missing : 0 < times c.missing name) where
   m : IsMergeCopy (cells p.dir) p.files p.jobs c
@@ -274,7 +272,7 @@ module _ {D : Type 0} (cells : D → Cells) (p : Parts D) (is : IsWholeReplica c
   -- the temporary name alone comes to stand
   pub comes_appears : (result : Result T E) → PartComes c now name bytes p.files files (cells p.dir) (cells dir) result → AppearsOnly (λ q. q ≡ temp_name_of name number) (cells p.dir) (cells dir)
   comes_appears result comes = keeps_only (λ q. q ≡ temp_name_of name number) (temp_name_of name c.number ∷ []) p.files files (cells p.dir) (cells dir) comes.moves.keeps
-      (λ q there none. sym (one_name (temp_name_of name c.number) q there) ∙ ap (temp_name_of name) (number_at number p.copies.running c e))
+      (λ q there none. sym (only_one (temp_name_of name c.number) q there) ∙ ap (temp_name_of name) (number_at number p.copies.running c e))
 
   pub comes_stays : (result : Result T E) → PartComes c now name bytes p.files files (cells p.dir) (cells dir) result → KeepsBytes p.files files (cells p.dir) (cells dir)
   comes_stays result comes = record { held = comes.moves.keeps.reads }

@@ -126,7 +126,3 @@ beside_apart names (x ∷ xs) = by (beside_apart names xs) (overlaps names x) re
         → AllByRecursion (λ c. SharesNone (copied_names c) names) (cond (not b) (x ∷ copies_beside names xs) (copies_beside names xs))
     by more true f = more
     by more false f = (shares_none names x f, more)
-
--- two calls in a row, of which the second holds no more than the first
-pub bytes_then : (h0 h1 h2 : Holdings) (a b c : Cells) → KeepsBytes h0 h1 a b → KeepsBytes h1 h2 b c → ((q : Name) → count_of h2 q ≤ count_of h1 q) → KeepsBytes h0 h2 a c
-bytes_then h0 h1 h2 a b c x y fewer = record { held = λ q had has. let mid : 0 < count_of h1 q = omega (arith, has, fewer q) in y.held q mid has ∙ x.held q had mid }

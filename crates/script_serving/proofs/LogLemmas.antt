@@ -3,6 +3,7 @@ use Rattle.std.proofs.Common.{◌≡◌, ℕ, Bool, true, false, ◌&&◌, ◌||
 use Rattle.std.specs.Prelude.{if◌then◌else◌}
 use Rattle.std.proofs.Math.Seq.{drop-append_seam}
 use Rattle.std.proofs.lemmas.Bool.{false≢true, eq-eqb}
+use Rattle.std.proofs.lemmas.Option.{none-some}
 use mathlib.Core.List.{IsPrefix}
 use Rattle.nrt_base.specs.declared.numbers.At.{At}
 use Rattle.documents.specs.declared.operation.Op.{Op}
@@ -33,12 +34,9 @@ logged_by e answered ops = elim e [ Accepted seq op ↦ if answered then ops els
 
 -- ---- when a line has its reply
 
-none_some : (e : Event) → Some e ≡ None → ⊥
-none_some e h = cc
-
 unanswered_by : (event : Event) (last : Option Event) → last_by event last ≡ None → (is_reply event ≡ false) × (last ≡ None)
 unanswered_by (Fault n kind) last h = (refl, h)
-unanswered_by event last h = absurd (none_some event h)
+unanswered_by event last h = absurd (none-some event (sym h))
 
 no_reply : (reply same rest : Bool) → reply ≡ false → rest ≡ false → (reply && same || rest) ≡ false
 no_reply true same rest h g = absurd (false≢true (sym h))

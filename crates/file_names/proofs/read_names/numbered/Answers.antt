@@ -1,8 +1,9 @@
 use Rattle.std.proofs.Common.{◌+◌, ◌++◌, codes, Some, None, sym, ◌∙◌}
 use Rattle.std.proofs.lemmas.Bool.Decides.{Decides-eqb}
 use Rattle.std.proofs.lemmas.Slice.Eq.{strip_suffix_is}
+use Rattle.std.proofs.lemmas.Option.{same_Some}
 use Rattle.file_names.specs.Base36.{base36_of}
-use Rattle.file_names.proofs.NameReading.{numbered_is, before_ending, cut_there, same_numbered, not_none, rest_is}
+use Rattle.file_names.proofs.NameReading.{numbered_is, before_ending, cut_there, not_none, rest_is}
 use Rattle.file_names.proofs.read_names.numbered.Goals as goal
 
 pub returns-in_err-front-clause-all : goal.returns-in_err-front-clause-all
@@ -30,4 +31,4 @@ returns-clause-all c = λ made n low e.
     let is = strip_suffix_is Decides-eqb c.args.name.now c.args.ending.now (Some c.in_ok-front.front) c.in_ok-front.ensures.cases in
     let mark = c.in_ok-at.ensures in
     let there = cut_there front made c.in_ok-at.at n low mark.1 mark.2 (before_ending c.args.name.now front c.args.ending.now made n is e) in
-    (there.0, same_numbered c.in_ok-n.n n (c.in_ok-n.ensures.all n low (rest_is (c.in_ok-at.at + 1) front ∙ there.1)))
+    (there.0, same_Some c.in_ok-n.n n (c.in_ok-n.ensures.all n low (rest_is (c.in_ok-at.at + 1) front ∙ there.1)))
