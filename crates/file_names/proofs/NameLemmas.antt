@@ -1,5 +1,5 @@
 -- Bytes of which none is refused are the bytes of a file's name, and how they lie in 64 bytes.
-use Rattle.std.proofs.Common.{◌≡◌, ℕ, ◌-◌, ◌≤◌, Bool, true, false, not, cond, nat_lt, nat_eq, List, ◌++◌, length, take, drop, get_or, replicate, None, Some, refl, sym, ap, ◌∙◌, arith}
+use Rattle.std.proofs.Common.{◌≡◌, ℕ, ◌-◌, ◌≤◌, Bool, true, false, not, cond, nat_lt, nat_eq, List, ◌++◌, length, take, drop, get_or, replicate, None, Some, sym, ap, ◌∙◌, arith}
 use Rattle.std.specs.List.{list_all, position, position_or_len}
 use Rattle.file_names.specs.Names.{is_name_byte, is_file_name}
 use Rattle.std.proofs.lemmas.Grind.{common_steps}

@@ -1,5 +1,5 @@
 -- A search that was handed out: its version stays as it was, whatever others append.
-use Rattle.std.proofs.Common.{◌≡◌, ◌≤◌, ℕ, false, List, [], ◌∷◌, ◌++◌, Some, None, Option, refl, ap, ◌∙◌, sym, subst}
+use Rattle.std.proofs.Common.{◌≡◌, ◌≤◌, ℕ, false, List, [], ◌++◌, Some, None, Option, refl, ap, ◌∙◌, sym, subst}
 use Rattle.nrt_base.specs.declared.doc.Doc.{Doc}
 use Rattle.nrt_base.specs.declared.numbers.At.{At}
 use Rattle.nrt_base.specs.declared.numbers.NodeNo.{NodeNo}
@@ -19,7 +19,6 @@ use Rattle.history_entries.specs.Legal.{IsLegalPast}
 use Rattle.history_entries.specs.Points.{documents_at}
 use Rattle.history_entries.specs.Tickets.{Ticket, open_ticket}
 use Rattle.history_laws.proofs.PointLemmas.{documents_stay_lem}
-use Rattle.history_book.specs.declared.inner.Mark.TheVariants.{Shown as ShownMark, TaskFault, Kept}
 use Rattle.history_book.specs.Log.{Log, printed}
 use Rattle.lane_walks.specs.Walks.{GrowsByOthers, LineStays}
 use Rattle.lane_walks.proofs.StayLemmas.{more_printed}

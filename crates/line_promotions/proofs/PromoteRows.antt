@@ -1,5 +1,5 @@
 -- What a line that promotes a node finds of the log.
-use Rattle.std.proofs.Common.{◌≡◌, ◌≤◌, ◌<◌, ◌^◌, ◌+◌, ℕ, Bool, true, false, true≢false, ◌∷◌, Some, None, Option, refl, ap, ◌∙◌, sym, subst, arith}
+use Rattle.std.proofs.Common.{◌≡◌, ◌≤◌, ◌<◌, ◌^◌, ◌+◌, ℕ, Bool, true, false, true≢false, ◌∷◌, Some, None, Option, refl, sym, subst, arith}
 use Rattle.std.specs.Prelude.{not, is_some, nat_le, nat_lt, Result, Ok, Err}
 use Rattle.std.specs.Option.{option_or}
 use Rattle.std.proofs.lemmas.Bool.Decides.{nat_tests}

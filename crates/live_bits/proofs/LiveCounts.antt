@@ -1,5 +1,5 @@
 -- Counts of live rows.
-use Rattle.std.proofs.Common.{◌≡◌, ℕ, ◌+◌, Bool, true, false, cond, List, [], ◌∷◌, length, replicate, refl, ap, arith}
+use Rattle.std.proofs.Common.{◌≡◌, ◌+◌, Bool, true, false, cond, List, [], ◌∷◌, length, replicate, refl, ap, arith}
 use Rattle.std.proofs.lemmas.List.Sums.{sum_by-cons, count_by-le-length}
 use Rattle.live_bits.specs.LiveRows.{live_rows}
 

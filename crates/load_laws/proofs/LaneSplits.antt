@@ -1,6 +1,6 @@
 -- How far each lane has come: its answered lines, and the operations that they asked for; behind the join the documents of the script are written.
 use Rattle.std.proofs.Common.{◌≡◌, ℕ, zero, suc, ◌+◌, ◌≤◌, ◌<◌, List, [], ◌∷◌, ◌++◌, ◌&&◌, ◌||◌, Bool, true, false, Option, Some, None, length, filter, refl, ap, ◌∙◌, sym, subst, arith, append_assoc, append-nil, if◌then◌else◌}
-use Rattle.std.specs.Prelude.{⊤, ◌==◌, not, is_none}
+use Rattle.std.specs.Prelude.{◌==◌, not, is_none}
 use Rattle.std.specs.List.{list_all, flat_map}
 use Rattle.std.proofs.lemmas.Bool.{false≢true, true≢false, and_from, and_parts, or_left, or_right, eqb-true, eq-eqb, and_right}
 use Rattle.std.proofs.lemmas.Bool.Decides.{nat_tests}
@@ -19,7 +19,7 @@ use Rattle.history_entries.specs.declared.cause.Cause.TheVariants.{NoPrimary}
 use Rattle.history_entries.specs.declared.entry.Entry.{Entry}
 use Rattle.history_entries.specs.declared.entry.Event.{Event}
 use Rattle.history_entries.specs.declared.entry.Event.TheVariants.{Accepted, Promoted, Fault, Refused}
-use Rattle.history_entries.specs.Nodes.{Past, primary_of}
+use Rattle.history_entries.specs.Nodes.{Past}
 use Rattle.history_entries.specs.Lines.{same_at, is_reply, is_answered, last_of_line}
 use Rattle.history_entries.specs.Points.{operations_written}
 use Rattle.history_entries.specs.Legal.{IsLegalPast}
@@ -30,7 +30,7 @@ use Rattle.script_serving.specs.declared.script.LineCommand.TheVariants.{Put, De
 use Rattle.script_serving.specs.Lines.{lines_of, lines_of_phase, command_at, has_line, earlier_answered, earlier_phases_answered}
 use Rattle.script_serving.specs.Serves.{Begins, First, Follows, Suits, ServesLanes, ServesPhases, is_merge_fault}
 use Rattle.script_serving.specs.Refusals.{when, without_primary, refusal}
-use Rattle.script_text.specs.Grammar.{of_lane, lane_entry, lanes_from, phase_of}
+use Rattle.script_text.specs.Grammar.{of_lane, lanes_from, phase_of}
 use Rattle.script_text.proofs.FormLemmas.{all_kept, all_of_phase, under, under_entry, number_of, AscendFrom, lower, back_from}
 use Rattle.load_script.specs.Generated.{load_lines, generated_script}
 use Rattle.load_script.specs.Totals.{operations_asked, operations_of_lines, load_documents}

@@ -1,6 +1,6 @@
 -- The lines behind the join: each comes after those before it, and after all before the join.
 use Rattle.std.proofs.Common.{◌≡◌, ℕ, zero, suc, ◌+◌, ◌≤◌, ◌<◌, List, [], ◌∷◌, ◌++◌, ◌&&◌, ◌||◌, Bool, true, false, Option, Some, None, length, filter, refl, ap, ◌∙◌, sym, subst, arith, inl, inr, if◌then◌else◌}
-use Rattle.std.specs.Prelude.{⊤, ◌⊎◌, ◌==◌, not, slice_get}
+use Rattle.std.specs.Prelude.{◌⊎◌, ◌==◌, not, slice_get}
 use Rattle.std.specs.List.{list_all}
 use Rattle.std.proofs.lemmas.Bool.{false≢true, true≢false, and_from, and_parts, or_right, eq-eqb, eqb-true}
 use Rattle.std.proofs.lemmas.Bool.Decides.{nat_tests}
@@ -9,8 +9,6 @@ use Rattle.std.proofs.lemmas.List.Elements.{filter-append}
 use Rattle.std.proofs.lemmas.Option.{none-some}
 use Rattle.history_tables.proofs.RowLemmas.{same_at_is}
 use Rattle.nrt_base.specs.declared.numbers.At.{At}
-use Rattle.nrt_base.specs.declared.numbers.Gen.{Gen}
-use Rattle.nrt_base.specs.declared.numbers.Version.{Version}
 use Rattle.history_entries.specs.declared.cause.Cause.{Cause}
 use Rattle.history_entries.specs.declared.entry.Entry.{Entry}
 use Rattle.history_entries.specs.declared.entry.Event.{Event}
@@ -24,7 +22,7 @@ use Rattle.script_serving.specs.declared.script.Line.{Line}
 use Rattle.script_serving.specs.declared.script.LineCommand.{LineCommand}
 use Rattle.script_serving.specs.declared.script.LineCommand.TheVariants.{Put, Delete, Publish, Copy, Settle, Search, Merge}
 use Rattle.script_serving.specs.Lines.{lines_of, command_at, earlier_answered}
-use Rattle.script_serving.specs.Serves.{Begins, First, Follows, Suits, ServesLanes, ServesPhases}
+use Rattle.script_serving.specs.Serves.{Begins, First, Suits, ServesLanes, ServesPhases}
 use Rattle.script_serving.specs.Refusals.{refusal}
 use Rattle.script_text.specs.Grammar.{of_lane}
 use Rattle.script_text.proofs.FormLemmas.{all_kept}

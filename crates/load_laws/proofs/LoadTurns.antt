@@ -1,15 +1,13 @@
 -- What a history that serves the generated script shows of each of its entries.
-use Rattle.std.proofs.Common.{◌≡◌, ℕ, zero, suc, ◌+◌, ◌-◌, ◌≤◌, ◌<◌, ◌^◌, List, [], ◌∷◌, ◌++◌, ◌&&◌, ◌||◌, Bool, true, false, Option, Some, None, length, filter, map, refl, ap, ◌∙◌, sym, subst, arith, inl, inr, append-nil, if◌then◌else◌}
-use Rattle.std.specs.Prelude.{⊤, ◌⊎◌, ◌==◌, ◌%◌, not, nat_lt}
-use Rattle.std.specs.List.{list_all, flat_map}
+use Rattle.std.proofs.Common.{◌≡◌, ℕ, zero, suc, ◌+◌, ◌-◌, ◌≤◌, ◌<◌, ◌^◌, List, [], ◌∷◌, ◌++◌, ◌&&◌, ◌||◌, Bool, true, false, Option, Some, None, filter, refl, ap, ◌∙◌, sym, subst, arith, inl, inr, append-nil, if◌then◌else◌}
+use Rattle.std.specs.Prelude.{◌⊎◌, ◌==◌, ◌%◌, nat_lt}
+use Rattle.std.specs.List.{list_all}
 use Rattle.std.proofs.lemmas.Bool.{false≢true, and_from, and_parts, eq-eqb, eqb-true}
 use Rattle.std.proofs.lemmas.Bool.Decides.{nat_tests}
 use Rattle.std.proofs.lemmas.List.Folds.{list_all-append}
 use Rattle.std.proofs.lemmas.List.Elements.{filter-append}
 use Rattle.std.proofs.lemmas.Option.{none-some}
 use Rattle.nrt_base.specs.declared.numbers.At.{At}
-use Rattle.nrt_base.specs.declared.numbers.LaneNo.{LaneNo}
-use Rattle.documents.specs.declared.operation.Op.{Op}
 use Rattle.history_entries.specs.declared.cause.Cause.{Cause}
 use Rattle.history_entries.specs.declared.entry.Entry.{Entry}
 use Rattle.history_entries.specs.declared.entry.Event.{Event}
@@ -17,7 +15,7 @@ use Rattle.history_entries.specs.declared.entry.Event.TheVariants.{Accepted, Pub
 use Rattle.history_entries.specs.Nodes.{Past}
 use Rattle.history_entries.specs.Lines.{same_at, is_reply, is_answered, last_of_line}
 use Rattle.history_entries.specs.Legal.{KeepsRule, IsLegalPast}
-use Rattle.history_tables.proofs.RowLemmas.{by_test, same_at_is}
+use Rattle.history_tables.proofs.RowLemmas.{same_at_is}
 use Rattle.script_serving.specs.declared.script.Line.{Line}
 use Rattle.script_serving.specs.declared.script.LineCommand.{LineCommand}
 use Rattle.script_serving.specs.declared.script.LineCommand.TheVariants.{Put, Delete, Publish, Copy, Settle, Search, Merge}
@@ -27,7 +25,7 @@ use Rattle.script_serving.specs.Refusals.{refusal}
 use Rattle.script_text.specs.Grammar.{of_lane, lane_entry, lanes_from}
 use Rattle.script_text.proofs.FormLemmas.{all_lines, under-append, none_under}
 use Rattle.script_text.proofs.NumberLaws.{value_of-decimal}
-use Rattle.load_script.specs.Generated.{load_lane, load_key, load_lines, load_commands, lines_numbered, last_commands, generated_script}
+use Rattle.load_script.specs.Generated.{load_lane, load_key, load_lines, load_commands, lines_numbered, generated_script}
 use Rattle.load_script.specs.Totals.{operations_asked}
 use Rattle.load_script.proofs.LoadForm.{last_of, phases_for, lines_all, commands_all, load_all}
 use Rattle.load_laws.proofs.KeyedOps.{is_keyed, owner, owner_of}

@@ -1,12 +1,12 @@
 -- The parts of a query that has its form have theirs.
-use Rattle.std.proofs.Common.{◌≡◌, ℕ, ◌<◌, List, length, Bool, refl, sym, ap, ◌∙◌, arith}
+use Rattle.std.proofs.Common.{◌≡◌, ℕ, ◌<◌, List, length, sym, ap, ◌∙◌, arith}
 use denote.Hole.Carrier.{hidden}
-use Rattle.std.specs.Prelude.{◌&&◌, nat_le, IsTrue}
+use Rattle.std.specs.Prelude.{nat_le, IsTrue}
 use Rattle.std.specs.List.{list_all}
 use Rattle.std.proofs.Math.Bool.{and-true}
 use Rattle.std.proofs.lemmas.Bool.{and_parts, leb-true}
 use Rattle.text_query.proofs.TreeLemmas.{all_have_form-row}
-use Rattle.documents.specs.declared.query.Query.{Query, Phrase, All, Any, Not, Row_of-Query, end_of-Query, more_of-Query, items-the_row-Query, items_hidden-the_row-Query-0}
+use Rattle.documents.specs.declared.query.Query.{Query, Phrase, All, Any, Not, items_hidden-the_row-Query-0}
 use Rattle.documents.specs.declared.query.Query.TheBlock.{hidden-the_row-Query-1}
 use Rattle.documents.specs.Matching.{has_form, all_have_form, count_parts}
 use Rattle.documents.proofs.MatchingLemmas.{row_of}

@@ -1,6 +1,6 @@
 -- No bytes are both a script and refused, and bytes have one first refused line at most.
 use Rattle.std.proofs.Common.{◌≡◌, ℕ, ◌<◌, ◌≤◌, ◌+◌, Bool, true, false, List, [], ◌∷◌, length, refl, ap, ◌∙◌, sym, subst, arith, inl, inr, Err}
-use Rattle.std.specs.Prelude.{◌&&◌, ◌||◌, ◌^◌, not, nat_lt, codes, bytes_eq, if◌then◌else◌}
+use Rattle.std.specs.Prelude.{◌||◌, ◌^◌, not, nat_lt, codes, bytes_eq, if◌then◌else◌}
 use Rattle.std.specs.Fmt.{decimal}
 use Rattle.std.proofs.Math.Bool.{or-true}
 use Rattle.std.proofs.lemmas.Bool.{cases_order, lt-ltb, and_from}
@@ -8,14 +8,14 @@ use Rattle.nrt_base.proofs.Plain.{between_high}
 use Rattle.text_query.specs.declared.fault.QueryFault.{QueryFault}
 use Rattle.text_query.specs.declared.fault.QueryFault.TheVariants.{Memory, Empty, Syntax, TooDeep, TooMany}
 use Rattle.text_query.specs.Answers.{IsFault, IsQueryAnswer}
-use Rattle.text_query.proofs.FaultLemmas.{fault_answered, same_fault}
+use Rattle.text_query.proofs.FaultLemmas.{same_fault}
 use Rattle.script_text.specs.declared.fault.LineFault.{LineFault}
 use Rattle.script_text.specs.declared.fault.LineFault.TheVariants.{NoNodes, Word, Count, Range, Query as RefusedQuery, Text, NotBuilt}
 use Rattle.script_text.specs.declared.counted.Counted.{Counted}
 use Rattle.script_serving.specs.declared.script.Line.{Line}
 use Rattle.script_serving.specs.declared.script.Script.{Script}
 use Rattle.script_text.specs.Grammar.{Statement, lines_of_text, statements_of, words_in, word_at, rest_behind, IsNodesHeader, SpellsLine, SpellsPhases, SpellsLogged, SpellsBody, SpellsStatements, most_statements, is_promotion, promotions_among, AreAllowed}
-use Rattle.script_text.specs.Refused.{Place, first as first_place, second as second_place, third as third_place, later as later_place, has_room, none_counted, counted_with, is_headed, CauseHolds, order_of, IsFirstCause, nodes_said, next_place, RefusesAmong, RefusesStatements}
+use Rattle.script_text.specs.Refused.{Place, first as first_place, second as second_place, third as third_place, has_room, none_counted, counted_with, is_headed, CauseHolds, order_of, IsFirstCause, nodes_said, next_place, RefusesAmong, RefusesStatements}
 use Rattle.script_text.specs.Exact.{NeverBoth, OneRefusal}
 use Rattle.script_text.proofs.NumberLaws.{value_of-decimal, digits_of-decimal, other_word}
 use Rattle.script_text.proofs.OneLine.{lane_first}

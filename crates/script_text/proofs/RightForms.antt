@@ -1,14 +1,13 @@
 -- When a statement is right at its place: by its form, and for a line of a lane by what its words ask for.
-use Rattle.std.proofs.Common.{◌≡◌, ℕ, ◌<◌, ◌≤◌, List, [], ◌∷◌, length, true, false, refl, ap, ◌∙◌, sym, arith, inl, inr, Ok}
-use Rattle.std.specs.Prelude.{Bool, ⊤, ◌&&◌, ◌+◌, ◌^◌, nat_lt, nat_le, codes, bytes_eq}
+use Rattle.std.proofs.Common.{◌≡◌, ℕ, ◌<◌, ◌≤◌, List, [], ◌∷◌, length, true, false, refl, ap, ◌∙◌, sym, arith}
+use Rattle.std.specs.Prelude.{Bool, ◌&&◌, ◌+◌, ◌^◌, nat_le, codes, bytes_eq}
 use Rattle.std.specs.List.{list_all}
 use Rattle.std.specs.Fmt.{decimal}
 use Rattle.std.proofs.lemmas.Bool.{false≢true, both_ways, lt-ltb, le-leb, and_from}
 use Rattle.nrt_base.specs.Bytes.{is_between}
 use Rattle.documents.specs.declared.query.Query.{Query}
-use Rattle.text_query.specs.declared.fault.QueryFault.{QueryFault}
-use Rattle.text_query.specs.Answers.{Parses, IsFault}
-use Rattle.text_query.proofs.FaultLemmas.{fault_answered, parses_no_fault}
+use Rattle.text_query.specs.Answers.{Parses}
+use Rattle.text_query.proofs.FaultLemmas.{parses_no_fault}
 use Rattle.script_text.specs.declared.fault.LineFault.TheVariants.{NoNodes, Word, Count, Range, Query as RefusedQuery, Text, NotBuilt}
 use Rattle.script_text.specs.Grammar.{Statement, words_in, rest_behind, IsNodesHeader, IsWorkersHeader, IsLogHeader, IsJoin, is_promotion}
 use Rattle.script_text.specs.declared.counted.Counted.{Counted}

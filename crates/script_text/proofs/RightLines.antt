@@ -3,7 +3,7 @@ use Rattle.std.proofs.Common.{◌≡◌, ℕ, ◌<◌, ◌≤◌, List, [], ◌�
 use Rattle.std.specs.Prelude.{Bool, ◌&&◌, ◌^◌, ◌-◌, nat_le, codes, bytes_eq}
 use Rattle.std.specs.List.{list_all}
 use Rattle.std.specs.Fmt.{decimal}
-use Rattle.std.proofs.lemmas.Bool.{false≢true, leb-true, le-leb, le-ltb, lt-leb, eq-eqb, and_from, and_parts, or_right}
+use Rattle.std.proofs.lemmas.Bool.{false≢true, le-leb, le-ltb, lt-leb, eq-eqb, and_from, and_parts, or_right}
 use Rattle.nrt_base.specs.Bytes.{is_between, is_key, is_key_byte, is_text, is_text_byte, is_word, is_word_byte}
 use Rattle.nrt_base.proofs.Plain.{between_high}
 use Rattle.documents.specs.declared.query.Query.{Query}

@@ -1,7 +1,6 @@
 -- The postings of the live rows of inputs, joined input by input.
 use Rattle.std.proofs.Common.{◌≡◌, ℕ, suc, ◌+◌, ◌<◌, Bool, true, false, cond, List, [], ◌∷◌, ◌++◌, length, map, drop, get_or, Option, Some, None, refl, sym, ap, subst, ◌∙◌, arith, append_assoc, drop-cons}
 use Rattle.std.proofs.lemmas.List.{append-nil, map-append, length-map, length-append}
-use Rattle.std.proofs.lemmas.List.Sums.{sum_by-cons}
 use Rattle.nrt_base.specs.declared.doc.Doc.{Doc}
 use Rattle.seg_build.specs.Given.{live_rows, TermRow, FoundTerms, Gathers, numbers_from, live_terms, JoinsEntries, Shown, IsSound, term_row}
 use Rattle.seg_build.proofs.Given.{live_rows-cons}

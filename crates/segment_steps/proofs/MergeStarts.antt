@@ -12,7 +12,6 @@ use Rattle.disk_model.specs.Disk.{Name, Content}
 use Rattle.segment_infos.specs.declared.infos.SegRecord.{SegRecord}
 use Rattle.seg_merge.specs.Given.{Shown, IsSegmentIn}
 use Rattle.live_bits.specs.LiveRows.{live_rows}
-use Rattle.live_bits.proofs.LiveCounts.{live_rows-cons}
 use Rattle.seg_merge.specs.Merging.{docs_by_input, all_live_docs, live_docs, HasAsManyRows}
 use Rattle.seg_merge.proofs.JoinLaws.{length-live_docs}
 use Rattle.merge_choice.specs.Choice.{IsClass}

@@ -2,12 +2,12 @@
 use Rattle.std.proofs.Common.{◌≡◌, ℕ, suc, zero, ◌≤◌, ◌<◌, ◌^◌, Bool, true, false, not, List, [], ◌∷◌, ◌++◌, length, get_or, Some, Result, Err, refl, sym, ap, subst, ◌∙◌, arith}
 use Rattle.std.specs.Prelude.{codes, ◌↔◌, position, IsErrOf}
 use Rattle.std.specs.List.{list_all}
-use Rattle.std.proofs.lemmas.Bool.{and_parts, and_from, leb-true}
+use Rattle.std.proofs.lemmas.Bool.{and_parts, leb-true}
 use Rattle.std.proofs.lemmas.List.Quantifiers.{position-Some}
 use Rattle.std.proofs.lemmas.Bool.Decides.{nat_tests}
 use Rattle.std.proofs.lemmas.List.{length-append, append_cancel_left}
 use Rattle.file_names.specs.Names.{is_name_byte, is_file_name}
-use Rattle.file_names.specs.Base36.{is_base36_digit, base36_of}
+use Rattle.file_names.specs.Base36.{base36_of}
 use Rattle.file_names.specs.declared.names.NameFault.{NameFault}
 use Rattle.file_names.specs.declared.names.NameFault.TheVariants.{Empty, Long, Byte}
 use Rattle.file_names.proofs.Base36Lemmas.{spelling_of, list_all-append, base36_apart}
