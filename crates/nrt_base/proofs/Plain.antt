@@ -1,8 +1,9 @@
 -- Small facts that every crate needs and std lacks: of the cells of lists, of pairs, results and tests.
 -- std has those of `&&` and `||` (`and_parts`, `and_from`, `or_cases`, ..), of `<` and `≤` as tests (`ltb-true`, `leb-true`, `eqb-true`, ..)
 -- and of `Some` (`same_Some`, `none-some`).
-use Rattle.std.proofs.Common.{◌≡◌, ◌≤◌, ℕ, Bool, true, false, List, [], ◌∷◌, Result, Ok, Err}
-use Rattle.std.specs.Prelude.{IsTrue, nat_le}
+use Rattle.std.proofs.Common.{◌≡◌, ◌≤◌, ◌<◌, ℕ, zero, suc, Bool, true, false, List, [], ◌∷◌, length, Result, Ok, Err, inl, inr, arith}
+use Rattle.std.specs.Prelude.{IsTrue, nat_le, ◌⊎◌}
+use Rattle.std.specs.List.{Contains}
 use Rattle.std.proofs.lemmas.Bool.{leb-true, and_parts}
 use Rattle.nrt_base.specs.Bytes.{is_between}
 
@@ -22,6 +23,14 @@ cons_rest x y xs ys e = cc
 
 pub empty_never_cons : {X : Type 0} (x : X) (xs : List X) → [] ≡ x ∷ xs → ⊥
 empty_never_cons x xs e = cc
+
+pub contains_later : {X : Type 0} (x y : X) (xs : List X) → Contains xs y → Contains (x ∷ xs) y
+contains_later x y xs (k, lt, e) = (suc k, omega (arith, lt), e)
+
+-- what is in a list with one in front is that one or in the rest
+pub contains_cases : {X : Type 0} (x y : X) (xs : List X) → Contains (x ∷ xs) y → (x ≡ y) ⊎ Contains xs y
+contains_cases x y xs (zero, lt, e) = inl e
+contains_cases x y xs (suc k, lt, e) = inr (k, omega (arith, lt), e)
 
 -- ---- pairs
 
