@@ -23,6 +23,9 @@ put_here cells name c = ap (λ b. cond b c (cells name)) (nat_list_eq_equiv.refl
 pub put_apart : {X : Type 0} (table : Name → X) (name : Name) (x : X) (q : Name) → name ≢ q → put table name x q ≡ table q
 put_apart cells name c q apart = ap (λ b. cond b c (cells q)) (same_apart name q apart)
 
+pub same_kept : (old new : Cell) → new ≡ old → IsKept old new
+same_kept old new e = record { now = ap (λ (k : Cell). k.now) e; fewer = λ o may. ap (λ (k : Cell). may_leave k o) (sym e) ∙ may }
+
 -- what a crash may leave of synced bytes
 pub left_synced : (now : Content) (synced : Bool) (bytes : List ℕ) (c : Content) → now ≡ Some bytes → synced ≡ true → left_by now synced c ≡ true → c ≡ Some bytes
 left_synced now synced bytes None is on h = absurd (true≢false (sym h ∙ ap (λ n. left_by n synced None) is ∙ ap (λ s. left_by (Some bytes) s None) on))

@@ -19,11 +19,14 @@ use Rattle.std.proofs.lemmas.Map.Text.{is_eq-slice_cmp}
 use Rattle.std.proofs.lemmas.Map.Views.{any-filter_same}
 use Rattle.std.proofs.Math.Dec.{ltb as nat_lt}
 use Rattle.disk_model.specs.Disk.{Name, Cells, same, is_among, reads_of, first_missing}
-use Rattle.disk_model.proofs.CellLemmas.{same_true}
+use Rattle.disk_model.proofs.CellLemmas.{same_true, same_apart}
 use Rattle.file_deleter.specs.Holdings.{times, IsThere, AreThere}
 
 pub same_self : (q : Name) → same q q ≡ true
 same_self q = nat_list_eq_equiv.refl q
+
+pub among_first : (x : Name) (xs : List Name) → is_among (x ∷ xs) x ≡ true
+among_first x xs = ap (λ b. b || is_among xs x) (same_self x)
 
 -- a name that the test finds another is another
 pub unlike : (a q : Name) → same a q ≡ false → a ≢ q
@@ -38,6 +41,9 @@ times-append xs ys q = sum_by-append (λ (y : Name). cond (same y q) 1 0) xs ys
 
 pub times_one : (name q : Name) → times (name ∷ []) q ≡ cond (same name q) 1 0
 times_one name q = times-cons name [] q ∙ grind arith
+
+pub times_apart : (n q : Name) → n ≢ q → times (n ∷ []) q ≡ 0
+times_apart n q apart = times_one n q ∙ ap (λ b. cond b 1 0) (same_apart n q apart)
 
 pub times-permutation : (xs ys : List Name) (q : Name) → IsPermutation xs ys → times ys q ≡ times xs q
 times-permutation xs ys q h = sum_by-IsPermutation (λ (y : Name). cond (same y q) 1 0) xs ys h

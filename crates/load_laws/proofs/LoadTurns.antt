@@ -22,6 +22,7 @@ use Rattle.script_serving.specs.declared.script.LineCommand.TheVariants.{Put, De
 use Rattle.script_serving.specs.Lines.{lines_under, lines_of_lane, command_at, earlier_answered}
 use Rattle.script_serving.specs.Serves.{Begins, First, Follows, Suits, FitsTurn, ServesLanes}
 use Rattle.script_serving.specs.Refusals.{refusal}
+use Rattle.script_serving.proofs.LogLemmas.{unanswered}
 use Rattle.script_text.specs.Grammar.{of_lane, lane_entry, lanes_from}
 use Rattle.script_text.proofs.FormLemmas.{all_lines, under-append, none_under}
 use Rattle.script_text.proofs.NumberLaws.{value_of-decimal}
@@ -276,19 +277,6 @@ serves_calm n size (e ∷ past) legal serves =
     (turn_calm size turn.command (of_lane e.at.lane.0 (all_of n)) e.at past e.event (command_calm n e.at turn.command turn.there) before legal.0 turn.fits, before)
 
 -- ---- replies
-
-unanswered_by : (event : Event) (last : Option Event) → ◌≡◌ {A = Option Event} (elim event [ Fault n kind ↦ last | e ↦ Some e ]) None → (is_reply event ≡ false) × (last ≡ None)
-unanswered_by (Fault n kind) last h = (refl, h)
-unanswered_by event last h = absurd (none-some event (sym h))
-
--- a line without an entry but faults has no reply
-unanswered : (at : At) (past : Past) → last_of_line at past ≡ None → is_answered at past ≡ false
-unanswered at [] h = refl
-unanswered at (e ∷ past) h = by_place (same_at e.at at) refl h (unanswered at past)
-  where
-    no_reply : (reply same rest : Bool) → reply ≡ false → rest ≡ false → (reply && same || rest) ≡ false
-    no_reply true same rest f g = absurd (false≢true (sym f))
-    no_reply false same rest f g = g
 
     no_other : (reply same rest : Bool) → same ≡ false → rest ≡ false → (reply && same || rest) ≡ false
     no_other reply true rest f g = absurd (false≢true (sym f))

@@ -12,7 +12,7 @@ use Rattle.std.proofs.lemmas.List.Kept.{IsStrictlySortedBy-filter}
 use Rattle.std.proofs.lemmas.List.Elements.{Contains-get_or}
 use Rattle.disk_model.specs.Disk.{Name, Content, is_among}
 use Rattle.file_deleter.specs.Holdings.{Holdings, count_of, times}
-use Rattle.file_deleter.proofs.NameLemmas.{times-append, times-cons, among_times}
+use Rattle.file_deleter.proofs.NameLemmas.{times-append, times-cons, among_times, among_first}
 use Rattle.segment_infos.specs.declared.infos.Infos.{Infos}
 use Rattle.segment_infos.specs.Files.{AreFilesOf}
 use Rattle.replica_opening.proofs.Given.{among_of}
@@ -29,9 +29,6 @@ use Rattle.replica_parts.proofs.Named.{some_among}
 use Rattle.replica_parts.proofs.Metas.{held_in, held_names_are, is_held, same_filter, same_meta}
 
 -- ---- names in lists
-pub among_first : (x : Name) (xs : List Name) → is_among (x ∷ xs) x ≡ true
-among_first x xs = among_of (x ∷ xs) x (0, omega arith, refl)
-
 pub at_some : (names : List Name) (k : ℕ) (d : Name) → k < length names → 0 < times names (get_or names k d)
 at_some names k d lt = among_times names (get_or names k d) (among_of names (get_or names k d) (Contains-get_or names k d lt))
 

@@ -48,7 +48,7 @@ no_other true false rest h g = g
 no_other false false rest h g = g
 
 -- a line without an entry but faults has no reply
-unanswered : (at : At) (past : Past) → last_of_line at past ≡ None → is_answered at past ≡ false
+pub unanswered : (at : At) (past : Past) → last_of_line at past ≡ None → is_answered at past ≡ false
 unanswered at [] h = refl
 unanswered at (e ∷ past) h = by_test (same_at e.at at) refl h (unanswered at past)
   where
