@@ -8,7 +8,7 @@ use Rattle.disk_model.proofs.CellLemmas.{same_kept}
 use Rattle.file_names.specs.Names.{is_commit_name, is_pending_name}
 use Rattle.file_deleter.specs.Holdings.{Holdings, count_of, is_known, times, IsWhole, AreThere, AreCounted}
 use Rattle.file_deleter.specs.Moves.{Shifts}
-use Rattle.file_deleter.proofs.NameLemmas.{same_self, among_times, among-append, among_first}
+use Rattle.file_deleter.proofs.NameLemmas.{among_times, among-append, among_first}
 use Rattle.file_deleter.proofs.Keeping.{known_counted, known_uncounted}
 use Rattle.commit_steps.specs.declared.states.Commit.{Commit}
 use Rattle.commit_steps.specs.declared.stage.Stage.{Stage}

@@ -4,7 +4,7 @@ use Rattle.std.specs.Prelude.{IfSome, IsSomeAnd, Contains, is_some}
 use Rattle.std.proofs.Math.Bool.{or-true}
 use Rattle.std.specs.List.{flat_map}
 use Rattle.std.proofs.lemmas.List.Elements.{All-contains}
-use Rattle.disk_model.specs.Disk.{Name, Content, Cell, Cells, Image, IsImage, IsKept, may_leave, left_by, same, is_among, flushed, after_sync}
+use Rattle.disk_model.specs.Disk.{Name, Content, Cell, Cells, Image, IsImage, IsKept, left_by, same, is_among, flushed, after_sync}
 use Rattle.disk_model.specs.declared.dir.DirFault.{DirFault}
 use Rattle.disk_model.proofs.CellLemmas.{same_true, same_kept}
 use Rattle.file_names.specs.Names.{is_commit_name, is_pending_name, commit_number}

@@ -1,13 +1,13 @@
 -- Parts that are given their own names.
-use Rattle.std.proofs.Common.{◌≡◌, ◌≢◌, ◌⊎◌, ℕ, zero, suc, ◌+◌, ◌<◌, ◌≤◌, ◌||◌, Bool, true, false, List, [], ◌∷◌, ◌++◌, length, Option, Some, refl, sym, ap, subst, ◌∙◌, arith, cond, inl, inr, true≢false}
+use Rattle.std.proofs.Common.{◌≡◌, ◌≢◌, ◌⊎◌, ℕ, zero, suc, ◌+◌, ◌<◌, ◌≤◌, ◌||◌, Bool, true, false, List, [], ◌∷◌, length, Option, Some, refl, sym, ap, subst, ◌∙◌, arith, cond, inl, inr, true≢false}
 use Rattle.std.specs.Prelude.{slice_set}
 use Rattle.std.proofs.lemmas.Bool.{cases_eq}
 use Rattle.disk_model.specs.Disk.{Name, Cells, same, is_among}
 use Rattle.disk_model.proofs.CellLemmas.{same_true, same_apart}
 use Rattle.file_deleter.specs.Holdings.{Holdings, count_of, times}
 use Rattle.file_deleter.specs.Moves.{KeepsFiles}
-use Rattle.file_deleter.proofs.NameLemmas.{unlike, times-cons, times_one, among-append, not_among_times, same_self, times_apart}
-use Rattle.file_deleter.proofs.Keeping.{keeps_then, keeps_refl, renamed_once, keeps_within}
+use Rattle.file_deleter.proofs.NameLemmas.{unlike, times-cons, times_one, not_among_times, same_self, times_apart}
+use Rattle.file_deleter.proofs.Keeping.{keeps_refl, renamed_once, keeps_within}
 use Rattle.copy_job.specs.declared.part.JobPart.{JobPart}
 use Rattle.copy_job.specs.Parts.{placed, part_at, present_names, own_names, written_names, IsPlaceable, ArePlaceable, placed_to}
 use Rattle.copy_job.specs.Placing.{PlacesOne, PlacesNone, Places}

@@ -1,5 +1,5 @@
 -- What a crash picks is an image, and what is listed are the names that exist.
-use Rattle.std.proofs.Common.{◌≡◌, ℕ, zero, suc, ◌+◌, Bool, true, false, ◌||◌, ◌&&◌, cond, nat_lt, is_some, List, [], ◌∷◌, length, Option, Some, None, get_or, refl, sym, ap, ◌∙◌, true≢false}
+use Rattle.std.proofs.Common.{◌≡◌, ℕ, zero, suc, ◌+◌, Bool, true, false, ◌||◌, ◌&&◌, cond, nat_lt, is_some, List, [], ◌∷◌, length, Some, None, get_or, refl, sym, ap, ◌∙◌, true≢false}
 use Rattle.std.proofs.Math.Bool.{or-true}
 use Rattle.std.proofs.lemmas.Cmp.{nat_list_eq_equiv}
 use Rattle.std.specs.declared.cmp.Ordering.TheVariants.{Less}

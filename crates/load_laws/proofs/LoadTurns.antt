@@ -1,19 +1,18 @@
 -- What a history that serves the generated script shows of each of its entries.
-use Rattle.std.proofs.Common.{◌≡◌, ℕ, zero, suc, ◌+◌, ◌-◌, ◌≤◌, ◌<◌, ◌^◌, List, [], ◌∷◌, ◌++◌, ◌&&◌, ◌||◌, Bool, true, false, Option, Some, None, filter, refl, ap, ◌∙◌, sym, subst, arith, inl, inr, append-nil, if◌then◌else◌}
+use Rattle.std.proofs.Common.{◌≡◌, ℕ, zero, suc, ◌+◌, ◌-◌, ◌≤◌, ◌<◌, ◌^◌, List, [], ◌∷◌, ◌++◌, Bool, true, false, Option, Some, None, filter, refl, ap, ◌∙◌, sym, subst, arith, inl, inr, append-nil, if◌then◌else◌}
 use Rattle.std.specs.Prelude.{◌⊎◌, ◌==◌, ◌%◌, nat_lt}
 use Rattle.std.specs.List.{list_all}
 use Rattle.std.proofs.lemmas.Bool.{false≢true, and_from, and_parts, eq-eqb, eqb-true}
 use Rattle.std.proofs.lemmas.Bool.Decides.{nat_tests}
 use Rattle.std.proofs.lemmas.List.Folds.{list_all-append}
 use Rattle.std.proofs.lemmas.List.Elements.{filter-append}
-use Rattle.std.proofs.lemmas.Option.{none-some}
 use Rattle.nrt_base.specs.declared.numbers.At.{At}
 use Rattle.history_entries.specs.declared.cause.Cause.{Cause}
 use Rattle.history_entries.specs.declared.entry.Entry.{Entry}
 use Rattle.history_entries.specs.declared.entry.Event.{Event}
 use Rattle.history_entries.specs.declared.entry.Event.TheVariants.{Accepted, Publishing, Copying, Settling, Opened, Merging, Crashed, Reopened, Promoted, Planned, Fault, Refused}
 use Rattle.history_entries.specs.Nodes.{Past}
-use Rattle.history_entries.specs.Lines.{same_at, is_reply, is_answered, last_of_line}
+use Rattle.history_entries.specs.Lines.{same_at, is_answered, last_of_line}
 use Rattle.history_entries.specs.Legal.{KeepsRule, IsLegalPast}
 use Rattle.history_tables.proofs.RowLemmas.{same_at_is}
 use Rattle.script_serving.specs.declared.script.Line.{Line}
@@ -277,17 +276,6 @@ serves_calm n size (e ∷ past) legal serves =
     (turn_calm size turn.command (of_lane e.at.lane.0 (all_of n)) e.at past e.event (command_calm n e.at turn.command turn.there) before legal.0 turn.fits, before)
 
 -- ---- replies
-
-    no_other : (reply same rest : Bool) → same ≡ false → rest ≡ false → (reply && same || rest) ≡ false
-    no_other reply true rest f g = absurd (false≢true (sym f))
-    no_other true false rest f g = g
-    no_other false false rest f g = g
-
-    by_place : (t : Bool) → same_at e.at at ≡ t → ◌≡◌ {A = Option Event} (if t then (elim e.event [ Fault n kind ↦ last_of_line at past | event ↦ Some event ]) else last_of_line at past) None
-        → (last_of_line at past ≡ None → is_answered at past ≡ false) → (is_reply e.event && same_at e.at at || is_answered at past) ≡ false
-    by_place true same k ih =
-        let parts = unanswered_by e.event (last_of_line at past) k in no_reply (is_reply e.event) (same_at e.at at) (is_answered at past) parts.0 (ih parts.1)
-    by_place false same k ih = no_other (is_reply e.event) (same_at e.at at) (is_answered at past) same (ih k)
 
 -- the entry's line has no reply before it
 pub turn_open : (c : LineCommand) (at : At) (past : Past) (e : Event) → Suits c at past (last_of_line at past) e → is_answered at past ≡ false

@@ -10,7 +10,7 @@ use Rattle.std.proofs.Math.Dec.{ltb as nat_lt}
 use Rattle.std.proofs.lemmas.Bool.Decides.{nat_tests}
 use Rattle.std.proofs.lemmas.List.Kept.{IsStrictlySortedBy-filter}
 use Rattle.std.proofs.lemmas.List.Elements.{Contains-get_or}
-use Rattle.disk_model.specs.Disk.{Name, Content, is_among}
+use Rattle.disk_model.specs.Disk.{Name, Content}
 use Rattle.file_deleter.specs.Holdings.{Holdings, count_of, times}
 use Rattle.file_deleter.proofs.NameLemmas.{times-append, times-cons, among_times, among_first}
 use Rattle.segment_infos.specs.declared.infos.Infos.{Infos}
