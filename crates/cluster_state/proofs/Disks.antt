@@ -2,7 +2,8 @@
 use Rattle.std.proofs.Common.{◌≡◌, ◌≢◌, ◌==◌, ℕ, Bool, true, false, true≢false, List, [], ◌∷◌, Some, None, Option, refl, ap, ◌∙◌, sym, subst, if◌then◌else◌}
 use Rattle.std.specs.Prelude.{IsSomeAnd, IfSome, is_some, nat_lt, ◌||◌, ◌&&◌}
 use Rattle.std.specs.List.{list_any}
-use Rattle.std.proofs.lemmas.Bool.{eqb-true, or_right}
+use Rattle.std.proofs.lemmas.Bool.{eqb-true}
+use Rattle.history_laws.proofs.CommitLemmas.{more_found}
 use Rattle.nrt_base.specs.declared.numbers.At.{At}
 use Rattle.disk_model.specs.Disk.{Name, Content, Cells}
 use Rattle.segment_infos.specs.declared.infos.Infos.{Infos}
@@ -50,10 +51,6 @@ fresh_flights size past at legal turns none = no_commit size past at legal turns
 without_other : (at : At) (o : Option At) → o ≢ Some at → without_at at o ≡ o
 without_other at None other = refl
 without_other at (Some a) other = by_test (same_at at a) (λ s. (if s then None else Some a) ≡ Some a) (λ here. absurd (other (ap Some (sym (same_at_is at a here))))) (λ apart. refl)
-
-more_found : (flight : Option At) (w u : ℕ) (old : List ℕ) → list_any (λ k. k == u) old ≡ true → list_any (λ k. k == u) (more_by flight w old) ≡ true
-more_found None w u old found = found
-more_found (Some a) w u old found = or_right (w == u) _ found
 
 module _ (past : Past) (at : At) (n : ℕ) where
   abbrev after : Event → Past

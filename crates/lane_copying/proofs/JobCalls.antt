@@ -4,7 +4,7 @@ use Rattle.std.specs.Prelude.{Result, Ok, Err, IfOk, OnOk, IsTrue, ◌↔◌, Is
 use Rattle.std.specs.List.{All, AllPairs, Contains}
 use Rattle.std.proofs.lemmas.Bool.{eqb-true, eq-eqb, not-false}
 use Rattle.std.proofs.lemmas.Option.{same_Some}
-use Rattle.history_tables.proofs.RowLemmas.{same_at_self}
+use Rattle.history_tables.proofs.RowLemmas.{same_at_self, refused_closed}
 use Rattle.file_deleter.proofs.NameLemmas.{same_self}
 use Rattle.disk_model.specs.Disk.{Content, same}
 use Rattle.nrt_base.specs.declared.numbers.At.{At}
@@ -121,9 +121,6 @@ runs_of at task log c u =
     }
 
 -- ---- a job that was stopped
-
-refused_closed : (at : At) (past : Past) (cause : Cause) → open_line at (record { at = at; event = Refused cause } ∷ past) ≡ None
-refused_closed at past cause = rw (same_at_self at) refl
 
 refused_replied : (at : At) (past : Past) (cause : Cause) → is_answered at (record { at = at; event = Refused cause } ∷ past) ≡ true
 refused_replied at past cause = rw (same_at_self at) refl
