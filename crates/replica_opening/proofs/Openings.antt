@@ -12,9 +12,9 @@ use Rattle.segment_infos.specs.Files.{files_of_segment, AreFilesOf}
 use Rattle.segment_infos.specs.Commits.{commit_numbers, pending_numbers, IsNext}
 use Rattle.segment_infos.proofs.CommitLaws.{commits_are, pendings_are}
 use Rattle.segment_infos.proofs.SetLaws.{files_plain}
-use Rattle.file_deleter.specs.Holdings.{Holdings, count_of, times, is_due, is_known, IsThere, AreThere, IsWhole, count_in}
+use Rattle.file_deleter.specs.Holdings.{Holdings, count_of, times, is_due, is_known, AreThere, IsWhole, count_in}
 use Rattle.file_deleter.specs.Moves.{HoldsFiles}
-use Rattle.file_deleter.proofs.NameLemmas.{all_there, none_missing, among_times, not_among_times, among_is, times-append, same_self}
+use Rattle.file_deleter.proofs.NameLemmas.{among_times, not_among_times, among_is, times-append, same_self}
 use Rattle.commit_steps.specs.Found.{ShowsNothing}
 use Rattle.commit_steps.specs.Recovery.{IsWholeCommit}
 use Rattle.commit_steps.specs.Book.{book_names, IsBookSound}
@@ -33,6 +33,7 @@ use Rattle.seg_reader.specs.Shown.{Shown}
 use Rattle.commit_steps.specs.Flights.{IsCommit}
 use Rattle.commit_steps.specs.Commits.{HasFilesOf, ImagesShow, ImagesShowNothing}
 use Rattle.commit_steps.specs.declared.stage.CommitBook.{CommitBook}
+use Rattle.commit_steps.proofs.Recovered.{whole_there}
 use Rattle.searcher_switch.specs.declared.open.Point.{Point}
 use Rattle.searcher_switch.specs.declared.open.Open.{Open}
 use Rattle.searcher_switch.specs.declared.searchers.Searchers.{Searchers}
@@ -47,9 +48,6 @@ use Rattle.replica_opening.specs.Opened.{IsSettledOn, IsOpeningPoint, IsFoundPoi
 use Rattle.replica_opening.specs.Opening.{IsRefusedAmong, IsStartFaultOf, FindsPoint, opening_infos, number_of_last}
 
 -- ---- what is there
-pub whole_there : (cells : Cells) (n : ℕ) (infos : Infos) → IsWholeCommit (reads_of cells) n infos → (q : Name) → Contains (flat_map files_of_segment infos.segs) q → IsThere cells q
-whole_there cells n infos whole q named = all_there cells whole.files q (none_missing cells whole.files whole.there).each (among_of whole.files q ((whole.named.named q).1 named))
-
 pub listed_there : (cells : Cells) (names : List Name) → ((q : Name) → is_among names q ≡ is_some (cells q).now) → AreThere cells names
 listed_there cells names listed = record { each = λ k d lt. sym (listed (get_or names k d)) ∙ among_of names (get_or names k d) (Contains-get_or names k d lt) }
 
