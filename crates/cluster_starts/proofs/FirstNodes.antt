@@ -61,6 +61,7 @@ use Rattle.primary_parts.specs.States.{state_names}
 use Rattle.primary_parts.specs.Merges.{merge_names, merge_loose}
 use Rattle.file_deleter.specs.Holdings.{count_of}
 use Rattle.nrt_base.specs.declared.numbers.At.{At}
+use Rattle.nrt_base.proofs.Plain.{slice_get-push}
 use Rattle.replica_parts.specs.declared.job.PointJob.{PointJob}
 use Rattle.cluster_places.specs.declared.nodes.Node.{Node}
 use Rattle.cluster_state.specs.State.{IsPointAt, WritesAt, HoldsTickets, PrimaryShows, PlaceShows, Shows}
@@ -90,10 +91,6 @@ slice_get_before : {X : Type 0} (xs ys : List X) (i : ℕ) → i < length xs →
 slice_get_before [] ys i h = absurd (omega arith)
 slice_get_before (x ∷ xs) ys zero h = refl
 slice_get_before (x ∷ xs) ys (suc i) h = slice_get_before xs ys i (omega arith)
-
-slice_get_seam : {X : Type 0} (xs : List X) (y : X) → slice_get (xs ++ y ∷ []) (length xs) ≡ Some y
-slice_get_seam [] y = refl
-slice_get_seam (x ∷ xs) y = slice_get_seam xs y
 
 pub nothing_held : (n : ℕ) (tickets : List (Open Shown)) → HoldsTickets [] n tickets []
 nothing_held n tickets = record {
@@ -346,7 +343,7 @@ module _ {D : Type 0} (cells : D → Cells) where
           elim (eqb_tells k (length places)) [
             | inl here ↦
                 let mine' : P (suc k) x = subst (λ (j : ℕ). P j x) (let h = here.1 in omega (arith, h)) mine in
-                subst (λ (o : Option (Place D)). IsSomeAnd o (P (suc k))) (sym (ap unwrapped (ap (slice_get (places ++ Some x ∷ [])) here.1 ∙ slice_get_seam places (Some x)))) mine'
+                subst (λ (o : Option (Place D)). IsSomeAnd o (P (suc k))) (sym (ap unwrapped (ap (slice_get (places ++ Some x ∷ [])) here.1 ∙ slice_get-push places (Some x)))) mine'
             | inr other ↦
                 let l : suc k ≤ length (places ++ Some x ∷ []) = node.1 in
                 let within : k < length places = let d = other.1 in omega (arith, l, d, length-append places (Some x ∷ [])) in

@@ -1,6 +1,6 @@
 -- What was counted of the segments so far, and the answer that comes of it.
 use Rattle.std.proofs.Common.{◌≡◌, ℕ, zero, suc, ◌+◌, ◌^◌, ◌<◌, ◌≤◌, List, [], ◌∷◌, ◌++◌, length, map, take, drop, get_or, set, append_assoc, Bool, true, false, refl, sym, ap, subst, ◌∙◌, arith, drop-cons}
-use Rattle.std.specs.List.{All, filter, swap}
+use Rattle.std.specs.List.{filter, swap}
 use Rattle.std.specs.List.Sorted.{IsPermutation}
 use Rattle.std.proofs.lemmas.Grind.{flat_map-append}
 use Rattle.std.proofs.lemmas.List.{append-nil, map-append}
@@ -14,7 +14,6 @@ use Rattle.documents.specs.declared.query.Query.{Query}
 use Rattle.documents.specs.Matching.{matches_doc}
 use Rattle.documents.specs.Ranking.{hit_of, matching_hits, answer_of, scan_of}
 use Rattle.seg_reader.specs.Shown.{Shown, live_documents, live_documents_of, AreLiveDocuments}
-use Rattle.seg_reader.specs.Sound.{IsSound}
 use Rattle.query_eval.specs.Matching.{CountsSegment, rows_of}
 use Rattle.query_eval.proofs.SearchLemmas.{answer_same}
 
@@ -109,9 +108,6 @@ room_for query segs i seg found k lt item =
     let room = k.room in
     let rows = rows_split segs i seg lt item in
     omega (arith, room, rows)
-
-pub sound_one : (segs : List Shown) (i : ℕ) (seg : Shown) → All IsSound segs → i < length segs → seg ≡ get_or segs i seg → IsSound seg
-sound_one segs i seg all lt item = subst IsSound (sym item) (all i seg lt)
 
 more_hits : (query : Query) (so_far : List Shown) (seg : Shown)
     → matching_hits query (live_documents (so_far ++ seg ∷ [])) ≡ matching_hits query (live_documents so_far) ++ matching_hits query (live_documents_of seg)

@@ -25,9 +25,9 @@ use Rattle.replica_opening.specs.declared.fault.StartFault.TheVariants.{Memory, 
 use Rattle.std.proofs.Math.Bool.{or-true}
 use Rattle.std.specs.Ordering.{nat_cmp}
 use Rattle.std.specs.Cmp.Lexicographic.{slice_cmp}
-use Rattle.std.specs.List.Sorted.{IsStrictlySortedBy}
 use Rattle.std.proofs.lemmas.Bool.{and_left}
 use Rattle.nrt_base.specs.declared.numbers.Version.{Version}
+use Rattle.nrt_base.proofs.Plain.{sorted_none}
 use Rattle.segment_infos.specs.Infos.{IsRecord, CanSpell}
 use Rattle.seg_reader.specs.Shown.{Shown}
 use Rattle.commit_steps.specs.Flights.{IsCommit}
@@ -198,15 +198,11 @@ taken cells found listed slice t s same listed_is f is point tickets =
     }
 
 -- ---- what an opening without a commit finds
-pub ascending_none : IsStrictlySortedBy (slice_cmp nat_cmp) []
-unfolding IsStrictlySortedBy
-ascending_none = tt
-
 pub nothing_found : (reads : Image) (f : Found) → IsOpeningPoint f → ShowsNothing reads → IsFoundPoint reads f
 nothing_found reads f is nothing = record {
   finds = subst (λ (n : Option ℕ). FindsPoint reads n f.infos) (sym is.number) (nothing, is.infos);
   spelled = subst CanSpell (sym is.infos) (record { generation = omega arith; version = omega arith; few = omega arith; records = All-nil IsRecord; apart = λ i j d lt le e. absurd (omega (arith, le)) });
-  names = subst (λ (i : Infos). AreFilesOf i f.names) (sym is.infos) (subst (AreFilesOf opening_infos) (sym is.names) (record { ascending = ascending_none; named = λ q. (λ h. h, λ h. h) }));
+  names = subst (λ (i : Infos). AreFilesOf i f.names) (sym is.infos) (subst (AreFilesOf opening_infos) (sym is.names) (record { ascending = sorted_none (slice_cmp nat_cmp); named = λ q. (λ h. h, λ h. h) }));
   there = λ q named. absurd (no_file q named);
   readers = subst (λ (i : Infos). AreReaders reads i.segs f.read.segs) (sym is.infos) (subst (λ (ss : List Shown). AreReaders reads [] ss) (sym is.segs) tt);
   known = record { each = λ q named. absurd (no_file q named) };

@@ -22,11 +22,11 @@ use Rattle.copy_state.specs.States.{meta_names}
 use Rattle.copy_job.specs.Jobs.{Job}
 use Rattle.nrt_base.specs.declared.numbers.Gen.{Gen}
 use Rattle.nrt_base.specs.declared.numbers.Version.{Version}
+use Rattle.nrt_base.proofs.Plain.{sorted_none}
 use Rattle.replica_parts.specs.declared.job.PointJob.{PointJob}
 use Rattle.replica_parts.specs.declared.parts.Parts.{Parts}
 use Rattle.replica_parts.specs.Jobs.{job_on, IsPointJob}
 use Rattle.replica_parts.specs.Replica.{IsWanted}
-use Rattle.replica_opening.proofs.Openings.{ascending_none}
 use Rattle.replica_tests.specs.States.{IsEmptyState}
 
 pub empty_made : (infos : Infos) (state : CopyState) → infos.segs ≡ [] → IsInfosFile infos state.infos → state.files ≡ [] → state.completed ≡ [] → infos.generation ≡ state.primary_gen → infos.version ≡ state.version → IsEmptyState state.primary_gen state.version state
@@ -35,11 +35,11 @@ empty_made infos state none spelled files completed generation version = record 
     infos = infos;
     spelled = spelled;
     files = record {
-      ascending = subst (λ (fs : List (Name × FileMetaData)). IsStrictlySortedBy (slice_cmp nat_cmp) (meta_names fs)) (sym files) ascending_none;
+      ascending = subst (λ (fs : List (Name × FileMetaData)). IsStrictlySortedBy (slice_cmp nat_cmp) (meta_names fs)) (sym files) (sorted_none (slice_cmp nat_cmp));
       short = subst (λ (fs : List (Name × FileMetaData)). All (λ q. length q ≤ 46) (meta_names fs)) (sym files) (All-nil (λ q. length q ≤ 46));
     };
     completed = record {
-      ascending = subst (IsStrictlySortedBy (slice_cmp nat_cmp)) (sym completed) ascending_none;
+      ascending = subst (IsStrictlySortedBy (slice_cmp nat_cmp)) (sym completed) (sorted_none (slice_cmp nat_cmp));
       short = subst (All (λ q. length q ≤ 46)) (sym completed) (All-nil (λ q. length q ≤ 46));
     };
   };
