@@ -11,8 +11,8 @@ use Rattle.std.proofs.lemmas.Map.Entries.{lookup_head, lookup_tail}
 use Rattle.std.proofs.lemmas.Map.Keys.{Less-from_sorted, sorted_tail}
 use Rattle.std.proofs.lemmas.Map.Text.{is_eq-slice_cmp}
 use Rattle.disk_model.specs.Disk.{Name, same}
-use Rattle.disk_model.proofs.CellLemmas.{same_true}
-use Rattle.file_deleter.proofs.NameLemmas.{same_self, found_nowhere, among-keys, never_less}
+use Rattle.disk_model.proofs.CellLemmas.{same_true, never_less}
+use Rattle.file_deleter.proofs.NameLemmas.{same_self, found_nowhere, among-keys}
 use Rattle.copy_state.specs.declared.meta.FileMetaData.{FileMetaData}
 use Rattle.copy_state.specs.States.{meta_names, meta_in}
 

@@ -19,7 +19,7 @@ use Rattle.std.proofs.lemmas.Map.Text.{is_eq-slice_cmp}
 use Rattle.std.proofs.lemmas.Map.Views.{any-filter_same}
 use Rattle.std.proofs.Math.Dec.{ltb as nat_lt}
 use Rattle.disk_model.specs.Disk.{Name, Cells, same, is_among, reads_of, first_missing}
-use Rattle.disk_model.proofs.CellLemmas.{same_true, same_apart}
+use Rattle.disk_model.proofs.CellLemmas.{same_true, same_apart, never_less}
 use Rattle.file_deleter.specs.Holdings.{times, IsThere, AreThere}
 
 pub same_self : (q : Name) → same q q ≡ true
@@ -174,9 +174,6 @@ sorted_of (x ∷ y ∷ ys) up = λ k d low high. by k d high (sorted_of (y ∷ y
 -- where a name was found, and where none was
 pub found_at : (xs : List Name) (q : Name) (i : ℕ) → HoldsAt (λ y. slice_cmp nat_cmp y q ≡ Equal) xs i → q ≡ get_or xs i q
 found_at xs q i h = sym (same_true (get_or xs i q) q (sym (is_eq-slice_cmp (get_or xs i q) q) ∙ ap is_eq (h q)))
-
-pub never_less : (q : Name) → slice_cmp nat_cmp q q ≡ Less → ⊥
-never_less q e = true≢false (sym (same_self q) ∙ sym (is_eq-slice_cmp q q) ∙ ap is_eq e)
 
 never_greater : (q : Name) → slice_cmp nat_cmp q q ≡ Greater → ⊥
 never_greater q e = true≢false (sym (same_self q) ∙ sym (is_eq-slice_cmp q q) ∙ ap is_eq e)
