@@ -70,7 +70,7 @@ split_line (x ∷ xs) ys at P h front back = by_test (same_at x.at at) refl h (�
     by_test false e k ih = ih k (λ g. front (rw e g))
 
 -- a line under a lane is a line of the phase
-in_phase : (lane : ℕ) (lanes : List (LaneNo × List Line)) (at : At) → has_line (lines_under lane lanes) at ≡ true → has_line (flat_map (λ (l : LaneNo × List Line). l.1) lanes) at ≡ true
+pub in_phase : (lane : ℕ) (lanes : List (LaneNo × List Line)) (at : At) → has_line (lines_under lane lanes) at ≡ true → has_line (flat_map (λ (l : LaneNo × List Line). l.1) lanes) at ≡ true
 in_phase lane [] at h = h
 in_phase lane (l ∷ lanes) at h = by_test (l.0.0 == lane) refl h (in_phase lane lanes at)
   where
