@@ -9,7 +9,7 @@ use Rattle.body_forms.specs.Given.{AreBytes}
 use Rattle.body_forms.specs.Format.{Read, ◌>>=◌, Takes, IsFormat, chain, ChainFits, then_at}
 use Rattle.body_forms.specs.Numbers.{u32_bytes, u32_at, u64_bytes, u64_at}
 use Rattle.body_forms.proofs.Formats.{bind_some, passed, read_is, pair_of, then_format, chain_format}
-use Rattle.body_forms.proofs.NumberLaws.{u32_format, u64_format}
+use Rattle.body_forms.proofs.NumberLaws.{u32_format, u64_format, Small, Large, two_large_then_two}
 use Rattle.segment_infos.specs.declared.infos.SegRecord.{SegRecord}
 use Rattle.segment_infos.specs.declared.reading.Head.{Head}
 use Rattle.segment_infos.specs.Infos.{record_bytes, IsRecord, RecordFits}
@@ -32,12 +32,6 @@ made_format {X} {Y} s F r to from test P a there back true_is is_true = record {
       let whole : Takes bytes (s (from y)) rest × F (from y) = subst (λ (z : X × List ℕ). Takes bytes (s z.0) z.1 × F z.0) (pair_of f.0.0 (from y) f.0.1 rest same q.1) (t.0, t.1) in
       (whole.0, (subst P q.0 (true_is (to f.0.0) p.0), whole.1));
 }
-
-abbrev Small : ℕ → Type 0
-Small n = n < 2 ^ 32
-
-abbrev Large : ℕ → Type 0
-Large n = n < 2 ^ 64
 
 -- ---- the head
 
@@ -71,24 +65,11 @@ head_passes head h =
 abbrev pub HeadFits : Head → Type 0
 HeadFits head = (head.generation.0 < 2 ^ 64) × ((head.version.0 < 2 ^ 64) × ((head.counter < 2 ^ 32) × (head.count < 2 ^ 32)))
 
-two_small : IsFormat (λ (p : ℕ × ℕ). u32_bytes p.0 ++ u32_bytes p.1) (λ p. Small p.0 × Small p.1) (then_at u32_at (λ _. u32_at))
-two_small = then_format u32_bytes Small u32_at (λ _. u32_bytes) (λ _. Small) (λ _. u32_at) u32_format (λ _ _. u32_format)
-
-three_of_head : IsFormat (λ (p : ℕ × (ℕ × ℕ)). u64_bytes p.0 ++ (u32_bytes p.1.0 ++ u32_bytes p.1.1)) (λ p. Large p.0 × (Small p.1.0 × Small p.1.1)) (then_at u64_at (λ _. then_at u32_at (λ _. u32_at)))
-three_of_head =
-    then_format u64_bytes Large u64_at (λ _ p. u32_bytes p.0 ++ u32_bytes p.1) (λ _ p. Small p.0 × Small p.1) (λ _. then_at u32_at (λ _. u32_at)) u64_format (λ _ _. two_small)
-
-four_of_head : IsFormat (λ (p : Four). u64_bytes p.0 ++ (u64_bytes p.1.0 ++ (u32_bytes p.1.1.0 ++ u32_bytes p.1.1.1))) (λ p. Large p.0 × (Large p.1.0 × (Small p.1.1.0 × Small p.1.1.1)))
-    (then_at u64_at (λ _. then_at u64_at (λ _. then_at u32_at (λ _. u32_at))))
-four_of_head =
-    then_format u64_bytes Large u64_at (λ _ p. u64_bytes p.0 ++ (u32_bytes p.1.0 ++ u32_bytes p.1.1)) (λ _ p. Large p.0 × (Small p.1.0 × Small p.1.1))
-    (λ _. then_at u64_at (λ _. then_at u32_at (λ _. u32_at))) u64_format (λ _ _. three_of_head)
-
 pub head_format : IsFormat head_bytes (λ head. IsHead head × HeadFits head) head_at
 unfolding head_at
 head_format =
     made_format (λ (p : Four). u64_bytes p.0 ++ (u64_bytes p.1.0 ++ (u32_bytes p.1.1.0 ++ u32_bytes p.1.1.1))) (λ p. Large p.0 × (Large p.1.0 × (Small p.1.1.0 × Small p.1.1.1)))
-    (then_at u64_at (λ _. then_at u64_at (λ _. then_at u32_at (λ _. u32_at)))) head_from head_parts is_head IsHead four_of_head (λ _. refl) (λ _. refl) head_from_test head_passes
+    (then_at u64_at (λ _. then_at u64_at (λ _. then_at u32_at (λ _. u32_at)))) head_from head_parts is_head IsHead two_large_then_two (λ _. refl) (λ _. refl) head_from_test head_passes
 
 -- ---- records
 
