@@ -1,8 +1,7 @@
 -- What others append leaves a job of a line, and what a settle has left, where they are.
-use Rattle.std.proofs.Common.{◌≡◌, ◌≢◌, ◌≤◌, ◌<◌, ◌&&◌, ◌==◌, ℕ, Bool, true, false, List, [], ◌∷◌, ◌++◌, Some, None, Option, length, refl, ap, ◌∙◌, sym, subst, inl, inr, arith, if◌then◌else◌}
-use Rattle.std.specs.List.{All}
+use Rattle.std.proofs.Common.{◌≡◌, ◌≢◌, ◌≤◌, ◌<◌, ◌&&◌, ◌==◌, ℕ, Bool, true, false, [], ◌∷◌, ◌++◌, Some, None, Option, length, refl, ap, ◌∙◌, sym, subst, inl, inr, arith, if◌then◌else◌}
 use Rattle.std.proofs.lemmas.Bool.Decides.{nat_tests}
-use Rattle.std.proofs.lemmas.List.Elements.{All-get_or, All-from_get_or}
+use Rattle.std.proofs.lemmas.List.Elements.{All-weaker}
 use Rattle.nrt_base.specs.declared.numbers.At.{At}
 use Rattle.nrt_base.specs.declared.numbers.NodeNo.{NodeNo}
 use Rattle.disk_model.specs.Disk.{Name, Content, same}
@@ -178,9 +177,6 @@ alive size at n more old legal before replica survives =
     let ran : is_running n old ≡ true = subst (λ (p : Past). is_running n p ≡ true) (sym since.split) (runs_through size n since.newer start there replica.running few).running in
     record { survives = record { node = same }; version = (runs_through size n more old legal ran (omega arith)).version }
 
-all_map : (P Q : NodeNo → Type 0) (xs : List NodeNo) → ((n : NodeNo) → P n → Q n) → All P xs → All Q xs
-all_map P Q xs f p = All-from_get_or Q xs (record { 0 = 0 }) (λ i below. f _ (All-get_or P xs i (record { 0 = 0 }) below p))
-
 module _ (size : ℕ) (at : At) (old new : Log) (legal : IsLegalPast size (printed new)) (grows : GrowsByOthers false at.lane.0 old new) (stays : LineStays at old new) where
   alive_here : (n : ℕ) → IsReplica (before_start at (printed old)) n → NodeSurvives (printed new) at n → IsAlive at n (printed old) (printed new)
   alive_here n replica survives =
@@ -207,7 +203,7 @@ module _ (size : ℕ) (at : At) (old new : Log) (legal : IsLegalPast size (print
   settling_stays task s = record {
     started = stays.start ∙ s.started;
     is_open = λ none. s.is_open (sym (open_stays at old new grows stays) ∙ none);
-    left = all_map (IsLeft size (printed old) at task.version.0) (IsLeft size (printed new) at task.version.0) task.left.items (left_still task.version.0) s.left;
+    left = All-weaker (IsLeft size (printed old) at task.version.0) (IsLeft size (printed new) at task.version.0) (left_still task.version.0) task.left.items s.left;
     ascending = s.ascending;
     reached = λ n node replica survives.
         let a : IsAlive at n.0 (printed old) (printed new) = alive_here n.0 (was_replica n.0 replica) survives in

@@ -4,6 +4,7 @@ use Rattle.std.specs.Prelude.{⊤, ◌==◌}
 use Rattle.std.proofs.Math.Seq.{drop-append_seam}
 use Rattle.std.proofs.lemmas.Bool.{false≢true, eq-eqb}
 use Rattle.std.proofs.lemmas.Bool.Decides.{nat_tests}
+use Rattle.std.proofs.lemmas.List.{nil_from_length}
 use mathlib.Core.List.{IsPrefix}
 use Rattle.nrt_base.specs.declared.numbers.At.{At}
 use Rattle.nrt_base.specs.declared.numbers.NodeNo.{NodeNo}
@@ -192,10 +193,6 @@ pub calm_published : (size : ℕ) (past : Past) → IsCalm past → IsLegalPast 
 calm_published size [] calm legal = record { front = ([], refl); count = refl }
 calm_published size (e ∷ past) calm legal = published_next size e.at past calm.1 (calm_published size past calm.1 legal.1) e.event calm.0 legal.0
 
-no_rest : {X : Type 0} (xs : List X) → length xs ≡ 0 → xs ≡ []
-no_rest [] e = refl
-no_rest (x ∷ xs) e = absurd (omega (arith, e))
-
 -- where nothing is left to publish, the newest point has all operations
 pub nothing_left : (past : Past) → IsCalm past → HasPublished past → length (cut_of past) ≡ 0 → operations_at past (newest_version past) ≡ operations_written past
 nothing_left past calm has none =
@@ -203,5 +200,5 @@ nothing_left past calm has none =
     let rest : List Op = has.front.0 in
     let cut : cut_of past ≡ rest =
     ap (λ (k : ℕ). drop k (operations_of_generation past)) (sym has.count) ∙ (ap (drop (length front)) (sym has.front.1) ∙ drop-append_seam front rest) in
-    let empty : rest ≡ [] = no_rest rest (ap length (sym cut) ∙ none) in
+    let empty : rest ≡ [] = nil_from_length rest (ap length (sym cut) ∙ none) in
     sym (append-nil front) ∙ (ap (λ (more : List Op). front ++ more) (sym empty) ∙ (has.front.1 ∙ sym (calm_written past calm)))

@@ -3,7 +3,7 @@ use Rattle.std.proofs.Common.{◌≡◌, ℕ, zero, suc, ◌+◌, ◌^◌, ◌<�
 use Rattle.std.specs.List.{filter, swap}
 use Rattle.std.specs.List.Sorted.{IsPermutation}
 use Rattle.std.proofs.lemmas.Grind.{flat_map-append}
-use Rattle.std.proofs.lemmas.List.{append-nil, map-append}
+use Rattle.std.proofs.lemmas.List.{append-nil, map-append, take_all}
 use Rattle.std.proofs.lemmas.List.Elements.{filter-append}
 use Rattle.std.proofs.lemmas.List.Sorted.{IsPermutation-refl, IsPermutation-keeps, IsPermutation-trans, IsPermutation-append_left, IsPermutation-append_right, IsPermutation-append_comm}
 use Rattle.std.proofs.lemmas.List.Sums.{sum_by-cons}
@@ -131,12 +131,6 @@ counted_next query segs i j seg found next k lt item up one =
           ∙ ap answer_of (sym (ap (λ (ss : List Shown). matching_hits query (live_documents ss)) (take_one segs i seg lt item) ∙ more_hits query (take i segs) seg));
     })
 
-take_whole : (n : ℕ) (segs : List Shown) → length segs ≤ n → take n segs ≡ segs
-take_whole zero [] le = refl
-take_whole zero (s ∷ segs) le = absurd (omega (arith, le))
-take_whole (suc n) [] le = refl
-take_whole (suc n) (s ∷ segs) le = ap (λ (xs : List Shown). s ∷ xs) (take_whole n segs (omega (arith, le)))
-
 same_answer : (answer found : Answer) → answer.total ≡ found.total → answer.hits ≡ found.hits → answer ≡ found
 same_answer answer found total hits = by_parts answer.total found.total answer.hits found.hits total hits
   where
@@ -147,5 +141,5 @@ same_answer answer found total hits = by_parts answer.total found.total answer.h
 pub answer_is : (query : Query) (segs : List Shown) (n : ℕ) (left : List Shown) (found answer : Answer) → AreCounted query (take n segs) left found → length segs ≤ n → answer.total ≡ found.total → answer.hits ≡ found.hits
     → (docs : List Doc) → AreLiveDocuments segs docs → answer ≡ scan_of docs query
 answer_is query segs n left found answer k all total hits docs are =
-    same_answer answer found total hits ∙ k.is ∙ ap (λ (ss : List Shown). answer_of (matching_hits query (live_documents ss))) (take_whole n segs all)
+    same_answer answer found total hits ∙ k.is ∙ ap (λ (ss : List Shown). answer_of (matching_hits query (live_documents ss))) (take_all n segs all)
     ∙ answer_same (matching_hits query (live_documents segs)) (matching_hits query docs) (matching_hits-permutation query (live_documents segs) docs are.same)

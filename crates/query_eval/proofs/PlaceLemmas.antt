@@ -6,6 +6,7 @@ use Rattle.std.specs.Str.{bytes_eq}
 use Rattle.std.proofs.lemmas.Bool.{ne_eqb, eq-eqb, le-leb, lt-ltb, ltb-false, or_parts, and_left, and_right}
 use Rattle.std.proofs.lemmas.Cmp.{nat_list_eq_equiv}
 use Rattle.std.proofs.lemmas.List.Sums.{sum_by-cons}
+use Rattle.std.proofs.lemmas.List.{map_push}
 use Rattle.nrt_base.specs.declared.doc.Doc.{Doc}
 use Rattle.documents.specs.Words.{words_of, has_word}
 use Rattle.documents.specs.Matching.{tails, stands_at_front, stands_in}
@@ -170,10 +171,6 @@ word_times shown word hits sound has i doc e = ap length (entry_places shown wor
 abbrev pub ArePlaced : List Doc → List (List Hit) → List (List ℕ) → Type 0
 ArePlaced docs hits phrase = (row : ℕ) (doc : Doc) → slice_get docs row ≡ Some doc → map (places_in row) hits ≡ map (λ w. positions_of w (words_of doc.text)) phrase
 
-map_more : {X : Type 0} (f : X → List ℕ) (xs : List X) (x : X) → map f (xs ++ x ∷ []) ≡ map f xs ++ f x ∷ []
-map_more f [] x = refl
-map_more f (y ∷ xs) x = ap (λ (ys : List (List ℕ)). f y ∷ ys) (map_more f xs x)
-
 take_one : (xs : List (List ℕ)) (i : ℕ) (x : List ℕ) → slice_get xs i ≡ Some x → take (suc i) xs ≡ take i xs ++ x ∷ []
 take_one [] i x e = absurd cc
 take_one (y ∷ xs) zero x e = cc
@@ -189,9 +186,9 @@ placed_more shown words more phrase i j word same hits sound placed is spelt has
     let of : List ℕ → List ℕ = λ w. positions_of w (words_of doc.text) in
     let one : j ≡ suc i = omega (arith, next) in
     ap (map (places_in row)) pushed
-    ∙ map_more (places_in row) words hits
+    ∙ map_push (places_in row) words hits
     ∙ more_cells (map (places_in row) words) (map of (take i phrase)) (places_in row hits) (of word) (placed row doc here) (entry_places shown same hits sound has row doc here ∙ ap of spelt)
-    ∙ sym (map_more of (take i phrase) word)
+    ∙ sym (map_push of (take i phrase) word)
     ∙ ap (map of) (sym (take_one phrase i word is))
     ∙ ap (λ (n : ℕ). map of (take n phrase)) (sym one)
 
