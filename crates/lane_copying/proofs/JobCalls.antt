@@ -4,6 +4,7 @@ use Rattle.std.specs.Prelude.{Result, Ok, Err, IfOk, OnOk, IsTrue, ◌↔◌, Is
 use Rattle.std.specs.List.{All, AllPairs, Contains}
 use Rattle.std.proofs.lemmas.Bool.{eqb-true, eq-eqb, not-false}
 use Rattle.std.proofs.lemmas.Option.{same_Some}
+use Rattle.std.proofs.Math.Bool.{and-false}
 use Rattle.history_tables.proofs.RowLemmas.{same_at_self, refused_closed}
 use Rattle.file_deleter.proofs.NameLemmas.{same_self}
 use Rattle.disk_model.specs.Disk.{Content, same}
@@ -29,7 +30,6 @@ use Rattle.history_tables.specs.JobRows.{row_if_some}
 use Rattle.history_book.specs.Log.{Log, printed, shown}
 use Rattle.history_book.specs.Jobs.{job_of}
 use Rattle.script_serving.specs.declared.script.LineCommand.TheVariants.{Settle}
-use Rattle.history_book.proofs.LineLaws.{and_false}
 use Rattle.cluster_places.specs.declared.tasks.CopyTask.{CopyTask}
 use Rattle.cluster_places.specs.declared.tasks.FileTask.{FileTask}
 use Rattle.cluster_places.specs.declared.tasks.SettleTask.{SettleTask}
@@ -320,8 +320,8 @@ closed_step : (e : Entry) (past : Past) (at : At) (s : Bool) → (start_entry at
     → ((is_reply e.event && s) || is_answered at past) ≡ true
 closed_step e past at true was start closed = closed_mine e.event past at was start closed
 closed_step e past at false was start closed =
-    ap (λ (b : Bool). b || is_answered at past) (and_false (is_reply e.event))
-    ∙ was (subst (λ (b : Bool). (if b then Some e.event else start_entry at past) ≢ None) (and_false (is_start e.event)) start) closed
+    ap (λ (b : Bool). b || is_answered at past) (and-false (is_reply e.event))
+    ∙ was (subst (λ (b : Bool). (if b then Some e.event else start_entry at past) ≢ None) (and-false (is_start e.event)) start) closed
 
 -- a line that has started and is not open has its reply
 pub closed_replied : (at : At) (past : Past) → start_entry at past ≢ None → open_line at past ≡ None → is_answered at past ≡ true

@@ -7,6 +7,7 @@ use Rattle.std.proofs.lemmas.Bool.{ne_eqb, eq-eqb, le-leb, lt-ltb, ltb-false, or
 use Rattle.std.proofs.lemmas.Cmp.{nat_list_eq_equiv}
 use Rattle.std.proofs.lemmas.List.Sums.{sum_by-cons}
 use Rattle.std.proofs.lemmas.List.{map_push}
+use Rattle.std.proofs.lemmas.Option.{same_Some}
 use Rattle.nrt_base.specs.declared.doc.Doc.{Doc}
 use Rattle.documents.specs.Words.{words_of, has_word}
 use Rattle.documents.specs.Matching.{tails, stands_at_front, stands_in}
@@ -18,7 +19,7 @@ use Rattle.postings_plain.specs.Inverting.{has_term, positions_of}
 use Rattle.seg_reader.specs.Shown.{Shown}
 use Rattle.seg_reader.specs.Sound.{term_row, IsSound}
 use Rattle.query_eval.specs.Phrases.{places_in, follow, times_together, phrase_times, phrase_in}
-use Rattle.query_eval.proofs.RowLemmas.{rows_from, some_row, doc_row, no_entry_rows}
+use Rattle.query_eval.proofs.RowLemmas.{rows_from, doc_row, no_entry_rows}
 
 -- how many words are this one, where it is tested in turn
 pub count_cons : {X : Type 0} (p : X → Bool) (x : X) (xs : List X) → count_by p (x ∷ xs) ≡ (if p x then 1 else 0) + count_by p xs
@@ -145,7 +146,7 @@ none_placed word n (w ∷ words) e =
 -- the places in a row are those of the word there
 places_found : (word : List ℕ) (n i m : ℕ) (rows : List TermRow) (row : TermRow) → m ≡ n + i → slice_get rows i ≡ Some row → places_in m (rows_from word n rows) ≡ positions_of word row.words
 places_found word n i m [] row e is = absurd cc
-places_found word n zero m (r ∷ rows) row e is = by_test (has_term 1 word r) refl ∙ ap (λ (x : TermRow). positions_of word x.words) (some_row r row is)
+places_found word n zero m (r ∷ rows) row e is = by_test (has_term 1 word r) refl ∙ ap (λ (x : TermRow). positions_of word x.words) (same_Some r row is)
   where
     by_test : (b : Bool) → has_term 1 word r ≡ b → places_in m (rows_from word n (r ∷ rows)) ≡ positions_of word r.words
     by_test true f = rw (f, eq-eqb n m (omega (arith, e))) refl

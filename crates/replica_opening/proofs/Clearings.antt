@@ -5,6 +5,7 @@ use Rattle.std.specs.List.{flat_map}
 use Rattle.std.proofs.Math.Dec.{ltb as nat_lt}
 use Rattle.std.proofs.lemmas.List.{take-append-drop}
 use Rattle.std.proofs.lemmas.Bool.{cases_order}
+use Rattle.std.proofs.Math.Bool.{or-false}
 use Rattle.disk_model.specs.Disk.{Name, Content, Cell, Cells, Image, is_among, reads_of}
 use Rattle.file_names.specs.Names.{commit_name_of, commit_number}
 use Rattle.file_names.proofs.NameLaws.{commit_name_is_one, commit_number-commit_name}
@@ -25,7 +26,6 @@ use Rattle.commit_steps.proofs.Safe.{among_of}
 use Rattle.commit_steps.proofs.Beside.{sound_beside, sound_images}
 use Rattle.searcher_switch.specs.Given.{IsWholeNode}
 use Rattle.replica_opening.proofs.Metas.{knows_along}
-use Rattle.replica_opening.proofs.Openings.{or_false}
 use Rattle.searcher_switch.proofs.Given.{segments_along}
 use Rattle.searcher_switch.specs.Searching.{searcher_names}
 use Rattle.searcher_switch.specs.Tickets.{ticket_names}
@@ -177,5 +177,5 @@ module _ (before after : Cells) (t : Taken) (is : IsTaken before t) (new : Holdi
   opened_names all none q =
       let count : count_of new q ≡ times (searcher_names t.opened.searchers ++ book_names t.opened.commits) q =
       omega (arith, is.counts q, lets_go.counts q, all q, times-append (searcher_names t.opened.searchers) (book_names t.opened.commits) q) in
-      (lets_go.keeps.whole is.whole).names q ∙ ap (λ b. nat_lt 0 (count_of new q) || b) (ap (λ (ns : List Name). is_among ns q) none) ∙ or_false (nat_lt 0 (count_of new q))
+      (lets_go.keeps.whole is.whole).names q ∙ ap (λ b. nat_lt 0 (count_of new q) || b) (ap (λ (ns : List Name). is_among ns q) none) ∙ or-false (nat_lt 0 (count_of new q))
       ∙ ap (nat_lt 0) count ∙ sym (among_is (searcher_names t.opened.searchers ++ book_names t.opened.commits) q)

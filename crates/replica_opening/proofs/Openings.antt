@@ -22,7 +22,7 @@ use Rattle.commit_steps.proofs.Safe.{among_of, contains_of}
 use Rattle.searcher_switch.specs.Given.{AreFree}
 use Rattle.replica_opening.specs.declared.fault.StartFault.{StartFault}
 use Rattle.replica_opening.specs.declared.fault.StartFault.TheVariants.{Memory, Recover, Segment, Failed}
-use Rattle.std.proofs.Math.Bool.{or-true}
+use Rattle.std.proofs.Math.Bool.{or-true, or-false}
 use Rattle.std.specs.Ordering.{nat_cmp}
 use Rattle.std.specs.Cmp.Lexicographic.{slice_cmp}
 use Rattle.std.proofs.lemmas.Bool.{and_left}
@@ -100,10 +100,6 @@ module _ (cells : Cells) (names : List Name) (next : ℕ) (listed : (q : Name) �
   }
 
 -- ---- what is held
-pub or_false : (b : Bool) → (b || false) ≡ b
-or_false true = refl
-or_false false = refl
-
 module _ (cells : Cells) (h0 h1 h2 h3 : Holdings) (listed names : List Name) (book : CommitBook) (counts0 : h0.counts ≡ []) (pending0 : h0.due ≡ [])
     (holds1 : HoldsFiles listed h0 h1 cells) (pending1 : (q : Name) → is_due h1 q ≡ (is_due h0 q && not (is_among listed q))) (holds2 : HoldsFiles names h1 h2 cells) (holds3 : HoldsFiles (book_names book) h2 h3 cells)
     (listed_is : (q : Name) → is_among listed q ≡ is_some (cells q).now) where
@@ -115,7 +111,7 @@ module _ (cells : Cells) (h0 h1 h2 h3 : Holdings) (listed names : List Name) (bo
 
   whole1 : IsWhole cells h1
   whole1 = record {
-    names = λ q. sym (listed_is q) ∙ among_is listed q ∙ ap (nat_lt 0) (sym (count1 q)) ∙ sym (or_false (nat_lt 0 (count_of h1 q))) ∙ ap (λ b. nat_lt 0 (count_of h1 q) || b) (sym (clear1 q));
+    names = λ q. sym (listed_is q) ∙ among_is listed q ∙ ap (nat_lt 0) (sym (count1 q)) ∙ sym (or-false (nat_lt 0 (count_of h1 q))) ∙ ap (λ b. nat_lt 0 (count_of h1 q) || b) (sym (clear1 q));
     apart = λ q h. absurd (true≢false (sym h ∙ clear1 q));
   }
 

@@ -1,8 +1,8 @@
 -- The formats of the head of infos and of the records of segments.
-use Rattle.std.proofs.Common.{◌≡◌, ℕ, suc, ◌^◌, ◌<◌, ◌≤◌, ◌⊎◌, Bool, true, false, cond, List, [], ◌∷◌, ◌++◌, length, Some, None, refl, sym, ap, subst, ◌∙◌, arith, inl, inr}
+use Rattle.std.proofs.Common.{◌≡◌, ℕ, suc, ◌^◌, ◌<◌, ◌≤◌, Bool, true, false, cond, List, [], ◌∷◌, ◌++◌, length, Some, None, refl, sym, ap, subst, ◌∙◌, arith, inl, inr}
 use Rattle.std.specs.Prelude.{◌&&◌, ◌||◌, ◌==◌, nat_lt, nat_le}
 use Rattle.std.specs.List.{flat_map, All}
-use Rattle.std.proofs.lemmas.Bool.{cases_lt, ltb-true, leb-true, eqb-true, lt-ltb, eq-eqb, and_parts}
+use Rattle.std.proofs.lemmas.Bool.{cases_lt, ltb-true, leb-true, eqb-true, lt-ltb, eq-eqb, and_parts, or_cases}
 use Rattle.std.proofs.lemmas.Bool.Decides.{nat_tests}
 use Rattle.std.proofs.lemmas.List.Elements.{All-cons, All-nil}
 use Rattle.body_forms.specs.Given.{AreBytes}
@@ -76,13 +76,9 @@ head_format =
 abbrev record_parts : SegRecord → Four
 record_parts r = (r.seg.0, (r.rows, (r.live_gen, r.live)))
 
-first_or : (a b : Bool) → (a || b) ≡ true → (a ≡ true) ⊎ (b ≡ true)
-first_or true b h = inl refl
-first_or false b h = inr h
-
 record_from_test : (r : SegRecord) → is_record r ≡ true → IsRecord r
 record_from_test r h =
-    elim (first_or (r.live == r.rows) (nat_lt r.live r.rows && nat_lt 0 r.live_gen) h) [
+    elim (or_cases (r.live == r.rows) (nat_lt r.live r.rows && nat_lt 0 r.live_gen) h) [
       | inl e ↦ let same : r.live ≡ r.rows = eqb-true r.live r.rows e in record { most = omega (arith, same); all = λ _. same }
       | inr e ↦
           let p = and_parts (nat_lt r.live r.rows) (nat_lt 0 r.live_gen) e in
