@@ -1,10 +1,11 @@
 -- What the entries show where no node was crashed, reopened or promoted and no fault was planned.
-use Rattle.std.proofs.Common.{◌≡◌, ℕ, ◌+◌, ◌≤◌, List, [], ◌∷◌, ◌++◌, ◌&&◌, ◌||◌, Bool, true, false, Option, Some, None, length, drop, max, refl, ap, ◌∙◌, sym, subst, arith, append_assoc, append-nil, if◌then◌else◌}
+use Rattle.std.proofs.Common.{◌≡◌, ℕ, ◌+◌, ◌≤◌, List, [], ◌∷◌, ◌++◌, ◌&&◌, ◌||◌, Bool, true, false, Option, Some, None, length, drop, max, refl, ap, ◌∙◌, sym, subst, arith, append-nil, if◌then◌else◌}
 use Rattle.std.specs.Prelude.{⊤, ◌==◌}
 use Rattle.std.proofs.Math.Seq.{drop-append_seam}
 use Rattle.std.proofs.lemmas.Bool.{false≢true, eq-eqb}
 use Rattle.std.proofs.lemmas.Bool.Decides.{nat_tests}
 use Rattle.std.proofs.lemmas.List.{nil_from_length}
+use Rattle.script_serving.proofs.LogLemmas.{longer}
 use mathlib.Core.List.{IsPrefix}
 use Rattle.nrt_base.specs.declared.numbers.At.{At}
 use Rattle.nrt_base.specs.declared.numbers.NodeNo.{NodeNo}
@@ -137,9 +138,6 @@ grown : (e : Event) (ops : List Op) → is_calm_event e ≡ true → IsPrefix op
 grown (Accepted seq op) ops calm = (op ∷ [], refl)
 grown (Promoted m g f w) ops calm = absurd (false≢true calm)
 grown e ops calm = ([], append-nil ops)
-
-longer : (xs ys zs : List Op) → IsPrefix xs ys → IsPrefix ys zs → IsPrefix xs zs
-longer xs ys zs h k = (h.0 ++ k.0, sym (append_assoc xs h.0 k.0) ∙ (ap (λ (front : List Op). front ++ k.0) h.1 ∙ k.1))
 
 -- those at the start of a line are the first of them
 start_first : (at : At) (past : Past) → IsCalm past → IsPrefix (operations_of_generation (before_start at past)) (operations_of_generation past)

@@ -1,6 +1,5 @@
 -- The postings of the live rows of segments, from those of the segments.
-use Rattle.std.proofs.Common.{◌≡◌, ℕ, zero, suc, ◌+◌, ◌<◌, ◌≤◌, Bool, true, false, cond, List, [], ◌∷◌, ◌++◌, length, take, get_or, map, Option, Some, None, Result, Ok, Err, refl, sym, ap, subst, ◌∙◌, arith, append_assoc}
-use Rattle.std.specs.Prelude.{IfOk}
+use Rattle.std.proofs.Common.{◌≡◌, ℕ, zero, suc, ◌+◌, ◌<◌, ◌≤◌, Bool, true, false, cond, List, [], ◌∷◌, ◌++◌, length, take, get_or, map, Option, Some, None, refl, sym, ap, subst, ◌∙◌, arith, append_assoc}
 use Rattle.std.specs.List.{AllPairs, filter, list_any, enumerate_from}
 use Rattle.std.specs.Str.{bytes_eq}
 use Rattle.std.specs.Option.{unwrap_or}
@@ -22,11 +21,6 @@ use Rattle.postings_plain.specs.Gathering.{Terms, FoundTerms, Gathers, some_hits
 use Rattle.postings_plain.specs.Joining.{numbers_from, live_terms, with_number, renumbered, AddsHitsTo, hits_under, JoinsEntries}
 use Rattle.postings_plain.proofs.Finding.{among, not_among}
 use Rattle.postings_plain.proofs.GatheringLaws.{picked, pick, picked_none, hits_back, apart}
-
--- what follows from what holds of an answer holds of it
-pub if_ok : {X E : Type 0} (r : Result X E) (P Q : X → Type 0) → ((x : X) → P x → Q x) → IfOk r P → IfOk r Q
-if_ok (Ok x) P Q turns h = turns x h
-if_ok (Err e) P Q turns h = tt
 
 -- ---- the rows of a term, over two lists of rows
 

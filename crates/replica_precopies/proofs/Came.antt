@@ -289,10 +289,6 @@ some_at (Some c) there h = (c, refl, h)
 pub some_here : (P : Job → Type 0) (o : Option Job) (c : Job) → o ≡ Some c → P c → IfSome o P
 some_here P o c e h = subst (λ (x : Option Job). IfSome x P) (sym e) h
 
-pub on_ok : {T E P Q : Type 0} (result : Result T E) → (P → Q) → OnOk result P → OnOk result Q
-on_ok (Ok x) turns h = turns h
-on_ok (Err x) turns h = tt
-
 -- what RunningCopies::arrived asks for
 pub takes_all : {D : Type 0} (cells : D → Cells) (p : Parts D) → IsWholeReplica cells p → (number : ℕ) (part : Part) → IfSome (copy_at number p.copies.running) (λ c. 0 < times c.missing part.name)
     → IfSome (copy_at number p.copies.running) (λ c. meta_in c.want.files part.name ≡ Some part.meta) → IfSome (copy_at number p.copies.running) (CanTakePart part p.files)

@@ -74,7 +74,7 @@ from_front xs = ([], append-nil xs)
 then_more : {X : Type 0} (xs ys zs : List X) → IsPrefix xs ys → ys ≡ zs → IsPrefix xs zs
 then_more xs ys zs h e = subst (IsPrefix xs) e h
 
-longer : {X : Type 0} (xs ys zs : List X) → IsPrefix xs ys → IsPrefix ys zs → IsPrefix xs zs
+pub longer : {X : Type 0} (xs ys zs : List X) → IsPrefix xs ys → IsPrefix ys zs → IsPrefix xs zs
 longer xs ys zs h k = (h.0 ++ k.0, sym (append_assoc xs h.0 k.0) ∙ (ap (λ (front : List _). front ++ k.0) h.1 ∙ k.1))
 
 no_operation : (ops : List Op) → IsPrefix [] ops
