@@ -186,16 +186,6 @@ none_placed parts place p old new before after at apart counts keeps = record {
   keeps = keeps;
 }
 
--- what is kept but for some names is kept but for more
-wider : (w v : List Name) (old new : Holdings) (before after : Cells) → KeepsFiles v old new before after → ((q : Name) → is_among w q ≡ false → is_among v q ≡ false) → KeepsFiles w old new before after
-wider w v old new before after k sub = record {
-  whole = k.whole;
-  kept = λ q out. k.kept q (sub q out);
-  reads = k.reads;
-  crash = λ q c out. k.crash q c (sub q out);
-  none = λ q out. k.none q (sub q out);
-}
-
 name_of : (n q : Name) → 1 ≤ times (n ∷ []) q → n ≡ q
 name_of n q some = by (same n q) refl
   where

@@ -16,7 +16,6 @@ use Rattle.primary_parts.specs.declared.states.Merging.{Merging}
 use Rattle.primary_parts.specs.Merges.{merge_names, merge_loose, merge_filled, merge_inputs, merge_of, merge_place, merges_without, merges_with, IsMadeBy, IsMerging, AreOtherMerges, AreApartMerges}
 use Rattle.primary_parts.proofs.Writing.{among_at}
 
--- ---- one more in front
 -- ---- merges over calls that leave them as they are
 made_kept : (before after : Name → Content) (m : Merging) (o : Option Merged) → IsMadeBy before m o → ((q : Name) → 0 < times m.names q → after q ≡ before q) → IsMadeBy after m o
 made_kept before after m None made same = tt
