@@ -4,6 +4,7 @@ use Rattle.std.specs.Prelude.{IsSomeAnd, Contains, Result, Ok, Err, IfOk}
 use Rattle.std.specs.List.{slice_get, flat_map}
 use Rattle.std.proofs.lemmas.Bool.Decides.{nat_tests, eqb_tells}
 use Rattle.std.proofs.lemmas.List.Elements.{All-nil}
+use Rattle.std.proofs.lemmas.Option.{none-some}
 use Rattle.file_names.specs.Names.{commit_name_of}
 use Rattle.nrt_base.specs.declared.doc.Doc.{Doc}
 use Rattle.nrt_base.specs.declared.numbers.Gen.{Gen}
@@ -69,10 +70,7 @@ use Rattle.cluster_state.proofs.PointStands.{opening_stands, opening_writable}
 
 -- an empty directory shows no commit
 no_commit : (cells : Cells) (n : ℕ) (infos : Infos) → IsEmptyDir cells → ShowsCommit (reads_of cells) n infos → ⊥
-no_commit cells n infos empty shows = some_none shows.bytes (sym shows.newest.there ∙ empty.now (commit_name_of n))
-  where
-    some_none : (bytes : List ℕ) → Some bytes ≡ None → ⊥
-    some_none bytes is = absurd (cc)
+no_commit cells n infos empty shows = none-some shows.bytes (sym (sym shows.newest.there ∙ empty.now (commit_name_of n)))
 
 -- what it gives is the opening point
 pub finds_opening : (cells : Cells) (last : Option Commit) (infos : Infos) → IsEmptyDir cells → FindsPoint (reads_of cells) (number_of_last last) infos → (last ≡ None) × (infos ≡ opening_infos)
@@ -94,8 +92,8 @@ slice_get_before (x ∷ xs) ys (suc i) h = slice_get_before xs ys i (omega arith
 
 pub nothing_held : (n : ℕ) (tickets : List (Open Shown)) → HoldsTickets [] n tickets []
 nothing_held n tickets = record {
-  each = λ key number is. absurd (none_some number is);
-  apart = λ a b number is is'. absurd (none_some number is);
+  each = λ key number is. absurd (none-some number is);
+  apart = λ a b number is is'. absurd (none-some number is);
   opened = λ lane t v is. none_open v (t == 0) is;
   searched = λ at v is. absurd is.line;
 }
@@ -103,9 +101,6 @@ nothing_held n tickets = record {
     none_open : {P : Type 0} (v : ℕ) (b : Bool) → IsTicketOf n v (if b then None else None) → P
     none_open v true is = absurd is
     none_open v false is = absurd is
-
-    none_some : (number : ℕ) → None ≡ Some number → ⊥
-    none_some number is = absurd (cc)
 
 -- ---- the opening point
 

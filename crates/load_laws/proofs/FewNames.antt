@@ -3,6 +3,7 @@ use Rattle.std.proofs.Common.{◌≡◌, ℕ, zero, suc, ◌+◌, ◌≤◌, ◌
 use Rattle.std.specs.Prelude.{◌==◌, ◌%◌, ◌/◌, ◌-◌, nat_le, nat_lt, is_some}
 use Rattle.std.proofs.lemmas.Bool.{false≢true, and_from, and_parts, or_left, or_right}
 use Rattle.std.proofs.lemmas.Bool.Decides.{nat_tests}
+use Rattle.std.proofs.lemmas.Option.{none-some}
 use Rattle.history_tables.proofs.RowLemmas.{same_at_self, same_at_is}
 use Rattle.nrt_base.specs.declared.numbers.At.{At}
 use Rattle.nrt_base.specs.declared.numbers.Gen.{Gen}
@@ -62,10 +63,7 @@ tally-append p (x ∷ xs) ys = let rest = tally-append p xs ys in omega (arith, 
 -- where the line at a place passes, and did not before, more lines pass
 tally_rises : (p q : Line → Bool) → ((l : Line) → p l ≡ true → q l ≡ true) → (lines : List Line) (at : At) (c : LineCommand)
     → ((l : Line) → l.at ≡ at → l.command ≡ c → (p l ≡ false) × (q l ≡ true)) → command_at lines at ≡ Some c → tally p lines + 1 ≤ tally q lines
-tally_rises p q more [] at c new there = absurd (none_some c there)
-  where
-    none_some : (x : LineCommand) → None ≡ Some x → ⊥
-    none_some x e = cc
+tally_rises p q more [] at c new there = absurd (none-some c there)
 tally_rises p q more (l ∷ lines) at c new there = by_place (same_at l.at at) refl there (tally_rises p q more lines at c new)
   where
     one : (x y : LineCommand) → Some x ≡ Some y → x ≡ y

@@ -213,10 +213,7 @@ not_both false h g = absurd (false≢true g)
 
 head_of : (done rest : List Line) (at : At) (past : Past) (c : LineCommand) → list_all (λ l. is_answered l.at past) done ≡ true → list_all (λ l. not (is_answered l.at past)) rest ≡ true
     → earlier_answered (done ++ rest) at past ≡ true → is_answered at past ≡ false → command_at (done ++ rest) at ≡ Some c → Head at c rest
-head_of [] [] at past c answered left earlier fresh there = absurd (none_some c there)
-  where
-    none_some : (x : LineCommand) → None ≡ Some x → ⊥
-    none_some x e = cc
+head_of [] [] at past c answered left earlier fresh there = absurd (none-some c there)
 head_of [] (l ∷ rest) at past c answered left earlier fresh there = by_place (same_at l.at at) refl earlier there
   where
     one : (x y : LineCommand) → Some x ≡ Some y → x ≡ y

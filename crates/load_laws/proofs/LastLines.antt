@@ -89,10 +89,7 @@ pub record Started (at : At) (begun : Event) (past : Past) : Type 0 where
   pub start : is_start begun ≡ true
 
 pub started_at : (at : At) (begun : Event) (past : Past) → start_entry at past ≡ Some begun → Started at begun past
-started_at at begun [] is = absurd (none_some begun is)
-  where
-    none_some : (x : Event) → None ≡ Some x → ⊥
-    none_some x e = cc
+started_at at begun [] is = absurd (none-some begun is)
 started_at at begun (e ∷ past) is = by_test (is_start e.event && same_at e.at at) refl is (started_at at begun past)
   where
     one : (x y : Event) → Some x ≡ Some y → x ≡ y
@@ -149,10 +146,7 @@ apart_below k m low = grind (arith, nat_tests)
 
 -- the i-th command of lines that are numbered from k on
 command_numbered : (cs : List LineCommand) (rest : List Line) (k m i : ℕ) (c : LineCommand) → m ≡ k + i → slice_get cs i ≡ Some c → command_at (lines_numbered k 1 cs ++ rest) (place m) ≡ Some c
-command_numbered [] rest k m i c is there = absurd (none_some c there)
-  where
-    none_some : (x : LineCommand) → None ≡ Some x → ⊥
-    none_some x e = cc
+command_numbered [] rest k m i c is there = absurd (none-some c there)
 command_numbered (d ∷ cs) rest k m zero c is there =
     let same : same_at (place k) (place m) ≡ true = and_from true (k == m) refl (eq-eqb k m (omega (arith, is))) in
     ap (λ (b : Bool). if b then Some d else command_at (lines_numbered (k + 1) 1 cs ++ rest) (place m)) same ∙ there
@@ -330,10 +324,7 @@ starts n past e known none =
 
 -- a line with an entry has its reply or its start
 pub has_start : (n : ℕ) (at : At) (past : Past) (x : Event) → Known n past → last_of_line at past ≡ Some x → is_answered at past ≡ false → start_entry at past ≡ None → ⊥
-has_start n at [] x known last unmet none = none_some x last
-  where
-    none_some : (y : Event) → None ≡ Some y → ⊥
-    none_some y e = cc
+has_start n at [] x known last unmet none = none-some x last
 has_start n at (e ∷ past) x known last unmet none = by_place (same_at e.at at) refl last unmet none (λ y. has_start n at past y (known_before n (e ∷ []) past known))
   where
     none_of : (o : Option Event) → last_of_line at past ≡ o → same_at e.at at ≡ true → (is_start e.event && true) ≡ false → (is_reply e.event && true || is_answered at past) ≡ false

@@ -6,6 +6,7 @@ use Rattle.std.proofs.lemmas.Bool.{false≢true, and_from, and_parts, eq-eqb, eq
 use Rattle.std.proofs.lemmas.Bool.Decides.{nat_tests}
 use Rattle.std.proofs.lemmas.List.Folds.{list_all-append}
 use Rattle.std.proofs.lemmas.List.Elements.{filter-append}
+use Rattle.std.proofs.lemmas.Option.{none-some}
 use Rattle.nrt_base.specs.declared.numbers.At.{At}
 use Rattle.history_entries.specs.declared.cause.Cause.{Cause}
 use Rattle.history_entries.specs.declared.entry.Entry.{Entry}
@@ -181,10 +182,7 @@ pub record Found (p : Line → Bool) (at : At) (c : LineCommand) : Type 0 where
   pub holds : p line ≡ true
 
 pub found : (p : Line → Bool) (lines : List Line) (at : At) (c : LineCommand) → list_all p lines ≡ true → command_at lines at ≡ Some c → Found p at c
-found p [] at c all is = absurd (none_some c is)
-  where
-    none_some : (x : LineCommand) → None ≡ Some x → ⊥
-    none_some x e = cc
+found p [] at c all is = absurd (none-some c is)
 found p (l ∷ lines) at c all is = by_place (same_at l.at at) refl is (found p lines at c (and_parts (p l) (list_all p lines) all).1)
   where
     one : (x y : LineCommand) → Some x ≡ Some y → x ≡ y
