@@ -3,7 +3,7 @@ use Rattle.std.proofs.Common.{◌≡◌, ℕ, zero, suc, ◌+◌, ◌≤◌, ◌
 use Rattle.std.specs.Prelude.{◌==◌, ◌%◌, ◌/◌, ◌-◌, nat_le, nat_lt, is_some}
 use Rattle.std.proofs.lemmas.Bool.{false≢true, and_from, and_parts, or_left, or_right}
 use Rattle.std.proofs.lemmas.Bool.Decides.{nat_tests}
-use Rattle.std.proofs.lemmas.Option.{none-some}
+use Rattle.std.proofs.lemmas.Option.{none-some, same_Some}
 use Rattle.history_tables.proofs.RowLemmas.{same_at_self, same_at_is}
 use Rattle.nrt_base.specs.declared.numbers.At.{At}
 use Rattle.nrt_base.specs.declared.numbers.Gen.{Gen}
@@ -66,13 +66,10 @@ tally_rises : (p q : Line → Bool) → ((l : Line) → p l ≡ true → q l ≡
 tally_rises p q more [] at c new there = absurd (none-some c there)
 tally_rises p q more (l ∷ lines) at c new there = by_place (same_at l.at at) refl there (tally_rises p q more lines at c new)
   where
-    one : (x y : LineCommand) → Some x ≡ Some y → x ≡ y
-    one x y e = cc
-
     by_place : (b : Bool) → same_at l.at at ≡ b → (if b then Some l.command else command_at lines at) ≡ Some c → (command_at lines at ≡ Some c → tally p lines + 1 ≤ tally q lines)
         → tally p (l ∷ lines) + 1 ≤ tally q (l ∷ lines)
     by_place true e f ih =
-        let both = new l (same_at_is l.at at e) (one l.command c f) in
+        let both = new l (same_at_is l.at at e) (same_Some l.command c f) in
         let rest = tally_grows p q more lines in
         let first : ◌≡◌ {A = ℕ} (if p l then 1 else 0) 0 = ap (λ (b : Bool). if b then 1 else 0) both.0 in
         let second : ◌≡◌ {A = ℕ} (if q l then 1 else 0) 1 = ap (λ (b : Bool). if b then 1 else 0) both.1 in

@@ -7,7 +7,7 @@ use Rattle.std.proofs.lemmas.Bool.Decides.{nat_tests}
 use Rattle.std.proofs.lemmas.Grind.{flat_map-append}
 use Rattle.std.proofs.lemmas.List.Folds.{list_all-append}
 use Rattle.std.proofs.lemmas.List.Elements.{filter-append}
-use Rattle.std.proofs.lemmas.Option.{none-some}
+use Rattle.std.proofs.lemmas.Option.{none-some, same_Some}
 use Rattle.history_tables.proofs.RowLemmas.{same_at_self, same_at_is}
 use Rattle.nrt_base.specs.declared.numbers.At.{At}
 use Rattle.documents.specs.declared.operation.Op.{Op}
@@ -216,12 +216,9 @@ head_of : (done rest : List Line) (at : At) (past : Past) (c : LineCommand) → 
 head_of [] [] at past c answered left earlier fresh there = absurd (none-some c there)
 head_of [] (l ∷ rest) at past c answered left earlier fresh there = by_place (same_at l.at at) refl earlier there
   where
-    one : (x y : LineCommand) → Some x ≡ Some y → x ≡ y
-    one x y e = cc
-
     by_place : (b : Bool) → same_at l.at at ≡ b → (if b then true else is_answered l.at past && earlier_answered rest at past) ≡ true
         → (if b then Some l.command else command_at rest at) ≡ Some c → Head at c (l ∷ rest)
-    by_place true e f g = record { line = l; others = rest; is = refl; place = same_at_is l.at at e; asks = one l.command c g }
+    by_place true e f g = record { line = l; others = rest; is = refl; place = same_at_is l.at at e; asks = same_Some l.command c g }
     by_place false e f g =
         not_both (is_answered l.at past) (and_parts (not (is_answered l.at past)) (list_all (λ m. not (is_answered m.at past)) rest) left).0
         (and_parts (is_answered l.at past) (earlier_answered rest at past) f).0

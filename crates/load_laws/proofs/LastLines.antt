@@ -6,7 +6,7 @@ use Rattle.std.proofs.lemmas.Bool.{false≢true, true≢false, and_from, and_par
 use Rattle.std.proofs.lemmas.Bool.Decides.{nat_tests}
 use Rattle.std.proofs.lemmas.List.Folds.{list_all-append}
 use Rattle.std.proofs.lemmas.List.Elements.{filter-append}
-use Rattle.std.proofs.lemmas.Option.{none-some}
+use Rattle.std.proofs.lemmas.Option.{none-some, same_Some}
 use Rattle.history_tables.proofs.RowLemmas.{same_at_is}
 use Rattle.nrt_base.specs.declared.numbers.At.{At}
 use Rattle.history_entries.specs.declared.cause.Cause.{Cause}
@@ -92,14 +92,11 @@ pub started_at : (at : At) (begun : Event) (past : Past) → start_entry at past
 started_at at begun [] is = absurd (none-some begun is)
 started_at at begun (e ∷ past) is = by_test (is_start e.event && same_at e.at at) refl is (started_at at begun past)
   where
-    one : (x y : Event) → Some x ≡ Some y → x ≡ y
-    one x y e = cc
-
     by_test : (b : Bool) → (is_start e.event && same_at e.at at) ≡ b → (if b then Some e.event else start_entry at past) ≡ Some begun
         → (start_entry at past ≡ Some begun → Started at begun past) → Started at begun (e ∷ past)
     by_test true f g ih =
         let parts = and_parts (is_start e.event) (same_at e.at at) f in
-        let event : e.event ≡ begun = one e.event begun g in
+        let event : e.event ≡ begun = same_Some e.event begun g in
         record {
           newer = [];
           older = past;
@@ -199,7 +196,7 @@ behind n k c past e there known =
     let calm = (known_calm n (entry ∷ past) known).0 in
     let turn = turn_of n past entry known.lanes in
     let both = turn_suits n past entry calm turn in
-    let same : turn.command ≡ c = one turn.command c (sym turn.there ∙ command_behind n k c there) in
+    let same : turn.command ≡ c = same_Some turn.command c (sym turn.there ∙ command_behind n k c there) in
     let suits = subst (λ (d : LineCommand). Suits d (place_behind n k) past (last_of_line (place_behind n k) past) e) same both.0 in
     record {
       suits = suits;
@@ -208,9 +205,6 @@ behind n k c past e there known =
       first = first_answered n entry past known.phases calm (omega arith);
       calm = calm;
     }
-  where
-    one : (x y : LineCommand) → Some x ≡ Some y → x ≡ y
-    one x y f = cc
 
 -- ---- no publish is left
 

@@ -6,7 +6,7 @@ use Rattle.std.proofs.lemmas.Bool.{false≢true, and_from, and_parts, eq-eqb, eq
 use Rattle.std.proofs.lemmas.Bool.Decides.{nat_tests}
 use Rattle.std.proofs.lemmas.List.Folds.{list_all-append}
 use Rattle.std.proofs.lemmas.List.Elements.{filter-append}
-use Rattle.std.proofs.lemmas.Option.{none-some}
+use Rattle.std.proofs.lemmas.Option.{none-some, same_Some}
 use Rattle.nrt_base.specs.declared.numbers.At.{At}
 use Rattle.history_entries.specs.declared.cause.Cause.{Cause}
 use Rattle.history_entries.specs.declared.entry.Entry.{Entry}
@@ -185,11 +185,8 @@ pub found : (p : Line → Bool) (lines : List Line) (at : At) (c : LineCommand) 
 found p [] at c all is = absurd (none-some c is)
 found p (l ∷ lines) at c all is = by_place (same_at l.at at) refl is (found p lines at c (and_parts (p l) (list_all p lines) all).1)
   where
-    one : (x y : LineCommand) → Some x ≡ Some y → x ≡ y
-    one x y e = cc
-
     by_place : (b : Bool) → same_at l.at at ≡ b → (if b then Some l.command else command_at lines at) ≡ Some c → (command_at lines at ≡ Some c → Found p at c) → Found p at c
-    by_place true e f ih = record { line = l; place = same_at_is l.at at e; asks = one l.command c f; holds = (and_parts (p l) (list_all p lines) all).0 }
+    by_place true e f ih = record { line = l; place = same_at_is l.at at e; asks = same_Some l.command c f; holds = (and_parts (p l) (list_all p lines) all).0 }
     by_place false e f ih = ih f
 
 -- ---- entries

@@ -2,6 +2,7 @@
 use Rattle.std.proofs.Common.{◌≡◌, ◌≢◌, ℕ, ◌+◌, ◌<◌, ◌^◌, Bool, true, false, List, [], ◌∷◌, ◌++◌, Option, Some, None, is_some, true≢false, cond, refl, sym, ap, subst, ◌∙◌, arith}
 use Rattle.std.specs.Prelude.{◌==◌, if◌then◌else◌, IfSome, OnOk, OnErr, Result, Ok, Err}
 use Rattle.std.specs.List.{AllByRecursion}
+use Rattle.std.proofs.lemmas.Option.{same_Some}
 use Rattle.file_names.specs.Names.{temp_name_of, is_pending_name}
 use Rattle.disk_model.specs.Disk.{Name, Content, Cells, same, is_among, reads_of}
 use Rattle.disk_model.proofs.CellLemmas.{same_true}
@@ -170,11 +171,8 @@ module _ {D : Type 0} (cells : D → Cells) (p : Parts D) (is : IsWholeReplica c
           segment = m.segment;
           given = m.given;
           waits = waits_arrived (segment_infos m.segment.seg) c m.copy files_are p.files m.waits name missing files (with_part c name) refl free_copy more;
-          copied = reads_metas (cells dir) (with_part c name) (come (HasWanted c.want.files) (λ n f. record { bytes = bytes; there = written; meta_is = subst (IsMetaOf bytes) (some_same meta n (sym wanted ∙ f)) meta_is }) (metas_reads (cells p.dir) c m.copied));
+          copied = reads_metas (cells dir) (with_part c name) (come (HasWanted c.want.files) (λ n f. record { bytes = bytes; there = written; meta_is = subst (IsMetaOf bytes) (same_Some meta n (sym wanted ∙ f)) meta_is }) (metas_reads (cells p.dir) c m.copied));
         })
-          where
-            some_same : (a b : FileMetaData) → ◌≡◌ {A = Option FileMetaData} (Some a) (Some b) → a ≡ b
-            some_same a b f = cc
 
         pub came_whole : (meta : FileMetaData) → IsMetaOf bytes meta → meta_in c.want.files name ≡ Some meta
             → IsWholeReplica cells (record p { dir = dir; files = files; known = p.known; copies = record { running = copies_with number now p.copies.running; pending = p.copies.pending } })
