@@ -1,17 +1,20 @@
 -- What reading a framed file answers, and what writing one makes, for every kind of file.
 -- `ids` gives each value the id that its file has; where the id is passed it is `λ _. id`.
 -- `told` is how the reader's own error tells a fault of the file.
-use Rattle.std.proofs.Common.{◌≡◌, ℕ, ◌^◌, ◌<◌, ◌≤◌, List, [], ◌++◌, length, Option, Some, Result, Ok, Err, refl, sym, ap, subst, ◌∙◌, arith}
+use Rattle.std.proofs.Common.{◌≡◌, ℕ, ◌-◌, ◌^◌, ◌<◌, ◌≤◌, List, [], ◌++◌, length, drop, Option, Some, Result, Ok, Err, refl, sym, ap, subst, ◌∙◌, arith}
 use Rattle.std.specs.Prelude.{IfOk, IfSome, IsOkAnd, IsErrAnd, slice_range}
 use Rattle.nrt_base.proofs.Plain.{ok_never_err, same_ok, same_err}
+use Rattle.codec_frame.specs.Bytes.{AreBytes}
 use Rattle.codec_frame.specs.Frame.{Wanted, IsFramed, IsFrame, IsFramedAs, index_header, with_footer}
 use Rattle.codec_frame.specs.Checking.{IsFirstFault, IsChecked}
 use Rattle.codec_frame.specs.declared.frame.Framed.{Framed}
 use Rattle.codec_frame.specs.declared.frame.FrameFault.{FrameFault}
 use Rattle.codec_frame.specs.declared.frame.FileFault.{FileFault}
 use Rattle.codec_frame.specs.declared.frame.FileFault.TheVariants.{Frame, Body}
+use Rattle.codec_frame.proofs.ByteLaws.{AreBytes-take}
 use Rattle.codec_frame.proofs.CheckLaws.{one_reading_lem}
 use Rattle.codec_frame.proofs.FrameLaws.{framed-length}
+use Rattle.body_forms.proofs.Formats.{AreBytes-drop}
 use Rattle.body_forms.specs.File.{IsFile, IsOneToOne, IsFileAnswer, IsFileRead}
 
 -- a file is wanted in one version
@@ -22,6 +25,9 @@ pub record OneVersion (want : Wanted) : Type 0 where
 -- the body that a frame gives
 abbrev pub body_of : List ℕ → Framed → List ℕ
 body_of bytes frame = slice_range bytes frame.start frame.end
+
+pub body_fits : (bytes : List ℕ) (frame : Framed) → AreBytes bytes → AreBytes (body_of bytes frame)
+body_fits bytes frame fits = AreBytes-take (frame.end - frame.start) (drop frame.start bytes) (AreBytes-drop frame.start bytes fits)
 
 -- the value stands in the frame: its body spells it, and its id is the value's
 pub record StandsIn {X : Type 0} (Spells : List ℕ → X → Type 0) (ids : X → List ℕ) (bytes : List ℕ) (frame : Framed) (x : X) : Type 0 where

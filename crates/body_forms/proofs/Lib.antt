@@ -7,4 +7,3 @@ pub mod ItemTables
 pub mod TableTests
 pub mod FileLaws
 pub mod WritingTables
-pub mod Given

@@ -9,10 +9,10 @@ use Rattle.std.proofs.lemmas.Option.{some_pair_parts}
 use borrow.Author.Tests.{ltb-true}
 use Rattle.body_forms.specs.VInts.{vint}
 use Rattle.codec_frame.specs.Bytes.{AreBytes}
-use Rattle.body_forms.specs.Format.{Read, ◌>>=◌, IsFormat, chain, chain_at}
+use Rattle.body_forms.specs.Format.{Read, ◌>>=◌, IsFormat, chain, chain_at, then_at}
 use Rattle.body_forms.specs.Numbers.{u32_bytes, u32_at, u64_bytes, u64_at, vint_at, difference, MayCome, above, difference_at, positive_at, ascending, Ascend, ascending_at}
 use Rattle.codec_frame.proofs.ByteLaws.{AreBytes-take}
-use Rattle.body_forms.proofs.Formats.{AreBytes-drop, bind_some, passed, not_stopped, counted_format, chain_format, tested_format}
+use Rattle.body_forms.proofs.Formats.{AreBytes-drop, bind_some, passed, not_stopped, counted_format, chain_format, then_format, tested_format}
 use Rattle.body_forms.proofs.Numerals.{vint_format}
 
 pub positive_format : IsFormat vint (λ n. (0 < n) × (n < 2 ^ 32)) positive_at
@@ -85,3 +85,24 @@ u32_format = fixed 4 (2 ^ 32) u32_bytes (from_be_bytes w32) (λ n. refl) from_be
 pub u64_format : IsFormat u64_bytes (λ n. n < 2 ^ 64) u64_at
 unfolding u64_at
 u64_format = fixed 8 (2 ^ 64) u64_bytes (from_be_bytes w64) (λ n. refl) from_be_bytes-to_be_bytes_8 (λ b len fits. be_bytes_8 b (from_be_bytes w64 b) len fits refl) u64_below
+
+-- ---- numbers one after the other
+
+abbrev pub Small : ℕ → Type 0
+Small n = n < 2 ^ 32
+
+abbrev pub Large : ℕ → Type 0
+Large n = n < 2 ^ 64
+
+pub two_small : IsFormat (λ (p : ℕ × ℕ). u32_bytes p.0 ++ u32_bytes p.1) (λ p. Small p.0 × Small p.1) (then_at u32_at (λ _. u32_at))
+two_small = then_format u32_bytes Small u32_at (λ _. u32_bytes) (λ _. Small) (λ _. u32_at) u32_format (λ _ _. u32_format)
+
+pub large_then_two : IsFormat (λ (p : ℕ × (ℕ × ℕ)). u64_bytes p.0 ++ (u32_bytes p.1.0 ++ u32_bytes p.1.1)) (λ p. Large p.0 × (Small p.1.0 × Small p.1.1)) (then_at u64_at (λ _. then_at u32_at (λ _. u32_at)))
+large_then_two =
+    then_format u64_bytes Large u64_at (λ _ p. u32_bytes p.0 ++ u32_bytes p.1) (λ _ p. Small p.0 × Small p.1) (λ _. then_at u32_at (λ _. u32_at)) u64_format (λ _ _. two_small)
+
+pub two_large_then_two : IsFormat (λ (p : ℕ × (ℕ × (ℕ × ℕ))). u64_bytes p.0 ++ (u64_bytes p.1.0 ++ (u32_bytes p.1.1.0 ++ u32_bytes p.1.1.1))) (λ p. Large p.0 × (Large p.1.0 × (Small p.1.1.0 × Small p.1.1.1)))
+    (then_at u64_at (λ _. then_at u64_at (λ _. then_at u32_at (λ _. u32_at))))
+two_large_then_two =
+    then_format u64_bytes Large u64_at (λ _ p. u64_bytes p.0 ++ (u32_bytes p.1.0 ++ u32_bytes p.1.1)) (λ _ p. Large p.0 × (Small p.1.0 × Small p.1.1))
+    (λ _. then_at u64_at (λ _. then_at u32_at (λ _. u32_at))) u64_format (λ _ _. large_then_two)

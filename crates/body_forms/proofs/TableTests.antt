@@ -6,7 +6,7 @@ use Rattle.std.specs.Int.{w32, from_be_bytes}
 use Rattle.std.proofs.Math.Nat.{le_trans}
 use Rattle.std.proofs.lemmas.Nat.{be_bytes_4}
 use Rattle.nrt_base.proofs.Plain.{cons_from, false_says}
-use Rattle.std.proofs.lemmas.List.{length-append, length-drop, length-take, take-append-drop, drop_all, append-nil, take_all}
+use Rattle.std.proofs.lemmas.List.{length-append, length-drop, length-take, take-append-drop, drop_all, append-nil, take_all, drop-drop}
 use Rattle.std.proofs.lemmas.List.Concat.{flat_map-cons}
 use Rattle.codec_frame.specs.Bytes.{AreBytes}
 use Rattle.body_forms.specs.ItemTable.{concat, starts, IsItemTable, item_count_in, item_start_in, items_from, items_in}
@@ -20,10 +20,6 @@ nothing_taken : (n : ℕ) → ◌≡◌ {A = List ℕ} ([] ++ take n []) []
 nothing_taken zero = refl
 nothing_taken (suc n) = refl
 
-nothing_dropped : (n : ℕ) → ◌≡◌ {A = List ℕ} (drop n []) []
-nothing_dropped zero = refl
-nothing_dropped (suc n) = refl
-
 none_of : (x : List ℕ) → take 0 x ≡ []
 none_of [] = refl
 none_of (b ∷ x) = refl
@@ -32,11 +28,6 @@ take_parts : (m n : ℕ) (bytes : List ℕ) → take m bytes ++ take n (drop m b
 take_parts zero n bytes = let e : 0 + n ≡ n = omega arith in rw e refl
 take_parts (suc m) n [] = let e : suc m + n ≡ suc (m + n) = omega arith in rw e (nothing_taken n)
 take_parts (suc m) n (b ∷ bytes) = let e : suc m + n ≡ suc (m + n) = omega arith in rw e (ap (λ (x : List ℕ). b ∷ x) (take_parts m n bytes))
-
-drop_parts : (m n : ℕ) (bytes : List ℕ) → drop n (drop m bytes) ≡ drop (m + n) bytes
-drop_parts zero n bytes = let e : 0 + n ≡ n = omega arith in rw e refl
-drop_parts (suc m) n [] = let e : suc m + n ≡ suc (m + n) = omega arith in rw e (nothing_dropped n)
-drop_parts (suc m) n (b ∷ bytes) = let e : suc m + n ≡ suc (m + n) = omega arith in rw e (drop_parts m n bytes)
 
 -- what the loop tests, of the offsets from i to i + n
 abbrev pub Rises : List ℕ → ℕ → Type 0
@@ -59,7 +50,7 @@ offset_bytes (suc n) i bytes fits h =
     let size : 4 + 4 * suc n ≡ 4 + (4 + 4 * n) = omega arith in
     flat_map-cons u32_bytes (item_start_in bytes i) (offsets_from n (i + 1) bytes)
     ∙ ap (λ (x : List ℕ). x ++ flat_map u32_bytes (offsets_from n (i + 1) bytes)) (number_back (4 + 4 * i) bytes fits (omega arith))
-    ∙ ap (λ (x : List ℕ). take 4 (drop (4 + 4 * i) bytes) ++ x) (offset_bytes n (i + 1) bytes fits (omega arith) ∙ ap (λ (k : ℕ). take (4 + 4 * n) (drop k bytes)) next ∙ ap (take (4 + 4 * n)) (sym (drop_parts (4 + 4 * i) 4 bytes)))
+    ∙ ap (λ (x : List ℕ). take 4 (drop (4 + 4 * i) bytes) ++ x) (offset_bytes n (i + 1) bytes fits (omega arith) ∙ ap (λ (k : ℕ). take (4 + 4 * n) (drop k bytes)) next ∙ ap (take (4 + 4 * n)) (sym (drop-drop 4 (4 + 4 * i) bytes)))
     ∙ take_parts 4 (4 + 4 * n) (drop (4 + 4 * i) bytes) ∙ ap (λ (k : ℕ). take k (drop (4 + 4 * i) bytes)) (sym size)
 
 length-items_from : (base n i : ℕ) (bytes : List ℕ) → length (items_from base n i bytes) ≡ n
@@ -80,13 +71,13 @@ joined base s t u bytes h g =
     let place : base + t ≡ base + s + (t - s) = omega arith in
     let size : t - s + (u - t) ≡ u - s = omega arith in
     ap (λ (k : ℕ). take (t - s) (drop (base + s) bytes) ++ take (u - t) (drop k bytes)) place
-    ∙ ap (λ (x : List ℕ). take (t - s) (drop (base + s) bytes) ++ take (u - t) x) (sym (drop_parts (base + s) (t - s) bytes))
+    ∙ ap (λ (x : List ℕ). take (t - s) (drop (base + s) bytes) ++ take (u - t) x) (sym (drop-drop (t - s) (base + s) bytes))
     ∙ take_parts (t - s) (u - t) (drop (base + s) bytes) ∙ ap (λ (k : ℕ). take k (drop (base + s) bytes)) size
 
 whole_area : (base n : ℕ) (bytes : List ℕ) (last first : ℕ) → first ≡ 0 → last ≡ length bytes - 8 - 4 * n → 8 + 4 * n ≤ length bytes → take (last - first) (drop (8 + 4 * n + first) bytes) ≡ drop (4 + 4 * n) (drop 4 bytes)
 whole_area base n bytes last first f l h =
     let place : 8 + 4 * n + first ≡ 4 + (4 + 4 * n) = omega arith in
-    let same : drop (8 + 4 * n + first) bytes ≡ drop (4 + 4 * n) (drop 4 bytes) = ap (λ (k : ℕ). drop k bytes) place ∙ sym (drop_parts 4 (4 + 4 * n) bytes) in
+    let same : drop (8 + 4 * n + first) bytes ≡ drop (4 + 4 * n) (drop 4 bytes) = ap (λ (k : ℕ). drop k bytes) place ∙ sym (drop-drop (4 + 4 * n) 4 bytes) in
     ap (take (last - first)) same ∙ take_all (last - first) (drop (4 + 4 * n) (drop 4 bytes)) (omega (arith, length-drop (4 + 4 * n) (drop 4 bytes), length-drop 4 bytes))
 
 count_below : (bytes : List ℕ) → AreBytes bytes → item_count_in bytes < 2 ^ 32

@@ -2,6 +2,7 @@
 use Rattle.std.proofs.Common.{◌≡◌, ◌≢◌, ◌==◌, ◌&&◌, ℕ, Bool, true, false, true≢false, List, ◌∷◌, Some, None, Option, inr, refl, ap, ◌∙◌, sym, subst, arith, if◌then◌else◌}
 use Rattle.std.specs.Prelude.{IsSomeAnd, IfSome, not}
 use Rattle.std.proofs.lemmas.Bool.{eqb-true, eq-eqb}
+use Rattle.std.proofs.lemmas.Option.{none-some}
 use Rattle.nrt_base.specs.declared.numbers.At.{At}
 use Rattle.nrt_base.specs.declared.numbers.NodeNo.{NodeNo}
 use Rattle.nrt_base.specs.declared.numbers.Version.{Version}
@@ -113,15 +114,12 @@ module _ {D : Type 0} (cells : D → Cells) where
     job = subst (λ (o : Option Job). JobShows source (copied_log at n v log) n.0 o r.job) (sym (job_stays at n v n.0 log ∙ none))
         (quiet r.job (subst (λ (o : Option Job). JobShows source log n.0 o r.job) none files.job));
     point = record { known = files.point.known; generation = files.point.generation; stands = files.point.stands; writable = writable_stays (printed log) (printed (copied_log at n v log)) r.infos (omega arith) (omega arith) files.point.writable };
-    flight = λ a is. absurd (nowhere a (sym (none_flies at n v log newest) ∙ is));
+    flight = λ a is. absurd (none-some a (sym (none_flies at n v log newest) ∙ is));
   }
     where
       quiet : (p : Option PointJob) → JobShows source log n.0 None p → JobShows source (copied_log at n v log) n.0 None p
       quiet None is = is
       quiet (Some j) is = is
-
-      nowhere : (a : At) → None ≡ Some a → ⊥
-      nowhere a is = absurd (cc)
 
   -- a replica, whose place this is
   replica_here : (log : Log) (n : ℕ) (x : Node D) → IsReplica (printed log) n → NodeShows cells log n x → (P : Node D → Type 0) → ((r : ReplicaParts D) → NodeShows cells log n (Replica r) → P (Replica r)) → P x

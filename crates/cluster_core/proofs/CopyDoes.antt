@@ -2,6 +2,7 @@
 use Rattle.std.proofs.Common.{◌≡◌, ◌≢◌, ◌<◌, ℕ, Bool, true, false, [], ◌∷◌, Some, None, Option, refl, ap, ◌∙◌, sym, subst, if◌then◌else◌, inl, inr}
 use Rattle.std.specs.Prelude.{⊤, IfOk, OnOk, Result, Ok, Err}
 use Rattle.std.specs.declared.alloc.AllocError.{AllocError}
+use Rattle.std.proofs.lemmas.Option.{same_Some}
 use Rattle.nrt_base.specs.declared.numbers.At.{At}
 use Rattle.nrt_base.specs.declared.numbers.NodeNo.{NodeNo}
 use Rattle.nrt_base.specs.declared.numbers.Version.{Version}
@@ -143,9 +144,6 @@ late_standing true left later = refl
 late_standing false true later = tt
 late_standing false false later = late_overtaken later
 
-same_log : {a b : Log} → ◌≡◌ {A = Option Log} (Some a) (Some b) → a ≡ b
-same_log is = cc
-
 node_is : (m n : NodeNo) → m.0 ≡ n.0 → m ≡ n
 node_is m n is = ap (λ (k : ℕ). the_node k) is
   where
@@ -160,8 +158,8 @@ module _ (job : Job) (later : Option Version) (size : ℕ) (old new : Run) (begu
 
   stops_does : (command : LineCommand) (standing : Standing) (log : Log) → CopiesFor command (Some begun) → IsLate standing → log_after job.at standing old.log ≡ Some log → IsNow old new log → Does command job.at old new
   stops_does command Runs log copies late is now = absurd (cc)
-  stops_does command Passed log copies late is now = none_does command job.at old new (subst (IsNow old new) (sym (same_log is)) now)
-  stops_does command (Ends cause) log copies late is now = late_does command cause copies late (subst (IsNow old new) (sym (same_log is)) now)
+  stops_does command Passed log copies late is now = none_does command job.at old new (subst (IsNow old new) (sym (same_Some old.log log is)) now)
+  stops_does command (Ends cause) log copies late is now = late_does command cause copies late (subst (IsNow old new) (sym (same_Some (shown job.at (Refused cause) ∷ old.log) log is)) now)
 
   handed_does : (command : LineCommand) (file : FileTask) → GoesOn job old new (Some file) → Does command job.at old new
   handed_does command file goes = record {

@@ -5,10 +5,10 @@ use Rattle.std.specs.Prelude.{Result, Ok, Err, IfOk, OnOk}
 use Rattle.std.specs.declared.alloc.AllocError.{AllocError}
 use Rattle.std.proofs.lemmas.Bool.Decides.{nat_tests}
 use Rattle.std.proofs.lemmas.List.Elements.{All-get_or, All-from_get_or}
+use Rattle.std.proofs.lemmas.Option.{same_Some}
 use Rattle.nrt_base.specs.declared.numbers.At.{At}
 use Rattle.nrt_base.specs.declared.numbers.NodeNo.{NodeNo}
 use Rattle.nrt_base.specs.declared.numbers.Version.{Version}
-use Rattle.history_entries.specs.declared.cause.Cause.{Cause}
 use Rattle.history_entries.specs.declared.entry.Event.{Event}
 use Rattle.history_entries.specs.declared.entry.Event.TheVariants.{Switched, Settling, Refused}
 use Rattle.history_entries.specs.Nodes.{Past, newest_version, version_of}
@@ -16,7 +16,7 @@ use Rattle.history_entries.specs.Lines.{start_entry, before_start, highest_switc
 use Rattle.history_entries.specs.Legal.{IsLegalPast}
 use Rattle.history_tables.specs.declared.jobs.JobRow.{JobRow}
 use Rattle.history_tables.specs.Begins.{open_line}
-use Rattle.history_tables.proofs.RowLemmas.{same_at_self}
+use Rattle.history_tables.proofs.RowLemmas.{same_at_self, refused_closed}
 use Rattle.history_book.specs.Log.{Log, printed, shown}
 use Rattle.history_book.proofs.ReignLaws.{start_kept}
 use Rattle.cluster_state.specs.Given.{FileTask, SettleTask}
@@ -69,12 +69,6 @@ switched_stays size past at left n v reached from settling = record {
   reached = λ m node replica alive. reached_stays past n v left.version.0 m (Contains left.left.items m) reached (settling.reached m node replica (record { node = alive.node }));
 }
 
-refused_closed : (at : At) (past : Past) (cause : Cause) → open_line at (record { at = at; event = Refused cause } ∷ past) ≡ None
-refused_closed at past cause = rw (same_at_self at) refl
-
-same_log : (a b : Log) → ◌≡◌ {A = Option Log} (Some a) (Some b) → a ≡ b
-same_log a b is = cc
-
 module _ (size : ℕ) (at : At) (left : SettleTask) where
   abbrev At_log : Log → Type 0
   At_log log = IsSettling size (printed log) at left
@@ -84,9 +78,9 @@ module _ (size : ℕ) (at : At) (left : SettleTask) where
 
   stopped_stays : (standing : Standing) (log now : Log) → log_after at standing log ≡ Some now → At_log log → On_log now
   stopped_stays Runs log now is settling line = absurd (cc)
-  stopped_stays Passed log now is settling line = subst At_log (same_log log now is) settling
+  stopped_stays Passed log now is settling line = subst At_log (same_Some log now is) settling
   stopped_stays (Ends cause) log now is settling line =
-      absurd (line (ap (λ (l : Log). open_line at (printed l)) (sym (same_log (shown at (Refused cause) ∷ log) now is)) ∙ refused_closed at (printed log) cause))
+      absurd (line (ap (λ (l : Log). open_line at (printed l)) (sym (same_Some (shown at (Refused cause) ∷ log) now is)) ∙ refused_closed at (printed log) cause))
 
 -- the line of the job settles on
 steps_on : (size : ℕ) (row : JobRow) (left : SettleTask) (s new : Run) (turn : Turn FileTask) → size ≡ s.nodes → IsSettling size (printed s.log) row.job.at left → AreFrom row.job.node left.left.items

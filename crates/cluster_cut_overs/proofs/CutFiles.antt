@@ -23,12 +23,13 @@ use Rattle.primary_parts.specs.States.{out_of, state_names, same_out, states_wit
 use Rattle.primary_parts.specs.Primary.{IsPrimary, primary_names, publish_loose, rest_loose, loose_of}
 use Rattle.primary_parts.proofs.Keeping.{states_split}
 use Rattle.primary_parts.proofs.MergeLists.{loose_without, names_split}
+use Rattle.primary_parts.proofs.NewFiles.{named_of}
 use Rattle.replica_parts.specs.Sources.{HeldReadAs}
 use Rattle.history_entries.specs.Nodes.{Past, generation_of}
 use Rattle.cluster_state.specs.Given.{Primary}
 use Rattle.cluster_state.proofs.Lasting.{live_lasts, unheld}
 use Rattle.cluster_state.proofs.Living.{live_low}
-use Rattle.cluster_state.proofs.Naming.{HoldsFrom, HoldsLow, named_in}
+use Rattle.cluster_state.proofs.Naming.{HoldsFrom, HoldsLow}
 use Rattle.node_merges.specs.MergeChanges.{CutsMerge}
 use Rattle.cluster_drains.proofs.FilesMore.{WritesMore}
 
@@ -89,7 +90,7 @@ module _ {D : Type 0} (cells : D → Cells) (seg : SegNo) (state : CopyState) (p
   cut_low past was generation source held r live_gen small fits none some =
       let name : Name = live_name_of r.seg.0 live_gen in
       let uncounted = unheld source (cells p.dir) p.files (primary_names p) p.commits was.node held name (live_lasts r.seg.0 live_gen) none in
-      let named : Contains q.names name = named_in q.names name (newly_named was name uncounted some) in
+      let named : Contains q.names name = named_of q.names name (newly_named was name uncounted some) in
       subst (λ (g : ℕ). live_gen < live_base (g + 1) r) generation
       (live_low q.infos cuts.whole.numbered.generation cuts.whole.numbered.counter r live_gen small fits name refl (reads_of (cells q.dir)) q.infos.segs q.segs cuts.whole.numbered.segs cuts.whole.writer.stands.each
       ((cuts.whole.writer.files.named name).0 named))

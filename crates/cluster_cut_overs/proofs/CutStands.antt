@@ -1,11 +1,10 @@
 -- A merge that is cut over: what the primary shows, and what is true of merges.
-use Rattle.std.proofs.Common.{◌≡◌, ◌≤◌, ◌<◌, ◌+◌, ◌*◌, ◌==◌, ◌++◌, ℕ, zero, suc, Bool, true, false, true≢false, List, [], ◌∷◌, map, length, Some, None, Option, Vec, Global, refl, ap, ◌∙◌, sym, subst, arith, if◌then◌else◌}
-use Rattle.std.specs.Prelude.{not, IsSomeAnd}
+use Rattle.std.proofs.Common.{◌≡◌, ◌≤◌, ◌<◌, ◌+◌, ◌*◌, ◌==◌, ℕ, zero, suc, Bool, true, false, true≢false, List, [], ◌∷◌, map, length, Some, None, Option, Vec, Global, refl, ap, ◌∙◌, sym, subst, arith, if◌then◌else◌}
+use Rattle.std.specs.Prelude.{IsSomeAnd}
 use Rattle.std.specs.List.{All, AllByRecursion, zip}
 use Rattle.std.proofs.Math.Nat.{min-le_left}
 use Rattle.std.proofs.lemmas.Bool.{eqb-true}
-use Rattle.std.proofs.lemmas.List.{length-append, length-map}
-use Rattle.std.proofs.lemmas.List.Filters.{length-filter_both}
+use Rattle.std.proofs.lemmas.List.{length-map}
 use Rattle.std.proofs.lemmas.Slice.Zip.{length-zip}
 use Rattle.nrt_base.specs.declared.numbers.At.{At}
 use Rattle.nrt_base.specs.declared.numbers.LineNo.{LineNo}
@@ -18,7 +17,8 @@ use Rattle.segment_infos.specs.declared.infos.Infos.{Infos}
 use Rattle.searcher_switch.specs.declared.open.Open.{Open}
 use Rattle.searcher_switch.specs.declared.open.Point.{Point}
 use Rattle.segment_steps.specs.Next.{Turn, stays, staying}
-use Rattle.segment_steps.specs.CutOver.{Part, is_one_of, inputs_in, others_in, in_place, lives_of, part_after, merged_turn, merged_turns}
+use Rattle.segment_steps.specs.CutOver.{Part, inputs_in, in_place, lives_of, part_after, merged_turn, merged_turns}
+use Rattle.segment_steps.proofs.CutNumbers.{few_in_place}
 use Rattle.history_entries.specs.Nodes.{version_of}
 use Rattle.history_entries.specs.Lines.{publish_in_flight}
 use Rattle.history_entries.specs.Tasks.{merge_count}
@@ -50,21 +50,6 @@ use Rattle.cluster_drains.proofs.CopyRows.{counts_ends}
 
 -- ---- no more segments are there
 
-in_place_few : (inputs : List SegNo) (new ps : List Part) → length new ≤ 1 → length (in_place inputs new ps) ≤ length ps
-in_place_few inputs new [] few = omega arith
-in_place_few inputs new (p ∷ ps) few = by (is_one_of inputs p) (in_place_few inputs new ps few)
-  where
-    twice : (t : Bool) → t ≡ not (not t)
-    twice true = refl
-    twice false = refl
-
-    by : (b : Bool) → length (in_place inputs new ps) ≤ length ps → length (if b then new ++ others_in inputs ps else p ∷ in_place inputs new ps) ≤ length (p ∷ ps)
-    by true less =
-        let both : length (new ++ others_in inputs ps) ≡ length new + length (others_in inputs ps) = length-append new (others_in inputs ps) in
-        let others : length (others_in inputs ps) + length (inputs_in inputs ps) ≡ length ps = length-filter_both (λ q. not (is_one_of inputs q)) (is_one_of inputs) (λ q. twice (is_one_of inputs q)) ps in
-        omega (arith, both, few, others)
-    by false less = omega (arith, less)
-
 turn_or_none : (g : ℕ) (t : Turn) → length (staying g [] (t ∷ [])) ≤ 1
 turn_or_none g t = elim (stays g [] t) as (λ b. length (if b then t ∷ [] else []) ≤ 1) [ true ↦ omega arith | false ↦ omega arith ]
 
@@ -92,7 +77,7 @@ module _ {D : Type 0} (cells : D → Cells) (log : Log) (n : ℕ) (seg : SegNo) 
       let mapped : length (map (λ (x : Part). x.0) (in_place cuts.cut.m.inputs new parts)) ≡ length (in_place cuts.cut.m.inputs new parts) = length-map (in_place cuts.cut.m.inputs new parts) (λ (x : Part). x.0) in
       let one : length new ≡ length turns = length-map turns (part_after p.infos.generation.0) in
       let few : length turns ≤ 1 = turn_or_none p.infos.generation.0 (merged_turn cuts.cut.merged cuts.cut.shown (lives_of (inputs_in cuts.cut.m.inputs parts))) in
-      let placed = in_place_few cuts.cut.m.inputs new parts (omega (arith, one, few)) in
+      let placed = few_in_place cuts.cut.m.inputs new parts (omega (arith, one, few)) in
       let zipped : length parts ≤ length p.infos.segs = subst (λ (k : ℕ). k ≤ length p.infos.segs) (sym (length-zip p.infos.segs p.segs)) (min-le_left (length p.infos.segs) (length p.segs)) in
       omega (arith, segs, records, mapped, placed, zipped)
 

@@ -4,6 +4,7 @@ use Rattle.std.specs.Prelude.{IsSomeAnd, IfSome, not, is_some, Contains}
 use Rattle.std.specs.List.{flat_map}
 use Rattle.std.proofs.lemmas.Bool.{eqb-true, eq-eqb}
 use Rattle.std.proofs.lemmas.List.{append-nil}
+use Rattle.std.proofs.lemmas.Option.{none-some}
 use Rattle.nrt_base.specs.declared.doc.Doc.{Doc}
 use Rattle.nrt_base.specs.declared.numbers.At.{At}
 use Rattle.nrt_base.specs.declared.numbers.NodeNo.{NodeNo}
@@ -177,14 +178,11 @@ module _ (past : Past) (at : At) (n : NodeNo) where
 
   none_held : (held : List Held) → held ≡ [] → HoldsTickets crashed n.0 [] held
   none_held held none = subst (HoldsTickets crashed n.0 []) (sym none) (record {
-    each = λ key number is. absurd (some_none number is);
-    apart = λ a b number is is'. absurd (some_none number is);
+    each = λ key number is. absurd (none-some number is);
+    apart = λ a b number is is'. absurd (none-some number is);
     opened = λ lane t v is. absurd (no_ticket lane t v is);
     searched = λ a v is. absurd (no_search a v is);
   })
-    where
-      some_none : (number : ℕ) → None ≡ Some number → ⊥
-      some_none number is = absurd (cc)
 
 -- ---- what stands of commits
 
@@ -439,11 +437,8 @@ module _ {D : Type 0} (cells : D → Cells) where
             sourced = ends.alters.sourced files.source was.sourced;
             job = subst (λ (x : Option Job × Option PointJob). JobShows files.source now m x.0 x.1) (λ i. (sym (vacant m gone) i, sym ends.none i)) tt;
             point = point_stays files.source (printed log) (printed now) s.infos points (subst (λ (x : ReplicaParts D). IsPastPoint files.source (printed log) x.infos) (sym ends.alters.others) was.point);
-            flight = λ a is. absurd (nowhere a (sym (ap (λ (x : Bool × Bool). if x.0 || x.1 then None else without_at at (copy_in_flight m (newest_version (printed log)) (printed log))) (λ i. (apart i, here i))) ∙ is));
+            flight = λ a is. absurd (none-some a (sym (ap (λ (x : Bool × Bool). if x.0 || x.1 then None else without_at at (copy_in_flight m (newest_version (printed log)) (printed log))) (λ i. (apart i, here i))) ∙ is));
           }
-        where
-          nowhere : (a : At) → None ≡ Some a → ⊥
-          nowhere a is = absurd (cc)
 
       -- the state of the node's job is out at the primary
       state_out : (p : PrimaryParts D) → PrimaryFiles files.source cells (printed log) jobs p → (o : Option Out) → want_at (place_of old n.0) ≡ o → IfSome o (λ t. is_out t p.states ≡ true)

@@ -3,6 +3,7 @@ use Rattle.std.proofs.Common.{◌≡◌, ◌≢◌, ◌&&◌, ◌||◌, ◌==◌
 use Rattle.std.specs.Prelude.{IsSomeAnd, not, is_some, nat_lt, Contains}
 use Rattle.std.specs.List.{flat_map, list_any}
 use Rattle.std.proofs.lemmas.Bool.{eqb-true, eq-eqb}
+use Rattle.std.proofs.lemmas.Option.{none-some}
 use Rattle.nrt_base.specs.declared.numbers.At.{At}
 use Rattle.nrt_base.specs.declared.numbers.Gen.{Gen}
 use Rattle.nrt_base.specs.declared.numbers.NodeNo.{NodeNo}
@@ -167,15 +168,12 @@ module _ {D : Type 0} (cells : D → Cells) (source : Name → Content) (size : 
       sourced = opens.sourced source files_are;
       job = subst (λ (o : Option Job). JobShows source now n.0 o r.job) (sym (going (last_job false n.0 log) ∙ idle)) (subst (λ (o : Option PointJob). JobShows source now n.0 None o) (sym opens.fresh.job) tt);
       point = point_now;
-      flight = λ a is. absurd (nowhere a (sym (ap (without_at at) (down_uncopied size n.0 (newest_version past) past legal down)) ∙ is));
+      flight = λ a is. absurd (none-some a (sym (ap (without_at at) (down_uncopied size n.0 (newest_version past) past legal down)) ∙ is));
     }
       where
         going : (o : Option JobRow) → while_going n.0 (printed now) o ≡ while_going n.0 past o
         going None = refl
         going (Some row) = refl
-
-        nowhere : (a : At) → None ≡ Some a → ⊥
-        nowhere a is = absurd (cc)
 
     names_now : MeansDrawn source past → NamesShow cells (printed now) (Replica r)
     names_now drawn = record {

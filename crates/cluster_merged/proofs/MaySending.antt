@@ -4,6 +4,7 @@ use Rattle.std.specs.Prelude.{IfSome}
 use Rattle.std.specs.List.{AllByRecursion, Contains}
 use Rattle.std.proofs.lemmas.Bool.{lt-ltb, eqb-true, eq-eqb}
 use Rattle.std.proofs.lemmas.List.Elements.{Contains-append_right}
+use Rattle.std.proofs.lemmas.Option.{none-some}
 use Rattle.disk_model.specs.Disk.{Name, Content, Cells, is_among, reads_of}
 use Rattle.file_deleter.specs.Holdings.{count_of, times}
 use Rattle.file_deleter.proofs.NameLemmas.{times-append, among_is}
@@ -43,9 +44,6 @@ use Rattle.cluster_state.proofs.Lasting.{part_lasts, unheld}
 use Rattle.cluster_state.proofs.Wider.{meta_at_source}
 use Rattle.cluster_merged.proofs.ReadyFiles.{counts_split}
 
-pub nothing : {A : Type 0} (x : A) → None ≡ Some x → ⊥
-nothing x e = absurd (cc)
-
 -- ---- each of the copies that run has its number
 
 all_numbered : (P : CopyJob → Type 0) (cs : List CopyJob) → AreCopiesApart cs → ((k : ℕ) (c : CopyJob) → copy_at k cs ≡ Some c → P c) → AllByRecursion P cs
@@ -77,7 +75,7 @@ made_alike log ms rows seg s alike there = by (merge_of seg ms) (open_merge seg 
     of_made m found (Some merged) e is = record { m = m; found = found; merged = merged; made = e; state = is }
 
     by : (o : Option Merging) (r : Option OpenMerge) → merge_of seg ms ≡ o → AreMergedAlike log o r → spread_at r ≡ Some s → IsMadeAlike ms seg s
-    by None None e is none = absurd (nothing s none)
+    by None None e is none = absurd (none-some s none)
     by None (Some row) e alone at = absurd alone
     by (Some m) None e alone at = absurd alone
     by (Some m) (Some row) e is at = of_made m e m.merged refl (subst (λ (x : Option Spread). AreWrittenAlike m.merged x) at is.written)
@@ -100,7 +98,7 @@ module _ (names : List Name) (source : Name → Content) (none : (q : Name) → 
   job_apart log n (Some job) (Some j) shows = shares_none (meta_names j.copy.want.files) (λ q wanted some.
       let meta = some_meta j.copy.want.files q wanted in
       let has = meta_at_source source j.copy.want.files q meta.0 shows.metas meta.1 in
-      nothing has.bytes (sym (none q some) ∙ has.there))
+      none-some has.bytes (sym (none q some) ∙ has.there))
 
   module _ {D : Type 0} (cells : D → Cells) (r : ReplicaParts D) (whole : IsWholeReplica cells r) where
     -- what is pending is held

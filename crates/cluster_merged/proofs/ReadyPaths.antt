@@ -4,6 +4,7 @@ use Rattle.std.specs.Prelude.{not, is_some, IsSome, IsSomeAnd, IfSome, Result, O
 use Rattle.std.specs.List.{AllByRecursion}
 use Rattle.std.proofs.lemmas.Bool.{eq-eqb}
 use Rattle.std.proofs.lemmas.List.{length-map}
+use Rattle.std.proofs.lemmas.Option.{none-some}
 use Rattle.nrt_base.specs.declared.numbers.At.{At}
 use Rattle.nrt_base.specs.declared.numbers.Gen.{Gen}
 use Rattle.nrt_base.specs.declared.numbers.LineNo.{LineNo}
@@ -66,7 +67,7 @@ use Rattle.cluster_drains.proofs.CopyRows.{post_path}
 use Rattle.cluster_drains.proofs.FilesMore.{files_more}
 use Rattle.cluster_drains.proofs.StandSteps.{merge_numbered}
 use Rattle.cluster_merged.specs.Sending.{spread_to, MaySendAll, SendsAll}
-use Rattle.cluster_merged.proofs.MaySending.{nothing, job_apart, pending_apart, copies_apart, merged_small, merged_lasts, merged_means, others_apart}
+use Rattle.cluster_merged.proofs.MaySending.{job_apart, pending_apart, copies_apart, merged_small, merged_lasts, merged_means, others_apart}
 use Rattle.cluster_merged.proofs.ReadyFiles.{shows_written, written_low, written_more, written_outs}
 use Rattle.cluster_merged.proofs.ReplicaCount.{few_replicas}
 use Rattle.cluster_merged.proofs.SendLoop.{spread_with, is_spread}
@@ -124,7 +125,7 @@ module _ {D : Type 0} (cells : D → Cells) (r : Run) (b : Sheet) (board : Board
   row = unwritten_row seg.0 board.rows (ap (λ (x : Run). is_unwritten (open_merge seg.0 x.rest.tasks.rows)) view ∙ asked_row)
 
   pub open_there : open_merge seg.0 board.rows ≢ None
-  open_there none = nothing row.row (sym none ∙ row.there)
+  open_there none = none-some row.row (sym none ∙ row.there)
 
   number : merged.files.seg ≡ seg
   number = out.of.number

@@ -4,6 +4,7 @@ use Rattle.std.specs.Prelude.{IsSomeAnd}
 use Rattle.std.specs.List.{All}
 use Rattle.std.proofs.lemmas.List.Elements.{All-nil, All-cons, All-head, All-tail}
 use Rattle.std.proofs.lemmas.Bool.{eqb-true}
+use Rattle.std.proofs.lemmas.Option.{none-some}
 use Rattle.disk_model.specs.Disk.{Name, Content, Cells, reads_of}
 use Rattle.copy_state.specs.declared.state.CopyState.{CopyState}
 use Rattle.copy_state.specs.declared.meta.FileMetaData.{FileMetaData}
@@ -61,14 +62,11 @@ metas_any a b (f ∷ fs) (m ∷ ms) e fa fb ma =
 copies_unwritten : (rows : List OpenMerge) (seg n : ℕ) (row : OpenMerge) (s : Spread) (running : List Job) → open_merge seg rows ≡ Some row → row.spread ≡ None → AreSentCopies rows n running → AreSentCopies (with_spread seg (Some s) rows) n running
 copies_unwritten rows seg n row s running there none sent = sent_still rows (with_spread seg (Some s) rows) n running keeps sent
   where
-    nothing : {t : Spread} → None ≡ Some t → ⊥
-    nothing e = absurd (cc)
-
     keeps : (seg' k : ℕ) (t : Spread) → spread_at (open_merge seg' rows) ≡ Some t → is_sent_in n k t.left ≡ true → IsSomeAnd (spread_at (open_merge seg' (with_spread seg (Some s) rows))) (λ u. (is_sent_in n k u.left ≡ true) × (u.state ≡ t.state))
     keeps seg' k t at sent_at =
         subst (λ (o : Option OpenMerge). IsSomeAnd (spread_at o) (λ u. (is_sent_in n k u.left ≡ true) × (u.state ≡ t.state))) (sym (open_with rows seg (Some s) row there seg'))
         (by_test (seg == seg') (λ b. (seg == seg') ≡ b → IsSomeAnd (spread_at (if b then Some (record row { spread = Some s }) else open_merge seg' rows)) (λ u. (is_sent_in n k u.left ≡ true) × (u.state ≡ t.state)))
-        (λ here e. absurd (nothing (sym none ∙ (sym (ap spread_at (ap (λ (q : ℕ). open_merge q rows) (sym (eqb-true seg seg' e)) ∙ there)) ∙ at))))
+        (λ here e. absurd (none-some t (sym none ∙ (sym (ap spread_at (ap (λ (q : ℕ). open_merge q rows) (sym (eqb-true seg seg' e)) ∙ there)) ∙ at))))
         (λ apart e. subst (λ (o : Option Spread). IsSomeAnd o (λ u. (is_sent_in n k u.left ≡ true) × (u.state ≡ t.state))) (sym at) (sent_at, refl))
         refl)
 

@@ -1,6 +1,7 @@
 -- The steps of a copy of a merged segment: all is true of the cluster again.
 use Rattle.std.proofs.Common.{◌≡◌, ℕ, Bool, true, false, List, [], ◌∷◌, Some, None, Option, refl, ap, ◌∙◌, sym, subst, if◌then◌else◌}
 use Rattle.std.specs.Prelude.{IsSomeAnd}
+use Rattle.std.proofs.lemmas.Option.{none-some}
 use Rattle.nrt_base.specs.declared.numbers.At.{At}
 use Rattle.nrt_base.specs.declared.numbers.LineNo.{LineNo}
 use Rattle.nrt_base.specs.declared.numbers.NodeNo.{NodeNo}
@@ -159,10 +160,7 @@ module _ {D : Type 0} (cells : D → Cells) where
             whole : IsWholeReplica cells r
             whole = whole_here cells b0 board old all n.0 r w.moves.at.held node w.moves.at.there
 
-            none_there : (e : Job) → None ≡ Some e → ⊥
-            none_there e is = absurd (cc)
-
             gone : IsCopyGone cells seg.0 n.0 job board.rows new
             gone t there z held here d at_d want =
                 at_replica (λ (q : ReplicaParts D). (e : Job) → copy_at job q.copies.running ≡ Some e → ⊥) new n.0 s z w.moves.at.held held (this_place n.0 (record { node = Replica s; held = w.moves.at.held }) old new w.moves.moves) here
-                (λ e at_e. none_there e (sym (gone_without job r.copies.running whole.merges.apart) ∙ (ap (copy_at job) (sym (settled_left cells job c r s at w.moves.step)) ∙ at_e))) d at_d
+                (λ e at_e. none-some e (sym (gone_without job r.copies.running whole.merges.apart) ∙ (ap (copy_at job) (sym (settled_left cells job c r s at w.moves.step)) ∙ at_e))) d at_d

@@ -2,6 +2,7 @@
 use Rattle.std.proofs.Common.{◌≡◌, ◌≢◌, ◌≤◌, ◌<◌, ◌+◌, ◌^◌, ◌&&◌, ◌||◌, ◌==◌, ◌++◌, inl, ℕ, zero, suc, Bool, true, false, true≢false, List, [], ◌∷◌, Some, None, Option, Vec, Global, length, refl, ap, ◌∙◌, sym, subst, arith, if◌then◌else◌}
 use Rattle.std.specs.Prelude.{IsSomeAnd, Contains, max}
 use Rattle.std.proofs.lemmas.Bool.{eq-eqb}
+use Rattle.std.proofs.lemmas.Option.{none-some}
 use Rattle.nrt_base.specs.declared.numbers.At.{At}
 use Rattle.nrt_base.specs.declared.numbers.Gen.{Gen}
 use Rattle.nrt_base.specs.declared.numbers.NodeNo.{NodeNo}
@@ -265,11 +266,8 @@ module _ {D : Type 0} (cells : D → Cells) where
           sourced = was.sourced;
           job = subst (λ (x : Option Job × Option PointJob). JobShows files.source now m x.0 x.1) (λ i. (sym (going m (last_job false m log) ∙ idle m rule.vacant) i, sym (jobless m r was) i)) tt;
           point = point_stays files.source past (printed now) r.infos points was.point;
-          flight = λ a is. absurd (nowhere a (sym (ap (without_at at) (vacant_uncopied size m (newest_version (printed now)) past legal rule.vacant)) ∙ is));
+          flight = λ a is. absurd (none-some a (sym (ap (without_at at) (vacant_uncopied size m (newest_version (printed now)) past legal rule.vacant)) ∙ is));
         }
-          where
-            nowhere : (a : At) → None ≡ Some a → ⊥
-            nowhere a is = absurd (cc)
 
         node_left : (m : ℕ) (x : Node D) → NodeShows cells log m x → NodeFiles files.source cells log (λ s. jobs_like old s size) m x → NodeFiles files.source cells now count m x
         node_left m (Primary p) shown was = absurd (true≢false (sym shown.primary ∙ ap (λ (o : Option NodeNo). is_at o m) rule.vacant))

@@ -4,6 +4,7 @@ use Rattle.std.specs.Prelude.{IsSomeAnd, Contains, Result, Ok, Err, IfOk}
 use Rattle.std.specs.List.{slice_get, flat_map}
 use Rattle.std.proofs.lemmas.Bool.Decides.{nat_tests, eqb_tells}
 use Rattle.std.proofs.lemmas.List.Elements.{All-nil}
+use Rattle.std.proofs.lemmas.Option.{none-some}
 use Rattle.file_names.specs.Names.{commit_name_of}
 use Rattle.nrt_base.specs.declared.doc.Doc.{Doc}
 use Rattle.nrt_base.specs.declared.numbers.Gen.{Gen}
@@ -61,6 +62,7 @@ use Rattle.primary_parts.specs.States.{state_names}
 use Rattle.primary_parts.specs.Merges.{merge_names, merge_loose}
 use Rattle.file_deleter.specs.Holdings.{count_of}
 use Rattle.nrt_base.specs.declared.numbers.At.{At}
+use Rattle.nrt_base.proofs.Plain.{slice_get-push}
 use Rattle.replica_parts.specs.declared.job.PointJob.{PointJob}
 use Rattle.cluster_places.specs.declared.nodes.Node.{Node}
 use Rattle.cluster_state.specs.State.{IsPointAt, WritesAt, HoldsTickets, PrimaryShows, PlaceShows, Shows}
@@ -68,10 +70,7 @@ use Rattle.cluster_state.proofs.PointStands.{opening_stands, opening_writable}
 
 -- an empty directory shows no commit
 no_commit : (cells : Cells) (n : ℕ) (infos : Infos) → IsEmptyDir cells → ShowsCommit (reads_of cells) n infos → ⊥
-no_commit cells n infos empty shows = some_none shows.bytes (sym shows.newest.there ∙ empty.now (commit_name_of n))
-  where
-    some_none : (bytes : List ℕ) → Some bytes ≡ None → ⊥
-    some_none bytes is = absurd (cc)
+no_commit cells n infos empty shows = none-some shows.bytes (sym (sym shows.newest.there ∙ empty.now (commit_name_of n)))
 
 -- what it gives is the opening point
 pub finds_opening : (cells : Cells) (last : Option Commit) (infos : Infos) → IsEmptyDir cells → FindsPoint (reads_of cells) (number_of_last last) infos → (last ≡ None) × (infos ≡ opening_infos)
@@ -91,14 +90,10 @@ slice_get_before [] ys i h = absurd (omega arith)
 slice_get_before (x ∷ xs) ys zero h = refl
 slice_get_before (x ∷ xs) ys (suc i) h = slice_get_before xs ys i (omega arith)
 
-slice_get_seam : {X : Type 0} (xs : List X) (y : X) → slice_get (xs ++ y ∷ []) (length xs) ≡ Some y
-slice_get_seam [] y = refl
-slice_get_seam (x ∷ xs) y = slice_get_seam xs y
-
 pub nothing_held : (n : ℕ) (tickets : List (Open Shown)) → HoldsTickets [] n tickets []
 nothing_held n tickets = record {
-  each = λ key number is. absurd (none_some number is);
-  apart = λ a b number is is'. absurd (none_some number is);
+  each = λ key number is. absurd (none-some number is);
+  apart = λ a b number is is'. absurd (none-some number is);
   opened = λ lane t v is. none_open v (t == 0) is;
   searched = λ at v is. absurd is.line;
 }
@@ -106,9 +101,6 @@ nothing_held n tickets = record {
     none_open : {P : Type 0} (v : ℕ) (b : Bool) → IsTicketOf n v (if b then None else None) → P
     none_open v true is = absurd is
     none_open v false is = absurd is
-
-    none_some : (number : ℕ) → None ≡ Some number → ⊥
-    none_some number is = absurd (cc)
 
 -- ---- the opening point
 
@@ -346,7 +338,7 @@ module _ {D : Type 0} (cells : D → Cells) where
           elim (eqb_tells k (length places)) [
             | inl here ↦
                 let mine' : P (suc k) x = subst (λ (j : ℕ). P j x) (let h = here.1 in omega (arith, h)) mine in
-                subst (λ (o : Option (Place D)). IsSomeAnd o (P (suc k))) (sym (ap unwrapped (ap (slice_get (places ++ Some x ∷ [])) here.1 ∙ slice_get_seam places (Some x)))) mine'
+                subst (λ (o : Option (Place D)). IsSomeAnd o (P (suc k))) (sym (ap unwrapped (ap (slice_get (places ++ Some x ∷ [])) here.1 ∙ slice_get-push places (Some x)))) mine'
             | inr other ↦
                 let l : suc k ≤ length (places ++ Some x ∷ []) = node.1 in
                 let within : k < length places = let d = other.1 in omega (arith, l, d, length-append places (Some x ∷ [])) in

@@ -2,7 +2,8 @@
 use Rattle.std.proofs.Common.{◌≡◌, ◌≢◌, ◌==◌, ℕ, Bool, true, false, true≢false, List, [], ◌∷◌, Some, None, Option, refl, ap, ◌∙◌, sym, subst, if◌then◌else◌}
 use Rattle.std.specs.Prelude.{IsSomeAnd, IfSome, is_some, nat_lt, ◌||◌, ◌&&◌}
 use Rattle.std.specs.List.{list_any}
-use Rattle.std.proofs.lemmas.Bool.{eqb-true, or_right}
+use Rattle.std.proofs.lemmas.Bool.{eqb-true, not-true}
+use Rattle.history_laws.proofs.CommitLemmas.{more_found}
 use Rattle.nrt_base.specs.declared.numbers.At.{At}
 use Rattle.disk_model.specs.Disk.{Name, Content, Cells}
 use Rattle.segment_infos.specs.declared.infos.Infos.{Infos}
@@ -33,7 +34,6 @@ use Rattle.cluster_state.specs.Disks.{MayFindPoint, LastShows, StageShows, BookS
 use Rattle.cluster_state.specs.FileChanges.{is_commit_line, keeps_commits}
 use Rattle.cluster_state.proofs.Points.{points_alone, points_then, points_shown, point_stays}
 use Rattle.cluster_state.proofs.Frames.{some_then}
-use Rattle.cluster_state.proofs.JobFrames.{not_false}
 use Rattle.cluster_state.proofs.Wider.{Extends, some_wider, point_wider}
 
 -- ---- one entry more
@@ -51,10 +51,6 @@ without_other : (at : At) (o : Option At) → o ≢ Some at → without_at at o 
 without_other at None other = refl
 without_other at (Some a) other = by_test (same_at at a) (λ s. (if s then None else Some a) ≡ Some a) (λ here. absurd (other (ap Some (sym (same_at_is at a here))))) (λ apart. refl)
 
-more_found : (flight : Option At) (w u : ℕ) (old : List ℕ) → list_any (λ k. k == u) old ≡ true → list_any (λ k. k == u) (more_by flight w old) ≡ true
-more_found None w u old found = found
-more_found (Some a) w u old found = or_right (w == u) _ found
-
 module _ (past : Past) (at : At) (n : ℕ) where
   abbrev after : Event → Past
   after e = record { at = at; event = e } ∷ past
@@ -64,22 +60,22 @@ module _ (past : Past) (at : At) (n : ℕ) where
   moved_found false w v found = found
 
   found_more : (e : Event) (v : ℕ) → keeps_commits e n ≡ true → may_find n v past ≡ true → may_find n v (after e) ≡ true
-  found_more (Committing m w) v keeps found = ap (λ (b : Bool). list_any (λ k. k == v) (if b then w.0 ∷ reopenable_versions n past else reopenable_versions n past)) (not_false (m.0 == n) keeps) ∙ found
-  found_more (Committed m w) v keeps found = ap (λ (b : Bool). list_any (λ k. k == v) (if b then w.0 ∷ [] else reopenable_versions n past)) (not_false (m.0 == n) keeps) ∙ found
-  found_more (Reopened m w) v keeps found = ap (λ (b : Bool). list_any (λ k. k == v) (if b then w.0 ∷ [] else reopenable_versions n past)) (not_false (m.0 == n) keeps) ∙ found
+  found_more (Committing m w) v keeps found = ap (λ (b : Bool). list_any (λ k. k == v) (if b then w.0 ∷ reopenable_versions n past else reopenable_versions n past)) (not-true (m.0 == n) keeps) ∙ found
+  found_more (Committed m w) v keeps found = ap (λ (b : Bool). list_any (λ k. k == v) (if b then w.0 ∷ [] else reopenable_versions n past)) (not-true (m.0 == n) keeps) ∙ found
+  found_more (Reopened m w) v keeps found = ap (λ (b : Bool). list_any (λ k. k == v) (if b then w.0 ∷ [] else reopenable_versions n past)) (not-true (m.0 == n) keeps) ∙ found
   found_more (Published g w) v keeps found = moved_found (is_at (primary_of past) n) w.0 v found
   found_more (Switched m w) v keeps found = moved_found (m.0 == n) w.0 v found
   found_more (Promoted m g f w) v keeps found = moved_found (m.0 == n) w.0 v found
   found_more e v keeps found = found
 
   committed_same : (e : Event) → keeps_commits e n ≡ true → has_committed n (after e) ≡ has_committed n past
-  committed_same (Committed m w) keeps = ap (λ (b : Bool). if b then true else has_committed n past) (not_false (m.0 == n) keeps)
-  committed_same (Reopened m w) keeps = ap (λ (b : Bool). if b then has_committed n past || nat_lt 1 w.0 else has_committed n past) (not_false (m.0 == n) keeps)
+  committed_same (Committed m w) keeps = ap (λ (b : Bool). if b then true else has_committed n past) (not-true (m.0 == n) keeps)
+  committed_same (Reopened m w) keeps = ap (λ (b : Bool). if b then has_committed n past || nat_lt 1 w.0 else has_committed n past) (not-true (m.0 == n) keeps)
   committed_same e keeps = refl
 
   flight_kept : (e : Event) → keeps_commits e n ≡ true → commit_in_flight n past ≢ Some at → commit_in_flight n (after e) ≡ commit_in_flight n past
-  flight_kept (Committing m w) keeps other = ap (λ (b : Bool). if b then Some at else commit_in_flight n past) (not_false (m.0 == n) keeps)
-  flight_kept (Crashed m) keeps other = ap (λ (b : Bool). if b then None else without_at at (commit_in_flight n past)) (not_false (m.0 == n) keeps) ∙ without_other at (commit_in_flight n past) other
+  flight_kept (Committing m w) keeps other = ap (λ (b : Bool). if b then Some at else commit_in_flight n past) (not-true (m.0 == n) keeps)
+  flight_kept (Crashed m) keeps other = ap (λ (b : Bool). if b then None else without_at at (commit_in_flight n past)) (not-true (m.0 == n) keeps) ∙ without_other at (commit_in_flight n past) other
   flight_kept e keeps other = reply (is_reply e)
     where
       reply : (b : Bool) → (if b then without_at at (commit_in_flight n past) else commit_in_flight n past) ≡ commit_in_flight n past

@@ -2,6 +2,7 @@
 use Rattle.std.proofs.Common.{◌≡◌, ◌≢◌, ◌≤◌, ◌+◌, ◌&&◌, ◌==◌, ℕ, Bool, true, false, true≢false, List, [], ◌∷◌, Some, None, Option, refl, ap, ◌∙◌, sym, subst, arith, if◌then◌else◌, length}
 use Rattle.std.specs.Prelude.{not}
 use Rattle.std.proofs.lemmas.Bool.Decides.{nat_tests}
+use Rattle.std.proofs.Math.Bool.{and-false}
 use Rattle.nrt_base.specs.declared.numbers.At.{At}
 use Rattle.nrt_base.specs.declared.numbers.NodeNo.{NodeNo}
 use Rattle.seg_reader.specs.Shown.{Shown}
@@ -21,7 +22,7 @@ use Rattle.history_tables.specs.declared.lines.Begun.{Begun}
 use Rattle.history_tables.specs.Begins.{begin, begun_by, open_line, start_by}
 use Rattle.history_tables.proofs.RowLemmas.{by_test, same_at_is}
 use Rattle.history_book.specs.Turns.{AreInTurn}
-use Rattle.history_book.proofs.LineLaws.{and_false, flying}
+use Rattle.history_book.proofs.LineLaws.{flying}
 use Rattle.cluster_state.specs.Lookups.{IsSearchAt, IsSearching}
 use Rattle.cluster_state.specs.State.{StandForVersion}
 use Rattle.cluster_state.specs.Moves.{moves, moves_tickets, keeps_flight, FlightStays, Lasts, Fewer, WritesOn, Same}
@@ -105,7 +106,7 @@ record Searched (n v : ℕ) (e : Event) (s : Bool) (old : Option Begun) : Type 0
 
 line_less : (past : Past) (e : Event) (n v before accepted : ℕ) (s : Bool) (old : Option Begun) → moves_tickets e n ≡ false
     → IsSearchAt n v (if s then begun_by e before accepted old else old) → Searched n v e s old
-line_less past e n v before accepted false old apart is = record { before = is; start = and_false (is_start e) }
+line_less past e n v before accepted false old apart is = record { before = is; start = and-false (is_start e) }
 line_less past (Switched m w) n v before accepted true old apart is = record { before = is; start = refl }
 line_less past (Fault m kind) n v before accepted true old apart is = record { before = is; start = refl }
 line_less past (Opened m t w) n v before accepted true old apart is = opened (t.0 == 0) refl is
@@ -162,7 +163,7 @@ pub flight_stays : (past : Past) (at : At) (e : Event) → publish_in_flight pas
 flight_stays past at e other keeps = record {
   flight = stays e keeps;
   start = λ a is. ap (λ (b : Bool). if is_start e && b then past else before_start a past) (flight_apart past at a other is)
-      ∙ ap (λ (b : Bool). if b then past else before_start a past) (and_false (is_start e));
+      ∙ ap (λ (b : Bool). if b then past else before_start a past) (and-false (is_start e));
 }
   where
     without : without_at at (publish_in_flight past) ≡ publish_in_flight past

@@ -1,7 +1,7 @@
 -- What one more entry leaves of the job that the log shows at a replica.
 use Rattle.std.proofs.Common.{◌≡◌, ◌≢◌, ◌≤◌, ◌+◌, ◌&&◌, ◌==◌, ℕ, Bool, true, false, true≢false, [], ◌∷◌, Some, None, Option, max, refl, ap, ◌∙◌, sym, subst, arith, if◌then◌else◌, length, ◌||◌}
 use Rattle.std.specs.Prelude.{not}
-use Rattle.std.proofs.lemmas.Bool.{eqb-true}
+use Rattle.std.proofs.lemmas.Bool.{eqb-true, not-true}
 use Rattle.std.proofs.lemmas.Bool.Decides.{nat_tests}
 use Rattle.history_tables.proofs.RowLemmas.{same_at_self, same_at_is}
 use Rattle.nrt_base.specs.declared.numbers.At.{At}
@@ -101,10 +101,6 @@ copy_flying (e ∷ past) n v a turns is = step e.event turns.0 is (λ was. copy_
 
 -- ---- a printed entry
 
-pub not_false : (b : Bool) → not b ≡ true → b ≡ false
-not_false true is = absurd (true≢false (sym is))
-not_false false is = refl
-
 -- a line that has started has not started again
 pub begun_still : (past : Past) (at : At) (e : Event) (a : At) → InTurn past at e → start_entry a past ≢ None
     → (start_entry a (record { at = at; event = e } ∷ past) ≢ None) × (before_start a (record { at = at; event = e } ∷ past) ≡ before_start a past)
@@ -127,14 +123,14 @@ module _ (size : ℕ) (log : Log) (at : At) (n : ℕ) (legal : IsLegalPast size 
   latest_same : (e : Event) → keeps_jobs e n ≡ true → highest_copy n (after e) ≤ highest_copy n (printed log)
   latest_same (Copying m w) keeps =
       let is : (if m.0 == n then max (highest_copy n (printed log)) w.0 else highest_copy n (printed log)) ≡ highest_copy n (printed log)
-      = ap (λ (b : Bool). if b then max (highest_copy n (printed log)) w.0 else highest_copy n (printed log)) (not_false (m.0 == n) keeps) in
+      = ap (λ (b : Bool). if b then max (highest_copy n (printed log)) w.0 else highest_copy n (printed log)) (not-true (m.0 == n) keeps) in
       omega (arith, is)
   latest_same e keeps = omega arith
 
   version_same : (e : Event) → keeps_jobs e n ≡ true → version_of n (after e) ≡ version_of n (printed log)
   version_same (Published g w) keeps = ap (λ (b : Bool). if b then w.0 else version_of n (printed log)) other
-  version_same (Switched m w) keeps = ap (λ (b : Bool). if b then w.0 else version_of n (printed log)) (not_false (m.0 == n) keeps)
-  version_same (Reopened m w) keeps = ap (λ (b : Bool). if b then w.0 else version_of n (printed log)) (not_false (m.0 == n) keeps)
+  version_same (Switched m w) keeps = ap (λ (b : Bool). if b then w.0 else version_of n (printed log)) (not-true (m.0 == n) keeps)
+  version_same (Reopened m w) keeps = ap (λ (b : Bool). if b then w.0 else version_of n (printed log)) (not-true (m.0 == n) keeps)
   version_same (Promoted m g f w) keeps = absurd (true≢false (sym keeps))
   version_same e keeps = refl
 
@@ -144,7 +140,7 @@ module _ (size : ℕ) (log : Log) (at : At) (n : ℕ) (legal : IsLegalPast size 
       let next : w.0 ≡ newest_version (printed log) + 1 = rule.next in
       let low = flight_low size (printed log) n (newest_version (after (Published g w))) a legal (without_some at a (copy_in_flight n (newest_version (after (Published g w))) (printed log)) is).0 in
       absurd (omega (arith, next, low))
-  flight_same (Copying m w) rule keeps a is = (copied (m.0 == n) (not_false (m.0 == n) keeps) (w.0 == newest_version (printed log)) is, refl)
+  flight_same (Copying m w) rule keeps a is = (copied (m.0 == n) (not-true (m.0 == n) keeps) (w.0 == newest_version (printed log)) is, refl)
     where
       copied : (b : Bool) → b ≡ false → (c : Bool) → (if b && c then Some at else copy_in_flight n (newest_version (printed log)) (printed log)) ≡ Some a
           → copy_in_flight n (newest_version (printed log)) (printed log) ≡ Some a
@@ -229,8 +225,8 @@ row_kept n log i leaves = step i leaves
         ap (λ (b : Bool). if b then Some (new_job_row job (length (printed log))) else row_if_some (Begins job) (last_job false n log)) apart ∙ begun job (last_job false n log) refl apart
 
     step : (i' : Inner) → leaves_job i' n ≡ true → last_job false n (kept i' ∷ log) ≡ last_job false n log
-    step (JobBegun line m number v by) leaves = begins line m number v by (not_false (m.0 == n) leaves)
-    step (JobEnd line m number) leaves = ended line m number (last_job false n log) refl (not_false (m.0 == n) leaves)
+    step (JobBegun line m number v by) leaves = begins line m number v by (not-true (m.0 == n) leaves)
+    step (JobEnd line m number) leaves = ended line m number (last_job false n log) refl (not-true (m.0 == n) leaves)
     step i' leaves = passed (last_job false n log)
 
 -- what was handed out to a job at the node is what was
@@ -238,7 +234,7 @@ out_kept : (n : ℕ) (log : Log) (i : Inner) (a : At) (number : ℕ) (q : Name) 
 out_kept n log i a number q leaves = step i leaves
   where
     apart : (by : Option At) (m : NodeNo) (k : ℕ) → not (m.0 == n) ≡ true → is_job a n number by m.0 k ≡ false
-    apart by m k leaves = tests (is_by a by) (n == m.0) (number == k) (apart_from n n m.0 refl (not_false (m.0 == n) leaves))
+    apart by m k leaves = tests (is_by a by) (n == m.0) (number == k) (apart_from n n m.0 refl (not-true (m.0 == n) leaves))
       where
         tests : (x y z : Bool) → y ≡ false → (x && y && z) ≡ false
         tests true true z is = absurd (true≢false is)

@@ -1,7 +1,7 @@
 -- What calls leave of the names that stand at a node, and of what names mean.
 use Rattle.std.proofs.Common.{◌≡◌, ◌⊎◌, ◌<◌, ◌≤◌, ◌+◌, ◌-◌, ◌*◌, ◌^◌, inl, inr, nat_lt, ℕ, zero, suc, get_or, Bool, true, false, List, [], ◌∷◌, ◌++◌, Some, None, Option, is_some, length, refl, ap, ◌∙◌, sym, subst, arith, if◌then◌else◌}
 use Rattle.std.specs.Prelude.{IfSome, ⊤}
-use Rattle.std.proofs.lemmas.Bool.{lt-ltb, ltb-true}
+use Rattle.std.proofs.lemmas.Bool.{ltb-true}
 use Rattle.std.specs.List.{All, Contains, flat_map}
 use Rattle.std.specs.Option.{option_or}
 use Rattle.std.proofs.lemmas.List.Elements.{All-contains, Contains-append_left, Contains-append_right}
@@ -11,11 +11,11 @@ use Rattle.file_names.specs.declared.composed.SegPart.TheVariants.{Docs}
 use Rattle.file_names.proofs.NameReading.{file_apart}
 use Rattle.file_deleter.specs.Holdings.{Holdings, IsThere, count_of, times}
 use Rattle.file_deleter.proofs.Keeping.{known_counted}
-use Rattle.file_deleter.proofs.NameLemmas.{times-append, among_times, among_is}
+use Rattle.file_deleter.proofs.NameLemmas.{times-append, among_times}
 use Rattle.segment_infos.specs.declared.infos.SegRecord.{SegRecord}
 use Rattle.segment_infos.specs.declared.infos.Infos.{Infos}
 use Rattle.segment_infos.specs.Files.{files_of_segment, AreFilesOf}
-use Rattle.commit_steps.proofs.Safe.{among_of, contains_of}
+use Rattle.commit_steps.proofs.Safe.{among_of}
 use Rattle.node_files.specs.Appearing.{AppearsOnly}
 use Rattle.node_files.proofs.Appearing.{stood_or, only_none}
 use Rattle.seg_reader.specs.Shown.{Shown}
@@ -24,6 +24,7 @@ use Rattle.searcher_switch.specs.Searching.{searcher_names}
 use Rattle.primary_parts.specs.declared.parts.Parts.{Parts as PrimaryParts}
 use Rattle.primary_parts.specs.Held.{IsOwnSegment, IsOwnFile, IsDrawnRecord}
 use Rattle.primary_parts.specs.Primary.{IsPrimary, loose_of, primary_names, rest_names}
+use Rattle.primary_parts.proofs.NewFiles.{named_of}
 use Rattle.copy_state.specs.States.{meta_names}
 use Rattle.copy_job.specs.declared.copying.Part.{Part}
 use Rattle.replica_parts.specs.Given.{IsLasting, HasMeta}
@@ -49,10 +50,6 @@ use Rattle.cluster_state.proofs.Drawn.{Grows, file_more, may_have_more, lasting_
 -- what is known of the files of infos
 abbrev pub FilesLast : Type 0
 FilesLast = (infos : Infos) (names : List Name) → AreFilesOf infos names → (q : Name) → Contains (flat_map files_of_segment infos.segs) q → IsLasting q
-
--- a name that stands in a list is one of it
-pub named_in : (names : List Name) (q : Name) → 0 < times names q → Contains names q
-named_in names q some = contains_of names q (among_is names q ∙ lt-ltb 0 (times names q) some)
 
 -- ---- one node
 
@@ -156,7 +153,7 @@ module _ {D : Type 0} (cells : D → Cells) where
   wanted_drawn source now version j lasting drawn metas above q wanted =
       let meta = some_meta j.copy.want.files q wanted in
       let has = meta_at_source source j.copy.want.files q meta.0 metas meta.1 in
-      let listed : Contains (flat_map files_of_segment j.infos.segs) q = (above.state.files.named q).0 (named_in (meta_names j.copy.want.files) q wanted) in
+      let listed : Contains (flat_map files_of_segment j.infos.segs) q = (above.state.files.named q).0 (named_of (meta_names j.copy.want.files) q wanted) in
       drawn.drawn q has.bytes (lasting j.infos (meta_names j.copy.want.files) above.state.files q listed) has.there
 
   -- a replica that switched to the point of its job

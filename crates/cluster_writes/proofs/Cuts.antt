@@ -50,15 +50,6 @@ drop_on (suc k) zero xs low = absurd (omega arith)
 drop_on {A = A} (suc k) (suc a) [] low = drop_none {A = A} [] (suc a - suc k) refl
 drop_on (suc k) (suc a) (x ∷ xs) low = let same : suc a - suc k ≡ a - k = omega arith in rw same (drop_on k a xs (omega arith))
 
-pub drop_last : {A : Type 0} (k : ℕ) (xs ys : List A) → k ≤ length xs → drop k (xs ++ ys) ≡ drop k xs ++ ys
-drop_last zero xs ys low = refl
-drop_last (suc k) [] ys low = absurd (omega arith)
-drop_last (suc k) (x ∷ xs) ys low = drop_last k xs ys (omega arith)
-
-pub length_last : {A : Type 0} (xs : List A) (x : A) → length (xs ++ x ∷ []) ≡ length xs + 1
-length_last [] x = refl
-length_last (y ∷ xs) x = omega (arith, length_last xs x)
-
 pub after_ops-append : (docs : List Doc) (a b : List Op) → after_ops docs (a ++ b) ≡ after_ops (after_ops docs a) b
 after_ops-append docs [] b = refl
 after_ops-append docs (op ∷ a) b = after_ops-append (after_op docs op) a b

@@ -41,6 +41,7 @@ use Rattle.primary_parts.specs.Calls.{IsPublished, FillsUndrawn, DrawsOnly, Keep
 use Rattle.primary_parts.specs.declared.parts.Publish.{Publish}
 use Rattle.primary_parts.specs.Held.{IsOwnFile, drawn_to}
 use Rattle.primary_parts.specs.Cut.{infos_drawn, noted, has_put, number_drawn}
+use Rattle.primary_parts.proofs.NewFiles.{named_of}
 use Rattle.cluster_places.specs.declared.held.Held.{Held}
 use Rattle.cluster_places.specs.declared.nodes.Node.TheVariants.{Primary}
 use Rattle.cluster_places.specs.declared.nodes.Place.{Place}
@@ -52,7 +53,7 @@ use Rattle.cluster_places.specs.KeptFiles.{FillsPrimaryFiles, KeepsNodeFiles}
 use Rattle.cluster_places.proofs.TicketNodes.{node_alone}
 use Rattle.cluster_state.proofs.Disks.{commits_alone}
 use Rattle.cluster_state.proofs.Drawn.{grows_none, just_drawn}
-use Rattle.cluster_state.proofs.Naming.{FilesLast, named_in, HoldsFrom, holds_same}
+use Rattle.cluster_state.proofs.Naming.{FilesLast, HoldsFrom, holds_same}
 use Rattle.cluster_state.proofs.Frames.{PutsBack, was, place_at}
 use Rattle.cluster_state.proofs.FileFrames.{before, flights_of, files_one, files_was, files_is, files_moved, files_started, files_published, put_one}
 use Rattle.cluster_state.proofs.Turning.{log_is, nodes_is, past_has, fresh_turn, later_turn}
@@ -123,9 +124,9 @@ module _ {D : Type 0} (cells : D → Cells) where
           omega (arith, none, some, old, new, tickets, rest, book)
 
       by : (k : ℕ) → times q.searchers.point.names name ≡ k → Contains (flat_map files_of_segment q.infos.segs) name
-      by zero is = (whole.writer.files.named name).0 (named_in q.names name (let e = either in omega (arith, is, e)))
+      by zero is = (whole.writer.files.named name).0 (named_of q.names name (let e = either in omega (arith, is, e)))
       by (suc k) is = subst (λ (i : Infos). Contains (flat_map files_of_segment i.segs) name) (published.point.point_infos ∙ sym published.point.infos)
-          ((whole.searched.files.named name).0 (named_in q.searchers.point.names name (omega (arith, is))))
+          ((whole.searched.files.named name).0 (named_of q.searchers.point.names name (omega (arith, is))))
 
   published_fills : (p q : PrimaryParts D) (work : FlushWork) → IsPublished p work q → KeepsHeldBytes cells p q → FillsUndrawn p q → DrawsOnly p q → AppearsOnly (IsOwnFile p.infos (loose_of p)) (cells p.dir) (cells q.dir) → KeepsOthers p q
       → IsPrimary cells p → IsPrimary cells q → FillsPrimaryFiles cells p q

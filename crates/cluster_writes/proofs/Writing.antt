@@ -3,6 +3,7 @@ use Rattle.std.proofs.Common.{◌≡◌, ◌≢◌, ◌≤◌, ◌+◌, ◌-◌,
 use Rattle.std.specs.Prelude.{IsSomeAnd}
 use Rattle.std.specs.List.{All, list_any}
 use Rattle.std.proofs.lemmas.Bool.{eq-eqb}
+use Rattle.std.proofs.lemmas.List.{drop-append-le, length_push}
 use Rattle.nrt_base.specs.declared.numbers.At.{At}
 use Rattle.nrt_base.specs.declared.numbers.Gen.{Gen}
 use Rattle.nrt_base.specs.declared.numbers.SegNo.{SegNo}
@@ -44,7 +45,7 @@ use Rattle.cluster_state.specs.Writes.{IsFlushed}
 use Rattle.cluster_state.proofs.Growing.{stands_more, flight_stays, not_flying}
 use Rattle.cluster_state.proofs.Frames.{flight_same}
 use Rattle.cluster_writes.proofs.Filling.{IsLive, next_live, next_few}
-use Rattle.cluster_writes.proofs.Cuts.{length_last, drop_last, drop_on, take_on, after_ops-append, FliesWith, flies_with}
+use Rattle.cluster_writes.proofs.Cuts.{drop_on, take_on, after_ops-append, FliesWith, flies_with}
 
 module _ {D : Type 0} (cells : D → Cells) where
   -- ---- an operation is accepted
@@ -66,8 +67,8 @@ module _ {D : Type 0} (cells : D → Cells) where
         writer = subst (λ (x : Infos × List Shown). WritesAt (printed (shown at (Accepted seq op) ∷ log)) x.0 x.1) (λ i. (sym (ap (λ (z : PrimaryParts D). z.infos) is) i, sym (ap (λ (z : PrimaryParts D). z.segs) is) i))
             (record { documents = newest.documents; generation = was.writer.generation; version = was.writer.version; counter = was.writer.counter; few = was.writer.few; live = was.writer.live });
         waiting = ap (λ (z : PrimaryParts D). z.waiting) is ∙ (ap (λ (ops : List Op). ops ++ op ∷ []) was.waiting
-            ∙ sym (drop_last (published_in_generation (printed log)) (operations_of_generation (printed log)) (op ∷ []) (written size (printed log) legal).within));
-        accepted = omega (arith, ap (λ (z : PrimaryParts D). z.accepted) is, was.accepted, length_last (operations_of_generation (printed log)) op);
+            ∙ sym (drop-append-le (published_in_generation (printed log)) (operations_of_generation (printed log)) (op ∷ []) (written size (printed log) legal).within));
+        accepted = omega (arith, ap (λ (z : PrimaryParts D). z.accepted) is, was.accepted, length_push (operations_of_generation (printed log)) op);
         uncut = λ none. ap (λ (z : PrimaryParts D). z.has_cut_over) is ∙ was.uncut none;
         calm = λ none. ap (λ (z : PrimaryParts D). z.merges) is ∙ was.calm none;
         flight = subst (λ (x : Option Publish × List Shown). FlightShows (shown at (Accepted seq op) ∷ log) (publish_in_flight (printed (shown at (Accepted seq op) ∷ log))) x.0 x.1)

@@ -4,7 +4,7 @@ use Rattle.std.specs.Prelude.{IfSome}
 use Rattle.disk_model.specs.Disk.{Name, Content, Cell, Cells, IsKept, may_leave, same, is_among, put, flushed, settled, written, removed, replaced, half_removed, half_replaced, after_write, after_sync, after_sync_names, after_rename}
 use Rattle.disk_model.specs.declared.dir.DirFault.{DirFault}
 use Rattle.disk_model.specs.declared.dir.DirFault.TheVariants.{Memory, Missing, Exists, Failed}
-use Rattle.disk_model.proofs.CellLemmas.{same_true, left_synced, settled_kept, put_here, put_apart, rename_others, rename_target, same_apart}
+use Rattle.disk_model.proofs.CellLemmas.{same_true, left_synced, settled_kept, put_here, put_apart, rename_others, rename_target, same_apart, same_kept}
 use Rattle.disk_model.proofs.DirectoryLaw.{write_others}
 use Rattle.file_names.specs.Names.{is_commit_name, commit_number}
 use Rattle.file_deleter.specs.Holdings.{Holdings, count_of, is_due, times}
@@ -30,7 +30,7 @@ use Rattle.commit_steps.specs.Flights.{own_name, pending_name, IsCommit, IsFligh
 use Rattle.commit_steps.specs.Commits.{IsSettled, AreSettled, IsAbove, Stays, IsSafe}
 use Rattle.commit_steps.specs.Calls.{IsFree, AreSynced, StandsBegun, StandsSynced, StandsWritten, StandsPending, StandsNamed, StandsRenamed}
 use Rattle.commit_steps.specs.Book.{progress_of, stage_names, Stands, Leads, Advances}
-use Rattle.commit_steps.proofs.Safe.{pending_not_commit, own_is, number_of_own, pending_not_own, pending_no_file, own_no_file, own_apart, greater_apart, same_kept, safe_all_kept, safe_beside, sync_kept, file_along}
+use Rattle.commit_steps.proofs.Safe.{pending_not_commit, own_is, number_of_own, pending_not_own, pending_no_file, own_no_file, own_apart, greater_apart, safe_all_kept, safe_beside, sync_kept, file_along}
 
 -- ---- answers
 module _ (before after : Cells) (old new : Holdings) (from : Stage) where

@@ -4,10 +4,11 @@ use Rattle.std.specs.Prelude.{IfSome}
 use Rattle.std.proofs.Math.Bool.{or-true}
 use Rattle.std.proofs.lemmas.List.Elements.{Contains-get_or}
 use Rattle.disk_model.specs.Disk.{Name, Content, Cell, Cells, may_leave, same, is_among}
+use Rattle.disk_model.proofs.CellLemmas.{same_kept}
 use Rattle.file_names.specs.Names.{is_commit_name, is_pending_name}
 use Rattle.file_deleter.specs.Holdings.{Holdings, count_of, is_known, times, IsWhole, AreThere, AreCounted}
 use Rattle.file_deleter.specs.Moves.{Shifts}
-use Rattle.file_deleter.proofs.NameLemmas.{same_self, among_times, among-append}
+use Rattle.file_deleter.proofs.NameLemmas.{among_times, among-append, among_first}
 use Rattle.file_deleter.proofs.Keeping.{known_counted, known_uncounted}
 use Rattle.commit_steps.specs.declared.states.Commit.{Commit}
 use Rattle.commit_steps.specs.declared.stage.Stage.{Stage}
@@ -18,12 +19,9 @@ use Rattle.commit_steps.specs.Commits.{ImagesAre, AreSettled, Stays, MayStay}
 use Rattle.commit_steps.specs.Calls.{IsFree, IsSynced, AreSynced}
 use Rattle.commit_steps.specs.Book.{shown_by, flying_names, last_names, book_names, Stands, IsBookSound}
 use Rattle.commit_steps.specs.Beside.{IsBeside}
-use Rattle.commit_steps.proofs.Safe.{among_of, own_is, pending_is, images_of_safe, file_along, same_kept}
+use Rattle.commit_steps.proofs.Safe.{among_of, own_is, pending_is, images_of_safe, file_along}
 
 -- ---- names
-pub first : (x : Name) (xs : List Name) → is_among (x ∷ xs) x ≡ true
-first x xs = ap (λ b. b || is_among xs x) (same_self x)
-
 pub behind : (x : Name) (xs : List Name) (q : Name) → is_among xs q ≡ true → is_among (x ∷ xs) q ≡ true
 behind x xs q there = ap (λ b. same x q || b) there ∙ or-true (same x q)
 
@@ -34,7 +32,7 @@ pub in_rear : (xs ys : List Name) (q : Name) → is_among ys q ≡ true → is_a
 in_rear xs ys q there = among-append xs ys q ∙ ap (λ b. is_among xs q || b) there ∙ or-true (is_among xs q)
 
 own_among : (c : Commit) → IsCommit c → is_among c.names (own_name c) ≡ true
-own_among c is = ap (λ (ns : List Name). is_among ns (own_name c)) is.names ∙ in_rear c.files (own_name c ∷ []) (own_name c) (first (own_name c) [])
+own_among c is = ap (λ (ns : List Name). is_among ns (own_name c)) is.names ∙ in_rear c.files (own_name c ∷ []) (own_name c) (among_first (own_name c) [])
 
 pub file_among : (c : Commit) → IsCommit c → (q : Name) → is_among c.files q ≡ true → is_among c.names q ≡ true
 file_among c is q there = ap (λ (ns : List Name). is_among ns q) is.names ∙ in_front c.files (own_name c ∷ []) q there
@@ -145,7 +143,7 @@ module _ (book : CommitBook) (old new : Holdings) (before after : Cells) (b : Is
     own = own_free s.0.commit h.flight.commit h.own;
   }
   stands_beside (Some (Written s)) same some h =
-      let at = first (pending_name s.0.commit) s.0.commit.files in
+      let at = among_first (pending_name s.0.commit) s.0.commit.files in
       record {
         flight = h.flight;
         files = files_synced before after s.0.commit.files (λ q there. same q (behind (pending_name s.0.commit) s.0.commit.files q there)) h.files;
@@ -154,7 +152,7 @@ module _ (book : CommitBook) (old new : Holdings) (before after : Cells) (b : Is
         own = own_free s.0.commit h.flight.commit h.own;
       }
   stands_beside (Some (Pending s)) same some h =
-      let at = first (pending_name s.0.commit) s.0.commit.files in
+      let at = among_first (pending_name s.0.commit) s.0.commit.files in
       record {
         flight = h.flight;
         files = files_synced before after s.0.commit.files (λ q there. same q (behind (pending_name s.0.commit) s.0.commit.files q there)) h.files;
@@ -163,7 +161,7 @@ module _ (book : CommitBook) (old new : Holdings) (before after : Cells) (b : Is
         own = own_free s.0.commit h.flight.commit h.own;
       }
   stands_beside (Some (Named s)) same some h =
-      let at = first (pending_name s.0.commit) s.0.commit.files in
+      let at = among_first (pending_name s.0.commit) s.0.commit.files in
       record {
         flight = h.flight;
         pending = one_synced before after (pending_name s.0.commit) s.0.bytes (same (pending_name s.0.commit) at) h.pending;
@@ -172,7 +170,7 @@ module _ (book : CommitBook) (old new : Holdings) (before after : Cells) (b : Is
       }
   stands_beside (Some (Renamed s)) same some h = record {
     flight = h.flight;
-    own = one_synced before after (own_name s.0.commit) s.0.bytes (same (own_name s.0.commit) (first (own_name s.0.commit) s.0.commit.files)) h.own;
+    own = one_synced before after (own_name s.0.commit) s.0.bytes (same (own_name s.0.commit) (among_first (own_name s.0.commit) s.0.commit.files)) h.own;
   }
 
   -- ---- the book

@@ -2,6 +2,7 @@
 use Rattle.std.proofs.Common.{◌≡◌, ℕ, ◌+◌, ◌<◌, ◌≤◌, true, false, List, [], ◌∷◌, ◌++◌, Option, Some, None, refl, sym, ap, subst, ◌∙◌, arith, inl, inr, cond}
 use Rattle.std.specs.Prelude.{IfSome}
 use Rattle.disk_model.specs.Disk.{Name, Cell, Cells, is_among, may_leave}
+use Rattle.disk_model.proofs.CellLemmas.{same_kept}
 use Rattle.file_deleter.specs.Holdings.{Holdings, count_of, times, IsWhole, AreCounted}
 use Rattle.file_deleter.specs.Moves.{Shifts, LetsGo}
 use Rattle.file_deleter.proofs.NameLemmas.{times-cons, times-append, times_one, same_self, among_times}
@@ -17,7 +18,7 @@ use Rattle.commit_steps.specs.Commits.{ImagesHave, IsAbove, IsSafe}
 use Rattle.commit_steps.specs.Calls.{IsFree}
 use Rattle.commit_steps.specs.Book.{commit_of, is_last_call, progress_of, commit_along, shown_in, shown_by, stage_names, flying_names, last_names, book_names, Stands, IsNumbered, IsBookSound, Leads, IsBookStep}
 use Rattle.commit_steps.proofs.Beside.{counted_after}
-use Rattle.commit_steps.proofs.Safe.{images_of_safe, images_have, file_along, same_kept}
+use Rattle.commit_steps.proofs.Safe.{images_of_safe, images_have, file_along}
 
 -- ---- a deleter that counts as before
 module _ (cells : Cells) (old : Holdings) (room : ℕ) where

@@ -6,5 +6,5 @@ mod Beginning
 mod Recovering
 pub mod Recovered
 pub mod Beside
-mod TestLaws
+pub mod TestLaws
 pub mod Given

@@ -1,6 +1,8 @@
 -- An opening answers all that the directory shows.
 use Rattle.std.proofs.Common.{◌≡◌, ◌⊎◌, ◌↔◌, ℕ, ◌<◌, not, List, Option, Some, None, Result, Ok, Err, refl, sym, ap, subst, ◌∙◌, arith, inl, inr, is_some, true≢false}
 use Rattle.std.proofs.lemmas.Option.{same_Some}
+use Rattle.std.specs.Prelude.{Contains}
+use Rattle.std.specs.List.{flat_map}
 use Rattle.disk_model.specs.Disk.{Name, Cells, Image, reads_of, first_missing}
 use Rattle.file_names.specs.Names.{commit_name_of, commit_number}
 use Rattle.nrt_base.proofs.Plain.{ok_never_err, same_ok, same_err}
@@ -9,9 +11,11 @@ use Rattle.codec_frame.specs.Checking.{IsFirstFault}
 use Rattle.codec_frame.specs.declared.frame.FrameFault.{FrameFault}
 use Rattle.codec_frame.specs.declared.frame.FileFault.{FileFault}
 use Rattle.codec_frame.specs.declared.frame.FileFault.TheVariants.{Frame, Body}
+use Rattle.file_deleter.specs.Holdings.{IsThere}
+use Rattle.file_deleter.proofs.NameLemmas.{all_there, none_missing}
 use Rattle.segment_infos.specs.Given.{ReadFault, File, Memory as ReadMemory}
 use Rattle.segment_infos.specs.Infos.{infos_wanted, IsInfosFile, IsOfNoInfos}
-use Rattle.segment_infos.specs.Files.{AreFilesOf}
+use Rattle.segment_infos.specs.Files.{AreFilesOf, files_of_segment}
 use Rattle.segment_infos.specs.declared.infos.Infos.{Infos}
 use Rattle.segment_infos.proofs.SetLaws.{one_list_of}
 use Rattle.commit_steps.specs.declared.recovery.RecoverFault.{RecoverFault}
@@ -19,6 +23,7 @@ use Rattle.commit_steps.specs.declared.recovery.RecoverFault.TheVariants.{Memory
 use Rattle.commit_steps.specs.Found.{ShowsNothing, IsNewest, IsNewestNumber, IsNewestAnswer, ShowsCommit}
 use Rattle.commit_steps.specs.Recovery.{IsRefused, IsWholeCommit, IsBrokenCommit, IsCutOff, IsAnswered, SaysHowBroken, IsLoaded, IsRecoverAnswer}
 use Rattle.commit_steps.proofs.Recovering.{whole_commit}
+use Rattle.commit_steps.proofs.Safe.{among_of}
 
 same_file : (e : ReadFault) (a b : FileFault) → e ≡ File a → ◌≡◌ {A = Result Infos ReadFault} (Err e) (Err (File b)) → a ≡ b
 same_file e a b is same = cc
@@ -31,6 +36,10 @@ same_broken a b f g e h = cc
 
 same_pair : (m n : ℕ) (a b : Infos) → m ≡ n → a ≡ b → ◌≡◌ {A = Result (Option (ℕ × Infos)) RecoverFault} (Ok (Some (m, a))) (Ok (Some (n, b)))
 same_pair m n a b e f = cc
+
+-- each file of a whole commit is there
+pub whole_there : (cells : Cells) (n : ℕ) (infos : Infos) → IsWholeCommit (reads_of cells) n infos → (q : Name) → Contains (flat_map files_of_segment infos.segs) q → IsThere cells q
+whole_there cells n infos whole q named = all_there cells whole.files q (none_missing cells whole.files whole.there).each (among_of whole.files q ((whole.named.named q).1 named))
 
 -- ---- one commit is the newest
 module _ (image : Image) where

@@ -4,9 +4,9 @@ use Rattle.std.specs.Prelude.{IfSome, IsSomeAnd, Contains, is_some}
 use Rattle.std.proofs.Math.Bool.{or-true}
 use Rattle.std.specs.List.{flat_map}
 use Rattle.std.proofs.lemmas.List.Elements.{All-contains}
-use Rattle.disk_model.specs.Disk.{Name, Content, Cell, Cells, Image, IsImage, IsKept, may_leave, left_by, same, is_among, flushed, after_sync}
+use Rattle.disk_model.specs.Disk.{Name, Content, Cell, Cells, Image, IsImage, IsKept, left_by, same, is_among, flushed, after_sync}
 use Rattle.disk_model.specs.declared.dir.DirFault.{DirFault}
-use Rattle.disk_model.proofs.CellLemmas.{same_true}
+use Rattle.disk_model.proofs.CellLemmas.{same_true, same_kept}
 use Rattle.file_names.specs.Names.{is_commit_name, is_pending_name, commit_number}
 use Rattle.file_names.proofs.NameLaws.{commit_name_is_one, commit_number-commit_name, pending_name_is_one, pending_name_not_commit}
 use Rattle.segment_infos.specs.Files.{files_of_segment}
@@ -124,9 +124,6 @@ settled_along old new kept h o may = h o (kept.fewer o may) ∙ sym kept.now
 -- a file that is there, and that a crash leaves as it reads, stays so
 pub file_along : (old new : Cell) → IsKept old new → IsSettled old × (is_some old.now ≡ true) → IsSettled new × (is_some new.now ≡ true)
 file_along old new kept h = (settled_along old new kept h.0, ap is_some kept.now ∙ h.1)
-
-pub same_kept : (old new : Cell) → new ≡ old → IsKept old new
-same_kept old new e = record { now = ap (λ (k : Cell). k.now) e; fewer = λ o may. ap (λ (k : Cell). may_leave k o) (sym e) ∙ may }
 
 -- ---- calls that keep the names of commits and the files of commits
 module _ (before after : Cells) (names : (q : Name) → is_commit_name q ≡ true → IsKept (before q) (after q)) where

@@ -1,22 +1,19 @@
 -- Directories and books that the tests make.
 use Rattle.std.proofs.Common.{◌≡◌, ℕ, ◌+◌, ◌<◌, ◌≤◌, Bool, true, false, cond, List, [], ◌∷◌, Some, None, is_some, refl, sym, ap, subst, ◌∙◌, arith, true≢false}
-use Rattle.std.specs.Prelude.{Contains}
-use Rattle.std.specs.List.{flat_map}
 use Rattle.disk_model.specs.Disk.{Name, Content, Cells, Image, may_leave, same, restarted, reads_of}
 use Rattle.file_names.specs.Names.{commit_name_of}
 use Rattle.disk_model.proofs.CellLemmas.{same_true, left_synced}
 use Rattle.disk_memory.specs.Held.{Held, untouched, cell}
 use Rattle.disk_memory.specs.Table.{Table, cells_of}
 use Rattle.segment_infos.specs.declared.infos.Infos.{Infos}
-use Rattle.segment_infos.specs.Files.{files_of_segment}
-use Rattle.file_deleter.specs.Holdings.{Holdings, count_of, times, AreCounted, IsThere}
-use Rattle.file_deleter.proofs.NameLemmas.{all_there, none_missing, times_one}
+use Rattle.file_deleter.specs.Holdings.{Holdings, count_of, times, AreCounted}
+use Rattle.file_deleter.proofs.NameLemmas.{times_one}
 use Rattle.commit_steps.specs.Found.{ShowsCommit}
 use Rattle.commit_steps.specs.Recovery.{IsWholeCommit}
 use Rattle.commit_steps.specs.Commits.{LeavesNothing, IsSettled, ImagesShowNothing, ImagesShow}
 use Rattle.commit_steps.specs.declared.stage.CommitBook.{CommitBook}
 use Rattle.commit_steps.specs.Book.{book_names}
-use Rattle.commit_steps.proofs.Safe.{among_of}
+use Rattle.commit_steps.proofs.Recovered.{whole_there}
 
 -- a name under which nothing was leaves nothing
 pub leaves_nothing : (table : Table) → ((q : Name) → table q ≡ untouched) → (q : Name) → LeavesNothing (cells_of table q)
@@ -39,11 +36,6 @@ settled_restarted image q o may = by (image q) o may
 pub shows_nothing : (table : Table) → ((q : Name) → table q ≡ untouched) → ImagesShowNothing (cells_of table)
 shows_nothing table none = record { each = λ image is q named. leaves_nothing table none q (image q) (is q) }
 
--- each file of a whole commit is there
-pub files_found : (cells : Cells) (n : ℕ) (infos : Infos) → IsWholeCommit (reads_of cells) n infos → (q : Name) → Contains (flat_map files_of_segment infos.segs) q → IsThere cells q
-files_found cells n infos whole q named =
-    all_there cells whole.files q (none_missing cells whole.files whole.there).each (among_of whole.files q ((whole.named.named q).1 named))
-
 -- and each image after a crash shows what reads
 pub shows_restarted : (cells : Cells) (image : Image) (n : ℕ) (infos : Infos) → cells ≡ restarted image → IsWholeCommit (reads_of cells) n infos → ImagesShow cells n infos
 shows_restarted cells from n infos e whole =
@@ -61,7 +53,7 @@ shows_restarted cells from n infos e whole =
           };
           spelled = shown.spelled;
         };
-        files = λ q named. (settled q (image q) (is q), ap is_some (settled q (image q) (is q)) ∙ files_found cells n infos whole q named);
+        files = λ q named. (settled q (image q) (is q), ap is_some (settled q (image q) (is q)) ∙ whole_there cells n infos whole q named);
       };
     }
 

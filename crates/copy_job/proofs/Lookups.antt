@@ -11,7 +11,7 @@ use Rattle.std.proofs.lemmas.Map.Entries.{lookup_head, lookup_tail}
 use Rattle.std.proofs.lemmas.Map.Keys.{Less-from_sorted, sorted_tail}
 use Rattle.std.proofs.lemmas.Map.Text.{is_eq-slice_cmp}
 use Rattle.disk_model.specs.Disk.{Name, same}
-use Rattle.disk_model.proofs.CellLemmas.{same_true}
+use Rattle.disk_model.proofs.CellLemmas.{same_true, never_less}
 use Rattle.file_deleter.proofs.NameLemmas.{same_self, found_nowhere, among-keys}
 use Rattle.copy_state.specs.declared.meta.FileMetaData.{FileMetaData}
 use Rattle.copy_state.specs.States.{meta_names, meta_in}
@@ -35,9 +35,6 @@ found_none held q i up h = none_of (meta_in held q) (sym (among-keys held q) ∙
 equal_names : (a q : Name) → slice_cmp nat_cmp a q ≡ Equal → a ≡ q
 equal_names a q e = same_true a q (sym (is_eq-slice_cmp a q) ∙ ap is_eq e)
 
-never_below : (q : Name) → slice_cmp nat_cmp q q ≡ Less → ⊥
-never_below q e = true≢false (sym (same_self q) ∙ sym (is_eq-slice_cmp q q) ∙ ap is_eq e)
-
 found_there : (held : List File) (q : Name) (i : ℕ) (d : File) → IsStrictlySortedBy (slice_cmp nat_cmp) (meta_names held) → i < length held → slice_cmp nat_cmp (get_or held i d).0 q ≡ Equal
     → Some (get_or held i d).1 ≡ meta_in held q
 found_there [] q i d up lt e = absurd (omega (arith, lt))
@@ -51,7 +48,7 @@ found_there (f ∷ fs) q (suc i) d up lt e = found_there fs q i d (sorted_tail (
     apart false h = h
     apart true h =
         let low : slice_cmp nat_cmp f.0 q ≡ Less = subst (λ (n : Name). slice_cmp nat_cmp f.0 n ≡ Less) (equal_names (get_or fs i d).0 q e) first in
-        absurd (never_below q (subst (λ (n : Name). slice_cmp nat_cmp n q ≡ Less) (sym (same_true q f.0 h)) low))
+        absurd (never_less q (subst (λ (n : Name). slice_cmp nat_cmp n q ≡ Less) (sym (same_true q f.0 h)) low))
 
 pub found_some : (held : List File) (q : Name) (i : ℕ) (d : File) → IsStrictlySortedBy (slice_cmp nat_cmp) (meta_names held) → i < length (meta_names held)
     → HoldsAt (λ n. slice_cmp nat_cmp n q ≡ Equal) (meta_names held) i → Some (get_or held i d).1 ≡ meta_in held q

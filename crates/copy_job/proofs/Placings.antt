@@ -1,13 +1,13 @@
 -- Parts that are given their own names.
-use Rattle.std.proofs.Common.{◌≡◌, ◌≢◌, ◌⊎◌, ℕ, zero, suc, ◌+◌, ◌<◌, ◌≤◌, ◌||◌, Bool, true, false, List, [], ◌∷◌, ◌++◌, length, Option, Some, refl, sym, ap, subst, ◌∙◌, arith, cond, inl, inr, true≢false}
+use Rattle.std.proofs.Common.{◌≡◌, ◌≢◌, ◌⊎◌, ℕ, zero, suc, ◌+◌, ◌<◌, ◌≤◌, ◌||◌, Bool, true, false, List, [], ◌∷◌, length, Option, Some, refl, sym, ap, subst, ◌∙◌, arith, cond, inl, inr, true≢false}
 use Rattle.std.specs.Prelude.{slice_set}
 use Rattle.std.proofs.lemmas.Bool.{cases_eq}
 use Rattle.disk_model.specs.Disk.{Name, Cells, same, is_among}
 use Rattle.disk_model.proofs.CellLemmas.{same_true, same_apart}
 use Rattle.file_deleter.specs.Holdings.{Holdings, count_of, times}
 use Rattle.file_deleter.specs.Moves.{KeepsFiles}
-use Rattle.file_deleter.proofs.NameLemmas.{unlike, times-cons, times_one, among-append, not_among_times, same_self}
-use Rattle.file_deleter.proofs.Keeping.{keeps_then, keeps_refl, renamed_once}
+use Rattle.file_deleter.proofs.NameLemmas.{unlike, times-cons, times_one, not_among_times, same_self, times_apart}
+use Rattle.file_deleter.proofs.Keeping.{keeps_refl, renamed_once, keeps_within}
 use Rattle.copy_job.specs.declared.part.JobPart.{JobPart}
 use Rattle.copy_job.specs.Parts.{placed, part_at, present_names, own_names, written_names, IsPlaceable, ArePlaceable, placed_to}
 use Rattle.copy_job.specs.Placing.{PlacesOne, PlacesNone, Places}
@@ -186,34 +186,12 @@ none_placed parts place p old new before after at apart counts keeps = record {
   keeps = keeps;
 }
 
--- what is kept but for some names is kept but for more
-wider : (w v : List Name) (old new : Holdings) (before after : Cells) → KeepsFiles v old new before after → ((q : Name) → is_among w q ≡ false → is_among v q ≡ false) → KeepsFiles w old new before after
-wider w v old new before after k sub = record {
-  whole = k.whole;
-  kept = λ q out. k.kept q (sub q out);
-  reads = k.reads;
-  crash = λ q c out. k.crash q c (sub q out);
-  none = λ q out. k.none q (sub q out);
-}
-
-pub joined : (w v : List Name) (old mid new : Holdings) (a b c : Cells) → KeepsFiles w old mid a b → KeepsFiles v mid new b c → ((q : Name) → is_among w q ≡ false → is_among v q ≡ false)
-    → ((q : Name) → 0 < count_of old q → 0 < count_of new q → 0 < count_of mid q) → KeepsFiles w old new a c
-joined w v old mid new a b c x y sub between =
-    wider w (w ++ v) old new a c (keeps_then w v old mid new a b c x y between) (λ q out. among-append w v q ∙ ap (λ s. s || is_among v q) out ∙ sub q out)
-
 name_of : (n q : Name) → 1 ≤ times (n ∷ []) q → n ≡ q
 name_of n q some = by (same n q) refl
   where
     by : (b : Bool) → same n q ≡ b → n ≡ q
     by true e = same_true n q e
     by false e = let z : times (n ∷ []) q ≡ 0 = times_one n q ∙ ap (λ b. cond b 1 0) e in absurd (omega (arith, z, some))
-
-not_name : (n q : Name) → n ≢ q → times (n ∷ []) q ≡ 0
-not_name n q apart = by (same n q) refl
-  where
-    by : (b : Bool) → same n q ≡ b → times (n ∷ []) q ≡ 0
-    by true e = absurd (apart (same_true n q e))
-    by false e = times_one n q ∙ ap (λ b. cond b 1 0) e
 
 -- ---- one part more
 module _ (parts now next : List JobPart) (i : ℕ) (old mid new : Holdings) (a b c : Cells) (first : ArePlaceable old parts) (able : ArePlaceable mid now) (done : Places i parts now old mid a b) (one : PlacesOne i now next mid new b c) where
@@ -253,7 +231,7 @@ module _ (parts now next : List JobPart) (i : ℕ) (old mid new : Holdings) (a b
         let y : p.own ≢ r.now = λ e. (let z : count_of mid r.now ≡ 0 = ap (count_of mid) (sym e) ∙ has.1 in omega (arith, z, h.0)) in
         let u : p.now ≢ r.own = λ e. (let z : count_of mid r.own ≡ 1 = ap (count_of mid) (sym e) ∙ has.0 in omega (arith, z, h.1)) in
         let v : p.own ≢ r.own = λ e. (let two : 2 ≤ times (own_names now) p.own = own_twice now i k p r one.at at apart (sym e) in omega (arith, two, able.apart p.own)) in
-        inr (omega (arith, count r.now, h.0, not_name p.now r.now x, not_name p.own r.now y), omega (arith, count r.own, h.1, not_name p.now r.own u, not_name p.own r.own v)))
+        inr (omega (arith, count r.now, h.0, times_apart p.now r.now x, times_apart p.own r.now y), omega (arith, count r.own, h.1, times_apart p.now r.own u, times_apart p.own r.own v)))
   ]
 
   pub next_able : ArePlaceable new next
@@ -287,7 +265,7 @@ module _ (parts now next : List JobPart) (i : ℕ) (old mid new : Holdings) (a b
       balance = λ q. omega (arith, done.moves.balance q, count q, present q);
       keeps = elim one.moved [
         | inl still ↦ subst (λ (x : Holdings). KeepsFiles (written_names parts) old x a c) (sym still.1) (subst (λ (x : Cells). KeepsFiles (written_names parts) old mid a x) (sym still.2) done.moves.keeps)
-        | inr move ↦ joined (written_names parts) (p.now ∷ p.own ∷ []) old mid new a b c done.moves.keeps one.keeps (two_among parts i p at_first move.0) between
+        | inr move ↦ keeps_within (written_names parts) (p.now ∷ p.own ∷ []) old mid new a b c done.moves.keeps one.keeps (two_among parts i p at_first move.0) between
       ];
     };
     reads = λ k was is at_was at_is. elim (cases_eq k i) [
@@ -309,7 +287,7 @@ refused_there parts now next i old mid new a b c first able done none = record {
   parts_are = none.parts_are ∙ done.parts_are;
   moves = record {
     balance = λ q. let e : times (present_names next) q ≡ times (present_names now) q = ap (λ (xs : List JobPart). times (present_names xs) q) none.parts_are in omega (arith, e, none.same q, done.moves.balance q);
-    keeps = joined (written_names parts) (none.part.now ∷ none.part.own ∷ []) old mid new a b c done.moves.keeps none.keeps
+    keeps = keeps_within (written_names parts) (none.part.now ∷ none.part.own ∷ []) old mid new a b c done.moves.keeps none.keeps
         (two_among parts i none.part (sym (at_to parts i i (omega arith)) ∙ ap (λ (xs : List JobPart). part_at xs i) (sym done.parts_are) ∙ none.at) none.apart) (λ q had has. omega (arith, none.same q, has));
   };
   reads = λ k was is at_was at_is.

@@ -5,6 +5,7 @@ use Rattle.std.specs.List.Sorted.{IsStrictlySortedBy}
 use Rattle.std.specs.Ordering.{nat_cmp}
 use Rattle.std.specs.Cmp.Lexicographic.{slice_cmp}
 use Rattle.std.proofs.lemmas.List.Elements.{All-nil, All-cons}
+use Rattle.nrt_base.proofs.Plain.{sorted_none}
 use Rattle.codec_frame.specs.Bytes.{AreBytes}
 use Rattle.codec_frame.specs.Frame.{Wanted, index_header, with_footer}
 use Rattle.codec_frame.specs.Checking.{HasFooter}
@@ -30,13 +31,9 @@ one_sorted : (q : List ℕ) → IsStrictlySortedBy (slice_cmp nat_cmp) (q ∷ []
 unfolding IsStrictlySortedBy
 one_sorted q = (tt, tt)
 
-none_sorted : IsStrictlySortedBy (slice_cmp nat_cmp) []
-unfolding IsStrictlySortedBy
-none_sorted = tt
-
 pub one_short : (start files : List (List ℕ × FileMetaData)) (f : List ℕ × FileMetaData) → start ≡ [] → files ≡ start ++ f ∷ [] → length f.0 ≤ 46 → AreShortNames (meta_names files)
 one_short start files f s e short = subst (λ (fs : List (List ℕ × FileMetaData)). AreShortNames (meta_names fs)) (sym (e ∙ ap (λ (fs : List (List ℕ × FileMetaData)). fs ++ f ∷ []) s))
     (record { ascending = one_sorted f.0; short = All-cons (λ q. length q ≤ 46) f.0 [] short (All-nil (λ q. length q ≤ 46)) })
 
 pub none_short : (names : List (List ℕ)) → names ≡ [] → AreShortNames names
-none_short names e = subst AreShortNames (sym e) (record { ascending = none_sorted; short = All-nil (λ q. length q ≤ 46) })
+none_short names e = subst AreShortNames (sym e) (record { ascending = sorted_none (slice_cmp nat_cmp); short = All-nil (λ q. length q ≤ 46) })

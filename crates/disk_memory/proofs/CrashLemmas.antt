@@ -1,5 +1,5 @@
 -- What a crash picks is an image, and what is listed are the names that exist.
-use Rattle.std.proofs.Common.{◌≡◌, ℕ, zero, suc, ◌+◌, Bool, true, false, ◌||◌, ◌&&◌, cond, nat_lt, is_some, List, [], ◌∷◌, length, Option, Some, None, get_or, refl, sym, ap, ◌∙◌, true≢false}
+use Rattle.std.proofs.Common.{◌≡◌, ℕ, zero, suc, ◌+◌, Bool, true, false, ◌||◌, ◌&&◌, cond, nat_lt, is_some, List, [], ◌∷◌, length, Some, None, get_or, refl, sym, ap, ◌∙◌, true≢false}
 use Rattle.std.proofs.Math.Bool.{or-true}
 use Rattle.std.proofs.lemmas.Cmp.{nat_list_eq_equiv}
 use Rattle.std.specs.declared.cmp.Ordering.TheVariants.{Less}
@@ -20,6 +20,7 @@ use Rattle.disk_memory.specs.Table.{held_at, held_in, names_in, cells_of}
 use Rattle.disk_memory.specs.Crash.{next_number, place_picked, content_left, outcome_at, picked, is_picked, number_at, left_at, contents_left, content_at, image_picked, started}
 use Rattle.disk_memory.proofs.CellBridge.{left_of}
 use Rattle.disk_memory.proofs.WalkLemmas.{at, at_same, apart_above}
+use Rattle.disk_memory.proofs.TableLemmas.{held_at-cond}
 
 -- an outcome may be the content that it becomes
 may_be_left : (pick x : ℕ) (o : Outcome) → may_be o (content_left pick x o) ≡ true
@@ -104,17 +105,13 @@ front : (b : Bool) (k q : Name) (names : List Name) → is_among (cond b (k ∷ 
 front true k q names = refl
 front false k q names = refl
 
-found : (t : Bool) (here : Held) (rest : Option Held) → held_at (cond t (Some here) rest) ≡ cond t here (held_at rest)
-found true here rest = refl
-found false here rest = refl
-
 pub names_there : (entries : List (Name × Held)) → IsStrictlySortedBy (slice_cmp nat_cmp) (keys_of entries) → (q : Name) → is_among (names_in entries) q ≡ is_some (content_of (held_in entries q).state)
 unfolding IsStrictlySortedBy
 names_there [] sorted q = refl
 names_there (e ∷ entries) sorted q =
     front (has_file e.1) e.0 q (names_in entries)
     ∙ listed (has_file e.1) (same e.0 q) (at q e.0) (is_among (names_in entries) q) e.1 (held_in entries q) refl (at_here q e.0) (at_apart q e.0) (λ t. ap held_at (apart_above e.0 q entries t sorted.0)) (names_there entries sorted.1 q)
-    ∙ ap has_file (sym (found (at q e.0) e.1 (lookup (at q) entries)))
+    ∙ ap has_file (sym (held_at-cond (at q e.0) e.1 (lookup (at q) entries)))
 
 some_above : (P : Name → Type 0) (entries : List (Name × Held)) → AllByRecursion P (keys_of entries) → AllByRecursion P (names_in entries)
 some_above P [] every = every

@@ -15,14 +15,14 @@ use Rattle.disk_memory.specs.Table.{held_at, held_in}
 abbrev pub Slots : Type 0
 Slots = BTreeMap Name Held
 
-one : (t : Bool) (h : Held) (rest : Option Held) → held_at (cond t (Some h) rest) ≡ cond t h (held_at rest)
-one true h rest = refl
-one false h rest = refl
+pub held_at-cond : (t : Bool) (h : Held) (rest : Option Held) → held_at (cond t (Some h) rest) ≡ cond t h (held_at rest)
+held_at-cond true h rest = refl
+held_at-cond false h rest = refl
 
 -- an entry takes a value
 pub held_put : (old new : Slots) (name : Name) (h : Held) → UpdatesBy (slice_cmp nat_cmp) (slice_cmp nat_cmp name) old new (Some h) → held_in new.entries ≡ put (held_in old.entries) name h
 held_put old new name h updates =
-    λ i q. (ap held_at (updates.0 q) ∙ one (is_eq (slice_cmp nat_cmp name q)) h (get (slice_cmp nat_cmp) old q) ∙ ap (λ t. cond t h (held_in old.entries q)) (is_eq-slice_cmp name q)) i
+    λ i q. (ap held_at (updates.0 q) ∙ held_at-cond (is_eq (slice_cmp nat_cmp name q)) h (get (slice_cmp nat_cmp) old q) ∙ ap (λ t. cond t h (held_in old.entries q)) (is_eq-slice_cmp name q)) i
 
 -- an entry that is there is changed
 pub held_changed : (old new : Slots) (name : Name) (f : Held → Held) (found h : Held) → Some found ≡ get_by (slice_cmp nat_cmp name) old → h ≡ f found

@@ -1,6 +1,5 @@
 -- Over all names in order: each is changed, and those that are then gone are forgotten.
 use Rattle.std.proofs.Common.{◌≡◌, ℕ, Bool, true, false, cond, is_some, List, [], ◌∷◌, Option, Some, None, refl, sym, ap, subst, ◌∙◌, true≢false}
-use Rattle.std.specs.declared.cmp.Ordering.{Ordering}
 use Rattle.std.specs.declared.cmp.Ordering.TheVariants.{Less}
 use Rattle.std.specs.Ordering.{nat_cmp, is_eq}
 use Rattle.std.specs.Cmp.Lexicographic.{slice_cmp}
@@ -25,14 +24,11 @@ at q k = is_at (slice_cmp nat_cmp q) k
 pub at_same : (q k : Name) → at q k ≡ true → q ≡ k
 at_same q k e = same_true q k (sym (is_eq-slice_cmp q k) ∙ e)
 
-not_less : (o : Ordering) → o ≡ Less → is_eq o ≡ false
-not_less o e = ap is_eq e
-
 -- a name that is below each key is none of them
 pub apart_above : {X : Type 0} (k q : Name) (entries : List (Name × X)) → at q k ≡ true → AllByRecursion (λ y. slice_cmp nat_cmp k y ≡ Less) (keys_of entries) → lookup (at q) entries ≡ None
 apart_above k q [] e above = refl
 apart_above {X} k q (x ∷ entries) e above =
-    ap (λ t. cond t (Some x.1) (lookup (at q) entries)) (ap (λ (n : Name). at n x.0) (at_same q k e) ∙ not_less (slice_cmp nat_cmp k x.0) above.0) ∙ apart_above k q entries e above.1
+    ap (λ t. cond t (Some x.1) (lookup (at q) entries)) (ap (λ (n : Name). at n x.0) (at_same q k e) ∙ ap is_eq above.0) ∙ apart_above k q entries e above.1
 
 -- a change of each name in order, by a state that goes along
 module _ {S : Type 0} (after : S → Held → Held) (next : S → Held → S) where

@@ -1,9 +1,15 @@
 -- What callers of a directory cite.
-use Rattle.std.proofs.Common.{◌≡◌, ◌≢◌, ◌⊎◌, Bool, true, false, ◌||◌, Some, None, List, ℕ, refl, sym, ap, ◌∙◌, cond, true≢false, inl, inr, Result, Ok, Err}
+use Rattle.std.proofs.Common.{◌≡◌, ◌≢◌, ◌⊎◌, ◌<◌, ◌+◌, Bool, true, false, ◌||◌, Some, None, List, [], ◌∷◌, ◌++◌, length, take, get_or, ℕ, refl, sym, ap, ◌∙◌, cond, true≢false, inl, inr, Result, Ok, Err}
 use Rattle.std.proofs.Math.Bool.{or-true}
+use Rattle.std.specs.Ordering.{nat_cmp, is_eq}
+use Rattle.std.specs.Cmp.Lexicographic.{slice_cmp}
+use Rattle.std.specs.declared.cmp.Ordering.TheVariants.{Less}
 use Rattle.std.proofs.lemmas.Cmp.{nat_list_eq_equiv}
+use Rattle.std.proofs.lemmas.List.{take_more}
+use Rattle.std.proofs.lemmas.List.Folds.{list_any-append}
+use Rattle.std.proofs.lemmas.Map.Text.{is_eq-slice_cmp}
 use Rattle.std.proofs.lemmas.Slice.Eq.{bytes_eq-Decides}
-use Rattle.disk_model.specs.Disk.{Name, Content, Cell, Cells, same, left_by, may_leave, put, settled, replaced, removed, half_replaced, half_removed, after_rename, IsKept, IsImage}
+use Rattle.disk_model.specs.Disk.{Name, Content, Cell, Cells, same, is_among, left_by, may_leave, put, settled, replaced, removed, half_replaced, half_removed, after_rename, IsKept, IsImage}
 use Rattle.disk_model.specs.declared.dir.DirFault.{DirFault}
 use Rattle.disk_model.specs.declared.dir.DirFault.TheVariants.{Memory, Missing, Exists, Failed}
 
@@ -17,11 +23,22 @@ same_apart a b apart = by (same a b) refl
     by true e = absurd (apart (same_true a b e))
     by false e = e
 
+-- no name is below itself
+pub never_less : (q : Name) → slice_cmp nat_cmp q q ≡ Less → ⊥
+never_less q e = let self : same q q ≡ true = nat_list_eq_equiv.refl q in true≢false (sym self ∙ sym (is_eq-slice_cmp q q) ∙ ap is_eq e)
+
+-- one more name
+pub among_more : (names : List Name) (i : ℕ) (x q : Name) → i < length names → x ≡ get_or names i x → is_among (take (i + 1) names) q ≡ (is_among (take i names) q || (same x q || false))
+among_more names i x q lt is = ap (λ (ns : List Name). is_among ns q) (take_more names i x lt ∙ ap (λ (n : Name). take i names ++ n ∷ []) (sym is)) ∙ list_any-append (λ (y : Name). same y q) (take i names) (x ∷ [])
+
 pub put_here : {X : Type 0} (table : Name → X) (name : Name) (x : X) → put table name x name ≡ x
 put_here cells name c = ap (λ b. cond b c (cells name)) (nat_list_eq_equiv.refl name)
 
 pub put_apart : {X : Type 0} (table : Name → X) (name : Name) (x : X) (q : Name) → name ≢ q → put table name x q ≡ table q
 put_apart cells name c q apart = ap (λ b. cond b c (cells q)) (same_apart name q apart)
+
+pub same_kept : (old new : Cell) → new ≡ old → IsKept old new
+same_kept old new e = record { now = ap (λ (k : Cell). k.now) e; fewer = λ o may. ap (λ (k : Cell). may_leave k o) (sym e) ∙ may }
 
 -- what a crash may leave of synced bytes
 pub left_synced : (now : Content) (synced : Bool) (bytes : List ℕ) (c : Content) → now ≡ Some bytes → synced ≡ true → left_by now synced c ≡ true → c ≡ Some bytes

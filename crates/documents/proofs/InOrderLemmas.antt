@@ -3,7 +3,7 @@ use Rattle.std.proofs.Common.{◌≡◌, ℕ, zero, suc, ◌+◌, ◌<◌, List,
 use Rattle.std.specs.Prelude.{if◌then◌else◌}
 use Rattle.std.specs.List.{swap}
 use Rattle.std.specs.List.Sorted.{IsPermutation, IsSorted}
-use Rattle.std.specs.Ordering.{is_lt, nat_cmp, ordering_then, ordering_reverse}
+use Rattle.std.specs.Ordering.{is_lt, nat_cmp, ordering_reverse}
 use Rattle.std.specs.Cmp.{IsTotalOrder}
 use Rattle.std.specs.Cmp.Lexicographic.{texts_ties}
 use Rattle.std.specs.declared.cmp.Ordering.{Ordering}
@@ -11,6 +11,7 @@ use Rattle.std.specs.declared.cmp.Ordering.TheVariants.{Less, Equal, Greater}
 use Rattle.std.proofs.lemmas.Cmp.{ranked, nat_cmp_total, nat_list_cmp_total, on_total, back_total, then_total}
 use Rattle.std.proofs.lemmas.List.Sorted.{IsPermutation-keeps}
 use Rattle.std.proofs.lemmas.Slice.Eq.{bytes_eq-Decides}
+use Rattle.nrt_base.proofs.Plain.{both_equal}
 use Rattle.documents.specs.declared.answer.Hit.{Hit}
 use Rattle.documents.specs.Documents.{key_cmp}
 use Rattle.documents.specs.InOrder.{with_item, in_order}
@@ -123,11 +124,6 @@ same_key a b e = (bytes_eq-Decides a b).0 (texts_ties a b ∙ rw e refl)
 
 pub hit_cmp_total : IsTotalOrder hit_cmp
 hit_cmp_total = then_total (back_total (on_total (λ (h : Hit). h.rank) nat_cmp_total)) (on_total (λ (h : Hit). h.key) nat_list_cmp_total)
-
-both_equal : (a b : Ordering) → ordering_then a b ≡ Equal → (a ≡ Equal) × (b ≡ Equal)
-both_equal Less b e = absurd cc
-both_equal Equal b e = (refl, e)
-both_equal Greater b e = absurd cc
 
 pub hit_ties : (a b : Hit) → hit_cmp a b ≡ Equal → a ≡ b
 hit_ties a b e =

@@ -5,15 +5,13 @@ use Rattle.std.proofs.lemmas.Bool.Decides.{nat_tests}
 use Rattle.std.proofs.lemmas.List.{take_more}
 use Rattle.disk_model.specs.Faults.{one_if}
 use Rattle.disk_model.specs.Disk.{Name, same, is_among}
+use Rattle.disk_model.proofs.CellLemmas.{among_more}
 use Rattle.file_deleter.specs.Holdings.{times}
-use Rattle.file_deleter.proofs.NameLemmas.{times-append, times_one, among-append}
+use Rattle.file_deleter.proofs.NameLemmas.{times-append, times_one}
 
 -- one more name
 pub times_more : (names : List Name) (i : ℕ) (x q : Name) → i < length names → x ≡ get_or names i x → times (take (i + 1) names) q ≡ times (take i names) q + cond (same x q) 1 0
 times_more names i x q lt is = ap (λ (ns : List Name). times ns q) (take_more names i x lt ∙ ap (λ (n : Name). take i names ++ n ∷ []) (sym is)) ∙ times-append (take i names) (x ∷ []) q ∙ ap (λ n. times (take i names) q + n) (times_one x q)
-
-pub among_more : (names : List Name) (i : ℕ) (x q : Name) → i < length names → x ≡ get_or names i x → is_among (take (i + 1) names) q ≡ (is_among (take i names) q || (same x q || false))
-among_more names i x q lt is = ap (λ (ns : List Name). is_among ns q) (take_more names i x lt ∙ ap (λ (n : Name). take i names ++ n ∷ []) (sym is)) ∙ among-append (take i names) (x ∷ []) q
 
 -- of one name: it was counted m times and is counted n times, and stands among the fallen where it is counted no more
 one_more : (n m : ℕ) → n + 1 ≡ m → one_if (nat_eq m 0) ≡ 0

@@ -25,6 +25,16 @@ keeps_then w v old mid new a b c x y between =
       none = λ q out gone. y.none q (or_parts (is_among w q) (is_among v q) (outside q out)).1 (x.none q (or_parts (is_among w q) (is_among v q) (outside q out)).0 gone);
     }
 
+pub keeps_within : (w v : List Name) (old mid new : Holdings) (a b c : Cells) → KeepsFiles w old mid a b → KeepsFiles v mid new b c
+    → ((q : Name) → is_among w q ≡ false → is_among v q ≡ false) → ((q : Name) → 0 < count_of old q → 0 < count_of new q → 0 < count_of mid q) → KeepsFiles w old new a c
+keeps_within w v old mid new a b c x y sub between = record {
+  whole = λ h. y.whole (x.whole h);
+  kept = λ q out had has. let m : 0 < count_of mid q = between q had has in y.kept q (sub q out) m has ∙ x.kept q out had m;
+  reads = λ q had has. let m : 0 < count_of mid q = between q had has in y.reads q m has ∙ x.reads q had m;
+  crash = λ q o out may. elim (y.crash q o (sub q out) may) [ inl was ↦ x.crash q o out was | inr none ↦ inr none ];
+  none = λ q out gone. y.none q (sub q out) (x.none q out gone);
+}
+
 pub keeps_refl : (w : List Name) (holdings : Holdings) (cells : Cells) → KeepsFiles w holdings holdings cells cells
 keeps_refl w holdings cells = record { whole = λ h. h; kept = λ q out a b. refl; reads = λ q a b. refl; crash = λ q c out may. inl may; none = λ q out gone. gone }
 

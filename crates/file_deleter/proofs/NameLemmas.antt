@@ -4,7 +4,6 @@ use Rattle.std.proofs.lemmas.List.Elements.{All-cons}
 use Rattle.std.specs.List.{dedup, dedup_from, remove, HoldsAt}
 use Rattle.std.specs.Cmp.Lexicographic.{slice_cmp, nat_list_cmp_total}
 use Rattle.std.specs.Ordering.{nat_cmp, is_eq, is_lt, ordering_reverse}
-use Rattle.std.specs.declared.cmp.Ordering.{Ordering}
 use Rattle.std.specs.declared.cmp.Ordering.TheVariants.{Less, Equal, Greater}
 use Rattle.std.specs.List.{AllByRecursion}
 use Rattle.std.specs.List.Sorted.{IsSorted, IsStrictlySortedBy, IsPermutation, IsBinarySearchResult, IsPartitionPoint}
@@ -20,11 +19,14 @@ use Rattle.std.proofs.lemmas.Map.Text.{is_eq-slice_cmp}
 use Rattle.std.proofs.lemmas.Map.Views.{any-filter_same}
 use Rattle.std.proofs.Math.Dec.{ltb as nat_lt}
 use Rattle.disk_model.specs.Disk.{Name, Cells, same, is_among, reads_of, first_missing}
-use Rattle.disk_model.proofs.CellLemmas.{same_true}
+use Rattle.disk_model.proofs.CellLemmas.{same_true, same_apart, never_less}
 use Rattle.file_deleter.specs.Holdings.{times, IsThere, AreThere}
 
 pub same_self : (q : Name) → same q q ≡ true
 same_self q = nat_list_eq_equiv.refl q
+
+pub among_first : (x : Name) (xs : List Name) → is_among (x ∷ xs) x ≡ true
+among_first x xs = ap (λ b. b || is_among xs x) (same_self x)
 
 -- a name that the test finds another is another
 pub unlike : (a q : Name) → same a q ≡ false → a ≢ q
@@ -39,6 +41,9 @@ times-append xs ys q = sum_by-append (λ (y : Name). cond (same y q) 1 0) xs ys
 
 pub times_one : (name q : Name) → times (name ∷ []) q ≡ cond (same name q) 1 0
 times_one name q = times-cons name [] q ∙ grind arith
+
+pub times_apart : (n q : Name) → n ≢ q → times (n ∷ []) q ≡ 0
+times_apart n q apart = times_one n q ∙ ap (λ b. cond b 1 0) (same_apart n q apart)
 
 pub times-permutation : (xs ys : List Name) (q : Name) → IsPermutation xs ys → times ys q ≡ times xs q
 times-permutation xs ys q h = sum_by-IsPermutation (λ (y : Name). cond (same y q) 1 0) xs ys h
@@ -109,9 +114,6 @@ all_there cells (x ∷ xs) q all h = by (all_there cells xs q (λ k d lt. all (s
     by more false e h = more h
 
 -- ---- names that ascend stand once each, and names that stand once each and are sorted ascend
-not_same : (o : Ordering) → o ≡ Less → is_eq o ≡ false
-not_same o e = ap is_eq e
-
 above_apart : (x q : Name) (xs : List Name) → same x q ≡ true → AllByRecursion (λ y. slice_cmp nat_cmp x y ≡ Less) xs → times xs q ≡ 0
 above_apart x q [] e h = refl
 above_apart x q (y ∷ ys) e h = by (above_apart x q ys e h.1) (same y q) refl
@@ -119,7 +121,7 @@ above_apart x q (y ∷ ys) e h = by (above_apart x q ys e h.1) (same y q) refl
     by : times ys q ≡ 0 → (b : Bool) → same y q ≡ b → times (y ∷ ys) q ≡ 0
     by rest true f =
         let i : x ≡ y = same_true x q e ∙ sym (same_true y q f) in
-        absurd (true≢false (sym (same_self y) ∙ ap (λ (n : Name). same n y) (sym i) ∙ sym (is_eq-slice_cmp x y) ∙ not_same (slice_cmp nat_cmp x y) h.0))
+        absurd (true≢false (sym (same_self y) ∙ ap (λ (n : Name). same n y) (sym i) ∙ sym (is_eq-slice_cmp x y) ∙ ap is_eq h.0))
     by rest false f = times-cons y ys q ∙ ap (λ b. cond b 1 0 + times ys q) f ∙ ap (λ n. 0 + n) rest
 
 pub once : (xs : List Name) (q : Name) → IsStrictlySortedBy (slice_cmp nat_cmp) xs → times xs q ≤ 1
@@ -172,9 +174,6 @@ sorted_of (x ∷ y ∷ ys) up = λ k d low high. by k d high (sorted_of (y ∷ y
 -- where a name was found, and where none was
 pub found_at : (xs : List Name) (q : Name) (i : ℕ) → HoldsAt (λ y. slice_cmp nat_cmp y q ≡ Equal) xs i → q ≡ get_or xs i q
 found_at xs q i h = sym (same_true (get_or xs i q) q (sym (is_eq-slice_cmp (get_or xs i q) q) ∙ ap is_eq (h q)))
-
-never_less : (q : Name) → slice_cmp nat_cmp q q ≡ Less → ⊥
-never_less q e = true≢false (sym (same_self q) ∙ sym (is_eq-slice_cmp q q) ∙ ap is_eq e)
 
 never_greater : (q : Name) → slice_cmp nat_cmp q q ≡ Greater → ⊥
 never_greater q e = true≢false (sym (same_self q) ∙ sym (is_eq-slice_cmp q q) ∙ ap is_eq e)

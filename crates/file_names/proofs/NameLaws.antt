@@ -1,7 +1,7 @@
 -- The names of files are names, and no two things have one name.
 use Rattle.std.proofs.Common.{◌≡◌, ℕ, ◌+◌, ◌-◌, ◌*◌, ◌^◌, ◌<◌, ◌≤◌, ◌⊎◌, Bool, true, false, not, ◌&&◌, nat_lt, nat_eq, List, [], ◌∷◌, ◌++◌, length, take, drop, codes, refl, sym, ap, ◌∙◌, arith, inl, inr}
 use Rattle.std.specs.List.{list_all, starts_with, ends_with}
-use Rattle.std.proofs.lemmas.Bool.{cases_eq, lt-ltb, and_parts, and_from}
+use Rattle.std.proofs.lemmas.Bool.{cases_eq, lt-ltb, and_parts, and_from, false_from_ne_true}
 use Rattle.std.proofs.lemmas.Bool.Decides.{nat_tests}
 use Rattle.std.proofs.lemmas.Slice.Eq.{bytes_eq-Decides}
 use borrow.Author.Tests.{ltb-true}
@@ -16,7 +16,7 @@ use Rattle.file_names.proofs.Base36Lemmas.{spelling_of, list_all-append, value_g
 
 -- ---- each is a name
 
-digits_are_name_bytes : (bytes : List ℕ) → list_all is_base36_digit bytes ≡ true → list_all is_name_byte bytes ≡ true
+pub digits_are_name_bytes : (bytes : List ℕ) → list_all is_base36_digit bytes ≡ true → list_all is_name_byte bytes ≡ true
 digits_are_name_bytes [] h = refl
 digits_are_name_bytes (b ∷ bytes) h =
     let e = and_parts (is_base36_digit b) (list_all is_base36_digit bytes) h in
@@ -309,17 +309,13 @@ temp_name-dot name job = refl
 no_dot : (front : List ℕ) (n : ℕ) → lacks 46 front ≡ true → n < 2 ^ 64 → lacks 46 (front ++ base36_of n) ≡ true
 no_dot front n e h = list_all-append (λ b. not (nat_eq b 46)) front (base36_of n) e (spelling_lacks 46 n refl h)
 
-false_of : (b : Bool) → (b ≡ true → ⊥) → b ≡ false
-false_of true h = absurd (h refl)
-false_of false h = refl
-
 pub temp_name_not_commit : (name : List ℕ) (job : ℕ) → is_commit_name (temp_name_of name job) ≡ false
-temp_name_not_commit name job = false_of (is_commit_name (temp_name_of name job)) (λ h.
+temp_name_not_commit name job = false_from_ne_true (is_commit_name (temp_name_of name job)) (λ h.
     let e = commit_name_only (temp_name_of name job) h in
     lacks_not 46 (name ++ codes "_" ++ base36_of job) (codes "tmp") (ap (lacks 46) e.0 ∙ no_dot (codes "segments_") (commit_number (temp_name_of name job)) refl (omega (arith, e.2))))
 
 pub temp_name_not_pending : (name : List ℕ) (job : ℕ) → is_pending_name (temp_name_of name job) ≡ false
-temp_name_not_pending name job = false_of (is_pending_name (temp_name_of name job)) (λ h.
+temp_name_not_pending name job = false_from_ne_true (is_pending_name (temp_name_of name job)) (λ h.
     let e = pending_name_only (temp_name_of name job) h in
     lacks_not 46 (name ++ codes "_" ++ base36_of job) (codes "tmp") (ap (lacks 46) e.0 ∙ no_dot (codes "pending_segments_") (pending_number (temp_name_of name job)) refl (omega (arith, e.2))))
 

@@ -1,14 +1,11 @@
 -- Bytes of which none is refused are the bytes of a file's name, and how they lie in 64 bytes.
-use Rattle.std.proofs.Common.{◌≡◌, ℕ, ◌-◌, ◌≤◌, Bool, true, false, not, cond, nat_lt, nat_eq, List, ◌++◌, length, take, drop, get_or, replicate, None, Some, refl, sym, ap, ◌∙◌, arith}
+use Rattle.std.proofs.Common.{◌≡◌, ℕ, ◌-◌, ◌≤◌, Bool, true, false, not, cond, nat_lt, nat_eq, List, ◌++◌, length, take, drop, get_or, replicate, None, Some, sym, ap, ◌∙◌, arith}
 use Rattle.std.specs.List.{list_all, position, position_or_len}
 use Rattle.file_names.specs.Names.{is_name_byte, is_file_name}
 use Rattle.std.proofs.lemmas.Grind.{common_steps}
 use Rattle.std.proofs.lemmas.List.{drop-replicate}
 use Rattle.std.proofs.lemmas.List.Sums.{list_all-from_AllPass, fails_before_first}
-
-not_false : (b : Bool) → not b ≡ false → b ≡ true
-not_false true h = refl
-not_false false h = sym h
+use Rattle.std.proofs.lemmas.Bool.{not-false}
 
 past_end : (n m : ℕ) → cond (nat_lt n m) (Some n) None ≡ None → m ≤ n
 past_end n m h = grind arith
@@ -17,7 +14,7 @@ past_end n m h = grind arith
 pub all_pass : (p : ℕ → Bool) (bytes : List ℕ) → position (λ b. not (p b)) bytes ≡ None → list_all p bytes ≡ true
 all_pass p bytes h =
     let whole : length bytes ≤ position_or_len (λ b. not (p b)) bytes = past_end (position_or_len (λ b. not (p b)) bytes) (length bytes) h in
-    list_all-from_AllPass p bytes (λ k d lt. not_false (p (get_or bytes k d)) (fails_before_first (λ b. not (p b)) bytes k d (omega (arith, lt, whole))))
+    list_all-from_AllPass p bytes (λ k d lt. not-false (p (get_or bytes k d)) (fails_before_first (λ b. not (p b)) bytes k d (omega (arith, lt, whole))))
 
 -- bytes that are neither too few nor too many, none of them refused, are a file's name
 pub is_name : (bytes : List ℕ) → nat_eq (length bytes) 0 ≡ false → length bytes ≤ 64 → position (λ b. not (is_name_byte b)) bytes ≡ None → is_file_name bytes ≡ true

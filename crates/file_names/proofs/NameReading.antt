@@ -1,8 +1,9 @@
 -- What is read of a name is what it was made of.
-use Rattle.std.proofs.Common.{◌≡◌, ℕ, ◌+◌, ◌^◌, ◌<◌, ◌≤◌, ◌⊎◌, ◌↔◌, inl, inr, Bool, true, false, cond, Option, Some, None, Result, Ok, Err, List, ◌∷◌, ◌++◌, ◌-◌, length, take, drop, length-drop, codes, refl, sym, ap, subst, ◌∙◌, arith}
+use Rattle.std.proofs.Common.{◌≡◌, ℕ, ◌+◌, ◌^◌, ◌<◌, ◌≤◌, ◌⊎◌, ◌↔◌, inl, inr, Bool, true, false, cond, Option, Some, None, Result, Ok, Err, List, ◌∷◌, ◌++◌, take, drop, codes, refl, sym, ap, subst, ◌∙◌, arith}
 use Rattle.std.specs.Option.{option_or}
 use Rattle.std.specs.Prelude.{IfSome}
-use Rattle.std.proofs.lemmas.List.{append_assoc, append_cancel_left, append_cancel_right, take_all}
+use Rattle.std.proofs.lemmas.List.{append_assoc, append_cancel_left, append_cancel_right}
+use Rattle.std.proofs.lemmas.Option.{same_Some}
 use Rattle.file_names.specs.declared.composed.SegPart.{SegPart}
 use Rattle.file_names.specs.declared.composed.SegPart.TheVariants.{Docs, Post, Info}
 use Rattle.nrt_base.specs.declared.numbers.SegNo.{SegNo}
@@ -15,10 +16,6 @@ use Rattle.file_names.proofs.NameLaws.{commit_name_only, commit_name_is_one, lac
 
 marked_front : (front digits : List ℕ) → front ++ codes "_" ++ digits ≡ front ++ 95 ∷ digits
 marked_front front digits = append_assoc front (codes "_") digits
-
--- what stands from a place on
-pub rest_is : (k : ℕ) (xs : List ℕ) → take (length xs - k) (drop k xs) ≡ drop k xs
-rest_is k xs = take_all (length xs - k) (drop k xs) (omega (arith, length-drop k xs))
 
 -- a name that was cut at its last mark, and whose number was read, is made of both
 pub numbered_is : (name front ending : List ℕ) (at n : ℕ) → name ≡ front ++ ending → front ≡ take at front ++ 95 ∷ drop (at + 1) front
@@ -170,8 +167,5 @@ module _ (name : List ℕ) (docs post info live : Option ℕ) (d : IfSome docs (
 pub not_none : (n : ℕ) → ◌≡◌ {A = Option ℕ} None (Some n) → ⊥
 not_none n e = cc
 
-pub same_numbered : (m n : ℕ) → ◌≡◌ {A = Option ℕ} (Some m) (Some n) → m ≡ n
-same_numbered m n e = cc
-
 pub same_segment : (m : ℕ) (seg : SegNo) → ◌≡◌ {A = Option ℕ} (Some m) (Some seg.0) → ◌≡◌ {A = Option SegNo} (Some (record { 0 = m })) (Some seg)
-same_segment m seg e = ap (λ (k : ℕ). Some (record { 0 = k })) (same_numbered m seg.0 e)
+same_segment m seg e = ap (λ (k : ℕ). Some (record { 0 = k })) (same_Some m seg.0 e)

@@ -1,5 +1,5 @@
 -- Numbers in base 36: the digits are 0 to 9 and a to z, and the highest stands first.
-use Rattle.std.specs.Prelude.{ℕ, ◌≡◌, zero, suc, ◌+◌, ◌-◌, ◌*◌, ◌/◌, ◌%◌, ◌<◌, List, [], ◌∷◌, ◌++◌, length, Bool, true, false, ◌&&◌, ◌==◌, nat_lt, nat_le, slice_index, if◌then◌else◌}
+use Rattle.std.specs.Prelude.{ℕ, ◌≡◌, zero, suc, ◌+◌, ◌-◌, ◌*◌, ◌/◌, ◌%◌, ◌^◌, ◌<◌, ◌≤◌, List, [], ◌∷◌, ◌++◌, length, position, Option, Bool, true, false, not, ◌&&◌, ◌==◌, nat_lt, nat_le, slice_index, if◌then◌else◌, IsTrue}
 use Rattle.std.specs.List.{list_all}
 use Rattle.nrt_base.specs.Bytes.{is_between, is_word_byte}
 
@@ -28,12 +28,24 @@ base36_value digits = value_after 0 digits
 abbrev pub has_leading_zero : List ℕ → Bool
 has_leading_zero bytes = nat_lt 1 (length bytes) && (slice_index bytes 0 == 48)
 
+-- the place of the first byte that is no digit
+abbrev pub first_not_digit : List ℕ → Option ℕ
+first_not_digit bytes = position (λ b. not (is_base36_digit b)) bytes
+
+-- the bytes are digits alone, and a zero stands before others
+abbrev pub IsLedByZero : List ℕ → Type 0
+IsLedByZero bytes = IsTrue (list_all is_base36_digit bytes) × IsTrue (has_leading_zero bytes)
+
 -- the bytes spell the number: digits alone, at least one, without leading zeros
 pub record SpellsBase36 (bytes : List ℕ) (n : ℕ) : Type 0 where
   pub some : 0 < length bytes
   pub digits : list_all is_base36_digit bytes ≡ true
   pub leading : has_leading_zero bytes ≡ false
   pub value : base36_value bytes ≡ n
+
+-- the bytes spell a number above 2^64 - 1
+abbrev pub SpellsTooLarge : List ℕ → Type 0
+SpellsTooLarge bytes = (n : ℕ) × SpellsBase36 bytes n × (2 ^ 64 ≤ n)
 
 -- the spelling of a number, with at most `more` digits before the last
 unfoldable pub base36_within : ℕ → ℕ → List ℕ

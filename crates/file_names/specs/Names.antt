@@ -1,5 +1,5 @@
 -- The names of files: which there are, and which names are those of commits and of stored documents.
-use Rattle.std.specs.Prelude.{ℕ, ◌≡◌, ◌<◌, ◌^◌, ◌⊎◌, List, [], ◌∷◌, ◌++◌, Bool, true, false, ◌&&◌, not, ◌==◌, nat_eq, nat_lt, codes, drop, if◌then◌else◌, Option, Some, None, ◌||◌, length}
+use Rattle.std.specs.Prelude.{ℕ, ◌≡◌, ◌<◌, ◌≤◌, ◌+◌, ◌^◌, ◌⊎◌, List, [], ◌∷◌, ◌++◌, Bool, true, false, ◌&&◌, not, ◌==◌, nat_eq, nat_lt, codes, take, drop, if◌then◌else◌, Option, Some, None, ◌||◌, length, position}
 use Rattle.std.specs.List.{list_all, starts_with, ends_with}
 use Rattle.std.specs.Ordering.{nat_cmp}
 use Rattle.std.specs.Cmp.Lexicographic.{slice_cmp}
@@ -17,6 +17,14 @@ is_name_byte b = is_word_byte b || (nat_eq b 95 || nat_eq b 46)
 -- 1 to 64 bytes that a file's name may have
 abbrev pub is_file_name : List ℕ → Bool
 is_file_name bytes = is_between 1 64 (length bytes) && list_all is_name_byte bytes
+
+-- the bytes are this many, more than a file's name may have
+abbrev pub IsTooLong : ℕ → List ℕ → Type 0
+IsTooLong n bytes = (64 < length bytes) × (n ≡ length bytes)
+
+-- of bytes that are not too many, the first that no file's name may have stands at this place
+abbrev pub IsRefusedByte : ℕ → List ℕ → Type 0
+IsRefusedByte at bytes = (length bytes ≤ 64) × (position (λ b. not (is_name_byte b)) bytes ≡ Some at)
 
 -- the ending of a part's name
 abbrev pub part_ending : SegPart → List ℕ
@@ -44,15 +52,31 @@ pending_name_of n = codes "pending_segments_" ++ base36_of n
 abbrev pub temp_name_of : List ℕ → ℕ → List ℕ
 temp_name_of name job = name ++ codes "_" ++ base36_of job ++ codes ".tmp"
 
+-- the name `_N` and an ending
+abbrev pub marked_name : ℕ → List ℕ → List ℕ
+marked_name n ending = codes "_" ++ base36_of n ++ ending
+
+-- the name `FRONT_N` and an ending
+abbrev pub numbered_name : List ℕ → ℕ → List ℕ → List ℕ
+numbered_name front n ending = front ++ codes "_" ++ base36_of n ++ ending
+
 -- no `_` is among the bytes
 abbrev pub is_unmarked : List ℕ → Bool
 is_unmarked bytes = list_all (λ b. not (nat_eq b 95)) bytes
+
+-- the last `_` of the bytes stands at this place
+abbrev pub IsLastMark : List ℕ → ℕ → Type 0
+IsLastMark bytes at = (at < length bytes) × (bytes ≡ take at bytes ++ 95 ∷ drop (at + 1) bytes) × (is_unmarked (drop (at + 1) bytes) ≡ true)
+
+-- the name of a segment's live rows, in some generation
+abbrev pub IsLiveNameOf : ℕ → List ℕ → Type 0
+IsLiveNameOf seg name = (live_gen : ℕ) × (live_gen < 2 ^ 64) × (name ≡ live_name_of seg live_gen)
 
 -- the name of a file of a segment: of a part of it, or of its live rows in some generation
 abbrev pub IsFileOfSegment : ℕ → List ℕ → Type 0
 IsFileOfSegment seg name =
     (seg < 2 ^ 64)
-    × (((part : SegPart) × (name ≡ part_name_of seg part)) ⊎ ((live_gen : ℕ) × (live_gen < 2 ^ 64) × (name ≡ live_name_of seg live_gen)))
+    × (((part : SegPart) × (name ≡ part_name_of seg part)) ⊎ IsLiveNameOf seg name)
 
 -- the temporary name of a file of a segment in some job
 abbrev pub IsTemporaryOfSegment : ℕ → List ℕ → Type 0
@@ -63,6 +87,17 @@ IsTemporaryOfSegment seg name =
 abbrev pub is_commit_number : List ℕ → Bool
 is_commit_number [] = false
 is_commit_number (b ∷ digits) = not (b == 48) && list_all is_base36_digit (b ∷ digits) && nat_lt (base36_value (b ∷ digits)) (2 ^ 62)
+
+-- the number of a commit that the digits spell, and nothing where they spell none
+abbrev pub number_of_digits : List ℕ → Option ℕ
+number_of_digits digits = if is_commit_number digits then Some (base36_value digits) else None
+
+-- the number of a commit that stands behind these letters and ends the name, and nothing for any other name
+abbrev pub number_behind : List ℕ → List ℕ → Option ℕ
+number_behind letters name =
+    if starts_with nat_eq name letters && is_commit_number (drop (length letters) name)
+    then Some (base36_value (drop (length letters) name))
+    else None
 
 -- the name of an acknowledged commit: `segments_N`, N in base 36
 abbrev pub is_commit_name : List ℕ → Bool

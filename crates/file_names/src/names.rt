@@ -6,7 +6,7 @@ ghost use Rattle.std.specs.Cmp.Rules.{comparing, hashing};
 ghost use Rattle.std.specs.Hash as fed;
 ghost use Rattle.std.specs.Ordering.{nat_cmp, as_partial_cmp};
 ghost use Rattle.std.proofs.lemmas.Map.Text.{is_eq-slice_cmp};
-ghost use Rattle.file_names.specs.Names.{is_name_byte, is_file_name};
+ghost use Rattle.file_names.specs.Names.{is_name_byte, is_file_name, IsTooLong, IsRefusedByte};
 
 use nrt_base::{NoMemory, Share};
 use std::alloc::Global;
@@ -60,8 +60,8 @@ fn is_name_byte(byte: u8) -> bool
 pub fn file_name(bytes: &[u8]) -> Result<FileName, NameFault>
     ensures name { IfOk result (λ name. name ≡ bytes.now) }
     ensures empty { IsErrOf result NameFault.Empty ↔ (bytes.now ≡ []) }
-    ensures long { (n : ℕ) → IsErrOf result (NameFault.Long n) ↔ ((64 < length bytes.now) × (n ≡ length bytes.now)) }
-    ensures byte { (at : ℕ) → IsErrOf result (NameFault.Byte at) ↔ ((length bytes.now ≤ 64) × (position (λ b. not (is_name_byte b)) bytes.now ≡ Some at)) }
+    ensures long { (n : ℕ) → IsErrOf result (NameFault.Long n) ↔ IsTooLong n bytes.now }
+    ensures byte { (at : ℕ) → IsErrOf result (NameFault.Byte at) ↔ IsRefusedByte at bytes.now }
 {
     if bytes.is_empty() {
         return Err(NameFault::Empty);

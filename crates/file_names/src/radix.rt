@@ -1,6 +1,6 @@
-ghost use Rattle.std.specs.Prelude.{◌≡◌, ◌^◌, ◌≤◌, ◌<◌, ◌↔◌, ℕ, [], position, not, IsErrOf, IsTrue, SomeIff};
+ghost use Rattle.std.specs.Prelude.{◌≡◌, ◌^◌, ◌<◌, ◌↔◌, ℕ, [], position, IsErrOf, IsTrue, SomeIff};
 ghost use Rattle.std.specs.List.{list_all};
-ghost use Rattle.file_names.specs.Base36.{is_base36_digit, digit_value, base36_value, has_leading_zero, base36_of, SpellsBase36};
+ghost use Rattle.file_names.specs.Base36.{is_base36_digit, digit_value, base36_value, has_leading_zero, first_not_digit, base36_of, SpellsBase36, IsLedByZero, SpellsTooLarge};
 
 use crate::numeral::Base36;
 
@@ -29,9 +29,9 @@ pub fn base36(n: u64) -> Base36
 pub fn read_base36(bytes: &[u8]) -> Result<u64, Base36Fault>
     ensures number { (n : ℕ) → (result ≡ Ok n) ↔ (SpellsBase36 bytes.now n × (n < 2 ^ 64)) }
     ensures empty { IsErrOf result Base36Fault.Empty ↔ (bytes.now ≡ []) }
-    ensures digit { (at : ℕ) → IsErrOf result (Base36Fault.Digit at) ↔ (position (λ b. not (is_base36_digit b)) bytes.now ≡ Some at) }
-    ensures leading { IsErrOf result Base36Fault.LeadingZero ↔ (IsTrue (list_all is_base36_digit bytes.now) × IsTrue (has_leading_zero bytes.now)) }
-    ensures large { IsErrOf result Base36Fault.TooLarge ↔ ((n : ℕ) × SpellsBase36 bytes.now n × (2 ^ 64 ≤ n)) }
+    ensures digit { (at : ℕ) → IsErrOf result (Base36Fault.Digit at) ↔ (first_not_digit bytes.now ≡ Some at) }
+    ensures leading { IsErrOf result Base36Fault.LeadingZero ↔ IsLedByZero bytes.now }
+    ensures large { IsErrOf result Base36Fault.TooLarge ↔ SpellsTooLarge bytes.now }
 {
     if bytes.is_empty() {
         return Err(Base36Fault::Empty);
@@ -61,7 +61,7 @@ fn is_base36_digit(byte: u8) -> bool
 }
 
 fn first_not_digit(bytes: &[u8]) -> Option<usize>
-    ensures { result ≡ position (λ b. not (is_base36_digit b)) bytes.now }
+    ensures { result ≡ first_not_digit bytes.now }
 {
     bytes.iter().position(|b| !is_base36_digit(*b))
 }

@@ -1,9 +1,8 @@
 //! The names of files, read back: the one reader of each kind.
 
-ghost use Rattle.std.specs.Prelude.{◌≡◌, ◌<◌, ◌+◌, ◌^◌, ◌++◌, ◌∷◌, ◌&&◌, ℕ, List, length, take, drop, nat_eq, codes, true, Some, None, IfSome, IsSomeAnd, MatchOption, if◌then◌else◌};
-ghost use Rattle.std.specs.List.{starts_with};
-ghost use Rattle.file_names.specs.Base36.{base36_value, base36_of};
-ghost use Rattle.file_names.specs.Names.{is_unmarked, live_name_of, is_commit_number, number_of_commit, number_of_pending, IsFileOfSegment, IsTemporaryOfSegment};
+ghost use Rattle.std.specs.Prelude.{◌≡◌, ◌<◌, ◌^◌, ℕ, List, true, Some, None, IfSome, IsSomeAnd, MatchOption};
+ghost use Rattle.file_names.specs.Base36.{base36_of};
+ghost use Rattle.file_names.specs.Names.{marked_name, numbered_name, is_unmarked, IsLastMark, live_name_of, IsLiveNameOf, number_of_digits, number_behind, number_of_commit, number_of_pending, IsFileOfSegment, IsTemporaryOfSegment};
 
 use crate::names::FileName;
 use crate::radix::read_base36;
@@ -14,7 +13,7 @@ const COMMIT_NUMBERS: u64 = 1 << 62;
 
 // The number of a commit that the digits spell.
 fn commit_number(digits: &[u8]) -> Option<u64>
-    ensures number { result ≡ (if is_commit_number digits.now then Some (base36_value digits.now) else None) }
+    ensures number { result ≡ number_of_digits digits.now }
     ensures below { IfSome result (λ n. n < 2 ^ 62) }
 {
     match read_base36(digits) {
@@ -25,7 +24,7 @@ fn commit_number(digits: &[u8]) -> Option<u64>
 
 // The number of a commit that stands behind these letters and ends the name.
 fn number_behind(name: &[u8], letters: &[u8]) -> Option<u64>
-    ensures number { result ≡ (if starts_with nat_eq name.now letters.now && is_commit_number (drop (length letters.now) name.now) then Some (base36_value (drop (length letters.now) name.now)) else None) }
+    ensures number { result ≡ number_behind letters.now name.now }
     ensures below { IfSome result (λ n. n < 2 ^ 62) }
 {
     if name.starts_with(letters) {
@@ -64,7 +63,7 @@ fn spelled(digits: &[u8]) -> Option<u64>
 
 // The place of the last `_`.
 fn last_mark(bytes: &[u8]) -> Option<usize>
-    ensures { MatchOption result (is_unmarked bytes.now ≡ true) (λ at. (at < length bytes.now) × (bytes.now ≡ take at bytes.now ++ 95 ∷ drop (at + 1) bytes.now) × (is_unmarked (drop (at + 1) bytes.now) ≡ true)) }
+    ensures { MatchOption result (is_unmarked bytes.now ≡ true) (λ at. IsLastMark bytes.now at) }
 {
     let mut last = None;
     for (at, byte) in bytes.iter().enumerate() {
@@ -77,8 +76,9 @@ fn last_mark(bytes: &[u8]) -> Option<usize>
 
 // The front and the number of what is `front_N` and this ending.
 fn numbered<'a>(name: &'a [u8], ending: &[u8]) -> Option<(&'a [u8], u64)>
-    ensures some { IfSome result (λ p. (p.1 < 2 ^ 64) × (name.now ≡ p.0.now ++ codes "_" ++ base36_of p.1 ++ ending.now)) }
-    ensures all { (front : List ℕ) (n : ℕ) → n < 2 ^ 64 → name.now ≡ front ++ codes "_" ++ base36_of n ++ ending.now → IsSomeAnd result (λ p. (p.0.now ≡ front) × (p.1 ≡ n)) }
+    ensures some { IfSome result (λ p. (p.1 < 2 ^ 64) × (name.now ≡ numbered_name p.0.now p.1 ending.now)) }
+    ensures all { (front : List ℕ) (n : ℕ) → n < 2 ^ 64 → name.now ≡ numbered_name front n ending.now
+        → IsSomeAnd result (λ p. (p.0.now ≡ front) × (p.1 ≡ n)) }
 {
     let front = name.strip_suffix(ending)?;
     let at = last_mark(front)?;
@@ -88,8 +88,8 @@ fn numbered<'a>(name: &'a [u8], ending: &[u8]) -> Option<(&'a [u8], u64)>
 
 // The number of what is `_N` and this ending.
 fn marked(name: &[u8], ending: &[u8]) -> Option<u64>
-    ensures some { IfSome result (λ n. (n < 2 ^ 64) × (name.now ≡ codes "_" ++ base36_of n ++ ending.now)) }
-    ensures all { (n : ℕ) → n < 2 ^ 64 → name.now ≡ codes "_" ++ base36_of n ++ ending.now → result ≡ Some n }
+    ensures some { IfSome result (λ n. (n < 2 ^ 64) × (name.now ≡ marked_name n ending.now)) }
+    ensures all { (n : ℕ) → n < 2 ^ 64 → name.now ≡ marked_name n ending.now → result ≡ Some n }
 {
     match numbered(name, ending) {
         Some((front, n)) if front.is_empty() => Some(n),
@@ -99,8 +99,9 @@ fn marked(name: &[u8], ending: &[u8]) -> Option<u64>
 
 // The segment that has this live file.
 fn live_segment(name: &[u8]) -> Option<u64>
-    ensures some { IfSome result (λ n. (n < 2 ^ 64) × ((live_gen : ℕ) × (live_gen < 2 ^ 64) × (name.now ≡ live_name_of n live_gen))) }
-    ensures all { (n live_gen : ℕ) → n < 2 ^ 64 → live_gen < 2 ^ 64 → name.now ≡ live_name_of n live_gen → result ≡ Some n }
+    ensures some { IfSome result (λ n. (n < 2 ^ 64) × IsLiveNameOf n name.now) }
+    ensures all { (n live_gen : ℕ) → n < 2 ^ 64 → live_gen < 2 ^ 64
+        → name.now ≡ live_name_of n live_gen → result ≡ Some n }
 {
     let (front, _) = numbered(name, b".liv")?;
     marked(front, b"")

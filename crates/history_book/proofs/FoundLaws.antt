@@ -2,7 +2,7 @@
 use Rattle.std.proofs.Common.{◌≡◌, ◌≢◌, ◌≤◌, ◌&&◌, ◌||◌, ◌==◌, ⊎_elim, ℕ, Bool, true, false, true≢false, List, [], ◌∷◌, Some, None, Option, length, refl, ap, ◌∙◌, sym, subst, arith, if◌then◌else◌}
 use Rattle.std.specs.Prelude.{not}
 use Rattle.std.specs.List.{list_any}
-use Rattle.std.proofs.lemmas.Bool.{eqb-true, eq-eqb, or_right}
+use Rattle.std.proofs.lemmas.Bool.{eqb-true, eq-eqb}
 use Rattle.nrt_base.specs.declared.numbers.At.{At}
 use Rattle.nrt_base.specs.declared.numbers.NodeNo.{NodeNo}
 use Rattle.nrt_base.specs.declared.numbers.Version.{Version}
@@ -19,6 +19,7 @@ use Rattle.history_entries.specs.Rules.{MayRefuseLine}
 use Rattle.history_entries.specs.Legal.{KeepsRule, IsLegalPast}
 use Rattle.history_laws.specs.Steps.{is_running_by, crashes_by, commit_by}
 use Rattle.history_laws.proofs.NodeLemmas.{crashes_rise}
+use Rattle.history_laws.proofs.CommitLemmas.{more_found}
 use Rattle.history_tables.proofs.RowLemmas.{by_test, same_at_self, same_at_is}
 use Rattle.history_tables.specs.Begins.{begin, begun_by, open_line}
 use Rattle.history_tables.specs.declared.lines.Start.TheVariants.{Searching as SearchStart}
@@ -124,10 +125,6 @@ found_on : (past : Past) (x : At) (e : Event) (n : NodeNo) (at : At) → CommitF
     → (is_stuck n.0 (record { at = x; event = e } ∷ past) ≡ true → may_find n.0 (version_of n.0 (record { at = x; event = e } ∷ past)) (record { at = x; event = e } ∷ past) ≡ true)
     → CommitFound (record { at = x; event = e } ∷ past) n at
 found_on past x e n at was entry grows late = record { version = was.version; entry = entry ∙ was.entry; found = grows was.version.0 was.found; late = late }
-
-more_found : (flight : Option At) (w u : ℕ) (old : List ℕ) → list_any (λ k. k == u) old ≡ true → list_any (λ k. k == u) (more_by flight w old) ≡ true
-more_found None w u old found = found
-more_found (Some a) w u old found = or_right (w == u) _ found
 
 head_found : (w : ℕ) (old : List ℕ) → list_any (λ k. k == w) (w ∷ old) ≡ true
 head_found w old = rw (eq-eqb w w refl) refl

@@ -3,6 +3,7 @@ use Rattle.std.proofs.Common.{◌≡◌, ◌≢◌, ◌≤◌, ◌<◌, ◌+◌,
 use Rattle.std.specs.Prelude.{not, nat_lt, is_some}
 use Rattle.std.proofs.lemmas.Bool.{eqb-true, eq-eqb, or_cases, or_right}
 use Rattle.std.proofs.lemmas.Bool.Decides.{nat_tests}
+use Rattle.std.proofs.Math.Bool.{and-false}
 use Rattle.nrt_base.specs.declared.numbers.At.{At}
 use Rattle.nrt_base.specs.declared.numbers.LineNo.{LineNo}
 use Rattle.nrt_base.specs.declared.numbers.NodeNo.{NodeNo}
@@ -31,13 +32,12 @@ use Rattle.history_tables.specs.JobRows.{new_job_row, is_going, row_by, row_if_s
 use Rattle.history_book.specs.Jobs.{job_step, last_job, job_at, job_of, StartsJob, IsOlder, MayBeginJob, IsInside, AreInside, IsCancelled, LaneJobShows, JobRests}
 use Rattle.history_book.specs.Log.{Log, printed}
 use Rattle.history_book.specs.Turns.{StartsOnce, InTurn, AreInTurn}
-use Rattle.history_book.proofs.LineLaws.{and_false}
 use Rattle.history_tables.proofs.RowLemmas.{same_at_is}
 use Rattle.history_book.proofs.FreshLaws.{open_unanswered}
 use Rattle.history_book.proofs.ReignLaws.{since_start, reigns_on, start_kept, start_short, node_alive, source_alive, node_crashes_rise, source_crashes_rise, primary_crashes_rise}
 
 going_if : (b : Bool) (r : JobRow) (v : Version) → is_going (if b then record r { later = Some v } else r) ≡ true → b ≡ false
-going_if true r v going = absurd (true≢false (sym going ∙ and_false (not r.ended)))
+going_if true r v going = absurd (true≢false (sym going ∙ and-false (not r.ended)))
 going_if false r v going = refl
 
 ended_if : (b : Bool) (r : JobRow) → is_going (if b then record r { ended = true } else r) ≡ true → b ≡ false
@@ -686,4 +686,4 @@ vacant_idle size n log legal inside none = idle_if (printed log) n (last_job fal
   where
     crashed : (before : ℕ) (b c : Bool) → nat_le (primary_crashed (printed log)) before ≡ c → JobRests (printed log) n before → (b && c) ≡ false
     crashed before b true alive rests = absurd (rests.source alive none)
-    crashed before b false late rests = and_false b
+    crashed before b false late rests = and-false b

@@ -4,6 +4,7 @@ use Rattle.std.specs.Prelude.{not, ⊤}
 use Rattle.history_entries.specs.Tickets.{Ticket, is_ticket, ticket_by, last_opened}
 use Rattle.std.proofs.lemmas.Bool.{eqb-true}
 use Rattle.std.proofs.lemmas.Bool.Decides.{nat_tests}
+use Rattle.std.proofs.Math.Bool.{and-true, and-false}
 use Rattle.nrt_base.specs.declared.numbers.At.{At}
 use Rattle.history_entries.specs.declared.entry.Entry.{Entry}
 use Rattle.history_entries.specs.declared.entry.Event.{Event}
@@ -61,22 +62,14 @@ begun_started past entry start b (Opened n t v) old is was = opens (t.0 == 0) re
     opens false z got = absurd (cc)
 begun_started past entry start b e old is was = absurd (cc)
 
-pub and_true : (b : Bool) → (b && true) ≡ b
-and_true true = refl
-and_true false = refl
-
-pub and_false : (b : Bool) → (b && false) ≡ false
-and_false true = refl
-and_false false = refl
-
 started_step : (at : At) (past : Past) (e : Entry) (b : Begun) (s : Bool) → (open_line at past ≡ Some b → Started (start_entry at past) (before_start at past) b)
     → (if s then begun_by e.event (length past) (length (operations_of_generation past)) (open_line at past) else open_line at past) ≡ Some b
     → Started (if is_start e.event && s then Some e.event else start_entry at past) (if is_start e.event && s then past else before_start at past) b
 started_step at past e b true was got =
-    subst (λ (t : Bool). Started (if t then Some e.event else start_entry at past) (if t then past else before_start at past) b) (sym (and_true (is_start e.event)))
+    subst (λ (t : Bool). Started (if t then Some e.event else start_entry at past) (if t then past else before_start at past) b) (sym (and-true (is_start e.event)))
     (begun_started past (start_entry at past) (before_start at past) b e.event (open_line at past) got was)
 started_step at past e b false was got =
-    subst (λ (t : Bool). Started (if t then Some e.event else start_entry at past) (if t then past else before_start at past) b) (sym (and_false (is_start e.event)))
+    subst (λ (t : Bool). Started (if t then Some e.event else start_entry at past) (if t then past else before_start at past) b) (sym (and-false (is_start e.event)))
     (was got)
 
 -- what is remembered of a line is how it started
@@ -127,7 +120,7 @@ module _ (past : Past) (at' : At) (e : Event) (at : At) (was : Flying past at)
       same = rw other refl
 
   flies_apart : same_at at' at ≡ false → Flying (record { at = at'; event = e } ∷ past) at
-  flies_apart apart = flies_on (ap (λ (b : Bool). is_start e && b) apart ∙ and_false (is_start e)) (rw apart refl)
+  flies_apart apart = flies_on (ap (λ (b : Bool). is_start e && b) apart ∙ and-false (is_start e)) (rw apart refl)
 
 flying_step : (size : ℕ) (past : Past) (at' : At) (e : Event) (at : At) → KeepsRule size past at' e → InTurn past at' e
     → (publish_in_flight past ≡ Some at → Flying past at)

@@ -65,7 +65,7 @@ commit_runs size at n (e ∷ past) legal started same =
           low = λ v found. ⊎_elim (λ now. omega arith) (λ old. omega (arith, before.low v old, up)) (now_or v false is found);
         }
 
-more_found : (flight : Option At) (w base : ℕ) (old : List ℕ) → list_any (λ u. u == base) old ≡ true → list_any (λ u. u == base) (more_by flight w old) ≡ true
+pub more_found : (flight : Option At) (w base : ℕ) (old : List ℕ) → list_any (λ u. u == base) old ≡ true → list_any (λ u. u == base) (more_by flight w old) ≡ true
 more_found None w base old found = found
 more_found (Some a) w base old found = or_right (w == base) _ found
 

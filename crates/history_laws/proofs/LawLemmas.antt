@@ -1,6 +1,6 @@
 -- The laws of a history, from what holds of each past in it.
-use Rattle.std.proofs.Common.{◌≡◌, ◌≤◌, ◌<◌, ℕ, suc, zero, List, [], ◌∷◌, ◌++◌, Some, map, take, drop, reverse, refl, sym, ap, ◌∙◌, subst, arith}
-use Rattle.std.proofs.lemmas.List.{take-append-drop, reverse-append}
+use Rattle.std.proofs.Common.{◌≡◌, ◌≤◌, ◌<◌, ℕ, suc, zero, List, [], ◌∷◌, ◌++◌, Some, map, take, drop, reverse, sym, ap, ◌∙◌, subst, arith}
+use Rattle.std.proofs.lemmas.List.{take-append-drop, reverse-append, take-take}
 use Rattle.std.proofs.lemmas.Option.{slice_get_within, get_or_from_slice_get}
 use Rattle.std.proofs.lemmas.Map.Keys.{below_from_sorted}
 use Rattle.std.specs.List.{slice_get}
@@ -20,12 +20,6 @@ use Rattle.history_laws.proofs.CommitLemmas.{left_by_commits}
 use Rattle.history_laws.proofs.PointLemmas.{points_ascend, points_are_true, true_there, documents_stay_lem, operations_accepted, length-documents_at-le}
 use Rattle.history_laws.proofs.AnswerLemmas.{search_at_point}
 
-take_take : (i j : ℕ) (es : List Entry) → i ≤ j → take i (take j es) ≡ take i es
-take_take zero j es low = refl
-take_take (suc i) zero es low = absurd (omega arith)
-take_take (suc i) (suc j) [] low = refl
-take_take (suc i) (suc j) (e ∷ es) low = ap (λ (l : List Entry). e ∷ l) (take_take i j es (omega arith))
-
 -- the entries between two places
 abbrev between : History → ℕ → ℕ → Past
 between h i j = reverse (drop i (take j h.entries))
@@ -34,7 +28,7 @@ later : (h : History) (i j : ℕ) → i ≤ j → past_at h j ≡ between h i j 
 later h i j low =
     ap reverse (sym (take-append-drop i (take j h.entries)))
     ∙ reverse-append (take i (take j h.entries)) (drop i (take j h.entries))
-    ∙ ap (λ (es : List Entry). between h i j ++ reverse es) (take_take i j h.entries low)
+    ∙ ap (λ (es : List Entry). between h i j ++ reverse es) (take-take i j h.entries low)
 
 whole : (h : History) (i : ℕ) → reverse h.entries ≡ reverse (drop i h.entries) ++ past_at h i
 whole h i = ap reverse (sym (take-append-drop i h.entries)) ∙ reverse-append (take i h.entries) (drop i h.entries)

@@ -1,6 +1,6 @@
 mod AnswerLemmas
 pub mod PastLemmas
 pub mod NodeLemmas
-mod CommitLemmas
+pub mod CommitLemmas
 mod LawLemmas
 pub mod PointLemmas

@@ -8,6 +8,7 @@ use Rattle.std.specs.List.Sorted.{IsStrictlySortedBy}
 use Rattle.std.specs.Ordering.{nat_cmp}
 use Rattle.std.specs.declared.cmp.Ordering.TheVariants.{Less}
 use Rattle.nrt_base.specs.declared.numbers.At.{At}
+use Rattle.nrt_base.proofs.Plain.{slice_get-push}
 use Rattle.documents.specs.declared.operation.Op.{Op}
 use Rattle.history_entries.specs.declared.point.Point.{Point}
 use Rattle.history_entries.specs.declared.entry.Entry.{Entry}
@@ -121,10 +122,6 @@ got_more [] more p x got = absurd (cc)
 got_more (a ∷ all) more zero x got = got
 got_more (a ∷ all) more (suc p) x got = got_more all more p x got
 
-got_last : {A : Type 0} (all : List A) (x : A) → slice_get (all ++ x ∷ []) (length all) ≡ Some x
-got_last [] x = refl
-got_last (a ∷ all) x = got_last all x
-
 there_more : (places : List ℕ) (ops all more : List Op) → map (slice_get all) places ≡ map Some ops → map (slice_get (all ++ more)) places ≡ map Some ops
 there_more [] ops all more there = there
 there_more (p ∷ places) [] all more there = absurd (cc)
@@ -159,7 +156,7 @@ with_last ops all op stand =
       there =
           map-append (slice_get (all ++ op ∷ [])) places (length all ∷ [])
           ∙ ap (λ (l : List (Option Op)). l ++ slice_get (all ++ op ∷ []) (length all) ∷ []) (there_more places ops all (op ∷ []) stand.there)
-          ∙ ap (λ (o : Option Op). map Some ops ++ o ∷ []) (got_last all op)
+          ∙ ap (λ (o : Option Op). map Some ops ++ o ∷ []) (slice_get-push all op)
           ∙ sym (map-append Some ops (op ∷ []));
     }
 

@@ -7,11 +7,14 @@ use Rattle.nrt_base.specs.declared.numbers.At.{At}
 use Rattle.nrt_base.specs.declared.numbers.LaneNo.{LaneNo}
 use Rattle.nrt_base.specs.declared.numbers.TicketNo.{TicketNo}
 use Rattle.history_tables.specs.declared.tickets.Opening.{Opening}
+use Rattle.history_entries.specs.declared.cause.Cause.{Cause}
+use Rattle.history_entries.specs.declared.entry.Event.TheVariants.{Refused}
+use Rattle.history_entries.specs.Nodes.{Past}
 use Rattle.history_entries.specs.Lines.{same_at}
 use Rattle.history_tables.specs.declared.lines.Begun.{Begun}
 use Rattle.history_tables.specs.declared.lines.LineRow.{LineRow}
 use Rattle.history_tables.specs.declared.tickets.TicketRow.{TicketRow}
-use Rattle.history_tables.specs.Begins.{begun_under}
+use Rattle.history_tables.specs.Begins.{begun_under, open_line}
 use Rattle.history_tables.specs.Openings.{opened_of, ticket_of}
 
 -- a fact by which way a test went
@@ -27,6 +30,10 @@ same_at_is a b e =
     let lanes : a.lane.0 ≡ b.lane.0 = grind (arith, nat_tests) in
     let lines : a.line.0 ≡ b.line.0 = grind (arith, nat_tests) in
     λ i. record { lane = record { 0 = lanes i }; line = record { 0 = lines i } }
+
+-- a refused line is closed
+pub refused_closed : (at : At) (past : Past) (cause : Cause) → open_line at (record { at = at; event = Refused cause } ∷ past) ≡ None
+refused_closed at past cause = rw (same_at_self at) refl
 
 row_without : (rows : List LineRow) (at b : At) → begun_under (filter (λ r. not (same_at r.at at)) rows) b ≡ (if same_at at b then None else begun_under rows b)
 row_without [] at b = grind (arith, nat_tests)

@@ -1,10 +1,11 @@
 -- Live rows that are gathered one after the other.
-use Rattle.std.proofs.Common.{◌≡◌, ℕ, ◌+◌, ◌<◌, ◌≤◌, Bool, true, false, cond, List, [], ◌∷◌, ◌++◌, length, get_or, drop, map, refl, sym, ap, ◌∙◌, append_assoc, arith}
+use Rattle.std.proofs.Common.{◌≡◌, ℕ, ◌+◌, ◌<◌, ◌≤◌, Bool, true, false, cond, List, [], ◌∷◌, ◌++◌, length, get_or, drop, map, refl, sym, ap, ◌∙◌, arith}
 use Rattle.std.specs.List.{filter, zip}
 use Rattle.std.proofs.lemmas.List.{append-nil, drop_more}
 use Rattle.std.proofs.Math.ListN.{drop_of_length-le}
 use Rattle.nrt_base.specs.declared.doc.Doc.{Doc}
 use Rattle.nrt_base.specs.declared.numbers.SegNo.{SegNo}
+use Rattle.nrt_base.proofs.Plain.{moved_over}
 use Rattle.segment_infos.specs.declared.infos.SegRecord.{SegRecord}
 use Rattle.seg_reader.specs.Shown.{Shown}
 use Rattle.index_check.specs.declared.rows.LiveRow.{LiveRow}
@@ -24,10 +25,6 @@ step seg docs live at d lt long =
     by_row : (b : Bool) (x : Doc) (ds : List Doc) (ls : List Bool) → rows_from seg (x ∷ ds) (b ∷ ls) ≡ cond b (live_row seg x ∷ []) [] ++ rows_from seg ds ls
     by_row true x ds ls = refl
     by_row false x ds ls = refl
-
--- what was put at the end goes from the rest to the front
-moved_over : {X : Type 0} (old new one rest rest_now whole : List X) → rest ≡ one ++ rest_now → old ++ rest ≡ whole → new ≡ old ++ one → new ++ rest_now ≡ whole
-moved_over {X} old new one rest rest_now whole split so_far put = ap (λ (xs : List X). xs ++ rest_now) put ∙ append_assoc old one rest_now ∙ sym (ap (λ (xs : List X). old ++ xs) split) ∙ so_far
 
 module _ (seg : SegNo) (docs : List Doc) (live : List Bool) (at : ℕ) (old whole : List LiveRow) (lt : at < length docs) (long : length live ≡ length docs) (so_far : old ++ rows_from seg (drop at docs) (drop at live) ≡ whole) where
   pub row_put : (d : Doc) (new : List LiveRow) → true ≡ get_or live at false → d ≡ get_or docs at d → new ≡ old ++ live_row seg d ∷ [] → new ++ rows_from seg (drop (at + 1) docs) (drop (at + 1) live) ≡ whole

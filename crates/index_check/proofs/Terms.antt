@@ -1,16 +1,12 @@
 -- The terms of rows, made one after the other.
-use Rattle.std.proofs.Common.{◌≡◌, ℕ, zero, suc, ◌+◌, ◌<◌, ◌≤◌, List, [], ◌∷◌, ◌++◌, length, get_or, take, map, Some, refl, sym, ap, subst, ◌∙◌, arith}
+use Rattle.std.proofs.Common.{◌≡◌, ℕ, ◌+◌, ◌<◌, ◌≤◌, List, [], ◌∷◌, ◌++◌, length, get_or, take, map, refl, sym, ap, subst, ◌∙◌, arith}
 use Rattle.std.specs.Prelude.{IfSome}
 use Rattle.std.specs.List.{slice_get}
 use Rattle.std.proofs.lemmas.List.{take_more, take_all}
+use Rattle.std.proofs.lemmas.Option.{slice_get-get_or}
 use Rattle.nrt_base.specs.declared.doc.Doc.{Doc}
 use Rattle.postings_plain.specs.declared.row.TermRow.{TermRow}
 use Rattle.seg_reader.specs.Sound.{term_row}
-
-got : (docs : List Doc) (i : ℕ) (d : Doc) → i < length docs → slice_get docs i ≡ Some (get_or docs i d)
-got [] i d lt = absurd (omega (arith, lt))
-got (x ∷ docs) zero d lt = refl
-got (x ∷ docs) (suc i) d lt = got docs i d (omega (arith, lt))
 
 map-push : (docs : List Doc) (d : Doc) → map term_row (docs ++ d ∷ []) ≡ map term_row docs ++ term_row d ∷ []
 map-push [] d = refl
@@ -20,7 +16,7 @@ pub terms_more : (docs : List Doc) (i : ℕ) (old new : List TermRow) (t : TermR
     → new ≡ map term_row (take (i + 1) docs)
 terms_more docs i old new t lt is so_far put =
     let d : Doc = get_or docs i no_doc in
-    let own : t ≡ term_row d = subst (λ o. IfSome o (λ doc. t ≡ term_row doc)) (got docs i no_doc lt) is in
+    let own : t ≡ term_row d = subst (λ o. IfSome o (λ doc. t ≡ term_row doc)) (slice_get-get_or docs i no_doc lt) is in
     put ∙ ap (λ (ts : List TermRow). ts ++ t ∷ []) so_far ∙ ap (λ (x : TermRow). map term_row (take i docs) ++ x ∷ []) own ∙ sym (map-push (take i docs) d) ∙ ap (map term_row) (sym (take_more docs i no_doc lt))
   where
     no_doc : Doc

@@ -1,5 +1,5 @@
 -- Live rows, and the first of them that has the key of one before it.
-use Rattle.std.proofs.Common.{◌≡◌, ℕ, zero, suc, ◌+◌, ◌<◌, ◌≤◌, Bool, true, false, cond, List, [], ◌∷◌, ◌++◌, length, get_or, take, drop, refl, sym, ap, subst, ◌∙◌, arith, inl, inr, true≢false}
+use Rattle.std.proofs.Common.{◌≡◌, ℕ, suc, ◌+◌, ◌<◌, ◌≤◌, Bool, true, false, cond, List, [], ◌∷◌, ◌++◌, length, get_or, take, drop, refl, sym, ap, subst, ◌∙◌, arith, inl, inr, true≢false}
 use Rattle.std.specs.Prelude.{◌≢◌, ◌||◌, not}
 use Rattle.std.specs.Str.{bytes_eq}
 use Rattle.std.specs.List.{AllPairs, Contains, list_any, IsDistinct}
@@ -9,20 +9,15 @@ use Rattle.std.specs.Cmp.Lexicographic.{nat_list_eq_equiv}
 use Rattle.std.proofs.lemmas.Map.Text.{is_eq-slice_cmp}
 use Rattle.std.proofs.lemmas.Map.Keys.{IsDistinct-push, apart_from_distinct}
 use Rattle.std.proofs.lemmas.Slice.Eq.{bytes_eq-Decides}
-use Rattle.std.proofs.lemmas.List.{drop_more, take_more, take_all, take-append-drop}
+use Rattle.std.proofs.lemmas.List.{drop_more, take_more, take_all, take-append-drop, get_or_append_left}
 use Rattle.std.proofs.lemmas.List.Folds.{list_any-append}
+use Rattle.std.proofs.lemmas.Bool.{cases_order}
 use Rattle.documents.specs.Documents.{key_cmp}
 use Rattle.nrt_base.proofs.Plain.{cons_parts}
 use Rattle.index_check.specs.declared.rows.LiveRow.{LiveRow}
 use Rattle.index_check.specs.Rows.{keys_of, HaveOwnKeys, IsFirstTwin}
-use Rattle.index_check.proofs.Places.{order}
 
 -- ---- lists
-get_or-front : {X : Type 0} (xs ys : List X) (i : ℕ) (d : X) → i < length xs → get_or (xs ++ ys) i d ≡ get_or xs i d
-get_or-front [] ys i d lt = absurd (omega (arith, lt))
-get_or-front (x ∷ xs) ys zero d lt = refl
-get_or-front (x ∷ xs) ys (suc i) d lt = get_or-front xs ys i d (omega (arith, lt))
-
 get_or-middle : {X : Type 0} (xs : List X) (y : X) (ys : List X) (d : X) → get_or (xs ++ y ∷ ys) (length xs) d ≡ y
 get_or-middle [] y ys d = refl
 get_or-middle (x ∷ xs) y ys d = get_or-middle xs y ys d
@@ -59,7 +54,7 @@ twin_not_own rows twin h own =
     let k = h.again.0 in
     let whole : keys_of rows ≡ ks ++ key ∷ rest = ap keys_of h.parts ∙ keys-append h.before (twin ∷ h.after) in
     let apart : AllPairs (λ (a b : List ℕ). a ≢ b) (ks ++ key ∷ rest) = subst (AllPairs (λ (a b : List ℕ). a ≢ b)) whole own in
-    apart k (length ks) key h.again.1 (length-more ks key rest) (get_or-front ks (key ∷ rest) k key h.again.1 ∙ h.again.2 ∙ sym (get_or-middle ks key rest key))
+    apart k (length ks) key h.again.1 (length-more ks key rest) (get_or_append_left ks (key ∷ rest) key k h.again.1 ∙ h.again.2 ∙ sym (get_or-middle ks key rest key))
 
 not_before : (rows : List LiveRow) (a b : LiveRow) (x : IsFirstTwin rows a) (y : IsFirstTwin rows b) → length x.before < length y.before → ⊥
 not_before rows a b x y lt =
@@ -68,13 +63,9 @@ not_before rows a b x y lt =
 
 pub one_twin : (rows : List LiveRow) (a b : LiveRow) → IsFirstTwin rows a → IsFirstTwin rows b → a ≡ b
 one_twin rows a b x y =
-    elim (order (length x.before) (length y.before)) [
-      | inl less ↦ absurd (not_before rows a b x y less)
-      | inr rest ↦
-          elim rest [
-            | inl same ↦ same_place x.before y.before a b x.after y.after (sym x.parts ∙ y.parts) same
-            | inr more ↦ absurd (not_before rows b a y x more)
-          ]
+    elim (cases_order (length x.before) (length y.before)) [
+      | inl same ↦ same_place x.before y.before a b x.after y.after (sym x.parts ∙ y.parts) same
+      | inr rest ↦ elim rest [ inl less ↦ absurd (not_before rows a b x y less) | inr more ↦ absurd (not_before rows b a y x more) ]
     ]
 
 -- ---- the set of the keys that were seen

@@ -1,5 +1,5 @@
 -- The segments of records, read one after the other.
-use Rattle.std.proofs.Common.{◌≡◌, ℕ, zero, suc, ◌+◌, ◌<◌, ◌≤◌, List, [], ◌∷◌, ◌++◌, length, get_or, drop, Result, Ok, Err, refl, sym, ap, subst, ◌∙◌, inl, inr, append_assoc, arith}
+use Rattle.std.proofs.Common.{◌≡◌, ℕ, ◌+◌, ◌<◌, ◌≤◌, List, [], ◌∷◌, ◌++◌, length, get_or, drop, Result, Ok, Err, refl, sym, ap, subst, ◌∙◌, inl, inr, append_assoc}
 use Rattle.std.specs.List.{AllZip}
 use Rattle.std.proofs.lemmas.List.{append-nil, drop_more}
 use Rattle.std.proofs.Math.ListN.{drop_of_length-le}
@@ -10,12 +10,6 @@ use Rattle.index_check.specs.declared.fault.CheckFault.{CheckFault}
 use Rattle.index_check.specs.Answers.{IsExact}
 use Rattle.index_check.specs.Segments.{IsSegmentWrong, IsRightSegment, IsFirstWrong}
 use Rattle.index_check.proofs.Exact.{exact_value, exact_cut, exact_fault, only_right, only_there}
-
--- an item of a list that is long enough, whatever stands for one that is missing
-pub same_item : {X : Type 0} (xs : List X) (i : ℕ) (d e : X) → i < length xs → get_or xs i d ≡ get_or xs i e
-same_item [] i d e lt = absurd (omega (arith, lt))
-same_item (x ∷ xs) zero d e lt = refl
-same_item (x ∷ xs) (suc i) d e lt = same_item xs i d e (omega (arith, lt))
 
 -- stands for a record that is missing
 abbrev pub no_record : SegRecord

@@ -2,8 +2,10 @@
 use Rattle.std.proofs.Common.{◌≡◌, ◌≢◌, ◌<◌, ◌≤◌, ◌⊎◌, ◌&&◌, ◌||◌, ◌==◌, ℕ, Bool, true, false, List, [], ◌∷◌, Some, None, Option, length, not, refl, ap, ◌∙◌, sym, subst, if◌then◌else◌, true≢false}
 use Rattle.std.specs.Prelude.{Result, Ok, Err, IfOk, OnOk, IsTrue, ◌↔◌, IsSomeAnd}
 use Rattle.std.specs.List.{All, AllPairs, Contains}
-use Rattle.std.proofs.lemmas.Bool.{eqb-true, eq-eqb}
-use Rattle.history_tables.proofs.RowLemmas.{same_at_self}
+use Rattle.std.proofs.lemmas.Bool.{eqb-true, eq-eqb, not-false}
+use Rattle.std.proofs.lemmas.Option.{same_Some}
+use Rattle.std.proofs.Math.Bool.{and-false}
+use Rattle.history_tables.proofs.RowLemmas.{same_at_self, refused_closed}
 use Rattle.file_deleter.proofs.NameLemmas.{same_self}
 use Rattle.disk_model.specs.Disk.{Content, same}
 use Rattle.nrt_base.specs.declared.numbers.At.{At}
@@ -28,7 +30,6 @@ use Rattle.history_tables.specs.JobRows.{row_if_some}
 use Rattle.history_book.specs.Log.{Log, printed, shown}
 use Rattle.history_book.specs.Jobs.{job_of}
 use Rattle.script_serving.specs.declared.script.LineCommand.TheVariants.{Settle}
-use Rattle.history_book.proofs.LineLaws.{and_false}
 use Rattle.cluster_places.specs.declared.tasks.CopyTask.{CopyTask}
 use Rattle.cluster_places.specs.declared.tasks.FileTask.{FileTask}
 use Rattle.cluster_places.specs.declared.tasks.SettleTask.{SettleTask}
@@ -69,13 +70,6 @@ is_copying at task log found tells is c =
 
 -- ---- where the job stands
 
-same_log : (a b : Log) → ◌≡◌ {A = Option Log} (Some a) (Some b) → a ≡ b
-same_log a b is = cc
-
-not_false : (b : Bool) → not b ≡ false → b ≡ true
-not_false true is = refl
-not_false false is = absurd (true≢false is)
-
 -- what is said of a job that was not stopped
 pub record IsUnstopped (past : Past) (row : JobRow) : Type 0 where
   pub alone : row.later ≡ None
@@ -85,12 +79,12 @@ pub record IsUnstopped (past : Past) (row : JobRow) : Type 0 where
 -- a line that copies by the job is lost where its source is
 source_lost : (past start : Past) (n : ℕ) (begun : Event) → IsJobStart n (Some begun) → is_lost past start begun ≡ false → primary_crashes past ≡ primary_crashes start
 source_lost past start n (Copying m v) job unlost =
-    eqb-true (primary_crashes past) (primary_crashes start) (not_false (primary_crashes past == primary_crashes start) (right_false (not (crashes m.0 past == crashes m.0 start)) (not (primary_crashes past == primary_crashes start)) unlost))
+    eqb-true (primary_crashes past) (primary_crashes start) (not-false (primary_crashes past == primary_crashes start) (right_false (not (crashes m.0 past == crashes m.0 start)) (not (primary_crashes past == primary_crashes start)) unlost))
   where
     right_false : (a b : Bool) → (a || b) ≡ false → b ≡ false
     right_false true b is = absurd (true≢false is)
     right_false false b is = is
-source_lost past start n (Settling v) job unlost = eqb-true (primary_crashes past) (primary_crashes start) (not_false (primary_crashes past == primary_crashes start) unlost)
+source_lost past start n (Settling v) job unlost = eqb-true (primary_crashes past) (primary_crashes start) (not-false (primary_crashes past == primary_crashes start) unlost)
 source_lost past start n begun job unlost = absurd job
 
 pub unstopped : (begun : Event) (row : JobRow) (log : Log) → IsJobStart row.job.node.0 (Some begun) → stopped_log begun row log ≡ None → IsUnstopped (printed log) row
@@ -112,7 +106,7 @@ unstopped begun row log job none = by (is_lost past start begun) refl (is_node_l
     by false is false is' None is'' =
         record {
           alone = is'';
-          node = eqb-true (crashes row.job.node.0 past) (crashes row.job.node.0 start) (not_false (crashes row.job.node.0 past == crashes row.job.node.0 start) is');
+          node = eqb-true (crashes row.job.node.0 past) (crashes row.job.node.0 start) (not-false (crashes row.job.node.0 past == crashes row.job.node.0 start) is');
           source = source_lost past start row.job.node.0 begun job is;
         }
 
@@ -127,9 +121,6 @@ runs_of at task log c u =
     }
 
 -- ---- a job that was stopped
-
-refused_closed : (at : At) (past : Past) (cause : Cause) → open_line at (record { at = at; event = Refused cause } ∷ past) ≡ None
-refused_closed at past cause = rw (same_at_self at) refl
 
 refused_replied : (at : At) (past : Past) (cause : Cause) → is_answered at (record { at = at; event = Refused cause } ∷ past) ≡ true
 refused_replied at past cause = rw (same_at_self at) refl
@@ -192,12 +183,12 @@ module _ (at : At) (task : CopyTask) (old new : Run) (row : JobRow) (mine : row.
       by : (st : Standing) → standing_of s.begun row (printed old.log) ≡ st → log_after row.job.at st old.log ≡ Some log → LeavesJob at task (IsCopyReplied at) old new
       by Runs is' after = absurd (cc)
       by Passed is' after =
-          let same : IsNow old new old.log = subst (IsNow old new) (sym (same_log old.log log after)) now in
+          let same : IsNow old new old.log = subst (IsNow old new) (sym (same_Some old.log log after)) now in
           leaves_same at task (IsCopyReplied at) old new same
           (λ copy. absurd (passed_settle s.begun row (printed old.log) there is' (subst IsCopyStart s.start copy)))
       by (Ends cause) is' after =
           let refused : new.log ≡ shown at (Refused cause) ∷ old.log =
-          now.log ∙ (sym (same_log (shown row.job.at (Refused cause) ∷ old.log) log after) ∙ ap (λ (a : At). shown a (Refused cause) ∷ old.log) mine) in
+          now.log ∙ (sym (same_Some (shown row.job.at (Refused cause) ∷ old.log) log after) ∙ ap (λ (a : At). shown a (Refused cause) ∷ old.log) mine) in
           record {
             start = ap (λ (l : Log). start_entry at (printed l)) refused;
             settles = λ left settling from line. absurd (line (ap (λ (l : Log). open_line at (printed l)) refused ∙ refused_closed at (printed old.log) cause));
@@ -329,8 +320,8 @@ closed_step : (e : Entry) (past : Past) (at : At) (s : Bool) → (start_entry at
     → ((is_reply e.event && s) || is_answered at past) ≡ true
 closed_step e past at true was start closed = closed_mine e.event past at was start closed
 closed_step e past at false was start closed =
-    ap (λ (b : Bool). b || is_answered at past) (and_false (is_reply e.event))
-    ∙ was (subst (λ (b : Bool). (if b then Some e.event else start_entry at past) ≢ None) (and_false (is_start e.event)) start) closed
+    ap (λ (b : Bool). b || is_answered at past) (and-false (is_reply e.event))
+    ∙ was (subst (λ (b : Bool). (if b then Some e.event else start_entry at past) ≢ None) (and-false (is_start e.event)) start) closed
 
 -- a line that has started and is not open has its reply
 pub closed_replied : (at : At) (past : Past) → start_entry at past ≢ None → open_line at past ≡ None → is_answered at past ≡ true

@@ -1,8 +1,7 @@
 -- What others append leaves a job of a line, and what a settle has left, where they are.
-use Rattle.std.proofs.Common.{◌≡◌, ◌≢◌, ◌≤◌, ◌<◌, ◌&&◌, ◌==◌, ℕ, Bool, true, false, List, [], ◌∷◌, ◌++◌, Some, None, Option, length, refl, ap, ◌∙◌, sym, subst, inl, inr, arith, if◌then◌else◌}
-use Rattle.std.specs.List.{All}
+use Rattle.std.proofs.Common.{◌≡◌, ◌≢◌, ◌≤◌, ◌<◌, ◌&&◌, ◌==◌, ℕ, Bool, true, false, [], ◌∷◌, ◌++◌, Some, None, Option, length, refl, ap, ◌∙◌, sym, subst, inl, inr, arith, if◌then◌else◌}
 use Rattle.std.proofs.lemmas.Bool.Decides.{nat_tests}
-use Rattle.std.proofs.lemmas.List.Elements.{All-get_or, All-from_get_or}
+use Rattle.std.proofs.lemmas.List.Elements.{All-weaker}
 use Rattle.nrt_base.specs.declared.numbers.At.{At}
 use Rattle.nrt_base.specs.declared.numbers.NodeNo.{NodeNo}
 use Rattle.disk_model.specs.Disk.{Name, Content, same}
@@ -29,6 +28,7 @@ use Rattle.history_book.specs.Jobs.{job_step, job_of}
 use Rattle.history_book.proofs.ReignLaws.{since_start, node_crashes_rise}
 use Rattle.lane_walks.specs.Walks.{NoneOf, GrowsByOthers, LineStays}
 use Rattle.lane_walks.proofs.WalkLemmas.{other_lane}
+use Rattle.lane_walks.proofs.StayLemmas.{other_line, more_printed}
 use Rattle.cluster_places.specs.declared.tasks.CopyTask.{CopyTask}
 use Rattle.cluster_places.specs.declared.tasks.SettleTask.{SettleTask}
 use Rattle.cluster_state.specs.FilesOut.{file_out, handed_file, is_job}
@@ -36,9 +36,6 @@ use Rattle.cluster_state.specs.Settles.{IsLeft, IsSettling}
 use Rattle.lane_copying.specs.Jobs.{IsJobStart, IsCopyingBy, IsStillSettling}
 
 -- ---- the line
-
-other_line : (a b : At) → lane_name a.lane.0 ≢ lane_name b.lane.0 → same_at a b ≡ false
-other_line a b e = ap (λ (t : Bool). t && (a.line.0 == b.line.0)) (other_lane a.lane.0 b.lane.0 e)
 
 still_by : (b : Bool) (a : At) (e : Event) (past : Past) (n m : ℕ) (o : Option Begun) → FollowsMerging a e past → (if b then begun_by e n m o else o) ≡ o
 still_by true a (Met k kind) past n m o h = refl
@@ -157,12 +154,6 @@ module _ (at : At) (old new : Log) (grows : GrowsByOthers false at.lane.0 old ne
 
 -- ---- what a settle has left
 
-more_printed : (more old : Log) → printed (more ++ old) ≡ printed more ++ printed old
-more_printed [] old = refl
-more_printed (Shown e ∷ more) old = ap (λ (p : Past). e ∷ p) (more_printed more old)
-more_printed (TaskFault e ∷ more) old = ap (λ (p : Past). e ∷ p) (more_printed more old)
-more_printed (Kept i ∷ more) old = more_printed more old
-
 crashes_more : (n : ℕ) (more past : Past) → crashes n past ≤ crashes n (more ++ past)
 crashes_more n [] past = omega arith
 crashes_more n (e ∷ more) past = omega (arith, crashes_more n more past, crashes_rise n (more ++ past) e)
@@ -185,9 +176,6 @@ alive size at n more old legal before replica survives =
     let few : crashes n (since.newer ++ start) ≤ crashes n start = subst (λ (p : Past). crashes n p ≤ crashes n start) since.split (omega arith) in
     let ran : is_running n old ≡ true = subst (λ (p : Past). is_running n p ≡ true) (sym since.split) (runs_through size n since.newer start there replica.running few).running in
     record { survives = record { node = same }; version = (runs_through size n more old legal ran (omega arith)).version }
-
-all_map : (P Q : NodeNo → Type 0) (xs : List NodeNo) → ((n : NodeNo) → P n → Q n) → All P xs → All Q xs
-all_map P Q xs f p = All-from_get_or Q xs (record { 0 = 0 }) (λ i below. f _ (All-get_or P xs i (record { 0 = 0 }) below p))
 
 module _ (size : ℕ) (at : At) (old new : Log) (legal : IsLegalPast size (printed new)) (grows : GrowsByOthers false at.lane.0 old new) (stays : LineStays at old new) where
   alive_here : (n : ℕ) → IsReplica (before_start at (printed old)) n → NodeSurvives (printed new) at n → IsAlive at n (printed old) (printed new)
@@ -215,7 +203,7 @@ module _ (size : ℕ) (at : At) (old new : Log) (legal : IsLegalPast size (print
   settling_stays task s = record {
     started = stays.start ∙ s.started;
     is_open = λ none. s.is_open (sym (open_stays at old new grows stays) ∙ none);
-    left = all_map (IsLeft size (printed old) at task.version.0) (IsLeft size (printed new) at task.version.0) task.left.items (left_still task.version.0) s.left;
+    left = All-weaker (IsLeft size (printed old) at task.version.0) (IsLeft size (printed new) at task.version.0) (left_still task.version.0) task.left.items s.left;
     ascending = s.ascending;
     reached = λ n node replica survives.
         let a : IsAlive at n.0 (printed old) (printed new) = alive_here n.0 (was_replica n.0 replica) survives in

@@ -1,12 +1,12 @@
 -- Who did tasks for no line has heard of what others did, and did nothing itself.
-use Rattle.std.proofs.Common.{◌≡◌, ◌==◌, ℕ, ◌<◌, ◌≤◌, Bool, false, List, [], ◌∷◌, ◌++◌, None, refl, ap, ◌∙◌, sym, subst, inl, inr, arith, reverse, cond, if◌then◌else◌}
+use Rattle.std.proofs.Common.{◌≡◌, ◌==◌, ℕ, ◌<◌, ◌≤◌, Bool, false, List, [], ◌∷◌, ◌++◌, None, refl, ap, ◌∙◌, sym, subst, inl, inr, arith, reverse, cond}
 use Rattle.std.specs.Prelude.{Result, Ok, Err, OnOk}
 use Rattle.std.proofs.lemmas.List.{append-nil, reverse-append, reverse-reverse}
 use Rattle.std.proofs.lemmas.List.Elements.{filter-append}
 use Rattle.std.proofs.lemmas.Bool.Decides.{eqb_tells}
 use Rattle.nrt_base.specs.declared.numbers.LaneNo.{LaneNo}
 use Rattle.history_book.specs.declared.inner.Mark.{Mark}
-use Rattle.history_book.specs.Log.{Log, name_of, lane_name}
+use Rattle.history_book.specs.Log.{Log, name_of}
 use Rattle.hist_lock.specs.declared.grows.Grows.{Ghosts}
 use Rattle.hist_lock.specs.declared.lock.HistLock.{HistLock}
 use Rattle.hist_lock.specs.declared.lock.LaneSeat.{LaneSeat}
@@ -14,25 +14,19 @@ use Rattle.hist_lock.specs.History.{entries_by}
 use Rattle.hist_lock.specs.Seats.{history_seen, number_of, own_entries}
 use Rattle.lane_walks.specs.Walks.{NoneOf, GrowsByOthers}
 use Rattle.lane_seats.specs.Seats.{log_seen, IsLaneSeat}
+use Rattle.lane_seats.proofs.SeatLemmas.{lane_named}
 use Rattle.lane_parts.specs.declared.lane.Lane.{Lane}
 use Rattle.lane_parts.specs.Parts.{IsIdleLane, HasHeard}
 use Rattle.cluster_state.specs.Run.{Run}
 use Rattle.lane_merging.specs.Taken.{WorksOn}
 use Rattle.lane_merging.proofs.Silence.{silent_others}
 
-named : (lane : ℕ) → 1 ≤ lane → lane_name lane ≡ lane
-named lane first =
-    elim (eqb_tells lane 0) [
-      | inl none ↦ absurd (let is = none.1 in omega arith)
-      | inr some ↦ ap (λ (b : Bool). if b then 256 else lane) some.0
-    ]
-
 -- entries that others append are none of the lane's own
 own_more : (lane : ℕ) → 1 ≤ lane → (more log : Log) → NoneOf lane more → entries_by name_of lane (reverse (more ++ log)) ≡ entries_by name_of lane (reverse log)
 own_more lane first [] log apart = refl
 own_more lane first (m ∷ more) log apart =
     let alone : entries_by name_of lane (m ∷ []) ≡ [] = elim (eqb_tells (name_of m) lane) [
-      | inl same ↦ absurd (apart.0 (same.1 ∙ sym (named lane first)))
+      | inl same ↦ absurd (apart.0 (same.1 ∙ sym (lane_named lane first)))
       | inr other ↦ ap (λ (b : Bool). cond b (m ∷ []) []) other.0
     ] in
     ap (entries_by name_of lane) (reverse-append (m ∷ []) (more ++ log))

@@ -1,5 +1,5 @@
 -- A search that was handed out: its version stays as it was, whatever others append.
-use Rattle.std.proofs.Common.{◌≡◌, ◌≤◌, ℕ, false, List, [], ◌∷◌, ◌++◌, Some, None, Option, refl, ap, ◌∙◌, sym, subst}
+use Rattle.std.proofs.Common.{◌≡◌, ◌≤◌, ℕ, false, List, [], ◌++◌, Some, None, Option, refl, ap, ◌∙◌, sym, subst}
 use Rattle.nrt_base.specs.declared.doc.Doc.{Doc}
 use Rattle.nrt_base.specs.declared.numbers.At.{At}
 use Rattle.nrt_base.specs.declared.numbers.NodeNo.{NodeNo}
@@ -19,9 +19,9 @@ use Rattle.history_entries.specs.Legal.{IsLegalPast}
 use Rattle.history_entries.specs.Points.{documents_at}
 use Rattle.history_entries.specs.Tickets.{Ticket, open_ticket}
 use Rattle.history_laws.proofs.PointLemmas.{documents_stay_lem}
-use Rattle.history_book.specs.declared.inner.Mark.TheVariants.{Shown as ShownMark, TaskFault, Kept}
 use Rattle.history_book.specs.Log.{Log, printed}
 use Rattle.lane_walks.specs.Walks.{GrowsByOthers, LineStays}
+use Rattle.lane_walks.proofs.StayLemmas.{more_printed}
 use Rattle.script_serving.specs.declared.script.LineCommand.{LineCommand}
 use Rattle.script_serving.specs.declared.script.LineCommand.TheVariants.{Search, Ask}
 use Rattle.cluster_state.specs.Run.{Run}
@@ -105,12 +105,6 @@ pub ask_asks : (at : At) (t : TicketNo) (query : Query) (lease : Lease Shown) (l
 ask_asks at t query lease log asking = subst (AsksFor (Ask t query) query) (sym asking.1.last) (refl, refl)
 
 -- ---- others
-
-more_printed : (more old : Log) → printed (more ++ old) ≡ printed more ++ printed old
-more_printed [] old = refl
-more_printed (ShownMark e ∷ more) old = ap (λ (p : Past). e ∷ p) (more_printed more old)
-more_printed (TaskFault e ∷ more) old = ap (λ (p : Past). e ∷ p) (more_printed more old)
-more_printed (Kept i ∷ more) old = more_printed more old
 
 -- the scan of a version that is known stays the same
 scans_stay : (size : ℕ) (more past : Past) (e : Option Event) (query : Query) (answer : Answer) → IsLegalPast size (more ++ past) → IsKnownStart past e → ScansAt past e query answer

@@ -30,7 +30,7 @@ use Rattle.lane_seats.specs.Seats.{log_seen, IsLaneSeat, HasEntered, TakesLineOn
 
 -- ---- others
 
-lane_named : (lane : ℕ) → 1 ≤ lane → lane_name lane ≡ lane
+pub lane_named : (lane : ℕ) → 1 ≤ lane → lane_name lane ≡ lane
 lane_named lane h =
     elim (eqb_tells lane 0) [
       | inl none ↦ absurd (let e = none.1 in omega arith)

@@ -2,8 +2,8 @@
 use Rattle.std.proofs.Common.{◌≡◌, ◌||◌, ◌==◌, ℕ, ◌<◌, Bool, true, false, List, [], ◌∷◌, ◌++◌, Some, None, Option, refl, ap, ◌∙◌, sym, subst, arith, inl, inr, if◌then◌else◌}
 use Rattle.std.specs.Prelude.{nat_lt}
 use Rattle.std.specs.List.{flat_map, list_all}
-use Rattle.std.proofs.lemmas.List.Folds.{list_all-append, list_any-append}
-use Rattle.std.proofs.lemmas.Bool.{and_parts, and_from, or_left, or_right, or_cases, true≢false, false≢true}
+use Rattle.std.proofs.lemmas.List.Folds.{list_all-append}
+use Rattle.std.proofs.lemmas.Bool.{and_parts, and_from, true≢false, false≢true}
 use Rattle.std.proofs.lemmas.Bool.Decides.{nat_tests, eqb_tells}
 use Rattle.history_tables.proofs.RowLemmas.{by_test}
 use Rattle.nrt_base.specs.declared.numbers.At.{At}
@@ -16,6 +16,7 @@ use Rattle.script_serving.specs.declared.script.LineCommand.{LineCommand}
 use Rattle.script_serving.specs.declared.script.Phase.{Phase}
 use Rattle.script_serving.specs.Lines.{command_at, has_line, all_answered, lines_of_phase, lines_under}
 use Rattle.script_serving.specs.Form.{is_under, is_phase, are_apart, are_ascending}
+use Rattle.script_serving.proofs.ServingLemmas.{in_phase}
 use Rattle.lane_walks.specs.Phases.{lines_in, lane_lines}
 use Rattle.lane_walks.proofs.WalkLemmas.{lane_self}
 
@@ -117,29 +118,9 @@ command_of_lane (p ∷ phases) at h =
 
 -- ---- lines among lines
 
-pub has-append_left : (xs ys : List Line) (at : At) → has_line xs at ≡ true → has_line (xs ++ ys) at ≡ true
-has-append_left xs ys at h = list_any-append (λ (l : Line). same_at l.at at) xs ys ∙ or_left (has_line xs at) (has_line ys at) h
-
-pub has-append_right : (xs ys : List Line) (at : At) → has_line ys at ≡ true → has_line (xs ++ ys) at ≡ true
-has-append_right xs ys at h = list_any-append (λ (l : Line). same_at l.at at) xs ys ∙ or_right (has_line xs at) (has_line ys at) h
-
-line_of_lanes : (lane : ℕ) (lanes : List (LaneNo × List Line)) (at : At) → has_line (lines_under lane lanes) at ≡ true → has_line (flat_map (λ l. l.1) lanes) at ≡ true
-line_of_lanes lane [] at h = h
-line_of_lanes lane (l ∷ lanes) at h = by_lane (l.0.0 == lane) h (line_of_lanes lane lanes at)
-  where
-    by_lane : (b : Bool) → has_line (if b then l.1 ++ lines_under lane lanes else lines_under lane lanes) at ≡ true
-        → (has_line (lines_under lane lanes) at ≡ true → has_line (flat_map (λ (m : LaneNo × List Line). m.1) lanes) at ≡ true)
-        → has_line (l.1 ++ flat_map (λ (m : LaneNo × List Line). m.1) lanes) at ≡ true
-    by_lane true f ih =
-        elim (or_cases (has_line l.1 at) (has_line (lines_under lane lanes) at) (sym (list_any-append (λ (x : Line). same_at x.at at) l.1 (lines_under lane lanes)) ∙ f)) [
-          | inl g ↦ has-append_left l.1 _ at g
-          | inr g ↦ has-append_right l.1 _ at (ih g)
-        ]
-    by_lane false f ih = has-append_right l.1 _ at (ih f)
-
 -- lines under a lane are lines of the phase
 pub line_of_phase : (lane : ℕ) (phase : Phase) (at : At) → has_line (lines_under lane phase.lanes) at ≡ true → has_line (lines_of_phase phase) at ≡ true
-line_of_phase lane phase at h = line_of_lanes lane phase.lanes at h
+line_of_phase lane phase at h = in_phase lane phase.lanes at h
 
 -- ---- numbers ascend
 

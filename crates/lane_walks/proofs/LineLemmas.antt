@@ -3,7 +3,7 @@ use Rattle.std.proofs.Common.{◌≡◌, ◌&&◌, ◌==◌, ℕ, ◌+◌, ◌<�
 use Rattle.std.specs.List.{list_all}
 use Rattle.std.proofs.lemmas.List.{take-append-drop, take_more, take_all}
 use Rattle.std.proofs.lemmas.List.Folds.{list_all-append}
-use Rattle.std.proofs.lemmas.Bool.{and_parts, and_from, or_left}
+use Rattle.std.proofs.lemmas.Bool.{and_parts, and_from, or_left, eqb-true}
 use Rattle.history_tables.proofs.RowLemmas.{same_at_self}
 use Rattle.nrt_base.specs.declared.numbers.At.{At}
 use Rattle.history_entries.specs.Nodes.{Past}
@@ -15,7 +15,7 @@ use Rattle.script_serving.specs.Form.{are_ascending}
 use Rattle.history_book.specs.Log.{Log, printed}
 use Rattle.lane_walks.specs.Owes.{FaultsFit}
 use Rattle.lane_walks.specs.Walks.{ServesSince, AreUnbegun, ArePart, LineGoes, LineRan, StillFresh, Going, LinesRan}
-use Rattle.lane_walks.proofs.WalkLemmas.{lane_is, all_answered_stays, since_append, log_then, goes_then}
+use Rattle.lane_walks.proofs.WalkLemmas.{all_answered_stays, since_append, log_then, goes_then}
 use Rattle.lane_walks.proofs.PartLemmas.{command_past, earlier_past}
 use Rattle.lane_walks.proofs.FormLemmas.{line_behind, ascending_back, answered-append}
 use Rattle.lane_walks.proofs.PhaseLemmas.{fresh_beyond}
@@ -57,7 +57,7 @@ module _ (logged : Bool) (lane : ℕ) (lines : List Line) (i : ℕ) (line : Line
       and_parts (line.at.lane.0 == lane) (list_all (λ (l : Line). l.at.lane.0 == lane) (drop (i + 1) lines)) rest.1
 
   pub line_lane : ArePart lane lines → line.at.lane.0 ≡ lane
-  line_lane part = lane_is line.at.lane.0 lane (owned part).0
+  line_lane part = eqb-true line.at.lane.0 lane (owned part).0
 
   pub line_fresh : (past : Past) → AreUnbegun (drop i lines) past → entries_of_line line.at past ≡ []
   line_fresh past fresh = (subst (λ (ls : List Line). AreUnbegun ls past) dropped fresh).0

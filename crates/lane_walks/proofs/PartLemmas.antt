@@ -1,6 +1,6 @@
 -- A phase's part of a lane's walk, and the walk over the whole script.
 use Rattle.std.proofs.Common.{◌≡◌, ◌&&◌, ◌||◌, ◌==◌, ℕ, Bool, true, false, List, [], ◌∷◌, ◌++◌, Some, None, Option, refl, ap, ◌∙◌, subst, if◌then◌else◌}
-use Rattle.std.proofs.lemmas.Bool.{and_parts, and_from, true≢false, false≢true}
+use Rattle.std.proofs.lemmas.Bool.{and_parts, and_from, true≢false, false≢true, eqb-true}
 use Rattle.std.specs.Prelude.{⊤}
 use Rattle.history_tables.proofs.RowLemmas.{by_test, same_at_is}
 use Rattle.nrt_base.specs.declared.numbers.At.{At}
@@ -23,7 +23,7 @@ use Rattle.history_book.specs.Log.{Log, printed, has_merging, begins_merge, Foll
 use Rattle.lane_walks.specs.Owes.{FaultsFit}
 use Rattle.lane_walks.specs.Walks.{OnLane, ServesSince}
 use Rattle.lane_walks.specs.Phases.{ServesLane}
-use Rattle.lane_walks.proofs.WalkLemmas.{lane_self, lane_is, on_map, off_this, all_answered_stays}
+use Rattle.lane_walks.proofs.WalkLemmas.{lane_self, on_map, off_this, all_answered_stays}
 use Rattle.lane_walks.proofs.StayLemmas.{merging_there, fresh_fault}
 
 -- ---- a command among lines before, behind and between others
@@ -201,7 +201,7 @@ module _ (logged : Bool) (lane : ℕ) (done part later : List Line) (apart : (at
       let before : ServesLane logged lane (done ++ (part ++ later)) past = serves_part more old h (record { follow = f.follow.1; wait = f.wait.1 }) d s in (
         by_test (e.at.lane.0 == lane) (λ b. OnLane b (Fits (due logged past) (done ++ (part ++ later)) past e.at (command_at (done ++ (part ++ later)) e.at) e.event))
             (λ same.
-            let asks = merge_command logged lane (done ++ (part ++ later)) e.at past (lane_is e.at.lane.0 lane same) before (merging_there e.at e.event past f.follow.0) in
+            let asks = merge_command logged lane (done ++ (part ++ later)) e.at past (eqb-true e.at.lane.0 lane same) before (merging_there e.at e.event past f.follow.0) in
             fault_fits (due logged past) _ e.at past e.event _ f.wait.0 f.follow.0 asks)
             (λ other. tt),
         before,

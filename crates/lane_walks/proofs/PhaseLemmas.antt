@@ -4,7 +4,7 @@ use Rattle.std.specs.List.{list_all}
 use Rattle.std.proofs.lemmas.Grind.{flat_map-append}
 use Rattle.std.proofs.lemmas.List.{take-append-drop, take_more}
 use Rattle.std.proofs.lemmas.List.Folds.{list_all-append}
-use Rattle.std.proofs.lemmas.Bool.{and_parts, and_from, or_left, or_right}
+use Rattle.std.proofs.lemmas.Bool.{and_parts, and_from, or_left, or_right, eqb-true}
 use Rattle.history_tables.proofs.RowLemmas.{by_test, same_at_self}
 use Rattle.nrt_base.specs.declared.numbers.At.{At}
 use Rattle.history_entries.specs.declared.entry.Event.{Event}
@@ -19,15 +19,16 @@ use Rattle.script_serving.specs.Lines.{command_at, has_line, all_answered, lines
 use Rattle.script_serving.specs.Form.{is_phase, are_ascending}
 use Rattle.script_serving.specs.Replays.{due}
 use Rattle.script_serving.specs.Serves.{is_merge_fault}
+use Rattle.script_serving.proofs.ServingLemmas.{in_front}
 use Rattle.history_book.specs.declared.inner.Mark.TheVariants.{Shown, TaskFault, Kept}
 use Rattle.history_book.specs.Log.{Log, printed, FollowsMerging}
 use Rattle.lane_walks.specs.Owes.{FaultsFit}
 use Rattle.lane_walks.specs.Walks.{OnLane, NoneOf, ServesSince, GrowsByOthers, AreUnbegun, ArePart}
 use Rattle.lane_walks.specs.Phases.{lines_in, lane_lines, ArePhasesInForm, ServesLane, ServesLanePhases, LaneServes, LaneReady, PhaseDone}
-use Rattle.lane_walks.proofs.WalkLemmas.{lane_is, other_lane, on_other, on_map, none_serves, all_answered_stays}
+use Rattle.lane_walks.proofs.WalkLemmas.{other_lane, on_other, on_map, none_serves, all_answered_stays}
 use Rattle.lane_walks.proofs.StayLemmas.{merging_there}
 use Rattle.lane_walks.proofs.PartLemmas.{IsMergeAt, has_command, fits_line, merge_command, serves_part, fresh_since}
-use Rattle.lane_walks.proofs.FormLemmas.{answered-append, answered_front, answered_back, command_of_lane, has-append_left, line_of_phase, line_behind, ascending_back, ascending_front, lane_answered, under_owned, lane_owned}
+use Rattle.lane_walks.proofs.FormLemmas.{answered-append, answered_front, answered_back, command_of_lane, line_of_phase, line_behind, ascending_back, ascending_front, lane_answered, under_owned, lane_owned}
 
 -- ---- lines without entries
 
@@ -51,7 +52,7 @@ fresh_beyond logged lane part all [] more old sub own asc s f fresh = tt
 fresh_beyond logged lane part all (l ∷ ls) more old sub own asc s f fresh =
     let parts = and_parts (l.at.lane.0 == lane) (list_all (λ line. line.at.lane.0 == lane) ls) own in
     let there : has_line all l.at ≡ true = sub l.at (or_left (same_at l.at l.at) (has_line ls l.at) (same_at_self l.at)) in (
-      fresh_since logged lane part l.at more old (lane_is l.at.lane.0 lane parts.0) (line_behind part all l.at asc there) s f fresh.0,
+      fresh_since logged lane part l.at more old (eqb-true l.at.lane.0 lane parts.0) (line_behind part all l.at asc there) s f fresh.0,
       fresh_beyond logged lane part all ls more old (λ at h. sub at (or_right (same_at l.at at) (has_line ls at) h)) parts.1 asc s f fresh.1,
     )
 
@@ -97,7 +98,7 @@ module _ (logged : Bool) (lane : ℕ) (phases before after : List Phase) (phase 
   not_before : (at : At) (c : LineCommand) → command_at (lines_under lane phase.lanes) at ≡ Some c → has_line (lane_lines lane before) at ≡ false
   not_before at c h =
       line_behind (lane_lines lane before) _ at ordered
-      (has-append_left (lines_under lane phase.lanes) (lane_lines lane after) at (has_command (lines_under lane phase.lanes) at c h))
+      (in_front (lines_under lane phase.lanes) (lane_lines lane after) at (has_command (lines_under lane phase.lanes) at c h))
 
   serves_on : (more old : Log) → ServesSince logged lane (lines_under lane phase.lanes) more old → FaultsFit logged (more ++ old)
       → all_answered (lines_in before) (printed old) ≡ true → ServesLane logged lane (lane_lines lane phases) (printed old)
@@ -128,7 +129,7 @@ module _ (logged : Bool) (lane : ℕ) (phases before after : List Phase) (phase 
       let past : Past = printed (more ++ old) in
       let fit : FaultsFit logged (more ++ old) = record { follow = f.follow.1; wait = f.wait.1 } in (
         by_test (e.at.lane.0 == lane) (λ b. OnLane b ((is_merge_fault (command_at (lines_in phases) e.at) e.event || earlier_phases_answered phases e.at past) ≡ true))
-            (λ same. merge_in_phase logged lane phases e.at e.event past form.under (lane_is e.at.lane.0 lane same) (serves_on more old h fit d s) f.follow.0)
+            (λ same. merge_in_phase logged lane phases e.at e.event past form.under (eqb-true e.at.lane.0 lane same) (serves_on more old h fit d s) f.follow.0)
             (λ other. tt),
         phases_on more old h fit d s p,
       )
@@ -236,7 +237,7 @@ phases_apart logged lane phases (TaskFault e ∷ more) old under h f s p =
     let past : Past = printed (more ++ old) in
     let fit : FaultsFit logged (more ++ old) = record { follow = f.follow.1; wait = f.wait.1 } in (
       by_test (e.at.lane.0 == lane) (λ b. OnLane b ((is_merge_fault (command_at (lines_in phases) e.at) e.event || earlier_phases_answered phases e.at past) ≡ true))
-          (λ same. merge_in_phase logged lane phases e.at e.event past under (lane_is e.at.lane.0 lane same) (serves_apart_on logged lane (lane_lines lane phases) more old h.1 fit s) f.follow.0)
+          (λ same. merge_in_phase logged lane phases e.at e.event past under (eqb-true e.at.lane.0 lane same) (serves_apart_on logged lane (lane_lines lane phases) more old h.1 fit s) f.follow.0)
           (λ other. tt),
       phases_apart logged lane phases more old under h.1 fit s p,
     )

@@ -2,11 +2,12 @@
 use Rattle.std.proofs.Common.{◌≡◌, ◌==◌, ℕ, ◌<◌, ◌≤◌, Bool, true, false, List, [], ◌∷◌, refl, ap, ◌∙◌, sym, subst, arith, reverse}
 use Rattle.std.specs.List.{AllByRecursion, list_all}
 use Rattle.std.proofs.lemmas.List.{reverse-reverse}
-use Rattle.std.proofs.lemmas.Bool.{and_parts, and_right, true≢false}
+use Rattle.std.proofs.lemmas.Bool.{and_parts, and_right, true≢false, eqb-true}
 use Rattle.std.proofs.lemmas.Bool.Decides.{nat_tests}
 use Rattle.history_tables.proofs.RowLemmas.{by_test}
 use Rattle.nrt_base.specs.declared.numbers.At.{At}
 use Rattle.nrt_base.specs.Bytes.{is_between}
+use Rattle.nrt_base.proofs.Plain.{between_high}
 use Rattle.history_entries.specs.declared.entry.History.{History}
 use Rattle.history_entries.specs.Nodes.{Past}
 use Rattle.history_entries.specs.Lines.{same_at}
@@ -21,7 +22,7 @@ use Rattle.history_book.specs.declared.inner.Mark.TheVariants.{Shown, TaskFault,
 use Rattle.history_book.specs.Log.{Log, printed, lane_name, has_merging, begins_merge, FaultsFollow}
 use Rattle.lane_walks.specs.Walks.{NoneOf, GrowsByOthers, LinesRan}
 use Rattle.lane_walks.specs.Phases.{lines_in, lane_lines, ArePhasesInForm, ServesLane, ServesLanePhases, LaneServes, PhaseDone, HasRanPart, AreOfLanes, LanesEnd, IsHistoryOf}
-use Rattle.lane_walks.proofs.WalkLemmas.{lane_self, lane_is, other_lane, on_other, off_this, answered_in, goes_apart}
+use Rattle.lane_walks.proofs.WalkLemmas.{lane_self, other_lane, on_other, off_this, answered_in, goes_apart}
 use Rattle.lane_walks.proofs.StayLemmas.{merging_there}
 use Rattle.lane_walks.proofs.FormLemmas.{phase_answered, lane_without}
 use Rattle.lane_walks.proofs.PhaseLemmas.{serves_apart}
@@ -33,9 +34,6 @@ form_of script f = record { under = f.phases; ordered = f.ordered }
 
 pub between_low : (low high n : ℕ) → is_between low high n ≡ true → low ≤ n
 between_low low high n h = grind (arith, nat_tests)
-
-pub between_high : (low high n : ℕ) → is_between low high n ≡ true → n ≤ high
-between_high low high n h = grind (arith, nat_tests)
 
 name_beyond : (lane : ℕ) → is_between 1 8 lane ≡ false → 8 < lane_name lane
 name_beyond lane h = grind (arith, nat_tests)
@@ -80,7 +78,7 @@ no_entries lane (Shown e ∷ log) h f = (other_lane e.at.lane.0 lane h.0, no_ent
 no_entries lane (TaskFault e ∷ log) h f =
     let ih = no_entries lane log h.1 f.1 in (
       by_test (e.at.lane.0 == lane) (λ b. b ≡ false)
-          (λ same. absurd (true≢false (sym (merging_there e.at e.event (printed log) f.0) ∙ no_merge_of lane e.at (printed log) (lane_is e.at.lane.0 lane same) ih)))
+          (λ same. absurd (true≢false (sym (merging_there e.at e.event (printed log) f.0) ∙ no_merge_of lane e.at (printed log) (eqb-true e.at.lane.0 lane same) ih)))
           (λ other. refl),
       ih,
     )

@@ -13,7 +13,13 @@ use Rattle.history_book.specs.Steps.{last_by}
 use Rattle.lane_walks.specs.Walks.{NoneOf, GrowsByOthers, LineStays}
 use Rattle.lane_walks.proofs.WalkLemmas.{other_lane}
 
-other_line : (a b : At) → lane_name a.lane.0 ≢ lane_name b.lane.0 → same_at a b ≡ false
+pub more_printed : (more old : Log) → printed (more ++ old) ≡ printed more ++ printed old
+more_printed [] old = refl
+more_printed (Shown e ∷ more) old = ap (λ (p : Past). e ∷ p) (more_printed more old)
+more_printed (TaskFault e ∷ more) old = ap (λ (p : Past). e ∷ p) (more_printed more old)
+more_printed (Kept i ∷ more) old = more_printed more old
+
+pub other_line : (a b : At) → lane_name a.lane.0 ≢ lane_name b.lane.0 → same_at a b ≡ false
 other_line a b e = ap (λ (t : Bool). t && (a.line.0 == b.line.0)) (other_lane a.lane.0 b.lane.0 e)
 
 -- ---- merges

@@ -25,9 +25,6 @@ use Rattle.lane_walks.specs.Walks.{OnLane, NoneOf, ServesSince, Includes, GrowsB
 pub lane_self : (n : ℕ) → (n == n) ≡ true
 lane_self n = grind (arith, nat_tests)
 
-pub lane_is : (a lane : ℕ) → (a == lane) ≡ true → a ≡ lane
-lane_is a lane h = grind (arith, nat_tests)
-
 -- an entry of another lane
 pub other_lane : (a lane : ℕ) → lane_name a ≢ lane_name lane → (a == lane) ≡ false
 other_lane a lane e =

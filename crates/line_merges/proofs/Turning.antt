@@ -1,5 +1,6 @@
 -- Merge and drain lines, and tasks, over the paths of merges.
 use Rattle.std.proofs.Common.{◌≡◌, ℕ, Bool, true, false, List, [], ◌∷◌, Option, Some, None, is_some, refl, sym, ap, ◌∙◌, true≢false}
+use Rattle.std.proofs.lemmas.Option.{none-some}
 use Rattle.nrt_base.specs.declared.numbers.At.{At}
 use Rattle.nrt_base.specs.declared.numbers.NodeNo.{NodeNo}
 use Rattle.history_entries.specs.declared.cause.Cause.{Cause}
@@ -63,13 +64,10 @@ refused_so at factor old mid new cause w is tasks = absurd w
 -- a primary runs, so the line starts there or is refused
 pub starts_there : (at : At) (factor : ℕ) (old new : Run) (p : NodeNo) → primary_of (printed old.log) ≡ Some p → StartsAtPrimary at factor old new → MergeLine at factor old new
 starts_there at factor old new p runs starts = record {
-  vacant = λ none. absurd (clash (sym none ∙ runs));
+  vacant = λ none. absurd (none-some p (sym none ∙ runs));
   cause = starts.0;
   starts = λ some. starts.1;
 }
-  where
-    clash : None ≡ Some p → ⊥
-    clash e = absurd (cc)
 
 -- ---- publishes
 pub none_of : (o : Option At) → is_some o ≡ false → o ≡ None

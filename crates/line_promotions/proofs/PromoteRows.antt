@@ -1,8 +1,9 @@
 -- What a line that promotes a node finds of the log.
-use Rattle.std.proofs.Common.{◌≡◌, ◌≤◌, ◌<◌, ◌^◌, ◌+◌, ℕ, Bool, true, false, true≢false, ◌∷◌, Some, None, Option, refl, ap, ◌∙◌, sym, subst, arith}
+use Rattle.std.proofs.Common.{◌≡◌, ◌≤◌, ◌<◌, ◌^◌, ◌+◌, ℕ, Bool, true, false, true≢false, ◌∷◌, Some, None, Option, refl, sym, subst, arith}
 use Rattle.std.specs.Prelude.{not, is_some, nat_le, nat_lt, Result, Ok, Err}
 use Rattle.std.specs.Option.{option_or}
 use Rattle.std.proofs.lemmas.Bool.Decides.{nat_tests}
+use Rattle.std.proofs.lemmas.Bool.{not-false}
 use Rattle.nrt_base.specs.declared.numbers.At.{At}
 use Rattle.nrt_base.specs.declared.numbers.NodeNo.{NodeNo}
 use Rattle.nrt_base.specs.declared.numbers.Version.{Version}
@@ -40,10 +41,6 @@ calm_first false first o calm others cause is = others cause is
 calm_last : (b : Bool) (held cause : Cause) → is_disk_fault held ≡ false → when b held ≡ Some cause → is_disk_fault cause ≡ false
 calm_last true held cause calm is = let same : held ≡ cause = cc in subst (λ (c : Cause). is_disk_fault c ≡ false) same calm
 calm_last false held cause calm is = absurd (cc)
-
-runs_by : (b : Bool) → not b ≡ false → b ≡ true
-runs_by true is = refl
-runs_by false is = absurd (true≢false is)
 
 none_by : (o : Option NodeNo) → is_some o ≡ false → o ≡ None
 none_by None is = refl
@@ -95,7 +92,7 @@ module _ (n : NodeNo) (force : Force) (past : Past) where
       record {
         none = none;
         is = is;
-        up = runs_by (is_running n.0 past) first.0;
+        up = not-false (is_running n.0 past) first.0;
         vacant = none_by (primary_of past) second.0;
         low = subst (λ (x : ℕ). x < 2 ^ 62) (sym is) (below_by (2 ^ 62) (forced_version force past) third.0);
         high = subst (λ (x : ℕ). newest_version past ≤ x) (sym is) (above_by (forced_version force past) (newest_version past) (last_none IsLow below third.1));

@@ -1,6 +1,7 @@
 -- What tickets and searches ask for, from how far their line has come, and what a list of files tells.
 use Rattle.std.proofs.Common.{◌≡◌, ◌≢◌, ◌==◌, ℕ, Bool, true, false, [], ◌∷◌, Some, None, Option, refl, ap, ◌∙◌, sym, subst, if◌then◌else◌, List}
 use Rattle.std.specs.Prelude.{not, IsSomeAnd, IfSome}
+use Rattle.std.proofs.lemmas.Option.{same_Some}
 use Rattle.nrt_base.specs.declared.numbers.At.{At}
 use Rattle.nrt_base.specs.declared.numbers.NodeNo.{NodeNo}
 use Rattle.nrt_base.specs.declared.numbers.TicketNo.{TicketNo}
@@ -99,20 +100,17 @@ asking_start size past at query answer n t v (SettleStart w) legal last line is 
 asking_start size past at query answer n t v (SearchStart m w) legal last line is same right = absurd (cc)
 asking_start size past at query answer n t v (CommitStart m w) legal last line is same right = absurd (cc)
 
-same_some : (a b : Event) → ◌≡◌ {A = Option Event} (Some a) (Some b) → a ≡ b
-same_some a b is = cc
-
 -- how the line has started that is to be answered
 pub search_by : (size : ℕ) (past : Past) (at : At) (query : Query) (answer : Answer) (b : Begun) (last : Option Event) → last_of_line at past ≡ last → IsLegalPast size past
     → ScansAt past last query answer → open_line at past ≡ Some b → IsSearchBy size past at query answer b.start
 search_by size past at query answer b (Some (Opened n t v)) is legal scans line =
     let started = last_started at past (Opened n t v) (ap (λ (k : ℕ). k == 0) scans.0) is in
     let entry = (open_started at past b line).entry in
-    opened_start size past at query answer n t v b.start legal (is ∙ (sym started.entry ∙ entry)) started.is_open entry (same_some (Opened n t v) (event_of b.start) (sym started.entry ∙ entry)) scans.1
+    opened_start size past at query answer n t v b.start legal (is ∙ (sym started.entry ∙ entry)) started.is_open entry (same_Some (Opened n t v) (event_of b.start) (sym started.entry ∙ entry)) scans.1
 search_by size past at query answer b (Some (Asking n t v)) is legal scans line =
     let started = last_started at past (Asking n t v) refl is in
     let entry = (open_started at past b line).entry in
-    asking_start size past at query answer n t v b.start legal (is ∙ (sym started.entry ∙ entry)) started.is_open entry (same_some (Asking n t v) (event_of b.start) (sym started.entry ∙ entry)) scans
+    asking_start size past at query answer n t v b.start legal (is ∙ (sym started.entry ∙ entry)) started.is_open entry (same_Some (Asking n t v) (event_of b.start) (sym started.entry ∙ entry)) scans
 search_by size past at query answer b last is legal scans line = absurd scans
 
 -- it is open

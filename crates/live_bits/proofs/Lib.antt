@@ -4,3 +4,4 @@ pub mod Editing
 mod NextRow
 mod Bodies
 pub mod FileLaws
+pub mod LiveCounts

@@ -1,9 +1,11 @@
 -- What the entries show where no node was crashed, reopened or promoted and no fault was planned.
-use Rattle.std.proofs.Common.{◌≡◌, ℕ, ◌+◌, ◌≤◌, List, [], ◌∷◌, ◌++◌, ◌&&◌, ◌||◌, Bool, true, false, Option, Some, None, length, drop, max, refl, ap, ◌∙◌, sym, subst, arith, append_assoc, append-nil, if◌then◌else◌}
+use Rattle.std.proofs.Common.{◌≡◌, ℕ, ◌+◌, ◌≤◌, List, [], ◌∷◌, ◌++◌, ◌&&◌, ◌||◌, Bool, true, false, Option, Some, None, length, drop, max, refl, ap, ◌∙◌, sym, subst, arith, append-nil, if◌then◌else◌}
 use Rattle.std.specs.Prelude.{⊤, ◌==◌}
 use Rattle.std.proofs.Math.Seq.{drop-append_seam}
 use Rattle.std.proofs.lemmas.Bool.{false≢true, eq-eqb}
 use Rattle.std.proofs.lemmas.Bool.Decides.{nat_tests}
+use Rattle.std.proofs.lemmas.List.{nil_from_length}
+use Rattle.script_serving.proofs.LogLemmas.{longer}
 use mathlib.Core.List.{IsPrefix}
 use Rattle.nrt_base.specs.declared.numbers.At.{At}
 use Rattle.nrt_base.specs.declared.numbers.NodeNo.{NodeNo}
@@ -137,9 +139,6 @@ grown (Accepted seq op) ops calm = (op ∷ [], refl)
 grown (Promoted m g f w) ops calm = absurd (false≢true calm)
 grown e ops calm = ([], append-nil ops)
 
-longer : (xs ys zs : List Op) → IsPrefix xs ys → IsPrefix ys zs → IsPrefix xs zs
-longer xs ys zs h k = (h.0 ++ k.0, sym (append_assoc xs h.0 k.0) ∙ (ap (λ (front : List Op). front ++ k.0) h.1 ∙ k.1))
-
 -- those at the start of a line are the first of them
 start_first : (at : At) (past : Past) → IsCalm past → IsPrefix (operations_of_generation (before_start at past)) (operations_of_generation past)
 start_first at [] calm = ([], refl)
@@ -192,10 +191,6 @@ pub calm_published : (size : ℕ) (past : Past) → IsCalm past → IsLegalPast 
 calm_published size [] calm legal = record { front = ([], refl); count = refl }
 calm_published size (e ∷ past) calm legal = published_next size e.at past calm.1 (calm_published size past calm.1 legal.1) e.event calm.0 legal.0
 
-no_rest : {X : Type 0} (xs : List X) → length xs ≡ 0 → xs ≡ []
-no_rest [] e = refl
-no_rest (x ∷ xs) e = absurd (omega (arith, e))
-
 -- where nothing is left to publish, the newest point has all operations
 pub nothing_left : (past : Past) → IsCalm past → HasPublished past → length (cut_of past) ≡ 0 → operations_at past (newest_version past) ≡ operations_written past
 nothing_left past calm has none =
@@ -203,5 +198,5 @@ nothing_left past calm has none =
     let rest : List Op = has.front.0 in
     let cut : cut_of past ≡ rest =
     ap (λ (k : ℕ). drop k (operations_of_generation past)) (sym has.count) ∙ (ap (drop (length front)) (sym has.front.1) ∙ drop-append_seam front rest) in
-    let empty : rest ≡ [] = no_rest rest (ap length (sym cut) ∙ none) in
+    let empty : rest ≡ [] = nil_from_length rest (ap length (sym cut) ∙ none) in
     sym (append-nil front) ∙ (ap (λ (more : List Op). front ++ more) (sym empty) ∙ (has.front.1 ∙ sym (calm_written past calm)))

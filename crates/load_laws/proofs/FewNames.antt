@@ -1,15 +1,17 @@
 -- The script publishes and merges seldom: there are never too many segments, and never too few names.
-use Rattle.std.proofs.Common.{◌≡◌, ℕ, zero, suc, ◌+◌, ◌≤◌, ◌<◌, List, [], ◌∷◌, ◌++◌, ◌&&◌, ◌||◌, Bool, true, false, Option, Some, None, length, refl, ap, ◌∙◌, sym, subst, arith, if◌then◌else◌}
+use Rattle.std.proofs.Common.{◌≡◌, ℕ, zero, suc, ◌+◌, ◌≤◌, ◌<◌, List, [], ◌∷◌, ◌++◌, ◌&&◌, ◌||◌, Bool, true, false, Option, Some, None, length, refl, ap, ◌∙◌, subst, arith, if◌then◌else◌}
 use Rattle.std.specs.Prelude.{◌==◌, ◌%◌, ◌/◌, ◌-◌, nat_le, nat_lt, is_some}
-use Rattle.std.proofs.lemmas.Bool.{false≢true, true≢false, and_from, and_parts, or_left, or_right, eq-eqb}
+use Rattle.std.proofs.lemmas.Bool.{false≢true, and_from, and_parts, or_left, or_right}
 use Rattle.std.proofs.lemmas.Bool.Decides.{nat_tests}
+use Rattle.std.proofs.lemmas.Option.{none-some, same_Some}
+use Rattle.history_tables.proofs.RowLemmas.{same_at_self, same_at_is}
 use Rattle.nrt_base.specs.declared.numbers.At.{At}
 use Rattle.nrt_base.specs.declared.numbers.Gen.{Gen}
 use Rattle.nrt_base.specs.declared.numbers.Version.{Version}
 use Rattle.history_entries.specs.declared.cause.Cause.{Cause}
 use Rattle.history_entries.specs.declared.entry.Entry.{Entry}
 use Rattle.history_entries.specs.declared.entry.Event.{Event}
-use Rattle.history_entries.specs.declared.entry.Event.TheVariants.{Publishing, Published, Promoted, Merging, Fault, Refused}
+use Rattle.history_entries.specs.declared.entry.Event.TheVariants.{Publishing, Published, Promoted, Merging, Fault}
 use Rattle.history_entries.specs.Nodes.{Past, newest_version}
 use Rattle.history_entries.specs.Lines.{same_at, is_reply, is_answered, last_of_line, before_start}
 use Rattle.history_entries.specs.Points.{cut_has_put, names_drawn, documents_at}
@@ -25,7 +27,7 @@ use Rattle.load_script.specs.Generated.{load_lane, load_key, at_multiple, load_c
 use Rattle.load_script.proofs.LoadForm.{last_of}
 use Rattle.load_script.proofs.LoadCounts.{load_length}
 use Rattle.load_laws.proofs.CalmPasts.{is_calm_event}
-use Rattle.load_laws.proofs.LoadTurns.{all_of, at_same, Turn, turn_of, turn_open, turn_suits, serves_calm}
+use Rattle.load_laws.proofs.LoadTurns.{all_of, Turn, turn_of, turn_open, turn_suits, serves_calm}
 
 -- ---- how many pass a test
 
@@ -61,19 +63,13 @@ tally-append p (x ∷ xs) ys = let rest = tally-append p xs ys in omega (arith, 
 -- where the line at a place passes, and did not before, more lines pass
 tally_rises : (p q : Line → Bool) → ((l : Line) → p l ≡ true → q l ≡ true) → (lines : List Line) (at : At) (c : LineCommand)
     → ((l : Line) → l.at ≡ at → l.command ≡ c → (p l ≡ false) × (q l ≡ true)) → command_at lines at ≡ Some c → tally p lines + 1 ≤ tally q lines
-tally_rises p q more [] at c new there = absurd (none_some c there)
-  where
-    none_some : (x : LineCommand) → None ≡ Some x → ⊥
-    none_some x e = cc
+tally_rises p q more [] at c new there = absurd (none-some c there)
 tally_rises p q more (l ∷ lines) at c new there = by_place (same_at l.at at) refl there (tally_rises p q more lines at c new)
   where
-    one : (x y : LineCommand) → Some x ≡ Some y → x ≡ y
-    one x y e = cc
-
     by_place : (b : Bool) → same_at l.at at ≡ b → (if b then Some l.command else command_at lines at) ≡ Some c → (command_at lines at ≡ Some c → tally p lines + 1 ≤ tally q lines)
         → tally p (l ∷ lines) + 1 ≤ tally q (l ∷ lines)
     by_place true e f ih =
-        let both = new l (at_same l.at at e) (one l.command c f) in
+        let both = new l (same_at_is l.at at e) (same_Some l.command c f) in
         let rest = tally_grows p q more lines in
         let first : ◌≡◌ {A = ℕ} (if p l then 1 else 0) 0 = ap (λ (b : Bool). if b then 1 else 0) both.0 in
         let second : ◌≡◌ {A = ℕ} (if q l then 1 else 0) 1 = ap (λ (b : Bool). if b then 1 else 0) both.1 in
@@ -170,9 +166,6 @@ answered_more past e l is =
     let parts = and_parts (is_publish l.command) (is_answered l.at past) is in
     and_from (is_publish l.command) (is_answered l.at (e ∷ past)) parts.0 (or_right (is_reply e.event && same_at e.at l.at) (is_answered l.at past) parts.1)
 
-pub at_self : (a : At) → same_at a a ≡ true
-at_self a = and_from (a.lane.0 == a.lane.0) (a.line.0 == a.line.0) (eq-eqb a.lane.0 a.lane.0 refl) (eq-eqb a.line.0 a.line.0 refl)
-
 put_le : (b : Bool) (k m n : ℕ) → k ≤ m → m + 1 ≤ n → (if b then k + 1 else k) ≤ n
 put_le true k m n low high = omega (arith, low, high)
 put_le false k m n low high = omega (arith, low, high)
@@ -188,7 +181,7 @@ publishes_step n past at (Published g w) calm turn low =
     (λ l place asks. (
       ap (λ (b : Bool). is_publish l.command && b) (ap (λ (a : At). is_answered a past) place ∙ fresh) ∙ and_no (is_publish l.command),
       and_from (is_publish l.command) (is_answered l.at (entry ∷ past)) (ap is_publish (asks ∙ is))
-          (or_left (same_at at l.at) (is_answered l.at past) (ap (same_at at) place ∙ at_self at)),
+          (or_left (same_at at l.at) (is_answered l.at past) (ap (same_at at) place ∙ same_at_self at)),
     )) turn.there in
     put_le (cut_has_put (before_start at past)) (put_publishes past) (tally (has_published past) (all_of n)) (tally (has_published (entry ∷ past)) (all_of n)) low rise
   where
@@ -263,7 +256,7 @@ drawn_rise n past at e calm is turn =
     tally_rises (is_begun past) (is_begun (entry ∷ past)) (begun_more past entry) (all_of n) at turn.command
     (λ l place asks. (
       ap is_some (ap (λ (a : At). last_of_line a past) place ∙ none),
-      ap (λ (b : Bool). is_some (if b then last_by e (last_of_line l.at past) else last_of_line l.at past)) (ap (same_at at) place ∙ at_self at) ∙ begins_line e (last_of_line l.at past) is,
+      ap (λ (b : Bool). is_some (if b then last_by e (last_of_line l.at past) else last_of_line l.at past)) (ap (same_at at) place ∙ same_at_self at) ∙ begins_line e (last_of_line l.at past) is,
     )) turn.there
 
 names_step : (n : ℕ) (past : Past) (at : At) (e : Event) → is_calm_event e ≡ true → Turn n past (record { at = at; event = e }) → names_drawn past ≤ tally (is_begun past) (all_of n)

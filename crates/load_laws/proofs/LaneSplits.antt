@@ -1,12 +1,14 @@
 -- How far each lane has come: its answered lines, and the operations that they asked for; behind the join the documents of the script are written.
 use Rattle.std.proofs.Common.{◌≡◌, ℕ, zero, suc, ◌+◌, ◌≤◌, ◌<◌, List, [], ◌∷◌, ◌++◌, ◌&&◌, ◌||◌, Bool, true, false, Option, Some, None, length, filter, refl, ap, ◌∙◌, sym, subst, arith, append_assoc, append-nil, if◌then◌else◌}
-use Rattle.std.specs.Prelude.{⊤, ◌==◌, not, is_none}
+use Rattle.std.specs.Prelude.{◌==◌, not, is_none}
 use Rattle.std.specs.List.{list_all, flat_map}
-use Rattle.std.proofs.lemmas.Bool.{false≢true, true≢false, and_from, and_parts, or_left, or_right, eqb-true, eq-eqb}
+use Rattle.std.proofs.lemmas.Bool.{false≢true, true≢false, and_from, and_parts, or_left, or_right, eqb-true, eq-eqb, and_right}
 use Rattle.std.proofs.lemmas.Bool.Decides.{nat_tests}
 use Rattle.std.proofs.lemmas.Grind.{flat_map-append}
 use Rattle.std.proofs.lemmas.List.Folds.{list_all-append}
 use Rattle.std.proofs.lemmas.List.Elements.{filter-append}
+use Rattle.std.proofs.lemmas.Option.{none-some, same_Some}
+use Rattle.history_tables.proofs.RowLemmas.{same_at_self, same_at_is}
 use Rattle.nrt_base.specs.declared.numbers.At.{At}
 use Rattle.documents.specs.declared.operation.Op.{Op}
 use Rattle.documents.specs.declared.operation.Op.TheVariants.{Put as PutOp, Delete as DeleteOp}
@@ -17,7 +19,7 @@ use Rattle.history_entries.specs.declared.cause.Cause.TheVariants.{NoPrimary}
 use Rattle.history_entries.specs.declared.entry.Entry.{Entry}
 use Rattle.history_entries.specs.declared.entry.Event.{Event}
 use Rattle.history_entries.specs.declared.entry.Event.TheVariants.{Accepted, Promoted, Fault, Refused}
-use Rattle.history_entries.specs.Nodes.{Past, primary_of}
+use Rattle.history_entries.specs.Nodes.{Past}
 use Rattle.history_entries.specs.Lines.{same_at, is_reply, is_answered, last_of_line}
 use Rattle.history_entries.specs.Points.{operations_written}
 use Rattle.history_entries.specs.Legal.{IsLegalPast}
@@ -28,14 +30,14 @@ use Rattle.script_serving.specs.declared.script.LineCommand.TheVariants.{Put, De
 use Rattle.script_serving.specs.Lines.{lines_of, lines_of_phase, command_at, has_line, earlier_answered, earlier_phases_answered}
 use Rattle.script_serving.specs.Serves.{Begins, First, Follows, Suits, ServesLanes, ServesPhases, is_merge_fault}
 use Rattle.script_serving.specs.Refusals.{when, without_primary, refusal}
-use Rattle.script_text.specs.Grammar.{of_lane, lane_entry, lanes_from, phase_of}
+use Rattle.script_text.specs.Grammar.{of_lane, lanes_from, phase_of}
 use Rattle.script_text.proofs.FormLemmas.{all_kept, all_of_phase, under, under_entry, number_of, AscendFrom, lower, back_from}
 use Rattle.load_script.specs.Generated.{load_lines, generated_script}
 use Rattle.load_script.specs.Totals.{operations_asked, operations_of_lines, load_documents}
 use Rattle.load_script.proofs.LoadForm.{CountUp, load_count, last_of, both_ascend}
 use Rattle.load_laws.proofs.KeyedOps.{is_keyed, owner, owned, same_by_lanes}
 use Rattle.load_laws.proofs.CalmPasts.{is_calm_event, IsCalm, calm_primary, calm_written_next}
-use Rattle.load_laws.proofs.LoadTurns.{all_of, is_calm_command, calm_lines, asks_for, is_owned, owned_lines, keyed_asked, at_same, found, command_lane, Turn, turn_of, command_calm, serves_calm, turn_open, turn_suits}
+use Rattle.load_laws.proofs.LoadTurns.{all_of, is_calm_command, calm_lines, asks_for, is_owned, owned_lines, keyed_asked, found, command_lane, Turn, turn_of, command_calm, serves_calm, turn_open, turn_suits}
 
 -- ---- lists
 
@@ -86,11 +88,8 @@ written_grows e past calm = calm_written_next e past calm ∙ accepted_step e.ev
 pub with_primary : (past : Past) → IsCalm past → without_primary past ≡ None
 with_primary past calm = ap (λ p. when (is_none p) NoPrimary) (calm_primary past calm)
 
-some_none : {X : Type 0} (x : X) → Some x ≡ None → ⊥
-some_none x e = cc
-
 first_put : (doc : Doc) (at : At) (past : Past) (cause : Option Cause) (e : Event) → cause ≡ None → First (Put doc) at past cause e → accepted_of e ≡ (if is_reply e then PutOp doc ∷ [] else [])
-first_put doc at past (Some x) e none first = absurd (some_none x none)
+first_put doc at past (Some x) e none first = absurd (none-some x (sym none))
 first_put doc at past None (Refused x) none first = absurd (false≢true first)
 first_put doc at past None (Accepted seq op) none first = ap (λ (o : Op). o ∷ []) first
 first_put doc at past None e none first = absurd first
@@ -105,7 +104,7 @@ suits_put doc at past None e none suits = first_put doc at past (refusal (Put do
 suits_put doc at past (Some last) e none suits = follows_put doc last e suits.1
 
 first_delete : (key : List ℕ) (at : At) (past : Past) (cause : Option Cause) (e : Event) → cause ≡ None → First (Delete key) at past cause e → accepted_of e ≡ (if is_reply e then DeleteOp key ∷ [] else [])
-first_delete key at past (Some x) e none first = absurd (some_none x none)
+first_delete key at past (Some x) e none first = absurd (none-some x (sym none))
 first_delete key at past None (Refused x) none first = absurd (false≢true first)
 first_delete key at past None (Accepted seq op) none first = ap (λ (o : Op). o ∷ []) first
 first_delete key at past None e none first = absurd first
@@ -214,18 +213,12 @@ not_both false h g = absurd (false≢true g)
 
 head_of : (done rest : List Line) (at : At) (past : Past) (c : LineCommand) → list_all (λ l. is_answered l.at past) done ≡ true → list_all (λ l. not (is_answered l.at past)) rest ≡ true
     → earlier_answered (done ++ rest) at past ≡ true → is_answered at past ≡ false → command_at (done ++ rest) at ≡ Some c → Head at c rest
-head_of [] [] at past c answered left earlier fresh there = absurd (none_some c there)
-  where
-    none_some : (x : LineCommand) → None ≡ Some x → ⊥
-    none_some x e = cc
+head_of [] [] at past c answered left earlier fresh there = absurd (none-some c there)
 head_of [] (l ∷ rest) at past c answered left earlier fresh there = by_place (same_at l.at at) refl earlier there
   where
-    one : (x y : LineCommand) → Some x ≡ Some y → x ≡ y
-    one x y e = cc
-
     by_place : (b : Bool) → same_at l.at at ≡ b → (if b then true else is_answered l.at past && earlier_answered rest at past) ≡ true
         → (if b then Some l.command else command_at rest at) ≡ Some c → Head at c (l ∷ rest)
-    by_place true e f g = record { line = l; others = rest; is = refl; place = at_same l.at at e; asks = one l.command c g }
+    by_place true e f g = record { line = l; others = rest; is = refl; place = same_at_is l.at at e; asks = same_Some l.command c g }
     by_place false e f g =
         not_both (is_answered l.at past) (and_parts (not (is_answered l.at past)) (list_all (λ m. not (is_answered m.at past)) rest) left).0
         (and_parts (is_answered l.at past) (earlier_answered rest at past) f).0
@@ -236,19 +229,12 @@ head_of (d ∷ done) rest at past c answered left earlier fresh there =
     by_place : (b : Bool) → same_at d.at at ≡ b → (if b then true else is_answered d.at past && earlier_answered (done ++ rest) at past) ≡ true
         → (if b then Some d.command else command_at (done ++ rest) at) ≡ Some c → is_answered d.at past ≡ true
         → (earlier_answered (done ++ rest) at past ≡ true → is_answered at past ≡ false → command_at (done ++ rest) at ≡ Some c → Head at c rest) → Head at c rest
-    by_place true e f g met ih = absurd (true≢false (sym met ∙ (ap (λ (a : At). is_answered a past) (at_same d.at at e) ∙ fresh)))
+    by_place true e f g met ih = absurd (true≢false (sym met ∙ (ap (λ (a : At). is_answered a past) (same_at_is d.at at e) ∙ fresh)))
     by_place false e f g met ih = ih (and_parts (is_answered d.at past) (earlier_answered (done ++ rest) at past) f).1 fresh g
 
 stays_open : (x b : Bool) → x ≡ false → not b ≡ true → not (x || b) ≡ true
 stays_open true b e h = absurd (true≢false e)
 stays_open false b e h = h
-
-and_off : (r s : Bool) → s ≡ false → (r && s) ≡ false
-and_off true s e = e
-and_off false s e = refl
-
-at_self : (a : At) → same_at a a ≡ true
-at_self a = and_from (a.lane.0 == a.lane.0) (a.line.0 == a.line.0) (eq-eqb a.lane.0 a.lane.0 refl) (eq-eqb a.line.0 a.line.0 refl)
 
 module _ (n : ℕ) (few : n ≤ 10000) (past : Past) (e : Entry) (quiet : IsCalm past) (calm : is_calm_event e.event ≡ true) (turn : Turn n past e) where
   asked : asks_for e.at.lane.0 turn.command ≡ true
@@ -292,7 +278,7 @@ module _ (n : ℕ) (few : n ≤ 10000) (past : Past) (e : Entry) (quiet : IsCalm
       let above : m ≤ number_of l = ascends.0 in
       let apart : same_at e.at l.at ≡ false = lower_apart e.at l.at (omega (arith, low, above)) in
       and_from (not (is_answered l.at (e ∷ past))) (list_all (λ k. not (is_answered k.at (e ∷ past))) lines)
-      (stays_open (is_reply e.event && same_at e.at l.at) (is_answered l.at past) (and_off (is_reply e.event) (same_at e.at l.at) apart) parts.0)
+      (stays_open (is_reply e.event && same_at e.at l.at) (is_answered l.at past) (and_right (is_reply e.event) (same_at e.at l.at) apart) parts.0)
       (behind_open (number_of l + 1) lines ascends.1 (omega (arith, low, above)) parts.1)
     where
       lower_apart : (a b : At) → a.line.0 < b.line.0 → same_at a b ≡ false
@@ -313,7 +299,7 @@ module _ (n : ℕ) (few : n ≤ 10000) (past : Past) (e : Entry) (quiet : IsCalm
       let number : number_of head.line ≡ e.at.line.0 = ap (λ (a : At). a.line.0) head.place in
       let now : is_answered head.line.at (e ∷ past) ≡ true =
       or_left (is_reply e.event && same_at e.at head.line.at) (is_answered head.line.at past)
-      (and_from (is_reply e.event) (same_at e.at head.line.at) reply (ap (same_at e.at) head.place ∙ at_self e.at)) in
+      (and_from (is_reply e.event) (same_at e.at head.line.at) reply (ap (same_at e.at) head.place ∙ same_at_self e.at)) in
       let mine : owned lane (accepted_of e.event) ≡ operations_asked head.line.command =
       ap (owned lane) (gained ∙ ap (λ (b : Bool). if b then operations_asked turn.command else []) reply)
       ∙ (owned_asked lane lane (operations_asked turn.command) asked ∙ (ap (λ (b : Bool). if b then operations_asked turn.command else []) (eq-eqb lane lane refl) ∙ ap operations_asked (sym head.asks))) in
@@ -339,7 +325,7 @@ module _ (n : ℕ) (few : n ≤ 10000) (past : Past) (e : Entry) (quiet : IsCalm
       by_tests : (r s : Bool) → is_reply e.event ≡ r → (e.at.lane.0 == lane) ≡ s → Split n lane (e ∷ past)
       by_tests false s f g = aside lane split (λ l mine. ap (λ (b : Bool). b && same_at e.at l.at) f) (ap (owned lane) (gained ∙ ap (λ (b : Bool). if b then operations_asked turn.command else []) f))
       by_tests true false f g =
-          aside lane split (λ l mine. and_off (is_reply e.event) (same_at e.at l.at) (other_lane e.at l.at g mine))
+          aside lane split (λ l mine. and_right (is_reply e.event) (same_at e.at l.at) (other_lane e.at l.at g mine))
           (ap (owned lane) (gained ∙ ap (λ (b : Bool). if b then operations_asked turn.command else []) f) ∙ (owned_asked lane e.at.lane.0 (operations_asked turn.command) asked ∙ ap (λ (b : Bool). if b then operations_asked turn.command else []) g))
         where
           other_lane : (a b : At) → (a.lane.0 == lane) ≡ false → (b.lane.0 == lane) ≡ true → same_at a b ≡ false

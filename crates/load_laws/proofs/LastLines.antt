@@ -1,14 +1,14 @@
 -- The lines behind the join: each comes after those before it, and after all before the join.
 use Rattle.std.proofs.Common.{◌≡◌, ℕ, zero, suc, ◌+◌, ◌≤◌, ◌<◌, List, [], ◌∷◌, ◌++◌, ◌&&◌, ◌||◌, Bool, true, false, Option, Some, None, length, filter, refl, ap, ◌∙◌, sym, subst, arith, inl, inr, if◌then◌else◌}
-use Rattle.std.specs.Prelude.{⊤, ◌⊎◌, ◌==◌, not, slice_get}
+use Rattle.std.specs.Prelude.{◌⊎◌, ◌==◌, not, slice_get}
 use Rattle.std.specs.List.{list_all}
 use Rattle.std.proofs.lemmas.Bool.{false≢true, true≢false, and_from, and_parts, or_right, eq-eqb, eqb-true}
 use Rattle.std.proofs.lemmas.Bool.Decides.{nat_tests}
 use Rattle.std.proofs.lemmas.List.Folds.{list_all-append}
 use Rattle.std.proofs.lemmas.List.Elements.{filter-append}
+use Rattle.std.proofs.lemmas.Option.{none-some, same_Some}
+use Rattle.history_tables.proofs.RowLemmas.{same_at_is}
 use Rattle.nrt_base.specs.declared.numbers.At.{At}
-use Rattle.nrt_base.specs.declared.numbers.Gen.{Gen}
-use Rattle.nrt_base.specs.declared.numbers.Version.{Version}
 use Rattle.history_entries.specs.declared.cause.Cause.{Cause}
 use Rattle.history_entries.specs.declared.entry.Entry.{Entry}
 use Rattle.history_entries.specs.declared.entry.Event.{Event}
@@ -22,7 +22,7 @@ use Rattle.script_serving.specs.declared.script.Line.{Line}
 use Rattle.script_serving.specs.declared.script.LineCommand.{LineCommand}
 use Rattle.script_serving.specs.declared.script.LineCommand.TheVariants.{Put, Delete, Publish, Copy, Settle, Search, Merge}
 use Rattle.script_serving.specs.Lines.{lines_of, command_at, earlier_answered}
-use Rattle.script_serving.specs.Serves.{Begins, First, Follows, Suits, ServesLanes, ServesPhases}
+use Rattle.script_serving.specs.Serves.{Begins, First, Suits, ServesLanes, ServesPhases}
 use Rattle.script_serving.specs.Refusals.{refusal}
 use Rattle.script_text.specs.Grammar.{of_lane}
 use Rattle.script_text.proofs.FormLemmas.{all_kept}
@@ -30,7 +30,7 @@ use Rattle.load_script.specs.Generated.{load_lines, lines_numbered, last_command
 use Rattle.load_script.specs.Totals.{place_behind}
 use Rattle.load_script.proofs.LoadForm.{load_count, last_of}
 use Rattle.load_laws.proofs.CalmPasts.{is_calm_event, IsCalm}
-use Rattle.load_laws.proofs.LoadTurns.{all_of, is_calm_command, at_same, found, command_lane, Turn, turn_of, command_calm, serves_calm, turn_open, turn_suits}
+use Rattle.load_laws.proofs.LoadTurns.{all_of, is_calm_command, found, command_lane, Turn, turn_of, command_calm, serves_calm, turn_open, turn_suits}
 use Rattle.load_laws.proofs.LaneSplits.{all_more, below, first_answered}
 use Rattle.load_laws.proofs.FewNames.{published_by}
 
@@ -66,7 +66,7 @@ pub record Replied (at : At) (past : Past) : Type 0 where
   pub reply : is_reply event ≡ true
 
 pub at_is : (a b : At) → same_at a b ≡ true → (e : Event) → ◌≡◌ {A = Entry} (record { at = a; event = e }) (record { at = b; event = e })
-at_is a b same e = ap (λ (x : At). record { at = x; event = e }) (at_same a b same)
+at_is a b same e = ap (λ (x : At). record { at = x; event = e }) (same_at_is a b same)
 
 pub replied : (at : At) (past : Past) → is_answered at past ≡ true → Replied at past
 replied at [] is = absurd (false≢true is)
@@ -89,20 +89,14 @@ pub record Started (at : At) (begun : Event) (past : Past) : Type 0 where
   pub start : is_start begun ≡ true
 
 pub started_at : (at : At) (begun : Event) (past : Past) → start_entry at past ≡ Some begun → Started at begun past
-started_at at begun [] is = absurd (none_some begun is)
-  where
-    none_some : (x : Event) → None ≡ Some x → ⊥
-    none_some x e = cc
+started_at at begun [] is = absurd (none-some begun is)
 started_at at begun (e ∷ past) is = by_test (is_start e.event && same_at e.at at) refl is (started_at at begun past)
   where
-    one : (x y : Event) → Some x ≡ Some y → x ≡ y
-    one x y e = cc
-
     by_test : (b : Bool) → (is_start e.event && same_at e.at at) ≡ b → (if b then Some e.event else start_entry at past) ≡ Some begun
         → (start_entry at past ≡ Some begun → Started at begun past) → Started at begun (e ∷ past)
     by_test true f g ih =
         let parts = and_parts (is_start e.event) (same_at e.at at) f in
-        let event : e.event ≡ begun = one e.event begun g in
+        let event : e.event ≡ begun = same_Some e.event begun g in
         record {
           newer = [];
           older = past;
@@ -149,10 +143,7 @@ apart_below k m low = grind (arith, nat_tests)
 
 -- the i-th command of lines that are numbered from k on
 command_numbered : (cs : List LineCommand) (rest : List Line) (k m i : ℕ) (c : LineCommand) → m ≡ k + i → slice_get cs i ≡ Some c → command_at (lines_numbered k 1 cs ++ rest) (place m) ≡ Some c
-command_numbered [] rest k m i c is there = absurd (none_some c there)
-  where
-    none_some : (x : LineCommand) → None ≡ Some x → ⊥
-    none_some x e = cc
+command_numbered [] rest k m i c is there = absurd (none-some c there)
 command_numbered (d ∷ cs) rest k m zero c is there =
     let same : same_at (place k) (place m) ≡ true = and_from true (k == m) refl (eq-eqb k m (omega (arith, is))) in
     ap (λ (b : Bool). if b then Some d else command_at (lines_numbered (k + 1) 1 cs ++ rest) (place m)) same ∙ there
@@ -205,7 +196,7 @@ behind n k c past e there known =
     let calm = (known_calm n (entry ∷ past) known).0 in
     let turn = turn_of n past entry known.lanes in
     let both = turn_suits n past entry calm turn in
-    let same : turn.command ≡ c = one turn.command c (sym turn.there ∙ command_behind n k c there) in
+    let same : turn.command ≡ c = same_Some turn.command c (sym turn.there ∙ command_behind n k c there) in
     let suits = subst (λ (d : LineCommand). Suits d (place_behind n k) past (last_of_line (place_behind n k) past) e) same both.0 in
     record {
       suits = suits;
@@ -214,9 +205,6 @@ behind n k c past e there known =
       first = first_answered n entry past known.phases calm (omega arith);
       calm = calm;
     }
-  where
-    one : (x y : LineCommand) → Some x ≡ Some y → x ≡ y
-    one x y f = cc
 
 -- ---- no publish is left
 
@@ -310,16 +298,13 @@ first_start c at past (Some x) e calm first = inr (ap is_reply first)
 first_start c at past None (Refused x) calm first = inr refl
 first_start c at past None e calm first = begins_start c past e calm first
 
-some_none : (y : Event) → Some y ≡ None → ⊥
-some_none y f = cc
-
 or_off : (r b a : Bool) → (r && b || a) ≡ false → a ≡ false
 or_off true true a h = absurd (true≢false h)
 or_off true false a h = h
 or_off false b a h = h
 
 start_off : (s b : Bool) (e : Event) (o : Option Event) → (if s && b then Some e else o) ≡ None → ((s && b) ≡ false) × (o ≡ None)
-start_off true true e o h = absurd (some_none e h)
+start_off true true e o h = absurd (none-some e (sym h))
 start_off true false e o h = (refl, h)
 start_off false b e o h = (refl, h)
 
@@ -333,17 +318,14 @@ starts n past e known none =
 
 -- a line with an entry has its reply or its start
 pub has_start : (n : ℕ) (at : At) (past : Past) (x : Event) → Known n past → last_of_line at past ≡ Some x → is_answered at past ≡ false → start_entry at past ≡ None → ⊥
-has_start n at [] x known last unmet none = none_some x last
-  where
-    none_some : (y : Event) → None ≡ Some y → ⊥
-    none_some y e = cc
+has_start n at [] x known last unmet none = none-some x last
 has_start n at (e ∷ past) x known last unmet none = by_place (same_at e.at at) refl last unmet none (λ y. has_start n at past y (known_before n (e ∷ []) past known))
   where
     none_of : (o : Option Event) → last_of_line at past ≡ o → same_at e.at at ≡ true → (is_start e.event && true) ≡ false → (is_reply e.event && true || is_answered at past) ≡ false
         → start_entry at past ≡ None → ((y : Event) → last_of_line at past ≡ Some y → is_answered at past ≡ false → start_entry at past ≡ None → ⊥) → ⊥
     none_of (Some y) is same off g h ih = ih y is (or_off (is_reply e.event) true (is_answered at past) g) h
     none_of None is same off g h ih =
-        elim (starts n past e known (ap (λ (a : At). last_of_line a past) (at_same e.at at same) ∙ is)) [
+        elim (starts n past e known (ap (λ (a : At). last_of_line a past) (same_at_is e.at at same) ∙ is)) [
           | inl start ↦ true≢false (sym (ap (λ (b : Bool). b && true) start) ∙ off)
           | inr reply ↦ true≢false (sym (ap (λ (b : Bool). b && true || is_answered at past) reply) ∙ g)
         ]

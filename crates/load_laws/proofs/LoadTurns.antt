@@ -1,32 +1,32 @@
 -- What a history that serves the generated script shows of each of its entries.
-use Rattle.std.proofs.Common.{◌≡◌, ℕ, zero, suc, ◌+◌, ◌-◌, ◌≤◌, ◌<◌, ◌^◌, List, [], ◌∷◌, ◌++◌, ◌&&◌, ◌||◌, Bool, true, false, Option, Some, None, length, filter, map, refl, ap, ◌∙◌, sym, subst, arith, inl, inr, append-nil, if◌then◌else◌}
-use Rattle.std.specs.Prelude.{⊤, ◌⊎◌, ◌==◌, ◌%◌, not, nat_lt}
-use Rattle.std.specs.List.{list_all, flat_map}
+use Rattle.std.proofs.Common.{◌≡◌, ℕ, zero, suc, ◌+◌, ◌-◌, ◌≤◌, ◌<◌, ◌^◌, List, [], ◌∷◌, ◌++◌, Bool, true, false, Option, Some, None, filter, refl, ap, ◌∙◌, sym, subst, arith, inl, inr, append-nil, if◌then◌else◌}
+use Rattle.std.specs.Prelude.{◌⊎◌, ◌==◌, ◌%◌, nat_lt}
+use Rattle.std.specs.List.{list_all}
 use Rattle.std.proofs.lemmas.Bool.{false≢true, and_from, and_parts, eq-eqb, eqb-true}
 use Rattle.std.proofs.lemmas.Bool.Decides.{nat_tests}
 use Rattle.std.proofs.lemmas.List.Folds.{list_all-append}
 use Rattle.std.proofs.lemmas.List.Elements.{filter-append}
+use Rattle.std.proofs.lemmas.Option.{none-some, same_Some}
 use Rattle.nrt_base.specs.declared.numbers.At.{At}
-use Rattle.nrt_base.specs.declared.numbers.LaneNo.{LaneNo}
-use Rattle.documents.specs.declared.operation.Op.{Op}
 use Rattle.history_entries.specs.declared.cause.Cause.{Cause}
 use Rattle.history_entries.specs.declared.entry.Entry.{Entry}
 use Rattle.history_entries.specs.declared.entry.Event.{Event}
 use Rattle.history_entries.specs.declared.entry.Event.TheVariants.{Accepted, Publishing, Copying, Settling, Opened, Merging, Crashed, Reopened, Promoted, Planned, Fault, Refused}
 use Rattle.history_entries.specs.Nodes.{Past}
-use Rattle.history_entries.specs.Lines.{same_at, is_reply, is_answered, last_of_line}
+use Rattle.history_entries.specs.Lines.{same_at, is_answered, last_of_line}
 use Rattle.history_entries.specs.Legal.{KeepsRule, IsLegalPast}
-use Rattle.history_tables.proofs.RowLemmas.{by_test}
+use Rattle.history_tables.proofs.RowLemmas.{same_at_is}
 use Rattle.script_serving.specs.declared.script.Line.{Line}
 use Rattle.script_serving.specs.declared.script.LineCommand.{LineCommand}
 use Rattle.script_serving.specs.declared.script.LineCommand.TheVariants.{Put, Delete, Publish, Copy, Settle, Search, Merge}
 use Rattle.script_serving.specs.Lines.{lines_under, lines_of_lane, command_at, earlier_answered}
 use Rattle.script_serving.specs.Serves.{Begins, First, Follows, Suits, FitsTurn, ServesLanes}
 use Rattle.script_serving.specs.Refusals.{refusal}
+use Rattle.script_serving.proofs.LogLemmas.{unanswered}
 use Rattle.script_text.specs.Grammar.{of_lane, lane_entry, lanes_from}
 use Rattle.script_text.proofs.FormLemmas.{all_lines, under-append, none_under}
 use Rattle.script_text.proofs.NumberLaws.{value_of-decimal}
-use Rattle.load_script.specs.Generated.{load_lane, load_key, load_lines, load_commands, lines_numbered, last_commands, generated_script}
+use Rattle.load_script.specs.Generated.{load_lane, load_key, load_lines, load_commands, lines_numbered, generated_script}
 use Rattle.load_script.specs.Totals.{operations_asked}
 use Rattle.load_script.proofs.LoadForm.{last_of, phases_for, lines_all, commands_all, load_all}
 use Rattle.load_laws.proofs.KeyedOps.{is_keyed, owner, owner_of}
@@ -174,14 +174,6 @@ command_lane (l ∷ lines) at = by_lane (l.at.lane.0 == at.lane.0) refl (command
         ∙ ap (λ (o : Option LineCommand). if same_at l.at at then Some l.command else o) ih
     by_lane false e ih = rw e ih
 
-pub at_same : (a b : At) → same_at a b ≡ true → a ≡ b
-at_same a b e =
-    let parts = and_parts (a.lane.0 == b.lane.0) (a.line.0 == b.line.0) e in
-    same_parts a.lane.0 b.lane.0 a.line.0 b.line.0 (eqb-true a.lane.0 b.lane.0 parts.0) (eqb-true a.line.0 b.line.0 parts.1)
-  where
-    same_parts : (k l m n : ℕ) → k ≡ l → m ≡ n → ◌≡◌ {A = At} (record { lane = record { 0 = k }; line = record { 0 = m } }) (record { lane = record { 0 = l }; line = record { 0 = n } })
-    same_parts k l m n f g = cc
-
 -- the line at a place
 pub record Found (p : Line → Bool) (at : At) (c : LineCommand) : Type 0 where
   pub line : Line
@@ -190,17 +182,11 @@ pub record Found (p : Line → Bool) (at : At) (c : LineCommand) : Type 0 where
   pub holds : p line ≡ true
 
 pub found : (p : Line → Bool) (lines : List Line) (at : At) (c : LineCommand) → list_all p lines ≡ true → command_at lines at ≡ Some c → Found p at c
-found p [] at c all is = absurd (none_some c is)
-  where
-    none_some : (x : LineCommand) → None ≡ Some x → ⊥
-    none_some x e = cc
+found p [] at c all is = absurd (none-some c is)
 found p (l ∷ lines) at c all is = by_place (same_at l.at at) refl is (found p lines at c (and_parts (p l) (list_all p lines) all).1)
   where
-    one : (x y : LineCommand) → Some x ≡ Some y → x ≡ y
-    one x y e = cc
-
     by_place : (b : Bool) → same_at l.at at ≡ b → (if b then Some l.command else command_at lines at) ≡ Some c → (command_at lines at ≡ Some c → Found p at c) → Found p at c
-    by_place true e f ih = record { line = l; place = at_same l.at at e; asks = one l.command c f; holds = (and_parts (p l) (list_all p lines) all).0 }
+    by_place true e f ih = record { line = l; place = same_at_is l.at at e; asks = same_Some l.command c f; holds = (and_parts (p l) (list_all p lines) all).0 }
     by_place false e f ih = ih f
 
 -- ---- entries
@@ -285,33 +271,6 @@ serves_calm n size (e ∷ past) legal serves =
     (turn_calm size turn.command (of_lane e.at.lane.0 (all_of n)) e.at past e.event (command_calm n e.at turn.command turn.there) before legal.0 turn.fits, before)
 
 -- ---- replies
-
-unanswered_by : (event : Event) (last : Option Event) → ◌≡◌ {A = Option Event} (elim event [ Fault n kind ↦ last | e ↦ Some e ]) None → (is_reply event ≡ false) × (last ≡ None)
-unanswered_by (Fault n kind) last h = (refl, h)
-unanswered_by event last h = absurd (some_none event h)
-  where
-    some_none : (e : Event) → Some e ≡ None → ⊥
-    some_none e k = cc
-
--- a line without an entry but faults has no reply
-unanswered : (at : At) (past : Past) → last_of_line at past ≡ None → is_answered at past ≡ false
-unanswered at [] h = refl
-unanswered at (e ∷ past) h = by_place (same_at e.at at) refl h (unanswered at past)
-  where
-    no_reply : (reply same rest : Bool) → reply ≡ false → rest ≡ false → (reply && same || rest) ≡ false
-    no_reply true same rest f g = absurd (false≢true (sym f))
-    no_reply false same rest f g = g
-
-    no_other : (reply same rest : Bool) → same ≡ false → rest ≡ false → (reply && same || rest) ≡ false
-    no_other reply true rest f g = absurd (false≢true (sym f))
-    no_other true false rest f g = g
-    no_other false false rest f g = g
-
-    by_place : (t : Bool) → same_at e.at at ≡ t → ◌≡◌ {A = Option Event} (if t then (elim e.event [ Fault n kind ↦ last_of_line at past | event ↦ Some event ]) else last_of_line at past) None
-        → (last_of_line at past ≡ None → is_answered at past ≡ false) → (is_reply e.event && same_at e.at at || is_answered at past) ≡ false
-    by_place true same k ih =
-        let parts = unanswered_by e.event (last_of_line at past) k in no_reply (is_reply e.event) (same_at e.at at) (is_answered at past) parts.0 (ih parts.1)
-    by_place false same k ih = no_other (is_reply e.event) (same_at e.at at) (is_answered at past) same (ih k)
 
 -- the entry's line has no reply before it
 pub turn_open : (c : LineCommand) (at : At) (past : Past) (e : Event) → Suits c at past (last_of_line at past) e → is_answered at past ≡ false

@@ -1,10 +1,11 @@
 -- The publish behind the join makes the point of all documents, the settle brings node 3 to it, and each search answers there.
-use Rattle.std.proofs.Common.{◌≡◌, ℕ, zero, suc, ◌+◌, ◌≤◌, ◌<◌, List, [], ◌∷◌, ◌++◌, ◌&&◌, ◌||◌, Bool, true, false, Option, Some, None, length, max, map, reverse, refl, ap, ◌∙◌, sym, subst, arith, if◌then◌else◌}
+use Rattle.std.proofs.Common.{◌≡◌, ℕ, ◌+◌, ◌≤◌, ◌<◌, List, [], ◌∷◌, ◌++◌, ◌&&◌, ◌||◌, Bool, true, false, Option, Some, None, length, max, reverse, refl, ap, ◌∙◌, sym, subst, arith, if◌then◌else◌}
 use Rattle.std.specs.Prelude.{⊤, ◌==◌, not, nat_lt, slice_get}
-use Rattle.std.specs.List.{list_all, flat_map}
+use Rattle.std.specs.List.{list_all}
 use Rattle.std.specs.Option.{option_or}
 use Rattle.std.proofs.lemmas.Bool.{false≢true, true≢false, and_from, and_parts, or_left, or_right, eq-eqb, eqb-true}
 use Rattle.std.proofs.lemmas.Bool.Decides.{nat_tests}
+use Rattle.history_tables.proofs.RowLemmas.{same_at_self}
 use Rattle.nrt_base.specs.declared.numbers.At.{At}
 use Rattle.nrt_base.specs.declared.numbers.NodeNo.{NodeNo}
 use Rattle.nrt_base.specs.declared.numbers.TicketNo.{TicketNo}
@@ -20,11 +21,11 @@ use Rattle.history_entries.specs.declared.entry.Entry.{Entry}
 use Rattle.history_entries.specs.declared.entry.Event.{Event}
 use Rattle.history_entries.specs.declared.entry.Event.TheVariants.{Publishing, Published, Copying, Switched, Settling, Settled, Opened, Asking, Answered, Committing, Refused}
 use Rattle.history_entries.specs.declared.entry.History.{History}
-use Rattle.history_entries.specs.Nodes.{Past, IsReplica, is_at, primary_of, primary_crashes, is_running, crashes, version_of, newest_version}
+use Rattle.history_entries.specs.Nodes.{Past, IsReplica, is_at, primary_crashes, crashes, version_of, newest_version}
 use Rattle.history_entries.specs.Lines.{same_at, is_start, is_reply, is_answered, last_of_line, start_entry, before_start, NodeSurvives}
 use Rattle.history_entries.specs.Points.{operations_written, operations_at_start, operations_at, documents_at, cut_of, cut_has_put}
-use Rattle.history_entries.specs.Faults.{has_fault, same_kind, is_of_disk}
-use Rattle.history_entries.specs.Rules.{is_lost, is_above, is_node_of, is_source_of, MayRefuse, MayRefuseLine, MayCancel, MayStartSettle, MayOpen, MayAnswer, StartedSearch}
+use Rattle.history_entries.specs.Faults.{same_kind, is_of_disk}
+use Rattle.history_entries.specs.Rules.{is_lost, is_above, is_node_of, is_source_of, MayRefuse, MayRefuseLine, MayCancel, StartedSearch}
 use Rattle.history_entries.specs.Legal.{IsLegalPast, IsLegal}
 use Rattle.history_laws.proofs.PastLemmas.{point_low}
 use Rattle.history_laws.proofs.NodeLemmas.{version_low, runs_through}
@@ -35,22 +36,19 @@ use Rattle.script_serving.specs.declared.script.LineCommand.{LineCommand}
 use Rattle.script_serving.specs.declared.script.LineCommand.TheVariants.{Publish, Settle, Search}
 use Rattle.script_serving.specs.Lines.{lines_of, all_answered}
 use Rattle.script_serving.specs.Serves.{First, Suits, Follows, Serves}
-use Rattle.script_serving.specs.Refusals.{when, without_primary, refusal, names_are_spent, may_be_full, may_be_refused, is_late_cause, is_copy_cause}
+use Rattle.script_serving.specs.Refusals.{when, refusal, names_are_spent, may_be_full, may_be_refused, is_late_cause}
 use Rattle.script_text.specs.Grammar.{of_lane, lanes_from}
 use Rattle.script_text.proofs.FormLemmas.{under}
-use Rattle.load_script.specs.Generated.{load_lines, lines_numbered, last_commands, load_queries, generated_script}
+use Rattle.load_script.specs.Generated.{load_lines, lines_numbered, last_commands, generated_script}
 use Rattle.load_script.specs.Totals.{load_documents, place_behind, total_by, total_at, totals_in, totals_of}
 use Rattle.load_script.proofs.LoadForm.{last_of}
 use Rattle.load_laws.proofs.CalmPasts.{IsCalm, calm_primary, calm_runs, calm_crashes, calm_primary_crashes, calm_fault, calm_published, nothing_left}
 use Rattle.load_laws.proofs.LaneSplits.{all_more, all_parts, under_has, with_primary, documents_written}
-use Rattle.load_laws.proofs.FewNames.{never_full, never_spent, at_self}
-use Rattle.load_laws.proofs.LastLines.{Known, known_before, known_calm, at_is, replied, started_at, behind, Behind, IsLate, late_of, late_behind, late_more, newest_stays, has_start, place}
+use Rattle.load_laws.proofs.FewNames.{never_full, never_spent}
+use Rattle.load_laws.proofs.LastLines.{Known, known_before, known_calm, at_is, replied, started_at, behind, Behind, late_of, late_behind, late_more, newest_stays, has_start, place}
 
 abbrev entry : At → Event → Entry
 entry at e = record { at = at; event = e }
-
-some_none : {X : Type 0} (x : X) → Some x ≡ None → ⊥
-some_none x e = cc
 
 -- ---- late refusals
 
@@ -213,7 +211,7 @@ module _ (n : ℕ) (few : n ≤ 10000) where
       let end = publish_end at reply.older (last_of_line at reply.older) reply.event reply.reply has.suits in
       let full = publishes reply.older reply.event there reply.reply end in
       let met : is_answered at (now ∷ reply.older) ≡ true =
-      or_left (is_reply reply.event && same_at at at) (is_answered at reply.older) (and_from (is_reply reply.event) (same_at at at) reply.reply (at_self at)) in
+      or_left (is_reply reply.event && same_at at at) (is_answered at reply.older) (and_from (is_reply reply.event) (same_at at at) reply.reply (same_at_self at)) in
       let late = late_of n (now ∷ reply.older) (still_first reply.older now has.first) met in
       let same = newest_stays n reply.newer (now ∷ reply.older) whole late in
       let v : ℕ = newest_version (now ∷ reply.older) in

@@ -1,5 +1,6 @@
 -- The files that a job lacks, and their metadata.
 use Rattle.std.proofs.Common.{◌≡◌, ◌≤◌, ◌<◌, ◌+◌, ℕ, zero, suc, Bool, true, false, true≢false, List, [], ◌∷◌, Some, None, Option, length, drop, get_or, slice_get, refl, ap, ◌∙◌, sym, subst, arith, if◌then◌else◌}
+use Rattle.std.proofs.lemmas.Option.{none-some}
 use Rattle.disk_model.specs.Disk.{Name, same, is_among}
 use Rattle.disk_model.proofs.CellLemmas.{same_true}
 use Rattle.file_deleter.specs.Holdings.{times}
@@ -69,10 +70,7 @@ pub first_meta : (j : Job) (names : List Name) (files : List (Name × FileMetaDa
 first_meta j names files q job are first same none =
     let counted : 0 < times j.missing q = first_counted j.missing q (first ∙ ap (λ (xs : List Name). slice_get xs 0) are) in
     let m = wanted_meta j q job counted in
-    clash m.0 (none ∙ (ap (λ (fs : List (Name × FileMetaData)). meta_in fs q) same ∙ m.1))
-  where
-    clash : (m : FileMetaData) → None ≡ Some m → ⊥
-    clash m e = absurd (cc)
+    none-some m.0 (none ∙ (ap (λ (fs : List (Name × FileMetaData)). meta_in fs q) same ∙ m.1))
 
 pub first_next : (j : Job) (names : List Name) (files : List (Name × FileMetaData)) (q : Name) (meta copy : FileMetaData) → names ≡ j.missing → Some q ≡ slice_get names 0 → files ≡ j.want.files → Some meta ≡ meta_in files q → copy ≡ meta
     → (0 < times j.missing q) × (meta_in j.want.files q ≡ Some copy)

@@ -86,9 +86,6 @@ module _ {D : Type 0} where
 
 -- ---- a copy by its number
 
-pub there_at : (o : Option Job) (c : Job) → o ≡ Some c → IsSome o
-there_at o c is = ap is_some is
-
 pub copy_told : (o : Option Job) (c : Job) → Some c ≡ o → o ≡ Some c
 copy_told o c is = sym is
 

@@ -1,11 +1,11 @@
 -- A node that was taken out of its place moved, and was put back; and what a cut-over makes of the primary.
-use Rattle.std.proofs.Common.{◌≡◌, ◌≤◌, ◌<◌, ◌==◌, ℕ, zero, suc, Bool, true, false, List, Some, None, Option, Result, Ok, Err, Vec, Global, refl, ap, ◌∙◌, sym, subst, arith, if◌then◌else◌, length}
-use Rattle.std.specs.Prelude.{is_some, IfOk, OnOk}
-use Rattle.std.proofs.lemmas.Bool.{false≢true}
+use Rattle.std.proofs.Common.{◌≡◌, ◌≤◌, ◌<◌, ◌==◌, ℕ, zero, suc, Bool, List, Some, None, Option, Result, Ok, Err, Vec, Global, refl, ap, ◌∙◌, sym, subst, arith, if◌then◌else◌, length}
+use Rattle.std.specs.Prelude.{IfOk, OnOk}
 use Rattle.nrt_base.specs.declared.numbers.SegNo.{SegNo}
 use Rattle.disk_model.specs.Disk.{Name, Cells}
-use Rattle.file_deleter.specs.Holdings.{count_of, IsThere}
+use Rattle.file_deleter.specs.Holdings.{count_of}
 use Rattle.node_files.specs.Appearing.{NoneAppears, AppearsOnly}
+use Rattle.node_files.proofs.Appearing.{only_then_none}
 use Rattle.copy_state.specs.declared.state.CopyState.{CopyState}
 use Rattle.primary_parts.specs.declared.parts.Parts.{Parts as PrimaryParts}
 use Rattle.primary_parts.specs.declared.states.Out.{Out}
@@ -18,16 +18,6 @@ use Rattle.replica_parts.specs.declared.parts.Parts.{Parts as ReplicaParts}
 use Rattle.node_jobs.proofs.Given.{moved_one}
 use Rattle.node_merges.specs.MergeChanges.{CutsMerge}
 use Rattle.node_merges.specs.MergePlaces.{MovesPrimary, MovesReplica}
-
-appears_over : (P : Name → Type 0) (a b c : Cells) → AppearsOnly P a b → NoneAppears b c → AppearsOnly P a c
-appears_over P a b c first second = record { each = λ q none some. first.each q none (between q some) }
-  where
-    between : (q : Name) → IsThere c q → IsThere b q
-    between q some = by (b q).now refl
-      where
-        by : (o : Option (List ℕ)) → (b q).now ≡ o → is_some (b q).now ≡ true
-        by None gone = absurd (false≢true (sym (ap is_some (second.each q gone)) ∙ some))
-        by (Some x) here = ap is_some here
 
 module _ {D : Type 0} where
   pub primary_moved : (Step : PrimaryParts D → PrimaryParts D → Type 0) (old mid new : List (Option (Place D))) (p : ℕ) (q r : PrimaryParts D) (held : Vec Held Global) → IsSlot old p
@@ -112,7 +102,7 @@ module _ {D : Type 0} where
     stays = stays_over cells old mid new no_new stays stays2;
     fresh = fresh_over cells old mid new no_new fresh;
     drawn = drawn_over old mid new drawn (λ q is. subst (λ (z : PrimaryParts D). IsUnwritten z q → IsUnwritten mid q) (sym back) (λ u. u) is);
-    appears = appears_over (IsOwnFile old.infos (loose_of old)) (cells old.dir) (cells mid.dir) (cells new.dir) appears none;
+    appears = only_then_none (IsOwnFile old.infos (loose_of old)) (cells old.dir) (cells mid.dir) (cells new.dir) appears none;
     whole = whole;
   }
     where

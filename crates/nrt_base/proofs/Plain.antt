@@ -1,8 +1,17 @@
 -- Small facts that every crate needs and std lacks: of the cells of lists, of pairs, results and tests.
 -- std has those of `&&` and `||` (`and_parts`, `and_from`, `or_cases`, ..), of `<` and `≤` as tests (`ltb-true`, `leb-true`, `eqb-true`, ..)
 -- and of `Some` (`same_Some`, `none-some`).
-use Rattle.std.proofs.Common.{◌≡◌, Bool, false, List, [], ◌∷◌, Result, Ok, Err}
-use Rattle.std.specs.Prelude.{IsTrue}
+use Rattle.std.proofs.Common.{◌≡◌, ◌≤◌, ◌<◌, ◌+◌, ℕ, zero, suc, Bool, true, false, List, [], ◌∷◌, ◌++◌, length, get_or, Some, Result, Ok, Err, inl, inr, refl, sym, ap, subst, ◌∙◌, arith}
+use Rattle.std.specs.Prelude.{IsTrue, nat_le, ◌⊎◌}
+use Rattle.std.specs.List.{All, Contains, slice_get}
+use Rattle.std.specs.List.Sorted.{IsStrictlySortedBy}
+use Rattle.std.specs.Ordering.{ordering_then}
+use Rattle.std.specs.declared.cmp.Ordering.{Ordering}
+use Rattle.std.specs.declared.cmp.Ordering.TheVariants.{Less, Equal, Greater}
+use Rattle.std.proofs.lemmas.Bool.{leb-true, and_parts}
+use Rattle.std.proofs.lemmas.Bool.Decides.{nat_tests}
+use Rattle.std.proofs.lemmas.List.{append_assoc}
+use Rattle.nrt_base.specs.Bytes.{is_between}
 
 -- ---- lists
 
@@ -20,6 +29,30 @@ cons_rest x y xs ys e = cc
 
 pub empty_never_cons : {X : Type 0} (x : X) (xs : List X) → [] ≡ x ∷ xs → ⊥
 empty_never_cons x xs e = cc
+
+pub contains_later : {X : Type 0} (x y : X) (xs : List X) → Contains xs y → Contains (x ∷ xs) y
+contains_later x y xs (k, lt, e) = (suc k, omega (arith, lt), e)
+
+-- what is in a list with one in front is that one or in the rest
+pub contains_cases : {X : Type 0} (x y : X) (xs : List X) → Contains (x ∷ xs) y → (x ≡ y) ⊎ Contains xs y
+contains_cases x y xs (zero, lt, e) = inl e
+contains_cases x y xs (suc k, lt, e) = inr (k, omega (arith, lt), e)
+
+-- what holds of each element holds of the one that stands there
+pub All-item : {X : Type 0} (P : X → Type 0) (xs : List X) (i : ℕ) (x : X) → All P xs → i < length xs → x ≡ get_or xs i x → P x
+All-item P xs i x all lt item = subst P (sym item) (all i x lt)
+
+pub slice_get-push : {X : Type 0} (xs : List X) (y : X) → slice_get (xs ++ y ∷ []) (length xs) ≡ Some y
+slice_get-push [] y = refl
+slice_get-push (x ∷ xs) y = slice_get-push xs y
+
+-- what was put at the end goes from the rest to the front
+pub moved_over : {X : Type 0} (old new one rest rest_now whole : List X) → rest ≡ one ++ rest_now → old ++ rest ≡ whole → new ≡ old ++ one → new ++ rest_now ≡ whole
+moved_over {X} old new one rest rest_now whole split so_far put = ap (λ (xs : List X). xs ++ rest_now) put ∙ append_assoc old one rest_now ∙ sym (ap (λ (xs : List X). old ++ xs) split) ∙ so_far
+
+pub sorted_none : {K : Type 0} (cmp : K → K → Ordering) → IsStrictlySortedBy cmp []
+unfolding IsStrictlySortedBy
+sorted_none cmp = tt
 
 -- ---- pairs
 
@@ -41,6 +74,20 @@ same_err d e same = cc
 
 pub false_never : (b : Bool) → b ≡ false → IsTrue b → ⊥
 false_never b e h = cc
+
+-- what a number between two others is at most
+pub between_high : (low high n : ℕ) → is_between low high n ≡ true → n ≤ high
+between_high low high n h = leb-true n high (and_parts (nat_le low n) (nat_le n high) h).1
+
+-- a digit's byte is one from `0` to `9`
+pub digit_is : (d : ℕ) → d < 10 → is_between 48 57 (48 + d) ≡ true
+digit_is d h = grind (arith, nat_tests)
+
+-- two orders, one after the other, tie where both do
+pub both_equal : (a b : Ordering) → ordering_then a b ≡ Equal → (a ≡ Equal) × (b ≡ Equal)
+both_equal Less b e = absurd cc
+both_equal Equal b e = (refl, e)
+both_equal Greater b e = absurd cc
 
 -- what never holds is what `false` says
 pub false_says : (X : Type 0) → (X → ⊥) → (IsTrue false → X) × (X → IsTrue false)

@@ -1,5 +1,5 @@
 -- A source and a sink in memory: what each call moves, and which calls fail.
-use Rattle.std.specs.Prelude.{ℕ, ◌+◌, ◌-◌, ◌^◌, min, List, ◌++◌, length, take, drop, Bool, ◌&&◌, ◌||◌, if◌then◌else◌, nat_eq, nat_lt}
+use Rattle.std.specs.Prelude.{ℕ, ◌+◌, ◌-◌, ◌^◌, min, List, [], ◌++◌, length, take, drop, Bool, ◌&&◌, ◌||◌, if◌then◌else◌, nat_eq, nat_lt}
 use Rattle.std.specs.List.{list_any}
 
 -- a count, raised by one, that stays at its end
@@ -22,6 +22,14 @@ pub record Output : Type 0 where
   pub fails : List ℕ
   pub calls : ℕ
   pub faults : ℕ
+
+-- a source of these bytes that no call has read: the most that a call moves, and the numbers of the calls that are to fail
+abbrev pub whole_source : List ℕ → ℕ → List ℕ → Input
+whole_source bytes step fails = record { left = bytes; step = step; fails = fails; calls = 0; faults = 0 }
+
+-- a sink that holds nothing and was not called: its room, and as with a source
+abbrev pub empty_sink : ℕ → ℕ → List ℕ → Output
+empty_sink room step fails = record { held = []; room = room; step = step; fails = fails; calls = 0; faults = 0 }
 
 -- the next call is one that is to fail
 abbrev pub is_to_fail : List ℕ → ℕ → Bool

@@ -2,7 +2,7 @@ ghost use Rattle.std.specs.Prelude.{◌≡◌, ◌≤◌, ◌<◌, ◌+◌, ◌�
 ghost use Rattle.std.specs.Io.{ReadsAtMost, WritesAtMost};
 ghost use Rattle.std.specs.Io.KnownBytes.{ReadConsumes, WriteAppends};
 ghost use Rattle.nrt_base.specs.Causes.{HasCause};
-ghost use Rattle.nrt_streams.specs.MemoryStreams.{raised, is_to_fail, read_by, after_read, is_refused, taken_by, after_write};
+ghost use Rattle.nrt_streams.specs.MemoryStreams.{whole_source, empty_sink, raised, is_to_fail, read_by, after_read, is_refused, taken_by, after_write};
 
 use crate::stream::{Failed, Sink, Source};
 use nrt_base::NoMemory;
@@ -58,7 +58,7 @@ impl MemSource {
     /// A source of these bytes. A call moves at most `step` bytes; `fails` has the numbers, from 1, of the calls that are to fail.
     pub fn new(bytes: Vec<u8>, step: usize, fails: Vec<u64>) -> MemSource
         requires { 1 ≤ step }
-        ensures { result ≡ record { left = bytes.items; step = step; fails = fails.items; calls = 0; faults = 0 } }
+        ensures { result ≡ whole_source bytes.items step fails.items }
     {
         MemSource {
             bytes,
@@ -147,7 +147,7 @@ impl MemSink {
         fails: Vec<u64>,
     ) -> Result<MemSink, NoMemory>
         requires { 1 ≤ step }
-        ensures { IfOk result (λ sink. sink ≡ record { held = []; room = room; step = step; fails = fails.items; calls = 0; faults = 0 }) }
+        ensures { IfOk result (λ sink. sink ≡ empty_sink room step fails.items) }
     {
         Ok(MemSink {
             bytes: Vec::with_capacity(alloc, room)?,

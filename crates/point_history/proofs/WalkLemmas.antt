@@ -89,11 +89,6 @@ shows_promote past entry n g f v old new is shows done =
     subst (λ (e : Event). KnowsPast (record { at = entry.at; event = e } ∷ past) new) (sym is)
     (shows_promoted past entry.at n g f v old new shows done)
 
--- a consequence of what a call did where it answered Ok
-pub on_ok : {T E : Type 0} (r : Result T E) (P Q : Type 0) → (P → Q) → OnOk r P → OnOk r Q
-on_ok (Ok x) P Q f p = f p
-on_ok (Err e) P Q f p = tt
-
 pub on_both : {T E : Type 0} (r : Result T E) (P Q R : Type 0) → (P → Q → R) → OnOk r P → OnOk r Q → OnOk r R
 on_both (Ok x) P Q R f p q = f p q
 on_both (Err e) P Q R f p q = tt

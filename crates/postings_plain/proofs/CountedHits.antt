@@ -1,6 +1,7 @@
 -- Loops that read past hits, and past blocks of them.
-use Rattle.std.proofs.Common.{◌≡◌, ℕ, zero, suc, ◌+◌, ◌-◌, ◌^◌, ◌<◌, ◌≤◌, min, Bool, true, false, cond, List, [], ◌∷◌, ◌++◌, length, Option, Some, None, refl, sym, ap, subst, ◌∙◌, append_assoc, arith}
+use Rattle.std.proofs.Common.{◌≡◌, ℕ, zero, suc, ◌+◌, ◌-◌, ◌^◌, ◌<◌, ◌≤◌, min, Bool, false, cond, List, [], ◌∷◌, ◌++◌, length, Option, Some, None, refl, sym, ap, subst, ◌∙◌, append_assoc, arith}
 use Rattle.std.proofs.lemmas.List.{append-nil}
+use Rattle.std.proofs.lemmas.Bool.{false_from_ne_true}
 use Rattle.body_forms.specs.Format.{Read, ◌>>=◌}
 use Rattle.body_forms.proofs.Formats.{bind_some, read_is}
 use Rattle.body_forms.proofs.Loops.{with_front}
@@ -92,10 +93,6 @@ regroup_block : (front block : List Hit) (read : Read (List Hit)) → with_front
 regroup_block front block (Some hs) = ap (λ (ys : List Hit). Some (ys, hs.1)) (sym (append_assoc front block hs.0))
 regroup_block front block None = refl
 
-not_true : (b : Bool) → (b ≡ true → ⊥) → b ≡ false
-not_true true never = absurd (never refl)
-not_true false never = refl
-
 module _ (field : ℕ) (skips : List Skip) (count blocks : ℕ) (bytes : List ℕ) (left k : ℕ) (table rest : List ℕ) (pos : 0 < blocks) (at : HasPassedBlocks field skips count blocks bytes left k table rest) where
   entry_next : NextSkip blocks k table at.later at.after
   entry_next = next_skip blocks k table at.later at.after pos at.entries
@@ -124,7 +121,7 @@ module _ (field : ℕ) (skips : List Skip) (count blocks : ℕ) (bytes : List �
   pub block_differs : (s : Skip) (after : List ℕ) (block : List Hit) (others : List ℕ) → skip_at k table ≡ Some (s, after) → counted_from_at field (min block_rows left) k rest ≡ Some (block, others)
       → (end_after k block ≡ above_block s → length rest ≡ length others + s.1 → ⊥) → blocks_at field skips count 0 bytes ≡ None
   block_differs s after block others e f fails =
-      let not : ends_as s k rest (block, others) ≡ false = not_true (ends_as s k rest (block, others)) (λ yes. let d = ends_true s k rest (block, others) yes in fails d.0 d.1) in
+      let not : ends_as s k rest (block, others) ≡ false = false_from_ne_true (ends_as s k rest (block, others)) (λ yes. let d = ends_true s k rest (block, others) yes in fails d.0 d.1) in
       sym (whole_at s after (Some (block, others)) e f).0
       ∙ ap (λ (b : Bool). with_front at.front (cond b (blocks_at field entry_next.others (left - block_rows) (above_block s) others >>= λ hs. Some (block ++ hs.0, hs.1)) None)) not
 

@@ -1,8 +1,7 @@
 -- A binary search by key.
 use Rattle.std.proofs.Common.{◌≡◌, ℕ, zero, suc, ◌+◌, ◌<◌, ◌≤◌, List, [], ◌∷◌, ◌++◌, length, get_or, map, Some, None, refl, sym, ap, subst, ◌∙◌, arith, inl, inr}
 use Rattle.std.specs.Cmp.Lexicographic.{slice_cmp}
-use Rattle.std.specs.Ordering.{nat_cmp, ordering_then}
-use Rattle.std.specs.declared.cmp.Ordering.{Ordering}
+use Rattle.std.specs.Ordering.{nat_cmp}
 use Rattle.std.specs.declared.cmp.Ordering.TheVariants.{Less, Equal, Greater}
 use Rattle.std.proofs.lemmas.Cmp.{nat_list_cmp_total, tied_itself, ranked, by_ranked}
 use Rattle.std.proofs.lemmas.Bool.{cases_lt}
@@ -16,7 +15,7 @@ use Rattle.postings_plain.specs.Reading.{field_at, term_at, no_entry, at_place, 
 use Rattle.postings_plain.proofs.EntryLaws.{field_format, term_format}
 use Rattle.body_forms.proofs.ItemTables.{table_count}
 use Rattle.body_forms.proofs.Formats.{read_is}
-use Rattle.nrt_base.proofs.Plain.{cons_from, cons_first}
+use Rattle.nrt_base.proofs.Plain.{cons_from, cons_first, both_equal}
 
 -- the field, then the term, are read from an entry
 pub field_first : (format : Format) (e : Entry) → IsFileEntry format e → field_at (entry format e) ≡ Some (e.0, string e.1.0 ++ hits format e.0 e.1.1)
@@ -48,11 +47,6 @@ term_read format rest e term after fit same r = let q = read_is term e.1.0 after
 pub term_is_there : (format : Format) (rest : List ℕ) (e : Entry) → IsFileEntry format e → rest ≡ string e.1.0 ++ hits format e.0 e.1.1 → ◌≡◌ {A = Read (List ℕ)} None (term_at rest) → ⊥
 term_is_there format rest e fit same r = let bad = r ∙ ap term_at same ∙ term_second format e fit in cc
 
-tied_then : (o p : Ordering) → ordering_then o p ≡ Equal → (o ≡ Equal) × (p ≡ Equal)
-tied_then Less p e = absurd cc
-tied_then Equal p e = (refl, e)
-tied_then Greater p e = absurd cc
-
 tied_numbers : (x y : ℕ) → nat_cmp x y ≡ Equal → x ≡ y
 tied_numbers x y e = by_ranked (x < y) (x ≡ y) (y < x) (nat_cmp x y) (ranked x y (nat_cmp x y) refl) (λ f _. let bad = sym f ∙ e in cc) (λ _ same. same) (λ f _. let bad = sym f ∙ e in cc)
 
@@ -61,7 +55,7 @@ same_key [] [] e = refl
 same_key [] (y ∷ ys) e = absurd cc
 same_key (x ∷ xs) [] e = absurd cc
 same_key (x ∷ xs) (y ∷ ys) e =
-    let t = tied_then (nat_cmp x y) (slice_cmp nat_cmp xs ys) e in
+    let t = both_equal (nat_cmp x y) (slice_cmp nat_cmp xs ys) e in
     cons_from x y xs ys (tied_numbers x y t.0) (same_key xs ys t.1)
 
 -- the places below low come before the key, and those from high on after it

@@ -1,7 +1,7 @@
 -- What is found of rows makes the entries of the rows.
-use Rattle.std.proofs.Common.{◌≡◌, ℕ, zero, suc, ◌+◌, ◌^◌, ◌<◌, ◌≤◌, Bool, true, false, cond, ◌||◌, List, [], ◌∷◌, ◌++◌, length, get_or, map, Option, Some, Bor, refl, sym, ap, subst, ◌∙◌, inl, inr, arith}
+use Rattle.std.proofs.Common.{◌≡◌, ℕ, zero, suc, ◌+◌, ◌^◌, ◌<◌, ◌≤◌, Bool, true, false, cond, ◌||◌, List, [], ◌∷◌, ◌++◌, length, get_or, map, Option, Some, Bor, refl, sym, ap, subst, ◌∙◌, arith}
 use Rattle.std.specs.Prelude.{IsTrue}
-use Rattle.std.specs.List.{filter, list_any, enumerate_from, All, AllPairs, slice_get}
+use Rattle.std.specs.List.{filter, list_any, enumerate_from, All, AllPairs}
 use Rattle.std.specs.Str.{bytes_eq}
 use Rattle.std.specs.Ordering.{nat_cmp}
 use Rattle.std.specs.Cmp.Lexicographic.{slice_cmp, bytes_decides, nat_list_cmp_total}
@@ -9,7 +9,7 @@ use Rattle.std.specs.Map.{keys_of}
 use Rattle.std.specs.BTreeMap.{BTreeMap, get, IsOrdered, is_at}
 use Rattle.std.proofs.lemmas.List.{length-map, map-append, get_or-map}
 use Rattle.std.proofs.lemmas.List.Elements.{All-head, All-tail, All-map, All-push, All-weaker, All-get_or}
-use Rattle.std.proofs.lemmas.Option.{get_or_from_slice_get, slice_get-get_or, slice_get_cases}
+use Rattle.std.proofs.lemmas.Option.{get_or_from_slice_get, slice_get-get_or, slice_get_within}
 use Rattle.std.proofs.lemmas.Map.Text.{is_eq-slice_cmp}
 use Rattle.std.specs.Iterator.{Yields}
 use Rattle.std.specs.Map.Iter.{TakesFirst, deref_pair}
@@ -159,9 +159,6 @@ entries_more format found heading field term hits offsets area more_offsets more
 
 -- ---- all that is found
 
-within : {X : Type 0} (xs : List X) (i : ℕ) (x : X) → slice_get xs i ≡ Some x → i < length xs
-within xs i x e = elim (slice_get_cases xs i).1 as (λ _. i < length xs) [ inl p ↦ p.1 | inr p ↦ absurd cc ]
-
 hits_with : (heading : List ℕ) (hits : List Hit) → hits_of (entry_with heading hits) ≡ hits
 hits_with [] hits = refl
 hits_with (field ∷ term) hits = refl
@@ -201,7 +198,7 @@ entry_is_there found rows g field term hits have =
     let p = place_from_lookup (is_at (slice_cmp nat_cmp (field ∷ term))) found.entries (rows_with field term rows) lookup in
     let i = p.0 in
     let key : field ∷ term ≡ p.1 = (bytes_decides (field ∷ term) p.1).0 (sym (is_eq-slice_cmp (field ∷ term) p.1) ∙ p.3) in
-    let lt : i < length found.entries = within found.entries i (p.1, rows_with field term rows) p.2 in
+    let lt : i < length found.entries = slice_get_within found.entries i (p.1, rows_with field term rows) p.2 in
     let here : at_key found i ≡ (p.1, rows_with field term rows) = get_or_from_slice_get found.entries i (p.1, rows_with field term rows) ([], []) p.2 in
     let is : get_or (entries_with found.entries) i (field, (term, hits)) ≡ (field, (term, hits)) =
     entry_at_key found i (field, (term, hits)) lt ∙ ap (λ (x : List ℕ × List Hit). entry_with x.0 x.1) here ∙ ap (λ (h : List ℕ). entry_with h (rows_with field term rows)) (sym key) ∙ ap (λ (hs : List Hit). (field, (term, hs))) (sym have.hits_are) in

@@ -7,7 +7,7 @@ use Rattle.std.specs.Ordering.{nat_cmp}
 use Rattle.std.specs.Cmp.Lexicographic.{slice_cmp, bytes_decides}
 use Rattle.std.specs.BTreeMap.{BTreeMap, get, Updates, is_at}
 use Rattle.std.proofs.lemmas.List.{append-nil}
-use Rattle.std.proofs.Math.Bool.{or-false}
+use Rattle.std.proofs.Math.Bool.{or-false, or-true}
 use Rattle.std.proofs.lemmas.Bool.{or_parts}
 use Rattle.std.proofs.lemmas.List.Folds.{list_any-append}
 use Rattle.std.proofs.lemmas.List.Elements.{All-nil, All-cons}
@@ -16,10 +16,6 @@ use Rattle.postings_plain.specs.declared.row.TermRow.{TermRow}
 use Rattle.postings_plain.specs.Postings.{Hit}
 use Rattle.postings_plain.specs.Inverting.{positions_of, has_term, term_positions, rows_with}
 use Rattle.postings_plain.specs.Gathering.{GainsPlace, Gathers, some_hits}
-
-or-true : (b : Bool) → (b || true) ≡ true
-or-true true = refl
-or-true false = refl
 
 -- ---- the items that pass, each made from its place and itself
 abbrev pub picked : {X Y : Type 0} → (X → Bool) → (ℕ × X → Y) → ℕ → List X → List Y

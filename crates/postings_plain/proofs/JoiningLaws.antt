@@ -1,6 +1,5 @@
 -- The postings of the live rows of segments, from those of the segments.
-use Rattle.std.proofs.Common.{◌≡◌, ℕ, zero, suc, ◌+◌, ◌<◌, ◌≤◌, Bool, true, false, cond, List, [], ◌∷◌, ◌++◌, length, take, get_or, map, Option, Some, None, Result, Ok, Err, refl, sym, ap, subst, ◌∙◌, arith, append_assoc}
-use Rattle.std.specs.Prelude.{IfOk}
+use Rattle.std.proofs.Common.{◌≡◌, ℕ, zero, suc, ◌+◌, ◌<◌, ◌≤◌, Bool, true, false, cond, List, [], ◌∷◌, ◌++◌, length, take, get_or, map, Option, Some, None, refl, sym, ap, subst, ◌∙◌, arith, append_assoc}
 use Rattle.std.specs.List.{AllPairs, filter, list_any, enumerate_from}
 use Rattle.std.specs.Str.{bytes_eq}
 use Rattle.std.specs.Option.{unwrap_or}
@@ -12,6 +11,7 @@ use Rattle.std.proofs.lemmas.Cmp.{nat_list_cmp_total, tied_itself}
 use Rattle.std.proofs.lemmas.List.{append-nil, take_more, take_all}
 use Rattle.std.proofs.lemmas.List.Concat.{flat_map-cons}
 use Rattle.std.proofs.lemmas.Grind.{flat_map-append}
+use Rattle.std.proofs.lemmas.Bool.{false_from_ne_true}
 use Rattle.postings_plain.specs.declared.row.TermRow.{TermRow}
 use Rattle.postings_plain.specs.Postings.{Hit, Entry, row_of, positions_in, hits_of}
 use Rattle.postings_plain.specs.Body.{heading_of, heading_order, IsBefore}
@@ -21,11 +21,6 @@ use Rattle.postings_plain.specs.Gathering.{Terms, FoundTerms, Gathers, some_hits
 use Rattle.postings_plain.specs.Joining.{numbers_from, live_terms, with_number, renumbered, AddsHitsTo, hits_under, JoinsEntries}
 use Rattle.postings_plain.proofs.Finding.{among, not_among}
 use Rattle.postings_plain.proofs.GatheringLaws.{picked, pick, picked_none, hits_back, apart}
-
--- what follows from what holds of an answer holds of it
-pub if_ok : {X E : Type 0} (r : Result X E) (P Q : X → Type 0) → ((x : X) → P x → Q x) → IfOk r P → IfOk r Q
-if_ok (Ok x) P Q turns h = turns x h
-if_ok (Err e) P Q turns h = tt
 
 -- ---- the rows of a term, over two lists of rows
 
@@ -106,14 +101,10 @@ if_same q e same = ap (λ (b : Bool). cond b (hits_of e) []) ((bytes_decides (he
 if_other : (q : List ℕ) (e : Entry) → bytes_eq (heading_of e) q ≡ false → hits_if q e ≡ []
 if_other q e other = ap (λ (b : Bool). cond b (hits_of e) []) other
 
-never_true : (b : Bool) → (b ≡ true → ⊥) → b ≡ false
-never_true true never = absurd (never refl)
-never_true false never = refl
-
 none_under : (q : List ℕ) (es : List Entry) → HasNoHeading es q → hits_under q es ≡ []
 none_under q [] none = refl
 none_under q (e ∷ es) none =
-    flat_map-cons (hits_if q) e es ∙ ap (λ (hs : List Hit). hs ++ hits_under q es) (if_other q e (never_true (bytes_eq (heading_of e) q) (λ t. none 0 (omega arith) ((bytes_decides (heading_of e) q).0 t))))
+    flat_map-cons (hits_if q) e es ∙ ap (λ (hs : List Hit). hs ++ hits_under q es) (if_other q e (false_from_ne_true (bytes_eq (heading_of e) q) (λ t. none 0 (omega arith) ((bytes_decides (heading_of e) q).0 t))))
     ∙ none_under q es (λ i lt same. none (suc i) (omega (arith, lt)) same)
 
 hits_under_are : (q : List ℕ) (hits : List Hit) (es : List Entry) → AllPairs IsBefore es → ((i : ℕ) → i < length es → heading_of (at_place es i) ≡ q → hits_of (at_place es i) ≡ hits) → (HasNoHeading es q → hits ≡ []) → hits_under q es ≡ hits

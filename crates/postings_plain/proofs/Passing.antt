@@ -1,9 +1,10 @@
 -- A cursor that passes rows.
-use Rattle.std.proofs.Common.{◌≡◌, ℕ, zero, suc, ◌+◌, ◌-◌, ◌^◌, ◌<◌, ◌≤◌, List, [], ◌∷◌, length, get_or, Option, Some, None, refl, sym, ap, subst, ◌∙◌, inl, inr, arith}
+use Rattle.std.proofs.Common.{◌≡◌, ℕ, zero, suc, ◌+◌, ◌-◌, ◌^◌, ◌<◌, ◌≤◌, List, [], ◌∷◌, length, get_or, Some, None, refl, sym, ap, subst, ◌∙◌, inl, inr, arith}
 use Rattle.std.specs.Prelude.{nat_lt}
 use Rattle.std.specs.List.{All}
 use Rattle.std.specs.Prelude.{if◌then◌else◌}
 use Rattle.std.proofs.lemmas.Bool.{lt-ltb, le-ltb, ltb-false, cases_lt}
+use Rattle.std.proofs.lemmas.Option.{same_Some}
 use Rattle.body_forms.specs.Format.{Read, ◌>>=◌, chain_at}
 use Rattle.postings_plain.specs.Postings.{Hit, row_of, above_hit}
 use Rattle.postings_plain.specs.Rows.{from_row, IsLeastFrom, first_row}
@@ -85,9 +86,6 @@ all_from k [] a i d lt = absurd (omega arith)
 all_from k (h ∷ hs) a zero d lt = a.0
 all_from k (h ∷ hs) a (suc i) d lt = omega (arith, all_from (above_hit h) hs a.1 i d (omega arith), a.0)
 
-same_row : (a b : ℕ) → ◌≡◌ {A = Option ℕ} (Some a) (Some b) → a ≡ b
-same_row a b e = cc
-
 below_all : (row : ℕ) (h : Hit) (hs : List Hit) → row_of h < row → ((i : ℕ) (d : Hit) → i < length hs → row_of (get_or hs i d) < row) → (i : ℕ) (d : Hit) → i < length (h ∷ hs) → row_of (get_or (h ∷ hs) i d) < row
 below_all row h hs below others zero d lt = below
 below_all row h hs below others (suc i) d lt = others i d (omega arith)
@@ -116,7 +114,7 @@ pub least_from : (row k x : ℕ) (hs : List Hit) → Ascends k hs → Some x ≡
 least_from row k x [] a e = absurd cc
 least_from row k x (h ∷ hs) a e = elim (cases_lt (row_of h) row) [
   | inl lt ↦ at_later row x h hs lt (least_from row (above_hit h) x hs a.1 (e ∙ ap first_row (from_row-below row h hs lt)))
-  | inr ge ↦ at_first row k x h hs a ge (same_row (row_of h) x (sym (e ∙ ap first_row (from_row-at row h hs ge))))
+  | inr ge ↦ at_first row k x h hs a ge (same_Some (row_of h) x (sym (e ∙ ap first_row (from_row-at row h hs ge))))
 ]
 
 pub none_from : (row : ℕ) (hs : List Hit) → None ≡ first_row (from_row row hs) → (i : ℕ) (d : Hit) → i < length hs → row_of (get_or hs i d) < row

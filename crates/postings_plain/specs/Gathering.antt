@@ -42,6 +42,10 @@ pub record AreFew (rows : List TermRow) : Type 0 where
   pub rows_few : length rows < 2 ^ 32
   pub words_few : All (λ row. length row.words < 2 ^ 32) rows
 
+-- the terms that were found are those of some rows, at least one, and few
+abbrev pub GathersSome : FoundTerms → Type 0
+GathersSome found = (rows : List TermRow) × Gathers found rows × AreFew rows × (0 < length rows)
+
 -- the rows of each term, as they are found so far
 abbrev pub Terms : Type 0
 Terms = BTreeMap (List ℕ) (List Hit)

@@ -7,7 +7,7 @@ ghost use Rattle.postings_plain.specs.declared.row.TermRow.{TermRow};
 ghost use Rattle.postings_plain.specs.Postings.{format_for, block_count, hit, HitFits, HitsFitFrom, HitsFit, positions, PositionsFit};
 ghost use Rattle.postings_plain.specs.Body.{format_wanted};
 ghost use Rattle.postings_plain.specs.Inverting.{IsPostingsFileOf};
-ghost use Rattle.postings_plain.specs.Gathering.{Gathers, AreFew, AddsRows, AddsBlock, AddsBlocks, AddsHits, AddsEntry, AddsPostings};
+ghost use Rattle.postings_plain.specs.Gathering.{Gathers, AreFew, GathersSome, AddsRows, AddsBlock, AddsBlocks, AddsHits, AddsEntry, AddsPostings};
 
 use crate::blocks::{BLOCK_ROWS, push_skip, skips_of_rows};
 use crate::file::NAME;
@@ -55,7 +55,7 @@ pub fn encode_found(
     id: &[u8; 16],
     found: &Found<'_>,
 ) -> Result<Bytes, NoMemory>
-    requires { (rows : List TermRow) × Gathers found.now.entries rows × AreFew rows × (0 < length rows) }
+    requires { GathersSome found.now.entries }
     ensures file { IfOk result (λ bytes. (rows : List TermRow) → Gathers found.now.entries rows
         → AreFew rows → 0 < length rows → IsPostingsFileOf format id.now rows bytes) }
     ensures small { IfOk result (HasSmallBody (format_wanted format id.now) id.now) }
@@ -74,7 +74,7 @@ fn push_body(
     format: Format,
     found: &Found<'_>,
 ) -> Result<(), NoMemory>
-    requires { (rows : List TermRow) × Gathers found.now.entries rows × AreFew rows × (0 < length rows) }
+    requires { GathersSome found.now.entries }
     ensures { OnOk result (AddsPostings format found.now out.old.items out.new.items) }
 {
     let count = found.len();

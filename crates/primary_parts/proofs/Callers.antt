@@ -1,8 +1,7 @@
 -- What callers of a primary need from call to call: a directory without a file, the task and the work of a publish, copy states that are out.
 use Rattle.std.proofs.Common.{rules, ◌≡◌, ◌↔◌, ◌<◌, ◌≤◌, ◌^◌, ◌+◌, ◌||◌, nat_lt, if◌then◌else◌, ℕ, Bool, true, false, List, [], ◌∷◌, ◌++◌, Option, Some, None, is_some, length, refl, sym, ap, subst, ◌∙◌, arith, true≢false, All}
 use Rattle.std.specs.Prelude.{IfSome, IsSome, IsTrue}
-use Rattle.std.specs.List.{AllZip, Contains, flat_map, list_any}
-use Rattle.std.specs.List.Sorted.{IsStrictlySortedBy}
+use Rattle.std.specs.List.{AllZip, list_any}
 use Rattle.std.proofs.lemmas.List.{append-nil}
 use Rattle.nrt_base.specs.declared.numbers.SegNo.{SegNo}
 use Rattle.disk_model.specs.Disk.{Name, Content, Cells, is_among}
@@ -11,7 +10,7 @@ use Rattle.documents.specs.Documents.{is_put}
 use Rattle.segment_infos.specs.declared.infos.Infos.{Infos}
 use Rattle.segment_infos.specs.declared.infos.SegRecord.{SegRecord}
 use Rattle.segment_infos.specs.Infos.{CanSpell}
-use Rattle.segment_infos.specs.Files.{files_of_segment, AreFilesOf}
+use Rattle.segment_infos.proofs.SetLaws.{no_files}
 use Rattle.segment_steps.specs.Given.{Shown, IsSound, IsSegmentIn, AreSegmentsOf}
 use Rattle.file_deleter.specs.Holdings.{Holdings, count_in, count_of, is_known, times}
 use Rattle.searcher_switch.specs.Given.{Commit, Stage, CommitBook, commit_of, last_names, flying_names, book_names, IsBookSound, IsWholeNode, StandsForSome, IsStanding}
@@ -104,14 +103,6 @@ module _ (cells : Cells) (files : Holdings) (hs : List Name) (book : CommitBook)
 
   pub empty_undrawn : (infos : Infos) → AreUndrawn files infos [] []
   empty_undrawn infos = record { each = λ q is. uncounted q }
-
--- infos without a segment
-no_files : (infos : Infos) → infos.segs ≡ [] → AreFilesOf infos []
-unfolding IsStrictlySortedBy
-no_files infos e = record {
-  ascending = tt;
-  named = λ q. (λ c. absurd (omega (arith, c.1)), λ c. let n : Contains (flat_map files_of_segment []) q = subst (λ (rs : List SegRecord). Contains (flat_map files_of_segment rs) q) e c in absurd (omega (arith, n.1)));
-}
 
 no_segs : AreSegmentsOf [] []
 no_segs = record { sound = λ k d lt. absurd (omega (arith, lt)); apart = λ i j d lt in'. absurd (omega (arith, lt, in')); documents = search rules }

@@ -1,10 +1,11 @@
 -- Lists of merges in flight: the one of a number, those without it, and those where it was made.
-use Rattle.std.proofs.Common.{◌≡◌, ◌≢◌, ◌<◌, ◌+◌, ◌⊎◌, inl, inr, ◌==◌, if◌then◌else◌, ◌++◌, ℕ, zero, suc, Bool, true, false, is_some, List, [], ◌∷◌, length, map, ◌||◌, Option, Some, None, slice_get, slice_set, get_or, refl, sym, ap, subst, ◌∙◌, arith, true≢false}
+use Rattle.std.proofs.Common.{◌≡◌, ◌≢◌, ◌<◌, ◌+◌, ◌⊎◌, inl, inr, ◌==◌, if◌then◌else◌, ◌++◌, ℕ, suc, Bool, true, false, is_some, List, [], ◌∷◌, length, map, ◌||◌, Option, Some, None, slice_get, slice_set, get_or, refl, sym, ap, subst, ◌∙◌, arith, true≢false}
 use Rattle.std.specs.List.{AllByRecursion, Contains, list_any, remove, zip}
 use Rattle.std.proofs.lemmas.Bool.{eqb-true, eqb-false, ne_eqb, or_right}
 use Rattle.std.proofs.lemmas.List.Folds.{list_any-append}
 use Rattle.nrt_base.specs.declared.doc.Doc.{Doc}
 use Rattle.nrt_base.specs.declared.numbers.SegNo.{SegNo}
+use Rattle.nrt_base.proofs.Plain.{contains_later, contains_cases}
 use Rattle.disk_model.specs.Disk.{Name, Content}
 use Rattle.file_deleter.specs.Holdings.{times}
 use Rattle.file_deleter.proofs.NameLemmas.{times-append}
@@ -14,15 +15,6 @@ use Rattle.segment_steps.specs.CutOver.{Part, is_one_of, inputs_in, IsMergeOf}
 use Rattle.primary_parts.specs.declared.states.Merging.{Merging}
 use Rattle.primary_parts.specs.Merges.{merge_names, merge_loose, merge_filled, merge_inputs, merge_of, merge_place, merges_without, merges_with, IsMadeBy, IsMerging, AreOtherMerges, AreApartMerges}
 use Rattle.primary_parts.proofs.Writing.{among_at}
-
--- ---- one more in front
-pub further : {X : Type 0} (y x : X) (xs : List X) → Contains xs x → Contains (y ∷ xs) x
-further y x xs (k, lt, e) = (suc k, omega (arith, lt), e)
-
--- what is in a list with one in front is that one or in the rest
-first_or : (y x : ℕ) (xs : List ℕ) → Contains (y ∷ xs) x → (y ≡ x) ⊎ Contains xs x
-first_or y x xs (zero, lt, e) = inl e
-first_or y x xs (suc k, lt, e) = inr (k, omega (arith, lt), e)
 
 -- ---- merges over calls that leave them as they are
 made_kept : (before after : Name → Content) (m : Merging) (o : Option Merged) → IsMadeBy before m o → ((q : Name) → 0 < times m.names q → after q ≡ before q) → IsMadeBy after m o
@@ -54,8 +46,8 @@ filled_loose [] k c = c
 filled_loose (m ∷ ms) k c = by (is_some m.merged) (filled_loose ms k) c
   where
     by : (b : Bool) → (Contains (merge_filled ms) k → Contains (merge_loose ms) k) → Contains (if b then m.task.seg.0 ∷ merge_filled ms else merge_filled ms) k → Contains (merge_loose (m ∷ ms)) k
-    by true more d = elim (first_or m.task.seg.0 k (merge_filled ms) d) [ inl e ↦ (0, omega arith, e) | inr rest ↦ further m.task.seg.0 k (merge_loose ms) (more rest) ]
-    by false more d = further m.task.seg.0 k (merge_loose ms) (more d)
+    by true more d = elim (contains_cases m.task.seg.0 k (merge_filled ms) d) [ inl e ↦ (0, omega arith, e) | inr rest ↦ contains_later m.task.seg.0 k (merge_loose ms) (more rest) ]
+    by false more d = contains_later m.task.seg.0 k (merge_loose ms) (more d)
 
 -- ---- the merge of a number
 pub record MergeAt (n : ℕ) (ms : List Merging) : Type 0 where
@@ -161,20 +153,20 @@ loose_at n (x ∷ ms) m is = by (x.task.seg.0 == n) refl (loose_at n ms m) is
   where
     by : (b : Bool) → (x.task.seg.0 == n) ≡ b → (merge_of n ms ≡ Some m → Contains (merge_loose ms) n) → (if b then Some x else merge_of n ms) ≡ Some m → Contains (x.task.seg.0 ∷ merge_loose ms) n
     by true e more found = (0, omega arith, eqb-true x.task.seg.0 n e)
-    by false e more found = further x.task.seg.0 n (merge_loose ms) (more found)
+    by false e more found = contains_later x.task.seg.0 n (merge_loose ms) (more found)
 
 pub loose_without : (n : ℕ) (ms : List Merging) (k : ℕ) → Contains (merge_loose (merges_without n ms)) k → Contains (merge_loose ms) k
 loose_without n [] k c = c
 loose_without n (m ∷ ms) k c = by (m.task.seg.0 == n) (loose_without n ms k) c
   where
     by : (b : Bool) → (Contains (merge_loose (merges_without n ms)) k → Contains (merge_loose ms) k) → Contains (merge_loose (if b then ms else m ∷ merges_without n ms)) k → Contains (m.task.seg.0 ∷ merge_loose ms) k
-    by true more d = further m.task.seg.0 k (merge_loose ms) d
-    by false more d = elim (first_or m.task.seg.0 k (merge_loose (merges_without n ms)) d) [ inl e ↦ (0, omega arith, e) | inr rest ↦ further m.task.seg.0 k (merge_loose ms) (more rest) ]
+    by true more d = contains_later m.task.seg.0 k (merge_loose ms) d
+    by false more d = elim (contains_cases m.task.seg.0 k (merge_loose (merges_without n ms)) d) [ inl e ↦ (0, omega arith, e) | inr rest ↦ contains_later m.task.seg.0 k (merge_loose ms) (more rest) ]
 
 -- no other merge has it
 none_has : (m : Merging) (ms : List Merging) (k : ℕ) → AllByRecursion (λ x. AreOtherMerges x m) ms → m.task.seg.0 ≡ k → Contains (merge_loose ms) k → ⊥
 none_has m [] k all e c = absurd (omega (arith, c.1))
-none_has m (x ∷ ms) k all e c = elim (first_or x.task.seg.0 k (merge_loose ms) c) [ inl is ↦ all.0.number (is ∙ sym e) | inr rest ↦ none_has m ms k all.1 e rest ]
+none_has m (x ∷ ms) k all e c = elim (contains_cases x.task.seg.0 k (merge_loose ms) c) [ inl is ↦ all.0.number (is ∙ sym e) | inr rest ↦ none_has m ms k all.1 e rest ]
 
 pub loose_gone : (n : ℕ) (ms : List Merging) (m : Merging) → AreApartMerges ms → merge_of n ms ≡ Some m → Contains (merge_loose (merges_without n ms)) n → ⊥
 loose_gone n ms m apart is = none_has m (merges_without n ms) n (others_at n ms m apart is) (number_of n ms m is)
@@ -187,7 +179,7 @@ unfilled_at n (x ∷ ms) m apart is none c = by (x.task.seg.0 == n) (is_some x.m
     by : (b f : Bool) → (x.task.seg.0 == n) ≡ b → is_some x.merged ≡ f → (merge_of n ms ≡ Some m → Contains (merge_filled ms) n → ⊥) → (if b then Some x else merge_of n ms) ≡ Some m → Contains (if f then x.task.seg.0 ∷ merge_filled ms else merge_filled ms) n → ⊥
     by true true e f more found d = let same : x ≡ m = cc in let no : is_some x.merged ≡ false = ap (λ (y : Merging). is_some y.merged) same ∙ ap is_some none in absurd (true≢false (sym f ∙ no))
     by true false e f more found d = none_has x ms n (all_reversed x ms apart.0) (eqb-true x.task.seg.0 n e) (filled_loose ms n d)
-    by false true e f more found d = elim (first_or x.task.seg.0 n (merge_filled ms) d) [ inl is ↦ eqb-false x.task.seg.0 n e is | inr rest ↦ more found rest ]
+    by false true e f more found d = elim (contains_cases x.task.seg.0 n (merge_filled ms) d) [ inl is ↦ eqb-false x.task.seg.0 n e is | inr rest ↦ more found rest ]
     by false false e f more found d = more found d
 
 -- the filled ones are its own number and those of the others
@@ -197,11 +189,11 @@ filled_or n (m ∷ ms) k c = by (m.task.seg.0 == n) (is_some m.merged) refl refl
   where
     by : (b f : Bool) → (m.task.seg.0 == n) ≡ b → is_some m.merged ≡ f → (Contains (merge_filled ms) k → (n ≡ k) ⊎ Contains (merge_filled (merges_without n ms)) k) → Contains (if f then m.task.seg.0 ∷ merge_filled ms else merge_filled ms) k
         → (n ≡ k) ⊎ Contains (merge_filled (if b then ms else m ∷ merges_without n ms)) k
-    by true true e f more d = elim (first_or m.task.seg.0 k (merge_filled ms) d) [ inl is ↦ inl (sym (eqb-true m.task.seg.0 n e) ∙ is) | inr rest ↦ inr rest ]
+    by true true e f more d = elim (contains_cases m.task.seg.0 k (merge_filled ms) d) [ inl is ↦ inl (sym (eqb-true m.task.seg.0 n e) ∙ is) | inr rest ↦ inr rest ]
     by true false e f more d = inr d
-    by false true e f more d = elim (first_or m.task.seg.0 k (merge_filled ms) d) [
+    by false true e f more d = elim (contains_cases m.task.seg.0 k (merge_filled ms) d) [
       | inl is ↦ inr (filled_put m (merges_without n ms) k true f (0, omega arith, is))
-      | inr rest ↦ (elim (more rest) [ inl own ↦ inl own | inr left ↦ inr (filled_put m (merges_without n ms) k true f (further m.task.seg.0 k (merge_filled (merges_without n ms)) left)) ])
+      | inr rest ↦ (elim (more rest) [ inl own ↦ inl own | inr left ↦ inr (filled_put m (merges_without n ms) k true f (contains_later m.task.seg.0 k (merge_filled (merges_without n ms)) left)) ])
     ]
     by false false e f more d = elim (more d) [ inl own ↦ inl own | inr left ↦ inr (filled_put m (merges_without n ms) k false f left) ]
 
@@ -210,9 +202,9 @@ filled_without n [] k c = c
 filled_without n (m ∷ ms) k c = by (m.task.seg.0 == n) (is_some m.merged) refl (filled_without n ms k) c
   where
     by : (b f : Bool) → is_some m.merged ≡ f → (Contains (merge_filled (merges_without n ms)) k → Contains (merge_filled ms) k) → Contains (merge_filled (if b then ms else m ∷ merges_without n ms)) k → Contains (if f then m.task.seg.0 ∷ merge_filled ms else merge_filled ms) k
-    by true true f more d = further m.task.seg.0 k (merge_filled ms) d
+    by true true f more d = contains_later m.task.seg.0 k (merge_filled ms) d
     by true false f more d = d
-    by false true f more d = elim (first_or m.task.seg.0 k (merge_filled (merges_without n ms)) (filled_get m (merges_without n ms) k true f d)) [ inl is ↦ (0, omega arith, is) | inr rest ↦ further m.task.seg.0 k (merge_filled ms) (more rest) ]
+    by false true f more d = elim (contains_cases m.task.seg.0 k (merge_filled (merges_without n ms)) (filled_get m (merges_without n ms) k true f d)) [ inl is ↦ (0, omega arith, is) | inr rest ↦ contains_later m.task.seg.0 k (merge_filled ms) (more rest) ]
     by false false f more d = more (filled_get m (merges_without n ms) k false f d)
 
 -- ---- what was made of it
@@ -244,10 +236,10 @@ module _ (merged : Merged) (names : List Name) where
     where
       by : (b f : Bool) → is_some m.merged ≡ f → (Contains (merge_filled ms) k → Contains (merge_filled (merges_with merged names ms)) k) → Contains (if f then m.task.seg.0 ∷ merge_filled ms else merge_filled ms) k → Contains (merge_filled (if b then made_of m ∷ ms else m ∷ merges_with merged names ms)) k
       by true true f more d = d
-      by true false f more d = further m.task.seg.0 k (merge_filled ms) d
-      by false true f more d = filled_put m (merges_with merged names ms) k true f (elim (first_or m.task.seg.0 k (merge_filled ms) d) [
+      by true false f more d = contains_later m.task.seg.0 k (merge_filled ms) d
+      by false true f more d = filled_put m (merges_with merged names ms) k true f (elim (contains_cases m.task.seg.0 k (merge_filled ms) d) [
         | inl is ↦ (0, omega arith, is)
-        | inr rest ↦ further m.task.seg.0 k (merge_filled (merges_with merged names ms)) (more rest)
+        | inr rest ↦ contains_later m.task.seg.0 k (merge_filled (merges_with merged names ms)) (more rest)
       ])
       by false false f more d = filled_put m (merges_with merged names ms) k false f (more d)
 
@@ -258,7 +250,7 @@ module _ (merged : Merged) (names : List Name) where
       by : (b f : Bool) → (x.task.seg.0 == merged.files.seg.0) ≡ b → is_some x.merged ≡ f → (merge_of merged.files.seg.0 ms ≡ Some m → Contains (merge_filled (merges_with merged names ms)) merged.files.seg.0) → (if b then Some x else merge_of merged.files.seg.0 ms) ≡ Some m
           → Contains (merge_filled (if b then made_of x ∷ ms else x ∷ merges_with merged names ms)) merged.files.seg.0
       by true f e g more found = (0, omega arith, eqb-true x.task.seg.0 merged.files.seg.0 e)
-      by false true e g more found = filled_put x (merges_with merged names ms) merged.files.seg.0 true g (further x.task.seg.0 merged.files.seg.0 (merge_filled (merges_with merged names ms)) (more found))
+      by false true e g more found = filled_put x (merges_with merged names ms) merged.files.seg.0 true g (contains_later x.task.seg.0 merged.files.seg.0 (merge_filled (merges_with merged names ms)) (more found))
       by false false e g more found = filled_put x (merges_with merged names ms) merged.files.seg.0 false g (more found)
 
   -- where it is one more, it was not filled before
@@ -269,10 +261,10 @@ module _ (merged : Merged) (names : List Name) where
       by : (b f : Bool) → (m.task.seg.0 == merged.files.seg.0) ≡ b → is_some m.merged ≡ f → (Contains (merge_filled (merges_with merged names ms)) k → (merged.files.seg.0 ≡ k) ⊎ Contains (merge_filled ms) k) → Contains (merge_filled (if b then made_of m ∷ ms else m ∷ merges_with merged names ms)) k
           → (merged.files.seg.0 ≡ k) ⊎ Contains (if f then m.task.seg.0 ∷ merge_filled ms else merge_filled ms) k
       by true true e f more d = inr d
-      by true false e f more d = elim (first_or m.task.seg.0 k (merge_filled ms) d) [ inl is ↦ inl (sym (eqb-true m.task.seg.0 merged.files.seg.0 e) ∙ is) | inr rest ↦ inr rest ]
-      by false true e f more d = elim (first_or m.task.seg.0 k (merge_filled (merges_with merged names ms)) (filled_get m (merges_with merged names ms) k true f d)) [
+      by true false e f more d = elim (contains_cases m.task.seg.0 k (merge_filled ms) d) [ inl is ↦ inl (sym (eqb-true m.task.seg.0 merged.files.seg.0 e) ∙ is) | inr rest ↦ inr rest ]
+      by false true e f more d = elim (contains_cases m.task.seg.0 k (merge_filled (merges_with merged names ms)) (filled_get m (merges_with merged names ms) k true f d)) [
         | inl is ↦ inr (0, omega arith, is)
-        | inr rest ↦ (elim (more rest) [ inl own ↦ inl own | inr left ↦ inr (further m.task.seg.0 k (merge_filled ms) left) ])
+        | inr rest ↦ (elim (more rest) [ inl own ↦ inl own | inr left ↦ inr (contains_later m.task.seg.0 k (merge_filled ms) left) ])
       ]
       by false false e f more d = more (filled_get m (merges_with merged names ms) k false f d)
 
@@ -311,10 +303,10 @@ names_behind [] m q = times-append m.names [] q ∙ grind arith
 names_behind (x ∷ ms) m q = omega (arith, names_behind ms m q, times-append x.names (merge_names (ms ++ m ∷ [])) q, times-append x.names (merge_names ms) q)
 
 pub loose_behind : (ms : List Merging) (m : Merging) (k : ℕ) → Contains (merge_loose (ms ++ m ∷ [])) k → (m.task.seg.0 ≡ k) ⊎ Contains (merge_loose ms) k
-loose_behind [] m k c = first_or m.task.seg.0 k [] c
-loose_behind (x ∷ ms) m k c = elim (first_or x.task.seg.0 k (merge_loose (ms ++ m ∷ [])) c) [
+loose_behind [] m k c = contains_cases m.task.seg.0 k [] c
+loose_behind (x ∷ ms) m k c = elim (contains_cases x.task.seg.0 k (merge_loose (ms ++ m ∷ [])) c) [
   | inl is ↦ inr (0, omega arith, is)
-  | inr rest ↦ (elim (loose_behind ms m k rest) [ inl own ↦ inl own | inr more ↦ inr (further x.task.seg.0 k (merge_loose ms) more) ])
+  | inr rest ↦ (elim (loose_behind ms m k rest) [ inl own ↦ inl own | inr more ↦ inr (contains_later x.task.seg.0 k (merge_loose ms) more) ])
 ]
 
 pub filled_behind : (ms : List Merging) (m : Merging) → m.merged ≡ None → merge_filled (ms ++ m ∷ []) ≡ merge_filled ms

@@ -1,5 +1,5 @@
 -- Files that are written one after another.
-use Rattle.std.proofs.Common.{◌≡◌, ℕ, zero, suc, ◌+◌, ◌<◌, ◌≤◌, ◌||◌, Bool, true, false, List, [], ◌∷◌, ◌++◌, length, take, get_or, Result, Ok, refl, sym, ap, subst, ◌∙◌, arith, inl, inr, true≢false, All}
+use Rattle.std.proofs.Common.{◌≡◌, ℕ, zero, suc, ◌+◌, ◌<◌, ◌≤◌, ◌||◌, Bool, true, false, List, [], ◌∷◌, ◌++◌, length, take, get_or, Result, Ok, refl, sym, ap, subst, ◌∙◌, arith, true≢false, All}
 use Rattle.std.proofs.Math.Bool.{or-true}
 use Rattle.std.proofs.lemmas.List.{take_more, take-map}
 use Rattle.std.proofs.lemmas.List.Elements.{All-more}
@@ -9,19 +9,9 @@ use Rattle.disk_model.proofs.CellLemmas.{same_true}
 use Rattle.file_deleter.specs.Holdings.{Holdings, count_of, times}
 use Rattle.file_deleter.specs.Moves.{KeepsFiles, Creates, LetsGo}
 use Rattle.file_deleter.proofs.NameLemmas.{times-append, times_within, among_times, same_self}
+use Rattle.file_deleter.proofs.Keeping.{keeps_within}
 use Rattle.primary_parts.specs.Written.{names_of, ReadsSo}
 use Rattle.segment_steps.specs.Given.{File}
-
--- calls in a row that write only among these names
-pub keeps_within : (w v : List Name) (old mid new : Holdings) (a b c : Cells) → KeepsFiles w old mid a b → KeepsFiles v mid new b c
-    → ((q : Name) → is_among w q ≡ false → is_among v q ≡ false) → ((q : Name) → 0 < count_of old q → 0 < count_of new q → 0 < count_of mid q) → KeepsFiles w old new a c
-keeps_within w v old mid new a b c x y sub between = record {
-  whole = λ h. y.whole (x.whole h);
-  kept = λ q out had has. let m : 0 < count_of mid q = between q had has in y.kept q (sub q out) m has ∙ x.kept q out had m;
-  reads = λ q had has. let m : 0 < count_of mid q = between q had has in y.reads q m has ∙ x.reads q had m;
-  crash = λ q o out may. elim (y.crash q o (sub q out) may) [ inl was ↦ x.crash q o out was | inr none ↦ inr none ];
-  none = λ q out gone. y.none q (sub q out) (x.none q out gone);
-}
 
 one_within : (w : List Name) (name : Name) → is_among w name ≡ true → (q : Name) → is_among w q ≡ false → is_among (name ∷ []) q ≡ false
 one_within w name there q out = by (same name q) refl

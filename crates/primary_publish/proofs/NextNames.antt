@@ -1,5 +1,5 @@
 -- The names of a publish are new, each once, and what is not written yet afterwards was not before.
-use Rattle.std.proofs.lemmas.Bool.{or_cases}
+use Rattle.std.proofs.lemmas.Bool.{or_cases, or_from}
 use Rattle.std.proofs.Common.{◌≡◌, ◌≢◌, ◌⊎◌, ◌<◌, ◌≤◌, ◌+◌, ◌-◌, ◌*◌, ◌/◌, ◌^◌, ◌||◌, ◌++◌, ℕ, Bool, true, false, cond, List, [], ◌∷◌, Option, Some, None, refl, sym, ap, subst, ◌∙◌, arith, inl, inr, true≢false}
 use Rattle.std.specs.Prelude.{IfSome, IsSomeAnd}
 use Rattle.std.specs.List.{Contains, AllByRecursion}
@@ -31,10 +31,6 @@ same_kept k l (x ∷ xs) apart (inr i) (inl b) e = absurd (all_in (λ (m : Kept)
 same_kept k l (x ∷ xs) apart (inr i) (inr j) e = same_kept k l xs apart.1 i j e
 
 -- ---- names in lists
-none_or : (a b : Bool) → a ≡ false → b ≡ false → (a || b) ≡ false
-none_or true b e f = absurd (true≢false e)
-none_or false b e f = f
-
 once_cons : (x : Name) (xs : List Name) (q : Name) → is_among xs x ≡ false → times xs q ≤ 1 → times (x ∷ xs) q ≤ 1
 once_cons x xs q out le = by (same x q) refl
   where
@@ -116,7 +112,7 @@ new_once n small q = by n.1
 
     part_live : (b : Bool) (which : SegPart) → is_among (cond b (live_name_of n.0 1 ∷ []) []) (part_name_of n.0 which) ≡ false
     part_live false which = refl
-    part_live true which = none_or (same (live_name_of n.0 1) (part_name_of n.0 which)) false (same_apart (live_name_of n.0 1) (part_name_of n.0 which) (λ e. part_name_not_live n.0 n.0 1 which small small (omega arith) (sym e))) refl
+    part_live true which = or_from (same (live_name_of n.0 1) (part_name_of n.0 which)) false (same_apart (live_name_of n.0 1) (part_name_of n.0 which) (λ e. part_name_not_live n.0 n.0 1 which small small (omega arith) (sym e))) refl
 
     last : (b : Bool) → times (cond b (live_name_of n.0 1 ∷ []) []) q ≤ 1
     last false = let e : times [] q ≡ 0 = refl in omega (arith, e)
@@ -126,10 +122,10 @@ new_once n small q = by n.1
     by b =
         let rest : List Name = cond b (live_name_of n.0 1 ∷ []) [] in
         once_cons (part_name_of n.0 Docs) (part_name_of n.0 Post ∷ part_name_of n.0 Info ∷ rest) q
-        (none_or (same (part_name_of n.0 Post) (part_name_of n.0 Docs)) (same (part_name_of n.0 Info) (part_name_of n.0 Docs) || is_among rest (part_name_of n.0 Docs)) (parts Post Docs (λ e. cc))
-        (none_or (same (part_name_of n.0 Info) (part_name_of n.0 Docs)) (is_among rest (part_name_of n.0 Docs)) (parts Info Docs (λ e. cc)) (part_live b Docs)))
+        (or_from (same (part_name_of n.0 Post) (part_name_of n.0 Docs)) (same (part_name_of n.0 Info) (part_name_of n.0 Docs) || is_among rest (part_name_of n.0 Docs)) (parts Post Docs (λ e. cc))
+        (or_from (same (part_name_of n.0 Info) (part_name_of n.0 Docs)) (is_among rest (part_name_of n.0 Docs)) (parts Info Docs (λ e. cc)) (part_live b Docs)))
         (once_cons (part_name_of n.0 Post) (part_name_of n.0 Info ∷ rest) q
-        (none_or (same (part_name_of n.0 Info) (part_name_of n.0 Post)) (is_among rest (part_name_of n.0 Post)) (parts Info Post (λ e. cc)) (part_live b Post))
+        (or_from (same (part_name_of n.0 Info) (part_name_of n.0 Post)) (is_among rest (part_name_of n.0 Post)) (parts Info Post (λ e. cc)) (part_live b Post))
         (once_cons (part_name_of n.0 Info) rest q (part_live b Info) (last b)))
 
 -- ---- all

@@ -5,6 +5,7 @@ use Rattle.std.specs.List.{AllByRecursion, Contains, filter, flat_map, list_any,
 use Rattle.std.proofs.lemmas.Bool.{cases_lt}
 use Rattle.std.proofs.lemmas.List.Elements.{Contains-append_cases, Contains-append_left, Contains-append_right}
 use Rattle.nrt_base.specs.declared.numbers.SegNo.{SegNo}
+use Rattle.nrt_base.proofs.Plain.{contains_later}
 use Rattle.disk_model.specs.Disk.{Name, Cells, reads_of}
 use Rattle.segment_infos.specs.declared.infos.SegRecord.{SegRecord}
 use Rattle.segment_infos.specs.Files.{files_of_segment, AreFilesOf}
@@ -25,7 +26,7 @@ use Rattle.primary_parts.proofs.Holding.{named_times}
 use Rattle.primary_parts.proofs.Keeping.{writer_counted}
 use Rattle.primary_parts.proofs.Drawing.{counted_on, counted_held, drawn_now, numbered_on, numbered_within}
 use Rattle.primary_parts.proofs.NewFiles.{named_of, undrawn_of}
-use Rattle.primary_parts.proofs.MergeLists.{further, names_behind, loose_behind, filled_behind, all_behind, apart_behind, inputs_within}
+use Rattle.primary_parts.proofs.MergeLists.{names_behind, loose_behind, filled_behind, all_behind, apart_behind, inputs_within}
 use Rattle.primary_starts.specs.StartCalls.{records_in}
 
 -- ---- the names of the inputs' files are names of the infos' files
@@ -56,7 +57,7 @@ inputs_there cells p is names named = node_there (cells p.dir) p.files (primary_
 -- ---- numbers
 numbers_below : (n : ℕ) (ms : List Merging) → ((k : ℕ) → Contains (merge_loose ms) k → k < n) → AllByRecursion (λ (x : Merging). x.task.seg.0 < n) ms
 numbers_below n [] below = tt
-numbers_below n (x ∷ ms) below = (below x.task.seg.0 (0, omega arith, refl), numbers_below n ms (λ k c. below k (further x.task.seg.0 k (merge_loose ms) c)))
+numbers_below n (x ∷ ms) below = (below x.task.seg.0 (0, omega arith, refl), numbers_below n ms (λ k c. below k (contains_later x.task.seg.0 k (merge_loose ms) c)))
 
 all_others : (m : Merging) (held : List SegNo) (ms : List Merging) → AllByRecursion (λ (x : Merging). x.task.seg.0 < m.task.seg.0) ms
     → AllByRecursion (λ (x : Merging). (n : ℕ) → list_any (λ (seg : SegNo). seg.0 == n) x.inputs ≡ true → list_any (λ (seg : SegNo). seg.0 == n) held ≡ true) ms
@@ -114,10 +115,10 @@ module _ {D : Type 0} (cells : D → Cells) (p : Parts D) (is : IsPrimary cells 
   -- a number that is loose now was loose, or is the one that was drawn
   loose_now : (seg : ℕ) → Contains (publish_loose p.publish ++ merge_loose all) seg → Contains (drawn_to p.infos ∷ loose_of p) seg
   loose_now seg c = elim (Contains-append_cases (publish_loose p.publish) (merge_loose all) seg c) [
-    | inl a ↦ further (drawn_to p.infos) seg (loose_of p) (Contains-append_left (publish_loose p.publish) (rest_loose p) seg a)
+    | inl a ↦ contains_later (drawn_to p.infos) seg (loose_of p) (Contains-append_left (publish_loose p.publish) (rest_loose p) seg a)
     | inr b ↦ (elim (loose_behind p.merges m seg b) [
       | inl own ↦ (0, omega arith, sym number ∙ own)
-      | inr old ↦ further (drawn_to p.infos) seg (loose_of p) (Contains-append_right (publish_loose p.publish) (rest_loose p) seg old)
+      | inr old ↦ contains_later (drawn_to p.infos) seg (loose_of p) (Contains-append_right (publish_loose p.publish) (rest_loose p) seg old)
     ])
   ]
 

@@ -1,9 +1,9 @@
 -- What was counted of the segments so far, and the answer that comes of it.
 use Rattle.std.proofs.Common.{◌≡◌, ℕ, zero, suc, ◌+◌, ◌^◌, ◌<◌, ◌≤◌, List, [], ◌∷◌, ◌++◌, length, map, take, drop, get_or, set, append_assoc, Bool, true, false, refl, sym, ap, subst, ◌∙◌, arith, drop-cons}
-use Rattle.std.specs.List.{All, filter, swap}
+use Rattle.std.specs.List.{filter, swap}
 use Rattle.std.specs.List.Sorted.{IsPermutation}
 use Rattle.std.proofs.lemmas.Grind.{flat_map-append}
-use Rattle.std.proofs.lemmas.List.{append-nil, map-append}
+use Rattle.std.proofs.lemmas.List.{append-nil, map-append, take_all}
 use Rattle.std.proofs.lemmas.List.Elements.{filter-append}
 use Rattle.std.proofs.lemmas.List.Sorted.{IsPermutation-refl, IsPermutation-keeps, IsPermutation-trans, IsPermutation-append_left, IsPermutation-append_right, IsPermutation-append_comm}
 use Rattle.std.proofs.lemmas.List.Sums.{sum_by-cons}
@@ -14,7 +14,6 @@ use Rattle.documents.specs.declared.query.Query.{Query}
 use Rattle.documents.specs.Matching.{matches_doc}
 use Rattle.documents.specs.Ranking.{hit_of, matching_hits, answer_of, scan_of}
 use Rattle.seg_reader.specs.Shown.{Shown, live_documents, live_documents_of, AreLiveDocuments}
-use Rattle.seg_reader.specs.Sound.{IsSound}
 use Rattle.query_eval.specs.Matching.{CountsSegment, rows_of}
 use Rattle.query_eval.proofs.SearchLemmas.{answer_same}
 
@@ -110,9 +109,6 @@ room_for query segs i seg found k lt item =
     let rows = rows_split segs i seg lt item in
     omega (arith, room, rows)
 
-pub sound_one : (segs : List Shown) (i : ℕ) (seg : Shown) → All IsSound segs → i < length segs → seg ≡ get_or segs i seg → IsSound seg
-sound_one segs i seg all lt item = subst IsSound (sym item) (all i seg lt)
-
 more_hits : (query : Query) (so_far : List Shown) (seg : Shown)
     → matching_hits query (live_documents (so_far ++ seg ∷ [])) ≡ matching_hits query (live_documents so_far) ++ matching_hits query (live_documents_of seg)
 more_hits query so_far seg =
@@ -135,12 +131,6 @@ counted_next query segs i j seg found next k lt item up one =
           ∙ ap answer_of (sym (ap (λ (ss : List Shown). matching_hits query (live_documents ss)) (take_one segs i seg lt item) ∙ more_hits query (take i segs) seg));
     })
 
-take_whole : (n : ℕ) (segs : List Shown) → length segs ≤ n → take n segs ≡ segs
-take_whole zero [] le = refl
-take_whole zero (s ∷ segs) le = absurd (omega (arith, le))
-take_whole (suc n) [] le = refl
-take_whole (suc n) (s ∷ segs) le = ap (λ (xs : List Shown). s ∷ xs) (take_whole n segs (omega (arith, le)))
-
 same_answer : (answer found : Answer) → answer.total ≡ found.total → answer.hits ≡ found.hits → answer ≡ found
 same_answer answer found total hits = by_parts answer.total found.total answer.hits found.hits total hits
   where
@@ -151,5 +141,5 @@ same_answer answer found total hits = by_parts answer.total found.total answer.h
 pub answer_is : (query : Query) (segs : List Shown) (n : ℕ) (left : List Shown) (found answer : Answer) → AreCounted query (take n segs) left found → length segs ≤ n → answer.total ≡ found.total → answer.hits ≡ found.hits
     → (docs : List Doc) → AreLiveDocuments segs docs → answer ≡ scan_of docs query
 answer_is query segs n left found answer k all total hits docs are =
-    same_answer answer found total hits ∙ k.is ∙ ap (λ (ss : List Shown). answer_of (matching_hits query (live_documents ss))) (take_whole n segs all)
+    same_answer answer found total hits ∙ k.is ∙ ap (λ (ss : List Shown). answer_of (matching_hits query (live_documents ss))) (take_all n segs all)
     ∙ answer_same (matching_hits query (live_documents segs)) (matching_hits query docs) (matching_hits-permutation query (live_documents segs) docs are.same)

@@ -1,5 +1,5 @@
 -- What is answered by a cursor that is put together of those of parts.
-use Rattle.std.proofs.Common.{◌≡◌, ℕ, zero, suc, ◌+◌, ◌<◌, ◌≤◌, List, [], ◌∷◌, length, drop, get_or, Bool, Result, Ok, Err, Option, Some, None, refl, sym, ap, ◌∙◌, arith, drop-cons}
+use Rattle.std.proofs.Common.{◌≡◌, ℕ, suc, ◌+◌, ◌<◌, ◌≤◌, List, ◌∷◌, length, drop, get_or, Bool, Result, Ok, Err, Option, Some, None, refl, sym, ap, ◌∙◌, arith, drop-cons}
 use Rattle.std.specs.Prelude.{◌&&◌, ◌||◌, not, nat_le, nat_lt, slice_get, IfOk, OnOk}
 use Rattle.std.specs.List.{list_any, list_all, sum_by}
 use Rattle.std.specs.Option.{unwrap_or}
@@ -7,6 +7,7 @@ use Rattle.std.proofs.Math.Bool.{and_assoc, or_assoc, and-true, or-false}
 use Rattle.std.proofs.lemmas.Bool.{lt-ltb, le-ltb, le-leb}
 use Rattle.std.proofs.lemmas.List.Sums.{sum_by-cons}
 use Rattle.std.proofs.lemmas.Option.{slice_get_within}
+use Rattle.std.proofs.lemmas.List.{drop_all}
 use Rattle.nrt_base.specs.declared.doc.Doc.{Doc}
 use Rattle.documents.specs.Words.{words_of}
 use Rattle.documents.specs.declared.query.Query.{Query, All, Any, Not}
@@ -47,12 +48,6 @@ split items i j part lt item next =
     let up : suc i ≡ j = omega (arith, next) in
     drop-cons items i part lt ∙ ap (λ (p : Query). p ∷ drop (suc i) items) (sym item) ∙ ap (λ (n : ℕ). part ∷ drop n items) up
 
-past : (items : List Query) (i : ℕ) → length items ≤ i → drop i items ≡ []
-past [] zero le = refl
-past [] (suc i) le = refl
-past (q ∷ items) zero le = absurd (omega (arith, le))
-past (q ∷ items) (suc i) le = past items i (omega (arith, le))
-
 -- what the cursor so far and the parts that are left answer together
 abbrev pub AllSoFar : List Doc → List Query → List Query → (ℕ → Bool) → Type 0
 AllSoFar docs parts left all = (row : ℕ) (doc : Doc) → slice_get docs row ≡ Some doc → (all row && list_all (λ part. matches_doc part doc) left) ≡ list_all (λ part. matches_doc part doc) parts
@@ -84,7 +79,7 @@ pub all_end : (docs : List Doc) (items parts : List Query) (i : ℕ) (all : Opti
 all_end docs items parts i all le so_far row doc is =
     same all row
     ∙ sym (and-true (all_answer all row))
-    ∙ ap (λ (qs : List Query). all_answer all row && list_all (λ q. matches_doc q doc) qs) (sym (past items i le))
+    ∙ ap (λ (qs : List Query). all_answer all row && list_all (λ q. matches_doc q doc) qs) (sym (drop_all i items le))
     ∙ so_far row doc is
   where
     same : (all : Option Cursor) (row : ℕ) → answers (unwrap_or all Every) row ≡ all_answer all row
@@ -95,7 +90,7 @@ pub any_end : (docs : List Doc) (items parts : List Query) (i : ℕ) (any : Opti
 any_end docs items parts i any le so_far row doc is =
     same any row
     ∙ sym (or-false (any_answers any row))
-    ∙ ap (λ (qs : List Query). any_answers any row || list_any (λ q. matches_doc q doc) qs) (sym (past items i le))
+    ∙ ap (λ (qs : List Query). any_answers any row || list_any (λ q. matches_doc q doc) qs) (sym (drop_all i items le))
     ∙ so_far row doc is
   where
     same : (any : Option Cursor) (row : ℕ) → answers (unwrap_or any Nothing) row ≡ any_answers any row
@@ -123,7 +118,7 @@ pub ranks_end : (docs : List Doc) (items parts : List Query) (i : ℕ) (before n
     → AddsRank docs (λ doc. sum_by (λ part. rank_of part (words_of doc.text)) parts) before now
 ranks_end docs items parts i before now le so_far row doc is =
     let f : Query → ℕ = λ q. rank_of q (words_of doc.text) in
-    let none : sum_by f (drop i items) ≡ 0 = ap (sum_by f) (past items i le) in
+    let none : sum_by f (drop i items) ≡ 0 = ap (sum_by f) (drop_all i items le) in
     let sum = so_far row doc is in
     omega (arith, none, sum)
 

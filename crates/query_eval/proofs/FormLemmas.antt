@@ -1,18 +1,12 @@
 -- The parts of a query that has its form have theirs.
-use Rattle.std.proofs.Common.{◌≡◌, ℕ, ◌<◌, List, length, Bool, refl, sym, ap, ◌∙◌, arith}
-use denote.Hole.Carrier.{hidden}
-use Rattle.std.specs.Prelude.{◌&&◌, nat_le, IsTrue}
+use Rattle.std.proofs.Common.{◌≡◌, ℕ, ◌<◌, List, length, sym, ap, ◌∙◌, arith}
+use Rattle.std.specs.Prelude.{nat_le, IsTrue}
 use Rattle.std.specs.List.{list_all}
-use Rattle.std.proofs.Math.Bool.{and-true}
 use Rattle.std.proofs.lemmas.Bool.{and_parts, leb-true}
-use Rattle.documents.specs.declared.query.Query.{Query, Phrase, All, Any, Not, Row_of-Query, end_of-Query, more_of-Query, items-the_row-Query, items_hidden-the_row-Query-0}
-use Rattle.documents.specs.declared.query.Query.TheBlock.{hidden-the_row-Query-1}
+use Rattle.text_query.proofs.TreeLemmas.{all_have_form-row, form_not as not_form}
+use Rattle.documents.specs.declared.query.Query.{Query, Phrase, All, Any, Not, items_hidden-the_row-Query-0}
 use Rattle.documents.specs.Matching.{has_form, all_have_form, count_parts}
 use Rattle.documents.proofs.MatchingLemmas.{row_of}
-
-all_have_form-row : (n : _) (row : Row_of-Query n) → all_have_form row ≡ list_all has_form (items-the_row-Query n row)
-all_have_form-row n end_of-Query = refl
-all_have_form-row n (more_of-Query part parts) = ap (λ (b : Bool). has_form part && b) (all_have_form-row _ parts)
 
 pub form_all : (query : Query) (parts : List Query) → query ≡ All parts → IsTrue (has_form query) → IsTrue (list_all has_form parts)
 form_all query parts e form =
@@ -25,10 +19,6 @@ form_any query parts e form =
     let row = row_of (Any parts) in
     let each = (and_parts (nat_le 2 (count_parts row.1)) (all_have_form row.1) (sym (ap has_form e) ∙ form)).1 in
     sym (all_have_form-row row.0 row.1 ∙ ap (list_all has_form) (items_hidden-the_row-Query-0 parts)) ∙ each
-
-not_form : (part : Query) → has_form (Not part) ≡ has_form part
-unfolding hidden-the_row-Query-1 hidden
-not_form part = and-true (has_form part)
 
 pub form_not : (query part same : Query) → query ≡ Not part → same ≡ part → IsTrue (has_form query) → IsTrue (has_form same)
 form_not query part same e s form = ap has_form s ∙ sym (not_form part) ∙ sym (ap has_form e) ∙ form

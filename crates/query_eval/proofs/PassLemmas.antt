@@ -2,6 +2,7 @@
 use Rattle.std.proofs.Common.{◌≡◌, ℕ, zero, suc, ◌+◌, ◌<◌, ◌≤◌, List, [], ◌∷◌, length, map, take, drop, get_or, set, Bool, true, false, Some, None, refl, sym, ap, subst, ◌∙◌, inl, inr, arith, drop-cons}
 use Rattle.std.specs.List.{All}
 use Rattle.std.proofs.lemmas.Bool.{cases_lt, eq-eqb, and_left, and_right, and_from, and_parts}
+use Rattle.std.proofs.lemmas.Option.{same_Some}
 use Rattle.nrt_base.proofs.Plain.{cons_from, cons_parts, cons_first}
 use Rattle.postings_plain.specs.Postings.{Hit, row_of}
 use Rattle.postings_plain.specs.Rows.{from_row, IsLeastFrom, first_row, first_positions}
@@ -52,12 +53,9 @@ rest_set [] (suc i) w v rest e = absurd cc
 rest_set (n ∷ now) zero w v rest e = cc
 rest_set (n ∷ now) (suc i) w v rest e = rest_set now i w v rest e
 
-some_row : (a b : ℕ) → Some a ≡ Some b → a ≡ b
-some_row a b e = cc
-
 pub stand_here : (hits : List Hit) (row : ℕ) → first_row hits ≡ Some row → first_positions hits ≡ places_in row hits
 stand_here [] row e = absurd cc
-stand_here (h ∷ hits) row e = rw (eq-eqb (row_of h) row (some_row (row_of h) row e)) refl
+stand_here (h ∷ hits) row e = rw (eq-eqb (row_of h) row (same_Some (row_of h) row e)) refl
 
 -- what a pass keeps before the word at a place is moved, where the words before it stand at a row or below
 pub record IsPassing (i : ℕ) (old now : List (List Hit)) (row at : ℕ) : Type 0 where

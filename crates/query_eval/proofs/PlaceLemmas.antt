@@ -6,6 +6,8 @@ use Rattle.std.specs.Str.{bytes_eq}
 use Rattle.std.proofs.lemmas.Bool.{ne_eqb, eq-eqb, le-leb, lt-ltb, ltb-false, or_parts, and_left, and_right}
 use Rattle.std.proofs.lemmas.Cmp.{nat_list_eq_equiv}
 use Rattle.std.proofs.lemmas.List.Sums.{sum_by-cons}
+use Rattle.std.proofs.lemmas.List.{map_push}
+use Rattle.std.proofs.lemmas.Option.{same_Some}
 use Rattle.nrt_base.specs.declared.doc.Doc.{Doc}
 use Rattle.documents.specs.Words.{words_of, has_word}
 use Rattle.documents.specs.Matching.{tails, stands_at_front, stands_in}
@@ -17,7 +19,7 @@ use Rattle.postings_plain.specs.Inverting.{has_term, positions_of}
 use Rattle.seg_reader.specs.Shown.{Shown}
 use Rattle.seg_reader.specs.Sound.{term_row, IsSound}
 use Rattle.query_eval.specs.Phrases.{places_in, follow, times_together, phrase_times, phrase_in}
-use Rattle.query_eval.proofs.RowLemmas.{rows_from, some_row, doc_row, no_entry_rows}
+use Rattle.query_eval.proofs.RowLemmas.{rows_from, doc_row, no_entry_rows}
 
 -- how many words are this one, where it is tested in turn
 pub count_cons : {X : Type 0} (p : X → Bool) (x : X) (xs : List X) → count_by p (x ∷ xs) ≡ (if p x then 1 else 0) + count_by p xs
@@ -144,7 +146,7 @@ none_placed word n (w ∷ words) e =
 -- the places in a row are those of the word there
 places_found : (word : List ℕ) (n i m : ℕ) (rows : List TermRow) (row : TermRow) → m ≡ n + i → slice_get rows i ≡ Some row → places_in m (rows_from word n rows) ≡ positions_of word row.words
 places_found word n i m [] row e is = absurd cc
-places_found word n zero m (r ∷ rows) row e is = by_test (has_term 1 word r) refl ∙ ap (λ (x : TermRow). positions_of word x.words) (some_row r row is)
+places_found word n zero m (r ∷ rows) row e is = by_test (has_term 1 word r) refl ∙ ap (λ (x : TermRow). positions_of word x.words) (same_Some r row is)
   where
     by_test : (b : Bool) → has_term 1 word r ≡ b → places_in m (rows_from word n (r ∷ rows)) ≡ positions_of word r.words
     by_test true f = rw (f, eq-eqb n m (omega (arith, e))) refl
@@ -170,10 +172,6 @@ word_times shown word hits sound has i doc e = ap length (entry_places shown wor
 abbrev pub ArePlaced : List Doc → List (List Hit) → List (List ℕ) → Type 0
 ArePlaced docs hits phrase = (row : ℕ) (doc : Doc) → slice_get docs row ≡ Some doc → map (places_in row) hits ≡ map (λ w. positions_of w (words_of doc.text)) phrase
 
-map_more : {X : Type 0} (f : X → List ℕ) (xs : List X) (x : X) → map f (xs ++ x ∷ []) ≡ map f xs ++ f x ∷ []
-map_more f [] x = refl
-map_more f (y ∷ xs) x = ap (λ (ys : List (List ℕ)). f y ∷ ys) (map_more f xs x)
-
 take_one : (xs : List (List ℕ)) (i : ℕ) (x : List ℕ) → slice_get xs i ≡ Some x → take (suc i) xs ≡ take i xs ++ x ∷ []
 take_one [] i x e = absurd cc
 take_one (y ∷ xs) zero x e = cc
@@ -189,9 +187,9 @@ placed_more shown words more phrase i j word same hits sound placed is spelt has
     let of : List ℕ → List ℕ = λ w. positions_of w (words_of doc.text) in
     let one : j ≡ suc i = omega (arith, next) in
     ap (map (places_in row)) pushed
-    ∙ map_more (places_in row) words hits
+    ∙ map_push (places_in row) words hits
     ∙ more_cells (map (places_in row) words) (map of (take i phrase)) (places_in row hits) (of word) (placed row doc here) (entry_places shown same hits sound has row doc here ∙ ap of spelt)
-    ∙ sym (map_more of (take i phrase) word)
+    ∙ sym (map_push of (take i phrase) word)
     ∙ ap (map of) (sym (take_one phrase i word is))
     ∙ ap (λ (n : ℕ). map of (take n phrase)) (sym one)
 

@@ -8,6 +8,7 @@ use Rattle.std.specs.declared.cmp.Ordering.TheVariants.{Less}
 use Rattle.std.proofs.lemmas.Bool.{cases_lt, lt-ltb, le-ltb, ne_eqb, eq-eqb, or_left, or_right}
 use Rattle.std.proofs.lemmas.List.Sums.{sum_by-cons}
 use Rattle.std.proofs.lemmas.Bool.Decides.{nat_tests}
+use Rattle.std.proofs.lemmas.Option.{same_Some}
 use Rattle.postings_plain.specs.Postings.{Hit}
 use Rattle.postings_plain.specs.Rows.{first_positions}
 use Rattle.query_eval.specs.Places.{has_place, all_left, from_place, AreSameFrom}
@@ -124,8 +125,5 @@ pub first_counts : (words : List (List Hit)) (first : List Hit) (places : List �
     → count_by (λ p. follow p (map first_positions words)) places ≡ times_together (map first_positions words)
 first_counts [] first places is e = absurd cc
 first_counts (w ∷ words) first places is e =
-    ap (count_by (λ p. follow p (map first_positions (w ∷ words)))) (e ∙ ap first_positions (same_word first w is))
+    ap (count_by (λ p. follow p (map first_positions (w ∷ words)))) (e ∙ ap first_positions (same_Some first w is))
     ∙ count_there (λ p. follow (p + 1) (map first_positions words)) (first_positions w) (first_positions w) (λ p e. e)
-  where
-    same_word : (a b : List Hit) → ◌≡◌ {A = Option (List Hit)} (Some a) (Some b) → a ≡ b
-    same_word a b f = cc

@@ -3,6 +3,7 @@ use Rattle.std.proofs.Common.{◌≡◌, ℕ, zero, suc, ◌+◌, ◌<◌, List,
 use Rattle.std.specs.Prelude.{slice_get}
 use Rattle.std.specs.List.{list_any, filter, enumerate_from}
 use Rattle.std.proofs.lemmas.Bool.{ne_eqb, eq-eqb, or_right}
+use Rattle.std.proofs.lemmas.Option.{same_Some}
 use Rattle.nrt_base.specs.declared.doc.Doc.{Doc}
 use Rattle.documents.specs.Words.{words_of, has_word}
 use Rattle.postings_plain.specs.declared.row.TermRow.{TermRow}
@@ -25,12 +26,9 @@ none_before word n (r ∷ rows) x lt = by_test (has_term 1 word r) refl (none_be
     by_test true e h = rw (e, ne_eqb n x (λ f. omega (arith, f, lt))) h
     by_test false e h = rw e h
 
-pub some_row : (a b : TermRow) → Some a ≡ Some b → a ≡ b
-some_row a b e = cc
-
 row_found : (word : List ℕ) (n i : ℕ) (rows : List TermRow) (row : TermRow) → slice_get rows i ≡ Some row → has_row (rows_from word n rows) (n + i) ≡ has_term 1 word row
 row_found word n i [] row e = absurd cc
-row_found word n zero (r ∷ rows) row e = by_test (has_term 1 word r) refl ∙ ap (has_term 1 word) (some_row r row e)
+row_found word n zero (r ∷ rows) row e = by_test (has_term 1 word r) refl ∙ ap (has_term 1 word) (same_Some r row e)
   where
     by_test : (b : Bool) → has_term 1 word r ≡ b → has_row (rows_from word n (r ∷ rows)) (n + zero) ≡ has_term 1 word r
     by_test true f = rw (f, eq-eqb n (n + zero) (omega arith)) refl
@@ -65,7 +63,7 @@ entry_rows shown word hits sound has i doc e =
 
 found_any : (word : List ℕ) (i : ℕ) (rows : List TermRow) (row : TermRow) → slice_get rows i ≡ Some row → has_term 1 word row ≡ true → list_any (has_term 1 word) rows ≡ true
 found_any word i [] row e has = absurd cc
-found_any word zero (r ∷ rows) row e has = rw (ap (has_term 1 word) (some_row r row e) ∙ has) refl
+found_any word zero (r ∷ rows) row e has = rw (ap (has_term 1 word) (same_Some r row e) ∙ has) refl
 found_any word (suc i) (r ∷ rows) row e has = or_right (has_term 1 word r) (list_any (has_term 1 word) rows) (found_any word i rows row e has)
 
 -- a word that a sound segment lacks is in no text

@@ -1,7 +1,7 @@
 -- A history that serves a script with a log goes on behind a promotion with the replay.
-use Rattle.std.proofs.Common.{◌≡◌, ℕ, if◌then◌else◌, Bool, true, ◌&&◌, ◌==◌, List, [], ◌∷◌, ◌++◌, reverse, drop, length, Option, Some, None, refl, sym, ap, subst, ◌∙◌, true≢false, append_assoc}
+use Rattle.std.proofs.Common.{◌≡◌, ℕ, if◌then◌else◌, Bool, true, ◌&&◌, List, [], ◌∷◌, ◌++◌, reverse, drop, length, Option, Some, None, refl, sym, ap, subst, ◌∙◌, true≢false, append_assoc}
 use Rattle.std.proofs.Math.Bool.{or-true}
-use Rattle.std.proofs.lemmas.Bool.{and_parts, eqb-true, eq-eqb}
+use Rattle.std.proofs.lemmas.Bool.{eq-eqb}
 use Rattle.std.proofs.lemmas.List.{reverse-append}
 use Rattle.nrt_base.specs.declared.numbers.At.{At}
 use Rattle.nrt_base.specs.declared.numbers.Gen.{Gen}
@@ -14,6 +14,7 @@ use Rattle.history_entries.specs.declared.entry.Event.TheVariants.{Accepted, Pro
 use Rattle.history_entries.specs.declared.entry.History.{History}
 use Rattle.history_entries.specs.Lines.{same_at, is_reply, is_answered, last_of_line}
 use Rattle.history_entries.specs.Nodes.{Past}
+use Rattle.history_tables.proofs.RowLemmas.{same_at_is}
 use Rattle.script_serving.specs.declared.script.Line.{Line}
 use Rattle.script_serving.specs.declared.script.LineCommand.{LineCommand}
 use Rattle.script_serving.specs.declared.script.LineCommand.TheVariants.{Promote}
@@ -25,14 +26,6 @@ use Rattle.script_serving.specs.Serves.{FitsTurn, FitsReplay, Fits, is_newest_at
 use Rattle.replay_laws.specs.Replay.{IsAcceptance, IsAcceptanceOf, BeginsWithReplay, operations_lacking, IsReplayed}
 
 -- ---- lines
-
--- one line has one place
-one_place : (a b : At) → same_at a b ≡ true → a ≡ b
-one_place a b e =
-    let parts = and_parts (a.lane.0 == b.lane.0) (a.line.0 == b.line.0) e in
-    let lane : a.lane.0 ≡ b.lane.0 = eqb-true a.lane.0 b.lane.0 parts.0 in
-    let line : a.line.0 ≡ b.line.0 = eqb-true a.line.0 b.line.0 parts.1 in
-    λ i. record { lane = record { 0 = lane i }; line = record { 0 = line i } }
 
 at_itself : (a b : At) → a ≡ b → same_at a b ≡ true
 at_itself a b e = rw (eq-eqb a.lane.0 b.lane.0 (ap (λ (x : At). x.lane.0) e), eq-eqb a.line.0 b.line.0 (ap (λ (x : At). x.line.0) e)) refl
@@ -101,7 +94,7 @@ accepted_behind : (at : At) (past : Past) (e : Entry) (seq : ℕ) (op : Op) → 
 accepted_behind at past e seq op here is behind =
     let same : same_at e.at at ≡ true = at_itself e.at at (sym here) in
     record {
-      newest = λ x h. here ∙ one_place e.at x h;
+      newest = λ x h. here ∙ same_at_is e.at x h;
       answered = rw behind.answered (or-true (is_reply e.event && same_at e.at at));
       last = Accepted seq op;
       last_is = rw (same, is) refl;
@@ -111,7 +104,7 @@ replay_behind : (script : Script) (at : At) (past : Past) (ops : List Op) (after
 replay_behind script at past [] [] behind is goes = tt
 replay_behind script at past (op ∷ ops) [] behind is goes = let bad : op ∷ ops ≡ [] = sym is ∙ goes in cc
 replay_behind script at past [] (e ∷ after) behind is goes = λ accepts.
-    let here : at ≡ e.at = sym (one_place e.at at accepts.0) in
+    let here : at ≡ e.at = sym (same_at_is e.at at accepts.0) in
     let lines = lines_of_lane e.at.lane.0 script in
     let fits : FitsTurn lines past e.at (command_at lines e.at) e.event = subst (λ (ops : List Op). Fits ops lines past e.at (command_at lines e.at) e.event) is goes.0 in
     no_more lines past e.at (command_at lines e.at) e.event behind.last (subst (λ (x : At). is_answered x past ≡ true) here behind.answered) (subst (λ (x : At). last_of_line x past ≡ Some behind.last) here behind.last_is) fits accepts.1
@@ -127,7 +120,7 @@ promoted_behind : (past : Past) (p : Entry) (m : NodeNo) (g : Gen) (f v : Versio
 promoted_behind past p m g f v is =
     let same : same_at p.at p.at ≡ true = at_itself p.at p.at refl in
     record {
-      newest = λ x h. one_place p.at x h;
+      newest = λ x h. same_at_is p.at x h;
       answered = rw (is, same) refl;
       last = Promoted m g f v;
       last_is = rw (same, is) refl;

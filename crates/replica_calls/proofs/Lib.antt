@@ -1,6 +1,6 @@
-mod Apart
+pub mod Apart
 mod Calls
-mod Cancelled
+pub mod Cancelled
 mod Committing
 mod Ended
 mod GivenBack

@@ -2,6 +2,7 @@
 use Rattle.std.proofs.Common.{◌≡◌, ℕ, ◌+◌, ◌<◌, ◌≤◌, List, [], ◌∷◌, Option, Some, refl, sym, ap, subst, ◌∙◌, arith}
 use Rattle.std.specs.Prelude.{IfSome}
 use Rattle.std.specs.List.{AllByRecursion}
+use Rattle.std.proofs.lemmas.Option.{same_Some}
 use Rattle.file_names.specs.Names.{temp_name_of}
 use Rattle.disk_model.specs.Disk.{Name, Content, Cells, reads_of}
 use Rattle.file_deleter.specs.Holdings.{Holdings, count_of, times}
@@ -123,11 +124,8 @@ module _ {D : Type 0} (cells : D → Cells) (p : Parts D) (is : IsWholeReplica c
         arrived_whole meta meta_is wanted = whole_of cells (record p { dir = dir; files = files; job = Some (record { copy = now; infos = j.infos }) }) arrived_core is.segs
             (reads_known (cells dir) files p.known (held_along (Knows p.known) (cells p.dir) (cells dir) p.files files arrived_other bytes_j (knows_reads (cells p.dir) p.files p.known is.known)))
             (subst (λ (k : Job). HasMetas (reads_of (cells dir)) k) (sym made) (reads_metas (cells dir) (with_part j.copy name)
-            (arrived_reads (HasWanted j.copy.want.files) (λ m f. record { bytes = bytes; there = written; meta_is = subst (IsMetaOf bytes) (some_same meta m (sym wanted ∙ f)) meta_is }) (metas_reads (cells p.dir) j.copy copied_j))))
+            (arrived_reads (HasWanted j.copy.want.files) (λ m f. record { bytes = bytes; there = written; meta_is = subst (IsMetaOf bytes) (same_Some meta m (sym wanted ∙ f)) meta_is }) (metas_reads (cells p.dir) j.copy copied_j))))
             is.few arrived_merges
-          where
-            some_same : (m n : FileMetaData) → ◌≡◌ {A = Option FileMetaData} (Some m) (Some n) → m ≡ n
-            some_same m n e = cc
 
         pub arrived_sourced : (source : Name → Content) → source name ≡ Some bytes → IsSourced source cells p → IsSourced source cells (record p { dir = dir; files = files; job = Some (record { copy = now; infos = j.infos }) })
         arrived_sourced source is_source h = record {

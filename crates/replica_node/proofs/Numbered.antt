@@ -1,9 +1,10 @@
 -- The job or the copy of a merged segment with a number, before and after a call.
 use Rattle.std.proofs.Common.{◌≡◌, ℕ, Bool, true, false, Option, Some, None, is_some, refl, sym, ap, subst, ◌∙◌, arith, true≢false}
-use Rattle.std.specs.Prelude.{◌==◌, if◌then◌else◌, IsSome, IfSome, OnOk, OnErr, Result, Ok, Err}
+use Rattle.std.specs.Prelude.{◌==◌, if◌then◌else◌, IsSome, IfSome, OnOk, OnErr, Result}
 use Rattle.std.proofs.lemmas.Bool.Decides.{nat_tests}
 use Rattle.std.specs.Option.{option_map}
 use Rattle.std.specs.List.{AllByRecursion}
+use Rattle.std.proofs.lemmas.Result.{on_ok_weaker, on_err_weaker}
 use Rattle.disk_model.specs.Disk.{Name, Cells}
 use Rattle.copy_job.specs.Jobs.{Job, with_part}
 use Rattle.replica_parts.specs.declared.job.PointJob.{PointJob}
@@ -37,17 +38,9 @@ pub copy_some : (number : ℕ) (job : Option PointJob) (other : Option Job) → 
 copy_some number job other e h = subst (λ (b : Bool). IsSome (if b then option_map (λ (j : PointJob). j.copy) job else other)) e h
 
 -- ---- what the call makes of it
-on_ok : {T E : Type 0} {P Q : Type 0} (result : Result T E) → (P → Q) → OnOk result P → OnOk result Q
-on_ok (Ok x) turns h = turns h
-on_ok (Err x) turns h = tt
-
-on_err : {T E : Type 0} {P Q : Type 0} (result : Result T E) → (P → Q) → OnErr result P → OnErr result Q
-on_err (Ok x) turns h = tt
-on_err (Err x) turns h = turns h
-
 -- what is said under the job's number is said under the number
 pub point_named : {T E : Type 0} (P : ℕ → Type 0) (number : ℕ) (job : Option PointJob) (result : Result T E) → is_job_number number job ≡ true → OnOk result (IfSome job (λ j. P j.copy.number)) → OnOk result (P number)
-point_named P number job result e = on_ok result (named job e)
+point_named P number job result e = on_ok_weaker result (named job e)
   where
     named : (o : Option PointJob) → is_job_number number o ≡ true → IfSome o (λ j. P j.copy.number) → P number
     named None f h = absurd (no_point number f)
@@ -67,13 +60,13 @@ module _ {D : Type 0} (number : ℕ) (old new : Parts D) where
   module _ (e : is_job_number number old.job ≡ true) (others : new ≡ record old { dir = new.dir; files = new.files; job = new.job }) where
     pub point_ok : {T E : Type 0} (result : Result T E) (name : Name) → OnOk result (IfSome old.job (λ j. new.job ≡ Some (record j { copy = with_part j.copy name })))
         → OnOk result (IfSome (running_job number old) (λ j. new ≡ record (with_job number (with_part j name) old) { dir = new.dir; files = new.files }))
-    point_ok result name = on_ok result (λ h. if_map (running_job number old) (λ k made.
+    point_ok result name = on_ok_weaker result (λ h. if_map (running_job number old) (λ k made.
         others ∙ ap (λ (j : Option PointJob). record old { dir = new.dir; files = new.files; job = j }) made
         ∙ sym (ap (λ (b : Bool). record (if b then record old { job = option_map (λ (j : PointJob). record j { copy = with_part k name }) old.job } else record old { copies = record old.copies { running = copies_with number (with_part k name) old.copies.running } }) { dir = new.dir; files = new.files }) e))
         (point_made number name new.job old.job (copy_at number old.copies.running) e h))
 
     pub point_err : {T E : Type 0} (result : Result T E) → OnErr result (new.job ≡ old.job) → OnErr result (new ≡ record old { dir = new.dir; files = new.files })
-    point_err result = on_err result (λ same. others ∙ ap (λ (j : Option PointJob). record old { dir = new.dir; files = new.files; job = j }) same)
+    point_err result = on_err_weaker result (λ same. others ∙ ap (λ (j : Option PointJob). record old { dir = new.dir; files = new.files; job = j }) same)
 
     pub point_gone : new.job ≡ None → new ≡ record (without_job number old) { dir = new.dir; files = new.files }
     point_gone none = others ∙ ap (λ (j : Option PointJob). record old { dir = new.dir; files = new.files; job = j }) none
@@ -82,13 +75,13 @@ module _ {D : Type 0} (number : ℕ) (old new : Parts D) where
   module _ (e : is_job_number number old.job ≡ false) (others : new ≡ record old { dir = new.dir; files = new.files; copies = new.copies }) where
     pub copy_ok : {T E : Type 0} (result : Result T E) (name : Name) → OnOk result (IfSome (copy_at number old.copies.running) (λ c. new.copies ≡ record old.copies { running = copies_with number (with_part c name) old.copies.running }))
         → OnOk result (IfSome (running_job number old) (λ j. new ≡ record (with_job number (with_part j name) old) { dir = new.dir; files = new.files }))
-    copy_ok result name = on_ok result (λ h. subst (λ (b : Bool). IfSome (if b then option_map (λ (j : PointJob). j.copy) old.job else copy_at number old.copies.running) (λ j. new ≡ record (with_job number (with_part j name) old) { dir = new.dir; files = new.files })) (sym e)
+    copy_ok result name = on_ok_weaker result (λ h. subst (λ (b : Bool). IfSome (if b then option_map (λ (j : PointJob). j.copy) old.job else copy_at number old.copies.running) (λ j. new ≡ record (with_job number (with_part j name) old) { dir = new.dir; files = new.files })) (sym e)
         (if_map (copy_at number old.copies.running) (λ k made.
         others ∙ ap (λ (m : MergeCopies). record old { dir = new.dir; files = new.files; copies = m }) made
         ∙ sym (ap (λ (b : Bool). record (if b then record old { job = option_map (λ (j : PointJob). record j { copy = with_part k name }) old.job } else record old { copies = record old.copies { running = copies_with number (with_part k name) old.copies.running } }) { dir = new.dir; files = new.files }) e)) h))
 
     pub copy_err : {T E : Type 0} (result : Result T E) → OnErr result (new.copies ≡ old.copies) → OnErr result (new ≡ record old { dir = new.dir; files = new.files })
-    copy_err result = on_err result (λ same. others ∙ ap (λ (m : MergeCopies). record old { dir = new.dir; files = new.files; copies = m }) same)
+    copy_err result = on_err_weaker result (λ same. others ∙ ap (λ (m : MergeCopies). record old { dir = new.dir; files = new.files; copies = m }) same)
 
     pub copy_gone : new.copies ≡ record old.copies { running = copies_without number old.copies.running } → new ≡ record (without_job number old) { dir = new.dir; files = new.files }
     copy_gone made = others ∙ ap (λ (m : MergeCopies). record old { dir = new.dir; files = new.files; copies = m }) made

@@ -24,6 +24,7 @@ use Rattle.replica_parts.specs.Waiting.{HasNoTemporary}
 use Rattle.replica_parts.specs.Replica.{IsWholeReplica}
 use Rattle.replica_parts.proofs.Temporary.{joins, files_no_temporary}
 use Rattle.std.specs.Prelude.{IfSome, IsSomeAnd}
+use Rattle.std.proofs.lemmas.Option.{same_Some, none-some}
 use Rattle.node_files.specs.Appearing.{NoneAppears}
 use Rattle.node_files.proofs.Appearing.{there_or}
 use Rattle.replica_parts.specs.Starting.{HasJustItsFiles}
@@ -127,15 +128,9 @@ just_names s none infos are =
 
 -- where the last commit was found, its name stood
 last_stood : (before : Image) (last : Option Commit) (infos : Infos) (q : Name) → FindsPoint before (number_of_last last) infos → IsOfLast last q → before q ≡ None → ⊥
-last_stood before None infos q finds of none = no_last of.1
+last_stood before None infos q finds of none = none-some of.0 of.1
+last_stood before (Some d) infos q finds of none = stands (same_Some d of.0 of.1)
   where
-    no_last : ◌≡◌ {A = Option Commit} None (Some of.0) → ⊥
-    no_last e = cc
-last_stood before (Some d) infos q finds of none = stands (some_same d of.0 of.1)
-  where
-    some_same : (a b : Commit) → ◌≡◌ {A = Option Commit} (Some a) (Some b) → a ≡ b
-    some_same a b e = cc
-
     stands : d ≡ of.0 → ⊥
     stands e =
         let name : own_name d ≡ q = ap own_name e ∙ of.3 in

@@ -1,9 +1,11 @@
 -- What stays where a node that opens removes what nobody holds.
-use Rattle.std.proofs.Common.{◌≡◌, ◌⊎◌, ℕ, ◌+◌, ◌<◌, ◌≤◌, ◌||◌, true, List, [], ◌∷◌, ◌++◌, take, drop, Option, Some, None, is_some, refl, sym, ap, subst, ◌∙◌, arith, inl, inr, true≢false}
+use Rattle.std.proofs.Common.{◌≡◌, ℕ, ◌+◌, ◌<◌, ◌≤◌, ◌||◌, true, List, [], ◌∷◌, ◌++◌, take, drop, Option, Some, None, is_some, refl, sym, ap, subst, ◌∙◌, arith, inl, inr, true≢false}
 use Rattle.std.specs.Prelude.{Contains, IfSome}
 use Rattle.std.specs.List.{flat_map}
 use Rattle.std.proofs.Math.Dec.{ltb as nat_lt}
 use Rattle.std.proofs.lemmas.List.{take-append-drop}
+use Rattle.std.proofs.lemmas.Bool.{cases_order}
+use Rattle.std.proofs.Math.Bool.{or-false}
 use Rattle.disk_model.specs.Disk.{Name, Content, Cell, Cells, Image, is_among, reads_of}
 use Rattle.file_names.specs.Names.{commit_name_of, commit_number}
 use Rattle.file_names.proofs.NameLaws.{commit_name_is_one, commit_number-commit_name}
@@ -24,7 +26,6 @@ use Rattle.commit_steps.proofs.Safe.{among_of}
 use Rattle.commit_steps.proofs.Beside.{sound_beside, sound_images}
 use Rattle.searcher_switch.specs.Given.{IsWholeNode}
 use Rattle.replica_opening.proofs.Metas.{knows_along}
-use Rattle.replica_opening.proofs.Openings.{or_false}
 use Rattle.searcher_switch.proofs.Given.{segments_along}
 use Rattle.searcher_switch.specs.Searching.{searcher_names}
 use Rattle.searcher_switch.specs.Tickets.{ticket_names}
@@ -44,16 +45,10 @@ not_above image m n x y a b lt =
     let at : commit_number (commit_name_of n) ≡ n = commit_number-commit_name n (omega (arith, b.newest.below)) in
     some_none (image (commit_name_of n)) b.bytes b.newest.there (a.newest.greatest (commit_name_of n) (commit_name_is_one n b.newest.some b.newest.below) (omega (arith, at, lt)))
 
-order : (m n : ℕ) → (m < n) ⊎ ((m ≡ n) ⊎ (n < m))
-order m n = grind arith
-
 one_shown : (image : Image) (m n : ℕ) (x y : Infos) → ShowsCommit image m x → ShowsCommit image n y → (m ≡ n) × (x ≡ y)
-one_shown image m n x y a b = elim (order m n) [
-  | inl less ↦ absurd (not_above image m n x y a b less)
-  | inr rest ↦ elim rest [
-    | inl same ↦ (same, infos_files_one_to_one.one_value b.bytes x y (subst (λ (t : List ℕ). IsInfosFile x t) (same_bytes (image (commit_name_of n)) a.bytes b.bytes (ap (λ k. image (commit_name_of k)) (sym same) ∙ a.newest.there) b.newest.there) a.spelled) b.spelled)
-    | inr more ↦ absurd (not_above image n m y x b a more)
-  ]
+one_shown image m n x y a b = elim (cases_order m n) [
+  | inl same ↦ (same, infos_files_one_to_one.one_value b.bytes x y (subst (λ (t : List ℕ). IsInfosFile x t) (same_bytes (image (commit_name_of n)) a.bytes b.bytes (ap (λ k. image (commit_name_of k)) (sym same) ∙ a.newest.there) b.newest.there) a.spelled) b.spelled)
+  | inr rest ↦ elim rest [ inl less ↦ absurd (not_above image m n x y a b less) | inr more ↦ absurd (not_above image n m y x b a more) ]
 ]
 
 pub one_found : (image : Image) (a b : Option ℕ) (x y : Infos) → FindsPoint image a x → FindsPoint image b y → (a ≡ b) × (x ≡ y)
@@ -182,5 +177,5 @@ module _ (before after : Cells) (t : Taken) (is : IsTaken before t) (new : Holdi
   opened_names all none q =
       let count : count_of new q ≡ times (searcher_names t.opened.searchers ++ book_names t.opened.commits) q =
       omega (arith, is.counts q, lets_go.counts q, all q, times-append (searcher_names t.opened.searchers) (book_names t.opened.commits) q) in
-      (lets_go.keeps.whole is.whole).names q ∙ ap (λ b. nat_lt 0 (count_of new q) || b) (ap (λ (ns : List Name). is_among ns q) none) ∙ or_false (nat_lt 0 (count_of new q))
+      (lets_go.keeps.whole is.whole).names q ∙ ap (λ b. nat_lt 0 (count_of new q) || b) (ap (λ (ns : List Name). is_among ns q) none) ∙ or-false (nat_lt 0 (count_of new q))
       ∙ ap (nat_lt 0) count ∙ sym (among_is (searcher_names t.opened.searchers ++ book_names t.opened.commits) q)

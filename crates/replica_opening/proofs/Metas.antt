@@ -6,6 +6,7 @@ use Rattle.std.specs.Map.Calls.{RetainsPairs}
 use Rattle.std.proofs.Math.Dec.{ltb as nat_lt}
 use Rattle.std.proofs.lemmas.List.Elements.{Contains-append_cases}
 use Rattle.std.proofs.lemmas.Bool.Decides.{nat_tests}
+use Rattle.std.proofs.lemmas.List.{take_more}
 use Rattle.codec_frame.specs.Frame.{Wanted, IsFramed}
 use Rattle.segment_infos.specs.Given.{IsFile}
 use Rattle.disk_model.specs.Disk.{Name, Content, Cells, same, reads_of}
@@ -28,7 +29,6 @@ use Rattle.copy_state.specs.declared.meta.FileMetaData.{FileMetaData}
 use Rattle.copy_state.specs.States.{meta_in}
 use Rattle.copy_state.proofs.MetaLaws.{framed_readable}
 use Rattle.replica_opening.specs.Known.{TellsMeta, KnowsFile, KnowsFiles, LearnsFile, LearnsFiles, HasMeta}
-use Rattle.replica_opening.proofs.Segments.{take_more}
 
 -- ---- the files of a segment tell their metadata
 told : {X : Type 0} (Spells : List ℕ → X → Type 0) (want : Wanted) (id : List ℕ) (x : X) (bytes : List ℕ) → IsFile Spells want id x bytes → want.max < 2 ^ 32 → length want.name < 128 → length want.suffix < 256 → TellsMeta bytes

@@ -12,9 +12,9 @@ use Rattle.segment_infos.specs.Files.{files_of_segment, AreFilesOf}
 use Rattle.segment_infos.specs.Commits.{commit_numbers, pending_numbers, IsNext}
 use Rattle.segment_infos.proofs.CommitLaws.{commits_are, pendings_are}
 use Rattle.segment_infos.proofs.SetLaws.{files_plain}
-use Rattle.file_deleter.specs.Holdings.{Holdings, count_of, times, is_due, is_known, IsThere, AreThere, IsWhole, count_in}
+use Rattle.file_deleter.specs.Holdings.{Holdings, count_of, times, is_due, is_known, AreThere, IsWhole, count_in}
 use Rattle.file_deleter.specs.Moves.{HoldsFiles}
-use Rattle.file_deleter.proofs.NameLemmas.{all_there, none_missing, among_times, not_among_times, among_is, times-append, same_self}
+use Rattle.file_deleter.proofs.NameLemmas.{among_times, not_among_times, among_is, times-append, same_self}
 use Rattle.commit_steps.specs.Found.{ShowsNothing}
 use Rattle.commit_steps.specs.Recovery.{IsWholeCommit}
 use Rattle.commit_steps.specs.Book.{book_names, IsBookSound}
@@ -22,16 +22,18 @@ use Rattle.commit_steps.proofs.Safe.{among_of, contains_of}
 use Rattle.searcher_switch.specs.Given.{AreFree}
 use Rattle.replica_opening.specs.declared.fault.StartFault.{StartFault}
 use Rattle.replica_opening.specs.declared.fault.StartFault.TheVariants.{Memory, Recover, Segment, Failed}
-use Rattle.std.proofs.Math.Bool.{or-true}
+use Rattle.std.proofs.Math.Bool.{or-true, or-false}
 use Rattle.std.specs.Ordering.{nat_cmp}
 use Rattle.std.specs.Cmp.Lexicographic.{slice_cmp}
-use Rattle.std.specs.List.Sorted.{IsStrictlySortedBy}
+use Rattle.std.proofs.lemmas.Bool.{and_left}
 use Rattle.nrt_base.specs.declared.numbers.Version.{Version}
+use Rattle.nrt_base.proofs.Plain.{sorted_none}
 use Rattle.segment_infos.specs.Infos.{IsRecord, CanSpell}
 use Rattle.seg_reader.specs.Shown.{Shown}
 use Rattle.commit_steps.specs.Flights.{IsCommit}
 use Rattle.commit_steps.specs.Commits.{HasFilesOf, ImagesShow, ImagesShowNothing}
 use Rattle.commit_steps.specs.declared.stage.CommitBook.{CommitBook}
+use Rattle.commit_steps.proofs.Recovered.{whole_there}
 use Rattle.searcher_switch.specs.declared.open.Point.{Point}
 use Rattle.searcher_switch.specs.declared.open.Open.{Open}
 use Rattle.searcher_switch.specs.declared.searchers.Searchers.{Searchers}
@@ -46,9 +48,6 @@ use Rattle.replica_opening.specs.Opened.{IsSettledOn, IsOpeningPoint, IsFoundPoi
 use Rattle.replica_opening.specs.Opening.{IsRefusedAmong, IsStartFaultOf, FindsPoint, opening_infos, number_of_last}
 
 -- ---- what is there
-pub whole_there : (cells : Cells) (n : ℕ) (infos : Infos) → IsWholeCommit (reads_of cells) n infos → (q : Name) → Contains (flat_map files_of_segment infos.segs) q → IsThere cells q
-whole_there cells n infos whole q named = all_there cells whole.files q (none_missing cells whole.files whole.there).each (among_of whole.files q ((whole.named.named q).1 named))
-
 pub listed_there : (cells : Cells) (names : List Name) → ((q : Name) → is_among names q ≡ is_some (cells q).now) → AreThere cells names
 listed_there cells names listed = record { each = λ k d lt. sym (listed (get_or names k d)) ∙ among_of names (get_or names k d) (Contains-get_or names k d lt) }
 
@@ -101,13 +100,6 @@ module _ (cells : Cells) (names : List Name) (next : ℕ) (listed : (q : Name) �
   }
 
 -- ---- what is held
-pub or_false : (b : Bool) → (b || false) ≡ b
-or_false true = refl
-or_false false = refl
-
-and_false : (p b : Bool) → p ≡ false → (p && b) ≡ false
-and_false p b e = ap (λ x. x && b) e
-
 module _ (cells : Cells) (h0 h1 h2 h3 : Holdings) (listed names : List Name) (book : CommitBook) (counts0 : h0.counts ≡ []) (pending0 : h0.due ≡ [])
     (holds1 : HoldsFiles listed h0 h1 cells) (pending1 : (q : Name) → is_due h1 q ≡ (is_due h0 q && not (is_among listed q))) (holds2 : HoldsFiles names h1 h2 cells) (holds3 : HoldsFiles (book_names book) h2 h3 cells)
     (listed_is : (q : Name) → is_among listed q ≡ is_some (cells q).now) where
@@ -115,11 +107,11 @@ module _ (cells : Cells) (h0 h1 h2 h3 : Holdings) (listed names : List Name) (bo
   count1 q = let z : count_of h0 q ≡ 0 = ap (λ (cs : List (Name × ℕ)). count_in cs q) counts0 in omega (arith, z, holds1.counts q)
 
   clear1 : (q : Name) → is_due h1 q ≡ false
-  clear1 q = pending1 q ∙ and_false (is_due h0 q) (not (is_among listed q)) (ap (λ (ns : List Name). is_among ns q) pending0)
+  clear1 q = pending1 q ∙ and_left (is_due h0 q) (not (is_among listed q)) (ap (λ (ns : List Name). is_among ns q) pending0)
 
   whole1 : IsWhole cells h1
   whole1 = record {
-    names = λ q. sym (listed_is q) ∙ among_is listed q ∙ ap (nat_lt 0) (sym (count1 q)) ∙ sym (or_false (nat_lt 0 (count_of h1 q))) ∙ ap (λ b. nat_lt 0 (count_of h1 q) || b) (sym (clear1 q));
+    names = λ q. sym (listed_is q) ∙ among_is listed q ∙ ap (nat_lt 0) (sym (count1 q)) ∙ sym (or-false (nat_lt 0 (count_of h1 q))) ∙ ap (λ b. nat_lt 0 (count_of h1 q) || b) (sym (clear1 q));
     apart = λ q h. absurd (true≢false (sym h ∙ clear1 q));
   }
 
@@ -202,15 +194,11 @@ taken cells found listed slice t s same listed_is f is point tickets =
     }
 
 -- ---- what an opening without a commit finds
-pub ascending_none : IsStrictlySortedBy (slice_cmp nat_cmp) []
-unfolding IsStrictlySortedBy
-ascending_none = tt
-
 pub nothing_found : (reads : Image) (f : Found) → IsOpeningPoint f → ShowsNothing reads → IsFoundPoint reads f
 nothing_found reads f is nothing = record {
   finds = subst (λ (n : Option ℕ). FindsPoint reads n f.infos) (sym is.number) (nothing, is.infos);
   spelled = subst CanSpell (sym is.infos) (record { generation = omega arith; version = omega arith; few = omega arith; records = All-nil IsRecord; apart = λ i j d lt le e. absurd (omega (arith, le)) });
-  names = subst (λ (i : Infos). AreFilesOf i f.names) (sym is.infos) (subst (AreFilesOf opening_infos) (sym is.names) (record { ascending = ascending_none; named = λ q. (λ h. h, λ h. h) }));
+  names = subst (λ (i : Infos). AreFilesOf i f.names) (sym is.infos) (subst (AreFilesOf opening_infos) (sym is.names) (record { ascending = sorted_none (slice_cmp nat_cmp); named = λ q. (λ h. h, λ h. h) }));
   there = λ q named. absurd (no_file q named);
   readers = subst (λ (i : Infos). AreReaders reads i.segs f.read.segs) (sym is.infos) (subst (λ (ss : List Shown). AreReaders reads [] ss) (sym is.segs) tt);
   known = record { each = λ q named. absurd (no_file q named) };

@@ -62,8 +62,3 @@ listed_at records r c = (c.0, at records c.0 c.1 c.2)
 
 pub placed_none : (records : List SegRecord) (places : List (ℕ × ℕ)) → ArePlacedTo records 0 places
 placed_none records places = record { each = λ at r below there. absurd (omega (arith, below)) }
-
-pub got_here : (records : List SegRecord) (at : ℕ) (d : SegRecord) → at < length records → slice_get records at ≡ Some (get_or records at d)
-got_here [] at d lt = absurd (omega (arith, lt))
-got_here (x ∷ xs) zero d lt = refl
-got_here (x ∷ xs) (suc at) d lt = got_here xs at d (omega (arith, lt))

@@ -8,9 +8,8 @@ use Rattle.replica_opening.specs.declared.reading.ReadFault.{ReadFault}
 use Rattle.replica_opening.specs.declared.reading.ReadFault.TheVariants.{Refused}
 use Rattle.nrt_base.specs.declared.numbers.SegNo.{SegNo}
 use Rattle.replica_opening.specs.Reading.{IsReadCutOff, IsReadRefusal, IsReadCutOffOr, refusal_of}
-use Rattle.std.proofs.Math.Seq.{take-suc}
 use Rattle.std.specs.List.{AllZip, Contains, flat_map}
-use Rattle.std.proofs.lemmas.List.{take-append-drop}
+use Rattle.std.proofs.lemmas.List.{take-append-drop, take_more}
 use Rattle.std.proofs.lemmas.List.Elements.{Contains-append_left, Contains-append_right}
 use Rattle.segment_infos.specs.Files.{files_of_segment}
 use Rattle.disk_model.specs.Disk.{reads_of, Name, Content, Cells}
@@ -51,9 +50,6 @@ zip_more R [] [] x y h here = (here, tt)
 zip_more R [] (b ∷ ys) x y h here = absurd h
 zip_more R (a ∷ xs) [] x y h here = absurd h
 zip_more R (a ∷ xs) (b ∷ ys) x y h here = (h.0, zip_more R xs ys x y h.1 here)
-
-pub take_more : {A : Type 0} (xs : List A) (i : ℕ) (d : A) → i < length xs → take (i + 1) xs ≡ take i xs ++ get_or xs i d ∷ []
-take_more xs i d lt = ap (λ n. take n xs) (add-one i) ∙ take-suc xs i d lt
 
 pub read_more : (a b : Cells) (records : List SegRecord) (i : ℕ) (d : SegRecord) (old new : List Shown) → b ≡ a → i < length records → AreReaders (reads_of a) (take i records) old
     → IsReadNext (reads_of b) (get_or records i d) old new → AreReaders (reads_of a) (take (i + 1) records) new

@@ -20,7 +20,7 @@ use Rattle.replica_parts.specs.Waiting.{IsLoose, IsWaiting}
 use Rattle.replica_parts.specs.Replica.{IsWholeReplica, IsJobAbove}
 use Rattle.replica_parts.proofs.Waiting.{own_wanted}
 
-only_one : (x q : Name) → is_among (x ∷ []) q ≡ true → x ≡ q
+pub only_one : (x q : Name) → is_among (x ∷ []) q ≡ true → x ≡ q
 only_one x q there = elim (or_cases (same x q) false there) [ inl here ↦ same_true x q here | inr more ↦ absurd (true≢false (sym more)) ]
 
 module _ {D : Type 0} (cells : D → Cells) (p : Parts D) (j : PointJob) (e : p.job ≡ Some j) (dir : D) (files : Holdings) where

@@ -10,9 +10,10 @@ use Rattle.std.proofs.Math.Dec.{ltb as nat_lt}
 use Rattle.std.proofs.lemmas.Bool.Decides.{nat_tests}
 use Rattle.std.proofs.lemmas.List.Kept.{IsStrictlySortedBy-filter}
 use Rattle.std.proofs.lemmas.List.Elements.{Contains-get_or}
-use Rattle.disk_model.specs.Disk.{Name, Content, is_among}
+use Rattle.std.proofs.lemmas.Option.{same_Some}
+use Rattle.disk_model.specs.Disk.{Name, Content}
 use Rattle.file_deleter.specs.Holdings.{Holdings, count_of, times}
-use Rattle.file_deleter.proofs.NameLemmas.{times-append, times-cons, among_times}
+use Rattle.file_deleter.proofs.NameLemmas.{times-append, times-cons, among_times, among_first}
 use Rattle.segment_infos.specs.declared.infos.Infos.{Infos}
 use Rattle.segment_infos.specs.Files.{AreFilesOf}
 use Rattle.replica_opening.proofs.Given.{among_of}
@@ -29,9 +30,6 @@ use Rattle.replica_parts.proofs.Named.{some_among}
 use Rattle.replica_parts.proofs.Metas.{held_in, held_names_are, is_held, same_filter, same_meta}
 
 -- ---- names in lists
-pub among_first : (x : Name) (xs : List Name) → is_among (x ∷ xs) x ≡ true
-among_first x xs = among_of (x ∷ xs) x (0, omega arith, refl)
-
 pub at_some : (names : List Name) (k : ℕ) (d : Name) → k < length names → 0 < times names (get_or names k d)
 at_some names k d lt = among_times names (get_or names k d) (among_of names (get_or names k d) (Contains-get_or names k d lt))
 
@@ -132,16 +130,13 @@ module _ (reads : Name → Content) (holdings : Holdings) (known : List (Name ×
         files_are = h.files_are;
         agreed = all_agree h.front (λ q some_front. omega (arith, some_front, count q)) h.agreed;
         held = some;
-        has = subst (HasMeta reads name) (some_same k.meta ours known_ours) k.has;
+        has = subst (HasMeta reads name) (same_Some k.meta ours known_ours) k.has;
         other = h.other;
       }
     where
       map_append : (xs ys : List (Name × FileMetaData)) → meta_names (xs ++ ys) ≡ meta_names xs ++ meta_names ys
       map_append [] ys = refl
       map_append (x ∷ xs) ys = ap (λ (ns : List Name). x.0 ∷ ns) (map_append xs ys)
-
-      some_same : (m n : FileMetaData) → ◌≡◌ {A = Option FileMetaData} (Some m) (Some n) → m ≡ n
-      some_same m n e = cc
 
 -- what was found among a state's files, as a slice
 pub held_slice : (known : List (Name × FileMetaData)) (holdings : Holdings) (state : CopyState) (slice held files : List (Name × FileMetaData)) → slice ≡ held → held ≡ held_metas known holdings (meta_names files) → files ≡ state.files

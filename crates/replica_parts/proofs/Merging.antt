@@ -2,7 +2,7 @@
 use Rattle.std.proofs.Common.{◌≡◌, ◌==◌, ℕ, zero, suc, ◌+◌, ◌<◌, ◌≤◌, Bool, true, false, if◌then◌else◌, List, [], ◌∷◌, ◌++◌, length, take, drop, get_or, Option, Some, None, is_some, refl, sym, ap, subst, ◌∙◌, arith, true≢false, slice_get}
 use Rattle.std.specs.Prelude.{slice_set, IfSome}
 use Rattle.std.specs.List.{remove, AllByRecursion}
-use Rattle.std.proofs.lemmas.Bool.Decides.{nat_tests}
+use Rattle.std.proofs.lemmas.Bool.{eqb-true}
 use Rattle.disk_model.specs.Disk.{Name, Cells}
 use Rattle.file_deleter.specs.Holdings.{Holdings, times, AreCounted}
 use Rattle.file_deleter.specs.Moves.{LetsGo, MovesCounts}
@@ -108,15 +108,12 @@ module _ (number : ℕ) (items slice first : List Job) (at : ℕ) (slice_is : sl
       })
       (subst (λ (o : Option Job). IfSome o (λ c. SetsCopy (P c) at slice new)) item_is h)
 
-same_number : (m n : ℕ) → (m == n) ≡ true → m ≡ n
-same_number m n e = grind (arith, nat_tests, e)
-
 pub number_at : (number : ℕ) (cs : List Job) (c : Job) → copy_at number cs ≡ Some c → c.number ≡ number
 number_at number [] c e = cc
 number_at number (x ∷ xs) c e = by (number_at number xs c) (x.number == number) refl e
   where
     by : (copy_at number xs ≡ Some c → c.number ≡ number) → (b : Bool) → (x.number == number) ≡ b → (if b then Some x else copy_at number xs) ≡ Some c → c.number ≡ number
-    by more true t f = let is : x ≡ c = cc in ap (λ (y : Job). y.number) (sym is) ∙ same_number x.number number t
+    by more true t f = let is : x ≡ c = cc in ap (λ (y : Job). y.number) (sym is) ∙ eqb-true x.number number t
     by more false t f = more f
 
 -- ---- the names that copies hold

@@ -10,7 +10,7 @@ use Rattle.file_names.proofs.NameLaws.{temp_name_apart, temp_name_not_commit, te
 use Rattle.disk_model.specs.Disk.{Name, same, is_among}
 use Rattle.disk_model.proofs.CellLemmas.{same_true}
 use Rattle.file_deleter.specs.Holdings.{Holdings, count_of, times}
-use Rattle.file_deleter.proofs.NameLemmas.{times-append, times-cons, times_one, same_self, once}
+use Rattle.file_deleter.proofs.NameLemmas.{times-append, times-cons, times_one, same_self, once, times_apart}
 use Rattle.segment_infos.specs.declared.infos.Infos.{Infos}
 use Rattle.segment_infos.specs.Files.{files_of_segment, AreFilesOf}
 use Rattle.segment_infos.proofs.SetLaws.{files_plain}
@@ -54,9 +54,6 @@ one_or_none a q = by (same a q) refl
 self_once : (a : Name) → times (a ∷ []) a ≡ 1
 self_once a = times_one a a ∙ ap (λ b. cond b 1 0) (same_self a)
 
-apart_none : (a q : Name) → a ≢ q → times (a ∷ []) q ≡ 0
-apart_none a q apart = elim (one_or_none a q) [ inl h ↦ absurd (apart h.0) | inr z ↦ z ]
-
 part_last : (ps : List JobPart) (x : JobPart) (i : ℕ) (p : JobPart) → part_at (ps ++ x ∷ []) i ≡ Some p → (part_at ps i ≡ Some p) ⊎ (x ≡ p)
 part_last [] x zero p at = inr (cc)
 part_last [] x (suc i) p at = absurd (cc)
@@ -74,7 +71,7 @@ no_present : (ps : List JobPart) (q : Name) → ((place : ℕ) (p : JobPart) →
 no_present [] q none = refl
 no_present (y ∷ ps) q none =
     let rest : times (present_names ps) q ≡ 0 = no_present ps q (λ place p at. none (suc place) p at) in
-    omega (arith, rest, times-cons y.now (present_names ps) q, times_one y.now q, apart_none y.now q (none 0 y refl))
+    omega (arith, rest, times-cons y.now (present_names ps) q, times_one y.now q, times_apart y.now q (none 0 y refl))
 
 -- what is left of names without one of them
 pub filtered : (names : List Name) (name q : Name) → 0 < times (filter (λ x. not (same x name)) names) q → 0 < times names q
@@ -186,12 +183,12 @@ module _ (infos : Infos) (j : Job) (is : IsJob j) (files : AreFilesOf infos (met
       module _ (new : Holdings) (now : Job) (is_now : now ≡ with_part j name) (free : count_of holdings (temp_name_of name j.number) ≡ 0)
           (counts : (q : Name) → count_of new q ≡ count_of holdings q + times (temp_name_of name j.number ∷ []) q) where
         kept : (q : Name) → 0 < times (meta_names j.want.files) q → count_of new q ≡ count_of holdings q
-        kept q some = omega (arith, counts q, apart_none (temp_name_of name j.number) q (λ e. lasting q some name j.number (sym e)))
+        kept q some = omega (arith, counts q, times_apart (temp_name_of name j.number) q (λ e. lasting q some name j.number (sym e)))
 
         old_loose : (place : ℕ) (p : JobPart) → part_at j.parts place ≡ Some p → IsLoose holdings j.number p → IsLoose new j.number p
         old_loose place p at l = record {
           temporary = l.temporary;
-          once = omega (arith, counts p.now, l.once, apart_none (temp_name_of name j.number) p.now (λ e. part_apart place p at (sym e)));
+          once = omega (arith, counts p.now, l.once, times_apart (temp_name_of name j.number) p.now (λ e. part_apart place p at (sym e)));
           free = kept p.own (own_wanted place p at) ∙ l.free;
         }
 

@@ -1,8 +1,8 @@
 -- A part of a merge copy arrives, or does not.
-use Rattle.std.proofs.Common.{◌≡◌, ◌≢◌, ℕ, ◌+◌, ◌<◌, ◌^◌, Bool, true, false, List, [], ◌∷◌, ◌++◌, Option, Some, None, is_some, true≢false, cond, refl, sym, ap, subst, ◌∙◌, arith, inl, inr}
+use Rattle.std.proofs.Common.{◌≡◌, ◌≢◌, ℕ, ◌+◌, ◌<◌, ◌^◌, Bool, true, false, List, [], ◌∷◌, ◌++◌, Option, Some, None, is_some, true≢false, cond, refl, sym, ap, subst, ◌∙◌, arith}
 use Rattle.std.specs.Prelude.{◌==◌, if◌then◌else◌, IfSome, OnOk, OnErr, Result, Ok, Err}
 use Rattle.std.specs.List.{AllByRecursion}
-use Rattle.std.proofs.lemmas.Bool.{or_cases}
+use Rattle.std.proofs.lemmas.Option.{same_Some}
 use Rattle.file_names.specs.Names.{temp_name_of, is_pending_name}
 use Rattle.disk_model.specs.Disk.{Name, Content, Cells, same, is_among, reads_of}
 use Rattle.disk_model.proofs.CellLemmas.{same_true}
@@ -38,6 +38,7 @@ use Rattle.replica_parts.proofs.Segments.{segment_infos, segment_files}
 use Rattle.replica_parts.proofs.Sparing.{copied_part}
 use Rattle.replica_parts.proofs.Temporary.{book_no_temporary}
 use Rattle.replica_parts.proofs.Waiting.{temp_free, waits_arrived}
+use Rattle.replica_parts.proofs.Appears.{only_one}
 use Rattle.replica_precopies.proofs.Moved.{moved_whole, moved_sourced}
 
 -- a copy in its own place
@@ -48,9 +49,6 @@ with_same number (x ∷ xs) c e = by (with_same number xs c) (x.number == number
     by : (copy_at number xs ≡ Some c → copies_with number c xs ≡ xs) → (b : Bool) → (if b then Some x else copy_at number xs) ≡ Some c → (if b then c ∷ xs else x ∷ copies_with number c xs) ≡ x ∷ xs
     by more true g = let here : x ≡ c = cc in ap (λ (y : Job). y ∷ xs) (sym here)
     by more false g = ap (λ (ys : List Job). x ∷ ys) (more g)
-
-one_name : (x q : Name) → is_among (x ∷ []) q ≡ true → x ≡ q
-one_name x q there = elim (or_cases (same x q) false there) [ inl here ↦ same_true x q here | inr none ↦ absurd (true≢false (sym none)) ]
 
 module _ {D : Type 0} (cells : D → Cells) (p : Parts D) (is : IsWholeReplica cells p) (number : ℕ) (c : Job) (e : copy_at number p.copies.running ≡ Some c) (name : Name) (missing : 0 < times c.missing name) where
   m : IsMergeCopy (cells p.dir) p.files p.jobs c
@@ -173,11 +171,8 @@ module _ {D : Type 0} (cells : D → Cells) (p : Parts D) (is : IsWholeReplica c
           segment = m.segment;
           given = m.given;
           waits = waits_arrived (segment_infos m.segment.seg) c m.copy files_are p.files m.waits name missing files (with_part c name) refl free_copy more;
-          copied = reads_metas (cells dir) (with_part c name) (come (HasWanted c.want.files) (λ n f. record { bytes = bytes; there = written; meta_is = subst (IsMetaOf bytes) (some_same meta n (sym wanted ∙ f)) meta_is }) (metas_reads (cells p.dir) c m.copied));
+          copied = reads_metas (cells dir) (with_part c name) (come (HasWanted c.want.files) (λ n f. record { bytes = bytes; there = written; meta_is = subst (IsMetaOf bytes) (same_Some meta n (sym wanted ∙ f)) meta_is }) (metas_reads (cells p.dir) c m.copied));
         })
-          where
-            some_same : (a b : FileMetaData) → ◌≡◌ {A = Option FileMetaData} (Some a) (Some b) → a ≡ b
-            some_same a b f = cc
 
         pub came_whole : (meta : FileMetaData) → IsMetaOf bytes meta → meta_in c.want.files name ≡ Some meta
             → IsWholeReplica cells (record p { dir = dir; files = files; known = p.known; copies = record { running = copies_with number now p.copies.running; pending = p.copies.pending } })
@@ -274,7 +269,7 @@ module _ {D : Type 0} (cells : D → Cells) (p : Parts D) (is : IsWholeReplica c
   -- the temporary name alone comes to stand
   pub comes_appears : (result : Result T E) → PartComes c now name bytes p.files files (cells p.dir) (cells dir) result → AppearsOnly (λ q. q ≡ temp_name_of name number) (cells p.dir) (cells dir)
   comes_appears result comes = keeps_only (λ q. q ≡ temp_name_of name number) (temp_name_of name c.number ∷ []) p.files files (cells p.dir) (cells dir) comes.moves.keeps
-      (λ q there none. sym (one_name (temp_name_of name c.number) q there) ∙ ap (temp_name_of name) (number_at number p.copies.running c e))
+      (λ q there none. sym (only_one (temp_name_of name c.number) q there) ∙ ap (temp_name_of name) (number_at number p.copies.running c e))
 
   pub comes_stays : (result : Result T E) → PartComes c now name bytes p.files files (cells p.dir) (cells dir) result → KeepsBytes p.files files (cells p.dir) (cells dir)
   comes_stays result comes = record { held = comes.moves.keeps.reads }
@@ -291,10 +286,6 @@ some_at (Some c) there h = (c, refl, h)
 
 pub some_here : (P : Job → Type 0) (o : Option Job) (c : Job) → o ≡ Some c → P c → IfSome o P
 some_here P o c e h = subst (λ (x : Option Job). IfSome x P) (sym e) h
-
-pub on_ok : {T E P Q : Type 0} (result : Result T E) → (P → Q) → OnOk result P → OnOk result Q
-on_ok (Ok x) turns h = turns h
-on_ok (Err x) turns h = tt
 
 -- what RunningCopies::arrived asks for
 pub takes_all : {D : Type 0} (cells : D → Cells) (p : Parts D) → IsWholeReplica cells p → (number : ℕ) (part : Part) → IfSome (copy_at number p.copies.running) (λ c. 0 < times c.missing part.name)

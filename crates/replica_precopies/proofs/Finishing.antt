@@ -1,7 +1,7 @@
 -- A merge copy of which nothing is missing, over the calls of its finish.
 use Rattle.std.proofs.Common.{◌≡◌, ◌==◌, ◌<◌, ◌≤◌, ℕ, true, List, [], ◌++◌, Option, Some, None, is_some, refl, sym, ap, subst, ◌∙◌, arith, length}
 use Rattle.std.specs.Prelude.{IfSome, Result, Err, IsErrOf}
-use Rattle.std.proofs.lemmas.Bool.Decides.{nat_tests}
+use Rattle.std.proofs.lemmas.Bool.{eq-eqb}
 use Rattle.disk_model.specs.Disk.{Name, Cells, reads_of}
 use Rattle.file_deleter.specs.Holdings.{count_of, times}
 use Rattle.copy_state.specs.declared.meta.FileMetaData.{FileMetaData}
@@ -17,9 +17,6 @@ use Rattle.replica_parts.proofs.Merging.{number_at}
 use Rattle.replica_precopies.specs.Settling.{PlacesCopy, SettlesCopy, EndsCopy, StillCopies}
 use Rattle.replica_precopies.proofs.Came.{with_same}
 use Rattle.replica_precopies.proofs.Settled.{at_with, without_with, present_all, placed_twice}
-
-tests_same : (m n : ℕ) → m ≡ n → (m == n) ≡ true
-tests_same m n e = grind (arith, nat_tests, e)
 
 pub same_fault : (T E : Type 0) (a b : E) → IsErrOf {T = T} {E = E} (Err a) b → a ≡ b
 same_fault T E a b e = cc
@@ -43,7 +40,7 @@ module _ {D : Type 0} (cells : D → Cells) (p mid : Parts D) (number : ℕ) (c 
   now = record c { parts = placed_to places.placed c.parts }
 
   same_here : (c.number == number) ≡ true
-  same_here = tests_same c.number number (number_at number p.copies.running c e)
+  same_here = eq-eqb c.number number (number_at number p.copies.running c e)
 
   running_mid : mid.copies.running ≡ copies_with number now p.copies.running
   running_mid = ap (λ (m : MergeCopies). m.running) places.copies

@@ -1,7 +1,8 @@
 -- A merge copy that a call changes.
-use Rattle.std.proofs.Common.{◌≡◌, ◌≢◌, ℕ, zero, suc, ◌+◌, ◌<◌, ◌≤◌, ◌^◌, true, List, ◌++◌, Option, Some, None, refl, sym, ap, subst, arith}
+use Rattle.std.proofs.Common.{◌≡◌, ◌≢◌, ℕ, zero, suc, ◌+◌, ◌<◌, ◌≤◌, ◌^◌, true, List, ◌++◌, Option, Some, refl, sym, ap, subst, arith}
 use Rattle.std.specs.Prelude.{IfSome}
 use Rattle.std.specs.List.{AllByRecursion}
+use Rattle.replica_calls.proofs.Cancelled.{some_with}
 use Rattle.file_names.specs.Names.{temp_name_of, is_pending_name}
 use Rattle.disk_model.specs.Disk.{Name, Content, Cells, reads_of}
 use Rattle.file_deleter.specs.Holdings.{Holdings, count_of, times}
@@ -26,11 +27,6 @@ use Rattle.replica_parts.proofs.Foreign.{merge_foreign}
 use Rattle.replica_parts.proofs.Keeping.{HasWanted, whole_of, merge_spared, merge_lasts, source_spared, metas_reads, reads_metas, some_map}
 use Rattle.replica_parts.proofs.Merging.{all_map, all_both, all_at, all_held, all_put, all_without, all_dropped, apart_with, apart_sym, names-with, names-without}
 use Rattle.replica_parts.proofs.Sparing.{SparesJob, waits_spared, copied_lasts}
-
--- a claim of the job there is
-some_with : {P Q : PointJob → Type 0} (job : Option PointJob) → ((j : PointJob) → job ≡ Some j → P j → Q j) → IfSome job P → IfSome job Q
-some_with None turns h = tt
-some_with (Some j) turns h = turns j refl h
 
 module _ {D : Type 0} (cells : D → Cells) (p : Parts D) (is : IsWholeReplica cells p) (number : ℕ) (c : Job) (e : copy_at number p.copies.running ≡ Some c) (now : Job) (dir : D) (files : Holdings) (written : List Name)
     (moves : MovesCounts written (job_names c) (job_names now) p.files files (cells p.dir) (cells dir)) (apart : IsApart written p.commits) (plain : (q : Name) → is_pending_name q ≡ true → times (job_names now) q ≡ 0) where

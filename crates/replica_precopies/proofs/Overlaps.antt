@@ -1,13 +1,12 @@
 -- Copies that end because they copy a file which a newer point copies.
-use Rattle.std.proofs.Common.{◌≡◌, ℕ, zero, suc, ◌<◌, ◌≤◌, Bool, true, false, ◌||◌, List, [], ◌∷◌, length, get_or, Option, Some, None, is_some, cond, refl, sym, ap, subst, ◌∙◌, arith, true≢false}
+use Rattle.std.proofs.Common.{◌≡◌, ℕ, zero, suc, ◌<◌, Bool, true, false, ◌||◌, List, [], ◌∷◌, length, get_or, Option, Some, None, is_some, cond, refl, sym, ap, subst, ◌∙◌, arith, true≢false}
 use Rattle.std.specs.Prelude.{◌==◌, not, if◌then◌else◌}
 use Rattle.std.specs.List.{AllByRecursion, list_any}
 use Rattle.std.proofs.lemmas.Bool.Decides.{nat_tests}
-use Rattle.disk_model.specs.Disk.{Name, Cells, same, is_among}
+use Rattle.disk_model.specs.Disk.{Name, same, is_among}
 use Rattle.disk_model.proofs.CellLemmas.{same_true}
-use Rattle.file_deleter.specs.Holdings.{Holdings, count_of, times}
+use Rattle.file_deleter.specs.Holdings.{times}
 use Rattle.file_deleter.proofs.NameLemmas.{times-append, times_one, not_among_times}
-use Rattle.node_files.specs.Node.{KeepsBytes}
 use Rattle.copy_state.specs.declared.meta.FileMetaData.{FileMetaData}
 use Rattle.copy_state.specs.States.{meta_names}
 use Rattle.copy_job.specs.declared.part.JobPart.{JobPart}
@@ -126,7 +125,3 @@ beside_apart names (x ∷ xs) = by (beside_apart names xs) (overlaps names x) re
         → AllByRecursion (λ c. SharesNone (copied_names c) names) (cond (not b) (x ∷ copies_beside names xs) (copies_beside names xs))
     by more true f = more
     by more false f = (shares_none names x f, more)
-
--- two calls in a row, of which the second holds no more than the first
-pub bytes_then : (h0 h1 h2 : Holdings) (a b c : Cells) → KeepsBytes h0 h1 a b → KeepsBytes h1 h2 b c → ((q : Name) → count_of h2 q ≤ count_of h1 q) → KeepsBytes h0 h2 a c
-bytes_then h0 h1 h2 a b c x y fewer = record { held = λ q had has. let mid : 0 < count_of h1 q = omega (arith, has, fewer q) in y.held q mid has ∙ x.held q had mid }

@@ -9,7 +9,7 @@ use Rattle.disk_model.specs.Disk.{Name, Cells, is_among, reads_of}
 use Rattle.file_deleter.specs.Holdings.{Holdings, count_of, times, IsWhole, AreThere}
 use Rattle.file_deleter.specs.Moves.{HoldsFiles, MovesCounts}
 use Rattle.file_deleter.proofs.NameLemmas.{times-append, not_among_times}
-use Rattle.file_deleter.proofs.Keeping.{known_counted}
+use Rattle.file_deleter.proofs.Keeping.{known_counted, keeps_within}
 use Rattle.segment_infos.specs.declared.infos.Infos.{Infos}
 use Rattle.segment_infos.specs.Files.{files_of_segment, AreFilesOf}
 use Rattle.seg_reader.specs.Shown.{Shown}
@@ -20,7 +20,6 @@ use Rattle.copy_job.specs.declared.part.JobPart.{JobPart}
 use Rattle.copy_job.specs.Parts.{present_names, own_names, written_names}
 use Rattle.copy_job.specs.Placing.{Places}
 use Rattle.copy_job.specs.Jobs.{Job, job_names, present_of, reads_under}
-use Rattle.copy_job.proofs.Placings.{joined}
 use Rattle.copy_job.proofs.Points.{reads_placed, all_placed}
 use Rattle.replica_switches.specs.declared.advancing.NewPoint.{NewPoint}
 use Rattle.replica_parts.specs.Given.{AreReaders}
@@ -68,7 +67,7 @@ module _ (j : Job) (infos : Infos) (now : List JobPart) (olds : List Name) (h0 h
     pub held_moves : MovesCounts (written_names j.parts) (job_names j) (names ++ (present_names now ++ j.reused)) h0 h2 a b
     held_moves = record {
       balance = λ q. omega (arith, done.moves.balance q, holds.counts q, times-append names (present_names now ++ j.reused) q, times-append (present_names now) j.reused q, times-append (present_names j.parts) j.reused q);
-      keeps = joined (written_names j.parts) [] h0 h1 h2 a b b done.moves.keeps holds.keeps (λ q out. refl) between;
+      keeps = keeps_within (written_names j.parts) [] h0 h1 h2 a b b done.moves.keeps holds.keeps (λ q out. refl) between;
     }
 
   pub advanced : (dropped : List Name) (h2 : Holdings) (c : Cells) (point : NewPoint) → AreFilesOf infos point.names → c ≡ b → AreReaders (reads_of b) infos.segs point.segs → point.readers ≡ point.segs

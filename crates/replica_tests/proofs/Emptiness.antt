@@ -1,7 +1,7 @@
 -- Points without a segment.
 use Rattle.std.proofs.Common.{◌≡◌, ◌<◌, ◌≤◌, ℕ, List, [], Option, Some, None, length, refl, sym, ap, subst, ◌∙◌, arith, rules}
-use Rattle.std.specs.Prelude.{Contains, IfSome}
-use Rattle.std.specs.List.{All, AllZip, flat_map}
+use Rattle.std.specs.Prelude.{IfSome}
+use Rattle.std.specs.List.{All, AllZip}
 use Rattle.std.specs.List.Sorted.{IsStrictlySortedBy}
 use Rattle.std.specs.Ordering.{nat_cmp}
 use Rattle.std.specs.Cmp.Lexicographic.{slice_cmp}
@@ -9,9 +9,10 @@ use Rattle.std.proofs.lemmas.List.Elements.{All-nil}
 use Rattle.disk_model.specs.Disk.{Name, Content}
 use Rattle.segment_infos.specs.declared.infos.SegRecord.{SegRecord}
 use Rattle.segment_infos.specs.declared.infos.Infos.{Infos}
-use Rattle.segment_infos.specs.Infos.{CanSpell, IsInfosFile}
-use Rattle.segment_infos.specs.Files.{files_of_segment, AreFilesOf}
+use Rattle.segment_infos.specs.Infos.{IsInfosFile}
+use Rattle.segment_infos.specs.Files.{AreFilesOf}
 use Rattle.segment_infos.proofs.FileLaws.{infos_files_one_to_one}
+use Rattle.segment_infos.proofs.SetLaws.{no_files}
 use Rattle.seg_reader.specs.Stands.{IsSegmentIn, AreSegmentsOf}
 use Rattle.node_files.specs.Standing.{StandsForSome}
 use Rattle.file_deleter.specs.Holdings.{Holdings}
@@ -21,30 +22,12 @@ use Rattle.copy_state.specs.States.{meta_names}
 use Rattle.copy_job.specs.Jobs.{Job}
 use Rattle.nrt_base.specs.declared.numbers.Gen.{Gen}
 use Rattle.nrt_base.specs.declared.numbers.Version.{Version}
+use Rattle.nrt_base.proofs.Plain.{sorted_none}
 use Rattle.replica_parts.specs.declared.job.PointJob.{PointJob}
 use Rattle.replica_parts.specs.declared.parts.Parts.{Parts}
 use Rattle.replica_parts.specs.Jobs.{job_on, IsPointJob}
 use Rattle.replica_parts.specs.Replica.{IsWanted}
-use Rattle.replica_opening.proofs.Openings.{ascending_none}
 use Rattle.replica_tests.specs.States.{IsEmptyState}
-
-pub empty_spelled : (infos : Infos) → 0 < infos.generation.0 → 0 < infos.version.0 → infos.segs ≡ [] → CanSpell infos
-empty_spelled infos generation version none =
-    let n : length infos.segs ≡ 0 = ap (λ (rs : List SegRecord). length rs) none in
-    record {
-      generation = generation;
-      version = version;
-      few = omega (arith, n);
-      records = λ k d lt. absurd (omega (arith, n, lt));
-      apart = λ i j d lt in'. absurd (omega (arith, n, lt, in'));
-    }
-
-no_files : (infos : Infos) → infos.segs ≡ [] → AreFilesOf infos []
-unfolding IsStrictlySortedBy
-no_files infos e = record {
-  ascending = tt;
-  named = λ q. (λ c. absurd (omega (arith, c.1)), λ c. let n : Contains (flat_map files_of_segment []) q = subst (λ (rs : List SegRecord). Contains (flat_map files_of_segment rs) q) e c in absurd (omega (arith, n.1)));
-}
 
 pub empty_made : (infos : Infos) (state : CopyState) → infos.segs ≡ [] → IsInfosFile infos state.infos → state.files ≡ [] → state.completed ≡ [] → infos.generation ≡ state.primary_gen → infos.version ≡ state.version → IsEmptyState state.primary_gen state.version state
 empty_made infos state none spelled files completed generation version = record {
@@ -52,11 +35,11 @@ empty_made infos state none spelled files completed generation version = record 
     infos = infos;
     spelled = spelled;
     files = record {
-      ascending = subst (λ (fs : List (Name × FileMetaData)). IsStrictlySortedBy (slice_cmp nat_cmp) (meta_names fs)) (sym files) ascending_none;
+      ascending = subst (λ (fs : List (Name × FileMetaData)). IsStrictlySortedBy (slice_cmp nat_cmp) (meta_names fs)) (sym files) (sorted_none (slice_cmp nat_cmp));
       short = subst (λ (fs : List (Name × FileMetaData)). All (λ q. length q ≤ 46) (meta_names fs)) (sym files) (All-nil (λ q. length q ≤ 46));
     };
     completed = record {
-      ascending = subst (IsStrictlySortedBy (slice_cmp nat_cmp)) (sym completed) ascending_none;
+      ascending = subst (IsStrictlySortedBy (slice_cmp nat_cmp)) (sym completed) (sorted_none (slice_cmp nat_cmp));
       short = subst (All (λ q. length q ≤ 46)) (sym completed) (All-nil (λ q. length q ≤ 46));
     };
   };

@@ -1,11 +1,11 @@
 -- A line of the report is cut into its words in one way only: no word has a space or a line feed in it.
-use Rattle.std.proofs.Common.{◌≡◌, ℕ, ◌+◌, ◌%◌, ◌^◌, ◌<◌, ◌≤◌, Bool, true, false, nat_lt, List, [], ◌∷◌, ◌++◌, map, refl, sym, ap, ◌∙◌, arith}
+use Rattle.std.proofs.Common.{◌≡◌, ℕ, ◌+◌, ◌%◌, ◌^◌, ◌≤◌, Bool, true, false, nat_lt, List, [], ◌∷◌, ◌++◌, map, refl, sym, ap, ◌∙◌, arith}
 use Rattle.std.specs.List.{list_all}
 use Rattle.std.specs.Fmt.{decimal}
 use Rattle.std.proofs.lemmas.Bool.Decides.{nat_tests}
 use Rattle.std.proofs.lemmas.Fmt.{decimal_by_steps, decimal_injective}
 use Rattle.std.proofs.lemmas.List.{append_assoc}
-use Rattle.nrt_base.proofs.Plain.{cons_from, cons_parts}
+use Rattle.nrt_base.proofs.Plain.{cons_from, cons_parts, digit_is}
 use Rattle.nrt_base.specs.Bytes.{is_between, is_key_byte, is_key}
 use Rattle.file_names.specs.Names.{is_name_byte, is_file_name}
 use Rattle.file_names.specs.Base36.{is_base36_digit, base36_of}
@@ -72,9 +72,6 @@ same_words (x ∷ xs) (y ∷ ys) a b h k e =
 -- a decimal digit
 abbrev is_digit : ℕ → Bool
 is_digit b = is_between 48 57 b
-
-digit_is : (d : ℕ) → d < 10 → is_digit (48 + d) ≡ true
-digit_is d h = grind (arith, nat_tests)
 
 digits_are : (n : ℕ) → IsNumber n → list_all is_digit (decimal n) ≡ true
 digits_are n h = decimal_by_steps (λ n ds. list_all is_digit ds ≡ true)

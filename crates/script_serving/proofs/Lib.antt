@@ -1,3 +1,3 @@
 pub mod OneLane
 pub mod ServingLemmas
-mod LogLemmas
+pub mod LogLemmas

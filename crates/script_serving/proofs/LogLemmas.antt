@@ -3,6 +3,7 @@ use Rattle.std.proofs.Common.{◌≡◌, ℕ, Bool, true, false, ◌&&◌, ◌||
 use Rattle.std.specs.Prelude.{if◌then◌else◌}
 use Rattle.std.proofs.Math.Seq.{drop-append_seam}
 use Rattle.std.proofs.lemmas.Bool.{false≢true, eq-eqb}
+use Rattle.std.proofs.lemmas.Option.{none-some}
 use mathlib.Core.List.{IsPrefix}
 use Rattle.nrt_base.specs.declared.numbers.At.{At}
 use Rattle.documents.specs.declared.operation.Op.{Op}
@@ -33,12 +34,9 @@ logged_by e answered ops = elim e [ Accepted seq op ↦ if answered then ops els
 
 -- ---- when a line has its reply
 
-none_some : (e : Event) → Some e ≡ None → ⊥
-none_some e h = cc
-
 unanswered_by : (event : Event) (last : Option Event) → last_by event last ≡ None → (is_reply event ≡ false) × (last ≡ None)
 unanswered_by (Fault n kind) last h = (refl, h)
-unanswered_by event last h = absurd (none_some event h)
+unanswered_by event last h = absurd (none-some event (sym h))
 
 no_reply : (reply same rest : Bool) → reply ≡ false → rest ≡ false → (reply && same || rest) ≡ false
 no_reply true same rest h g = absurd (false≢true (sym h))
@@ -50,7 +48,7 @@ no_other true false rest h g = g
 no_other false false rest h g = g
 
 -- a line without an entry but faults has no reply
-unanswered : (at : At) (past : Past) → last_of_line at past ≡ None → is_answered at past ≡ false
+pub unanswered : (at : At) (past : Past) → last_of_line at past ≡ None → is_answered at past ≡ false
 unanswered at [] h = refl
 unanswered at (e ∷ past) h = by_test (same_at e.at at) refl h (unanswered at past)
   where
@@ -76,7 +74,7 @@ from_front xs = ([], append-nil xs)
 then_more : {X : Type 0} (xs ys zs : List X) → IsPrefix xs ys → ys ≡ zs → IsPrefix xs zs
 then_more xs ys zs h e = subst (IsPrefix xs) e h
 
-longer : {X : Type 0} (xs ys zs : List X) → IsPrefix xs ys → IsPrefix ys zs → IsPrefix xs zs
+pub longer : {X : Type 0} (xs ys zs : List X) → IsPrefix xs ys → IsPrefix ys zs → IsPrefix xs zs
 longer xs ys zs h k = (h.0 ++ k.0, sym (append_assoc xs h.0 k.0) ∙ (ap (λ (front : List _). front ++ k.0) h.1 ∙ k.1))
 
 no_operation : (ops : List Op) → IsPrefix [] ops

@@ -44,7 +44,7 @@ known_at (line ∷ lines) at h = by_test (same_at line.at at) refl h (known_at l
     by_test false e k ih = rw e (ih (rw e at k))
 
 -- a line among those in front, or behind, is among all
-in_front : (xs ys : List Line) (at : At) → has_line xs at ≡ true → has_line (xs ++ ys) at ≡ true
+pub in_front : (xs ys : List Line) (at : At) → has_line xs at ≡ true → has_line (xs ++ ys) at ≡ true
 in_front [] ys at h = absurd (false≢true h)
 in_front (x ∷ xs) ys at h = by_test (same_at x.at at) h (in_front xs ys at)
   where
@@ -52,7 +52,7 @@ in_front (x ∷ xs) ys at h = by_test (same_at x.at at) h (in_front xs ys at)
     by_test true k ih = refl
     by_test false k ih = ih k
 
-behind : (xs ys : List Line) (at : At) → has_line ys at ≡ true → has_line (xs ++ ys) at ≡ true
+pub behind : (xs ys : List Line) (at : At) → has_line ys at ≡ true → has_line (xs ++ ys) at ≡ true
 behind [] ys at h = h
 behind (x ∷ xs) ys at h = by_test (same_at x.at at) (behind xs ys at h)
   where
@@ -70,7 +70,7 @@ split_line (x ∷ xs) ys at P h front back = by_test (same_at x.at at) refl h (�
     by_test false e k ih = ih k (λ g. front (rw e g))
 
 -- a line under a lane is a line of the phase
-in_phase : (lane : ℕ) (lanes : List (LaneNo × List Line)) (at : At) → has_line (lines_under lane lanes) at ≡ true → has_line (flat_map (λ (l : LaneNo × List Line). l.1) lanes) at ≡ true
+pub in_phase : (lane : ℕ) (lanes : List (LaneNo × List Line)) (at : At) → has_line (lines_under lane lanes) at ≡ true → has_line (flat_map (λ (l : LaneNo × List Line). l.1) lanes) at ≡ true
 in_phase lane [] at h = h
 in_phase lane (l ∷ lanes) at h = by_test (l.0.0 == lane) refl h (in_phase lane lanes at)
   where

@@ -7,6 +7,7 @@ use Rattle.std.specs.List.{list_all}
 use Rattle.std.proofs.lemmas.Option.{none-some, same_Some}
 use Rattle.nrt_base.specs.Bytes.{is_between}
 use Rattle.nrt_base.specs.declared.numbers.LineNo.{LineNo}
+use Rattle.nrt_base.proofs.Plain.{between_high}
 use Rattle.script_text.specs.declared.fault.LineFault.{LineFault}
 use Rattle.script_text.specs.declared.fault.LineFault.TheVariants.{NoNodes, Word, Count, Range, Query as RefusedQuery, Text, NotBuilt}
 use Rattle.script_text.specs.declared.fault.ScriptFault.{ScriptFault}
@@ -22,7 +23,6 @@ use Rattle.script_text.specs.Reading.{number_within, headers_counted, SaysNoHead
 use Rattle.script_text.proofs.NumberLemmas.{number_case}
 use Rattle.script_text.proofs.FormLemmas.{spelled_in_form}
 use Rattle.script_text.proofs.RightForms.{behind_workers, header_counted, number_header}
-use Rattle.script_text.proofs.RightLines.{between_high}
 use Rattle.script_text.proofs.AnswerLaws.{RefusesRightly, script_answered, refusal_answered}
 
 number_value : (low high : ℕ) (word : List ℕ) (n : ℕ) → number_within low high word ≡ Some n → n ≡ value_of word

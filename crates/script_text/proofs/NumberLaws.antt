@@ -8,6 +8,7 @@ use Rattle.std.proofs.lemmas.List.Folds.{list_all-append}
 use Rattle.std.proofs.lemmas.Bool.Decides.{nat_tests}
 use Rattle.std.proofs.lemmas.Bool.{false≢true, lt-ltb, and_from, and_parts}
 use Rattle.nrt_base.specs.Bytes.{is_between, is_text_byte}
+use Rattle.nrt_base.proofs.Plain.{digit_is}
 use Rattle.script_text.specs.Refused.{is_digit, is_digits, is_number, value_from, value_of, is_number_in}
 
 abbrev is_zero_digit : ℕ → Bool
@@ -24,9 +25,6 @@ record IsNumeral (n : ℕ) (digits : List ℕ) : Type 0 where
   value : value_of digits ≡ n
   number : is_number digits ≡ true
   front : 1 ≤ n → starts_above_zero digits ≡ true
-
-last_digit : (n : ℕ) → n < 10 → is_digit (48 + n) ≡ true
-last_digit n h = grind (arith, nat_tests)
 
 value-append : (m : ℕ) (digits : List ℕ) (b : ℕ) → value_from m (digits ++ b ∷ []) ≡ value_from m digits * 10 + (b - 48)
 value-append m [] b = refl
@@ -47,7 +45,7 @@ front-append (b ∷ digits) c h = h
 
 one_digit : (n : ℕ) → n < 10 → IsNumeral n ((48 + n) ∷ [])
 one_digit n h =
-    let digit : is_digit (48 + n) ≡ true = last_digit n h in
+    let digit : is_digit (48 + n) ≡ true = digit_is n h in
     record {
       each = and_from (is_digit (48 + n)) true digit refl;
       value = omega arith;
@@ -58,7 +56,7 @@ one_digit n h =
 more_digits : (n : ℕ) (digits : List ℕ) → 10 ≤ n → IsNumeral (n / 10) digits → IsNumeral n (digits ++ (48 + n % 10) ∷ [])
 more_digits n digits big numeral =
     let some : 1 ≤ n / 10 = omega arith in
-    let digit : is_digit (48 + n % 10) ≡ true = last_digit (n % 10) (omega arith) in
+    let digit : is_digit (48 + n % 10) ≡ true = digit_is (n % 10) (omega arith) in
     let last : list_all is_digit ((48 + n % 10) ∷ []) ≡ true = and_from (is_digit (48 + n % 10)) true digit refl in
     let all : list_all is_digit (digits ++ (48 + n % 10) ∷ []) ≡ true =
     list_all-append is_digit digits ((48 + n % 10) ∷ []) ∙ and_from (list_all is_digit digits) (list_all is_digit ((48 + n % 10) ∷ [])) numeral.each last in

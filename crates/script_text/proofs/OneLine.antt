@@ -7,6 +7,7 @@ use Rattle.nrt_base.specs.declared.doc.Doc.{Doc}
 use Rattle.nrt_base.specs.declared.numbers.NodeNo.{NodeNo}
 use Rattle.nrt_base.specs.declared.numbers.TicketNo.{TicketNo}
 use Rattle.nrt_base.specs.Bytes.{is_between}
+use Rattle.nrt_base.proofs.Plain.{between_high}
 use Rattle.documents.specs.declared.query.Query.{Query}
 use Rattle.documents.specs.declared.query.Query.TheVariants.{All}
 use Rattle.history_entries.specs.declared.cause.FaultPlan.{FaultPlan}
@@ -25,7 +26,7 @@ use Rattle.script_text.specs.Grammar.{Statement, words_in, word_at, rest_behind,
 use Rattle.history_entries.specs.Faults.{plan_words}
 use Rattle.script_text.specs.Refused.{value_of}
 use Rattle.script_text.proofs.NumberLaws.{value_of-decimal, digits_of-decimal, other_word}
-use Rattle.script_text.proofs.RightLines.{between_high, three_words}
+use Rattle.script_text.proofs.RightLines.{three_words}
 
 -- what the words of a line and the rest behind three of them say
 data Said : Type 0 where

@@ -1,26 +1,27 @@
 -- No bytes are both a script and refused, and bytes have one first refused line at most.
 use Rattle.std.proofs.Common.{◌≡◌, ℕ, ◌<◌, ◌≤◌, ◌+◌, Bool, true, false, List, [], ◌∷◌, length, refl, ap, ◌∙◌, sym, subst, arith, inl, inr, Err}
-use Rattle.std.specs.Prelude.{◌&&◌, ◌||◌, ◌^◌, not, nat_lt, codes, bytes_eq, if◌then◌else◌}
+use Rattle.std.specs.Prelude.{◌||◌, ◌^◌, not, nat_lt, codes, bytes_eq, if◌then◌else◌}
 use Rattle.std.specs.Fmt.{decimal}
 use Rattle.std.proofs.Math.Bool.{or-true}
 use Rattle.std.proofs.lemmas.Bool.{cases_order, lt-ltb, and_from}
+use Rattle.nrt_base.proofs.Plain.{between_high}
 use Rattle.text_query.specs.declared.fault.QueryFault.{QueryFault}
 use Rattle.text_query.specs.declared.fault.QueryFault.TheVariants.{Memory, Empty, Syntax, TooDeep, TooMany}
 use Rattle.text_query.specs.Answers.{IsFault, IsQueryAnswer}
-use Rattle.text_query.proofs.FaultLemmas.{fault_answered}
+use Rattle.text_query.proofs.FaultLemmas.{same_fault}
 use Rattle.script_text.specs.declared.fault.LineFault.{LineFault}
 use Rattle.script_text.specs.declared.fault.LineFault.TheVariants.{NoNodes, Word, Count, Range, Query as RefusedQuery, Text, NotBuilt}
 use Rattle.script_text.specs.declared.counted.Counted.{Counted}
 use Rattle.script_serving.specs.declared.script.Line.{Line}
 use Rattle.script_serving.specs.declared.script.Script.{Script}
 use Rattle.script_text.specs.Grammar.{Statement, lines_of_text, statements_of, words_in, word_at, rest_behind, IsNodesHeader, SpellsLine, SpellsPhases, SpellsLogged, SpellsBody, SpellsStatements, most_statements, is_promotion, promotions_among, AreAllowed}
-use Rattle.script_text.specs.Refused.{Place, first as first_place, second as second_place, third as third_place, later as later_place, has_room, none_counted, counted_with, is_headed, CauseHolds, order_of, IsFirstCause, nodes_said, next_place, RefusesAmong, RefusesStatements}
+use Rattle.script_text.specs.Refused.{Place, first as first_place, second as second_place, third as third_place, has_room, none_counted, counted_with, is_headed, CauseHolds, order_of, IsFirstCause, nodes_said, next_place, RefusesAmong, RefusesStatements}
 use Rattle.script_text.specs.Exact.{NeverBoth, OneRefusal}
 use Rattle.script_text.proofs.NumberLaws.{value_of-decimal, digits_of-decimal, other_word}
 use Rattle.script_text.proofs.OneLine.{lane_first}
 use Rattle.script_text.specs.Reading.{headers_counted}
 use Rattle.script_text.proofs.RightForms.{IsBehind, IsBeforeLog, behind_next, behind_join, behind_log, behind_no_log, behind_workers, header_counted, right_nodes, right_workers, right_log, right_join}
-use Rattle.script_text.proofs.RightLines.{between_high, right_spelled}
+use Rattle.script_text.proofs.RightLines.{right_spelled}
 
 -- so many statements more are no more than a script may have
 abbrev AreFewMore : Bool → Counted → List Statement → Type 0
@@ -149,14 +150,6 @@ answer_of text TooMany faulty = faulty
 not_memory : (text : List ℕ) (fault : QueryFault) → IsFault text fault → fault ≡ Memory → ⊥
 not_memory text fault faulty e = subst (IsFault text) e faulty
 
--- a text has one fault at most
-one_fault : (text : List ℕ) (fault other : QueryFault) → IsFault text fault → IsFault text other → fault ≡ other
-one_fault text fault other faulty too =
-    elim (fault_answered text (Err fault) other (answer_of text fault faulty) too) [
-      | inl e ↦ let memory : fault ≡ Memory = cc in absurd (not_memory text fault faulty memory)
-      | inr e ↦ cc
-    ]
-
 module _ (place : Place) (before : Counted) (statement : Statement) where
   -- causes of one order that both hold are one
   same_order : (cause other : LineFault) → order_of cause ≡ order_of other → CauseHolds place before statement cause → CauseHolds place before statement other → cause ≡ other
@@ -165,7 +158,7 @@ module _ (place : Place) (before : Counted) (statement : Statement) where
   same_order Word Word e h k = refl
   same_order Count Count e h k = refl
   same_order Range Range e h k = refl
-  same_order (RefusedQuery fault) (RefusedQuery other) e h k = ap RefusedQuery (one_fault (rest_behind 3 statement.line) fault other h.1 k.1)
+  same_order (RefusedQuery fault) (RefusedQuery other) e h k = ap RefusedQuery (same_fault (rest_behind 3 statement.line) fault other h.1 k.1)
   same_order NotBuilt NotBuilt e h k = refl
   same_order cause other e h k = absurd (omega arith)
 

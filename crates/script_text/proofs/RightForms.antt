@@ -1,14 +1,13 @@
 -- When a statement is right at its place: by its form, and for a line of a lane by what its words ask for.
-use Rattle.std.proofs.Common.{◌≡◌, ℕ, ◌<◌, ◌≤◌, List, [], ◌∷◌, length, true, false, refl, ap, ◌∙◌, sym, arith, inl, inr, Ok}
-use Rattle.std.specs.Prelude.{Bool, ⊤, ◌&&◌, ◌+◌, ◌^◌, nat_lt, nat_le, codes, bytes_eq}
+use Rattle.std.proofs.Common.{◌≡◌, ℕ, ◌<◌, ◌≤◌, List, [], ◌∷◌, length, true, false, refl, ap, ◌∙◌, sym, arith}
+use Rattle.std.specs.Prelude.{Bool, ◌&&◌, ◌+◌, ◌^◌, nat_le, codes, bytes_eq}
 use Rattle.std.specs.List.{list_all}
 use Rattle.std.specs.Fmt.{decimal}
 use Rattle.std.proofs.lemmas.Bool.{false≢true, both_ways, lt-ltb, le-leb, and_from}
 use Rattle.nrt_base.specs.Bytes.{is_between}
 use Rattle.documents.specs.declared.query.Query.{Query}
-use Rattle.text_query.specs.declared.fault.QueryFault.{QueryFault}
-use Rattle.text_query.specs.Answers.{Parses, IsFault}
-use Rattle.text_query.proofs.FaultLemmas.{fault_answered}
+use Rattle.text_query.specs.Answers.{Parses}
+use Rattle.text_query.proofs.FaultLemmas.{parses_no_fault}
 use Rattle.script_text.specs.declared.fault.LineFault.TheVariants.{NoNodes, Word, Count, Range, Query as RefusedQuery, Text, NotBuilt}
 use Rattle.script_text.specs.Grammar.{Statement, words_in, rest_behind, IsNodesHeader, IsWorkersHeader, IsLogHeader, IsJoin, is_promotion}
 use Rattle.script_text.specs.declared.counted.Counted.{Counted}
@@ -16,11 +15,6 @@ use Rattle.script_text.specs.Reading.{headers_counted}
 use Rattle.script_text.specs.Refused.{is_digits, is_digit, is_number_in, Shape, command, asked, is_unknown, is_too_few_or_many, is_miscounted, are_kinds, is_short, is_asked_in_range, asks_query, Place, first as first_place, second as second_place, third as third_place, later as later_place, has_log, has_room, is_headed, next_place, none_counted, counted_with, log_header, logged_form, Form, no_nodes, nodes_header, workers_header, join, lane_line, later_form, form_of, form_at, has_wrong_word, has_wrong_count, is_in_range, has_query, IsRight, is_printable}
 use Rattle.script_text.proofs.NumberLaws.{number_in, digits_of-decimal, other_word, printable_digits}
 use Rattle.script_text.proofs.WordLaws.{printable_line}
-
--- a text that is parsed has no fault
-pub never_faulty : (text : List ℕ) (query : Query) (fault : QueryFault) → Parses text query → IsFault text fault → ⊥
-never_faulty text query fault parses faulty =
-    elim (fault_answered text (Ok query) fault parses faulty) [ inl e ↦ cc | inr e ↦ cc ]
 
 -- a query is searched for in the text
 pub record IsSearched (text : List ℕ) : Type 0 where
@@ -50,7 +44,7 @@ right_by_form place before statement form e right printable room Range h =
     (and_from (is_in_range (form_at place statement) statement.line) (has_room (has_log place) before (words_in statement.line)) ranges room)
 right_by_form place before statement form e right printable room (RefusedQuery fault) h =
     let searched = right.searched (sym (ap has_query e) ∙ h.0) in
-    never_faulty (rest_behind 3 statement.line) searched.query fault searched.parses h.1
+    parses_no_fault (rest_behind 3 statement.line) searched.query fault searched.parses h.1
 right_by_form place before statement form e right printable room NotBuilt h = h
 
 -- the words behind a lane ask for a command, with the words that it is to have and what is to follow

@@ -3,14 +3,16 @@ use Rattle.std.proofs.Common.{◌≡◌, ℕ, ◌<◌, ◌≤◌, List, [], ◌�
 use Rattle.std.specs.Prelude.{Bool, ◌&&◌, ◌^◌, ◌-◌, nat_le, codes, bytes_eq}
 use Rattle.std.specs.List.{list_all}
 use Rattle.std.specs.Fmt.{decimal}
-use Rattle.std.proofs.lemmas.Bool.{false≢true, leb-true, le-leb, le-ltb, lt-leb, eq-eqb, and_from, and_parts, or_right}
+use Rattle.std.proofs.lemmas.Bool.{false≢true, le-leb, le-ltb, lt-leb, eq-eqb, and_from, and_parts, or_right}
 use Rattle.nrt_base.specs.Bytes.{is_between, is_key, is_key_byte, is_text, is_text_byte, is_word, is_word_byte}
+use Rattle.nrt_base.proofs.Plain.{between_high}
 use Rattle.documents.specs.declared.query.Query.{Query}
 use Rattle.history_entries.specs.declared.cause.FaultPlan.{FaultPlan}
 use Rattle.history_entries.specs.declared.cause.FaultPlan.TheVariants.{Link, Damage, Disk, Stop}
 use Rattle.documents.specs.Matching.{is_well_formed}
 use Rattle.text_query.specs.declared.fault.QueryFault.TheVariants.{Empty}
 use Rattle.text_query.specs.Answers.{Parses}
+use Rattle.text_query.proofs.FaultLemmas.{parses_no_fault}
 use Rattle.script_text.specs.declared.counted.Counted.{Counted}
 use Rattle.script_serving.specs.declared.script.Force.{Force}
 use Rattle.script_serving.specs.declared.script.Force.TheVariants.{Auto, Exactly}
@@ -23,12 +25,8 @@ use Rattle.history_entries.specs.Faults.{plan_words}
 use Rattle.script_text.specs.Refused.{is_number_in, Kind, number as number_kind, node as node_kind, force as force_kind, key as key_kind, letters as letters_kind, nothing, text as text_tail, query as query_tail, Shape, shape as shape_with, command, asked, is_kind, are_kinds, is_short, is_too_few_or_many, lane_line, Place, has_room, IsRight}
 use Rattle.script_text.proofs.NumberLaws.{number_in, digits_of-decimal, is_digits-decimal}
 use Rattle.script_text.proofs.WordLaws.{words_after, nothing_behind}
-use Rattle.script_text.proofs.RightForms.{never_faulty, AreRight, right_lane, right_by_form, IsBehind, lane_form, log_behind}
+use Rattle.script_text.proofs.RightForms.{AreRight, right_lane, right_by_form, IsBehind, lane_form, log_behind}
 use Rattle.script_text.proofs.DropLemmas.{letters_written}
-
--- what a number between two others is at most
-pub between_high : (low high n : ℕ) → is_between low high n ≡ true → n ≤ high
-between_high low high n h = leb-true n high (and_parts (nat_le low n) (nat_le n high) h).1
 
 -- a command without a text or a query, of this shape
 plain : (size : ℕ) (shape : Shape) (behind words : List (List ℕ)) (rest : List ℕ) → asked words ≡ command shape behind → shape.tail ≡ nothing
@@ -88,7 +86,7 @@ three_words (x ∷ y ∷ []) a b c e = cc
 three_words (x ∷ y ∷ z ∷ words) a b c e = cc
 
 no_query : (text : List ℕ) (query : Query) → Parses text query → text ≡ [] → ⊥
-no_query text query parses e = never_faulty [] query Empty (subst (λ (t : List ℕ). Parses t query) e parses) refl
+no_query text query parses e = parses_no_fault [] query Empty (subst (λ (t : List ℕ). Parses t query) e parses) refl
 
 -- where a query stands behind three words, there is a fourth
 fourth_word : (line : List ℕ) (query : Query) (words : List (List ℕ)) (word : List ℕ) → words_after 3 (words_in line) ≡ words → Parses (rest_behind 3 line) query

@@ -3,6 +3,7 @@ use Rattle.std.proofs.Common.{◌≡◌, ℕ, ◌<◌, ◌≤◌, Bool, List, []
 use Rattle.std.specs.Prelude.{◌^◌, codes, bytes_eq}
 use Rattle.std.specs.Fmt.{decimal}
 use Rattle.std.proofs.lemmas.Bool.{false≢true, both_ways}
+use Rattle.nrt_base.proofs.Plain.{between_high}
 use Rattle.script_serving.specs.declared.script.Line.{Line}
 use Rattle.script_serving.specs.declared.script.Phase.{Phase}
 use Rattle.script_serving.specs.declared.script.Script.{Script}
@@ -10,7 +11,6 @@ use Rattle.script_text.specs.Grammar.{Statement, statements_of, words_in, IsJoin
 use Rattle.script_text.specs.Refused.{value_of}
 use Rattle.script_text.specs.Exact.{OneScript}
 use Rattle.script_text.proofs.NumberLaws.{value_of-decimal, digits_of-decimal, other_word}
-use Rattle.script_text.proofs.RightLines.{between_high}
 use Rattle.script_text.proofs.OneLine.{lane_first, one_line}
 
 -- the statement begins with a lane

@@ -1,8 +1,7 @@
 -- What the record of a new segment says, and what the parts of a segment are put together from.
-use Rattle.std.proofs.Common.{◌≡◌, ℕ, ◌+◌, ◌<◌, ◌↔◌, ◌==◌, Bool, true, false, cond, List, [], ◌∷◌, length, map, replicate, Some, IsSome, refl, sym, ap, subst, ◌∙◌, arith}
+use Rattle.std.proofs.Common.{◌≡◌, ℕ, ◌<◌, ◌↔◌, ◌==◌, Bool, true, false, cond, List, length, map, Some, IsSome, refl, sym, subst, ◌∙◌, arith}
 use Rattle.std.proofs.lemmas.Bool.{eqb-true}
 use Rattle.std.proofs.lemmas.List.{length-map}
-use Rattle.std.proofs.lemmas.List.Sums.{sum_by-cons, count_by-le-length}
 use Rattle.nrt_base.specs.declared.doc.Doc.{Doc}
 use Rattle.nrt_base.specs.declared.numbers.SegNo.{SegNo}
 use Rattle.docs_plain.specs.Documents.{IsDocumentsFile}
@@ -11,6 +10,7 @@ use Rattle.postings_plain.specs.Postings.{Entry, format_for}
 use Rattle.postings_plain.specs.Body.{in_format, IsPostingsFile, IsRowCount}
 use Rattle.postings_plain.specs.Inverting.{AreEntriesOf}
 use Rattle.seg_reader.specs.Given.{live_rows, IsLiveFile}
+use Rattle.seg_reader.proofs.Given.{each_row_live}
 use Rattle.segment_infos.specs.declared.infos.SegRecord.{SegRecord}
 use Rattle.segment_infos.specs.SegmentInfo.{IsInfoFile}
 use Rattle.seg_reader.specs.declared.parts.SegParts.{SegParts}
@@ -21,21 +21,12 @@ use Rattle.seg_build.proofs.EntryRows.{row_count_of}
 
 -- ---- the record
 
-counted : (b : Bool) (rows : List Bool) → live_rows (b ∷ rows) ≡ cond b 1 0 + live_rows rows
-counted b rows = sum_by-cons (λ (live : Bool). cond live 1 0) b rows
-
--- as many live rows as rows: all are live
-all_live : (rows : List Bool) → live_rows rows ≡ length rows → rows ≡ replicate (length rows) true
-all_live [] e = refl
-all_live (true ∷ rows) e = ap (λ (xs : List Bool). true ∷ xs) (all_live rows (omega (arith, counted true rows)))
-all_live (false ∷ rows) e = absurd (omega (arith, counted false rows, count_by-le-length (λ (row : Bool). row) rows))
-
 is_none : (b : Bool) → ◌≡◌ {A = ℕ} (cond b 0 1) 0 → b ≡ true
 is_none true e = refl
 is_none false e = absurd (omega arith)
 
 pub is_record_of : (seg : SegNo) (rows : List Bool) → IsRecordOf rows (record_of seg rows)
-is_record_of seg rows = record { rows = refl; live_count = refl; all_live = λ e. all_live rows (eqb-true (live_rows rows) (length rows) (is_none (live_rows rows == length rows) e)) }
+is_record_of seg rows = record { rows = refl; live_count = refl; all_live = λ e. each_row_live rows (eqb-true (live_rows rows) (length rows) (is_none (live_rows rows == length rows) e)) }
 
 -- ---- the parts
 

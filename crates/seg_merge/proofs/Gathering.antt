@@ -1,9 +1,10 @@
 -- Rows that are gathered one after the other, and the merged segment of them.
 use Rattle.std.proofs.Common.{◌≡◌, ℕ, zero, suc, ◌+◌, ◌<◌, Bool, true, false, cond, List, [], ◌∷◌, ◌++◌, length, get_or, drop, replicate, refl, sym, ap, subst, ◌∙◌, arith, drop-cons}
 use Rattle.std.specs.List.{AllZip}
-use Rattle.std.proofs.lemmas.List.{append_assoc, length-append}
+use Rattle.std.proofs.lemmas.List.{length-append}
 use Rattle.nrt_base.specs.declared.doc.Doc.{Doc}
 use Rattle.nrt_base.specs.declared.numbers.SegNo.{SegNo}
+use Rattle.nrt_base.proofs.Plain.{moved_over}
 use Rattle.seg_build.specs.Given.{Shown}
 use Rattle.seg_build.specs.declared.files.SegFiles.{SegFiles}
 use Rattle.seg_build.specs.Built.{record_of, IsBuilt}
@@ -32,10 +33,6 @@ from_step input live at lt =
     by_row : (b : Bool) (ls : List Bool) → origins_in input at (b ∷ ls) ≡ cond b (row_from input at ∷ []) [] ++ origins_in input (at + 1) ls
     by_row true ls = refl
     by_row false ls = refl
-
--- what was put at the end goes from the rest to the front
-pub moved_over : {X : Type 0} (old new one rest rest_now whole : List X) → rest ≡ one ++ rest_now → old ++ rest ≡ whole → new ≡ old ++ one → new ++ rest_now ≡ whole
-moved_over {X} old new one rest rest_now whole split so_far put = ap (λ (xs : List X). xs ++ rest_now) put ∙ append_assoc old one rest_now ∙ sym (ap (λ (xs : List X). old ++ xs) split) ∙ so_far
 
 pub docs_taken : (docs : List Doc) (live : List Bool) (at : ℕ) (old new whole : List Doc) (b : Bool) → at < length docs → length live ≡ length docs → b ≡ get_or live at false → ((d : Doc) → new ≡ old ++ cond b (get_or docs at d ∷ []) [])
     → old ++ live_docs (drop at docs) (drop at live) ≡ whole → new ++ live_docs (drop (at + 1) docs) (drop (at + 1) live) ≡ whole

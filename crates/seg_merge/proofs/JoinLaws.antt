@@ -1,14 +1,11 @@
 -- The postings of the live rows of inputs, joined input by input.
 use Rattle.std.proofs.Common.{◌≡◌, ℕ, suc, ◌+◌, ◌<◌, Bool, true, false, cond, List, [], ◌∷◌, ◌++◌, length, map, drop, get_or, Option, Some, None, refl, sym, ap, subst, ◌∙◌, arith, append_assoc, drop-cons}
 use Rattle.std.proofs.lemmas.List.{append-nil, map-append, length-map, length-append}
-use Rattle.std.proofs.lemmas.List.Sums.{sum_by-cons}
 use Rattle.nrt_base.specs.declared.doc.Doc.{Doc}
 use Rattle.seg_build.specs.Given.{live_rows, TermRow, FoundTerms, Gathers, numbers_from, live_terms, JoinsEntries, Shown, IsSound, term_row}
+use Rattle.seg_build.proofs.Given.{live_rows-cons}
 use Rattle.seg_merge.specs.Merging.{live_docs, all_live_docs, docs_by_input}
 use Rattle.seg_merge.proofs.Gathering.{inputs_step}
-
-counted : (b : Bool) (rows : List Bool) → live_rows (b ∷ rows) ≡ cond b 1 0 + live_rows rows
-counted b rows = sum_by-cons (λ (live : Bool). cond live 1 0) b rows
 
 -- ---- the numbers of an input's rows
 
@@ -40,7 +37,7 @@ numbered at n next live b number old new whole lt is e f put so_far =
 pub counted_on : (at n next total : ℕ) (live : List Bool) (b : Bool) → at < length live → b ≡ get_or live at false → next ≡ cond b (n + 1) n → n + live_rows (drop at live) ≡ total → next + live_rows (drop (at + 1) live) ≡ total
 counted_on at n next total live b lt is f so_far =
     let up : suc at ≡ at + 1 = omega arith in
-    let step = ap live_rows (drop-cons live at false lt) ∙ counted (get_or live at false) (drop (suc at) live) ∙ ap (λ (k : ℕ). cond (get_or live at false) 1 0 + live_rows (drop k live)) up in
+    let step = ap live_rows (drop-cons live at false lt) ∙ live_rows-cons (get_or live at false) (drop (suc at) live) ∙ ap (λ (k : ℕ). cond (get_or live at false) 1 0 + live_rows (drop k live)) up in
     by (get_or live at false) (f ∙ ap (λ (x : Bool). cond x (n + 1) n) is) step
   where
     by : (x : Bool) → next ≡ cond x (n + 1) n → live_rows (drop at live) ≡ cond x 1 0 + live_rows (drop (at + 1) live) → next + live_rows (drop (at + 1) live) ≡ total
@@ -55,12 +52,12 @@ live_docs_terms (d ∷ docs) [] = refl
 live_docs_terms (d ∷ docs) (true ∷ live) = ap (λ (rows : List TermRow). term_row d ∷ rows) (live_docs_terms docs live)
 live_docs_terms (d ∷ docs) (false ∷ live) = live_docs_terms docs live
 
-length-live_docs : (docs : List Doc) (live : List Bool) → length live ≡ length docs → length (live_docs docs live) ≡ live_rows live
+pub length-live_docs : (docs : List Doc) (live : List Bool) → length live ≡ length docs → length (live_docs docs live) ≡ live_rows live
 length-live_docs [] [] long = refl
 length-live_docs [] (l ∷ live) long = absurd (omega (arith, long))
 length-live_docs (d ∷ docs) [] long = absurd (omega (arith, long))
-length-live_docs (d ∷ docs) (true ∷ live) long = omega (arith, counted true live, length-live_docs docs live (omega (arith, long)))
-length-live_docs (d ∷ docs) (false ∷ live) long = omega (arith, counted false live, length-live_docs docs live (omega (arith, long)))
+length-live_docs (d ∷ docs) (true ∷ live) long = omega (arith, live_rows-cons true live, length-live_docs docs live (omega (arith, long)))
+length-live_docs (d ∷ docs) (false ∷ live) long = omega (arith, live_rows-cons false live, length-live_docs docs live (omega (arith, long)))
 
 -- ---- all inputs
 

@@ -1,6 +1,7 @@
 -- What reading all files answers.
-use Rattle.std.proofs.Common.{◌≡◌, ℕ, ◌<◌, ◌≤◌, Bool, List, Option, Result, Ok, Err, refl, sym, ap, subst, ◌∙◌, inl, inr, arith}
+use Rattle.std.proofs.Common.{◌≡◌, ℕ, ◌<◌, ◌≤◌, Bool, List, Option, Result, Ok, Err, refl, sym, ap, subst, inl, inr, arith}
 use Rattle.std.specs.Prelude.{◌⊎◌}
+use Rattle.std.proofs.lemmas.Bool.{cases_order}
 use Rattle.nrt_base.proofs.Plain.{ok_never_err, same_ok, same_err}
 use Rattle.nrt_base.specs.declared.doc.Doc.{Doc}
 use Rattle.codec_frame.specs.declared.frame.FileFault.{FileFault}
@@ -47,22 +48,19 @@ in_grammar parts r contents have Live = (contents.live, have.live)
 abbrev JudgedTo : SegParts → SegRecord → SegFile → Type 0
 JudgedTo parts r part = (other : SegFile) → file_place other ≤ file_place part → Judged parts r other
 
-order : (m n : ℕ) → (m < n) ⊎ ((m ≡ n) ⊎ (n < m))
-order m n = grind arith
-
 same_fault : (p q : SegFile) (a b : FileFault) → p ≡ q → a ≡ b → ◌≡◌ {A = SegFault} (File p a) (File q b)
 same_fault p q a b e f = cc
 
 one_first : (parts : SegParts) (r : SegRecord) (part other : SegFile) (fault another : FileFault) → JudgedTo parts r part → IsFirstOutside parts r part fault → IsFirstOutside parts r other another
     → ◌≡◌ {A = SegFault} (File part fault) (File other another)
-one_first parts r part other fault another judged first second = by_order (order (file_place other) (file_place part))
+one_first parts r part other fault another judged first second = by_order (cases_order (file_place other) (file_place part))
   where
-    by_order : (file_place other < file_place part) ⊎ ((file_place other ≡ file_place part) ⊎ (file_place part < file_place other)) → ◌≡◌ {A = SegFault} (File part fault) (File other another)
-    by_order (inl h) = absurd ((judged other (omega arith)).apart (first.before other h) another second.has)
-    by_order (inr (inl h)) =
+    by_order : (file_place other ≡ file_place part) ⊎ ((file_place other < file_place part) ⊎ (file_place part < file_place other)) → ◌≡◌ {A = SegFault} (File part fault) (File other another)
+    by_order (inl h) =
         let same : other ≡ part = same_part other part h in
         let has : HasFault parts r part another = subst (λ (q : SegFile). HasFault parts r q another) same second.has in
         same_fault part other fault another (sym same) ((judged part (omega arith)).one fault another first.has has)
+    by_order (inr (inl h)) = absurd ((judged other (omega arith)).apart (first.before other h) another second.has)
     by_order (inr (inr h)) = absurd ((judged part (omega arith)).apart (second.before part h) fault first.has)
 
 split_file : (p q : SegFile) (a b : FileFault) → ◌≡◌ {A = SegFault} (File p a) (File q b) → (p ≡ q) × (a ≡ b)

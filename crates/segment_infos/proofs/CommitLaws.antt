@@ -8,6 +8,7 @@ use Rattle.std.proofs.lemmas.Bool.{cases_lt}
 use Rattle.std.proofs.lemmas.List.{append-nil}
 use Rattle.std.proofs.lemmas.List.Elements.{All-append, All-cons, Contains-append_left, Contains-append_right}
 use Rattle.std.proofs.lemmas.Option.{same_Some}
+use Rattle.file_names.proofs.Given.{contains_later, contains_cases}
 use Rattle.file_names.specs.Names.{is_commit_name, commit_number, commit_name_of, is_pending_name, pending_number, pending_name_of, number_of_commit, number_of_pending}
 use Rattle.file_names.proofs.NameLaws.{commit_name_only, commit_name_is_one, commit_number-commit_name, pending_name_only, pending_name_is_one, pending_number-pending_name}
 use Rattle.segment_infos.specs.Commits.{commit_numbers, pending_numbers, IsGreatest, number_after, IsNext}
@@ -19,15 +20,8 @@ record IsFold (a : ℕ) (xs : List ℕ) (r : ℕ) : Type 0 where
   one : Contains (a ∷ xs) r
   most : All (λ m. m ≤ r) (a ∷ xs)
 
-first_or_later : (x y : ℕ) (xs : List ℕ) → Contains (x ∷ xs) y → (x ≡ y) ⊎ Contains xs y
-first_or_later x y xs (zero, lt, e) = inl e
-first_or_later x y xs (suc k, lt, e) = inr (k, omega (arith, lt), e)
-
 is_first : (x y : ℕ) (xs : List ℕ) → x ≡ y → Contains (x ∷ xs) y
 is_first x y xs e = (0, omega arith, e)
-
-is_later : {X : Type 0} (x y : X) (xs : List X) → Contains xs y → Contains (x ∷ xs) y
-is_later x y xs (k, lt, e) = (suc k, omega (arith, lt), e)
 
 max_is : (a b : ℕ) → (max a b ≡ a) ⊎ (max a b ≡ b)
 max_is a b = elim (cases_lt a b) [ inl lt ↦ inr (omega arith) | inr ge ↦ inl (omega arith) ]
@@ -40,9 +34,9 @@ fold_max a (x ∷ xs) =
     let top : max a x ≤ r = f.most 0 0 (omega arith) in
     let rest : All (λ (m : ℕ). m ≤ r) xs = λ k d lt. f.most (suc k) d (omega (arith, lt)) in
     record {
-      one = elim (first_or_later (max a x) r xs f.one) [
-        | inl e ↦ elim (max_is a x) [ inl p ↦ is_first a r (x ∷ xs) (sym p ∙ e) | inr p ↦ is_later a r (x ∷ xs) (is_first x r xs (sym p ∙ e)) ]
-        | inr later ↦ is_later a r (x ∷ xs) (is_later x r xs later)
+      one = elim (contains_cases (max a x) r xs f.one) [
+        | inl e ↦ elim (max_is a x) [ inl p ↦ is_first a r (x ∷ xs) (sym p ∙ e) | inr p ↦ contains_later a r (x ∷ xs) (is_first x r xs (sym p ∙ e)) ]
+        | inr later ↦ contains_later a r (x ∷ xs) (contains_later x r xs later)
       ];
       most = All-cons (λ m. m ≤ r) a (x ∷ xs) (omega (arith, top, le-max_left a x)) (All-cons (λ m. m ≤ r) x xs (omega (arith, top, le-max_right a x)) rest);
     }
@@ -113,12 +107,12 @@ found h [] n (k, lt, e) = absurd (omega (arith, lt))
 found h (name ∷ names) n c = by_first (λ rest. found h names n rest) (h name) refl c
   where
     later : Found h names n → Found h (name ∷ names) n
-    later f = record { name = f.name; there = is_later name f.name names f.there; number = f.number }
+    later f = record { name = f.name; there = contains_later name f.name names f.there; number = f.number }
 
     by_first : (Contains (filter_map h names) n → Found h names n) → (first : Option ℕ) → h name ≡ first → Contains (cons_option first (filter_map h names)) n → Found h (name ∷ names) n
     by_first behind None e c = later (behind c)
     by_first behind (Some m) e c =
-        elim (first_or_later m n (filter_map h names) c) [
+        elim (contains_cases m n (filter_map h names) c) [
           | inl same ↦ record { name = name; there = (0, omega arith, refl); number = e ∙ ap (λ (i : ℕ). Some i) same }
           | inr rest ↦ later (behind rest)
         ]
@@ -134,7 +128,7 @@ there_is h (first ∷ names) name n (suc k, lt, f) e =
   where
     behind : (o : Option ℕ) → Contains (filter_map h names) n → Contains (cons_option o (filter_map h names)) n
     behind None c = c
-    behind (Some m) c = is_later m n (filter_map h names) c
+    behind (Some m) c = contains_later m n (filter_map h names) c
 
 chosen : (test : Bool) (m n : ℕ) → ◌≡◌ {A = Option ℕ} (cond test (Some m) None) (Some n) → (test ≡ true) × (m ≡ n)
 chosen true m n e = (refl, same_Some m n e)

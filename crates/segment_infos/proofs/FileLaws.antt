@@ -1,11 +1,9 @@
 -- The info file of a segment and the file of infos, as framed files.
-use Rattle.std.proofs.Common.{◌≡◌, ℕ, ◌-◌, ◌⊎◌, Bool, true, false, List, [], ◌++◌, length, drop, Result, Ok, Err, refl, sym, ap, subst, ◌∙◌, arith, inl, inr}
+use Rattle.std.proofs.Common.{◌≡◌, ℕ, ◌-◌, ◌⊎◌, Bool, true, false, List, [], ◌++◌, length, Result, Ok, Err, refl, sym, ap, subst, ◌∙◌, arith, inl, inr}
 use Rattle.std.specs.Prelude.{codes, IsOkAnd, nat_eq}
 use Rattle.std.specs.Cmp.Lexicographic.{pointwise}
 use Rattle.std.proofs.lemmas.Slice.Eq.{bytes_eq-Decides}
-use Rattle.body_forms.specs.Given.{Wanted, IsFramed, index_header, with_footer, IsChecked, Framed, FrameFault, Frame, Body, AreBytes}
-use Rattle.body_forms.proofs.Given.{AreBytes-take}
-use Rattle.body_forms.proofs.Formats.{AreBytes-drop}
+use Rattle.body_forms.specs.Given.{Wanted, IsFramed, index_header, with_footer, IsChecked, Framed, FrameFault, Frame, Body}
 use Rattle.body_forms.specs.File.{IsOneToOne, IsFileAnswer}
 use Rattle.body_forms.proofs.FileLaws.{OneVersion, IsFileKind, body_of, StandsIn, Tells, frame_refused, body_refused, file_read, one_file_value, one_file_bytes, framed_file}
 use Rattle.segment_infos.specs.declared.info.SegInfo.{SegInfo}
@@ -17,9 +15,6 @@ use Rattle.segment_infos.specs.Infos.{SpellsInfos, infos_id, infos_wanted, IsInf
 use Rattle.segment_infos.specs.Reading.{IsDecoded}
 use Rattle.segment_infos.proofs.InfoLaws.{info_one_to_one}
 use Rattle.segment_infos.proofs.BodyLaws.{infos_one_to_one}
-
-pub body_fits : (bytes : List ℕ) (frame : Framed) → AreBytes bytes → AreBytes (body_of bytes frame)
-body_fits bytes frame fits = AreBytes-take (frame.end - frame.start) (drop frame.start bytes) (AreBytes-drop frame.start bytes fits)
 
 -- ---- info files
 

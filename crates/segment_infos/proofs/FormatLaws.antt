@@ -1,15 +1,15 @@
 -- The formats of the head of infos and of the records of segments.
-use Rattle.std.proofs.Common.{◌≡◌, ℕ, suc, ◌^◌, ◌<◌, ◌≤◌, ◌⊎◌, Bool, true, false, cond, List, [], ◌∷◌, ◌++◌, length, Some, None, refl, sym, ap, subst, ◌∙◌, arith, inl, inr}
+use Rattle.std.proofs.Common.{◌≡◌, ℕ, suc, ◌^◌, ◌<◌, ◌≤◌, Bool, true, false, cond, List, [], ◌∷◌, ◌++◌, length, Some, None, refl, sym, ap, subst, ◌∙◌, arith, inl, inr}
 use Rattle.std.specs.Prelude.{◌&&◌, ◌||◌, ◌==◌, nat_lt, nat_le}
 use Rattle.std.specs.List.{flat_map, All}
-use Rattle.std.proofs.lemmas.Bool.{cases_lt, ltb-true, leb-true, eqb-true, lt-ltb}
+use Rattle.std.proofs.lemmas.Bool.{cases_lt, ltb-true, leb-true, eqb-true, lt-ltb, eq-eqb, and_parts, or_cases}
 use Rattle.std.proofs.lemmas.Bool.Decides.{nat_tests}
 use Rattle.std.proofs.lemmas.List.Elements.{All-cons, All-nil}
 use Rattle.body_forms.specs.Given.{AreBytes}
 use Rattle.body_forms.specs.Format.{Read, ◌>>=◌, Takes, IsFormat, chain, ChainFits, then_at}
 use Rattle.body_forms.specs.Numbers.{u32_bytes, u32_at, u64_bytes, u64_at}
 use Rattle.body_forms.proofs.Formats.{bind_some, passed, read_is, pair_of, then_format, chain_format}
-use Rattle.body_forms.proofs.NumberLaws.{u32_format, u64_format}
+use Rattle.body_forms.proofs.NumberLaws.{u32_format, u64_format, Small, Large, two_large_then_two}
 use Rattle.segment_infos.specs.declared.infos.SegRecord.{SegRecord}
 use Rattle.segment_infos.specs.declared.reading.Head.{Head}
 use Rattle.segment_infos.specs.Infos.{record_bytes, IsRecord, RecordFits}
@@ -33,12 +33,6 @@ made_format {X} {Y} s F r to from test P a there back true_is is_true = record {
       (whole.0, (subst P q.0 (true_is (to f.0.0) p.0), whole.1));
 }
 
-abbrev Small : ℕ → Type 0
-Small n = n < 2 ^ 32
-
-abbrev Large : ℕ → Type 0
-Large n = n < 2 ^ 64
-
 -- ---- the head
 
 abbrev pub head_parts : Head → Four
@@ -52,20 +46,13 @@ pub record IsHead (head : Head) : Type 0 where
   pub version : 0 < head.version.0
   pub few : head.count ≤ 256
 
-both : (a b : Bool) → (a && b) ≡ true → (a ≡ true) × (b ≡ true)
-both true b h = (refl, h)
-both false b h = absurd cc
-
 le_true : (m n : ℕ) → m ≤ n → nat_le m n ≡ true
 le_true m n h = grind (arith, nat_tests)
 
-eq_true : (m n : ℕ) → m ≡ n → (m == n) ≡ true
-eq_true m n h = grind (arith, nat_tests)
-
 head_from_test : (head : Head) → is_head head ≡ true → IsHead head
 head_from_test head h =
-    let p = both (nat_lt 0 head.generation.0) (nat_lt 0 head.version.0 && nat_le head.count 256) h in
-    let q = both (nat_lt 0 head.version.0) (nat_le head.count 256) p.1 in
+    let p = and_parts (nat_lt 0 head.generation.0) (nat_lt 0 head.version.0 && nat_le head.count 256) h in
+    let q = and_parts (nat_lt 0 head.version.0) (nat_le head.count 256) p.1 in
     record { generation = ltb-true 0 head.generation.0 p.0; version = ltb-true 0 head.version.0 q.0; few = leb-true head.count 256 q.1 }
 
 head_passes : (head : Head) → IsHead head → is_head head ≡ true
@@ -78,40 +65,23 @@ head_passes head h =
 abbrev pub HeadFits : Head → Type 0
 HeadFits head = (head.generation.0 < 2 ^ 64) × ((head.version.0 < 2 ^ 64) × ((head.counter < 2 ^ 32) × (head.count < 2 ^ 32)))
 
-two_small : IsFormat (λ (p : ℕ × ℕ). u32_bytes p.0 ++ u32_bytes p.1) (λ p. Small p.0 × Small p.1) (then_at u32_at (λ _. u32_at))
-two_small = then_format u32_bytes Small u32_at (λ _. u32_bytes) (λ _. Small) (λ _. u32_at) u32_format (λ _ _. u32_format)
-
-three_of_head : IsFormat (λ (p : ℕ × (ℕ × ℕ)). u64_bytes p.0 ++ (u32_bytes p.1.0 ++ u32_bytes p.1.1)) (λ p. Large p.0 × (Small p.1.0 × Small p.1.1)) (then_at u64_at (λ _. then_at u32_at (λ _. u32_at)))
-three_of_head =
-    then_format u64_bytes Large u64_at (λ _ p. u32_bytes p.0 ++ u32_bytes p.1) (λ _ p. Small p.0 × Small p.1) (λ _. then_at u32_at (λ _. u32_at)) u64_format (λ _ _. two_small)
-
-four_of_head : IsFormat (λ (p : Four). u64_bytes p.0 ++ (u64_bytes p.1.0 ++ (u32_bytes p.1.1.0 ++ u32_bytes p.1.1.1))) (λ p. Large p.0 × (Large p.1.0 × (Small p.1.1.0 × Small p.1.1.1)))
-    (then_at u64_at (λ _. then_at u64_at (λ _. then_at u32_at (λ _. u32_at))))
-four_of_head =
-    then_format u64_bytes Large u64_at (λ _ p. u64_bytes p.0 ++ (u32_bytes p.1.0 ++ u32_bytes p.1.1)) (λ _ p. Large p.0 × (Small p.1.0 × Small p.1.1))
-    (λ _. then_at u64_at (λ _. then_at u32_at (λ _. u32_at))) u64_format (λ _ _. three_of_head)
-
 pub head_format : IsFormat head_bytes (λ head. IsHead head × HeadFits head) head_at
 unfolding head_at
 head_format =
     made_format (λ (p : Four). u64_bytes p.0 ++ (u64_bytes p.1.0 ++ (u32_bytes p.1.1.0 ++ u32_bytes p.1.1.1))) (λ p. Large p.0 × (Large p.1.0 × (Small p.1.1.0 × Small p.1.1.1)))
-    (then_at u64_at (λ _. then_at u64_at (λ _. then_at u32_at (λ _. u32_at)))) head_from head_parts is_head IsHead four_of_head (λ _. refl) (λ _. refl) head_from_test head_passes
+    (then_at u64_at (λ _. then_at u64_at (λ _. then_at u32_at (λ _. u32_at)))) head_from head_parts is_head IsHead two_large_then_two (λ _. refl) (λ _. refl) head_from_test head_passes
 
 -- ---- records
 
 abbrev record_parts : SegRecord → Four
 record_parts r = (r.seg.0, (r.rows, (r.live_gen, r.live)))
 
-first_or : (a b : Bool) → (a || b) ≡ true → (a ≡ true) ⊎ (b ≡ true)
-first_or true b h = inl refl
-first_or false b h = inr h
-
 record_from_test : (r : SegRecord) → is_record r ≡ true → IsRecord r
 record_from_test r h =
-    elim (first_or (r.live == r.rows) (nat_lt r.live r.rows && nat_lt 0 r.live_gen) h) [
+    elim (or_cases (r.live == r.rows) (nat_lt r.live r.rows && nat_lt 0 r.live_gen) h) [
       | inl e ↦ let same : r.live ≡ r.rows = eqb-true r.live r.rows e in record { most = omega (arith, same); all = λ _. same }
       | inr e ↦
-          let p = both (nat_lt r.live r.rows) (nat_lt 0 r.live_gen) e in
+          let p = and_parts (nat_lt r.live r.rows) (nat_lt 0 r.live_gen) e in
           let less : r.live < r.rows = ltb-true r.live r.rows p.0 in
           let some : 0 < r.live_gen = ltb-true 0 r.live_gen p.1 in
           record { most = omega (arith, less); all = λ z. absurd (omega (arith, z, some)) }
@@ -124,7 +94,7 @@ record_passes r h = elim (cases_lt r.live r.rows) [
         | inl some ↦ let a : nat_lt r.live r.rows ≡ true = lt-ltb r.live r.rows lt in let b : nat_lt 0 r.live_gen ≡ true = lt-ltb 0 r.live_gen some in rw (a, b) (or_true (r.live == r.rows))
         | inr none ↦ absurd (omega (arith, lt, h.all (omega (arith, none))))
       ]
-  | inr ge ↦ let a : (r.live == r.rows) ≡ true = eq_true r.live r.rows (omega (arith, ge, h.most)) in rw a refl
+  | inr ge ↦ let a : (r.live == r.rows) ≡ true = eq-eqb r.live r.rows (omega (arith, ge, h.most)) in rw a refl
 ]
   where
     or_true : (b : Bool) → (b || true) ≡ true

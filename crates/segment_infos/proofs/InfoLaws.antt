@@ -1,8 +1,8 @@
 -- What the body of a segment's info file says.
-use Rattle.std.proofs.Common.{◌≡◌, ℕ, ◌^◌, ◌<◌, Bool, true, false, List, [], ◌∷◌, ◌++◌, Option, Some, None, refl, sym, ap, subst, ◌∙◌}
+use Rattle.std.proofs.Common.{◌≡◌, ℕ, ◌^◌, ◌<◌, true, List, [], ◌∷◌, ◌++◌, Option, Some, None, refl, sym, ap, subst, ◌∙◌}
 use Rattle.std.specs.Prelude.{◌&&◌, nat_lt, nat_le}
 use Rattle.std.proofs.lemmas.Option.{same_Some}
-use Rattle.std.proofs.lemmas.Bool.{ltb-true, leb-true, lt-ltb, le-leb}
+use Rattle.std.proofs.lemmas.Bool.{ltb-true, leb-true, lt-ltb, le-leb, and_parts}
 use Rattle.body_forms.specs.Given.{AreBytes}
 use Rattle.body_forms.specs.Format.{Read, ◌>>=◌}
 use Rattle.body_forms.specs.Numbers.{u32_bytes, u32_at, u64_bytes, u64_at}
@@ -28,14 +28,10 @@ info_in-is : (body : List ℕ) → info_in body ≡ from_seg (u64_at body)
 unfolding info_in
 info_in-is body = refl
 
-both : (a b : Bool) → (a && b) ≡ true → (a ≡ true) × (b ≡ true)
-both true b h = (refl, h)
-both false b h = absurd cc
-
 can_spell : (seg rows format : ℕ) → is_info rows format ≡ true → CanSpellInfo (made seg rows format)
 can_spell seg rows format e =
-    let p = both (nat_lt 0 rows) (nat_le 1 format && nat_le format 2) e in
-    let q = both (nat_le 1 format) (nat_le format 2) p.1 in
+    let p = and_parts (nat_lt 0 rows) (nat_le 1 format && nat_le format 2) e in
+    let q = and_parts (nat_le 1 format) (nat_le format 2) p.1 in
     record { some = ltb-true 0 rows p.0; not_older = leb-true 1 format q.0; not_newer = leb-true format 2 q.1 }
 
 -- the bytes after the rows are the format of the info

@@ -1,5 +1,5 @@
 -- Lists of names in ascending order, each once.
-use Rattle.std.proofs.Common.{◌≡◌, ℕ, Bool, true, false, cond, List, [], ◌∷◌, get_or, sym, subst, nat_eq}
+use Rattle.std.proofs.Common.{◌≡◌, ℕ, Bool, true, false, cond, List, [], ◌∷◌, get_or, sym, subst, arith, nat_eq}
 use Rattle.std.specs.List.{Contains, dedup, flat_map}
 use Rattle.std.specs.List.Sorted.{IsStrictlySortedBy, IsSorted, IsPermutation}
 use Rattle.std.specs.Ordering.{nat_cmp}
@@ -69,3 +69,11 @@ plain_files (r ∷ segs) = All-append IsPlain (files_of_segment r) (flat_map fil
 
 pub files_plain : (infos : Infos) (names : List Name) → AreFilesOf infos names → All (λ name. (is_commit_name name ≡ false) × (is_pending_name name ≡ false)) names
 files_plain infos names a k d lt = All-contains IsPlain (flat_map files_of_segment infos.segs) (get_or names k d) (plain_files infos.segs) ((a.named (get_or names k d)).0 (Contains-get_or names k d lt))
+
+-- infos without a segment
+pub no_files : (infos : Infos) → infos.segs ≡ [] → AreFilesOf infos []
+unfolding IsStrictlySortedBy
+no_files infos e = record {
+  ascending = tt;
+  named = λ q. (λ c. absurd (omega (arith, c.1)), λ c. let n : Contains (flat_map files_of_segment []) q = subst (λ (rs : List SegRecord). Contains (flat_map files_of_segment rs) q) e c in absurd (omega (arith, n.1)));
+}

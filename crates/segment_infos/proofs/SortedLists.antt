@@ -6,17 +6,11 @@ use Rattle.std.specs.Ordering.{ordering_reverse}
 use Rattle.std.specs.Cmp.{IsTotalOrder}
 use Rattle.std.specs.declared.cmp.Ordering.{Ordering}
 use Rattle.std.specs.declared.cmp.Ordering.TheVariants.{Less, Equal, Greater}
+use Rattle.file_names.proofs.Given.{contains_later, contains_cases}
 
 module _ (K : Type 0) (order : K → K → Ordering) (total : IsTotalOrder order) where
-  first_or_later : (x y : K) (xs : List K) → Contains (x ∷ xs) y → (x ≡ y) ⊎ Contains xs y
-  first_or_later x y xs (zero, lt, e) = inl e
-  first_or_later x y xs (suc k, lt, e) = inr (k, omega (arith, lt), e)
-
   is_first : (x : K) (xs : List K) → Contains (x ∷ xs) x
   is_first x xs = (0, omega arith, refl)
-
-  is_later : (x y : K) (xs : List K) → Contains xs y → Contains (x ∷ xs) y
-  is_later x y xs (k, lt, e) = (suc k, omega (arith, lt), e)
 
   below_each : (x y : K) (xs : List K) → AllByRecursion (λ z. order x z ≡ Less) xs → Contains xs y → order x y ≡ Less
   below_each x y [] h (k, lt, e) = absurd (omega (arith, lt))
@@ -43,10 +37,10 @@ module _ (K : Type 0) (order : K → K → Ordering) (total : IsTotalOrder order
   same_first : (x y : K) (xs ys : List K) → IsStrictlySortedBy order (x ∷ xs) → IsStrictlySortedBy order (y ∷ ys) → SameElements (x ∷ xs) (y ∷ ys) → x ≡ y
   unfolding IsStrictlySortedBy
   same_first x y xs ys h k same =
-      elim (first_or_later y x ys ((same x).0 (is_first x xs))) [
+      elim (contains_cases y x ys ((same x).0 (is_first x xs))) [
         | inl e ↦ sym e
         | inr later ↦
-            elim (first_or_later x y xs ((same y).1 (is_first y ys))) [
+            elim (contains_cases x y xs ((same y).1 (is_first y ys))) [
               | inl e ↦ e
               | inr after ↦ absurd (not_below_each_other y x (below_each y x ys k.0 later) (below_each x y xs h.0 after))
             ]
@@ -54,7 +48,7 @@ module _ (K : Type 0) (order : K → K → Ordering) (total : IsTotalOrder order
 
   rest_in : (x y : K) (xs ys : List K) → x ≡ y → AllByRecursion (λ z. order x z ≡ Less) xs → (z : K) → Contains (y ∷ ys) z → Contains xs z → Contains ys z
   rest_in x y xs ys e below z there here =
-      elim (first_or_later y z ys there) [
+      elim (contains_cases y z ys there) [
         | inl f ↦ absurd (never_below_itself x (subst (λ (n : K). order x n ≡ Less) (sym (e ∙ f)) (below_each x z xs below here)))
         | inr later ↦ later
       ]
@@ -67,6 +61,6 @@ module _ (K : Type 0) (order : K → K → Ordering) (total : IsTotalOrder order
   one_sorted_list (x ∷ xs) (y ∷ ys) h k same =
       let e = same_first x y xs ys h k same in
       cells x y xs ys e (one_sorted_list xs ys h.1 k.1 (λ z. (
-        λ here. rest_in x y xs ys e h.0 z ((same z).0 (is_later x z xs here)) here,
-        λ there. rest_in y x ys xs (sym e) k.0 z ((same z).1 (is_later y z ys there)) there,
+        λ here. rest_in x y xs ys e h.0 z ((same z).0 (contains_later x z xs here)) here,
+        λ there. rest_in y x ys xs (sym e) k.0 z ((same z).1 (contains_later y z ys there)) there,
       )))

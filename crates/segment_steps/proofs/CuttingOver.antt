@@ -7,13 +7,13 @@ use Rattle.std.proofs.lemmas.Bool.{eqb-true}
 use Rattle.std.proofs.lemmas.List.{append-nil, append_assoc, length-map, length-replicate}
 use Rattle.std.proofs.lemmas.List.Concat.{flat_map-append}
 use Rattle.std.proofs.lemmas.List.Elements.{All-nil, All-cons, All-head, All-tail}
-use Rattle.std.proofs.lemmas.List.Sums.{count_by-le-length}
 use Rattle.std.proofs.lemmas.List.Sorted.{IsPermutation-refl, IsPermutation-sym, IsPermutation-trans, IsPermutation-append_left, IsPermutation-append_right, IsPermutation-append_comm}
 use Rattle.std.proofs.lemmas.Slice.Zip.{seconds-zip, AllZip-long}
 use Rattle.nrt_base.specs.declared.doc.Doc.{Doc}
 use Rattle.nrt_base.specs.declared.numbers.SegNo.{SegNo}
 use Rattle.disk_model.specs.Disk.{Name, Content}
 use Rattle.live_bits.specs.LiveRows.{live_rows}
+use Rattle.live_bits.proofs.LiveCounts.{each_row_live}
 use Rattle.segment_infos.specs.declared.infos.SegRecord.{SegRecord}
 use Rattle.segment_infos.specs.declared.infos.Infos.{Infos}
 use Rattle.segment_infos.specs.Files.{files_of_segment}
@@ -28,7 +28,7 @@ use Rattle.segment_steps.specs.Segments.{changed}
 use Rattle.segment_steps.specs.Next.{Turn, record_after, shown_after, stays, IsReadBack, AreReadSame}
 use Rattle.segment_steps.specs.CutOver.{Part, is_one_of, inputs_in, others_in, in_place, lives_of, documents_of, IsMergeOf, change_by, merged_turn, part_after, merged_turns, IsCutOf}
 use Rattle.segment_steps.proofs.Documents.{live_docs}
-use Rattle.segment_steps.proofs.Segments.{documents_ascend, segments_of, counted}
+use Rattle.segment_steps.proofs.Segments.{documents_ascend, segments_of}
 use Rattle.segment_steps.proofs.PublishLaws.{new_in, segments_stay, each_step, sound_step, documents_step}
 
 -- ---- parts
@@ -119,17 +119,12 @@ replaced inputs new ps some same =
 
 -- ---- the merged segment
 
-all_live : (rows : List Bool) → live_rows rows ≡ length rows → rows ≡ replicate (length rows) true
-all_live [] e = refl
-all_live (true ∷ rows) e = ap (λ (xs : List Bool). true ∷ xs) (all_live rows (omega (arith, counted true rows)))
-all_live (false ∷ rows) e = absurd (omega (arith, counted false rows, count_by-le-length (λ (row : Bool). row) rows))
-
 -- what it shows after its change has just the rows that are carried
 change_live : (s : Shown) (live : List Bool) → s.live ≡ replicate (length live) true → (changed s (change_by live)).live ≡ live
 change_live s live all = by_test (live_rows live == length live) refl
   where
     by_test : (b : Bool) → (live_rows live == length live) ≡ b → (changed s (cond b None (Some live))).live ≡ live
-    by_test true e = all ∙ sym (all_live live (eqb-true (live_rows live) (length live) e))
+    by_test true e = all ∙ sym (each_row_live live (eqb-true (live_rows live) (length live) e))
     by_test false e = refl
 
 change_docs : (s : Shown) (c : Option (List Bool)) → (changed s c).docs ≡ s.docs

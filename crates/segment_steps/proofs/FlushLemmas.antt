@@ -1,7 +1,7 @@
 -- The work for a task is what its marks say.
-use Rattle.std.proofs.Common.{◌≡◌, ℕ, ◌<◌, ◌↔◌, Bool, true, false, not, cond, List, [], ◌∷◌, length, get_or, map, Option, Some, None, IsSome, IsTrue, refl, sym, ap, subst, ◌∙◌, arith}
+use Rattle.std.proofs.Common.{◌≡◌, ℕ, ◌<◌, ◌↔◌, Bool, true, false, not, cond, List, [], ◌∷◌, length, map, Option, Some, None, IsSome, IsTrue, refl, sym, ap, subst, ◌∙◌, arith}
 use Rattle.std.specs.Prelude.{◌==◌, ◌||◌}
-use Rattle.std.specs.List.{All, list_any}
+use Rattle.std.specs.List.{list_any}
 use Rattle.std.specs.Str.{bytes_eq}
 use Rattle.std.specs.BTreeMap.{is_at}
 use Rattle.std.specs.BTreeSet.{contains, BTreeSet}
@@ -15,30 +15,28 @@ use Rattle.documents.specs.Documents.{key_cmp}
 use Rattle.documents.specs.Words.{words_of}
 use Rattle.documents.specs.Documents.{is_put}
 use Rattle.live_bits.specs.LiveRows.{live_rows}
-use Rattle.seg_merge.specs.Given.{Shown, IsSound, SegFiles, live_of, record_of, IsBuilt}
+use Rattle.seg_merge.specs.Given.{Shown, SegFiles, live_of, record_of, IsBuilt}
+use Rattle.live_bits.proofs.LiveCounts.{live_rows-cons}
 use Rattle.segment_steps.specs.Cut.{puts_of, puts_live, has_key_of, has_word_of}
 use Rattle.segment_steps.specs.Marks.{is_gone}
 use Rattle.segment_steps.specs.declared.cut.Gone.{Gone}
 use Rattle.segment_steps.specs.Segments.{live_change}
 use Rattle.segment_steps.specs.Next.{IsNewOf}
-use Rattle.segment_steps.proofs.Segments.{one_way, counted}
+use Rattle.segment_steps.proofs.Segments.{one_way}
 use Rattle.segment_steps.proofs.CutRows.{same_any, none_any}
 use Rattle.segment_steps.proofs.RowsLeft.{left_agree}
-
-pub sound_one : (segs : List Shown) (i : ℕ) (seg : Shown) → All IsSound segs → i < length segs → seg ≡ get_or segs i seg → IsSound seg
-sound_one segs i seg all lt item = subst IsSound (sym item) (all i seg lt)
 
 -- ---- the new segment
 
 none_left : (dead : List Bool) → list_any not dead ≡ false → live_rows (live_of dead) ≡ 0
 none_left [] e = refl
-none_left (true ∷ dead) e = omega (arith, counted false (live_of dead), none_left dead e)
+none_left (true ∷ dead) e = omega (arith, live_rows-cons false (live_of dead), none_left dead e)
 none_left (false ∷ dead) e = absurd cc
 
 some_left : (dead : List Bool) → list_any not dead ≡ true → 0 < live_rows (live_of dead)
 some_left [] e = absurd cc
-some_left (true ∷ dead) e = omega (arith, counted false (live_of dead), some_left dead e)
-some_left (false ∷ dead) e = omega (arith, counted true (live_of dead))
+some_left (true ∷ dead) e = omega (arith, live_rows-cons false (live_of dead), some_left dead e)
+some_left (false ∷ dead) e = omega (arith, live_rows-cons true (live_of dead))
 
 pub none_live : (ops : List Op) (dead : List Bool) → live_of dead ≡ puts_live ops → list_any not dead ≡ false → live_rows (puts_live ops) ≡ 0
 none_live ops dead marks e = sym (ap live_rows marks) ∙ none_left dead e

@@ -13,6 +13,7 @@ use Rattle.segment_infos.specs.declared.infos.SegRecord.{SegRecord}
 use Rattle.seg_merge.specs.Given.{Shown, IsSegmentIn}
 use Rattle.live_bits.specs.LiveRows.{live_rows}
 use Rattle.seg_merge.specs.Merging.{docs_by_input, all_live_docs, live_docs, HasAsManyRows}
+use Rattle.seg_merge.proofs.JoinLaws.{length-live_docs}
 use Rattle.merge_choice.specs.Choice.{IsClass}
 use Rattle.segment_steps.specs.declared.starting.MergeStart.{MergeStart}
 use Rattle.segment_steps.specs.CutOver.{Part, IsMergeOf, documents_of, lives_of}
@@ -20,7 +21,6 @@ use Rattle.segment_steps.specs.Starting.{size_by, neighbours, IsStart}
 use Rattle.segment_steps.proofs.Merges.{AreApart, merge_starts}
 use Rattle.segment_steps.proofs.NextSpelling.{HaveOwnNumbers, pairs_own}
 use Rattle.segment_steps.proofs.AfterPublish.{own_rows}
-use Rattle.segment_steps.proofs.Segments.{counted}
 
 -- parts of infos are apart where their numbers are
 parts_apart : (rs : List SegRecord) (ss : List Shown) → HaveOwnNumbers rs → AreApart (zip rs ss)
@@ -156,13 +156,6 @@ start_apart seg factor held rs ss start is n there = found n held (neighbours is
 
 -- ---- the rows of the task
 
-many_docs : (docs : List Doc) (live : List Bool) → length live ≡ length docs → length (live_docs docs live) ≡ live_rows live
-many_docs [] [] long = refl
-many_docs [] (l ∷ live) long = absurd (omega (arith, long))
-many_docs (d ∷ docs) [] long = absurd (omega (arith, long))
-many_docs (d ∷ docs) (true ∷ live) long = omega (arith, many_docs docs live (omega (arith, long)), counted true live)
-many_docs (d ∷ docs) (false ∷ live) long = omega (arith, many_docs docs live (omega (arith, long)), counted false live)
-
 -- R gives each document a mark, and as many rows are live as the record says
 module _ (R : SegRecord → Shown → Type 0) (own : (r : SegRecord) (s : Shown) → R r s → length s.live ≡ length s.docs) (count : (r : SegRecord) (s : Shown) → R r s → live_rows s.live ≡ r.live) where
   each_from : (from : ℕ) (rs : List SegRecord) (ss : List Shown) → AllZip R rs ss → AllZip R (drop from rs) (drop from ss)
@@ -190,7 +183,7 @@ module _ (R : SegRecord → Shown → Type 0) (own : (r : SegRecord) (s : Shown)
   some_rows held (r ∷ rs) [] each free some = absurd each
   some_rows held (r ∷ rs) (s ∷ ss) each free some =
       let live = free.0.live in
-      omega (arith, live, count r s each.0, many_docs s.docs s.live (own r s each.0), length-append (live_docs s.docs s.live) (all_live_docs (docs_by_input ss) (map (λ (u : Shown). u.live) ss)))
+      omega (arith, live, count r s each.0, length-live_docs s.docs s.live (own r s each.0), length-append (live_docs s.docs s.live) (all_live_docs (docs_by_input ss) (map (λ (u : Shown). u.live) ss)))
 
   -- THE TASK is fit to be merged
   pub task_fits : (seg : SegNo) (factor : ℕ) (held : List SegNo) (rs : List SegRecord) (ss : List Shown) (start : MergeStart) → IsStart seg factor held rs ss start → 2 ≤ factor → AllZip R rs ss

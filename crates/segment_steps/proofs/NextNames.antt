@@ -8,6 +8,7 @@ use Rattle.std.proofs.lemmas.List.Elements.{Contains-append_left, Contains-appen
 use Rattle.file_names.specs.Names.{part_name_of, live_name_of}
 use Rattle.file_names.specs.declared.composed.SegPart.TheVariants.{Docs, Post, Info}
 use Rattle.nrt_base.specs.declared.numbers.SegNo.{SegNo}
+use Rattle.nrt_base.proofs.Plain.{contains_later}
 use Rattle.disk_model.specs.Disk.{Name}
 use Rattle.segment_infos.specs.declared.infos.SegRecord.{SegRecord}
 use Rattle.segment_infos.specs.Files.{files_of_segment, live_files}
@@ -16,7 +17,7 @@ use Rattle.seg_merge.proofs.Given.{names_are}
 use Rattle.segment_steps.specs.declared.flushing.FlushWork.{FlushWork}
 use Rattle.segment_steps.specs.declared.next.NextSegments.{NextSegments}
 use Rattle.segment_steps.specs.Next.{Turn, turns, next_live_gen, record_by, record_after, stays, staying, is_changed, IsLiveFileAfter, new_records, new_files, IsBuiltWork, IsNextOf}
-use Rattle.segment_steps.proofs.PublishLaws.{here, later}
+use Rattle.segment_steps.proofs.PublishLaws.{here}
 
 abbrev pub names_in : List File → List Name
 names_in files = map (λ (f : File). f.0) files
@@ -39,11 +40,11 @@ each_append old written (n ∷ a) b p q = (p.0, each_append old written a b p.1 
 
 pub all_old : (names old written : List Name) → ((n : Name) → Contains names n → Contains old n) → EachIn old written names
 all_old [] old written in' = tt
-all_old (n ∷ names) old written in' = (inl (in' n (here n names)), all_old names old written (λ m there. in' m (later n m names there)))
+all_old (n ∷ names) old written in' = (inl (in' n (here n names)), all_old names old written (λ m there. in' m (contains_later n m names there)))
 
 all_written : (names old written : List Name) → ((n : Name) → Contains names n → Contains written n) → EachIn old written names
 all_written [] old written in' = tt
-all_written (n ∷ names) old written in' = (inr (in' n (here n names)), all_written names old written (λ m there. in' m (later n m names there)))
+all_written (n ∷ names) old written in' = (inr (in' n (here n names)), all_written names old written (λ m there. in' m (contains_later n m names there)))
 
 -- ---- the files of a segment after its change
 
@@ -55,9 +56,9 @@ changed_names g r live old written in' there =
     let info = part_name_of n Info in (
       inl (in' docs (here docs (post ∷ info ∷ live_files r))),
       (
-        inl (in' post (later docs post (post ∷ info ∷ live_files r) (here post (info ∷ live_files r)))),
+        inl (in' post (contains_later docs post (post ∷ info ∷ live_files r) (here post (info ∷ live_files r)))),
         (
-          inl (in' info (later docs info (post ∷ info ∷ live_files r) (later post info (info ∷ live_files r) (here info (live_files r))))),
+          inl (in' info (contains_later docs info (post ∷ info ∷ live_files r) (contains_later post info (info ∷ live_files r) (here info (live_files r))))),
           last (next_live_gen g r == 0),
         ),
       ),
@@ -77,7 +78,7 @@ names_step g true r s (Some live) ts [] old written in' there zip more = absurd 
 names_step g true r s (Some live) ts (f ∷ files) old written in' there zip more =
     each_append old written (files_of_segment (record_by g r (Some live))) (flat_map files_of_segment (map (record_after g) ts))
     (changed_names g r live old written in' (subst (Contains written) zip.0.0 (there f (here f files))))
-    (more files (λ x at. there x (later f x files at)) zip.1)
+    (more files (λ x at. there x (contains_later f x files at)) zip.1)
 
 kept_names : (g : ℕ) (held : List SegNo) (rs : List SegRecord) (ss : List Shown) (cs : List (Option (List Bool))) (files : List File) (old written : List Name) → ((n : Name) → Contains (flat_map files_of_segment rs) n → Contains old n)
     → ((f : File) → Contains files f → Contains written f.0) → AllZip (IsLiveFileAfter g) (filter is_changed (staying g held (turns rs ss cs))) files → EachIn old written (flat_map files_of_segment (map (record_after g) (staying g held (turns rs ss cs))))
@@ -98,7 +99,7 @@ new_names (Some built) is =
 pub name_there : (files : List File) (f : File) → Contains files f → Contains (names_in files) f.0
 name_there [] f (k, lt, e) = absurd (omega (arith, lt))
 name_there (x ∷ files) f (zero, lt, e) = (0, omega arith, ap (λ (y : File). y.0) e)
-name_there (x ∷ files) f (suc k, lt, e) = later x.0 f.0 (names_in files) (name_there files f (k, omega (arith, lt), e))
+name_there (x ∷ files) f (suc k, lt, e) = contains_later x.0 f.0 (names_in files) (name_there files f (k, omega (arith, lt), e))
 
 -- EACH NAME of the next segments is one of the infos' or one of those that are written
 pub names_are_there : (g : ℕ) (held : List SegNo) (rs : List SegRecord) (ss : List Shown) (work : FlushWork) (made : NextSegments) → IsBuiltWork work.files → IsNextOf g rs ss work held made
@@ -130,7 +131,7 @@ AreRaised g rs files = AllByRecursion (λ (f : File). IsRaised g rs f.0) files
 
 raised_later : (g : ℕ) (r : SegRecord) (rs : List SegRecord) (files : List File) → AreRaised g rs files → AreRaised g (r ∷ rs) files
 raised_later g r rs [] all = tt
-raised_later g r rs (f ∷ files) all = (record { of = all.0.of; there = later r all.0.of rs all.0.there; is = all.0.is }, raised_later g r rs files all.1)
+raised_later g r rs (f ∷ files) all = (record { of = all.0.of; there = contains_later r all.0.of rs all.0.there; is = all.0.is }, raised_later g r rs files all.1)
 
 raised_step : (g : ℕ) (b : Bool) (r : SegRecord) (rs : List SegRecord) (s : Shown) (c : Option (List Bool)) (ts : List Turn) (files : List File) → AllZip (IsLiveFileAfter g) (filter is_changed (cond b ((r, (s, c)) ∷ ts) ts)) files
     → ((others : List File) → AllZip (IsLiveFileAfter g) (filter is_changed ts) others → AreRaised g rs others) → AreRaised g (r ∷ rs) files

@@ -3,10 +3,9 @@ use Rattle.std.proofs.Common.{◌≡◌, ◌≢◌, ℕ, zero, suc, ◌+◌, ◌
 use Rattle.std.specs.Prelude.{◌==◌}
 use Rattle.std.specs.List.{AllZip, AllPairs, AllByRecursion, filter, Contains}
 use Rattle.std.specs.List.Sorted.{IsStrictlySortedBy}
-use Rattle.std.specs.Ordering.{nat_cmp, ordering_reverse}
-use Rattle.std.specs.Cmp.Lexicographic.{slice_cmp, nat_list_cmp_total}
-use Rattle.std.specs.declared.cmp.Ordering.{Ordering}
-use Rattle.std.specs.declared.cmp.Ordering.TheVariants.{Less, Equal, Greater}
+use Rattle.std.specs.Ordering.{nat_cmp}
+use Rattle.std.specs.Cmp.Lexicographic.{slice_cmp}
+use Rattle.std.specs.declared.cmp.Ordering.TheVariants.{Less}
 use Rattle.std.proofs.lemmas.Map.Keys.{sorted_head, sorted_tail}
 use Rattle.std.proofs.lemmas.List.{length-append, length-map, append-nil}
 use Rattle.std.proofs.lemmas.List.Elements.{All-from_recursion}
@@ -18,6 +17,7 @@ use Rattle.nrt_base.specs.declared.doc.Doc.{Doc}
 use Rattle.nrt_base.specs.declared.numbers.SegNo.{SegNo}
 use Rattle.file_names.proofs.NameLaws.{live_name_apart, part_name_not_live}
 use Rattle.disk_model.specs.Disk.{Name}
+use Rattle.disk_model.proofs.CellLemmas.{never_less}
 use Rattle.live_bits.specs.LiveRows.{live_rows}
 use Rattle.segment_infos.specs.declared.infos.SegRecord.{SegRecord}
 use Rattle.seg_merge.specs.Given.{Shown, SegFiles, File, record_of, live_file_of, IsBuilt}
@@ -188,14 +188,6 @@ own_live_names g held (r ∷ rs) (s ∷ ss) (c ∷ cs) files own all zip =
 
 -- ---- with the files of the new segment
 
-never_below_itself : (x : Name) → slice_cmp nat_cmp x x ≡ Less → ⊥
-never_below_itself x h = clash (slice_cmp nat_cmp x x) h (nat_list_cmp_total.antisymm x x)
-  where
-    clash : (a : Ordering) → a ≡ Less → a ≡ ordering_reverse a → ⊥
-    clash Less e f = cc
-    clash Equal e f = cc
-    clash Greater e f = cc
-
 abbrev names_in : List File → List Name
 names_in files = map (λ (f : File). f.0) files
 
@@ -205,7 +197,7 @@ sorted_own (f ∷ files) up = (apart files (sorted_head (slice_cmp nat_cmp) f.0 
   where
     apart : (others : List File) → AllByRecursion (λ (y : Name). slice_cmp nat_cmp f.0 y ≡ Less) (names_in others) → AreAllOther f.0 others
     apart [] all = tt
-    apart (o ∷ others) all = (λ same. never_below_itself f.0 (subst (λ (y : Name). slice_cmp nat_cmp f.0 y ≡ Less) (sym same) all.0), apart others all.1)
+    apart (o ∷ others) all = (λ same. never_less f.0 (subst (λ (y : Name). slice_cmp nat_cmp f.0 y ≡ Less) (sym same) all.0), apart others all.1)
 
 both_own : (a b : List File) → HaveOwnNames a → HaveOwnNames b → AllByRecursion (λ (f : File). AreAllOther f.0 b) a → HaveOwnNames (a ++ b)
 both_own [] b p q cross = q

@@ -10,6 +10,7 @@ use Rattle.file_names.specs.Names.{part_name_of, live_name_of}
 use Rattle.file_names.specs.declared.composed.SegPart.TheVariants.{Docs, Post, Info}
 use Rattle.nrt_base.specs.declared.doc.Doc.{Doc}
 use Rattle.nrt_base.specs.declared.numbers.SegNo.{SegNo}
+use Rattle.nrt_base.proofs.Plain.{contains_later}
 use Rattle.disk_model.specs.Disk.{Name, Content}
 use Rattle.documents.specs.declared.operation.Op.{Op}
 use Rattle.documents.specs.Documents.{after_ops}
@@ -37,9 +38,6 @@ AllZip-append R (x ∷ xs) us (y ∷ ys) vs a b = (a.0, AllZip-append R xs us ys
 
 pub here : {X : Type 0} (x : X) (xs : List X) → Contains (x ∷ xs) x
 here x xs = (0, omega arith, refl)
-
-pub later : {X : Type 0} (x y : X) (xs : List X) → Contains xs y → Contains (x ∷ xs) y
-later x y xs (k, lt, e) = (suc k, omega (arith, lt), e)
 
 All-front : {X : Type 0} (P : X → Type 0) (xs ys : List X) → All P (xs ++ ys) → All P xs
 All-front P [] ys all = All-nil P
@@ -72,14 +70,14 @@ module _ (before after : Name → Content) where
   post_same : (r : SegRecord) → AreReadSame before after (files_of_segment r) → after (part_name_of r.seg.0 Post) ≡ before (part_name_of r.seg.0 Post)
   post_same r same =
       let n = r.seg.0 in
-      same (part_name_of n Post) (later (part_name_of n Docs) (part_name_of n Post) (part_name_of n Post ∷ part_name_of n Info ∷ live_files r) (here (part_name_of n Post) (part_name_of n Info ∷ live_files r)))
+      same (part_name_of n Post) (contains_later (part_name_of n Docs) (part_name_of n Post) (part_name_of n Post ∷ part_name_of n Info ∷ live_files r) (here (part_name_of n Post) (part_name_of n Info ∷ live_files r)))
 
   info_same : (r : SegRecord) → AreReadSame before after (files_of_segment r) → after (part_name_of r.seg.0 Info) ≡ before (part_name_of r.seg.0 Info)
   info_same r same =
       let n = r.seg.0 in
       same (part_name_of n Info)
-      (later (part_name_of n Docs) (part_name_of n Info) (part_name_of n Post ∷ part_name_of n Info ∷ live_files r)
-      (later (part_name_of n Post) (part_name_of n Info) (part_name_of n Info ∷ live_files r) (here (part_name_of n Info) (live_files r))))
+      (contains_later (part_name_of n Docs) (part_name_of n Info) (part_name_of n Post ∷ part_name_of n Info ∷ live_files r)
+      (contains_later (part_name_of n Post) (part_name_of n Info) (part_name_of n Info ∷ live_files r) (here (part_name_of n Info) (live_files r))))
 
   segment_stays : (r : SegRecord) (s : Shown) → IsSegmentIn before r s → AreReadSame before after (files_of_segment r) → IsSegmentIn after r s
   segment_stays r s is same =

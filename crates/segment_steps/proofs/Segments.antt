@@ -11,7 +11,6 @@ use Rattle.std.proofs.lemmas.Bool.{eqb-true}
 use Rattle.std.proofs.lemmas.List.{append-nil, length-map, get_or-map}
 use Rattle.std.proofs.lemmas.List.Concat.{flat_map-append}
 use Rattle.std.proofs.lemmas.List.Elements.{filter-append}
-use Rattle.std.proofs.lemmas.List.Sums.{sum_by-cons}
 use Rattle.std.proofs.lemmas.List.Sorted.{IsPermutation-sym}
 use Rattle.std.proofs.lemmas.Map.Keys.{Less-from_sorted, IsDistinct-from_apart, IsDistinct-IsPermutation, apart_from_distinct}
 use Rattle.nrt_base.specs.declared.doc.Doc.{Doc}
@@ -21,6 +20,7 @@ use Rattle.documents.proofs.DocumentLemmas.{ascending_after_all}
 use Rattle.live_bits.specs.LiveRows.{live_rows}
 use Rattle.seg_merge.specs.Given.{Shown, shown_with, live_documents, live_documents_of, IsInKeyOrder, IsSound, AreSegmentsOf}
 use Rattle.seg_merge.proofs.Given.{live_ascend}
+use Rattle.live_bits.proofs.LiveCounts.{live_rows-cons}
 use Rattle.segment_steps.specs.Cut.{removed_by, lacking, live_left}
 use Rattle.segment_steps.specs.Segments.{left_of, live_change, changed}
 use Rattle.segment_steps.proofs.Documents.{live_docs, puts_left, no_tie, after_cut_documents}
@@ -117,14 +117,11 @@ pub one_more : (segs : List Shown) (s : Shown) → live_documents (segs ++ s ∷
 one_more segs s = flat_map-append live_documents_of segs (s ∷ []) ∙ ap (λ (ds : List Doc). live_documents segs ++ ds) (append-nil (live_documents_of s))
 
 -- where no row is live, no document is
-pub counted : (b : Bool) (rows : List Bool) → live_rows (b ∷ rows) ≡ cond b 1 0 + live_rows rows
-counted b rows = sum_by-cons (λ (live : Bool). cond live 1 0) b rows
-
 pub none_live : (docs : List Doc) (live : List Bool) → live_rows live ≡ 0 → live_docs docs live ≡ []
 none_live [] live none = refl
 none_live (d ∷ docs) [] none = refl
-none_live (d ∷ docs) (true ∷ live) none = absurd (omega (arith, none, counted true live))
-none_live (d ∷ docs) (false ∷ live) none = none_live docs live (omega (arith, none, counted false live))
+none_live (d ∷ docs) (true ∷ live) none = absurd (omega (arith, none, live_rows-cons true live))
+none_live (d ∷ docs) (false ∷ live) none = none_live docs live (omega (arith, none, live_rows-cons false live))
 
 -- ---- where no row dies, nothing changes
 
@@ -134,9 +131,9 @@ fewer gone (d ∷ docs) [] = omega arith
 fewer gone (d ∷ docs) (row ∷ live) = by_row row (not (gone d)) (fewer gone docs live)
   where
     by_row : (r n : Bool) → live_rows (live_left gone docs live) ≤ live_rows live → live_rows ((r && n) ∷ live_left gone docs live) ≤ live_rows (r ∷ live)
-    by_row false n le = omega (arith, le, counted false live, counted false (live_left gone docs live))
-    by_row true true le = omega (arith, le, counted true live, counted true (live_left gone docs live))
-    by_row true false le = omega (arith, le, counted true live, counted false (live_left gone docs live))
+    by_row false n le = omega (arith, le, live_rows-cons false live, live_rows-cons false (live_left gone docs live))
+    by_row true true le = omega (arith, le, live_rows-cons true live, live_rows-cons true (live_left gone docs live))
+    by_row true false le = omega (arith, le, live_rows-cons true live, live_rows-cons false (live_left gone docs live))
 
 pub all_stay : (gone : Doc → Bool) (docs : List Doc) (live : List Bool) → live_rows (live_left gone docs live) ≡ live_rows live → live_left gone docs live ≡ live
 all_stay gone [] live e = refl
@@ -145,9 +142,9 @@ all_stay gone (d ∷ docs) (row ∷ live) e = by_row row (not (gone d)) e (fewer
   where
     by_row : (r n : Bool) → live_rows ((r && n) ∷ live_left gone docs live) ≡ live_rows (r ∷ live) → live_rows (live_left gone docs live) ≤ live_rows live
         → (live_rows (live_left gone docs live) ≡ live_rows live → live_left gone docs live ≡ live) → (r && n) ∷ live_left gone docs live ≡ r ∷ live
-    by_row false n e le h = ap (λ (ls : List Bool). false ∷ ls) (h (omega (arith, e, counted false live, counted false (live_left gone docs live))))
-    by_row true true e le h = ap (λ (ls : List Bool). true ∷ ls) (h (omega (arith, e, counted true live, counted true (live_left gone docs live))))
-    by_row true false e le h = absurd (omega (arith, e, le, counted true live, counted false (live_left gone docs live)))
+    by_row false n e le h = ap (λ (ls : List Bool). false ∷ ls) (h (omega (arith, e, live_rows-cons false live, live_rows-cons false (live_left gone docs live))))
+    by_row true true e le h = ap (λ (ls : List Bool). true ∷ ls) (h (omega (arith, e, live_rows-cons true live, live_rows-cons true (live_left gone docs live))))
+    by_row true false e le h = absurd (omega (arith, e, le, live_rows-cons true live, live_rows-cons false (live_left gone docs live)))
 
 -- what a segment shows after its change is what is left of it
 pub change_is : (gone : Doc → Bool) (s : Shown) → changed s (live_change gone s) ≡ left_of gone s

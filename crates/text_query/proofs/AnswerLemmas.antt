@@ -5,7 +5,7 @@ use Rattle.std.specs.List.{list_all, count_by}
 use Rattle.std.proofs.lemmas.List.Sums.{sum_by-cons}
 use Rattle.std.specs.Cmp.Lexicographic.{pointwise}
 use Rattle.std.proofs.lemmas.List.Folds.{list_all-append}
-use Rattle.std.proofs.lemmas.Bool.{false≢true}
+use Rattle.std.proofs.lemmas.Bool.{false≢true, and_from}
 use Rattle.std.proofs.lemmas.Bool.Decides.{nat_tests}
 use Rattle.documents.specs.declared.query.Query as tree
 use Rattle.documents.specs.Matching.{depth_of, leaves_of, has_form, is_well_formed}
@@ -110,11 +110,6 @@ full_at b text =
     at_case (is_alphanumeric b) (is_quote b) (token_of_run (run_of (b ∷ text))) (token_of_quote text) (token_of_byte b)
     (full_run (run_of (b ∷ text))) (full_quote text) (byte_case (b == 40) (b == 41))
 
-both_hold : (a b : Bool) → a ≡ true → b ≡ true → (a && b) ≡ true
-both_hold true true e f = refl
-both_hold true false e f = f
-both_hold false b e f = e
-
 full_tokens : (taken at : ℕ) (text : List ℕ) → list_all is_full (kinds_of (tokens_from taken at text)) ≡ true
 full_tokens taken at [] = refl
 full_tokens zero at (b ∷ text) =
@@ -124,7 +119,7 @@ full_tokens zero at (b ∷ text) =
     full_case : (c : Bool) (first : Placed) (more others : List Placed) → is_full first.token ≡ true → list_all is_full (kinds_of more) ≡ true → list_all is_full (kinds_of others) ≡ true
         → list_all is_full (kinds_of (cond c more (first ∷ others))) ≡ true
     full_case true first more others f m o = m
-    full_case false first more others f m o = both_hold _ _ f o
+    full_case false first more others f m o = and_from _ _ f o
 full_tokens (suc taken) at (b ∷ text) = full_tokens taken (at + 1) text
 
 -- a phrase of a text has two words or more
@@ -150,11 +145,11 @@ several_le n = grind (arith, nat_tests)
 
 form_all_of : (part : tree.Query) (parts : List tree.Query) → list_all has_form (part ∷ parts) ≡ true → has_form (all_of (part ∷ parts)) ≡ true
 form_all_of part [] e = first_holds (has_form part) true e
-form_all_of part (next ∷ parts) e = form_all (part ∷ next ∷ parts) ∙ both_hold _ _ (several_le (length parts)) e
+form_all_of part (next ∷ parts) e = form_all (part ∷ next ∷ parts) ∙ and_from _ _ (several_le (length parts)) e
 
 form_any_of : (part : tree.Query) (parts : List tree.Query) → list_all has_form (part ∷ parts) ≡ true → has_form (any_of (part ∷ parts)) ≡ true
 form_any_of part [] e = first_holds (has_form part) true e
-form_any_of part (next ∷ parts) e = form_any (part ∷ next ∷ parts) ∙ both_hold _ _ (several_le (length parts)) e
+form_any_of part (next ∷ parts) e = form_any (part ∷ next ∷ parts) ∙ and_from _ _ (several_le (length parts)) e
 
 form_conj : (c : ConjReading) → list_all has_form (conj_parts c) ≡ true → has_form (all_of (conj_parts c)) ≡ true
 form_conj (last_unary u) e = form_all_of (unary_tree u) [] e
@@ -166,14 +161,14 @@ form_query (conj_or c q) e = form_any_of (all_of (conj_parts c)) (query_parts q)
 
 mutual
   query_form : (q : QueryReading) → list_all is_full (query_tokens q) ≡ true → list_all has_form (query_parts q) ≡ true
-  query_form (last_conj c) e = both_hold _ true (form_conj c (conj_form c e)) refl
+  query_form (last_conj c) e = and_from _ true (form_conj c (conj_form c e)) refl
   query_form (conj_or c q) e =
-      both_hold _ _ (form_conj c (conj_form c (front_full (conj_tokens c) (token.Or ∷ query_tokens q) e))) (query_form q (rest_full (conj_tokens c) (token.Or ∷ query_tokens q) e))
+      and_from _ _ (form_conj c (conj_form c (front_full (conj_tokens c) (token.Or ∷ query_tokens q) e))) (query_form q (rest_full (conj_tokens c) (token.Or ∷ query_tokens q) e))
 
   conj_form : (c : ConjReading) → list_all is_full (conj_tokens c) ≡ true → list_all has_form (conj_parts c) ≡ true
-  conj_form (last_unary u) e = both_hold _ true (unary_form u e) refl
+  conj_form (last_unary u) e = and_from _ true (unary_form u e) refl
   conj_form (unary_and u c) e =
-      both_hold _ _ (unary_form u (front_full (unary_tokens u) (token.And ∷ conj_tokens c) e)) (conj_form c (rest_full (unary_tokens u) (token.And ∷ conj_tokens c) e))
+      and_from _ _ (unary_form u (front_full (unary_tokens u) (token.And ∷ conj_tokens c) e)) (conj_form c (rest_full (unary_tokens u) (token.And ∷ conj_tokens c) e))
 
   unary_form : (u : UnaryReading) → list_all is_full (unary_tokens u) ≡ true → has_form (unary_tree u) ≡ true
   unary_form (not_unary u) e = form_not (unary_tree u) ∙ unary_form u e
@@ -191,7 +186,7 @@ pub well_formed : (text : List ℕ) (query : tree.Query) → SpellsQuery text qu
 well_formed text query spells depth leaves =
     let d : nat_le (depth_of query) 32 ≡ true = within (depth_of query) 32 depth in
     let l : nat_le (leaves_of query) 64 ≡ true = within (leaves_of query) 64 leaves in
-    both_hold _ _ (both_hold _ _ (spelled_form text query spells) d) l
+    and_from _ _ (and_from _ _ (spelled_form text query spells) d) l
   where
     within : (n m : ℕ) → n ≤ m → nat_le n m ≡ true
     within n m h = grind (arith, nat_tests)

@@ -163,7 +163,7 @@ many_not text a b p q less more =
     apart n h k = omega arith
 
 -- one fault
-same_fault : (text : List ℕ) (a b : QueryFault) → IsFault text a → IsFault text b → a ≡ b
+pub same_fault : (text : List ℕ) (a b : QueryFault) → IsFault text a → IsFault text b → a ≡ b
 same_fault text Memory b p q = absurd p
 same_fault text Empty Memory p q = absurd q
 same_fault text Empty Empty p q = refl
@@ -187,7 +187,7 @@ same_fault text TooMany TooDeep (a, p, shallow, many) (b, q, deep) = absurd (dee
 same_fault text TooMany TooMany p q = refl
 
 -- a text that is parsed has no fault
-parses_no_fault : (text : List ℕ) (query : Query) (fault : QueryFault) → Parses text query → IsFault text fault → ⊥
+pub parses_no_fault : (text : List ℕ) (query : Query) (fault : QueryFault) → Parses text query → IsFault text fault → ⊥
 parses_no_fault text query Memory p q = q
 parses_no_fault text query Empty p q = blank_spells_none text query q p.0
 parses_no_fault text query (Syntax at) p q = spells_no_fault text query at p.0 q.1

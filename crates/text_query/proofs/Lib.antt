@@ -5,4 +5,4 @@ mod ReadingLemmas
 mod Suffixes
 mod SyntaxLemmas
 mod TokenLemmas
-mod TreeLemmas
+pub mod TreeLemmas

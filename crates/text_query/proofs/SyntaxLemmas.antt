@@ -2,6 +2,7 @@
 use Rattle.std.proofs.Common.{◌≡◌, ℕ, zero, suc, List, [], ◌∷◌, ◌++◌, Bool, true, false, Option, Some, None, refl, ap, sym, ◌∙◌, append_assoc, length, take, get_or, ◌+◌, ◌≤◌, ◌<◌, arith}
 use Rattle.std.specs.Prelude.{option_and_then}
 use Rattle.std.proofs.lemmas.List.{append-nil, take_more, map-append}
+use Rattle.std.proofs.lemmas.Option.{none-some}
 use Rattle.text_query.specs.declared.token.Placed.{Placed}
 use Rattle.text_query.specs.Tokens.{kinds_of}
 use Rattle.text_query.specs.declared.syntax.State.{State}
@@ -70,13 +71,10 @@ goes_on_from_state tokens s e =
 pub state_from_query : (tokens : List Token) → IsQuery tokens → state_after (state true zero) tokens ≡ Some (state false zero)
 state_from_query tokens (q, e) = ap (state_after (state true zero)) (sym e ∙ sym (append-nil (query_tokens q))) ∙ query_state q zero []
 
-no_state : (s : State) → None ≡ Some s → ⊥
-no_state s e = cc
-
 -- where there is no state, no query goes on
 pub stops_from_state : (tokens : List Token) → state_after (state true zero) tokens ≡ None → BeginsQuery tokens → ⊥
 stops_from_state tokens e (more, q) =
-    no_state (state false zero) (ap (option_and_then (λ r. state_after r more)) (sym e) ∙ (sym (state_after-append (state true zero) tokens more) ∙ state_from_query (tokens ++ more) q))
+    none-some (state false zero) (ap (option_and_then (λ r. state_after r more)) (sym e) ∙ (sym (state_after-append (state true zero) tokens more) ∙ state_from_query (tokens ++ more) q))
 
 -- one token more
 state_after-last : (s : State) (tokens : List Token) (token : Token) → state_after s (tokens ++ token ∷ []) ≡ option_and_then (λ r. state_behind r token) (state_after s tokens)

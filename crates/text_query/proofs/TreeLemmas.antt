@@ -1,5 +1,5 @@
 -- The depth, the leaves and the form of a tree, from those of its parts.
-use Rattle.std.proofs.Common.{◌≡◌, ℕ, ◌+◌, max, List, [], ◌∷◌, length, Bool, true, false, refl, ap, ◌∙◌, arith}
+use Rattle.std.proofs.Common.{◌≡◌, ℕ, ◌+◌, max, List, [], ◌∷◌, length, Bool, true, refl, ap, ◌∙◌, arith}
 use Rattle.std.specs.Prelude.{◌&&◌, nat_le}
 use Rattle.std.specs.List.{list_all}
 use denote.Hole.Carrier.{hidden}
@@ -27,7 +27,7 @@ count_parts-row : (n : _) (row : Row_of-Query n) → count_parts row ≡ length 
 count_parts-row n end_of-Query = refl
 count_parts-row n (more_of-Query part parts) = let e = count_parts-row _ parts in omega arith
 
-all_have_form-row : (n : _) (row : Row_of-Query n) → all_have_form row ≡ list_all has_form (items-the_row-Query n row)
+pub all_have_form-row : (n : _) (row : Row_of-Query n) → all_have_form row ≡ list_all has_form (items-the_row-Query n row)
 all_have_form-row n end_of-Query = refl
 all_have_form-row n (more_of-Query part parts) = ap (λ (b : Bool). has_form part && b) (all_have_form-row _ parts)
 

@@ -6,7 +6,7 @@ use Rattle.std.specs.Prelude.{nat_lt}
 use Rattle.std.proofs.lemmas.Bool.{cases_eq, lt-ltb, ltb-true, true≢false}
 use Rattle.disk_model.specs.Disk.{Name, Cell, Cells, Image, IsImage, IsKept, may_leave, put, settled, removed, replaced, after_rename, after_sync_names}
 use Rattle.disk_model.specs.declared.dir.DirFault.{DirFault}
-use Rattle.disk_model.proofs.CellLemmas.{put_here, put_apart, left_synced, leaves_now, settled_kept, rename_others, rename_target}
+use Rattle.disk_model.proofs.CellLemmas.{put_here, put_apart, left_synced, leaves_now, settled_kept, rename_others, rename_target, same_kept}
 use Rattle.trans_log.specs.declared.record.LogOp.{LogOp}
 use Rattle.trans_log.specs.Names.{IsRecordNumber, log_name_of, pending_log_name_of}
 use Rattle.trans_log.specs.Logs.{Numbered, IsFileContent, HasRecord, ReadsRecords, ImagesRead, KeepsRecord, IsLogSafe, IsOpenLog, in_flight, IsWritten, IsPublished, MayShow, KeepsOthers, Appends}
@@ -21,9 +21,6 @@ numbered_map P Q n (r ∷ records) f h = (f (suc n) r (omega arith) (omega arith
 pub numbered_more : (P : ℕ → LogOp → Type 0) (n : ℕ) (records : List LogOp) (r : LogOp) → Numbered P n records → P (suc (n + length records)) r → Numbered P n (records ++ r ∷ [])
 numbered_more P n [] r h p = let e : suc (n + 0) ≡ suc n = omega arith in (subst (λ (k : ℕ). P k r) e p, tt)
 numbered_more P n (x ∷ records) r h p = let e : suc (n + length (x ∷ records)) ≡ suc (suc n + length records) = omega arith in (h.0, numbered_more P (suc n) records r h.1 (subst (λ (k : ℕ). P k r) e p))
-
-same_kept : (old new : Cell) → new ≡ old → IsKept old new
-same_kept old new e = record { now = ap (λ (c : Cell). c.now) e; fewer = λ o h. ap (λ (c : Cell). may_leave c o) (sym e) ∙ h }
 
 kept_then : (a b c : Cell) → IsKept a b → IsKept b c → IsKept a c
 kept_then a b c x y = record { now = y.now ∙ x.now; fewer = λ o h. x.fewer o (y.fewer o h) }

@@ -1,5 +1,5 @@
 -- The file of a record, as one of the framed files.
-use Rattle.std.proofs.Common.{◌≡◌, ℕ, ◌^◌, ◌<◌, ◌-◌, ◌++◌, List, [], length, Option, Some, None, Result, Ok, Err, refl, sym, ap, subst, ◌∙◌, arith, drop}
+use Rattle.std.proofs.Common.{◌≡◌, ℕ, ◌^◌, ◌<◌, ◌++◌, List, [], length, Option, Some, None, Result, Ok, Err, refl, sym, ap, subst, ◌∙◌, arith}
 use Rattle.std.specs.Prelude.{codes, IfErr}
 use Rattle.std.specs.Option.{option_map}
 use Rattle.std.proofs.lemmas.Option.{same_Some}
@@ -11,8 +11,6 @@ use Rattle.codec_frame.specs.declared.frame.FrameFault.{FrameFault}
 use Rattle.codec_frame.specs.declared.frame.FileFault.{FileFault}
 use Rattle.codec_frame.specs.declared.frame.FileFault.TheVariants.{Frame, Body}
 use Rattle.codec_frame.proofs.CheckLaws.{not_framed}
-use Rattle.codec_frame.proofs.ByteLaws.{AreBytes-take}
-use Rattle.body_forms.proofs.Formats.{AreBytes-drop}
 use Rattle.body_forms.specs.Numbers.{u32_bytes, u64_bytes}
 use Rattle.body_forms.specs.File.{IsFileAnswer, AddsSpelling}
 use Rattle.body_forms.specs.declared.read_fault.ReadFault.{ReadFault}
@@ -48,9 +46,6 @@ adds_record before one two three r g s op a b c = record {
 }
 
 -- ---- what reading answers
-
-pub body_fits : (bytes : List ℕ) (frame : Framed) → AreBytes bytes → AreBytes (body_of bytes frame)
-body_fits bytes frame fits = AreBytes-take (frame.end - frame.start) (drop frame.start bytes) (AreBytes-drop frame.start bytes fits)
 
 told_apart : Tells File
 told_apart a b e = cc

@@ -3,9 +3,7 @@ use Rattle.std.proofs.Common.{◌≡◌, ◌≢◌, ◌⊎◌, ℕ, suc, ◌+◌
 use Rattle.std.specs.Prelude.{get_or, IsSome, IfErr, IsErrAnd, is_some}
 use Rattle.std.proofs.Math.Bool.{or-true}
 use Rattle.std.proofs.lemmas.Bool.{cases_eq, cases_lt}
-use Rattle.std.proofs.lemmas.List.{take_more}
 use Rattle.std.proofs.lemmas.Option.{same_Some}
-use Rattle.std.proofs.lemmas.List.Folds.{list_any-append}
 use Rattle.std.proofs.lemmas.Cmp.{nat_list_eq_equiv}
 use Rattle.codec_frame.specs.declared.frame.FileFault.{FileFault}
 use Rattle.codec_frame.specs.declared.frame.FileFault.TheVariants.{Frame, Body}
@@ -15,7 +13,7 @@ use Rattle.body_forms.specs.declared.read_fault.ReadFault.TheVariants.{File, Mem
 use Rattle.disk_model.specs.Disk.{Name, Content, Cell, Cells, Image, reads_of, same, is_among, put, removed, half_removed, after_remove, may_leave}
 use Rattle.disk_model.specs.declared.dir.DirFault.{DirFault}
 use Rattle.disk_model.specs.declared.dir.DirFault.TheVariants.{Memory as DirMemory, Missing, Exists, Failed as DirFailed}
-use Rattle.disk_model.proofs.CellLemmas.{put_here, put_apart, same_true, same_apart}
+use Rattle.disk_model.proofs.CellLemmas.{put_here, put_apart, same_true, same_apart, among_more}
 use Rattle.trans_log.specs.declared.record.LogOp.{LogOp}
 use Rattle.trans_log.specs.declared.log.LogFault.{LogFault}
 use Rattle.trans_log.specs.declared.log.LogFault.TheVariants.{Memory, Failed, Broken, Gap}
@@ -35,9 +33,6 @@ none_not : {X : Type 0} (o : Option X) → o ≡ None → IsSome o → ⊥
 none_not o e h = true≢false (sym h ∙ ap (λ x. is_some x) e)
 
 -- ---- names
-
-pub among_more : (names : List Name) (i : ℕ) (x q : Name) → i < length names → x ≡ get_or names i x → is_among (take (i + 1) names) q ≡ (is_among (take i names) q || (same x q || false))
-among_more names i x q lt is = ap (λ (ns : List Name). is_among ns q) (take_more names i x lt ∙ ap (λ (n : Name). take i names ++ n ∷ []) (sym is)) ∙ list_any-append (λ (y : Name). same y q) (take i names) (x ∷ [])
 
 -- one more name: the greatest number so far
 module _ (names : List Name) (i : ℕ) (x : Name) (last new : ℕ) (lt : i < length names) (is : x ≡ get_or names i x) (one : (new ≡ last) ⊎ IsLogName new x) (most : (n : ℕ) → IsLogName n x → n ≤ new) (more : last ≤ new) (old : IsLastNumber (take i names) last) where

@@ -2,23 +2,17 @@
 use Rattle.std.proofs.Common.{◌≡◌, ℕ, suc, zero, ◌≤◌, ◌<◌, ◌^◌, Bool, true, false, not, List, [], ◌∷◌, ◌++◌, length, get_or, Some, Result, Err, refl, sym, ap, subst, ◌∙◌, arith}
 use Rattle.std.specs.Prelude.{codes, ◌↔◌, position, IsErrOf}
 use Rattle.std.specs.List.{list_all}
-use Rattle.std.proofs.lemmas.Bool.{and_parts, and_from, leb-true}
+use Rattle.std.proofs.lemmas.Bool.{and_parts, leb-true}
 use Rattle.std.proofs.lemmas.List.Quantifiers.{position-Some}
 use Rattle.std.proofs.lemmas.Bool.Decides.{nat_tests}
 use Rattle.std.proofs.lemmas.List.{length-append, append_cancel_left}
 use Rattle.file_names.specs.Names.{is_name_byte, is_file_name}
-use Rattle.file_names.specs.Base36.{is_base36_digit, base36_of}
+use Rattle.file_names.specs.Base36.{base36_of}
 use Rattle.file_names.specs.declared.names.NameFault.{NameFault}
 use Rattle.file_names.specs.declared.names.NameFault.TheVariants.{Empty, Long, Byte}
 use Rattle.file_names.proofs.Base36Lemmas.{spelling_of, list_all-append, base36_apart}
+use Rattle.file_names.proofs.NameLaws.{digits_are_name_bytes}
 use Rattle.trans_log.specs.Names.{log_name_of, pending_log_name_of}
-
-digits_are_name_bytes : (bytes : List ℕ) → list_all is_base36_digit bytes ≡ true → list_all is_name_byte bytes ≡ true
-digits_are_name_bytes [] h = refl
-digits_are_name_bytes (b ∷ bytes) h =
-    let e = and_parts (is_base36_digit b) (list_all is_base36_digit bytes) h in
-    let name : is_name_byte b ≡ true = grind (arith, nat_tests, e.0) in
-    and_from (is_name_byte b) (list_all is_name_byte bytes) name (digits_are_name_bytes bytes e.1)
 
 -- letters and a number are a name
 pub numbered_is : (letters : List ℕ) (n : ℕ) → 0 < length letters → length letters ≤ 40 → list_all is_name_byte letters ≡ true → n < 2 ^ 64 → is_file_name (letters ++ base36_of n) ≡ true

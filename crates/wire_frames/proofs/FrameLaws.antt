@@ -2,7 +2,7 @@
 use Rattle.std.proofs.Common.{◌≡◌, ℕ, ◌+◌, ◌^◌, ◌<◌, ◌≤◌, ◌⊎◌, Bool, true, false, cond, List, [], ◌∷◌, ◌++◌, length, take, drop, Option, Some, None, Result, Ok, Err, refl, sym, ap, subst, ◌∙◌, append_assoc, arith, inl, inr}
 use Rattle.std.specs.Prelude.{◌==◌, ◌||◌, nat_lt, nat_le, not, IsTrue}
 use Rattle.std.specs.Int.{w32, from_be_bytes}
-use Rattle.std.proofs.lemmas.Bool.{or_cases, eqb-true, ltb-true, ltb-false, lt-ltb, eq-eqb}
+use Rattle.std.proofs.lemmas.Bool.{or_cases, eqb-true, ltb-true, ltb-false, lt-ltb, eq-eqb, or_parts}
 use Rattle.std.proofs.lemmas.Bool.Decides.{nat_tests}
 use Rattle.std.proofs.lemmas.Option.{some_pair_parts}
 use Rattle.std.proofs.lemmas.List.{length-append, length-take, take_at, drop_at, take-append-drop}
@@ -98,15 +98,11 @@ one_message m n x y p q e =
 
 -- ---- what the front of a stream tells
 
-both_false : (a b : Bool) → (a || b) ≡ false → (a ≡ false) × (b ≡ false)
-both_false true b h = absurd cc
-both_false false b h = (refl, h)
-
 some_of : (n : ℕ) → (n == 0) ≡ false → 1 ≤ n
 some_of n h = grind (arith, nat_tests)
 
 right_length : (n : ℕ) → (n == 0 || nat_lt longest_frame n) ≡ false → IsFrameLength n
-right_length n h = let p = both_false (n == 0) (nat_lt longest_frame n) h in (some_of n p.0, ltb-false longest_frame n p.1)
+right_length n h = let p = or_parts (n == 0) (nat_lt longest_frame n) h in (some_of n p.0, ltb-false longest_frame n p.1)
 
 module _ (bytes : List ℕ) where
   abbrev Tells : Front → Type 0

@@ -1,5 +1,5 @@
 -- What the body of a message spells is read from it, and nothing else.
-use Rattle.std.proofs.Common.{◌≡◌, ℕ, zero, suc, ◌+◌, ◌*◌, ◌/◌, ◌%◌, ◌<◌, ◌≤◌, ◌^◌, ◌⊎◌, Bool, true, false, cond, List, [], ◌∷◌, ◌++◌, length, take, drop, Option, Some, None, refl, sym, ap, subst, ◌∙◌, append_assoc, arith, inl, inr}
+use Rattle.std.proofs.Common.{◌≡◌, ℕ, zero, suc, ◌+◌, ◌*◌, ◌/◌, ◌%◌, ◌<◌, ◌≤◌, ◌⊎◌, Bool, true, false, cond, List, [], ◌∷◌, ◌++◌, length, take, drop, Option, Some, None, refl, sym, ap, subst, ◌∙◌, append_assoc, arith, inl, inr}
 use Rattle.std.specs.Prelude.{◌==◌, ◌&&◌, nat_lt, nat_le, IsTrue}
 use Rattle.std.proofs.lemmas.Bool.{and_parts, and_from, eqb-true, leb-true, ltb-true, ltb-false, lt-ltb, le-leb, le-ltb}
 use Rattle.std.proofs.lemmas.Option.{same_Some, some_pair_parts}
@@ -13,7 +13,7 @@ use Rattle.body_forms.specs.VInts.{vint, vint_within}
 use Rattle.body_forms.specs.Numbers.{u32_bytes, u32_at, u64_bytes, u64_at, string, string_at}
 use Rattle.body_forms.proofs.Formats.{AreBytes-drop, chosen, passed, not_stopped, read_is, then_format, tested_format}
 use Rattle.body_forms.proofs.Numerals.{string_format}
-use Rattle.body_forms.proofs.NumberLaws.{u32_format, u64_format}
+use Rattle.body_forms.proofs.NumberLaws.{u64_format, Small, Large, two_large_then_two}
 use Rattle.wire_frames.specs.declared.message.Message.{Message}
 use Rattle.wire_frames.specs.declared.message.Message.TheVariants.{Notice, State, File, Completed, Chunk}
 use Rattle.wire_frames.specs.Wire.{message_kind, meta_bytes, message_body, HasParts, longest_chunk}
@@ -48,12 +48,6 @@ take_front a b c p q =
 
 pub vint_short : (n : ℕ) → length (vint n) ≤ 5
 vint_short n = within_short 4 n
-
-abbrev Small : ℕ → Type 0
-Small n = n < 2 ^ 32
-
-abbrev Large : ℕ → Type 0
-Large n = n < 2 ^ 64
 
 -- ---- the fields
 
@@ -121,24 +115,11 @@ five_bytes p = u64_bytes p.0 ++ (u64_bytes p.1.0 ++ (u64_bytes p.1.1.0 ++ (u32_b
 abbrev FiveFit : Five → Type 0
 FiveFit p = Large p.0 × (Large p.1.0 × (Large p.1.1.0 × (Small p.1.1.1.0 × Small p.1.1.1.1)))
 
-two_small : IsFormat (λ (p : ℕ × ℕ). u32_bytes p.0 ++ u32_bytes p.1) (λ p. Small p.0 × Small p.1) (then_at u32_at (λ _. u32_at))
-two_small = then_format u32_bytes Small u32_at (λ _. u32_bytes) (λ _. Small) (λ _. u32_at) u32_format (λ _ _. u32_format)
-
-three_behind : IsFormat (λ (p : ℕ × (ℕ × ℕ)). u64_bytes p.0 ++ (u32_bytes p.1.0 ++ u32_bytes p.1.1)) (λ p. Large p.0 × (Small p.1.0 × Small p.1.1)) (then_at u64_at (λ _. then_at u32_at (λ _. u32_at)))
-three_behind =
-    then_format u64_bytes Large u64_at (λ _ p. u32_bytes p.0 ++ u32_bytes p.1) (λ _ p. Small p.0 × Small p.1) (λ _. then_at u32_at (λ _. u32_at)) u64_format (λ _ _. two_small)
-
-four_behind : IsFormat (λ (p : ℕ × (ℕ × (ℕ × ℕ))). u64_bytes p.0 ++ (u64_bytes p.1.0 ++ (u32_bytes p.1.1.0 ++ u32_bytes p.1.1.1))) (λ p. Large p.0 × (Large p.1.0 × (Small p.1.1.0 × Small p.1.1.1)))
-    (then_at u64_at (λ _. then_at u64_at (λ _. then_at u32_at (λ _. u32_at))))
-four_behind =
-    then_format u64_bytes Large u64_at (λ _ p. u64_bytes p.0 ++ (u32_bytes p.1.0 ++ u32_bytes p.1.1)) (λ _ p. Large p.0 × (Small p.1.0 × Small p.1.1))
-    (λ _. then_at u64_at (λ _. then_at u32_at (λ _. u32_at))) u64_format (λ _ _. three_behind)
-
 state_format : IsFormat five_bytes FiveFit state_at
 unfolding state_at
 state_format =
     then_format u64_bytes Large u64_at (λ _ p. u64_bytes p.0 ++ (u64_bytes p.1.0 ++ (u32_bytes p.1.1.0 ++ u32_bytes p.1.1.1))) (λ _ p. Large p.0 × (Large p.1.0 × (Small p.1.1.0 × Small p.1.1.1)))
-    (λ _. then_at u64_at (λ _. then_at u64_at (λ _. then_at u32_at (λ _. u32_at)))) u64_format (λ _ _. four_behind)
+    (λ _. then_at u64_at (λ _. then_at u64_at (λ _. then_at u32_at (λ _. u32_at)))) u64_format (λ _ _. two_large_then_two)
 
 abbrev Fields : Type 0
 Fields = List ℕ × (List ℕ × (List ℕ × (ℕ × ℕ)))

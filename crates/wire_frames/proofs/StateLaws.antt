@@ -4,6 +4,7 @@ use Rattle.std.specs.Prelude.{◌↔◌, nat_lt, slice_get, IfOk}
 use Rattle.std.specs.Option.{option_map}
 use Rattle.std.proofs.lemmas.Bool.{cases_lt, lt-ltb, le-ltb}
 use Rattle.std.proofs.lemmas.List.{length-append, length-map, length-take, length-drop, take-append-drop}
+use Rattle.std.proofs.lemmas.Option.{none-some}
 use Rattle.nrt_base.proofs.Plain.{cons_parts, pair_from, same_err}
 use Rattle.copy_state.specs.declared.meta.FileMetaData.{FileMetaData}
 use Rattle.copy_state.specs.declared.state.CopyState.{CopyState}
@@ -179,10 +180,7 @@ module _ (messages : List Message) where
 -- ---- the messages behind a state
 
 never_none : (k : ℕ) (o : Option ℕ) → o ≡ Some k → o ≡ None → ⊥
-never_none k o p q = let e : Some k ≡ None = sym p ∙ q in none_some k e
-  where
-    none_some : (n : ℕ) → ◌≡◌ {A = Option ℕ} (Some n) None → ⊥
-    none_some n e = cc
+never_none k o p q = let e : Some k ≡ None = sym p ∙ q in none-some k (sym e)
 
 some_wanted : (x y i : ℕ) → i < x + y → kind_behind x y i ≡ None → ⊥
 some_wanted x y i lt e = by (cases_lt i x)

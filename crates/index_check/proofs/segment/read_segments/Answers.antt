@@ -1,10 +1,11 @@
 use Rattle.std.proofs.Common.{get_or, refl, sym, subst, ◌∙◌, arith}
 use Rattle.std.specs.List.{AllZip}
+use Rattle.std.proofs.lemmas.List.{get_or_default}
 use Rattle.disk_model.specs.Disk.{reads_of}
 use Rattle.body_forms.proofs.FileLaws.{err_of}
 use Rattle.index_check.specs.Answers.{IsExact}
 use Rattle.index_check.specs.Segments.{IsRightSegment, IsFirstWrong}
-use Rattle.index_check.proofs.Walk.{same_item, no_record, read_none, read_next, read_wrong, read_all, exact_at}
+use Rattle.index_check.proofs.Walk.{no_record, read_none, read_next, read_wrong, read_all, exact_at}
 use Rattle.index_check.proofs.segment.read_segments.Goals as goal
 
 pub loop-each-init : goal.loop-each-init
@@ -14,7 +15,7 @@ pub loop-each-preserved : goal.loop-each-preserved
 loop-each-preserved g c =
     let first = g.D.Dir.cells c.args.dir.now in
     let here = get_or c.args.records.now c.loop-each.each-index no_record in
-    let own_item = same_item c.args.records.now c.loop-each.each-index no_record here c.loop-each-test.true in
+    let own_item = get_or_default c.args.records.now c.loop-each.each-index no_record here c.loop-each-test.true in
     let h = c.loop-each.invariant in
     let own = c.in_ok-read_segment.ensures in
     let segment = c.in_ok-read_segment.field-0 in
@@ -29,7 +30,7 @@ pub returns-in_err-read_segment-clause-exact : goal.returns-in_err-read_segment-
 returns-in_err-read_segment-clause-exact g c =
     let first = g.D.Dir.cells c.args.dir.now in
     let here = get_or c.args.records.now c.loop-each.each-index no_record in
-    let own_item = same_item c.args.records.now c.loop-each.each-index no_record here c.loop-each-test.true in
+    let own_item = get_or_default c.args.records.now c.loop-each.each-index no_record here c.loop-each-test.true in
     let reads = reads_of first in
     let h = c.loop-each.invariant in
     let e = c.in_err-read_segment.field-0.0 in

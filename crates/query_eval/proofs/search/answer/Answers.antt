@@ -1,12 +1,14 @@
 use Rattle.std.proofs.Common.{◌+◌, drop, refl, arith}
-use Rattle.query_eval.proofs.AnswerLemmas.{counted_none, sound_one, room_for, counted_next, answer_is}
+use Rattle.seg_reader.specs.Sound.{IsSound}
+use Rattle.nrt_base.proofs.Plain.{All-item}
+use Rattle.query_eval.proofs.AnswerLemmas.{counted_none, room_for, counted_next, answer_is}
 use Rattle.query_eval.proofs.search.answer.Goals as goal
 
 pub loop-seg-init : goal.loop-seg-init
 loop-seg-init c = counted_none c.args.query.now c.args.segs.now c.new-best.result c.new-best.ensures c.requires.few
 
 pub search-requires-clause-sound : goal.search-requires-clause-sound
-search-requires-clause-sound c = sound_one c.args.segs.now c.loop-seg.seg-index c.seg-item.result c.requires.sound (omega arith) c.seg-item.is
+search-requires-clause-sound c = All-item IsSound c.args.segs.now c.loop-seg.seg-index c.seg-item.result c.requires.sound (omega arith) c.seg-item.is
 
 pub search-requires-clause-room : goal.search-requires-clause-room
 search-requires-clause-room c = room_for c.args.query.now c.args.segs.now c.loop-seg.seg-index c.seg-item.result c.loop-seg.best c.loop-seg.invariant (omega arith) c.seg-item.is

@@ -1,13 +1,14 @@
 use Rattle.std.proofs.Common.{subst, sym, List}
 use Rattle.std.specs.Prelude.{Contains}
 use Rattle.std.specs.List.{flat_map, All}
+use Rattle.commit_steps.proofs.Recovered.{whole_there}
 use Rattle.segment_infos.specs.Infos.{RecordFits}
 use Rattle.replica_opening.specs.Known.{KnowsFiles}
 use Rattle.segment_infos.specs.Files.{files_of_segment}
 use Rattle.segment_infos.specs.declared.infos.SegRecord.{SegRecord}
 use Rattle.disk_model.specs.Disk.{reads_of}
 use Rattle.replica_opening.specs.Readers.{AreReaders, IsFirstRefusedSegment}
-use Rattle.replica_opening.proofs.Openings.{whole_there, whole_found}
+use Rattle.replica_opening.proofs.Openings.{whole_found}
 use Rattle.replica_opening.proofs.opening.committed_point.Goals as goal
 
 pub read_all-requires-clause-there : goal.read_all-requires-clause-there

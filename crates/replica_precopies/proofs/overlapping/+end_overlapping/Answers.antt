@@ -1,11 +1,12 @@
 use Rattle.std.proofs.Common.{◌≡◌, ◌<◌, List, length, Some, inl, refl, sym, ap, ◌∙◌, arith}
+use Rattle.replica_calls.proofs.Apart.{bytes_apart}
 use Rattle.copy_state.specs.States.{meta_names}
 use Rattle.copy_job.specs.Jobs.{Job}
 use Rattle.replica_parts.specs.declared.merges.MergeCopies.{MergeCopies}
 use Rattle.replica_parts.specs.declared.parts.Parts.{Parts}
 use Rattle.replica_parts.specs.Merges.{copies_without}
 use Rattle.replica_precopies.specs.Overlapping.{copies_beside, first_overlapping}
-use Rattle.replica_precopies.proofs.Overlaps.{first_runs, fewer_without, beside_without, none_beside, not_none, bytes_then}
+use Rattle.replica_precopies.proofs.Overlaps.{first_runs, fewer_without, beside_without, none_beside, not_none}
 use Rattle.replica_precopies.proofs.overlapping.+end_overlapping.Goals as goal
 
 pub end_copy-requires-clause-runs : goal.end_copy-requires-clause-runs
@@ -37,7 +38,7 @@ returns-clause-ended g n c =
 
 pub returns-clause-stays : goal.returns-clause-stays
 returns-clause-stays g n c =
-    bytes_then c.args.parts.now.files c.end_copy.new.parts.files c.end_overlapping.new.parts.files (g.D.Dir.cells c.args.parts.now.dir) (g.D.Dir.cells c.end_copy.new.parts.dir) (g.D.Dir.cells c.end_overlapping.new.parts.dir)
+    bytes_apart c.args.parts.now.files c.end_copy.new.parts.files c.end_overlapping.new.parts.files (g.D.Dir.cells c.args.parts.now.dir) (g.D.Dir.cells c.end_copy.new.parts.dir) (g.D.Dir.cells c.end_overlapping.new.parts.dir)
     c.end_copy.ensures.stays c.end_overlapping.ensures.stays c.end_overlapping.ensures.fewer
 
 pub returns-clause-appears : goal.returns-clause-appears

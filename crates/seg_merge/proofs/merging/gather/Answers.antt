@@ -3,9 +3,10 @@ use Rattle.std.proofs.Math.ListN.{drop_of_length-le}
 use Rattle.std.proofs.lemmas.List.{append-nil}
 use Rattle.seg_merge.specs.declared.task.RowFrom.{RowFrom}
 use Rattle.nrt_base.specs.declared.doc.Doc.{Doc}
+use Rattle.nrt_base.proofs.Plain.{moved_over}
 use Rattle.seg_build.specs.Given.{Shown}
 use Rattle.seg_merge.specs.Merging.{docs_by_input, all_live_docs, live_docs, origins_in, origins}
-use Rattle.seg_merge.proofs.Gathering.{moved_over, inputs_step, origins_step, many_lives, its_rows}
+use Rattle.seg_merge.proofs.Gathering.{inputs_step, origins_step, many_lives, its_rows}
 use Rattle.seg_merge.proofs.merging.gather.Goals as goal
 
 pub bounds-live-at : goal.bounds-live-at

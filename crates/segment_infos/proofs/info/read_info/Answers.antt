@@ -1,8 +1,8 @@
 use Rattle.std.proofs.Common.{refl, arith, sym}
 use Rattle.body_forms.specs.Given.{Frame}
-use Rattle.body_forms.proofs.FileLaws.{err_of, frame_lies, body_of, frame_told, body_told, value_told}
+use Rattle.body_forms.proofs.FileLaws.{err_of, frame_lies, body_of, frame_told, body_told, value_told, body_fits}
 use Rattle.segment_infos.proofs.InfoLaws.{info_spelled, none_spelled_in}
-use Rattle.segment_infos.proofs.FileLaws.{info_kind, body_fits}
+use Rattle.segment_infos.proofs.FileLaws.{info_kind}
 use Rattle.segment_infos.proofs.info.read_info.Goals as goal
 
 pub slice_bounds-info_of-count : goal.slice_bounds-info_of-count

@@ -1,10 +1,10 @@
 use Rattle.std.proofs.Common.{refl, sym, subst, arith}
 use Rattle.codec_frame.specs.declared.frame.FileFault.TheVariants.{Frame}
 use Rattle.body_forms.specs.declared.read_fault.ReadFault.TheVariants.{File, Memory}
-use Rattle.body_forms.proofs.FileLaws.{err_of, frame_lies, body_of}
+use Rattle.body_forms.proofs.FileLaws.{err_of, frame_lies, body_of, body_fits}
 use Rattle.trans_log.specs.Records.{SpellsRecord}
 use Rattle.trans_log.specs.Reading.{record_of_fields}
-use Rattle.trans_log.proofs.FileLaws.{body_fits, fields_spelled, none_spelled, frame_told, body_told, memory_told, record_told, same_record}
+use Rattle.trans_log.proofs.FileLaws.{fields_spelled, none_spelled, frame_told, body_told, memory_told, record_told, same_record}
 use Rattle.trans_log.proofs.record.read.Goals as goal
 
 pub slice_bounds-fields_of-count : goal.slice_bounds-fields_of-count

@@ -1,10 +1,11 @@
 use Rattle.std.proofs.Common.{◌∙◌}
 use Rattle.commit_steps.specs.Book.{book_names}
-use Rattle.commit_steps.proofs.TestLaws.{files_found, shows_restarted, counted_held}
+use Rattle.commit_steps.proofs.TestLaws.{shows_restarted, counted_held}
 use Rattle.commit_steps.proofs.tests.Site.reopen.Goals as goal
+use Rattle.commit_steps.proofs.Recovered.{whole_there}
 
 pub opened-requires-clause-there : goal.opened-requires-clause-there
-opened-requires-clause-there g c = files_found (g.D.Dir.cells c.found.new.dir) c.in_ok-number.number c.in_ok-number.infos c.in_ok-number.ensures.whole
+opened-requires-clause-there g c = whole_there (g.D.Dir.cells c.found.new.dir) c.in_ok-number.number c.in_ok-number.infos c.in_ok-number.ensures.whole
 
 pub returns-clause-sound : goal.returns-clause-sound
 returns-clause-sound g c =

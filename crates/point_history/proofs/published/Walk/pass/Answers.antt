@@ -1,4 +1,5 @@
-use Rattle.point_history.proofs.WalkLemmas.{on_ok, on_both, shows_accept, shows_promote}
+use Rattle.std.proofs.lemmas.Result.{on_ok_weaker}
+use Rattle.point_history.proofs.WalkLemmas.{on_both, shows_accept, shows_promote}
 use Rattle.point_history.proofs.published.Walk.pass.Goals as goal
 
 pub returns-in-Accepted : goal.returns-in-Accepted
@@ -9,6 +10,6 @@ returns-in-Accepted c =
 
 pub returns-in-Promoted : goal.returns-in-Promoted
 returns-in-Promoted c =
-    on_ok c.promote.result _ _
+    on_ok_weaker c.promote.result
     (λ done. λ past shows started. shows_promote past c.args.entry.now c.in-Promoted.n c.in-Promoted.generation c.in-Promoted.forced c.in-Promoted.v c.args.self.now c.promote.new.self c.in-Promoted.is shows done)
     c.promote.ensures
