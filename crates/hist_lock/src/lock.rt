@@ -12,12 +12,16 @@ use atomic_table::{Refused, Seat, Table};
 use std::alloc::{AllocError, Global};
 use std::marker::Model;
 use std::sync::Wait;
+use std::thread::yield_now;
 
 /// The word that counts the tickets drawn, modulo 2^64.
 const TICKETS: usize = 0;
 
 /// The word that counts the tickets served, modulo 2^64.
 const SERVED: usize = 1;
+
+/// How often a thread looks for its turn before it sleeps. A section is short, so its turn mostly comes while it looks.
+const LOOKS: u32 = 20;
 
 /// The slot in which the value lies while no seat is inside.
 const VALUE: usize = 0;
@@ -119,7 +123,7 @@ impl<T: Grows> HistLock<T> {
         table.load::<Compare>(&mut to.seat, TICKETS);
     }
 
-    /// Waits for the seat's turn, and gives out the value. While it waits it yields its turn to other threads: it sleeps until a ticket is served.
+    /// Waits for the seat's turn, and gives out the value. While it waits it lets other threads run: it looks for its turn a few times, and then sleeps until a ticket is served.
     ///
     /// What is promised holds if it returns. Nothing is promised of how long it waits.
     pub fn lock<R: Wait>(&self, rt: &R, seat: &mut LaneSeat<T>) -> Held<T>
@@ -137,14 +141,21 @@ impl<T: Grows> HistLock<T> {
     {
         let table = &self.table.shared;
         let ticket = table.fetch_add::<DrawTicket>(&mut seat.seat, TICKETS, 1);
+        let mut looks = 0;
         for _ in rt.forever() {
             let serving = table.load::<Look>(&mut seat.seat, SERVED);
             if serving == ticket {
                 let value = table.exchange(&mut seat.seat, VALUE, None).unwrap();
                 return Held { value };
             }
+            if looks < LOOKS {
+                looks += 1;
+                yield_now();
+                continue;
+            }
             // The word counts on at each `unlock`, so its low half is enough to sleep by.
             table.park(rt, SERVED, (serving & 0xFFFF_FFFF) as u32);
+            looks = 0;
         }
         unreachable!()
     }
