@@ -1,6 +1,7 @@
 //! A lock round a value with a history. All threads extend one history, and each has a seat that knows how much of it the thread has seen, and which entries are its own.
 #![tactic(auto)]
 
+mod bells;
 pub mod grows;
 pub mod lock;
 mod pairs;

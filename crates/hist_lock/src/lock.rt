@@ -3,6 +3,7 @@ ghost use Rattle.std.specs.Prelude.{◌≡◌, ℕ, ◌+◌, ◌<◌, List, [], 
 ghost use Rattle.hist_lock.specs.History.{Extends, HasBoth};
 ghost use Rattle.hist_lock.specs.Rule.{RecallsOwn};
 
+use crate::bells::Bells;
 use crate::grows::Grows;
 use crate::steps::{
     Compare, DrawTicket, HearNote, Look, MakeNote, OneHistory, ServeNext, SplitOff, TakeIn,
@@ -10,9 +11,9 @@ use crate::steps::{
 use crate::view::View;
 use atomic_table::{Refused, Seat, Table};
 use std::alloc::{AllocError, Global};
+use std::hint::spin_loop;
 use std::marker::Model;
 use std::sync::Wait;
-use std::thread::yield_now;
 
 /// The word that counts the tickets drawn, modulo 2^64.
 const TICKETS: usize = 0;
@@ -20,8 +21,8 @@ const TICKETS: usize = 0;
 /// The word that counts the tickets served, modulo 2^64.
 const SERVED: usize = 1;
 
-/// How often a thread looks for its turn before it sleeps. A section is short, so its turn mostly comes while it looks.
-const LOOKS: u32 = 20;
+/// How often a thread looks for its turn before it sleeps: for a few microseconds, as a section is short.
+const LOOKS: u32 = 100;
 
 /// The slot in which the value lies while no seat is inside.
 const VALUE: usize = 0;
@@ -30,6 +31,7 @@ const VALUE: usize = 0;
 #[derive(Drop)]
 pub struct HistLock<T: Grows> {
     table: Table<Option<T>, View<T::Entry>, (), OneHistory<T>, Global>,
+    bells: Bells,
     ghost sized: { (table.shared.table_id.words ≡ 2) × (table.shared.table_id.slots ≡ 1) },
 }
 
@@ -66,7 +68,13 @@ impl<T: Grows + Drop> HistLock<T> {
         let mut slots = Vec::with_capacity(alloc, 1)?;
         slots.push_reserved(Some(value));
         match Table::new(alloc, &[0, 0], slots, &()) {
-            Ok((table, seat)) => Ok((HistLock { table }, LaneSeat { seat })),
+            Ok((table, seat)) => Ok((
+                HistLock {
+                    table,
+                    bells: Bells::new(),
+                },
+                LaneSeat { seat },
+            )),
             Err(Refused { slots: _ }) => Err(AllocError),
         }
     }
@@ -123,7 +131,7 @@ impl<T: Grows> HistLock<T> {
         table.load::<Compare>(&mut to.seat, TICKETS);
     }
 
-    /// Waits for the seat's turn, and gives out the value. While it waits it lets other threads run: it looks for its turn a few times, and then sleeps until a ticket is served.
+    /// Waits for the seat's turn, and gives out the value. It looks for its turn for a few microseconds, and then lets other threads run: it sleeps until its ticket is served.
     ///
     /// What is promised holds if it returns. Nothing is promised of how long it waits.
     pub fn lock<R: Wait>(&self, rt: &R, seat: &mut LaneSeat<T>) -> Held<T>
@@ -143,6 +151,8 @@ impl<T: Grows> HistLock<T> {
         let ticket = table.fetch_add::<DrawTicket>(&mut seat.seat, TICKETS, 1);
         let mut looks = 0;
         for _ in rt.forever() {
+            // It is read before the look, so that a ring after the look is not slept through.
+            let rings = self.bells.rings(ticket);
             let serving = table.load::<Look>(&mut seat.seat, SERVED);
             if serving == ticket {
                 let value = table.exchange(&mut seat.seat, VALUE, None).unwrap();
@@ -150,12 +160,10 @@ impl<T: Grows> HistLock<T> {
             }
             if looks < LOOKS {
                 looks += 1;
-                yield_now();
+                spin_loop();
                 continue;
             }
-            // The word counts on at each `unlock`, so its low half is enough to sleep by.
-            table.park(rt, SERVED, (serving & 0xFFFF_FFFF) as u32);
-            looks = 0;
+            self.bells.sleep(rt, ticket, rings);
         }
         unreachable!()
     }
@@ -177,9 +185,10 @@ impl<T: Grows> HistLock<T> {
             Some(_) => unreachable!(),
         }
         let served = table.fetch_add::<ServeNext>(&mut seat.seat, SERVED, 1);
+        let next = served.wrapping_add(1);
         // Where every ticket that was drawn is served, no thread sleeps. One that draws a ticket after this look finds it served.
-        if table.peek(TICKETS) != served.wrapping_add(1) {
-            table.wake_all(SERVED);
+        if table.peek(TICKETS) != next {
+            self.bells.ring(next);
         }
     }
 
@@ -189,7 +198,7 @@ impl<T: Grows> HistLock<T> {
         requires last { IsLast seat }
         ensures { Continues T.names (view_of seat) (T.history result) }
     {
-        let HistLock { table } = self;
+        let HistLock { table, bells: _ } = self;
         let LaneSeat { seat } = seat;
         let mut closed = table.close_with(seat);
         let value = closed.take(VALUE).unwrap();
