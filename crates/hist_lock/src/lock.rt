@@ -21,8 +21,11 @@ const TICKETS: usize = 0;
 /// The word that counts the tickets served, modulo 2^64.
 const SERVED: usize = 1;
 
-/// How often a thread looks for its turn before it sleeps: for a few microseconds, as a section is short.
-const LOOKS: u32 = 100;
+/// How many tickets before its turn a thread begins to look for it. One whose turn is farther off sleeps.
+const NEAR: u64 = 2;
+
+/// How often a thread looks for its turn before it sleeps: for some ten microseconds, as a section is short.
+const LOOKS: u32 = 1000;
 
 /// The slot in which the value lies while no seat is inside.
 const VALUE: usize = 0;
@@ -131,7 +134,7 @@ impl<T: Grows> HistLock<T> {
         table.load::<Compare>(&mut to.seat, TICKETS);
     }
 
-    /// Waits for the seat's turn, and gives out the value. It looks for its turn for a few microseconds, and then lets other threads run: it sleeps until its ticket is served.
+    /// Waits for the seat's turn, and gives out the value. While its turn is far off it lets other threads run: it sleeps until it is near, and then looks for it.
     ///
     /// What is promised holds if it returns. Nothing is promised of how long it waits.
     pub fn lock<R: Wait>(&self, rt: &R, seat: &mut LaneSeat<T>) -> Held<T>
@@ -158,12 +161,13 @@ impl<T: Grows> HistLock<T> {
                 let value = table.exchange(&mut seat.seat, VALUE, None).unwrap();
                 return Held { value };
             }
-            if looks < LOOKS {
+            if looks < LOOKS && ticket.wrapping_sub(serving) <= NEAR {
                 looks += 1;
                 spin_loop();
                 continue;
             }
             self.bells.sleep(rt, ticket, rings);
+            looks = 0;
         }
         unreachable!()
     }
@@ -185,10 +189,20 @@ impl<T: Grows> HistLock<T> {
             Some(_) => unreachable!(),
         }
         let served = table.fetch_add::<ServeNext>(&mut seat.seat, SERVED, 1);
-        let next = served.wrapping_add(1);
+        self.call_next(served.wrapping_add(1));
+    }
+
+    /// Wakes the thread whose turn it is, and the one behind it, so that it looks for its turn by the time it comes.
+    fn call_next(&self, next: u64) {
         // Where every ticket that was drawn is served, no thread sleeps. One that draws a ticket after this look finds it served.
-        if table.peek(TICKETS) != next {
-            self.bells.ring(next);
+        let drawn = self.table.shared.peek(TICKETS);
+        if drawn == next {
+            return;
+        }
+        self.bells.ring(next);
+        let behind = next.wrapping_add(1);
+        if drawn != behind {
+            self.bells.ring(behind);
         }
     }
 
