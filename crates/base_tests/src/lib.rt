@@ -6,6 +6,8 @@ mod names;
 #[cfg(test)]
 mod postings;
 #[cfg(test)]
+mod sentences;
+#[cfg(test)]
 mod small_types;
 #[cfg(test)]
 mod streams;

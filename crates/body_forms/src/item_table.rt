@@ -4,12 +4,14 @@ ghost use Rattle.std.specs.Prelude.{◌≡◌, ◌↔◌, IsTrue, ◌<◌, ◌�
 ghost use Rattle.std.specs.Int.{w32, from_be_bytes};
 ghost use Rattle.body_forms.specs.ItemTable.{IsItemTable};
 
+use byteorder::{BigEndian, ByteOrder};
+
 // The number in the four bytes from a place on.
 fn number_from(bytes: &[u8], at: usize) -> u32
     requires { at + 4 ≤ length bytes.now }
     ensures { result ≡ from_be_bytes w32 (take 4 (drop at bytes.now)) }
 {
-    u32::from_be_bytes([bytes[at], bytes[at + 1], bytes[at + 2], bytes[at + 3]])
+    BigEndian::read_u32(&bytes[at..])
 }
 
 /// How many items the table has.

@@ -6,6 +6,7 @@ ghost use Rattle.body_forms.specs.Format.{Skips, chain_at};
 ghost use Rattle.body_forms.specs.Numbers.{u32_bytes, u32_at, u64_bytes, u64_at, vint_at, positive_at, difference, difference_at, above, ascending_at};
 
 use crate::vint::{push_vint, read_vint, vint_len};
+use byteorder::{BigEndian, ByteOrder};
 use nrt_base::NoMemory;
 
 /// The number in the first four bytes, the highest first, and the bytes after it.
@@ -14,7 +15,7 @@ pub fn u32_of(bytes: &[u8]) -> Option<(u32, &[u8])>
     ensures { option_map (λ x. (x.0, x.1.now)) result ≡ u32_at bytes.now }
 {
     match bytes.split_first_chunk::<4>() {
-        Some((number, rest)) => Some((u32::from_be_bytes(*number), rest)),
+        Some((number, rest)) => Some((BigEndian::read_u32(number), rest)),
         None => None,
     }
 }
@@ -25,7 +26,7 @@ pub fn u64_of(bytes: &[u8]) -> Option<(u64, &[u8])>
     ensures { option_map (λ x. (x.0, x.1.now)) result ≡ u64_at bytes.now }
 {
     match bytes.split_first_chunk::<8>() {
-        Some((number, rest)) => Some((u64::from_be_bytes(*number), rest)),
+        Some((number, rest)) => Some((BigEndian::read_u64(number), rest)),
         None => None,
     }
 }
@@ -35,7 +36,9 @@ pub fn push_u32(out: &mut Vec<u8>, n: u32) -> Result<(), NoMemory>
     ensures ok { OnOk result (out.new.items ≡ out.old.items ++ u32_bytes n) }
     ensures err { OnErr result (out.new.items ≡ out.old.items) }
 {
-    out.extend_from_slice(&n.to_be_bytes())
+    let mut number = [0; 4];
+    BigEndian::write_u32(&mut number, n);
+    out.extend_from_slice(&number)
 }
 
 /// Puts a number at the end in eight bytes, the highest first.
@@ -43,7 +46,9 @@ pub fn push_u64(out: &mut Vec<u8>, n: u64) -> Result<(), NoMemory>
     ensures ok { OnOk result (out.new.items ≡ out.old.items ++ u64_bytes n) }
     ensures err { OnErr result (out.new.items ≡ out.old.items) }
 {
-    out.extend_from_slice(&n.to_be_bytes())
+    let mut number = [0; 8];
+    BigEndian::write_u64(&mut number, n);
+    out.extend_from_slice(&number)
 }
 
 /// The vInt at the front, and the bytes after it. It is in its shortest form: a longer one is none.

@@ -4,13 +4,16 @@ ghost use Rattle.std.specs.Prelude.{◌≡◌};
 
 use codec_frame::{FileFault, FrameFault};
 use nrt_base::NoMemory;
+use thiserror::Error;
 
 /// Why a file is not read: it is refused, or the reader is out of memory.
-#[derive(Clone, Copy, Debug, PartialEq, Eq)]
+#[derive(Clone, Copy, Debug, PartialEq, Eq, Error)]
 pub enum ReadFault {
     /// The file is refused.
+    #[error(transparent)]
     File(FileFault),
     /// The reader is out of memory.
+    #[error("out of memory")]
     Memory,
 }
 

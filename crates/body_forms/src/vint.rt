@@ -4,13 +4,16 @@ ghost use Rattle.std.specs.Prelude.{◌≡◌, ◌++◌, ◌↔◌, ◌≤◌, �
 ghost use Rattle.body_forms.specs.VInts.{BeginsWithVInt, EndsWithinVInt, PassesVInt, vint, vint_read};
 
 use nrt_base::NoMemory;
+use thiserror::Error;
 
 /// Why bytes do not begin with a vInt.
-#[derive(Clone, Copy, Debug, PartialEq, Eq)]
+#[derive(Clone, Copy, Debug, PartialEq, Eq, Error)]
 pub enum VIntFault {
     /// They end before a byte below 128 within five bytes.
+    #[error("a number of variable length is cut off before its last byte")]
     Short,
     /// The fifth byte is above 15.
+    #[error("a number of variable length is above 4294967295")]
     Long,
 }
 

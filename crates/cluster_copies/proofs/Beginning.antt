@@ -1,5 +1,5 @@
 -- What is shown of files and jobs once a job of the newest point has begun.
-use Rattle.std.proofs.Common.{◌≡◌, ◌≢◌, ◌≤◌, ◌<◌, ◌+◌, ◌&&◌, ◌==◌, ℕ, Bool, true, false, true≢false, List, [], ◌∷◌, ◌++◌, Some, None, Option, max, nat_le, refl, ap, ◌∙◌, sym, subst, arith, if◌then◌else◌, length}
+use Rattle.std.proofs.Common.{◌≡◌, ◌≢◌, ◌≤◌, ◌<◌, ◌+◌, ◌&&◌, ◌==◌, ℕ, Bool, true, false, true≢false, List, [], ◌∷◌, ◌++◌, Some, None, Option, nat_le, refl, ap, ◌∙◌, sym, subst, arith, if◌then◌else◌, length}
 use Rattle.std.specs.Prelude.{IsSomeAnd, IfSome, not, Contains}
 use Rattle.std.specs.List.{All, flat_map}
 use Rattle.std.proofs.lemmas.Bool.{eqb-true, eq-eqb}
@@ -12,17 +12,19 @@ use Rattle.segment_infos.specs.declared.infos.Infos.{Infos}
 use Rattle.segment_infos.specs.Files.{files_of_segment, AreFilesOf}
 use Rattle.segment_infos.proofs.FileLaws.{infos_files_one_to_one}
 use Rattle.copy_state.specs.declared.state.CopyState.{CopyState}
-use Rattle.primary_parts.specs.declared.parts.Parts.{Parts as PrimaryParts}
-use Rattle.primary_parts.specs.declared.states.Out.{Out}
-use Rattle.primary_parts.specs.States.{out_of, is_out}
+use Rattle.primary_state.specs.declared.parts.Parts.{Parts as PrimaryParts}
+use Rattle.primary_state.specs.declared.states.Out.{Out}
+use Rattle.primary_state.specs.States.{out_of, is_out}
 use Rattle.replica_opening.specs.Known.{IsLasting, HasMeta}
-use Rattle.replica_parts.specs.declared.job.PointJob.{PointJob}
-use Rattle.replica_parts.specs.declared.parts.Parts.{Parts as ReplicaParts}
-use Rattle.history_entries.specs.declared.entry.Event.{Event}
-use Rattle.history_entries.specs.declared.entry.Event.TheVariants.{Published, Copying, Promoted}
-use Rattle.history_entries.specs.Nodes.{Past, IsNode, is_at, primary_of, newest_version, version_of}
-use Rattle.history_entries.specs.Lines.{same_at, start_entry, before_start, copy_in_flight, highest_copy}
-use Rattle.history_entries.specs.Legal.{KeepsRule, IsLegalPast}
+use Rattle.replica_state.specs.declared.job.PointJob.{PointJob}
+use Rattle.replica_state.specs.declared.parts.Parts.{Parts as ReplicaParts}
+use Rattle.history_rules.specs.declared.entry.Event.{Event}
+use Rattle.history_rules.specs.declared.entry.Event.TheVariants.{Copying}
+use Rattle.history_rules.specs.Nodes.{Past, IsNode, is_at, primary_of, newest_version, version_of}
+use Rattle.history_rules.specs.Lines.{same_at, start_entry, before_start, copy_in_flight}
+use Rattle.history_rules.specs.Commits.{is_passed}
+use Rattle.history_rules.specs.Legal.{KeepsRule, IsLegalPast}
+use Rattle.history_rules.proofs.PassedLaws.{newest_is_unpassed}
 use Rattle.history_tables.specs.declared.jobs.Job.{Job}
 use Rattle.history_tables.specs.declared.jobs.JobStep.TheVariants.{Begins}
 use Rattle.history_tables.specs.JobRows.{new_job_row, row_if_some, while_going}
@@ -34,20 +36,20 @@ use Rattle.history_book.specs.declared.inner.Inner.TheVariants.{JobBegun}
 use Rattle.history_book.specs.Jobs.{last_job, job_at, IsOlder}
 use Rattle.history_book.specs.Turns.{InTurn, AreInTurn}
 use Rattle.history_book.proofs.ReignLaws.{crashed_low, primary_crashed_low}
-use Rattle.cluster_places.specs.declared.nodes.Node.{Node}
-use Rattle.cluster_places.specs.declared.nodes.Node.TheVariants.{Primary, Replica, Down}
-use Rattle.cluster_places.specs.declared.nodes.Place.{Place}
-use Rattle.cluster_places.specs.Places.{place_of}
+use Rattle.cluster_nodes.specs.declared.nodes.Node.{Node}
+use Rattle.cluster_nodes.specs.declared.nodes.Node.TheVariants.{Primary, Replica, Down}
+use Rattle.cluster_nodes.specs.declared.nodes.Place.{Place}
+use Rattle.cluster_nodes.specs.Places.{place_of}
 use Rattle.cluster_state.specs.State.{NodeShows, Shows}
 use Rattle.cluster_state.specs.FilesOut.{is_job, file_out}
-use Rattle.cluster_places.specs.Outs.{want_of, want_at, one_like, jobs_like, states_like}
+use Rattle.cluster_nodes.specs.Outs.{want_of, want_at, one_like, jobs_like, states_like}
 use Rattle.cluster_state.specs.Files.{CopyShows, JobShows, IsJobFor, ReplicaFiles, PrimaryFiles, NodeFiles, FilesShow}
 use Rattle.cluster_state.specs.FileChanges.{SameJob, CarriesNoMore}
-use Rattle.cluster_places.specs.JobChanges.{given_back, BeginsAt}
-use Rattle.cluster_places.specs.JobPlaces.{BeginsIn}
+use Rattle.cluster_nodes.specs.JobChanges.{given_back, BeginsAt}
+use Rattle.cluster_nodes.specs.JobPlaces.{BeginsIn}
 use Rattle.cluster_state.proofs.Frames.{some_at}
 use Rattle.cluster_state.proofs.JobFrames.{same_shown, same_inner, same_then}
-use Rattle.cluster_places.proofs.OutCounts.{states_push, states_given, jobs_moved}
+use Rattle.cluster_nodes.proofs.OutCounts.{states_push, states_given, jobs_moved}
 use Rattle.cluster_state.specs.Disks.{IsPastPoint, PointsStay, CommitsStay}
 use Rattle.cluster_state.proofs.Points.{points_alone, point_stays}
 use Rattle.cluster_state.proofs.Disks.{fresh_flights, commits_shown, commits_alone, disks_moved, disk_same, disks_kept}
@@ -55,26 +57,11 @@ use Rattle.cluster_state.proofs.Wider.{primary_stays, primary_kept}
 use Rattle.cluster_state.proofs.Drawn.{Grows, grows_none, grows_shown}
 use Rattle.cluster_state.proofs.Naming.{means_more, altered_steps, altered_job}
 use Rattle.cluster_state.proofs.FileFrames.{names_both, replica_same, both_each, both_of, Both, wants_apart}
-use Rattle.cluster_state.proofs.FileJobs.{job_out}
-use Rattle.cluster_places.proofs.Stepping.{out_pushed}
+use Rattle.cluster_state.proofs.FileJobs.{job_out, want_runs}
+use Rattle.cluster_nodes.proofs.Stepping.{out_pushed}
 use Rattle.cluster_state.proofs.PointStands.{state_metas}
 
 -- ---- the past
-
--- no copy to a node started at a version above the newest
-pub highest_low : (size : ℕ) (past : Past) (n : ℕ) → IsLegalPast size past → highest_copy n past ≤ newest_version past
-highest_low size [] n legal = omega arith
-highest_low size (e ∷ past) n legal = let was = highest_low size past n legal.1 in step e.event legal.0 was
-  where
-    step : (e' : Event) → KeepsRule size past e.at e' → highest_copy n past ≤ newest_version past → highest_copy n (record { at = e.at; event = e' } ∷ past) ≤ newest_version (record { at = e.at; event = e' } ∷ past)
-    step (Copying m w) keeps was = copied (m.0 == n)
-      where
-        copied : (b : Bool) → (if b then max (highest_copy n past) w.0 else highest_copy n past) ≤ newest_version past
-        copied true = let is : w.0 ≡ newest_version past = keeps.newest in omega (arith, was, is)
-        copied false = was
-    step (Published g w) keeps was = omega (arith, was)
-    step (Promoted m g f w) keeps was = omega (arith, was)
-    step e' keeps was = was
 
 -- what a job's beginning rests on: the entries behind which it begins
 pub record BeginsOver (log mid : Log) (at : At) (n v : ℕ) : Type 0 where
@@ -83,7 +70,7 @@ pub record BeginsOver (log mid : Log) (at : At) (n v : ℕ) : Type 0 where
   pub same : (m : ℕ) → (n == m) ≡ false → is_at (primary_of (printed log)) m ≡ false → SameJob log mid m
   pub newest : newest_version (printed mid) ≡ newest_version (printed log)
   pub version : v ≡ newest_version (printed log)
-  pub highest : highest_copy n (printed mid) ≤ v
+  pub unpassed : is_passed n v (printed mid) ≡ false
   pub begun : start_entry at (printed mid) ≢ None
   pub behind : version_of n (printed mid) < newest_version (before_start at (printed mid))
   pub flight : (a : At) → copy_in_flight n (newest_version (printed mid)) (printed mid) ≡ Some a → a ≡ at
@@ -98,7 +85,7 @@ over_copying size log at n v legal turns rule turn behind = record {
   same = λ m apart other. same_shown size log at m legal turns other (Copying n v) rule turn (ap not apart);
   newest = refl;
   version = rule.newest;
-  highest = top (n.0 == n.0);
+  unpassed = newest_is_unpassed size n.0 v.0 (printed (shown at (Copying n v) ∷ log)) (rule, legal) (let is : newest_version (printed (shown at (Copying n v) ∷ log)) ≡ v.0 = sym rule.newest in omega (arith, is));
   begun = λ none. begins (sym (ap (λ (b : Bool). if b then Some (Copying n v) else start_entry at (printed log)) mine) ∙ none);
   behind = subst (λ (p : Past). version_of n.0 (printed log) < newest_version p) (sym (ap (λ (b : Bool). if b then printed log else before_start at (printed log)) mine))
       (let is : v.0 ≡ newest_version (printed log) = rule.newest in omega (arith, is, behind));
@@ -118,10 +105,6 @@ over_copying size log at n v legal turns rule turn behind = record {
     first : (a : At) → Some at ≡ Some a → a ≡ at
     first a is = cc
 
-    top : (b : Bool) → (if b then max (highest_copy n.0 (printed log)) v.0 else highest_copy n.0 (printed log)) ≤ v.0
-    top true = let low = highest_low size (printed log) n.0 legal in let is : v.0 ≡ newest_version (printed log) = rule.newest in omega (arith, low, is)
-    top false = let low = highest_low size (printed log) n.0 legal in let is : v.0 ≡ newest_version (printed log) = rule.newest in omega (arith, low, is)
-
 -- a settle goes on
 pub over_settle : (size : ℕ) (log : Log) (at : At) (n v : ℕ) → IsLegalPast size (printed log) → start_entry at (printed log) ≢ None → v ≡ newest_version (printed log)
     → version_of n (printed log) < newest_version (before_start at (printed log)) → ((a : At) → copy_in_flight n (newest_version (printed log)) (printed log) ≡ Some a → ⊥) → BeginsOver log log at n v
@@ -131,7 +114,7 @@ over_settle size log at n v legal begun is behind none = record {
   same = λ m apart other. record {
     job = refl;
     points = points_alone (printed log);
-    latest = omega arith;
+    latest = λ w none. none;
     version = refl;
     start = λ job is begun. (begun, refl);
     flight = λ at is. (is, refl);
@@ -139,7 +122,7 @@ over_settle size log at n v legal begun is behind none = record {
   };
   newest = refl;
   version = is;
-  highest = (let low = highest_low size (printed log) n legal in omega (arith, low, is));
+  unpassed = newest_is_unpassed size n v (printed log) legal (omega (arith, is));
   begun = begun;
   behind = behind;
   flight = λ a flies. absurd (none a flies);
@@ -222,7 +205,7 @@ module _ {D : Type 0} (cells : D → Cells) where
       apart_wants m apart = wants_apart p n x y (record { node = Primary b.both.primary.parts; held = b.both.primary.held }) old new b.moves b.both.primary.there refl m apart
 
       want_new : want_at (place_of new n) ≡ Some (out_of b.begins.state)
-      want_new = ap want_at there_n ∙ (ap want_of b.begins.there ∙ ap (λ (s : CopyState). Some (out_of s)) b.begins.want)
+      want_new = ap want_at there_n ∙ (ap want_of b.begins.there ∙ (want_runs b.begins.job b.begins.begun.runs ∙ ap (λ (s : CopyState). Some (out_of s)) b.begins.want))
 
   -- ---- all of them
 
@@ -297,10 +280,11 @@ module _ {D : Type 0} (cells : D → Cells) where
 
       shows_job : CopyShows files.source now n.0 (begun_job mid at n v number) b.begins.job
       shows_job = record {
+        runs = b.begins.begun.runs;
         number = b.begins.number_is;
         version = version;
         point = point;
-        latest = over.highest;
+        latest = over.unpassed;
         begun = over.begun;
         behind = over.behind;
         metas = subst (λ (s : CopyState). All (λ f. HasMeta files.source f.0 f.1) s.files) (sym b.begins.want) (state_metas cells files.source q b.begins.state lasting at_p.0.node_shows.whole at_p.1.held b.begins.of_point);

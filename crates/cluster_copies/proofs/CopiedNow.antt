@@ -7,28 +7,28 @@ use Rattle.nrt_base.specs.declared.numbers.At.{At}
 use Rattle.nrt_base.specs.declared.numbers.NodeNo.{NodeNo}
 use Rattle.nrt_base.specs.declared.numbers.Version.{Version}
 use Rattle.disk_model.specs.Disk.{Name, Content, Cells}
-use Rattle.replica_parts.specs.declared.job.PointJob.{PointJob}
-use Rattle.replica_parts.specs.declared.parts.Parts.{Parts as ReplicaParts}
-use Rattle.replica_parts.specs.Replica.{IsJobAbove}
-use Rattle.history_entries.specs.declared.entry.Event.TheVariants.{Publishing, Copying, Copied}
-use Rattle.history_entries.specs.Nodes.{Past, IsNode, IsReplica, crashes, primary_of, primary_crashes, newest_version, version_of}
-use Rattle.history_entries.specs.Lines.{same_at, start_entry, before_start, without_at, copy_in_flight, is_free_for}
+use Rattle.replica_state.specs.declared.job.PointJob.{PointJob}
+use Rattle.replica_state.specs.declared.parts.Parts.{Parts as ReplicaParts}
+use Rattle.replica_state.specs.Replica.{IsJobAbove}
+use Rattle.history_rules.specs.declared.entry.Event.TheVariants.{Publishing, Copying, Copied}
+use Rattle.history_rules.specs.Nodes.{Past, IsNode, IsReplica, crashes, primary_of, primary_crashes, newest_version, version_of}
+use Rattle.history_rules.specs.Lines.{same_at, start_entry, before_start, without_at, copy_in_flight, is_free_for}
 use Rattle.cluster_state.specs.FileChanges.{is_commit_line}
-use Rattle.history_entries.specs.Legal.{KeepsRule, IsLegalPast}
+use Rattle.history_rules.specs.Legal.{KeepsRule, IsLegalPast}
 use Rattle.history_tables.specs.declared.jobs.Job.{Job}
 use Rattle.history_tables.specs.declared.jobs.JobRow.{JobRow}
 use Rattle.history_tables.specs.JobRows.{while_going}
 use Rattle.history_tables.proofs.RowLemmas.{by_test, same_at_self}
 use Rattle.history_book.specs.Log.{Log, printed, shown}
-use Rattle.history_merges.specs.Merging.{Sheet}
+use Rattle.merge_tasks.specs.Merging.{Sheet}
 use Rattle.history_book.specs.Laws.{IsFresh}
 use Rattle.history_book.specs.Turns.{InTurn, AreInTurn}
 use Rattle.history_book.specs.Jobs.{last_job, job_at}
-use Rattle.cluster_places.specs.declared.nodes.Node.{Node}
-use Rattle.cluster_places.specs.declared.nodes.Node.TheVariants.{Primary, Replica, Down}
-use Rattle.cluster_places.specs.declared.nodes.Place.{Place}
-use Rattle.cluster_places.specs.Places.{place_of}
-use Rattle.cluster_places.specs.Outs.{jobs_like}
+use Rattle.cluster_nodes.specs.declared.nodes.Node.{Node}
+use Rattle.cluster_nodes.specs.declared.nodes.Node.TheVariants.{Primary, Replica, Down}
+use Rattle.cluster_nodes.specs.declared.nodes.Place.{Place}
+use Rattle.cluster_nodes.specs.Places.{place_of}
+use Rattle.cluster_nodes.specs.Outs.{jobs_like}
 use Rattle.cluster_state.specs.Run.{Rest, Run}
 use Rattle.cluster_state.specs.State.{NodeShows, Shows}
 use Rattle.cluster_state.specs.Files.{JobShows, IsJobFor, ReplicaFiles, NodeFiles, FilesShow}

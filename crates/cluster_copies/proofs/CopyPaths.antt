@@ -10,24 +10,24 @@ use Rattle.nrt_base.specs.declared.numbers.Gen.{Gen}
 use Rattle.disk_model.specs.Disk.{Name, Content, Cells}
 use Rattle.segment_infos.specs.declared.infos.Infos.{Infos}
 use Rattle.segment_infos.specs.Files.{files_of_segment, AreFilesOf}
-use Rattle.primary_parts.specs.declared.states.Out.{Out}
+use Rattle.primary_state.specs.declared.states.Out.{Out}
 use Rattle.replica_opening.specs.Known.{IsLasting}
-use Rattle.replica_parts.specs.declared.job.PointJob.{PointJob}
-use Rattle.replica_parts.specs.declared.parts.Parts.{Parts as ReplicaParts}
-use Rattle.history_entries.specs.declared.entry.Event.{Event}
-use Rattle.history_entries.specs.declared.entry.Event.TheVariants.{Copying, Settling}
-use Rattle.history_entries.specs.Nodes.{Past, IsNode, IsReplica, is_at, primary_of, primary_crashes, crashes, newest_version, version_of}
-use Rattle.history_entries.specs.Lines.{same_at, start_entry, before_start, copy_in_flight, is_free_for, highest_switched, NodeSurvives, SourceSurvives}
-use Rattle.history_entries.specs.Legal.{KeepsRule, IsLegalPast}
+use Rattle.replica_state.specs.declared.job.PointJob.{PointJob}
+use Rattle.replica_state.specs.declared.parts.Parts.{Parts as ReplicaParts}
+use Rattle.history_rules.specs.declared.entry.Event.{Event}
+use Rattle.history_rules.specs.declared.entry.Event.TheVariants.{Copying, Settling}
+use Rattle.history_rules.specs.Nodes.{Past, IsNode, IsReplica, is_at, primary_of, primary_crashes, crashes, generation_of, newest_version, version_of}
+use Rattle.history_rules.specs.Lines.{same_at, start_entry, before_start, copy_in_flight, is_free_for, highest_switched, NodeSurvives, SourceSurvives}
+use Rattle.history_rules.specs.Legal.{KeepsRule, IsLegalPast}
 use Rattle.history_tables.specs.declared.jobs.Job.{Job}
 use Rattle.history_tables.specs.declared.jobs.JobRow.{JobRow}
 use Rattle.history_tables.specs.JobRows.{new_job_row, row_if_some, while_going}
 use Rattle.history_tables.specs.Begins.{begun_by, open_line}
-use Rattle.history_entries.specs.Points.{operations_of_generation}
+use Rattle.history_rules.specs.Points.{operations_of_generation}
 use Rattle.history_tables.specs.declared.jobs.JobStep.TheVariants.{Begins}
 use Rattle.history_tables.proofs.RowLemmas.{same_at_self}
 use Rattle.history_book.specs.Log.{Log, printed, shown, kept}
-use Rattle.history_merges.specs.Merging.{Sheet}
+use Rattle.merge_tasks.specs.Merging.{Sheet}
 use Rattle.history_book.specs.declared.inner.Inner.{Inner}
 use Rattle.history_book.specs.declared.inner.Inner.TheVariants.{JobBegun}
 use Rattle.history_book.specs.Jobs.{last_job, job_at, job_of, IsOlder, StartsJob, MayBeginJob}
@@ -35,16 +35,16 @@ use Rattle.history_book.specs.Turns.{InTurn, AreInTurn}
 use Rattle.history_book.specs.Laws.{IsFresh}
 use Rattle.history_book.proofs.ReignLaws.{start_kept}
 use Rattle.history_book.proofs.JobLaws.{newest_before}
-use Rattle.cluster_places.specs.declared.nodes.Node.TheVariants.{Primary, Replica}
-use Rattle.cluster_places.specs.declared.nodes.Place.{Place}
-use Rattle.cluster_state.specs.Run.{Rest, Run}
-use Rattle.cluster_places.specs.Places.{place_of, HasPrimary}
+use Rattle.cluster_nodes.specs.declared.nodes.Node.TheVariants.{Primary, Replica}
+use Rattle.cluster_nodes.specs.declared.nodes.Place.{Place}
+use Rattle.cluster_state.specs.Run.{Rest, Run, files_at}
+use Rattle.cluster_nodes.specs.Places.{place_of, HasPrimary}
 use Rattle.cluster_state.specs.State.{Shows}
-use Rattle.cluster_places.specs.Outs.{jobs_like}
+use Rattle.cluster_nodes.specs.Outs.{jobs_like}
 use Rattle.cluster_state.specs.Files.{JobShows, IsJobFor, ReplicaFiles, FilesShow}
-use Rattle.cluster_places.specs.JobChanges.{HasReplica}
-use Rattle.cluster_places.specs.JobPlaces.{CanBegin, BeginsIn}
-use Rattle.cluster_state.specs.Copies.{newest_of, BeginsJob}
+use Rattle.cluster_nodes.specs.JobChanges.{HasReplica}
+use Rattle.cluster_nodes.specs.JobPlaces.{CanBegin, BeginsIn}
+use Rattle.cluster_state.specs.Copies.{newest_of, TakesOver, BeginsJob}
 use Rattle.cluster_state.specs.Settles.{WaitsFor}
 use Rattle.cluster_state.proofs.Naming.{FilesLast}
 use Rattle.cluster_state.proofs.Frames.{some_at, was, now_is, slot_of, place_shows, shows_still, start_back}
@@ -87,8 +87,8 @@ module _ (past : Past) (at : At) (n : NodeNo) (v : Version) where
 pub begins_copying : (r now : Run) (mid : Log) (at : At) (n : NodeNo) (number : ℕ) → now.ended ≡ false → now.nodes ≡ r.nodes
     → now.log ≡ kept (JobBegun at.line n number (Some (newest_of (printed r.log))) (Some at)) ∷ mid
     → open_line at (printed mid) ≢ None → highest_switched at (printed mid) < n.0 → NodeSurvives (printed mid) at n.0 → SourceSurvives (printed mid) at
-    → BeginsJob at n r now mid (record { node = n; job = number; line = at.line })
-begins_copying r now mid at n number running size log is_open ordered survives source = record {
+    → TakesOver (generation_of (printed r.log)) (files_at n.0 r) (files_at n.0 now) → BeginsJob at n r now mid (record { node = n; job = number; line = at.line })
+begins_copying r now mid at n number running size log is_open ordered survives source takes = record {
   now = record { running = running; nodes = size; log = log };
   node = refl;
   copying = record {
@@ -109,6 +109,7 @@ begins_copying r now mid at n number running size log is_open ordered survives s
     survives = subst (λ (l : Log). NodeSurvives (printed l) at n.0) (sym log) survives;
     source = subst (λ (l : Log). SourceSurvives (printed l) at) (sym log) source;
   };
+  takes = takes;
 }
   where
     job : Job
@@ -316,14 +317,14 @@ settle_turn r b at n v w log size is_open started source waits newest older =
 
 pub copy_begun : (r now : Run) (at : At) (n : NodeNo) (v : Version) (number : ℕ) → now.ended ≡ false → now.nodes ≡ r.nodes → IsNode r.nodes n.0 → v ≡ newest_of (printed r.log)
     → now.log ≡ kept (JobBegun at.line n number (Some v) (Some at)) ∷ shown at (Copying n v) ∷ r.log
-    → BeginsJob at n r now (shown at (Copying n (newest_of (printed r.log))) ∷ r.log) (record { node = n; job = number; line = at.line })
-copy_begun r now at n v number running size node newest log =
+    → TakesOver (generation_of (printed r.log)) (files_at n.0 r) (files_at n.0 now) → BeginsJob at n r now (shown at (Copying n (newest_of (printed r.log))) ∷ r.log) (record { node = n; job = number; line = at.line })
+copy_begun r now at n v number running size node newest log takes =
     let w : Version = newest_of (printed r.log) in
     begins_copying r now (shown at (Copying n w) ∷ r.log) at n number running size (log ∙ ap (λ (x : Version). kept (JobBegun at.line n number (Some x) (Some at)) ∷ shown at (Copying n x) ∷ r.log) newest)
     (copy_open (printed r.log) at n w) (let none = copy_switched (printed r.log) at n w in let some = node.0 in omega (arith, none, some))
-    (record { node = ap (crashes n.0) (sym (copy_before (printed r.log) at n w)) }) (record { source = ap primary_crashes (sym (copy_before (printed r.log) at n w)) })
+    (record { node = ap (crashes n.0) (sym (copy_before (printed r.log) at n w)) }) (record { source = ap primary_crashes (sym (copy_before (printed r.log) at n w)) }) takes
 
 pub settle_job_begun : (r now : Run) (at : At) (n : NodeNo) (v w : Version) (number : ℕ) → now.ended ≡ false → now.nodes ≡ r.nodes → v ≡ newest_of (printed r.log) → now.log ≡ kept (JobBegun at.line n number (Some v) (Some at)) ∷ r.log
-    → open_line at (printed r.log) ≢ None → WaitsFor r.nodes (printed r.log) at w.0 n → SourceSurvives (printed r.log) at → BeginsJob at n r now r.log (record { node = n; job = number; line = at.line })
-settle_job_begun r now at n v w number running size newest log is_open waits source =
-    begins_copying r now r.log at n number running size (log ∙ ap (λ (x : Version). kept (JobBegun at.line n number (Some x) (Some at)) ∷ r.log) newest) is_open waits.ordered waits.survives source
+    → open_line at (printed r.log) ≢ None → WaitsFor r.nodes (printed r.log) at w.0 n → SourceSurvives (printed r.log) at → TakesOver (generation_of (printed r.log)) (files_at n.0 r) (files_at n.0 now) → BeginsJob at n r now r.log (record { node = n; job = number; line = at.line })
+settle_job_begun r now at n v w number running size newest log is_open waits source takes =
+    begins_copying r now r.log at n number running size (log ∙ ap (λ (x : Version). kept (JobBegun at.line n number (Some x) (Some at)) ∷ r.log) newest) is_open waits.ordered waits.survives source takes

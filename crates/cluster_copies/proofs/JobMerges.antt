@@ -3,22 +3,22 @@ use Rattle.std.proofs.Common.{◌≡◌, ◌≤◌, ◌+◌, ◌++◌, ◌∷◌
 use Rattle.std.proofs.lemmas.Bool.{eq-eqb}
 use Rattle.nrt_base.specs.declared.numbers.NodeNo.{NodeNo}
 use Rattle.disk_model.specs.Disk.{Cells}
-use Rattle.primary_parts.specs.declared.parts.Parts.{Parts as PrimaryParts}
-use Rattle.primary_parts.specs.declared.states.Out.{Out}
-use Rattle.primary_parts.specs.States.{is_out, out_of}
-use Rattle.replica_parts.specs.declared.merges.MergeCopies.{MergeCopies}
-use Rattle.replica_parts.specs.declared.parts.Parts.{Parts as ReplicaParts}
-use Rattle.history_entries.specs.Nodes.{IsNode, is_at, primary_of}
+use Rattle.primary_state.specs.declared.parts.Parts.{Parts as PrimaryParts}
+use Rattle.primary_state.specs.declared.states.Out.{Out}
+use Rattle.primary_state.specs.States.{is_out, out_of}
+use Rattle.replica_state.specs.declared.merges.MergeCopies.{MergeCopies}
+use Rattle.replica_state.specs.declared.parts.Parts.{Parts as ReplicaParts}
+use Rattle.history_rules.specs.Nodes.{IsNode, is_at, primary_of}
 use Rattle.history_book.specs.Log.{Log, printed}
-use Rattle.history_merges.specs.Merging.{Sheet}
-use Rattle.cluster_places.specs.declared.nodes.Node.TheVariants.{Primary, Replica}
-use Rattle.cluster_places.specs.declared.nodes.Place.{Place}
-use Rattle.cluster_places.specs.Places.{place_of}
-use Rattle.cluster_places.specs.Outs.{want_of, states_like, jobs_like}
-use Rattle.cluster_places.specs.JobChanges.{given_back}
-use Rattle.cluster_places.specs.JobPlaces.{BeginsIn}
-use Rattle.cluster_places.proofs.OutCounts.{states_given, states_push}
-use Rattle.cluster_places.proofs.Stepping.{out_pushed}
+use Rattle.merge_tasks.specs.Merging.{Sheet}
+use Rattle.cluster_nodes.specs.declared.nodes.Node.TheVariants.{Primary, Replica}
+use Rattle.cluster_nodes.specs.declared.nodes.Place.{Place}
+use Rattle.cluster_nodes.specs.Places.{place_of}
+use Rattle.cluster_nodes.specs.Outs.{want_of, states_like, jobs_like}
+use Rattle.cluster_nodes.specs.JobChanges.{given_back}
+use Rattle.cluster_nodes.specs.JobPlaces.{BeginsIn}
+use Rattle.cluster_nodes.proofs.OutCounts.{states_given, states_push}
+use Rattle.cluster_nodes.proofs.Stepping.{out_pushed}
 use Rattle.cluster_state.specs.Run.{Run, Rest}
 use Rattle.cluster_state.specs.State.{PlaceShows, Shows}
 use Rattle.cluster_state.specs.Files.{FilesShow}

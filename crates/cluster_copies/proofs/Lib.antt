@@ -1,5 +1,13 @@
-mod CopiedNow
 mod Beginning
+mod CopiedNow
 mod CopyPaths
-mod Settling
+pub mod CopyRows
+mod Ending
+mod HandPaths
+mod Handing
+mod JobEnds
 mod JobMerges
+mod PartPaths
+mod Settling
+mod TakingOver
+mod TransferMerges

@@ -8,19 +8,19 @@ use Rattle.std.proofs.lemmas.List.Quantifiers.{all_pairs_push}
 use Rattle.nrt_base.specs.declared.numbers.At.{At}
 use Rattle.nrt_base.specs.declared.numbers.NodeNo.{NodeNo}
 use Rattle.nrt_base.specs.declared.numbers.Version.{Version}
-use Rattle.history_entries.specs.declared.entry.Event.TheVariants.{Settling}
-use Rattle.history_entries.specs.Nodes.{Past, IsNode, IsReplica, is_at, is_running, crashes, version_of}
-use Rattle.history_entries.specs.Lines.{same_at, start_entry, before_start, highest_switched, NodeSurvives, SourceSurvives}
-use Rattle.history_entries.specs.Points.{operations_of_generation}
-use Rattle.history_entries.specs.Rules.{MaySettle}
-use Rattle.history_entries.specs.Legal.{IsLegalPast}
-use Rattle.history_laws.proofs.NodeLemmas.{runs_through}
+use Rattle.history_rules.specs.declared.entry.Event.TheVariants.{Settling}
+use Rattle.history_rules.specs.Nodes.{Past, IsNode, IsReplica, is_at, is_running, crashes, version_of}
+use Rattle.history_rules.specs.Lines.{same_at, start_entry, before_start, highest_switched, NodeSurvives, SourceSurvives}
+use Rattle.history_rules.specs.Points.{operations_of_generation}
+use Rattle.history_rules.specs.Rules.{IsWhole, MaySettle}
+use Rattle.history_rules.specs.Legal.{IsLegalPast}
+use Rattle.history_rules.proofs.NodeLemmas.{runs_through}
 use Rattle.history_tables.specs.Begins.{begun_by, open_line}
 use Rattle.history_tables.proofs.RowLemmas.{by_test, same_at_self}
 use Rattle.history_book.specs.Log.{Log, printed, shown}
-use Rattle.history_merges.specs.Merging.{Sheet}
+use Rattle.merge_tasks.specs.Merging.{Sheet}
 use Rattle.history_book.proofs.ReignLaws.{since_start, reigns_on, start_kept}
-use Rattle.cluster_places.specs.declared.tasks.SettleTask.{SettleTask}
+use Rattle.cluster_nodes.specs.declared.tasks.SettleTask.{SettleTask}
 use Rattle.cluster_state.specs.Run.{Rest, Run, IsNow}
 use Rattle.cluster_state.proofs.Turning.{past_has}
 use Rattle.cluster_state.specs.Settles.{AreReplicas, IsLeft, IsSettling, WaitsFor}
@@ -138,10 +138,11 @@ one_passed size past at task now n rest is left same passed s = record {
         (subst (λ (k : NodeNo). task.version.0 ≤ version_of k.0 past) first (passed (subst (λ (k : NodeNo). NodeSurvives past at k.0) (sym first) survives)))
 
 -- where none is left the settle may end
-pub none_left : (size : ℕ) (past : Past) (at : At) (task : SettleTask) → SourceSurvives past at → task.left.items ≡ [] → IsSettling size past at task → MaySettle size past at task.version
-none_left size past at task source is s = record {
+pub none_left : (size : ℕ) (past : Past) (at : At) (task : SettleTask) → SourceSurvives past at → task.left.items ≡ [] → IsWhole size past at → IsSettling size past at task → MaySettle size past at task.version
+none_left size past at task source is whole s = record {
   started = s.started;
   source = source;
+  whole = whole;
   reached = λ n node replica survives. ⊎_elim
       (λ (has : Contains task.left.items (record { 0 = n })). nowhere (record { 0 = n }) (subst (λ (ys : List NodeNo). Contains ys (record { 0 = n })) is has))
       (λ (high : task.version.0 ≤ version_of n past). high) (s.reached (record { 0 = n }) node replica survives);

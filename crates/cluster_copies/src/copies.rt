@@ -1,8 +1,8 @@
 //! Jobs that copy the primary's newest point to replicas, for copies and settles: how they begin.
 
 ghost use Rattle.std.specs.Prelude.{◌≡◌, ◌≢◌, ◌<◌, ◌∷◌, [], false, None, Some, OnOk, OnErr, IfOk};
-ghost use Rattle.history_entries.specs.Nodes.{version_of, newest_version, IsNode, IsReplica, primary_of};
-ghost use Rattle.history_entries.specs.Lines.{start_entry, entries_of_line, SourceSurvives};
+ghost use Rattle.history_rules.specs.Nodes.{version_of, newest_version, IsNode, IsReplica, primary_of};
+ghost use Rattle.history_rules.specs.Lines.{start_entry, entries_of_line, SourceSurvives};
 ghost use Rattle.history_tables.specs.Begins.{open_line};
 ghost use Rattle.history_book.specs.Log.{printed, shown};
 ghost use Rattle.history_book.specs.Jobs.{job_at, IsOlder};
@@ -10,12 +10,11 @@ ghost use Rattle.cluster_state.specs.Run.{IsNow, IsEnded};
 ghost use Rattle.cluster_state.specs.Copies.{newest_of, BeginsJob};
 ghost use Rattle.cluster_state.specs.Settles.{WaitsFor};
 
-use cluster_places::{CopyTask, files_last};
+use cluster_nodes::{CopyTask, begin_in, files_last};
 use cluster_state::ClusterState;
 use disk_model::FaultDir;
 use history_book::Inner;
-use history_entries::Event;
-use node_jobs::begin_in;
+use history_rules::Event;
 use nrt_base::{At, NoMemory, NodeNo, Version};
 use std::alloc::Global;
 

@@ -1,9 +1,12 @@
-//! The paths that begin copies of the primary's newest point to replicas, and settles.
+//! Copies between the nodes of a cluster.
 #![tactic(auto)]
 
 mod copies;
+mod line_copies;
+mod line_settles;
 mod settles;
+mod transfers;
 
-pub use cluster_places::{CopyTask, FileTask, SettleTask};
-pub use copies::{begin_copy, begin_settling, note_copied};
-pub use settles::{begin_settle, next_left, replicas};
+pub use line_copies::{copy_arrived, copy_next, copy_start};
+pub use line_settles::{settle_next, settle_start};
+pub use settles::replicas;

@@ -2,19 +2,19 @@
 
 ghost use Rattle.std.specs.Prelude.{◌≡◌, ◌≢◌, ◌≤◌, ◌∷◌, [], false, None, IfOk, OnOk, OnErr, IfSome};
 ghost use Rattle.std.specs.List.{All};
-ghost use Rattle.history_entries.specs.Nodes.{is_at, primary_of};
-ghost use Rattle.history_entries.specs.Lines.{entries_of_line, SourceSurvives};
-ghost use Rattle.history_entries.specs.Rules.{MaySettle};
+ghost use Rattle.history_rules.specs.Nodes.{is_at, primary_of};
+ghost use Rattle.history_rules.specs.Lines.{entries_of_line, SourceSurvives};
+ghost use Rattle.history_rules.specs.Rules.{IsWhole, MaySettle};
 ghost use Rattle.history_book.specs.Log.{printed, shown};
 ghost use Rattle.cluster_state.specs.Settles.{AreReplicas, IsSettling, WaitsFor};
 ghost use Rattle.cluster_state.specs.Run.{IsNow, IsEnded};
 ghost use Rattle.cluster_state.specs.Copies.{newest_of};
 
-use cluster_places::SettleTask;
+use cluster_nodes::SettleTask;
 use cluster_state::ClusterState;
 use disk_model::FaultDir;
 use history_book::Book;
-use history_entries::Event;
+use history_rules::Event;
 use nrt_base::{At, NoMemory, NodeNo, Version};
 use std::alloc::Global;
 
@@ -87,7 +87,7 @@ pub fn next_left<D: FaultDir + Drop>(
     ensures first { IfSome result (λ n. All (λ m. n.0 ≤ m.0) task.new.left.items) }
     ensures waits { IfSome result
         (WaitsFor cluster.now.nodes (printed cluster.now.log) at task.new.version.0) }
-    ensures done { result ≡ None
+    ensures done { result ≡ None → IsWhole cluster.now.nodes (printed cluster.now.log) at
         → MaySettle cluster.now.nodes (printed cluster.now.log) at task.new.version }
 {
     let book = cluster.ledger.book();

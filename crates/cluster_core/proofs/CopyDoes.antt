@@ -6,14 +6,15 @@ use Rattle.std.proofs.lemmas.Option.{same_Some}
 use Rattle.nrt_base.specs.declared.numbers.At.{At}
 use Rattle.nrt_base.specs.declared.numbers.NodeNo.{NodeNo}
 use Rattle.nrt_base.specs.declared.numbers.Version.{Version}
-use Rattle.history_entries.specs.declared.cause.Cause.{Cause}
-use Rattle.history_entries.specs.declared.cause.Cause.TheVariants.{Lost}
-use Rattle.history_entries.specs.declared.entry.Event.{Event}
-use Rattle.history_entries.specs.declared.entry.Event.TheVariants.{Copying, Switched, Copied, Settling, Settled, Refused}
-use Rattle.history_entries.specs.Nodes.{Past}
-use Rattle.history_entries.specs.Lines.{same_at, is_reply, is_answered, last_of_line, start_entry, before_start, highest_switched}
-use Rattle.history_entries.specs.Legal.{IsLegalPast}
-use Rattle.history_entries.specs.Rules.{is_lost}
+use Rattle.disk_model.specs.Disk.{Name}
+use Rattle.history_rules.specs.declared.cause.Cause.{Cause}
+use Rattle.history_rules.specs.declared.cause.Cause.TheVariants.{Lost}
+use Rattle.history_rules.specs.declared.entry.Event.{Event}
+use Rattle.history_rules.specs.declared.entry.Event.TheVariants.{Copying, Switched, Copied, Settling, Settled, Refused}
+use Rattle.history_rules.specs.Nodes.{Past}
+use Rattle.history_rules.specs.Lines.{same_at, is_reply, is_answered, last_of_line, start_entry, before_start, highest_switched}
+use Rattle.history_rules.specs.Legal.{IsLegalPast}
+use Rattle.history_rules.specs.Started.{is_lost}
 use Rattle.history_tables.specs.declared.jobs.Job.{Job}
 use Rattle.history_tables.specs.declared.jobs.JobRow.{JobRow}
 use Rattle.history_tables.specs.Begins.{open_line}
@@ -32,15 +33,15 @@ use Rattle.cluster_state.specs.Given.{CopyTask, FileTask, SettleTask}
 use Rattle.cluster_state.specs.Run.{Run, IsNow}
 use Rattle.cluster_state.specs.Copies.{newest_of, GoesOn, ended_log}
 use Rattle.cluster_state.specs.Settles.{IsSettling}
-use Rattle.line_turns.specs.declared.standing.Standing.{Standing}
-use Rattle.line_turns.specs.declared.standing.Standing.TheVariants.{Runs, Passed, Ends}
-use Rattle.line_turns.specs.declared.turn.Turn.{Turn}
-use Rattle.line_turns.specs.declared.turn.Turn.TheVariants.{Work, Done, Busy}
-use Rattle.lane_walks.specs.Owes.{SuitsOrFault}
+use Rattle.cluster_state.specs.declared.standing.Standing.{Standing}
+use Rattle.cluster_state.specs.declared.standing.Standing.TheVariants.{Runs, Passed, Ends}
+use Rattle.cluster_state.specs.declared.turn.Turn.{Turn}
+use Rattle.cluster_state.specs.declared.turn.Turn.TheVariants.{Work, Done, Busy}
+use Rattle.lane_threads.specs.Owes.{SuitsOrFault}
 use Rattle.cluster_core.specs.Doing.{Does, IsReplied, IsRepliedAtDone, IsBegunAtWork}
-use Rattle.line_turns.specs.CopyCalls.{CopiesFor, CopyAnswered, CopyStarts, CopyStartsWhen, is_node_lost, overtaken, standing_of, log_after, IsOpenJob, stopped_log, JobSteps, PartArrives, SettleStarts, settle_end_event, SettleGoesOn}
+use Rattle.cluster_state.specs.CopyCalls.{CopiesFor, CopyAnswered, CopyStarts, CopyStartsWhen, is_node_lost, overtaken, standing_of, log_after, IsOpenJob, stopped_log, JobSteps, PartArrives, SettleStarts, settle_end_event, SettleGoesOn}
 use Rattle.cluster_core.proofs.Does.{does_was, runs_in, one_does, none_does, first_suits, refused_does, replied_by, one_replied, lost_reply, refused_for_does, refused_for_replied, begun_by}
-use Rattle.line_copies.proofs.CopyRows.{copy_newest, started_newest}
+use Rattle.cluster_copies.proofs.CopyRows.{copy_newest, started_newest}
 
 -- ---- copy starts
 
@@ -225,12 +226,12 @@ goes_does command row size old new begun turn legal turns start line high starts
         ended_does row.job row.later size old new begun legal turns start line command begun refl copies starts high (subst (λ (o : Option Event). IsNow old new (ended_log row.job o old.log)) start goes)
     by None is Busy goes = absurd goes
 
-pub arrives_does : (command : LineCommand) (row : JobRow) (size : ℕ) (old new : Run) (begun : Event) (turn : Turn (Unit {0})) → IsLegalPast size (printed old.log) → AreInTurn (printed old.log)
+pub arrives_does : (command : LineCommand) (row : JobRow) (name : Name) (size : ℕ) (old new : Run) (begun : Event) (turn : Turn (Unit {0})) → IsLegalPast size (printed old.log) → AreInTurn (printed old.log)
     → start_entry row.job.at (printed old.log) ≡ Some begun → open_line row.job.at (printed old.log) ≢ None → CopiesFor command (Some begun)
-    → PartArrives (stopped_log begun row old.log) old new turn → Does command row.job.at old new
-arrives_does command row size old new begun turn legal turns start line copies arrives = by (stopped_log begun row old.log) refl arrives
+    → PartArrives row.job.node name (stopped_log begun row old.log) old new turn → Does command row.job.at old new
+arrives_does command row name size old new begun turn legal turns start line copies arrives = by (stopped_log begun row old.log) refl arrives
   where
-    by : (o : Option Log) → stopped_log begun row old.log ≡ o → PartArrives o old new turn → Does command row.job.at old new
+    by : (o : Option Log) → stopped_log begun row old.log ≡ o → PartArrives row.job.node name o old new turn → Does command row.job.at old new
     by (Some log) is arrives =
         stops_does row.job row.later size old new begun legal turns start line command (standing_of begun row (printed old.log)) log copies
         (late_standing (is_lost (printed old.log) (before_start row.job.at (printed old.log)) begun) (is_node_lost (printed old.log) row.job) row.later) is arrives.1
@@ -303,12 +304,12 @@ next_done command at row size s r new l (Ok turn) view same at_is job legal turn
     by None is starts copies = absurd starts
     by (Some begun) is starts copies = goes_does command row size s new begun turn legal turns is job.is_open job.ordered starts copies (ok begun is)
 
-pub arrived_done : (command : LineCommand) (at : At) (row : JobRow) (size : ℕ) (s r new : Run) (result : Result (Turn (Unit {0})) AllocError) → s ≡ r → row.job.at ≡ at → IsOpenJob s.log row
+pub arrived_done : (command : LineCommand) (at : At) (row : JobRow) (name : Name) (size : ℕ) (s r new : Run) (result : Result (Turn (Unit {0})) AllocError) → s ≡ r → row.job.at ≡ at → IsOpenJob s.log row
     → IsLegalPast size (printed s.log) → AreInTurn (printed s.log)
-    → IfOk result (λ turn. (begun : Event) → start_entry row.job.at (printed s.log) ≡ Some begun → PartArrives (stopped_log begun row s.log) s new turn)
+    → IfOk result (λ turn. (begun : Event) → start_entry row.job.at (printed s.log) ≡ Some begun → PartArrives row.job.node name (stopped_log begun row s.log) s new turn)
     → CopiesFor command (start_entry at (printed r.log)) → OnOk result (Does command at r new)
-arrived_done command at row size s r new (Err e) view at_is job legal turns ok copies = tt
-arrived_done command at row size s r new (Ok turn) view at_is job legal turns ok copies =
+arrived_done command at row name size s r new (Err e) view at_is job legal turns ok copies = tt
+arrived_done command at row name size s r new (Ok turn) view at_is job legal turns ok copies =
     does_was command at s r new view (subst (λ (a : At). Does command a s new) at_is
     (by (start_entry row.job.at (printed s.log)) refl (subst (λ (x : Run × At). CopiesFor command (start_entry x.1 (printed x.0.log))) (λ i. (sym view i, sym at_is i)) copies)))
   where
@@ -319,7 +320,7 @@ arrived_done command at row size s r new (Ok turn) view at_is job legal turns ok
 
     by : (o : Option Event) → start_entry row.job.at (printed s.log) ≡ o → CopiesFor command o → Does command row.job.at s new
     by None is copies = absurd (uncopied command copies)
-    by (Some begun) is copies = arrives_does command row size s new begun turn legal turns is job.is_open copies (ok begun is)
+    by (Some begun) is copies = arrives_does command row name size s new begun turn legal turns is job.is_open copies (ok begun is)
 
 pub settle_done : (at : At) (size : ℕ) (old left : SettleTask) (s r new : Run) (result : Result (Turn CopyTask) AllocError) → s ≡ r → r.ended ≡ false → IsSettling r.nodes (printed r.log) at old
     → IsLegalPast size (printed s.log) → AreInTurn (printed s.log) → IfOk result (SettleGoesOn at s new left) → OnOk result (Does Settle at r new)

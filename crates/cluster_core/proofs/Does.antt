@@ -1,5 +1,5 @@
 -- What each row of calls does for its line, from the entries that it adds.
-use Rattle.std.proofs.Common.{◌≡◌, ◌≢◌, ◌&&◌, ◌||◌, ◌==◌, ◌+◌, ℕ, Bool, true, false, List, [], ◌∷◌, Some, None, Option, refl, ap, ◌∙◌, sym, subst, if◌then◌else◌, length, inr, arith}
+use Rattle.std.proofs.Common.{◌≡◌, ◌≢◌, ◌&&◌, ◌||◌, ◌==◌, ◌+◌, ℕ, Bool, true, false, List, [], ◌∷◌, ◌++◌, map, Some, None, Option, refl, ap, ◌∙◌, sym, subst, if◌then◌else◌, length, inr, arith}
 use Rattle.std.specs.Prelude.{not, is_some}
 use Rattle.std.specs.List.{list_any}
 use Rattle.std.proofs.lemmas.Bool.{and_from, and_parts}
@@ -17,15 +17,16 @@ use Rattle.documents.specs.Documents.{is_put}
 use Rattle.seg_reader.specs.Shown.{Shown}
 use Rattle.searcher_switch.specs.declared.searchers.Lease.{Lease}
 use Rattle.segment_steps.specs.declared.flushing.FlushTask.{FlushTask}
-use Rattle.history_entries.specs.declared.cause.Cause.{Cause}
-use Rattle.history_entries.specs.declared.cause.Cause.TheVariants.{NoTicket, Nothing, NamesSpent, TooManySegments, Lost}
-use Rattle.history_entries.specs.declared.entry.Event.{Event}
-use Rattle.history_entries.specs.declared.entry.Event.TheVariants.{Accepted, Publishing, Published, Opened, Asking, Answered, Closed, Files, Refused}
-use Rattle.history_entries.specs.Nodes.{Past, generation_of, newest_version, version_of}
-use Rattle.history_entries.specs.Lines.{same_at, is_start, is_reply, is_answered, last_of_line, before_start}
-use Rattle.history_entries.specs.Points.{cut_of, cut_has_put}
-use Rattle.history_entries.specs.Tickets.{Ticket, has_ticket, open_ticket}
-use Rattle.history_entries.specs.Rules.{is_lost}
+use Rattle.history_rules.specs.declared.cause.Cause.{Cause}
+use Rattle.history_rules.specs.declared.cause.FaultKind.{FaultKind}
+use Rattle.history_rules.specs.declared.cause.Cause.TheVariants.{NoTicket, Nothing, NamesSpent, TooManySegments, Lost}
+use Rattle.history_rules.specs.declared.entry.Event.{Event}
+use Rattle.history_rules.specs.declared.entry.Event.TheVariants.{Accepted, Publishing, Published, Opened, Asking, Answered, Closed, Files, Refused}
+use Rattle.history_rules.specs.Nodes.{Past, generation_of, newest_version, version_of}
+use Rattle.history_rules.specs.Lines.{same_at, is_start, is_reply, is_answered, last_of_line, before_start}
+use Rattle.history_rules.specs.Points.{cut_of, cut_has_put}
+use Rattle.history_rules.specs.Tickets.{Ticket, has_ticket, open_ticket}
+use Rattle.history_rules.specs.Started.{is_lost}
 use Rattle.history_tables.proofs.RowLemmas.{same_at_self}
 use Rattle.history_book.specs.Laws.{IsFresh}
 use Rattle.history_book.specs.Log.{Log, printed, shown, kept}
@@ -38,12 +39,15 @@ use Rattle.script_serving.specs.declared.script.LineCommand.TheVariants.{Publish
 use Rattle.script_serving.specs.Refusals.{when, without_primary, without_node, names_are_spent, may_be_full, refusal}
 use Rattle.script_serving.specs.Serves.{First, Follows, Suits}
 use Rattle.cluster_state.specs.Run.{Run, IsNow}
-use Rattle.line_turns.specs.declared.turn.Turn.{Turn}
-use Rattle.line_turns.specs.declared.turn.Turn.TheVariants.{Work, Done, Busy}
-use Rattle.lane_walks.specs.Owes.{SuitsOrFault}
+use Rattle.cluster_state.specs.declared.turn.Turn.{Turn}
+use Rattle.cluster_state.specs.declared.turn.Turn.TheVariants.{Work, Done, Busy}
+use Rattle.lane_threads.specs.Owes.{AddsEntries, SuitsOrFault}
 use Rattle.cluster_core.specs.Doing.{Does, IsReplied, IsBegunBy, IsRepliedAtDone, IsBegunAtWork, writing_command, AsksFor}
-use Rattle.line_turns.specs.Calls.{by_refusal, LineRefused, IsRefusedFor, publish_refusal, PublishRefused, PublishStarts, publish_end_event, open_event, ListsFiles, SearchStarts, AsksTicket, AskStarts, asked_event, close_by, ScansAt, answer_event, AnswerEnds}
-use Rattle.line_turns.proofs.Rows.{up_unrefused}
+use Rattle.cluster_state.specs.Calls.{by_refusal, LineRefused, IsRefusedFor, publish_refusal, PublishRefused, PublishStarts, open_event, ListsFiles, SearchStarts, AsksTicket, AskStarts, asked_event, close_by, ScansAt, answer_event, AnswerEnds}
+use Rattle.cluster_state.specs.GivesUp.{publish_reply, met_log, PublishEndsBy, EndsPublish}
+use Rattle.cluster_state.specs.Met.{kinds_of, fault_by}
+use Rattle.cluster_state.proofs.Faulted.{met_has}
+use Rattle.cluster_state.proofs.Rows.{up_unrefused}
 
 -- ---- entries
 
@@ -333,16 +337,69 @@ publish_begun at old new (Work task) fresh starts = begun_by at old new Publishi
 publish_begun at old new Done fresh starts = tt
 publish_begun at old new Busy fresh starts = tt
 
-pub published_does : (at : At) (old new : Run) → last_of_line at (printed old.log) ≡ Some Publishing → AreInTurn (printed old.log)
-    → IsNow old new (shown at (publish_end_event at (printed old.log)) ∷ old.log) → Does Publish at old new
-published_does at old new last turns now =
-    answered_does Publish at old new (is_lost (printed old.log) (before_start at (printed old.log)) Publishing) Publishing
-    (Published (record { 0 = generation_of (printed old.log) }) (record { 0 = newest_version (printed old.log) + 1 })) last (started_unanswered at (printed old.log) Publishing turns refl last) (λ suits. suits) tt refl now
+-- the line added these entries, which are faults, to a log where it had this newest entry, and has no reply yet
+record Meets (command : LineCommand) (at : At) (base : Log) (last : Option Event) (log : Log) : Type 0 where
+  more : Log
+  log_is : log ≡ more ++ base
+  adds : AddsEntries false command at more base
+  unanswered : is_answered at (printed log) ≡ false
+  newest : last_of_line at (printed log) ≡ last
 
-pub published_replied : (at : At) (old new : Run) → IsNow old new (shown at (publish_end_event at (printed old.log)) ∷ old.log) → IsReplied at new
-published_replied at old new now =
-    one_replied at old new (publish_end_event at (printed old.log)) (lost_reply (is_lost (printed old.log) (before_start at (printed old.log)) Publishing)
-    (Published (record { 0 = generation_of (printed old.log) }) (record { 0 = newest_version (printed old.log) + 1 })) refl) now
+meets_one : (command : LineCommand) (at : At) (base : Log) (last : Option Event) (n : ℕ) (kind : FaultKind) (log : Log) → Meets command at base last log → Meets command at base last (fault_by false at n kind ∷ log)
+meets_one command at base last n kind log m = record {
+  more = fault_by false at n kind ∷ m.more;
+  log_is = ap (λ (l : Log). fault_by false at n kind ∷ l) m.log_is;
+  adds = (refl, subst (λ (l : Log). is_answered at (printed l) ≡ false) m.log_is m.unanswered, m.adds);
+  unanswered = m.unanswered;
+  newest = both (same_at at at) (last_of_line at (printed log)) ∙ m.newest;
+}
+  where
+    both : {X : Type 0} → (b : Bool) (x : X) → (if b then x else x) ≡ x
+    both true x = refl
+    both false x = refl
+
+-- the faults that the line met, and then its reply
+met_does : (at : At) (old new : Run) (e : Event) → last_of_line at (printed old.log) ≡ Some Publishing → is_answered at (printed old.log) ≡ false → IsNow old new (shown at e ∷ met_log at old new) → Follows Publish Publishing e
+    → ((past : Past) → Suits Publish at past (last_of_line at past) e → SuitsOrFault Publish at past e) → Does Publish at old new
+met_does at old new e last unanswered now follows lift =
+    let m = met_has (Meets Publish at old.log (Some Publishing)) false at (λ n kind log is. meets_one Publish at old.log (Some Publishing) n kind log is) 1 (map kinds_of old.rest.plans) (map kinds_of new.rest.plans) old.log
+    (record { more = []; log_is = refl; adds = tt; unanswered = unanswered; newest = last }) in
+    record {
+      running = now.running;
+      nodes = now.nodes;
+      goes = record {
+        more = shown at e ∷ m.more;
+        log = now.log ∙ ap (λ (l : Log). shown at e ∷ l) m.log_is;
+        adds = (
+          refl,
+          subst (λ (l : Log). SuitsOrFault Publish at (printed l) e) m.log_is (lift (printed (met_log at old new)) (later_suits Publish at (printed (met_log at old new)) Publishing e m.newest m.unanswered follows)),
+          m.adds,
+        );
+      };
+    }
+
+pub published_does : (at : At) (old new : Run) → last_of_line at (printed old.log) ≡ Some Publishing → AreInTurn (printed old.log) → EndsPublish at old new → Does Publish at old new
+published_does at old new last turns = by (is_lost (printed old.log) (before_start at (printed old.log)) Publishing)
+  where
+    unanswered : is_answered at (printed old.log) ≡ false
+    unanswered = started_unanswered at (printed old.log) Publishing turns refl last
+
+    by : (b : Bool) → PublishEndsBy b at old new → Does Publish at old new
+    by true now = one_does Publish at old new (Refused Lost) now (later_suits Publish at (printed old.log) Publishing (Refused Lost) last unanswered refl)
+    by false (true, ends) = met_does at old new (publish_reply true (printed old.log)) last unanswered ends.now tt (λ past suits. suits)
+    by false (false, ends) = met_does at old new (publish_reply false (printed old.log)) last unanswered ends.now refl (λ past suits. suits)
+
+pub published_replied : (at : At) (old new : Run) → EndsPublish at old new → IsReplied at new
+published_replied at old new = by (is_lost (printed old.log) (before_start at (printed old.log)) Publishing)
+  where
+    replies : (e : Event) (log : Log) → is_reply e ≡ true → new.log ≡ shown at e ∷ log → IsReplied at new
+    replies e log reply is =
+        subst (λ (l : Log). is_answered at (printed l) ≡ true) (sym is) (replied_by (is_reply e) (same_at at at) (is_answered at (printed log)) reply (same_at_self at))
+
+    by : (b : Bool) → PublishEndsBy b at old new → IsReplied at new
+    by true now = one_replied at old new (Refused Lost) refl now
+    by false (true, ends) = replies (publish_reply true (printed old.log)) (met_log at old new) refl ends.now.log
+    by false (false, ends) = replies (publish_reply false (printed old.log)) (met_log at old new) refl ends.now.log
 
 -- ---- in the terms of a call, whose cluster has this state
 

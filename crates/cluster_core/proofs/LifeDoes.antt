@@ -3,9 +3,9 @@ use Rattle.std.proofs.Common.{◌≡◌, ℕ, ◌∷◌, false, Some, None, refl
 use Rattle.nrt_base.specs.declared.numbers.At.{At}
 use Rattle.nrt_base.specs.declared.numbers.NodeNo.{NodeNo}
 use Rattle.nrt_base.specs.declared.numbers.Version.{Version}
-use Rattle.history_entries.specs.declared.entry.Event.TheVariants.{Committing, Committed, Crashed, Reopened}
-use Rattle.history_entries.specs.Lines.{last_of_line, before_start}
-use Rattle.history_entries.specs.Rules.{is_lost}
+use Rattle.history_rules.specs.declared.entry.Event.TheVariants.{Committing, Committed, Crashed, Reopened}
+use Rattle.history_rules.specs.Lines.{last_of_line, before_start}
+use Rattle.history_rules.specs.Started.{is_lost}
 use Rattle.history_tables.proofs.RowLemmas.{same_at_self}
 use Rattle.history_book.specs.Laws.{IsFresh}
 use Rattle.history_book.specs.Log.{printed, shown}
@@ -14,12 +14,12 @@ use Rattle.script_serving.specs.declared.script.LineCommand.TheVariants.{Commit,
 use Rattle.script_serving.specs.Refusals.{without_node}
 use Rattle.cluster_state.specs.Given.{CommitTask}
 use Rattle.cluster_state.specs.Run.{Run, IsNow}
-use Rattle.line_turns.specs.declared.turn.Turn.{Turn}
-use Rattle.line_turns.specs.declared.turn.Turn.TheVariants.{Work, Done, Busy}
+use Rattle.cluster_state.specs.declared.turn.Turn.{Turn}
+use Rattle.cluster_state.specs.declared.turn.Turn.TheVariants.{Work, Done, Busy}
 use Rattle.cluster_core.specs.Doing.{Does, IsReplied, IsRepliedAtDone, IsBegunAtWork}
-use Rattle.line_turns.specs.LifeCalls.{CommitStarts, commit_end_event, CommitSteps, crash_event, with_node, ReopensNode}
+use Rattle.cluster_state.specs.LifeCalls.{CommitStarts, commit_end_event, CommitSteps, crash_event, with_node, ReopensNode}
 use Rattle.cluster_core.proofs.Does.{row_does, row_replied, none_does, refused_for_does, refused_for_replied, begun_by, answered_does, started_unanswered, one_replied, lost_reply}
-use Rattle.line_turns.proofs.Rows.{up_unrefused}
+use Rattle.cluster_state.proofs.Rows.{up_unrefused}
 
 -- ---- commits
 

@@ -6,11 +6,11 @@ use Rattle.nrt_base.specs.declared.numbers.At.{At}
 use Rattle.nrt_base.specs.declared.numbers.LineNo.{LineNo}
 use Rattle.nrt_base.specs.declared.numbers.NodeNo.{NodeNo}
 use Rattle.nrt_base.specs.declared.numbers.SegNo.{SegNo}
-use Rattle.history_entries.specs.declared.cause.Cause.{Cause}
-use Rattle.history_entries.specs.declared.cause.Cause.TheVariants.{NoPrimary, Nothing, NamesSpent}
-use Rattle.history_entries.specs.declared.entry.Event.TheVariants.{Merging, Drained, Refused}
-use Rattle.history_entries.specs.Nodes.{primary_of}
-use Rattle.history_entries.specs.Lines.{same_at, is_answered}
+use Rattle.history_rules.specs.declared.cause.Cause.{Cause}
+use Rattle.history_rules.specs.declared.cause.Cause.TheVariants.{NoPrimary, Nothing, NamesSpent}
+use Rattle.history_rules.specs.declared.entry.Event.TheVariants.{Merging, Drained, Refused}
+use Rattle.history_rules.specs.Nodes.{primary_of}
+use Rattle.history_rules.specs.Lines.{same_at, is_answered}
 use Rattle.history_tables.proofs.RowLemmas.{same_at_self}
 use Rattle.history_book.specs.Laws.{IsFresh}
 use Rattle.history_book.specs.Log.{Log, printed, shown, kept, name_by}
@@ -19,18 +19,18 @@ use Rattle.history_book.specs.declared.inner.Step.TheVariants.{Merge as MergeSte
 use Rattle.script_serving.specs.declared.script.LineCommand.TheVariants.{Merge, Drain}
 use Rattle.script_serving.specs.Refusals.{when, may_be_refused}
 use Rattle.script_serving.specs.Serves.{First}
-use Rattle.cluster_tasks.specs.declared.tasks.Task.{Task}
-use Rattle.cluster_tasks.specs.declared.tasks.Sent.{Sent}
-use Rattle.cluster_tasks.specs.TaskLog.{counted_for}
-use Rattle.cluster_tasks.specs.Board.{step_of}
+use Rattle.merge_tasks.specs.declared.tasks.Task.{Task}
+use Rattle.merge_tasks.specs.declared.tasks.Sent.{Sent}
+use Rattle.history_book.specs.Told.{counted_for}
+use Rattle.merge_tasks.specs.Board.{step_of}
 use Rattle.cluster_state.specs.Given.{FileTask}
 use Rattle.cluster_state.specs.Run.{Run, IsNow}
-use Rattle.line_merges.specs.Given.{IsAsBefore, TakesTask, EndsBuild, begun_log}
-use Rattle.line_turns.specs.declared.turn.Turn.{Turn}
-use Rattle.line_turns.specs.declared.turn.Turn.TheVariants.{Work, Done, Busy}
-use Rattle.line_merges.specs.TaskCalls.{RefusesMerge, StartsOrRefuses, MergeLine, EndsCopyOnce, PrecopyTurns, PartTurns, CutsOnce, CutTurns, DrainTurns}
-use Rattle.lane_walks.specs.Owes.{AddsByTask, GoesByTask}
-use Rattle.lane_walks.proofs.WalkLemmas.{lane_self}
+use Rattle.cluster_merges.specs.MergePaths.{IsAsBefore, TakesTask, EndsBuild, begun_log}
+use Rattle.cluster_state.specs.declared.turn.Turn.{Turn}
+use Rattle.cluster_state.specs.declared.turn.Turn.TheVariants.{Work, Done, Busy}
+use Rattle.cluster_merges.specs.TaskCalls.{RefusesMerge, StartsOrRefuses, MergeLine, EndsCopyOnce, PrecopyTurns, PartTurns, CutsOnce, CutTurns, DrainTurns}
+use Rattle.lane_threads.specs.Owes.{AddsByTask, GoesByTask}
+use Rattle.lane_threads.proofs.WalkLemmas.{lane_self}
 use Rattle.cluster_core.specs.Doing.{Does, IsReplied, IsRepliedAtDone}
 use Rattle.cluster_core.specs.Tasks.{DoesTask}
 use Rattle.cluster_core.proofs.Does.{one_does, none_does, first_suits, refused_does, one_replied, replied_by}
@@ -164,7 +164,7 @@ module _ (by : Option At) (old new : Run) where
   part_does seg n job Busy turns = absurd turns
 
   cut_once : (line : LineNo) (seg : SegNo) (copied : Bool) → CutsOnce line seg by old new copied → DoesTask by old new
-  cut_once line seg true cuts = task_does (kept (TaskEnd line seg by CutStep true) ∷ kept (MergeEnd seg) ∷ []) cuts.0.cuts.is (inl refl, (inr refl, tt))
+  cut_once line seg true cuts = task_does (kept (TaskEnd line seg by CutStep true) ∷ kept (MergeEnd seg true) ∷ []) cuts.0.cuts.is (inl refl, (inr refl, tt))
   cut_once line seg false cuts = stays_does cuts
 
   pub cut_does : (line : LineNo) (seg : SegNo) (turn : Turn (Unit {0})) → CutTurns line seg by old new turn → DoesTask by old new

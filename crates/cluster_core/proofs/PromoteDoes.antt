@@ -2,16 +2,16 @@
 use Rattle.std.proofs.Common.{◌+◌, ◌∷◌, refl}
 use Rattle.nrt_base.specs.declared.numbers.At.{At}
 use Rattle.nrt_base.specs.declared.numbers.NodeNo.{NodeNo}
-use Rattle.history_entries.specs.declared.entry.Event.{Event}
-use Rattle.history_entries.specs.declared.entry.Event.TheVariants.{Promoted}
-use Rattle.history_entries.specs.Nodes.{generation_of}
+use Rattle.history_rules.specs.declared.entry.Event.{Event}
+use Rattle.history_rules.specs.declared.entry.Event.TheVariants.{Promoted}
+use Rattle.history_rules.specs.Nodes.{generation_of}
 use Rattle.history_book.specs.Laws.{IsFresh}
 use Rattle.history_book.specs.Log.{printed, shown}
 use Rattle.script_serving.specs.declared.script.Force.{Force}
 use Rattle.script_serving.specs.declared.script.LineCommand.TheVariants.{Promote}
 use Rattle.script_serving.specs.Refusals.{forced_version, refusal}
 use Rattle.cluster_state.specs.Run.{Run, IsNow}
-use Rattle.line_promotions.specs.PromoteCalls.{promote_event}
+use Rattle.cluster_recovery.specs.PromoteCalls.{promote_event}
 use Rattle.cluster_core.specs.Doing.{Does, IsReplied}
 use Rattle.cluster_core.proofs.Does.{row_does, row_replied}
 

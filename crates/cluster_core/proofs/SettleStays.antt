@@ -9,11 +9,11 @@ use Rattle.std.proofs.lemmas.Option.{same_Some}
 use Rattle.nrt_base.specs.declared.numbers.At.{At}
 use Rattle.nrt_base.specs.declared.numbers.NodeNo.{NodeNo}
 use Rattle.nrt_base.specs.declared.numbers.Version.{Version}
-use Rattle.history_entries.specs.declared.entry.Event.{Event}
-use Rattle.history_entries.specs.declared.entry.Event.TheVariants.{Switched, Settling, Refused}
-use Rattle.history_entries.specs.Nodes.{Past, newest_version, version_of}
-use Rattle.history_entries.specs.Lines.{start_entry, before_start, highest_switched}
-use Rattle.history_entries.specs.Legal.{IsLegalPast}
+use Rattle.history_rules.specs.declared.entry.Event.{Event}
+use Rattle.history_rules.specs.declared.entry.Event.TheVariants.{Switched, Settling, Refused}
+use Rattle.history_rules.specs.Nodes.{Past, newest_version, version_of}
+use Rattle.history_rules.specs.Lines.{start_entry, before_start, highest_switched}
+use Rattle.history_rules.specs.Legal.{IsLegalPast}
 use Rattle.history_tables.specs.declared.jobs.JobRow.{JobRow}
 use Rattle.history_tables.specs.Begins.{open_line}
 use Rattle.history_tables.proofs.RowLemmas.{same_at_self, refused_closed}
@@ -23,11 +23,11 @@ use Rattle.cluster_state.specs.Given.{FileTask, SettleTask}
 use Rattle.cluster_state.specs.Run.{Run, IsNow}
 use Rattle.cluster_state.specs.Copies.{ended_log}
 use Rattle.cluster_state.specs.Settles.{IsLeft, IsSettling}
-use Rattle.line_turns.specs.declared.standing.Standing.{Standing}
-use Rattle.line_turns.specs.declared.standing.Standing.TheVariants.{Runs, Passed, Ends}
-use Rattle.line_turns.specs.declared.turn.Turn.{Turn}
-use Rattle.line_turns.specs.declared.turn.Turn.TheVariants.{Work, Done, Busy}
-use Rattle.line_turns.specs.CopyCalls.{standing_of, log_after, stopped_log, JobSteps, AreFrom, SettlesOn}
+use Rattle.cluster_state.specs.declared.standing.Standing.{Standing}
+use Rattle.cluster_state.specs.declared.standing.Standing.TheVariants.{Runs, Passed, Ends}
+use Rattle.cluster_state.specs.declared.turn.Turn.{Turn}
+use Rattle.cluster_state.specs.declared.turn.Turn.TheVariants.{Work, Done, Busy}
+use Rattle.cluster_state.specs.CopyCalls.{standing_of, log_after, stopped_log, JobSteps, AreFrom, SettlesOn}
 
 all_step : (P R Q : NodeNo → Type 0) (xs : List NodeNo) → ((n : NodeNo) → P n → R n → Q n) → All P xs → All R xs → All Q xs
 all_step P R Q xs step p r =

@@ -4,16 +4,16 @@ use Rattle.nrt_base.specs.declared.numbers.At.{At}
 use Rattle.documents.specs.declared.operation.Op.{Op}
 use Rattle.documents.specs.declared.operation.Op.TheVariants.{Put as PutOp, Delete as DeleteOp, Drop as DropOp}
 use Rattle.documents.specs.declared.query.Query.{Query}
-use Rattle.history_entries.specs.declared.entry.Event.{Event}
-use Rattle.history_entries.specs.declared.entry.Event.TheVariants.{Opened, Asking}
-use Rattle.history_entries.specs.Lines.{is_answered, last_of_line}
+use Rattle.history_rules.specs.declared.entry.Event.{Event}
+use Rattle.history_rules.specs.declared.entry.Event.TheVariants.{Opened, Asking}
+use Rattle.history_rules.specs.Lines.{is_answered, last_of_line}
 use Rattle.history_book.specs.Log.{printed}
 use Rattle.script_serving.specs.declared.script.LineCommand.{LineCommand}
 use Rattle.script_serving.specs.declared.script.LineCommand.TheVariants.{Put, Delete, Drop, Search, Ask}
 use Rattle.cluster_state.specs.Run.{Run}
-use Rattle.line_turns.specs.declared.turn.Turn.{Turn}
-use Rattle.line_turns.specs.declared.turn.Turn.TheVariants.{Work, Done, Busy}
-use Rattle.lane_walks.specs.Owes.{GoesByLine}
+use Rattle.cluster_state.specs.declared.turn.Turn.{Turn}
+use Rattle.cluster_state.specs.declared.turn.Turn.TheVariants.{Work, Done, Busy}
+use Rattle.lane_threads.specs.Owes.{GoesByLine}
 
 -- a call of a line did some of what its command asks for, in a cluster without a log of operations
 pub record Does (command : LineCommand) (at : At) (old new : Run) : Type 0 where

@@ -1,11 +1,11 @@
 //! The calls of lines that search, of those that open and close tickets, and of those that list files.
 
 use crate::cluster::Cluster;
+use cluster_search::{answer_end, ask_start, files, search_start, ticket_close, ticket_open};
+use cluster_state::Turn;
 use disk_model::FaultDir;
 use documents::{Answer, Query};
-use history_entries::Event;
-use line_reads::{answer_end, ask_start, files, search_start, ticket_close, ticket_open};
-use line_turns::Turn;
+use history_rules::Event;
 use nrt_base::{At, NoMemory, NodeNo, TicketNo};
 use searcher_switch::Lease;
 use seg_reader::Segment;
@@ -14,15 +14,15 @@ use std::alloc::Global;
 impl<D: FaultDir + Drop> Cluster<D> {
     ghost use Rattle.std.specs.Prelude.{◌≡◌, ◌≢◌, ◌∷◌, [], false, OnOk, OnErr, IfOk};
     ghost use Rattle.documents.specs.declared.query.Query.{Query};
-    ghost use Rattle.history_entries.specs.Nodes.{IsNode};
-    ghost use Rattle.history_entries.specs.Lines.{entries_of_line, last_of_line};
-    ghost use Rattle.history_entries.specs.Tickets.{open_ticket};
+    ghost use Rattle.history_rules.specs.Nodes.{IsNode};
+    ghost use Rattle.history_rules.specs.Lines.{entries_of_line, last_of_line};
+    ghost use Rattle.history_rules.specs.Tickets.{open_ticket};
     ghost use Rattle.history_book.specs.Log.{printed, shown};
     ghost use Rattle.script_serving.specs.declared.script.LineCommand.{LineCommand};
     ghost use Rattle.script_serving.specs.declared.script.LineCommand.TheVariants.{Open, Close, Search, Ask, Files};
     ghost use Rattle.cluster_state.specs.Run.{IsNow, IsEnded};
     ghost use Rattle.cluster_core.specs.Doing.{Does, IsReplied, IsRepliedAtDone, IsBegunAtWork, AsksFor};
-    ghost use Rattle.line_turns.specs.Calls.{open_event, ListsFiles, SearchStarts, AskStarts, asked_event, close_by, ScansAt, AnswerEnds};
+    ghost use Rattle.cluster_state.specs.Calls.{open_event, ListsFiles, SearchStarts, AskStarts, asked_event, close_by, ScansAt, AnswerEnds};
 
     /// Opens a ticket of the lane.
     pub fn ticket_open(

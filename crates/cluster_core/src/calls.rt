@@ -1,26 +1,27 @@
 //! The calls of lines that write and publish.
 
 use crate::cluster::Cluster;
+use cluster_publish::{accept, publish_end, publish_start};
+use cluster_state::Turn;
 use disk_model::FaultDir;
 use documents::Op;
-use history_entries::Event;
-use line_turns::Turn;
-use line_writes::{accept, publish_end, publish_start};
+use history_rules::Event;
 use nrt_base::{At, NoMemory};
 use segment_steps::{FlushTask, FlushWork};
 use std::alloc::Global;
 
 impl<D: FaultDir + Drop> Cluster<D> {
     ghost use Rattle.std.specs.Prelude.{◌≡◌, ◌+◌, ◌∷◌, [], false, Some, OnOk, OnErr, IfOk};
-    ghost use Rattle.history_entries.specs.Nodes.{accepted_count};
-    ghost use Rattle.history_entries.specs.Lines.{entries_of_line, last_of_line};
+    ghost use Rattle.history_rules.specs.Nodes.{accepted_count};
+    ghost use Rattle.history_rules.specs.Lines.{entries_of_line, last_of_line};
     ghost use Rattle.history_book.specs.Log.{printed, shown};
     ghost use Rattle.script_serving.specs.declared.script.LineCommand.TheVariants.{Publish};
     ghost use Rattle.script_serving.specs.Refusals.{without_primary};
     ghost use Rattle.cluster_state.specs.Run.{IsNow, IsEnded};
     ghost use Rattle.cluster_state.specs.Writes.{IsFlushed};
     ghost use Rattle.cluster_core.specs.Doing.{Does, IsReplied, IsRepliedAtDone, IsBegunAtWork, writing_command};
-    ghost use Rattle.line_turns.specs.Calls.{by_refusal, PublishStarts, publish_end_event};
+    ghost use Rattle.cluster_state.specs.Calls.{by_refusal, PublishStarts};
+    ghost use Rattle.cluster_state.specs.GivesUp.{EndsPublish};
 
     /// Accepts an operation: a put, a delete or a drop.
     pub fn accept(&mut self, alloc: Global, at: At, op: Op) -> Result<(), NoMemory>
@@ -53,13 +54,13 @@ impl<D: FaultDir + Drop> Cluster<D> {
         publish_start(&mut self.state, alloc, at)
     }
 
-    /// Ends a publish with the work that was made for it, or refuses the line as lost exactly where the primary has crashed since.
+    /// Ends a publish with the work that was made for it: its point is there, or it is given up where a disk failed by a plan that the
+    /// history shows. Exactly where the primary has crashed since, the line is refused as lost.
     pub fn publish_end(&mut self, alloc: Global, at: At, work: FlushWork) -> Result<(), NoMemory>
         requires running { self.old.ended ≡ false }
         requires started { last_of_line at (printed self.old.log) ≡ Some Event.Publishing }
         requires work { IsFlushed at self.old.log work }
-        ensures ok { OnOk result (IsNow self.old self.new
-            (shown at (publish_end_event at (printed self.old.log)) ∷ self.old.log)) }
+        ensures ok { OnOk result (EndsPublish at self.old self.new) }
         ensures err { OnErr result (IsEnded self.old self.new) }
 
         // what the line is owed

@@ -1,9 +1,9 @@
 //! The cluster.
 
-use cluster_starts::start_cluster;
+use cluster_recovery::start_cluster;
 use cluster_state::ClusterState;
 use disk_model::FaultDir;
-use history_entries::{Entry, History};
+use history_rules::{Entry, History};
 use nrt_base::NoMemory;
 use std::alloc::Global;
 use std::marker::Model;
@@ -32,7 +32,7 @@ impl<D: FaultDir> Model for Cluster<D> {
 impl<D: FaultDir + Drop> Cluster<D> {
     ghost use Rattle.std.specs.Prelude.{◌≡◌, ◌≤◌, [], false, IfOk, length, reverse};
     ghost use Rattle.std.specs.List.{All};
-    ghost use Rattle.history_entries.specs.Legal.{IsLegal, IsLegalPast};
+    ghost use Rattle.history_rules.specs.Legal.{IsLegal, IsLegalPast};
     ghost use Rattle.history_book.specs.Log.{printed, FaultsFollow};
     ghost use Rattle.history_book.specs.Turns.{AreInTurn};
     ghost use Rattle.cluster_state.specs.Starting.{IsEmptyDir};

@@ -1,21 +1,20 @@
 //! The calls of lines that copy and settle.
 
 use crate::cluster::Cluster;
-use cluster_state::{CopyTask, FileTask, SettleTask};
+use cluster_copies::{copy_arrived, copy_next, copy_start, settle_next, settle_start};
+use cluster_state::{CopyTask, FileTask, SettleTask, Turn};
 use copy_job::Part;
 use disk_model::FaultDir;
-use history_entries::Event;
-use line_copies::{copy_arrived, copy_next, copy_start, settle_next, settle_start};
-use line_turns::Turn;
+use history_rules::Event;
 use nrt_base::{At, NoMemory, NodeNo};
 use std::alloc::Global;
 
 impl<D: FaultDir + Drop> Cluster<D> {
     ghost use Rattle.std.specs.Prelude.{◌≡◌, ◌≢◌, [], false, true, ◌↔◌, None, Some, IsTrue, OnOk, OnErr, IfOk};
     ghost use Rattle.copy_state.specs.Meta.{IsMetaOf};
-    ghost use Rattle.history_entries.specs.declared.entry.Event.{Event};
-    ghost use Rattle.history_entries.specs.Nodes.{IsNode};
-    ghost use Rattle.history_entries.specs.Lines.{entries_of_line, start_entry};
+    ghost use Rattle.history_rules.specs.declared.entry.Event.{Event};
+    ghost use Rattle.history_rules.specs.Nodes.{IsNode};
+    ghost use Rattle.history_rules.specs.Lines.{entries_of_line, start_entry};
     ghost use Rattle.history_tables.specs.declared.jobs.JobRow.{JobRow};
     ghost use Rattle.history_tables.specs.Begins.{open_line};
     ghost use Rattle.history_book.specs.Log.{Log, printed};
@@ -27,9 +26,9 @@ impl<D: FaultDir + Drop> Cluster<D> {
     ghost use Rattle.cluster_state.specs.FilesOut.{file_out};
     ghost use Rattle.cluster_state.specs.Copies.{newest_of, IsCopying, JobRuns};
     ghost use Rattle.cluster_state.specs.Settles.{IsSettling};
-    ghost use Rattle.line_turns.specs.declared.turn.Turn.TheVariants.{Done};
+    ghost use Rattle.cluster_state.specs.declared.turn.Turn.TheVariants.{Done};
     ghost use Rattle.cluster_core.specs.Doing.{Does, IsReplied, IsRepliedAtDone, IsBegunAtWork};
-    ghost use Rattle.line_turns.specs.CopyCalls.{CopiesFor, CopyStarts, CopyStartsWhen, stopped_log, StopsTurn, JobGoesOn, JobHasPart, AreFrom, SettlesOn, SettleStarts, SettleGoesOn};
+    ghost use Rattle.cluster_state.specs.CopyCalls.{CopiesFor, CopyStarts, CopyStartsWhen, stopped_log, StopsTurn, JobGoesOn, JobHasPart, AreFrom, SettlesOn, SettleStarts, SettleGoesOn};
 
     /// Starts a copy of the newest point to a node. Busy comes exactly where the line is not refused and a job for the newest version
     /// runs at the node, which is behind that version.
@@ -111,7 +110,7 @@ impl<D: FaultDir + Drop> Cluster<D> {
 
         // a job that runs, and one that was stopped
         ensures ok { IfOk result (λ turn. (row : JobRow) → JobRuns self.old.log row
-            → row.job.at ≡ at → JobHasPart self.old self.new turn) }
+            → row.job.at ≡ at → JobHasPart row.job.node part.name self.old self.new turn) }
         ensures stops { IfOk result (λ turn. (row : JobRow) (begun : Event) (log : Log)
             → job_of at.lane.0 self.old.log ≡ Some row
             → start_entry at (printed self.old.log) ≡ Some begun

@@ -1,23 +1,22 @@
 //! The calls of lines that commit nodes, crash them and reopen them.
 
 use crate::cluster::Cluster;
-use cluster_state::CommitTask;
+use cluster_recovery::{commit_start, commit_step, crash, reopen};
+use cluster_state::{CommitTask, Turn};
 use disk_model::FaultDir;
-use history_entries::Event;
-use line_lives::{commit_start, commit_step, crash, reopen};
-use line_turns::Turn;
+use history_rules::Event;
 use nrt_base::{At, NoMemory, NodeNo};
 use std::alloc::Global;
 
 impl<D: FaultDir + Drop> Cluster<D> {
-    ghost use Rattle.std.specs.Prelude.{ℕ, ◌≡◌, ◌∷◌, [], false, Some, OnOk, OnErr, IfOk};
-    ghost use Rattle.history_entries.specs.Nodes.{IsNode};
-    ghost use Rattle.history_entries.specs.Lines.{entries_of_line, last_of_line};
+    ghost use Rattle.std.specs.Prelude.{ℕ, ◌≡◌, ◌==◌, ◌∷◌, [], false, Some, OnOk, OnErr, IfOk};
+    ghost use Rattle.history_rules.specs.Nodes.{IsNode};
+    ghost use Rattle.history_rules.specs.Lines.{entries_of_line, last_of_line};
     ghost use Rattle.history_book.specs.Log.{printed, shown};
     ghost use Rattle.script_serving.specs.declared.script.LineCommand.TheVariants.{Commit, Crash, Reopen};
-    ghost use Rattle.cluster_state.specs.Run.{IsNow, IsEnded};
+    ghost use Rattle.cluster_state.specs.Run.{files_at, IsNow, IsEnded};
     ghost use Rattle.cluster_core.specs.Doing.{Does, IsReplied, IsRepliedAtDone, IsBegunAtWork};
-    ghost use Rattle.line_turns.specs.LifeCalls.{CommitStarts, CommitSteps, crash_event, ReopensNode};
+    ghost use Rattle.cluster_state.specs.LifeCalls.{CommitStarts, CommitSteps, crash_event, ReopensNode};
 
     /// Starts a commit of the point that a node searches. Busy comes exactly where the node runs and another line's commit is in flight
     /// there.
@@ -64,13 +63,16 @@ impl<D: FaultDir + Drop> Cluster<D> {
         commit_step(&mut self.state, alloc, at, task.node, task.version)
     }
 
-    /// Crashes a node. The number picks what its disk keeps.
+    /// Crashes a node. The number picks what its disk keeps. Jobs at other nodes lack and have what they did: where the primary crashed
+    /// they were stopped.
     pub fn crash(&mut self, alloc: Global, at: At, n: NodeNo, pick: u64) -> Result<(), NoMemory>
         requires running { self.old.ended ≡ false }
         requires fresh { entries_of_line at (printed self.old.log) ≡ [] }
         requires node { IsNode self.old.nodes n.0 }
         ensures ok { OnOk result (IsNow self.old self.new
             (shown at (crash_event n (printed self.old.log)) ∷ self.old.log)) }
+        ensures stays { OnOk result ((m : ℕ) → (n.0 == m) ≡ false
+            → files_at m self.new ≡ files_at m self.old) }
         ensures err { OnErr result (IsEnded self.old self.new) }
 
         // what the line is owed

@@ -12,4 +12,4 @@ mod promoting;
 mod shared;
 
 pub use cluster::Cluster;
-pub use line_turns::Turn;
+pub use cluster_state::Turn;

@@ -1,14 +1,13 @@
 //! The calls of lines that merge and drain, and of the tasks of merges.
 
 use crate::cluster::Cluster;
-use cluster_state::FileTask;
-use cluster_tasks::{Sent, Task};
-use copy_job::Part;
-use disk_model::FaultDir;
-use line_merges::{
+use cluster_merges::{
     counted, drained, merge_cut, merge_ready, merge_start, precopy_arrived, precopy_next, task_take,
 };
-use line_turns::Turn;
+use cluster_state::{FileTask, Turn};
+use copy_job::Part;
+use disk_model::FaultDir;
+use merge_tasks::{Sent, Task};
 use nrt_base::{At, NoMemory};
 use seg_merge::Merged;
 use std::alloc::Global;
@@ -16,15 +15,16 @@ use std::alloc::Global;
 impl<D: FaultDir + Drop> Cluster<D> {
     ghost use Rattle.std.specs.Prelude.{◌≡◌, ◌≤◌, [], false, IfOk, OnOk, OnErr};
     ghost use Rattle.copy_state.specs.Meta.{IsMetaOf};
-    ghost use Rattle.history_entries.specs.Nodes.{IsNode};
-    ghost use Rattle.history_entries.specs.Lines.{entries_of_line};
+    ghost use Rattle.history_rules.specs.Nodes.{IsNode};
+    ghost use Rattle.history_rules.specs.Lines.{entries_of_line};
     ghost use Rattle.history_book.specs.Log.{printed};
     ghost use Rattle.script_serving.specs.declared.script.LineCommand.TheVariants.{Merge, Drain};
-    ghost use Rattle.cluster_tasks.specs.TaskLog.{carried_out, counted_for};
-    ghost use Rattle.cluster_tasks.specs.Board.{open_merge, is_unwritten};
+    ghost use Rattle.merge_tasks.specs.TaskLog.{carried_out};
+    ghost use Rattle.history_book.specs.Told.{counted_for};
+    ghost use Rattle.merge_tasks.specs.Board.{open_merge, is_unwritten};
     ghost use Rattle.cluster_state.specs.Run.{IsEnded};
-    ghost use Rattle.line_merges.specs.Given.{IsMergedOut, EndsBuild, TakesTask};
-    ghost use Rattle.line_merges.specs.TaskCalls.{MergeLine, PrecopyTurns, PartTurns, CutTurns, DrainTurns};
+    ghost use Rattle.cluster_merges.specs.MergePaths.{IsMergedOut, EndsBuild, TakesTask};
+    ghost use Rattle.cluster_merges.specs.TaskCalls.{MergeLine, PrecopyTurns, PartTurns, CutTurns, DrainTurns};
     ghost use Rattle.cluster_core.specs.Doing.{Does, IsReplied, IsRepliedAtDone};
     ghost use Rattle.cluster_core.specs.Tasks.{DoesTask};
 

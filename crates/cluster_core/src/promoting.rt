@@ -1,21 +1,21 @@
 //! The call of a line that promotes a node.
 
 use crate::cluster::Cluster;
+use cluster_recovery::promote;
 use disk_model::FaultDir;
-use line_promotions::promote;
 use nrt_base::{At, NoMemory, NodeNo};
 use script_serving::Force;
 use std::alloc::Global;
 
 impl<D: FaultDir + Drop> Cluster<D> {
     ghost use Rattle.std.specs.Prelude.{◌≡◌, ◌∷◌, [], false, OnOk, OnErr};
-    ghost use Rattle.history_entries.specs.Nodes.{IsNode};
-    ghost use Rattle.history_entries.specs.Lines.{entries_of_line};
+    ghost use Rattle.history_rules.specs.Nodes.{IsNode};
+    ghost use Rattle.history_rules.specs.Lines.{entries_of_line};
     ghost use Rattle.history_book.specs.Log.{printed, shown};
     ghost use Rattle.script_serving.specs.declared.script.LineCommand.TheVariants.{Promote};
     ghost use Rattle.cluster_state.specs.Run.{IsNow, IsEnded};
     ghost use Rattle.cluster_core.specs.Doing.{Does, IsReplied};
-    ghost use Rattle.line_promotions.specs.PromoteCalls.{promote_event};
+    ghost use Rattle.cluster_recovery.specs.PromoteCalls.{promote_event};
 
     /// Promotes a node that runs, where no primary does: it begins the next generation, with a point one version above the forced one,
     /// of the documents that it searches. The line is refused where the node is down, a primary runs, or the forced version is 2^62 or

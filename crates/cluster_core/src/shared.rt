@@ -7,7 +7,7 @@ use crate::cluster::Cluster;
 use disk_model::FaultDir;
 use hist_lock::Grows;
 use history_book::Mark;
-use lane_seats::{LaneRun, Setup};
+use lane_threads::{LaneRun, Setup};
 use nrt_base::{LaneNo, NodeNo, TicketNo};
 
 impl<D: FaultDir> Grows for Cluster<D> {
@@ -46,7 +46,7 @@ impl<D: FaultDir + Drop> LaneRun for Cluster<D> {
 impl<D: FaultDir + Drop> Cluster<D> {
     ghost use Rattle.std.specs.Prelude.{◌≡◌, false, ◌↔◌, IsTrue, IsSomeAnd};
     ghost use Rattle.std.specs.Option.{option_map};
-    ghost use Rattle.history_entries.specs.Tickets.{open_ticket};
+    ghost use Rattle.history_rules.specs.Tickets.{open_ticket};
     ghost use Rattle.history_book.specs.Log.{printed};
     ghost use Rattle.history_book.specs.Jobs.{job_of};
 

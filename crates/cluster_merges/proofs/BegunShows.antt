@@ -14,33 +14,33 @@ use Rattle.seg_reader.specs.Stands.{AreSegmentsOf}
 use Rattle.segment_infos.specs.declared.infos.Infos.{Infos}
 use Rattle.searcher_switch.specs.declared.open.Open.{Open}
 use Rattle.searcher_switch.specs.declared.open.Point.{Point}
-use Rattle.node_files.specs.Appearing.{NoneAppears}
-use Rattle.history_entries.specs.declared.entry.Entry.{Entry}
-use Rattle.history_entries.specs.declared.entry.Event.TheVariants.{Merging as MergingEvent}
-use Rattle.history_entries.specs.Nodes.{Past, IsNode, is_at, primary_of, newest_version, version_of, generation_of}
-use Rattle.history_entries.specs.Lines.{publish_in_flight}
-use Rattle.history_entries.specs.Points.{documents_at, names_drawn, names_drawn_in, is_drawn}
-use Rattle.history_entries.specs.Tasks.{merge_count}
-use Rattle.history_entries.specs.Legal.{KeepsRule, IsLegalPast}
+use Rattle.searcher_switch.specs.Appearing.{NoneAppears}
+use Rattle.history_rules.specs.declared.entry.Entry.{Entry}
+use Rattle.history_rules.specs.declared.entry.Event.TheVariants.{Merging as MergingEvent}
+use Rattle.history_rules.specs.Nodes.{Past, IsNode, is_at, primary_of, newest_version, version_of, generation_of}
+use Rattle.history_rules.specs.Lines.{publish_in_flight}
+use Rattle.history_rules.specs.Points.{documents_at, names_drawn, names_drawn_in, is_drawn}
+use Rattle.history_rules.specs.Tasks.{merge_count}
+use Rattle.history_rules.specs.Legal.{KeepsRule, IsLegalPast}
 use Rattle.history_book.specs.Log.{Log, printed, shown, kept}
 use Rattle.history_book.specs.declared.inner.Inner.TheVariants.{MergeOut}
 use Rattle.history_book.specs.Laws.{IsFresh}
 use Rattle.history_book.specs.Turns.{AreInTurn}
-use Rattle.primary_parts.specs.declared.parts.Parts.{Parts as PrimaryParts}
-use Rattle.primary_parts.specs.declared.parts.Publish.{Publish}
-use Rattle.primary_parts.specs.declared.states.Merging.{Merging}
-use Rattle.primary_parts.specs.Cut.{infos_drawn}
-use Rattle.primary_parts.specs.Held.{drawn_to}
-use Rattle.primary_parts.specs.Merges.{merge_loose}
-use Rattle.primary_parts.specs.Primary.{IsPrimary, KeepsHeldBytes, publish_loose, rest_loose, loose_of}
-use Rattle.primary_parts.specs.Calls.{DrawsOnly, HoldsNoNew}
-use Rattle.primary_parts.proofs.MergeLists.{loose_behind}
-use Rattle.cluster_places.specs.declared.held.Held.{Held}
-use Rattle.cluster_places.specs.declared.nodes.Node.TheVariants.{Primary}
-use Rattle.cluster_places.specs.declared.nodes.Place.{Place}
-use Rattle.cluster_places.specs.Places.{place_of}
-use Rattle.cluster_places.specs.JobPlaces.{MovesOne}
-use Rattle.cluster_places.specs.KeptFiles.{KeepsNodeFiles}
+use Rattle.primary_state.specs.declared.parts.Parts.{Parts as PrimaryParts}
+use Rattle.primary_state.specs.declared.parts.Publish.{Publish}
+use Rattle.primary_state.specs.declared.states.Merging.{Merging}
+use Rattle.primary_state.specs.Cut.{infos_drawn}
+use Rattle.primary_state.specs.Held.{drawn_to}
+use Rattle.primary_state.specs.Merges.{merge_loose}
+use Rattle.primary_state.specs.Primary.{IsPrimary, KeepsHeldBytes, publish_loose, rest_loose, loose_of}
+use Rattle.primary_state.specs.Calls.{DrawsOnly, HoldsNoNew}
+use Rattle.primary_state.proofs.MergeLists.{loose_behind}
+use Rattle.cluster_nodes.specs.declared.held.Held.{Held}
+use Rattle.cluster_nodes.specs.declared.nodes.Node.TheVariants.{Primary}
+use Rattle.cluster_nodes.specs.declared.nodes.Place.{Place}
+use Rattle.cluster_nodes.specs.Places.{place_of}
+use Rattle.cluster_nodes.specs.JobPlaces.{MovesOne}
+use Rattle.cluster_nodes.specs.KeptFiles.{KeepsNodeFiles}
 use Rattle.cluster_state.specs.State.{IsPointAt, HoldsTickets, FlightShows, WritesAt, PrimaryShows, PlaceShows, Shows}
 use Rattle.cluster_state.specs.Files.{FilesShow}
 use Rattle.cluster_state.proofs.Growing.{stands_more, flight_stays, not_flying, lasts, fewer, same}

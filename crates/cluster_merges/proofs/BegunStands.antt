@@ -13,42 +13,42 @@ use Rattle.seg_reader.specs.Shown.{Shown}
 use Rattle.seg_merge.specs.declared.task.MergeTask.{MergeTask}
 use Rattle.seg_merge.specs.declared.task.Merged.{Merged}
 use Rattle.copy_job.specs.Jobs.{Job}
-use Rattle.history_entries.specs.declared.entry.Event.{Event}
-use Rattle.history_entries.specs.declared.entry.Event.TheVariants.{Merging as MergingEvent}
-use Rattle.history_entries.specs.Nodes.{Past, IsNode, is_at, primary_of, generation_of}
-use Rattle.history_entries.specs.Points.{names_drawn, names_drawn_in, is_drawn}
-use Rattle.history_entries.specs.Legal.{KeepsRule, IsLegalPast}
+use Rattle.history_rules.specs.declared.entry.Event.{Event}
+use Rattle.history_rules.specs.declared.entry.Event.TheVariants.{Merging as MergingEvent}
+use Rattle.history_rules.specs.Nodes.{Past, IsNode, is_at, primary_of, generation_of}
+use Rattle.history_rules.specs.Points.{names_drawn, names_drawn_in, is_drawn}
+use Rattle.history_rules.specs.Legal.{KeepsRule, IsLegalPast}
 use Rattle.history_tables.proofs.RowLemmas.{by_test}
 use Rattle.history_book.specs.Log.{Log, printed, shown, kept}
 use Rattle.history_book.specs.declared.inner.Inner.TheVariants.{MergeOut}
-use Rattle.history_merges.specs.Merging.{next_name}
-use Rattle.primary_parts.specs.declared.parts.Parts.{Parts as PrimaryParts}
-use Rattle.primary_parts.specs.declared.states.Merging.{Merging}
-use Rattle.primary_parts.specs.declared.states.Out.{Out}
-use Rattle.primary_parts.specs.Merges.{merge_of}
-use Rattle.primary_starts.specs.StartCalls.{IsFitTask}
-use Rattle.cluster_tasks.specs.declared.tasks.OpenMerge.{OpenMerge}
-use Rattle.cluster_tasks.specs.declared.tasks.Posted.{Posted}
-use Rattle.cluster_tasks.specs.declared.tasks.Spread.{Spread}
-use Rattle.cluster_tasks.specs.TaskLog.{or_first, inputs_by, inputs_out, merge_task, starts_merge, has_started, StartWithNames}
-use Rattle.cluster_tasks.specs.Board.{Board, open_merge, spread_at, is_sent_in, posted_merge, TasksShow}
-use Rattle.cluster_tasks.proofs.BoardRows.{open_end}
-use Rattle.cluster_tasks.proofs.TaskFrames.{first_stays, tasks_begun}
-use Rattle.cluster_places.specs.declared.held.Held.{Held}
-use Rattle.cluster_places.specs.declared.nodes.Node.{Node}
-use Rattle.cluster_places.specs.declared.nodes.Node.TheVariants.{Primary, Replica, Down}
-use Rattle.cluster_places.specs.declared.nodes.Place.{Place}
-use Rattle.cluster_places.specs.Places.{place_of}
-use Rattle.cluster_places.specs.Outs.{one_like, states_like, jobs_like}
-use Rattle.cluster_places.specs.JobPlaces.{MovesOne}
-use Rattle.cluster_places.proofs.OutCounts.{jobs_same}
+use Rattle.merge_tasks.specs.Merging.{next_name}
+use Rattle.primary_state.specs.declared.parts.Parts.{Parts as PrimaryParts}
+use Rattle.primary_state.specs.declared.states.Merging.{Merging}
+use Rattle.primary_state.specs.declared.states.Out.{Out}
+use Rattle.primary_state.specs.Merges.{merge_of}
+use Rattle.primary_merges.specs.StartCalls.{IsFitTask}
+use Rattle.merge_tasks.specs.declared.tasks.OpenMerge.{OpenMerge}
+use Rattle.merge_tasks.specs.declared.tasks.Posted.{Posted}
+use Rattle.merge_tasks.specs.declared.tasks.Spread.{Spread}
+use Rattle.merge_tasks.specs.TaskLog.{or_first, inputs_by, inputs_out, merge_task, starts_merge, has_started, StartWithNames}
+use Rattle.merge_tasks.specs.Board.{Board, open_merge, spread_at, is_sent_in, posted_merge, TasksShow}
+use Rattle.merge_tasks.proofs.BoardRows.{open_end}
+use Rattle.merge_tasks.proofs.TaskFrames.{first_stays, tasks_begun}
+use Rattle.cluster_nodes.specs.declared.held.Held.{Held}
+use Rattle.cluster_nodes.specs.declared.nodes.Node.{Node}
+use Rattle.cluster_nodes.specs.declared.nodes.Node.TheVariants.{Primary, Replica, Down}
+use Rattle.cluster_nodes.specs.declared.nodes.Place.{Place}
+use Rattle.cluster_nodes.specs.Places.{place_of}
+use Rattle.cluster_nodes.specs.Outs.{one_like, states_like, jobs_like}
+use Rattle.cluster_nodes.specs.JobPlaces.{MovesOne}
+use Rattle.cluster_nodes.proofs.OutCounts.{jobs_same}
 use Rattle.cluster_state.specs.State.{NodeShows, PlaceShows, Shows}
 use Rattle.cluster_state.specs.Merging.{AreWrittenAlike, IsMergeOfRow, AreMergedAlike, spreads_like, AreSentCopies, IsFitKind, PrimaryMerges, NodeMerges, MergesStand}
 use Rattle.cluster_state.proofs.Drawn.{grows_shown, present_drawn}
 use Rattle.cluster_state.proofs.FileFrames.{some_both, one_each, wants_same}
 use Rattle.cluster_state.proofs.Frames.{some_at}
 use Rattle.cluster_state.proofs.MergingStill.{InputsStay, alike_more}
-use Rattle.cluster_drains.proofs.StandSteps.{merge_numbered, alike_begun, sent_still, spreads_end}
+use Rattle.cluster_merges.proofs.StandSteps.{merge_numbered, alike_begun, sent_still, spreads_end}
 use Rattle.cluster_merges.proofs.BegunShows.{starting, merge_drawn, HasStarted}
 
 -- ---- a segment into which a merge was started is drawn, and the next one is not

@@ -1,3 +1,27 @@
+pub mod AtPrimary
 pub mod BegunShows
 pub mod BegunStands
+pub mod CopyCalls
+mod CopyFacts
+mod CopyLists
+mod CopyPaths
+pub mod CopyRows
+mod CutFiles
+mod CutPaths
+mod CutStands
+mod EndedCopies
+pub mod FilesMore
+pub mod InsideSteps
+mod MaySending
+mod MovedCopies
+mod ReadyFiles
+mod ReadyPaths
+mod ReplicaCount
+mod SendLoop
+mod SendSteps
+pub mod StandSteps
 pub mod StartPaths
+pub mod TaskPaths
+mod Turning
+mod WrittenMerges
+mod WrittenStand

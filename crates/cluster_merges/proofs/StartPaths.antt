@@ -16,36 +16,37 @@ use Rattle.seg_merge.specs.declared.task.MergeTask.{MergeTask}
 use Rattle.merge_choice.specs.Choice.{IsFirstRange, HasNoRange}
 use Rattle.script_serving.specs.Refusals.{put_publishes}
 use Rattle.segment_steps.specs.Starting.{size_by}
-use Rattle.history_entries.specs.declared.cause.Cause.{Cause}
-use Rattle.history_entries.specs.declared.cause.Cause.TheVariants.{Nothing, NamesSpent}
-use Rattle.history_entries.specs.declared.entry.Event.TheVariants.{Merging as MergingEvent}
-use Rattle.history_entries.specs.Nodes.{IsNode, is_at, primary_of}
-use Rattle.history_entries.specs.Points.{names_drawn}
-use Rattle.history_entries.specs.Rules.{MayStartMerge}
-use Rattle.history_entries.specs.Legal.{IsLegalPast}
+use Rattle.history_rules.specs.declared.cause.Cause.{Cause}
+use Rattle.history_rules.specs.declared.cause.Cause.TheVariants.{Nothing, NamesSpent}
+use Rattle.history_rules.specs.declared.entry.Event.TheVariants.{Merging as MergingEvent}
+use Rattle.history_rules.specs.Nodes.{IsNode, is_at, primary_of}
+use Rattle.history_rules.specs.Points.{names_drawn}
+use Rattle.history_rules.specs.Rules.{MayStartMerge}
+use Rattle.history_rules.specs.Legal.{IsLegalPast}
 use Rattle.history_book.specs.Log.{Log, printed, shown, kept}
 use Rattle.history_book.specs.declared.inner.Inner.TheVariants.{MergeOut}
 use Rattle.history_book.specs.Laws.{IsFresh}
 use Rattle.history_book.specs.Turns.{AreInTurn}
-use Rattle.history_merges.specs.Merging.{Sheet, next_name}
-use Rattle.primary_parts.specs.declared.parts.Parts.{Parts as PrimaryParts}
-use Rattle.primary_parts.specs.declared.parts.PublishFault.{PublishFault}
-use Rattle.primary_parts.specs.declared.parts.PublishFault.TheVariants.{NamesSpent as Spent, TooManySegments}
-use Rattle.primary_parts.specs.Cut.{infos_drawn}
-use Rattle.primary_parts.specs.Held.{drawn_to}
-use Rattle.primary_parts.specs.Merges.{merge_inputs}
-use Rattle.primary_parts.specs.Primary.{loose_of}
-use Rattle.primary_starts.specs.StartCalls.{IsFitTask, merge_sizes, StartsMerge, AnswersMerge}
-use Rattle.cluster_tasks.specs.TaskLog.{merge_task}
-use Rattle.cluster_tasks.specs.Board.{Board, posted_merge}
-use Rattle.cluster_places.specs.declared.held.Held.{Held}
-use Rattle.cluster_places.specs.declared.nodes.Node.{Node}
-use Rattle.cluster_places.specs.declared.nodes.Node.TheVariants.{Primary, Replica, Down}
-use Rattle.cluster_places.specs.declared.nodes.Place.{Place}
-use Rattle.cluster_places.specs.Places.{place_of, unwrapped}
-use Rattle.cluster_places.specs.KeptFiles.{KeepsNodeFiles}
-use Rattle.cluster_places.proofs.TicketNodes.{node_alone}
-use Rattle.cluster_state.specs.Run.{MergedCopy, Run}
+use Rattle.merge_tasks.specs.Merging.{Sheet, next_name}
+use Rattle.primary_state.specs.declared.parts.Parts.{Parts as PrimaryParts}
+use Rattle.primary_state.specs.declared.parts.PublishFault.{PublishFault}
+use Rattle.primary_state.specs.declared.parts.PublishFault.TheVariants.{NamesSpent as Spent, TooManySegments}
+use Rattle.primary_state.specs.Cut.{infos_drawn}
+use Rattle.primary_state.specs.Held.{drawn_to}
+use Rattle.primary_state.specs.Merges.{merge_inputs}
+use Rattle.primary_state.specs.Primary.{loose_of}
+use Rattle.primary_merges.specs.StartCalls.{IsFitTask, merge_sizes, StartsMerge, AnswersMerge}
+use Rattle.merge_tasks.specs.TaskLog.{merge_task}
+use Rattle.merge_tasks.specs.Board.{Board, posted_merge}
+use Rattle.cluster_nodes.specs.declared.held.Held.{Held}
+use Rattle.cluster_nodes.specs.declared.nodes.Node.{Node}
+use Rattle.cluster_nodes.specs.declared.nodes.Node.TheVariants.{Primary, Replica, Down}
+use Rattle.cluster_nodes.specs.declared.nodes.Place.{Place}
+use Rattle.cluster_nodes.specs.Places.{place_of, unwrapped}
+use Rattle.cluster_nodes.specs.KeptFiles.{KeepsNodeFiles}
+use Rattle.cluster_nodes.proofs.TicketNodes.{node_alone}
+use Rattle.disk_model.specs.Faults.{Plans}
+use Rattle.cluster_state.specs.Run.{JobFiles, MergedCopy, Run}
 use Rattle.cluster_state.specs.Sizes.{sizes_in}
 use Rattle.cluster_state.specs.State.{NodeShows, PlaceShows, PrimaryShows, Shows}
 use Rattle.cluster_state.proofs.Frames.{some_at, now_is}
@@ -58,12 +59,12 @@ use Rattle.cluster_state.proofs.Naming.{holds_same}
 use Rattle.cluster_state.proofs.MergingStill.{primary_keeps, one_keeps, stand_same}
 use Rattle.node_merges.specs.MergeChanges.{AsksMerge}
 use Rattle.node_merges.specs.MergePlaces.{MovesPrimary}
-use Rattle.cluster_drains.specs.MergePaths.{BeginsMerge, StartsMergeFor}
-use Rattle.cluster_drains.specs.Running.{AllShown}
+use Rattle.cluster_merges.specs.MergePaths.{BeginsMerge, StartsMergeFor}
+use Rattle.cluster_merges.specs.Running.{AllShown}
 use Rattle.cluster_merges.proofs.BegunShows.{HasStarted, begun_shows, begun_files}
 use Rattle.cluster_merges.proofs.BegunStands.{begun_stands}
-use Rattle.cluster_drains.proofs.InsideSteps.{all_is}
-use Rattle.cluster_drains.proofs.TaskPaths.{as_before}
+use Rattle.cluster_merges.proofs.InsideSteps.{all_is}
+use Rattle.cluster_merges.proofs.TaskPaths.{as_before}
 
 -- ---- the sizes that are told are those of the primary
 
@@ -116,8 +117,8 @@ module _ {D : Type 0} where
 
 -- ---- the call
 
-module _ {D : Type 0} (cells : D → Cells) (r : Run) (old new : List (Option (Place D))) (b0 b1 : Sheet) (board : Board) (at : At) (p : NodeNo) (factor : ℕ) (result : Result (Option MergeTask) PublishFault) {ended cut : Bool} {calls : List ℕ} {copies : List (List MergedCopy)}
-    (view : record { ended = ended; nodes = b0.nodes; log = b0.log; rest = record { calls_left = calls; cut = cut; sizes = sizes_in old; copies = copies; tasks = board } } ≡ r) (running : r.ended ≡ false) (all : ended ≡ false → AllShown cells b0 board old)
+module _ {D : Type 0} (cells : D → Cells) (r : Run) (old new : List (Option (Place D))) (b0 b1 : Sheet) (board : Board) (at : At) (p : NodeNo) (factor : ℕ) (result : Result (Option MergeTask) PublishFault) {ended cut : Bool} {calls : List ℕ} {copies : List (List MergedCopy)} {jobs : List JobFiles} {plans : List Plans}
+    (view : record { ended = ended; nodes = b0.nodes; log = b0.log; rest = record { calls_left = calls; cut = cut; sizes = sizes_in old; jobs = jobs; copies = copies; tasks = board; plans = plans } } ≡ r) (running : r.ended ≡ false) (all : ended ≡ false → AllShown cells b0 board old)
     (e1 : b1.log ≡ b0.log) (n1 : b1.nodes ≡ b0.nodes) (c1 : b1.cut ≡ b0.cut) (legal : IsLegalPast b0.nodes (printed b0.log)) (turns : AreInTurn (printed b0.log)) (fresh : IsFresh at (printed b0.log)) (node : IsNode r.nodes p.0) (primary : primary_of (printed r.log) ≡ Some p)
     (asked : MovesPrimary (λ q s. AsksMerge cells factor q s result) p.0 old new) where
   was : AllShown cells b0 board old
@@ -192,15 +193,15 @@ module _ {D : Type 0} (cells : D → Cells) (r : Run) (old new : List (Option (P
   all_drawn : q.infos.counter ≡ segments_of_generation → names_drawn (printed r.log) ≡ segments_of_generation
   all_drawn full = sym (ap (λ (x : Run). names_drawn (printed x.log)) view) ∙ (sym shows.writer.counter ∙ full)
 
-  pub none_starts : result ≡ Ok None → {calls1 : List ℕ} {cut1 : Bool} {sizes1 : List (Option ℕ)} {copies1 : List (List MergedCopy)}
-      → StartsMergeFor at factor r (record { ended = false; nodes = b1.nodes; log = b1.log; rest = record { calls_left = calls1; cut = cut1; sizes = sizes1; copies = copies1; tasks = board } }) (Some Nothing)
+  pub none_starts : result ≡ Ok None → {calls1 : List ℕ} {cut1 : Bool} {sizes1 : List (Option ℕ)} {copies1 : List (List MergedCopy)} {jobs1 : List JobFiles} {plans1 : List Plans}
+      → StartsMergeFor at factor r (record { ended = false; nodes = b1.nodes; log = b1.log; rest = record { calls_left = calls1; cut = cut1; sizes = sizes1; jobs = jobs1; copies = copies1; tasks = board; plans = plans1 } }) (Some Nothing)
   none_starts is {calls1} {cut1} {sizes1} = (as_before r b0 b1 board view e1 n1 board calls1 cut1 sizes1 refl refl, no_range (answered (Ok None) is).0)
 
-  pub spent_starts : (fault : PublishFault) (cause : Cause) → result ≡ Err fault → fault ≡ Spent → cause ≡ NamesSpent → (calls1 : List ℕ) (cut1 : Bool) (sizes1 : List (Option ℕ)) (copies1 : List (List MergedCopy))
-      → StartsMergeFor at factor r (record { ended = false; nodes = b1.nodes; log = b1.log; rest = record { calls_left = calls1; cut = cut1; sizes = sizes1; copies = copies1; tasks = board } }) (Some cause)
-  spent_starts fault cause is spent named calls1 cut1 sizes1 copies1 =
+  pub spent_starts : (fault : PublishFault) (cause : Cause) → result ≡ Err fault → fault ≡ Spent → cause ≡ NamesSpent → (calls1 : List ℕ) (cut1 : Bool) (sizes1 : List (Option ℕ)) (copies1 : List (List MergedCopy)) (jobs1 : List JobFiles) (plans1 : List Plans)
+      → StartsMergeFor at factor r (record { ended = false; nodes = b1.nodes; log = b1.log; rest = record { calls_left = calls1; cut = cut1; sizes = sizes1; jobs = jobs1; copies = copies1; tasks = board; plans = plans1 } }) (Some cause)
+  spent_starts fault cause is spent named calls1 cut1 sizes1 copies1 jobs1 plans1 =
       let all = refused fault Spent is spent in
-      subst (λ (c : Cause). StartsMergeFor at factor r (record { ended = false; nodes = b1.nodes; log = b1.log; rest = record { calls_left = calls1; cut = cut1; sizes = sizes1; copies = copies1; tasks = board } }) (Some c)) (sym named)
+      subst (λ (c : Cause). StartsMergeFor at factor r (record { ended = false; nodes = b1.nodes; log = b1.log; rest = record { calls_left = calls1; cut = cut1; sizes = sizes1; jobs = jobs1; copies = copies1; tasks = board; plans = plans1 } }) (Some c)) (sym named)
       (as_before r b0 b1 board view e1 n1 board calls1 cut1 sizes1 refl refl, some_range all.0, all_drawn all.1)
 
   -- ---- a merge starts
@@ -242,7 +243,7 @@ module _ {D : Type 0} (cells : D → Cells) (r : Run) (old new : List (Option (P
         ap length starts.start.segs_are ∙ length-take-le factor (drop starts.start.from q.segs) (omega (arith, within, rows, segs, rest))
 
     pub merging_rule : MayStartMerge (printed b0.log) at task.seg
-    merging_rule = record { running = λ none. some_none (sym primary0 ∙ none); next = next; spared = fresh.spared }
+    merging_rule = record { running = λ none. some_none (sym primary0 ∙ none); next = next; unspent = names; spared = fresh.spared }
       where
         some_none : Some p ≡ None → ⊥
         some_none e = absurd (cc)
@@ -271,7 +272,7 @@ module _ {D : Type 0} (cells : D → Cells) (r : Run) (old new : List (Option (P
             asked.moves node0 asked.at.there was.0 here others rows told counts was.2,
       )
 
-      pub begins_merge : {calls1 : List ℕ} {cut1 : Bool} {sizes1 : List (Option ℕ)} {copies1 : List (List MergedCopy)} → BeginsMerge at factor r (record { ended = false; nodes = b3.nodes; log = b3.log; rest = record { calls_left = calls1; cut = cut1; sizes = sizes1; copies = copies1; tasks = after } })
+      pub begins_merge : {calls1 : List ℕ} {cut1 : Bool} {sizes1 : List (Option ℕ)} {copies1 : List (List MergedCopy)} {jobs1 : List JobFiles} {plans1 : List Plans} → BeginsMerge at factor r (record { ended = false; nodes = b3.nodes; log = b3.log; rest = record { calls_left = calls1; cut = cut1; sizes = sizes1; jobs = jobs1; copies = copies1; tasks = after; plans = plans1 } })
       begins_merge = record {
         seg = task.seg;
         inputs = task.inputs;

@@ -1,1 +1,5 @@
-pub mod Given
+pub mod CopyTurns
+pub mod MergePaths
+pub mod Running
+pub mod Sending
+pub mod TaskCalls

@@ -1,7 +1,14 @@
-//! Merges that start.
+//! Merges of a cluster: their tasks, from the start to the cut-over.
 #![tactic(auto)]
 
+mod cuts;
+mod drains;
+mod line_drains;
+mod precopies;
 mod starts;
+mod takes;
+mod tasks;
+mod writes;
 
-pub use cluster_places::FileTask;
-pub use starts::start_merge;
+pub use line_drains::{counted, drained};
+pub use tasks::{merge_cut, merge_ready, merge_start, precopy_arrived, precopy_next, task_take};

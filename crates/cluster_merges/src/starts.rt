@@ -1,17 +1,17 @@
 //! Merges that start.
 
 ghost use Rattle.std.specs.Prelude.{◌≡◌, ◌≢◌, ◌≤◌, [], false, Some, IfOk, OnErr};
-ghost use Rattle.history_entries.specs.Nodes.{IsNode, primary_of};
-ghost use Rattle.history_entries.specs.Lines.{entries_of_line};
+ghost use Rattle.history_rules.specs.Nodes.{IsNode, primary_of};
+ghost use Rattle.history_rules.specs.Lines.{entries_of_line};
 ghost use Rattle.history_book.specs.Log.{printed};
 ghost use Rattle.cluster_state.specs.Run.{IsEnded};
-ghost use Rattle.cluster_drains.specs.MergePaths.{StartsMergeFor};
+ghost use Rattle.cluster_merges.specs.MergePaths.{StartsMergeFor};
 
-use cluster_places::PublishFault;
+use cluster_nodes::PublishFault;
 use cluster_state::ClusterState;
 use disk_model::FaultDir;
 use history_book::Inner;
-use history_entries::Cause;
+use history_rules::Cause;
 use node_merges::ask_in;
 use nrt_base::{At, NoMemory, NodeNo, Share};
 use std::alloc::{AllocError, Global};

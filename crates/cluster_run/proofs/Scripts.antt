@@ -2,15 +2,15 @@
 use Rattle.std.proofs.Common.{◌≡◌, ◌&&◌, Bool, true, false, List, [], ◌∷◌, refl, sym, ap}
 use Rattle.std.specs.List.{list_all}
 use Rattle.std.proofs.lemmas.Bool.{and_from, and_parts}
-use Rattle.history_entries.specs.declared.entry.History.{History}
+use Rattle.history_rules.specs.declared.entry.History.{History}
 use Rattle.script_serving.specs.declared.script.Line.{Line}
 use Rattle.script_serving.specs.declared.script.Script.{Script}
 use Rattle.script_serving.specs.Form.{is_command, IsInForm}
 use Rattle.script_serving.specs.Lines.{lines_of}
 use Rattle.script_serving.specs.Serves.{Serves}
-use Rattle.lane_walks.specs.Phases.{IsHistoryOf}
-use Rattle.lane_seats.specs.declared.run.Setup.{Setup}
-use Rattle.lane_crew.specs.Lanes.{setup_of}
+use Rattle.lane_threads.specs.Phases.{IsHistoryOf}
+use Rattle.lane_threads.specs.declared.run.Setup.{Setup}
+use Rattle.lane_threads.specs.Lanes.{setup_of}
 use Rattle.cluster_state.specs.Run.{Run}
 use Rattle.cluster_run.specs.Built.{is_run, IsPlainScript}
 use Rattle.cluster_run.specs.Running.{history_of}

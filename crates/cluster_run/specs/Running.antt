@@ -1,6 +1,6 @@
 -- The history of a run.
 use Rattle.std.specs.Prelude.{reverse}
-use Rattle.history_entries.specs.declared.entry.History.{History}
+use Rattle.history_rules.specs.declared.entry.History.{History}
 use Rattle.history_book.specs.Log.{printed}
 use Rattle.cluster_state.specs.Run.{Run}
 

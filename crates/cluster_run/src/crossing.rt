@@ -4,9 +4,9 @@ ghost use denote.Param.Send.{IsSend};
 ghost use Rattle.history_book.specs.contracts.book.Book as book;
 
 use history_book::Stop;
-use history_entries::Entry;
+use history_rules::Entry;
 use history_tables::{JobTable, Lines, NodeRow, Numbers, Tickets};
-use history_threads::crossing::entry_crosses;
+use lane_threads::crossing::entry_crosses;
 
 /// A type that the check finds to cross threads. A law.
 pub fn sent<T: Send>()

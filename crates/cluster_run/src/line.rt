@@ -1,20 +1,21 @@
 //! One line, from its start to its reply.
 
 ghost use Rattle.std.specs.Prelude.{◌≡◌, [], false, true, IsTrue, OnOk};
-ghost use Rattle.history_entries.specs.Lines.{entries_of_line};
+ghost use Rattle.history_rules.specs.Lines.{entries_of_line};
 ghost use Rattle.history_book.specs.Log.{printed};
 ghost use Rattle.script_serving.specs.Form.{is_command};
-ghost use Rattle.lane_seats.specs.Seats.{log_seen, IsLaneSeat, EndsItsLine};
+ghost use Rattle.lane_threads.specs.Seats.{log_seen, IsLaneSeat, EndsItsLine};
 ghost use Rattle.cluster_run.specs.Built.{is_run};
 
 use disk_model::FaultDir;
 use documents::Op;
 use hist_lock::{HistLock, LaneSeat};
-use lane_crew::Halt;
-use lane_lasting::{Cluster, Gate, commit, crash, promote, reopen};
-use lane_merging::{copy, drain, merge, settle};
-use lane_reading::{ask, close, list_files, open, search};
-use lane_writing::{publish, write};
+use lane_copies::{copy, drain, merge, settle};
+use lane_lines::{
+    Cluster, Gate, ask, close, commit, crash, list_files, open, promote, publish, reopen, search,
+    write,
+};
+use lane_threads::Halt;
 use nrt_base::{NoMemory, Share};
 use script_serving::{Line, LineCommand};
 use std::alloc::Global;

@@ -2,7 +2,7 @@
 
 ghost use Rattle.std.specs.Prelude.{◌≡◌, ◌≤◌, false, IfOk, OnOk, length};
 ghost use Rattle.std.specs.List.{All};
-ghost use Rattle.history_entries.specs.Legal.{IsLegal};
+ghost use Rattle.history_rules.specs.Legal.{IsLegal};
 ghost use Rattle.script_serving.specs.Form.{IsInForm};
 ghost use Rattle.script_serving.specs.Serves.{Serves};
 ghost use Rattle.disk_memory.specs.Memory.{cells_in};
@@ -12,12 +12,11 @@ ghost use Rattle.cluster_run.specs.Running.{history_of};
 
 use crate::crossing::{book_crosses, sent};
 use crate::runner::ClusterLines;
-use cluster_places::Place;
+use cluster_nodes::Place;
 use cluster_state::ClusterState;
-use cluster_tasks::Tasks;
 use disk_memory::MemDir;
-use history_merges::Ledger;
-use lane_lasting::{Cluster, Gate};
+use lane_lines::{Cluster, Gate};
+use merge_tasks::{Ledger, Tasks};
 use nrt_base::NoMemory;
 use script_serving::Script;
 use std::alloc::Global;
@@ -67,7 +66,7 @@ pub fn run_script<R: Threads + Wait + Sync, G: Gate + Sync>(
     let nodes = script.nodes;
     let cluster = Cluster::start(alloc, empty_dirs(alloc, nodes)?)?;
     let lines = ClusterLines { alloc, nodes, gate };
-    let left = lane_crew::run_script(rt, alloc, &lines, cluster, script)?;
+    let left = lane_threads::run_script(rt, alloc, &lines, cluster, script)?;
     left.ended();
     Ok(left)
 }

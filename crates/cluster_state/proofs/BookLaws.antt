@@ -4,20 +4,20 @@ use Rattle.std.specs.Prelude.{IfSome}
 use Rattle.nrt_base.specs.declared.numbers.At.{At}
 use Rattle.nrt_base.specs.declared.numbers.NodeNo.{NodeNo}
 use Rattle.disk_model.specs.Disk.{Cells}
-use Rattle.history_entries.specs.declared.entry.Event.TheVariants.{Publishing, Crashed, Promoted}
-use Rattle.history_entries.specs.Nodes.{IsNode, primary_of, Past, is_at}
-use Rattle.history_entries.specs.Lines.{start_entry, publish_in_flight}
-use Rattle.history_entries.specs.Legal.{KeepsRule, IsLegalPast}
+use Rattle.history_rules.specs.declared.entry.Event.TheVariants.{Publishing, Crashed, Promoted}
+use Rattle.history_rules.specs.Nodes.{IsNode, primary_of, Past, is_at}
+use Rattle.history_rules.specs.Lines.{start_entry, publish_in_flight}
+use Rattle.history_rules.specs.Legal.{KeepsRule, IsLegalPast}
 use Rattle.history_book.specs.Log.{printed}
-use Rattle.history_merges.specs.Merging.{Sheet}
+use Rattle.merge_tasks.specs.Merging.{Sheet}
 use Rattle.history_book.specs.Turns.{AreInTurn}
-use Rattle.cluster_places.specs.declared.nodes.Place.{Place}
+use Rattle.cluster_nodes.specs.declared.nodes.Place.{Place}
 use Rattle.cluster_state.specs.Run.{Rest, Run}
 use Rattle.cluster_state.specs.State.{Shows}
 use Rattle.cluster_state.proofs.Growing.{not_flying}
 use Rattle.cluster_state.proofs.Frames.{was}
 use Rattle.cluster_state.proofs.Turning.{past_has}
-use Rattle.history_entries.specs.declared.entry.Event.{Event}
+use Rattle.history_rules.specs.declared.entry.Event.{Event}
 
 primary_step : (size : ℕ) (past : Past) (at : At) (e : Event) (p : NodeNo) → KeepsRule size past at e → (primary_of past ≡ Some p → IsNode size p.0)
     → primary_of (record { at = at; event = e } ∷ past) ≡ Some p → IsNode size p.0

@@ -3,7 +3,7 @@ use Rattle.std.proofs.Common.{◌≡◌, ◌≢◌, ◌==◌, ℕ, Bool, true, f
 use Rattle.std.specs.Prelude.{IsSomeAnd, IfSome, is_some, nat_lt, ◌||◌, ◌&&◌}
 use Rattle.std.specs.List.{list_any}
 use Rattle.std.proofs.lemmas.Bool.{eqb-true, not-true}
-use Rattle.history_laws.proofs.CommitLemmas.{more_found}
+use Rattle.history_rules.proofs.CommitLemmas.{more_found}
 use Rattle.nrt_base.specs.declared.numbers.At.{At}
 use Rattle.disk_model.specs.Disk.{Name, Content, Cells}
 use Rattle.segment_infos.specs.declared.infos.Infos.{Infos}
@@ -11,24 +11,24 @@ use Rattle.commit_steps.specs.Book.{commit_of}
 use Rattle.commit_steps.specs.declared.states.Commit.{Commit}
 use Rattle.commit_steps.specs.declared.stage.Stage.{Stage}
 use Rattle.commit_steps.specs.declared.stage.CommitBook.{CommitBook}
-use Rattle.history_entries.specs.declared.entry.Event.{Event}
-use Rattle.history_entries.specs.declared.entry.Event.TheVariants.{Published, Switched, Committing, Committed, Crashed, Reopened, Promoted}
-use Rattle.history_entries.specs.Nodes.{Past, is_at, primary_of}
-use Rattle.history_entries.specs.Lines.{same_at, is_start, is_reply, start_entry, without_at, commit_in_flight}
-use Rattle.history_entries.specs.Commits.{has_committed, late_commit, more_by, reopenable_versions}
-use Rattle.history_entries.specs.Legal.{KeepsRule, IsLegalPast}
+use Rattle.history_rules.specs.declared.entry.Event.{Event}
+use Rattle.history_rules.specs.declared.entry.Event.TheVariants.{Published, Switched, Committing, Committed, Crashed, Reopened, Promoted}
+use Rattle.history_rules.specs.Nodes.{Past, is_at, primary_of}
+use Rattle.history_rules.specs.Lines.{same_at, is_start, is_reply, start_entry, without_at, commit_in_flight}
+use Rattle.history_rules.specs.Commits.{has_committed, late_commit, more_by, reopenable_versions}
+use Rattle.history_rules.specs.Legal.{KeepsRule, IsLegalPast}
 use Rattle.history_tables.proofs.RowLemmas.{by_test, same_at_is}
 use Rattle.history_book.specs.Laws.{may_find}
 use Rattle.history_book.specs.Log.{Log, printed}
-use Rattle.history_merges.specs.Merging.{Sheet}
+use Rattle.merge_tasks.specs.Merging.{Sheet}
 use Rattle.history_book.specs.Turns.{StartsOnce, InTurn, AreInTurn}
 use Rattle.history_book.proofs.FoundLaws.{commit_found}
-use Rattle.cluster_places.specs.declared.nodes.Node.{Node}
-use Rattle.cluster_places.specs.declared.nodes.Node.TheVariants.{Primary, Replica, Down}
-use Rattle.cluster_places.specs.declared.nodes.Place.{Place}
-use Rattle.cluster_places.specs.Places.{Disk, place_of, disk_of, disk_at}
-use Rattle.cluster_places.specs.KeptFiles.{KeepsNodeFiles}
-use Rattle.cluster_places.specs.JobPlaces.{MovesOne, MovesBoth}
+use Rattle.cluster_nodes.specs.declared.nodes.Node.{Node}
+use Rattle.cluster_nodes.specs.declared.nodes.Node.TheVariants.{Primary, Replica, Down}
+use Rattle.cluster_nodes.specs.declared.nodes.Place.{Place}
+use Rattle.cluster_nodes.specs.Places.{Disk, place_of, disk_of, disk_at}
+use Rattle.cluster_nodes.specs.KeptFiles.{KeepsNodeFiles}
+use Rattle.cluster_nodes.specs.JobPlaces.{MovesOne, MovesBoth}
 use Rattle.cluster_state.specs.Run.{Rest, Run}
 use Rattle.cluster_state.specs.Disks.{MayFindPoint, LastShows, StageShows, BookShows, DirShows, DiskShows, DisksShow, CommitsStay}
 use Rattle.cluster_state.specs.FileChanges.{is_commit_line, keeps_commits}

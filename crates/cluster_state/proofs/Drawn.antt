@@ -4,15 +4,15 @@ use Rattle.std.proofs.lemmas.Bool.{eqb-true, eq-eqb}
 use Rattle.std.proofs.lemmas.Bool.Decides.{nat_tests}
 use Rattle.nrt_base.specs.SegNumbers.{segment_number, segment_place, segment_generation, segments_of_generation}
 use Rattle.nrt_base.specs.declared.numbers.At.{At}
-use Rattle.history_entries.specs.declared.entry.Event.{Event}
-use Rattle.history_entries.specs.declared.entry.Event.TheVariants.{Publishing, Merging, Promoted}
-use Rattle.history_entries.specs.Nodes.{Past, generation_of}
-use Rattle.history_entries.specs.Points.{names_drawn, names_drawn_in, is_drawn, cut_has_put, IsDrawnFile}
-use Rattle.history_entries.specs.Rules.{MayHaveName}
-use Rattle.history_entries.specs.Legal.{KeepsRule, IsLegalPast}
+use Rattle.history_rules.specs.declared.entry.Event.{Event}
+use Rattle.history_rules.specs.declared.entry.Event.TheVariants.{Publishing, Merging, Promoted}
+use Rattle.history_rules.specs.Nodes.{Past, generation_of}
+use Rattle.history_rules.specs.Points.{names_drawn, names_drawn_in, is_drawn, cut_has_put, IsDrawnFile}
+use Rattle.history_rules.specs.Rules.{MayHaveName}
+use Rattle.history_rules.specs.Legal.{KeepsRule, IsLegalPast}
 use Rattle.disk_model.specs.Disk.{Name}
 use Rattle.file_names.specs.Names.{temp_name_of}
-use Rattle.replica_parts.specs.Given.{IsLasting}
+use Rattle.replica_state.specs.Given.{IsLasting}
 use Rattle.history_tables.proofs.RowLemmas.{by_test}
 use Rattle.cluster_state.proofs.Growing.{generation_more}
 

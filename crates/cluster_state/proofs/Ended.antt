@@ -6,13 +6,13 @@ use Rattle.nrt_base.specs.declared.numbers.TicketNo.{TicketNo}
 use Rattle.nrt_base.specs.declared.numbers.Version.{Version}
 use Rattle.documents.specs.declared.query.Query.{Query}
 use Rattle.documents.specs.declared.answer.Answer.{Answer}
-use Rattle.history_entries.specs.declared.entry.Event.TheVariants.{Answered, Closed}
-use Rattle.history_entries.specs.Nodes.{Past}
-use Rattle.history_entries.specs.Lines.{same_at}
-use Rattle.history_entries.specs.Tickets.{Ticket, is_ticket, last_opened, while_alive, open_ticket, IsTicketOf}
+use Rattle.history_rules.specs.declared.entry.Event.TheVariants.{Answered, Closed}
+use Rattle.history_rules.specs.Nodes.{Past}
+use Rattle.history_rules.specs.Lines.{same_at}
+use Rattle.history_rules.specs.Tickets.{Ticket, is_ticket, last_opened, while_alive, open_ticket, IsTicketOf}
 use Rattle.history_tables.specs.Begins.{open_line}
-use Rattle.cluster_places.specs.declared.held.Key.TheVariants.{Ticket as TicketKey, Search}
-use Rattle.cluster_places.specs.Held.{same_key}
+use Rattle.cluster_nodes.specs.declared.held.Key.TheVariants.{Ticket as TicketKey, Search}
+use Rattle.cluster_nodes.specs.Held.{same_key}
 use Rattle.cluster_state.specs.Lookups.{IsSearchAt, IsSearching}
 use Rattle.cluster_state.specs.State.{ticket_key}
 use Rattle.cluster_state.specs.Moves.{EndsKey}

@@ -10,53 +10,53 @@ use Rattle.nrt_base.specs.declared.numbers.Version.{Version}
 use Rattle.disk_model.specs.Disk.{Name, Content, Cells, reads_of}
 use Rattle.seg_reader.specs.Shown.{Shown}
 use Rattle.segment_infos.specs.declared.infos.Infos.{Infos}
-use Rattle.primary_parts.specs.declared.parts.Parts.{Parts as PrimaryParts}
-use Rattle.primary_parts.specs.declared.states.Out.{Out}
-use Rattle.primary_parts.specs.Primary.{IsPrimary, primary_names}
+use Rattle.primary_state.specs.declared.parts.Parts.{Parts as PrimaryParts}
+use Rattle.primary_state.specs.declared.states.Out.{Out}
+use Rattle.primary_state.specs.Primary.{IsPrimary, primary_names}
 use Rattle.file_names.specs.Names.{live_name_of}
 use Rattle.segment_steps.specs.Next.{live_base}
-use Rattle.replica_parts.specs.Sources.{HeldReadAs}
-use Rattle.replica_parts.specs.declared.job.PointJob.{PointJob}
-use Rattle.replica_parts.specs.declared.parts.Parts.{Parts as ReplicaParts}
-use Rattle.history_entries.specs.declared.entry.Event.{Event}
-use Rattle.history_entries.specs.declared.entry.Event.TheVariants.{Publishing, Published}
-use Rattle.history_entries.specs.Nodes.{Past, IsNode, is_at, primary_of, newest_version, generation_of}
-use Rattle.history_entries.specs.Lines.{start_entry, before_start, commit_in_flight}
-use Rattle.history_entries.specs.Legal.{KeepsRule, IsLegalPast}
+use Rattle.replica_state.specs.Sources.{HeldReadAs}
+use Rattle.replica_state.specs.declared.job.PointJob.{PointJob}
+use Rattle.replica_state.specs.declared.parts.Parts.{Parts as ReplicaParts}
+use Rattle.history_rules.specs.declared.entry.Event.{Event}
+use Rattle.history_rules.specs.declared.entry.Event.TheVariants.{Publishing, Published}
+use Rattle.history_rules.specs.Nodes.{Past, IsNode, is_at, primary_of, newest_version, generation_of}
+use Rattle.history_rules.specs.Lines.{start_entry, before_start, commit_in_flight}
+use Rattle.history_rules.specs.Legal.{KeepsRule, IsLegalPast}
 use Rattle.history_tables.proofs.RowLemmas.{by_test}
 use Rattle.history_tables.specs.declared.jobs.Job.{Job}
 use Rattle.history_book.specs.Log.{Log, printed, shown, kept}
-use Rattle.history_merges.specs.Merging.{Sheet}
+use Rattle.merge_tasks.specs.Merging.{Sheet}
 use Rattle.history_book.specs.declared.inner.Inner.{Inner}
 use Rattle.history_book.specs.declared.inner.Inner.TheVariants.{FlushOut}
 use Rattle.history_book.specs.Jobs.{job_at}
 use Rattle.history_book.specs.Turns.{InTurn, AreInTurn}
-use Rattle.cluster_tasks.specs.TaskLog.{carried_out}
-use Rattle.cluster_places.specs.declared.held.Held.{Held}
-use Rattle.cluster_places.specs.declared.nodes.Node.{Node}
-use Rattle.cluster_places.specs.declared.nodes.Node.TheVariants.{Primary, Replica, Down}
-use Rattle.cluster_places.specs.declared.nodes.Place.{Place}
-use Rattle.cluster_places.specs.Places.{place_of}
+use Rattle.merge_tasks.specs.TaskLog.{carried_out}
+use Rattle.cluster_nodes.specs.declared.held.Held.{Held}
+use Rattle.cluster_nodes.specs.declared.nodes.Node.{Node}
+use Rattle.cluster_nodes.specs.declared.nodes.Node.TheVariants.{Primary, Replica, Down}
+use Rattle.cluster_nodes.specs.declared.nodes.Place.{Place}
+use Rattle.cluster_nodes.specs.Places.{place_of}
 use Rattle.cluster_state.specs.Run.{Rest, Run}
 use Rattle.cluster_state.specs.State.{PrimaryShows, NodeShows, PlaceShows, Shows}
-use Rattle.cluster_places.specs.Outs.{want_of, want_at, jobs_like, states_like}
+use Rattle.cluster_nodes.specs.Outs.{want_of, want_at, jobs_like, states_like}
 use Rattle.cluster_state.specs.Files.{CopyShows, JobShows, IsJobFor, ReplicaFiles, NodeFiles, FilesShow}
-use Rattle.cluster_places.specs.KeptFiles.{FillsPrimaryFiles, KeepsReplicaFiles, KeepsNodeFiles}
+use Rattle.cluster_nodes.specs.KeptFiles.{FillsPrimaryFiles, KeepsReplicaFiles, KeepsNodeFiles}
 use Rattle.cluster_state.specs.FileChanges.{keeps_jobs, SameJob, keeps_commits, is_commit_line, CarriesNoMore}
-use Rattle.cluster_places.specs.JobPlaces.{MovesOne, MovesBoth}
+use Rattle.cluster_nodes.specs.JobPlaces.{MovesOne, MovesBoth}
 use Rattle.cluster_state.proofs.Frames.{some_then, some_at, was, PutsBack}
 use Rattle.cluster_state.specs.Names.{NamesShow}
 use Rattle.cluster_state.proofs.Drawn.{Grows, grows_shown, file_more}
 use Rattle.cluster_state.proofs.Naming.{FilesLast, NodeSteps, node_steps, node_grows, HoldsFrom, kept_steps, means_more, HoldsLow, means_wider, own_drawn}
 use Rattle.cluster_state.proofs.JobFrames.{same_shown, same_inner, same_then, job_stays}
-use Rattle.cluster_places.proofs.OutCounts.{jobs_same}
+use Rattle.cluster_nodes.proofs.OutCounts.{jobs_same}
 use Rattle.cluster_state.specs.Disks.{IsPastPoint, PointsStay, CommitsStay}
 use Rattle.cluster_state.proofs.Points.{points_alone, point_stays}
 use Rattle.cluster_state.proofs.Lasting.{live_lasts, unheld}
 use Rattle.cluster_state.proofs.Living.{live_low}
 use Rattle.cluster_state.proofs.PointStands.{primary_point}
 use Rattle.cluster_state.proofs.Disks.{no_commit, fresh_flights, commits_shown, disk_moved, disk_same, disk_kept, disks_kept, disks_still}
-use Rattle.cluster_places.proofs.Taking.{moved_one}
+use Rattle.cluster_nodes.proofs.Taking.{moved_one}
 use Rattle.cluster_state.proofs.Wider.{widened, widened_more, shows_wider, point_wider, sourced_wider, primary_stays, primary_kept, primary_filled}
 
 -- ---- places
@@ -153,10 +153,11 @@ module _ {D : Type 0} (cells : D → Cells) where
       let start = s.start job is was.begun in
       let newest : newest_version (before_start job.at (printed now)) ≡ newest_version (before_start job.at (printed log)) = ap newest_version start.1 in
       record {
+        runs = was.runs;
         number = was.number;
         version = was.version;
         point = point_stays source (printed log) (printed now) j.infos s.points was.point;
-        latest = omega (arith, was.latest, s.latest);
+        latest = s.latest job.version.0 was.latest;
         begun = start.0;
         behind = omega (arith, was.behind, newest, s.version);
         metas = was.metas;

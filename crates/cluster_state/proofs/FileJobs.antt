@@ -1,18 +1,22 @@
 -- What the invariant of files says of the nodes of a call, and of the job that runs at one.
-use Rattle.std.proofs.Common.{◌≡◌, ◌≤◌, ℕ, true, true≢false, List, Some, None, Option, Vec, Global, refl, ap, ◌∙◌, sym, subst, arith, nat_le}
+use Rattle.std.proofs.Common.{◌≡◌, ◌≤◌, ℕ, Bool, true, false, true≢false, if◌then◌else◌, List, Some, None, Option, Vec, Global, refl, ap, ◌∙◌, sym, subst, arith, nat_le, nat_lt}
 use Rattle.std.specs.Prelude.{IsSomeAnd, IfSome}
+use Rattle.std.specs.List.{All}
+use Rattle.std.specs.Option.{option_map}
 use Rattle.std.proofs.lemmas.Bool.{eq-eqb}
 use Rattle.std.proofs.lemmas.Bool.Decides.{nat_tests}
 use Rattle.nrt_base.specs.declared.numbers.At.{At}
 use Rattle.disk_model.specs.Disk.{Name, Content, Cells}
-use Rattle.primary_parts.specs.declared.parts.Parts.{Parts as PrimaryParts}
-use Rattle.primary_parts.specs.declared.states.Out.{Out}
-use Rattle.primary_parts.specs.States.{is_out, out_of}
-use Rattle.replica_parts.specs.declared.job.PointJob.{PointJob}
-use Rattle.replica_parts.specs.declared.parts.Parts.{Parts as ReplicaParts}
-use Rattle.replica_parts.specs.Replica.{IsJobAbove}
-use Rattle.history_entries.specs.Nodes.{IsNode, IsReplica, is_at, primary_of, newest_version, version_of}
-use Rattle.history_entries.specs.Lines.{copy_in_flight, is_free_for}
+use Rattle.primary_state.specs.declared.parts.Parts.{Parts as PrimaryParts}
+use Rattle.primary_state.specs.declared.states.Out.{Out}
+use Rattle.primary_state.specs.States.{is_out, out_of}
+use Rattle.replica_state.specs.declared.job.PointJob.{PointJob}
+use Rattle.replica_state.specs.declared.parts.Parts.{Parts as ReplicaParts}
+use Rattle.replica_state.specs.Replica.{IsJobAbove}
+use Rattle.replica_state.specs.Jobs.{job_seen, running_point, stopped_job}
+use Rattle.replica_state.specs.Given.{HasMeta}
+use Rattle.history_rules.specs.Nodes.{IsNode, IsReplica, is_at, primary_of, newest_version, version_of}
+use Rattle.history_rules.specs.Lines.{copy_in_flight, is_free_for}
 use Rattle.history_tables.specs.declared.jobs.Job.{Job}
 use Rattle.history_tables.specs.declared.jobs.JobRow.{JobRow}
 use Rattle.history_tables.specs.JobRows.{is_going, while_going}
@@ -22,18 +26,18 @@ use Rattle.history_book.specs.Log.{Log, printed}
 use Rattle.history_book.specs.Jobs.{job_at, IsOlder, LaneJobShows}
 use Rattle.history_book.proofs.JobLaws.{going_at}
 use Rattle.history_book.proofs.ReignLaws.{node_alive, source_alive}
-use Rattle.cluster_places.specs.declared.held.Held.{Held}
-use Rattle.cluster_places.specs.declared.nodes.Node.{Node}
-use Rattle.cluster_places.specs.declared.nodes.Node.TheVariants.{Primary, Replica, Down}
-use Rattle.cluster_places.specs.declared.nodes.Place.{Place}
-use Rattle.cluster_places.specs.Places.{place_of}
+use Rattle.cluster_nodes.specs.declared.held.Held.{Held}
+use Rattle.cluster_nodes.specs.declared.nodes.Node.{Node}
+use Rattle.cluster_nodes.specs.declared.nodes.Node.TheVariants.{Primary, Replica, Down}
+use Rattle.cluster_nodes.specs.declared.nodes.Place.{Place}
+use Rattle.cluster_nodes.specs.Places.{place_of}
 use Rattle.cluster_state.specs.State.{PlaceShows, Shows}
-use Rattle.cluster_places.specs.Outs.{want_of, want_at, jobs_like}
+use Rattle.cluster_nodes.specs.Outs.{want_of, want_at, jobs_like}
 use Rattle.cluster_state.specs.Files.{CopyShows, JobShows, IsJobFor, ReplicaFiles, PrimaryFiles, FilesShow}
 use Rattle.cluster_state.specs.Copies.{JobRuns}
-use Rattle.cluster_places.specs.JobPlaces.{IsPrimaryAt, IsReplicaAt}
+use Rattle.cluster_nodes.specs.JobPlaces.{IsPrimaryAt, IsReplicaAt}
 use Rattle.cluster_state.proofs.Frames.{slot_of}
-use Rattle.cluster_places.proofs.OutCounts.{is_there, job_counted}
+use Rattle.cluster_nodes.proofs.OutCounts.{is_there, job_counted}
 use Rattle.cluster_state.proofs.FileFrames.{both_of, Both}
 
 -- ---- the job of a lane that runs is the one that runs at its node
@@ -49,6 +53,72 @@ runs_at size log row runs shows =
     let node : nat_le (crashed_at row.job.node.0 (printed log)) row.before ≡ true = le_more _ _ row.before (node_alive row.job.node.0 row.job.at (printed log) ∙ eq-eqb _ _ runs.survives.node) shows.before in
     let primary : nat_le (primary_crashed (printed log)) row.before ≡ true = le_more _ _ row.before (source_alive row.job.at (printed log) ∙ eq-eqb _ _ runs.source.source) shows.before in
     ap (while_going row.job.node.0 (printed log)) last ∙ rw (runs.unended, node, primary) refl
+
+-- ---- a job that was not stopped
+
+pub want_runs : (j : PointJob) → j.stopped ≡ false → want_of (Some j) ≡ Some (out_of j.copy.want)
+want_runs j runs = ap (λ (b : Bool). if b then None else Some (out_of j.copy.want)) runs
+
+pub point_goes : (j : PointJob) → j.stopped ≡ false → running_point (Some j) ≡ Some j
+point_goes j runs = ap (λ (b : Bool). if b then None else Some j) runs
+
+-- the job that runs is the one that is there
+pub running_is : (o : Option PointJob) (k : PointJob) → running_point o ≡ Some k → (o ≡ Some k) × (k.stopped ≡ false)
+running_is None k is = absurd (cc)
+running_is (Some j) k is = tests j.stopped refl is
+  where
+    tests : (b : Bool) → j.stopped ≡ b → (if b then None else Some j) ≡ Some k → (Some j ≡ Some k) × (k.stopped ≡ false)
+    tests true stopped is = absurd (cc)
+    tests false runs is = let same : j ≡ k = cc in (is, ap (λ (x : PointJob). x.stopped) (sym same) ∙ runs)
+
+-- ---- what is shown of a job
+
+-- the files that it wants have their metadata at the source
+pub had_metas : (source : Name → Content) (log : Log) (n : ℕ) (o : Option Job) (j : PointJob) → JobShows source log n o (Some j) → All (λ f. HasMeta source f.0 f.1) j.copy.want.files
+had_metas source log n None j shows = shows.metas
+had_metas source log n (Some job) j shows = shows.metas
+
+-- where none runs, whatever else happened
+pub idle_shown : (source : Name → Content) (log now : Log) (n : ℕ) (p : Option PointJob) → JobShows source log n None p → JobShows source now n None p
+idle_shown source log now n None shows = shows
+idle_shown source log now n (Some j) shows = shows
+
+-- none copies a state
+pub idle_want : (source : Name → Content) (log : Log) (n : ℕ) (p : Option PointJob) → JobShows source log n None p → want_of p ≡ None
+idle_want source log n None shows = refl
+idle_want source log n (Some j) shows = ap (λ (b : Bool). if b then None else Some (out_of j.copy.want)) shows.stopped
+
+-- once it was stopped
+pub stopped_shown : (source : Name → Content) (log now : Log) (n : ℕ) (o : Option Job) (p : Option PointJob) → JobShows source log n o p → JobShows source now n None (option_map stopped_job p)
+stopped_shown source log now n o None shows = tt
+stopped_shown source log now n o (Some j) shows = record { stopped = refl; metas = had_metas source log n o j shows }
+
+pub stopped_want : (p : Option PointJob) → want_of (option_map stopped_job p) ≡ None
+stopped_want None = refl
+stopped_want (Some j) = refl
+
+-- once a generation was seen, which gives a stopped job's parts back where it is a higher one
+pub seen_shown : (source : Name → Content) (log : Log) (n : ℕ) (o : Option Job) (p : Option PointJob) (seen generation : ℕ) → JobShows source log n o p → JobShows source log n o (job_seen seen generation p)
+seen_shown source log n o p seen generation = by (nat_lt seen generation) o p
+  where
+    by : (b : Bool) (job : Option Job) (q : Option PointJob) → JobShows source log n job q → JobShows source log n job (if b then running_point q else q)
+    by false job q shows = shows
+    by true None None shows = shows
+    by true (Some job) None shows = shows
+    by true None (Some j) shows = subst (λ (b : Bool). JobShows source log n None (if b then None else Some j)) (sym shows.stopped) tt
+    by true (Some job) (Some j) shows = subst (λ (b : Bool). JobShows source log n (Some job) (if b then None else Some j)) (sym shows.runs) shows
+
+pub seen_want : (p : Option PointJob) (seen generation : ℕ) → want_of (job_seen seen generation p) ≡ want_of p
+seen_want p seen generation = by (nat_lt seen generation) p
+  where
+    by : (b : Bool) (q : Option PointJob) → want_of (if b then running_point q else q) ≡ want_of q
+    by false q = refl
+    by true None = refl
+    by true (Some j) = tests j.stopped refl
+      where
+        tests : (b : Bool) → j.stopped ≡ b → want_of (if j.stopped then None else Some j) ≡ want_of (Some j)
+        tests true is = ap (λ (b : Bool). want_of (if b then None else Some j)) is ∙ sym (ap (λ (b : Bool). if b then None else Some (out_of j.copy.want)) is)
+        tests false is = ap (λ (b : Bool). want_of (if b then None else Some j)) is
 
 -- ---- nodes
 
@@ -100,6 +170,8 @@ module _ {D : Type 0} (cells : D → Cells) where
   pub record JobHere (source : Name → Content) (log : Log) (n : ℕ) (job : Job) (r : ReplicaParts D) : Type 0 where
     pub point : PointJob
     pub runs : r.job ≡ Some point
+    pub going : running_point r.job ≡ Some point
+    pub want : want_of r.job ≡ Some (out_of point.copy.want)
     pub shows : CopyShows source log n job point
 
   pub job_here : (source : Name → Content) (log : Log) (n : ℕ) (job : Job) (r : ReplicaParts D) → job_at n log ≡ Some job → ReplicaFiles source cells log n r → JobHere source log n job r
@@ -107,7 +179,13 @@ module _ {D : Type 0} (cells : D → Cells) where
     where
       found : (o : Option PointJob) → r.job ≡ o → JobShows source log n (Some job) o → JobHere source log n job r
       found None none shows = absurd shows
-      found (Some point) there shows = record { point = point; runs = there; shows = shows }
+      found (Some point) there shows = record {
+        point = point;
+        runs = there;
+        going = ap running_point there ∙ point_goes point shows.runs;
+        want = ap want_of there ∙ want_runs point shows.runs;
+        shows = shows;
+      }
 
   -- its copy state is out
   pub job_out : (log : Log) (size n : ℕ) (places : List (Option (Place D))) (p : PrimaryParts D) (r : ReplicaParts D) (held : Vec Held Global) (source : Name → Content) → IsNode size n → place_of places n ≡ Some (record { node = Replica r; held = held })
@@ -116,10 +194,16 @@ module _ {D : Type 0} (cells : D → Cells) where
     where
       found : (o : Option PointJob) → r.job ≡ o → IfSome (want_of o) (λ s. is_out s p.states ≡ true)
       found None is = tt
-      found (Some point) is =
-          let s : Out = out_of point.copy.want in
-          let counted = job_counted places s n size node.0 node.1 (ap want_at there ∙ ap want_of is) in
-          is_there s p.states (let low = files.outs s in omega (arith, counted, low))
+      found (Some point) is = tests point.stopped refl
+        where
+          s : Out
+          s = out_of point.copy.want
+
+          tests : (b : Bool) → point.stopped ≡ b → IfSome (if b then None else Some s) (λ t. is_out t p.states ≡ true)
+          tests true stopped = tt
+          tests false runs =
+              let counted = job_counted places s n size node.0 node.1 (ap want_at there ∙ (ap want_of is ∙ want_runs point runs)) in
+              is_there s p.states (let low = files.outs s in omega (arith, counted, low))
 
   -- where no job for the newest version runs at a replica, no copy of it is in flight there
   pub no_flight : (log : Log) (n : ℕ) (r : ReplicaParts D) (source : Name → Content) → IsOlder (newest_version (printed log)) (job_at n log) → ReplicaFiles source cells log n r

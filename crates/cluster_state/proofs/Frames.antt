@@ -12,28 +12,29 @@ use Rattle.segment_infos.specs.declared.infos.Infos.{Infos}
 use Rattle.searcher_switch.specs.declared.open.Open.{Open}
 use Rattle.searcher_switch.specs.declared.open.Point.{Point}
 use Rattle.searcher_switch.specs.Tickets.{ticket_at}
-use Rattle.history_entries.specs.declared.entry.Entry.{Entry}
-use Rattle.history_entries.specs.declared.entry.Event.{Event}
-use Rattle.history_entries.specs.declared.entry.Event.TheVariants.{Publishing}
-use Rattle.history_entries.specs.Nodes.{Past, IsNode, is_at, primary_of, newest_version, version_of}
-use Rattle.history_entries.specs.Lines.{same_at, is_start, start_entry, publish_in_flight}
-use Rattle.history_entries.specs.Points.{documents_at, cut_of}
-use Rattle.history_entries.specs.Legal.{KeepsRule, IsLegalPast}
+use Rattle.history_rules.specs.declared.entry.Entry.{Entry}
+use Rattle.history_rules.specs.declared.entry.Event.{Event}
+use Rattle.history_rules.specs.declared.entry.Event.TheVariants.{Publishing}
+use Rattle.history_rules.specs.Nodes.{Past, IsNode, is_at, primary_of, newest_version, version_of}
+use Rattle.history_rules.specs.Lines.{same_at, is_start, start_entry, publish_in_flight}
+use Rattle.history_rules.specs.Points.{documents_at, cut_of}
+use Rattle.history_rules.specs.Legal.{KeepsRule, IsLegalPast}
 use Rattle.history_tables.proofs.RowLemmas.{by_test}
 use Rattle.history_book.specs.Log.{Log, printed, shown, kept}
-use Rattle.history_merges.specs.Merging.{Sheet}
+use Rattle.merge_tasks.specs.Merging.{Sheet}
 use Rattle.history_book.specs.declared.inner.Inner.TheVariants.{FlushOut}
 use Rattle.nrt_base.specs.declared.numbers.SegNo.{SegNo}
+use Rattle.history_book.specs.Told.{IsSo}
 use Rattle.history_book.specs.Turns.{AreInTurn}
-use Rattle.primary_parts.specs.declared.parts.Parts.{Parts as PrimaryParts}
-use Rattle.primary_parts.specs.declared.parts.Publish.{Publish}
-use Rattle.replica_parts.specs.declared.parts.Parts.{Parts as ReplicaParts}
-use Rattle.cluster_places.specs.declared.held.Held.{Held}
-use Rattle.cluster_places.specs.declared.nodes.Node.{Node}
-use Rattle.cluster_places.specs.declared.nodes.Node.TheVariants.{Primary, Replica, Down}
-use Rattle.cluster_places.specs.declared.nodes.Place.{Place}
+use Rattle.primary_state.specs.declared.parts.Parts.{Parts as PrimaryParts}
+use Rattle.primary_state.specs.declared.parts.Publish.{Publish}
+use Rattle.replica_state.specs.declared.parts.Parts.{Parts as ReplicaParts}
+use Rattle.cluster_nodes.specs.declared.held.Held.{Held}
+use Rattle.cluster_nodes.specs.declared.nodes.Node.{Node}
+use Rattle.cluster_nodes.specs.declared.nodes.Node.TheVariants.{Primary, Replica, Down}
+use Rattle.cluster_nodes.specs.declared.nodes.Place.{Place}
 use Rattle.cluster_state.specs.Lookups.{Handed, handed_by, or_older, flush_out}
-use Rattle.cluster_places.specs.Places.{place_of, IsSlot, tickets_of}
+use Rattle.cluster_nodes.specs.Places.{place_of, IsSlot, tickets_of}
 use Rattle.cluster_state.specs.Run.{Rest, Run}
 use Rattle.cluster_state.specs.State.{StandForVersion, IsPointAt, HoldsTickets, FlightShows, WritesAt, PrimaryShows, ReplicaShows, NodeShows, PlaceShows, Shows}
 use Rattle.cluster_state.specs.Moves.{moves, moves_tickets, FlightStays, Lasts, Fewer, WritesOn, Same}
@@ -113,6 +114,11 @@ rule_at r ended b0 b1 at e view same_log same_size keeps =
     let log : b1.log ≡ r.log = same_log ∙ ap (λ (x : Run). x.log) view in
     let size : b1.nodes ≡ r.nodes = same_size ∙ ap (λ (x : Run). x.nodes) view in
     subst (λ (x : Log × ℕ). KeepsRule x.1 (printed x.0) at e) (λ i. (sym log i, sym size i)) keeps
+
+-- and what it tells is so
+pub told_at : (r : Run) (ended : Bool) (b0 b1 : Sheet) (at : At) (e : Event) → {left : Rest} → record { ended = ended; nodes = b0.nodes; log = b0.log; rest = left } ≡ r
+    → b1.log ≡ b0.log → IsSo r.log at e → IsSo b1.log at e
+told_at r ended b0 b1 at e view same_log so = subst (λ (l : Log). IsSo l at e) (sym (same_log ∙ ap (λ (x : Run). x.log) view)) so
 
 -- ---- nodes
 

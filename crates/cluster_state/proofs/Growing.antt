@@ -8,16 +8,16 @@ use Rattle.nrt_base.specs.declared.numbers.NodeNo.{NodeNo}
 use Rattle.seg_reader.specs.Shown.{Shown}
 use Rattle.seg_reader.specs.Stands.{AreSegmentsOf}
 use Rattle.nrt_base.specs.declared.doc.Doc.{Doc}
-use Rattle.history_entries.specs.declared.entry.Entry.{Entry}
-use Rattle.history_entries.specs.declared.entry.Event.{Event}
-use Rattle.history_entries.specs.declared.entry.Event.TheVariants.{Accepted, Publishing, Published, Switched, Opened, Crashed, Reopened, Promoted, Merging, Fault, Closed}
-use Rattle.history_entries.specs.Nodes.{Past, is_at, primary_of, is_running, crashes, generation_of, version_of}
-use Rattle.history_entries.specs.Lines.{same_at, is_start, is_reply, start_entry, before_start, without_at, publish_in_flight}
-use Rattle.history_entries.specs.Points.{operations_of_generation}
-use Rattle.history_entries.specs.Tickets.{Ticket, is_ticket, last_opened, while_alive, open_ticket, IsTicketOf}
-use Rattle.history_entries.specs.Legal.{KeepsRule, IsLegalPast}
-use Rattle.history_laws.proofs.PointLemmas.{operations_stay, documents_stay_lem}
-use Rattle.history_laws.specs.Steps.{is_running_by, version_by}
+use Rattle.history_rules.specs.declared.entry.Entry.{Entry}
+use Rattle.history_rules.specs.declared.entry.Event.{Event}
+use Rattle.history_rules.specs.declared.entry.Event.TheVariants.{Accepted, Publishing, Published, Switched, Opened, Crashed, Reopened, Promoted, Merging, Fault, Closed}
+use Rattle.history_rules.specs.Nodes.{Past, is_at, primary_of, is_running, crashes, generation_of, version_of}
+use Rattle.history_rules.specs.Lines.{same_at, is_start, is_reply, start_entry, before_start, without_at, publish_in_flight}
+use Rattle.history_rules.specs.Points.{operations_of_generation}
+use Rattle.history_rules.specs.Tickets.{Ticket, is_ticket, last_opened, while_alive, open_ticket, IsTicketOf}
+use Rattle.history_rules.specs.Legal.{KeepsRule, IsLegalPast}
+use Rattle.history_rules.proofs.PointLemmas.{operations_stay, documents_stay_lem}
+use Rattle.history_rules.specs.Steps.{is_running_by, version_by}
 use Rattle.history_tables.specs.declared.lines.Begun.{Begun}
 use Rattle.history_tables.specs.Begins.{begin, begun_by, open_line, start_by}
 use Rattle.history_tables.proofs.RowLemmas.{by_test, same_at_is}

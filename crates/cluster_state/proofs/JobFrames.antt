@@ -1,6 +1,6 @@
 -- What one more entry leaves of the job that the log shows at a replica.
-use Rattle.std.proofs.Common.{◌≡◌, ◌≢◌, ◌≤◌, ◌+◌, ◌&&◌, ◌==◌, ℕ, Bool, true, false, true≢false, [], ◌∷◌, Some, None, Option, max, refl, ap, ◌∙◌, sym, subst, arith, if◌then◌else◌, length, ◌||◌}
-use Rattle.std.specs.Prelude.{not}
+use Rattle.std.proofs.Common.{◌≡◌, ◌≢◌, ◌≤◌, ◌+◌, ◌&&◌, ◌==◌, ℕ, Bool, true, false, true≢false, [], ◌∷◌, Some, None, Option, refl, ap, ◌∙◌, sym, subst, arith, if◌then◌else◌, length, ◌||◌}
+use Rattle.std.specs.Prelude.{not, nat_lt}
 use Rattle.std.proofs.lemmas.Bool.{eqb-true, not-true}
 use Rattle.std.proofs.lemmas.Bool.Decides.{nat_tests}
 use Rattle.history_tables.proofs.RowLemmas.{same_at_self, same_at_is}
@@ -9,11 +9,14 @@ use Rattle.nrt_base.specs.declared.numbers.LineNo.{LineNo}
 use Rattle.nrt_base.specs.declared.numbers.NodeNo.{NodeNo}
 use Rattle.nrt_base.specs.declared.numbers.Version.{Version}
 use Rattle.disk_model.specs.Disk.{Name, same}
-use Rattle.history_entries.specs.declared.entry.Event.{Event}
-use Rattle.history_entries.specs.declared.entry.Event.TheVariants.{Published, Copying, Switched, Crashed, Reopened, Promoted}
-use Rattle.history_entries.specs.Nodes.{Past, is_at, primary_of, version_of, newest_version}
-use Rattle.history_entries.specs.Lines.{same_at, is_start, is_reply, start_entry, before_start, without_at, copy_in_flight, highest_copy}
-use Rattle.history_entries.specs.Legal.{KeepsRule, IsLegalPast}
+use Rattle.history_rules.specs.declared.entry.Event.{Event}
+use Rattle.history_rules.specs.declared.entry.Event.TheVariants.{Published, Copying, Switched, Crashed, Reopened, Promoted}
+use Rattle.history_rules.specs.Nodes.{Past, is_at, primary_of, version_of, newest_version}
+use Rattle.history_rules.specs.Lines.{same_at, is_start, is_reply, start_entry, before_start, without_at, copy_in_flight}
+use Rattle.history_rules.specs.Commits.{is_passed}
+use Rattle.history_rules.specs.Passed.{starts_above}
+use Rattle.history_rules.proofs.PassedLaws.{stays_unpassed}
+use Rattle.history_rules.specs.Legal.{KeepsRule, IsLegalPast}
 use Rattle.history_tables.specs.declared.jobs.Job.{Job}
 use Rattle.history_tables.specs.declared.jobs.JobRow.{JobRow}
 use Rattle.history_tables.specs.declared.jobs.JobStep.{JobStep}
@@ -120,12 +123,12 @@ module _ (size : ℕ) (log : Log) (at : At) (n : ℕ) (legal : IsLegalPast size 
   job_same (Crashed m) (Some row) keeps = absurd (true≢false (sym keeps))
   job_same e (Some row) keeps = refl
 
-  latest_same : (e : Event) → keeps_jobs e n ≡ true → highest_copy n (after e) ≤ highest_copy n (printed log)
-  latest_same (Copying m w) keeps =
-      let is : (if m.0 == n then max (highest_copy n (printed log)) w.0 else highest_copy n (printed log)) ≡ highest_copy n (printed log)
-      = ap (λ (b : Bool). if b then max (highest_copy n (printed log)) w.0 else highest_copy n (printed log)) (not-true (m.0 == n) keeps) in
-      omega (arith, is)
-  latest_same e keeps = omega arith
+  latest_same : (e : Event) → keeps_jobs e n ≡ true → (v : ℕ) → is_passed n v (printed log) ≡ false → is_passed n v (after e) ≡ false
+  latest_same e keeps v = stays_unpassed n v (printed log) (record { at = at; event = e }) (unstarted e keeps)
+    where
+      unstarted : (x : Event) → keeps_jobs x n ≡ true → starts_above n v x ≡ false
+      unstarted (Copying m w) keeps = ap (λ (b : Bool). b && nat_lt v w.0) (not-true (m.0 == n) keeps)
+      unstarted x keeps = refl
 
   version_same : (e : Event) → keeps_jobs e n ≡ true → version_of n (after e) ≡ version_of n (printed log)
   version_same (Published g w) keeps = ap (λ (b : Bool). if b then w.0 else version_of n (printed log)) other
@@ -251,7 +254,7 @@ pub same_inner : (log : Log) (i : Inner) (n : ℕ) → leaves_job i n ≡ true �
 same_inner log i n leaves = record {
   job = ap (while_going n (printed log)) (row_kept n log i leaves);
   points = points_alone (printed log);
-  latest = omega arith;
+  latest = λ v none. none;
   version = refl;
   start = λ job is begun. (begun, refl);
   flight = λ a is. (is, refl);
@@ -263,7 +266,7 @@ pub same_then : (log mid now : Log) (n : ℕ) → SameJob log mid n → SameJob 
 same_then log mid now n a b = record {
   job = b.job ∙ a.job;
   points = points_then (printed log) (printed mid) (printed now) a.points b.points;
-  latest = omega (arith, a.latest, b.latest);
+  latest = λ v none. b.latest v (a.latest v none);
   version = b.version ∙ a.version;
   start = λ job is begun. let x = a.start job is begun in let y = b.start job (a.job ∙ is) x.0 in (y.0, y.1 ∙ x.1);
   flight = λ at is. let y = b.flight at is in let x = a.flight at y.0 in (x.0, y.1 ∙ x.1);
@@ -275,7 +278,7 @@ pub job_stays : (log : Log) (n : ℕ) → SameJob log log n
 job_stays log n = record {
   job = refl;
   points = points_alone (printed log);
-  latest = omega arith;
+  latest = λ v none. none;
   version = refl;
   start = λ job is begun. (begun, refl);
   flight = λ at is. (is, refl);

@@ -2,12 +2,12 @@
 use Rattle.std.proofs.Common.{◌≡◌, ◌≤◌, ℕ, Bool, false, List, Some, None, Option, refl, subst, arith}
 use Rattle.std.specs.Prelude.{IfSome}
 use Rattle.disk_model.specs.Disk.{Cells}
-use Rattle.history_entries.specs.Nodes.{IsNode, IsReplica, newest_version}
+use Rattle.history_rules.specs.Nodes.{IsNode, IsReplica, newest_version}
 use Rattle.history_tables.specs.declared.jobs.Job.{Job}
 use Rattle.history_book.specs.Log.{Log, printed}
-use Rattle.history_merges.specs.Merging.{Sheet}
+use Rattle.merge_tasks.specs.Merging.{Sheet}
 use Rattle.history_book.specs.Jobs.{job_at}
-use Rattle.cluster_places.specs.declared.nodes.Place.{Place}
+use Rattle.cluster_nodes.specs.declared.nodes.Place.{Place}
 use Rattle.cluster_state.specs.Run.{Rest, Run}
 use Rattle.cluster_state.specs.State.{Shows}
 use Rattle.cluster_state.specs.Files.{FilesShow}

@@ -2,20 +2,20 @@
 use Rattle.std.proofs.Common.{◌≡◌, ◌≤◌, ℕ, List, ◌∷◌, Some, None, Option, Vec, Global, refl, ap, ◌∙◌, sym, subst, arith}
 use Rattle.nrt_base.specs.declared.numbers.At.{At}
 use Rattle.disk_model.specs.Disk.{Cells}
-use Rattle.primary_parts.specs.declared.parts.Parts.{Parts as PrimaryParts}
-use Rattle.replica_parts.specs.declared.parts.Parts.{Parts as ReplicaParts}
-use Rattle.history_entries.specs.Nodes.{Past, generation_of, version_of}
-use Rattle.history_entries.specs.Lines.{publish_in_flight}
+use Rattle.primary_state.specs.declared.parts.Parts.{Parts as PrimaryParts}
+use Rattle.replica_state.specs.declared.parts.Parts.{Parts as ReplicaParts}
+use Rattle.history_rules.specs.Nodes.{Past, generation_of, version_of}
+use Rattle.history_rules.specs.Lines.{publish_in_flight}
 use Rattle.history_book.specs.Log.{Log, printed, kept}
 use Rattle.history_book.specs.declared.inner.Inner.{Inner}
-use Rattle.cluster_places.specs.declared.held.Held.{Held}
-use Rattle.cluster_places.specs.declared.nodes.Node.TheVariants.{Primary, Replica}
-use Rattle.cluster_places.specs.declared.nodes.Place.{Place}
+use Rattle.cluster_nodes.specs.declared.held.Held.{Held}
+use Rattle.cluster_nodes.specs.declared.nodes.Node.TheVariants.{Primary, Replica}
+use Rattle.cluster_nodes.specs.declared.nodes.Place.{Place}
 use Rattle.cluster_state.specs.Lookups.{Handed, handed_by, or_older, flush_out}
 use Rattle.cluster_state.specs.State.{IsPointAt, WritesAt, FlightShows, HoldsTickets, PrimaryShows, PlaceShows, Shows}
 use Rattle.cluster_state.specs.Moves.{Fewer, Same}
-use Rattle.cluster_places.specs.JobChanges.{AltersStates, AltersJob}
-use Rattle.cluster_places.specs.JobPlaces.{MovesOne, MovesBoth}
+use Rattle.cluster_nodes.specs.JobChanges.{AltersStates, AltersJob}
+use Rattle.cluster_nodes.specs.JobPlaces.{MovesOne, MovesBoth}
 use Rattle.cluster_state.proofs.Frames.{shows_still}
 use Rattle.cluster_state.proofs.FileFrames.{one_each, both_each}
 

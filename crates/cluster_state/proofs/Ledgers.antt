@@ -4,18 +4,18 @@ use Rattle.std.proofs.lemmas.Bool.{eq-eqb}
 use Rattle.nrt_base.specs.declared.numbers.At.{At}
 use Rattle.nrt_base.specs.declared.numbers.NodeNo.{NodeNo}
 use Rattle.nrt_base.specs.declared.numbers.Version.{Version}
-use Rattle.history_entries.specs.declared.entry.Event.{Event}
-use Rattle.history_entries.specs.declared.entry.Event.TheVariants.{Publishing, Published, Merging, Crashed, Promoted}
-use Rattle.history_entries.specs.Nodes.{Past, IsReplica, primary_of, is_running}
-use Rattle.history_entries.specs.Lines.{commit_in_flight}
-use Rattle.history_entries.specs.Rules.{MayCommit}
-use Rattle.history_entries.specs.Legal.{IsLegalPast}
+use Rattle.history_rules.specs.declared.entry.Event.{Event}
+use Rattle.history_rules.specs.declared.entry.Event.TheVariants.{Publishing, Published, Merging, Crashed, Promoted}
+use Rattle.history_rules.specs.Nodes.{Past, IsReplica, primary_of, is_running}
+use Rattle.history_rules.specs.Lines.{commit_in_flight}
+use Rattle.history_rules.specs.Rules.{MayCommit}
+use Rattle.history_rules.specs.Legal.{IsLegalPast}
 use Rattle.history_tables.specs.declared.jobs.JobRow.{JobRow}
 use Rattle.history_book.specs.Log.{Log, printed}
 use Rattle.history_book.specs.Laws.{IsFresh}
 use Rattle.history_book.specs.Jobs.{job_at, LaneJobShows}
 use Rattle.history_book.specs.Turns.{IsUnbegun, AreInTurn}
-use Rattle.history_merges.specs.Merging.{Sheet, is_apart, ends_reign}
+use Rattle.merge_tasks.specs.Merging.{Sheet, is_apart, ends_reign}
 use Rattle.cluster_state.specs.Run.{Rest, Run}
 use Rattle.cluster_state.specs.Moves.{moves}
 

@@ -1,23 +1,28 @@
-pub mod Growing
-pub mod Frames
-mod Ended
-pub mod Turning
-pub mod JobFrames
-pub mod Drawn
-pub mod Naming
-pub mod Wider
+pub mod BookLaws
 pub mod Disks
+pub mod Drawn
+mod Ended
+pub mod Faulted
 pub mod FileFrames
 pub mod FileJobs
-pub mod JobMoves
+pub mod Frames
+pub mod Growing
+pub mod JobFrames
 mod JobLaw
-pub mod BookLaws
-pub mod PointStands
+pub mod JobMoves
+pub mod JobsLeft
 pub mod Lasting
+pub mod Ledgers
+pub mod LifeRows
 pub mod Living
+pub mod Mapped
+pub mod MergingPaths
+pub mod MergingStill
+pub mod Naming
+pub mod Planned
+pub mod PointStands
 pub mod Points
 pub mod Reigning
-pub mod Ledgers
-pub mod MergingStill
-pub mod MergingPaths
-pub mod Given
+pub mod Rows
+pub mod Turning
+pub mod Wider

@@ -11,35 +11,35 @@ use Rattle.seg_reader.specs.Shown.{Shown}
 use Rattle.copy_state.specs.declared.state.CopyState.{CopyState}
 use Rattle.copy_state.specs.States.{meta_names}
 use Rattle.copy_job.specs.Jobs.{Job}
-use Rattle.primary_parts.specs.declared.parts.Parts.{Parts as PrimaryParts}
-use Rattle.primary_parts.specs.declared.states.Merging.{Merging}
-use Rattle.primary_parts.specs.declared.states.Out.{Out}
-use Rattle.primary_parts.specs.Merges.{merge_of}
-use Rattle.replica_parts.specs.declared.merges.MergeCopies.{MergeCopies}
-use Rattle.replica_parts.specs.declared.parts.Parts.{Parts as ReplicaParts}
-use Rattle.replica_parts.specs.Merges.{copy_at, copies_without, CopyApart, AreCopiesApart, no_copies}
-use Rattle.replica_parts.proofs.Merging.{number_at, all_at}
-use Rattle.cluster_places.specs.Given.{overlaps, copies_beside}
-use Rattle.history_entries.specs.declared.entry.Event.{Event}
-use Rattle.history_entries.specs.declared.entry.Event.TheVariants.{Crashed, Promoted, Published, Merging as MergingEvent, Drained}
-use Rattle.history_entries.specs.Nodes.{IsNode, is_at, primary_of}
+use Rattle.primary_state.specs.declared.parts.Parts.{Parts as PrimaryParts}
+use Rattle.primary_state.specs.declared.states.Merging.{Merging}
+use Rattle.primary_state.specs.declared.states.Out.{Out}
+use Rattle.primary_state.specs.Merges.{merge_of}
+use Rattle.replica_state.specs.declared.merges.MergeCopies.{MergeCopies}
+use Rattle.replica_state.specs.declared.parts.Parts.{Parts as ReplicaParts}
+use Rattle.replica_state.specs.Merges.{copy_at, copies_without, CopyApart, AreCopiesApart, no_copies}
+use Rattle.replica_state.proofs.Merging.{number_at, all_at}
+use Rattle.cluster_nodes.specs.Given.{overlaps, copies_beside}
+use Rattle.history_rules.specs.declared.entry.Event.{Event}
+use Rattle.history_rules.specs.declared.entry.Event.TheVariants.{Crashed, Promoted, Published, Merging as MergingEvent, Drained}
+use Rattle.history_rules.specs.Nodes.{IsNode, is_at, primary_of}
 use Rattle.history_book.specs.Log.{Log, printed, shown}
-use Rattle.history_merges.specs.Merging.{Sheet}
-use Rattle.cluster_tasks.specs.declared.tasks.OpenMerge.{OpenMerge}
-use Rattle.cluster_tasks.specs.TaskLog.{inputs_out, leaves_merges, is_drained}
-use Rattle.cluster_tasks.specs.Board.{Board, open_merge, TasksShow}
-use Rattle.cluster_tasks.proofs.TaskFrames.{tasks_still}
-use Rattle.cluster_places.specs.declared.held.Held.{Held}
-use Rattle.cluster_places.specs.declared.nodes.Node.{Node}
-use Rattle.cluster_places.specs.declared.nodes.Node.TheVariants.{Primary, Replica, Down}
-use Rattle.cluster_places.specs.declared.nodes.Place.{Place}
-use Rattle.cluster_places.specs.Places.{place_of}
-use Rattle.cluster_places.specs.Outs.{want_of, want_at, states_like, jobs_like}
-use Rattle.cluster_places.specs.Changes.{KeepsNode}
-use Rattle.cluster_places.specs.KeptFiles.{KeepsNodeFiles}
-use Rattle.cluster_places.specs.JobChanges.{copies_begun}
-use Rattle.cluster_places.specs.JobPlaces.{MovesOne, MovesBoth}
-use Rattle.cluster_places.proofs.OutCounts.{jobs_same}
+use Rattle.merge_tasks.specs.Merging.{Sheet}
+use Rattle.merge_tasks.specs.declared.tasks.OpenMerge.{OpenMerge}
+use Rattle.merge_tasks.specs.TaskLog.{inputs_out, leaves_merges, is_drained}
+use Rattle.merge_tasks.specs.Board.{Board, open_merge, TasksShow}
+use Rattle.merge_tasks.proofs.TaskFrames.{tasks_still}
+use Rattle.cluster_nodes.specs.declared.held.Held.{Held}
+use Rattle.cluster_nodes.specs.declared.nodes.Node.{Node}
+use Rattle.cluster_nodes.specs.declared.nodes.Node.TheVariants.{Primary, Replica, Down}
+use Rattle.cluster_nodes.specs.declared.nodes.Place.{Place}
+use Rattle.cluster_nodes.specs.Places.{place_of}
+use Rattle.cluster_nodes.specs.Outs.{want_of, want_at, states_like, jobs_like}
+use Rattle.cluster_nodes.specs.Changes.{KeepsNode}
+use Rattle.cluster_nodes.specs.KeptFiles.{KeepsNodeFiles}
+use Rattle.cluster_nodes.specs.JobChanges.{copies_begun}
+use Rattle.cluster_nodes.specs.JobPlaces.{MovesOne, MovesBoth}
+use Rattle.cluster_nodes.proofs.OutCounts.{jobs_same}
 use Rattle.cluster_state.specs.Run.{Run, Rest}
 use Rattle.cluster_state.specs.State.{NodeShows, PlaceShows, Shows}
 use Rattle.cluster_state.specs.Files.{NodeFiles, FilesShow}

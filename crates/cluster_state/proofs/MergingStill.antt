@@ -6,30 +6,30 @@ use Rattle.nrt_base.specs.declared.numbers.At.{At}
 use Rattle.nrt_base.specs.declared.numbers.NodeNo.{NodeNo}
 use Rattle.seg_reader.specs.Shown.{Shown}
 use Rattle.copy_job.specs.Jobs.{Job}
-use Rattle.primary_parts.specs.declared.parts.Parts.{Parts as PrimaryParts}
-use Rattle.primary_parts.specs.declared.states.Merging.{Merging}
-use Rattle.primary_parts.specs.declared.states.Out.{Out}
-use Rattle.primary_parts.specs.Merges.{merge_of}
-use Rattle.replica_parts.specs.declared.parts.Parts.{Parts as ReplicaParts}
-use Rattle.replica_parts.specs.Merges.{copy_at}
-use Rattle.history_entries.specs.declared.entry.Event.{Event}
-use Rattle.history_entries.specs.declared.entry.Event.TheVariants.{Crashed, Promoted, Merging as MergingEvent, Drained}
-use Rattle.history_entries.specs.Nodes.{IsNode, is_at, primary_of, primary_by}
+use Rattle.primary_state.specs.declared.parts.Parts.{Parts as PrimaryParts}
+use Rattle.primary_state.specs.declared.states.Merging.{Merging}
+use Rattle.primary_state.specs.declared.states.Out.{Out}
+use Rattle.primary_state.specs.Merges.{merge_of}
+use Rattle.replica_state.specs.declared.parts.Parts.{Parts as ReplicaParts}
+use Rattle.replica_state.specs.Merges.{copy_at}
+use Rattle.history_rules.specs.declared.entry.Event.{Event}
+use Rattle.history_rules.specs.declared.entry.Event.TheVariants.{Crashed, Promoted, Merging as MergingEvent, Drained}
+use Rattle.history_rules.specs.Nodes.{IsNode, is_at, primary_of, primary_by}
 use Rattle.history_book.specs.Log.{Log, printed, shown, kept}
 use Rattle.history_book.specs.declared.inner.Inner.{Inner}
 use Rattle.history_book.specs.declared.inner.Inner.TheVariants.{MergeOut, MergeEnd, TaskEnd}
-use Rattle.history_merges.specs.Merging.{Sheet}
-use Rattle.cluster_tasks.specs.declared.tasks.OpenMerge.{OpenMerge}
-use Rattle.cluster_tasks.specs.TaskLog.{inputs_out, leaves_merges, leaves_tasks}
-use Rattle.cluster_tasks.specs.Board.{Board, open_merge, TasksShow}
-use Rattle.cluster_tasks.proofs.TaskFrames.{tasks_still, tasks_kept}
-use Rattle.cluster_places.specs.declared.nodes.Node.{Node}
-use Rattle.cluster_places.specs.declared.nodes.Node.TheVariants.{Primary, Replica, Down}
-use Rattle.cluster_places.specs.declared.nodes.Place.{Place}
-use Rattle.cluster_places.specs.Places.{place_of}
-use Rattle.cluster_places.specs.Outs.{want_at, states_like, jobs_like}
-use Rattle.cluster_places.specs.JobPlaces.{MovesOne, MovesBoth}
-use Rattle.cluster_places.proofs.OutCounts.{jobs_same}
+use Rattle.merge_tasks.specs.Merging.{Sheet}
+use Rattle.merge_tasks.specs.declared.tasks.OpenMerge.{OpenMerge}
+use Rattle.merge_tasks.specs.TaskLog.{inputs_out, leaves_merges, leaves_tasks}
+use Rattle.merge_tasks.specs.Board.{Board, open_merge, TasksShow}
+use Rattle.merge_tasks.proofs.TaskFrames.{tasks_still, tasks_kept}
+use Rattle.cluster_nodes.specs.declared.nodes.Node.{Node}
+use Rattle.cluster_nodes.specs.declared.nodes.Node.TheVariants.{Primary, Replica, Down}
+use Rattle.cluster_nodes.specs.declared.nodes.Place.{Place}
+use Rattle.cluster_nodes.specs.Places.{place_of}
+use Rattle.cluster_nodes.specs.Outs.{want_at, states_like, jobs_like}
+use Rattle.cluster_nodes.specs.JobPlaces.{MovesOne, MovesBoth}
+use Rattle.cluster_nodes.proofs.OutCounts.{jobs_same}
 use Rattle.history_tables.proofs.RowLemmas.{by_test}
 use Rattle.cluster_state.specs.Merging.{AreMergedAlike, AreSentCopies, IsSentCopy, RunsNoOther, PrimaryMerges, NodeMerges, MergesStand, KeepsPrimaryMerges, KeepsMerges, PlaceKeepsMerges, KeepAllMerges}
 use Rattle.cluster_state.proofs.FileFrames.{other_place, wants_same}

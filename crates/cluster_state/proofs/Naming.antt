@@ -16,31 +16,32 @@ use Rattle.segment_infos.specs.declared.infos.SegRecord.{SegRecord}
 use Rattle.segment_infos.specs.declared.infos.Infos.{Infos}
 use Rattle.segment_infos.specs.Files.{files_of_segment, AreFilesOf}
 use Rattle.commit_steps.proofs.Safe.{among_of}
-use Rattle.node_files.specs.Appearing.{AppearsOnly}
-use Rattle.node_files.proofs.Appearing.{stood_or, only_none}
+use Rattle.searcher_switch.specs.Appearing.{AppearsOnly}
+use Rattle.searcher_switch.proofs.Appearing.{stood_or, only_none}
 use Rattle.seg_reader.specs.Shown.{Shown}
 use Rattle.searcher_switch.specs.declared.open.Open.{Open}
 use Rattle.searcher_switch.specs.Searching.{searcher_names}
-use Rattle.primary_parts.specs.declared.parts.Parts.{Parts as PrimaryParts}
-use Rattle.primary_parts.specs.Held.{IsOwnSegment, IsOwnFile, IsDrawnRecord}
-use Rattle.primary_parts.specs.Primary.{IsPrimary, loose_of, primary_names, rest_names}
-use Rattle.primary_parts.proofs.NewFiles.{named_of}
+use Rattle.primary_state.specs.declared.parts.Parts.{Parts as PrimaryParts}
+use Rattle.primary_state.specs.Held.{IsOwnSegment, IsOwnFile, IsDrawnRecord}
+use Rattle.primary_state.specs.Primary.{IsPrimary, loose_of, primary_names, rest_names}
+use Rattle.primary_state.proofs.NewFiles.{named_of}
 use Rattle.copy_state.specs.States.{meta_names}
 use Rattle.copy_job.specs.declared.copying.Part.{Part}
-use Rattle.replica_parts.specs.Given.{IsLasting, HasMeta}
-use Rattle.replica_parts.specs.declared.job.PointJob.{PointJob}
-use Rattle.replica_parts.specs.Replica.{IsJobAbove}
-use Rattle.replica_parts.proofs.Metas.{some_meta}
-use Rattle.replica_parts.specs.declared.parts.Parts.{Parts as ReplicaParts}
-use Rattle.history_entries.specs.Nodes.{Past, generation_of}
+use Rattle.replica_state.specs.Given.{IsLasting, HasMeta}
+use Rattle.replica_state.specs.declared.job.PointJob.{PointJob}
+use Rattle.replica_state.specs.Jobs.{running_point}
+use Rattle.replica_state.specs.Replica.{IsJobAbove}
+use Rattle.replica_state.proofs.Metas.{some_meta}
+use Rattle.replica_state.specs.declared.parts.Parts.{Parts as ReplicaParts}
+use Rattle.history_rules.specs.Nodes.{Past, generation_of}
 use Rattle.segment_steps.specs.Next.{record_generation, live_base}
-use Rattle.history_entries.specs.Points.{is_drawn, IsDrawnFile}
-use Rattle.history_entries.specs.Rules.{MayHaveName}
-use Rattle.cluster_places.specs.declared.nodes.Node.{Node}
-use Rattle.cluster_places.specs.declared.nodes.Node.TheVariants.{Primary, Replica, Down}
-use Rattle.cluster_places.specs.Places.{tickets_of}
-use Rattle.cluster_places.specs.KeptFiles.{KeepsNodeFiles}
-use Rattle.cluster_places.specs.JobChanges.{AltersStates, AltersJob, FinishesAt, TakesPart, IsTemporaryIn}
+use Rattle.history_rules.specs.Points.{is_drawn, IsDrawnFile}
+use Rattle.history_rules.specs.Rules.{MayHaveName}
+use Rattle.cluster_nodes.specs.declared.nodes.Node.{Node}
+use Rattle.cluster_nodes.specs.declared.nodes.Node.TheVariants.{Primary, Replica, Down}
+use Rattle.cluster_nodes.specs.Places.{tickets_of}
+use Rattle.cluster_nodes.specs.KeptFiles.{KeepsNodeFiles}
+use Rattle.cluster_nodes.specs.JobChanges.{AltersStates, AltersJob, FinishesAt, TakesPart, IsTemporaryIn}
 use Rattle.cluster_state.specs.Names.{NamesDocuments, AreNamesShown, NamesShow, loose_at}
 use Rattle.cluster_state.specs.Files.{MeansDrawn}
 use Rattle.cluster_state.proofs.Wider.{meta_at_source}
@@ -167,7 +168,7 @@ module _ {D : Type 0} (cells : D → Cells) where
 
   -- a replica whose job took a part
   pub took_steps : (source : Name → Content) (now : Past) (j : PointJob) (part : Part) (r s : ReplicaParts D) (version : ℕ) → FilesLast → MeansDrawn source now → All (λ f. HasMeta source f.0 f.1) j.copy.want.files → IsJobAbove version j
-      → r.job ≡ Some j → TakesPart cells part r s → NodeSteps now (Replica r) (Replica s)
+      → running_point r.job ≡ Some j → TakesPart cells part r s → NodeSteps now (Replica r) (Replica s)
   took_steps source now j part r s version lasting drawn metas above runs takes = record {
     appears = record { each = λ name none there. arrived name (appears.each name none there) };
     tickets = λ o held. inl (subst (λ (ts : List (Open Shown)). Contains ts o) (ap (λ (z : ReplicaParts D). z.searchers.tickets) takes.others) held);

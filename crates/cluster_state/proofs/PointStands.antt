@@ -9,27 +9,27 @@ use Rattle.file_deleter.proofs.NameLemmas.{times-append, among_times}
 use Rattle.commit_steps.proofs.Safe.{among_of}
 use Rattle.segment_infos.specs.declared.infos.Infos.{Infos}
 use Rattle.segment_infos.specs.declared.infos.SegRecord.{SegRecord}
-use Rattle.primary_parts.proofs.Callers.{empty_numbered}
+use Rattle.primary_state.proofs.Callers.{empty_numbered}
 use Rattle.seg_reader.specs.Stands.{StandsFor, AreSegmentsOf}
-use Rattle.node_files.proofs.Standing.{stands_along}
+use Rattle.searcher_switch.proofs.Standing.{stands_along}
 use Rattle.copy_state.specs.declared.state.CopyState.{CopyState}
 use Rattle.copy_state.specs.declared.meta.FileMetaData.{FileMetaData}
 use Rattle.copy_state.specs.States.{meta_names}
-use Rattle.primary_parts.specs.declared.parts.Parts.{Parts as PrimaryParts}
+use Rattle.primary_state.specs.declared.parts.Parts.{Parts as PrimaryParts}
 use Rattle.searcher_switch.specs.Tickets.{ticket_names}
 use Rattle.searcher_switch.specs.Searching.{searcher_names}
-use Rattle.primary_parts.specs.Primary.{IsPrimary, primary_names, rest_names, loose_of}
-use Rattle.replica_parts.specs.Given.{HasMeta, opening_infos}
-use Rattle.replica_parts.specs.Sources.{HeldReadAs}
+use Rattle.primary_state.specs.Primary.{IsPrimary, primary_names, rest_names, loose_of}
+use Rattle.replica_state.specs.Given.{HasMeta, opening_infos}
+use Rattle.replica_state.specs.Sources.{HeldReadAs}
 use Rattle.nrt_base.specs.declared.numbers.Version.{Version}
-use Rattle.history_entries.specs.Nodes.{Past, version_of}
-use Rattle.history_entries.specs.Points.{documents_at}
+use Rattle.history_rules.specs.Nodes.{Past, version_of}
+use Rattle.history_rules.specs.Points.{documents_at}
 use Rattle.history_book.specs.Log.{Log, printed}
 use Rattle.cluster_state.specs.State.{PrimaryShows}
 use Rattle.cluster_state.specs.Disks.{IsWritable, IsPastPoint}
 use Rattle.cluster_state.proofs.Points.{unloosed}
 use Rattle.cluster_state.proofs.Naming.{FilesLast}
-use Rattle.cluster_places.specs.JobChanges.{IsStateOfPoint}
+use Rattle.cluster_nodes.specs.JobChanges.{IsStateOfPoint}
 
 no_segments : AreSegmentsOf [] []
 no_segments = record { sound = λ k d lt. absurd (omega (arith, lt)); apart = λ i j d lt in'. absurd (omega (arith, lt, in')); documents = search rules }

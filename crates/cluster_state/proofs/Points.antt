@@ -5,15 +5,15 @@ use Rattle.nrt_base.specs.declared.numbers.At.{At}
 use Rattle.disk_model.specs.Disk.{Name, Content}
 use Rattle.segment_infos.specs.declared.infos.Infos.{Infos}
 use Rattle.seg_reader.specs.Stands.{StandsFor}
-use Rattle.primary_parts.specs.Held.{AreNumbered}
-use Rattle.history_entries.specs.declared.entry.Event.{Event}
-use Rattle.history_entries.specs.declared.entry.Event.TheVariants.{Published, Merging, Promoted}
-use Rattle.history_entries.specs.Nodes.{Past, newest_version}
-use Rattle.history_entries.specs.Lines.{before_start}
-use Rattle.history_entries.specs.Points.{cut_has_put}
-use Rattle.history_entries.specs.Tasks.{merge_count}
-use Rattle.history_entries.specs.Legal.{KeepsRule, IsLegalPast}
-use Rattle.history_laws.proofs.PointLemmas.{documents_stay_lem}
+use Rattle.primary_state.specs.Held.{AreNumbered}
+use Rattle.history_rules.specs.declared.entry.Event.{Event}
+use Rattle.history_rules.specs.declared.entry.Event.TheVariants.{Published, Merging, Promoted}
+use Rattle.history_rules.specs.Nodes.{Past, newest_version}
+use Rattle.history_rules.specs.Lines.{before_start}
+use Rattle.history_rules.specs.Points.{cut_has_put}
+use Rattle.history_rules.specs.Tasks.{merge_count}
+use Rattle.history_rules.specs.Legal.{KeepsRule, IsLegalPast}
+use Rattle.history_rules.proofs.PointLemmas.{documents_stay_lem}
 use Rattle.script_serving.specs.Refusals.{put_publishes}
 use Rattle.cluster_state.specs.Disks.{IsWritable, IsPastPoint, PointsStay}
 use Rattle.cluster_state.proofs.Growing.{generation_more}

@@ -14,13 +14,13 @@ use Rattle.segment_infos.specs.declared.infos.SegRecord.{SegRecord}
 use Rattle.segment_infos.specs.declared.infos.Infos.{Infos}
 use Rattle.segment_steps.specs.Next.{record_generation, live_base}
 use Rattle.commit_steps.specs.declared.stage.CommitBook.{CommitBook}
-use Rattle.node_files.specs.Node.{IsWholeNode}
-use Rattle.primary_parts.specs.Held.{IsUnused, IsNextLive, IsUndrawn, part, live, next_live, AreUndrawn, IsDrawnRecord, AreNumbered}
-use Rattle.replica_parts.specs.Given.{IsLasting}
-use Rattle.replica_parts.specs.Sources.{HeldReadAs}
-use Rattle.history_entries.specs.Nodes.{Past, generation_of}
-use Rattle.history_entries.specs.Points.{names_drawn_in, is_drawn}
-use Rattle.history_entries.specs.Legal.{IsLegalPast}
+use Rattle.searcher_switch.specs.Node.{IsWholeNode}
+use Rattle.primary_state.specs.Held.{IsUnused, IsNextLive, IsUndrawn, part, live, next_live, AreUndrawn, IsDrawnRecord, AreNumbered}
+use Rattle.replica_state.specs.Given.{IsLasting}
+use Rattle.replica_state.specs.Sources.{HeldReadAs}
+use Rattle.history_rules.specs.Nodes.{Past, generation_of}
+use Rattle.history_rules.specs.Points.{names_drawn_in, is_drawn}
+use Rattle.history_rules.specs.Legal.{IsLegalPast}
 use Rattle.history_tables.proofs.RowLemmas.{by_test}
 use Rattle.cluster_state.specs.Files.{MeansDrawn}
 use Rattle.cluster_state.proofs.Drawn.{none_drawn}

@@ -1,12 +1,12 @@
 -- Entries in their turn, and what the log of a call has.
 use Rattle.std.proofs.Common.{List, ℕ, ◌≡◌, ◌≢◌, Bool, true, false, Some, None, ap, ◌∙◌, sym, subst}
 use Rattle.nrt_base.specs.declared.numbers.At.{At}
-use Rattle.history_entries.specs.declared.entry.Event.{Event}
-use Rattle.history_entries.specs.declared.entry.Event.TheVariants.{Publishing}
-use Rattle.history_entries.specs.Nodes.{Past}
-use Rattle.history_entries.specs.Lines.{is_start, start_entry}
+use Rattle.history_rules.specs.declared.entry.Event.{Event}
+use Rattle.history_rules.specs.declared.entry.Event.TheVariants.{Publishing}
+use Rattle.history_rules.specs.Nodes.{Past}
+use Rattle.history_rules.specs.Lines.{is_start, start_entry}
 use Rattle.history_book.specs.Log.{Log, printed}
-use Rattle.history_merges.specs.Merging.{Sheet}
+use Rattle.merge_tasks.specs.Merging.{Sheet}
 use Rattle.history_book.specs.Laws.{IsFresh}
 use Rattle.history_book.specs.Turns.{StartsOnce, EndsFlight, InTurn}
 use Rattle.cluster_state.specs.Run.{Rest, Run}

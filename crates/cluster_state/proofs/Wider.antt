@@ -16,23 +16,23 @@ use Rattle.seg_reader.specs.Stands.{IsLiveFileIn, IsSegmentIn, StandsFor}
 use Rattle.copy_state.specs.declared.meta.FileMetaData.{FileMetaData}
 use Rattle.copy_state.specs.States.{meta_in}
 use Rattle.copy_job.specs.Jobs.{Job as CopyingJob}
-use Rattle.primary_parts.specs.declared.parts.Parts.{Parts as PrimaryParts}
-use Rattle.primary_parts.specs.declared.states.Out.{Out}
-use Rattle.primary_parts.specs.Primary.{IsPrimary}
-use Rattle.replica_parts.specs.Given.{IsLasting, HasMeta}
-use Rattle.replica_parts.specs.declared.job.PointJob.{PointJob}
-use Rattle.replica_parts.specs.declared.parts.Parts.{Parts as ReplicaParts}
-use Rattle.replica_parts.specs.Replica.{IsWholeReplica, HasMetas, IsMergeCopy}
-use Rattle.replica_parts.specs.Sources.{CopiesFrom, HeldReadAs, IsSourced}
-use Rattle.replica_parts.proofs.Metas.{listed_meta, some_meta}
-use Rattle.history_entries.specs.Nodes.{Past}
-use Rattle.history_entries.specs.Points.{documents_at}
+use Rattle.primary_state.specs.declared.parts.Parts.{Parts as PrimaryParts}
+use Rattle.primary_state.specs.declared.states.Out.{Out}
+use Rattle.primary_state.specs.Primary.{IsPrimary}
+use Rattle.replica_state.specs.Given.{IsLasting, HasMeta}
+use Rattle.replica_state.specs.declared.job.PointJob.{PointJob}
+use Rattle.replica_state.specs.declared.parts.Parts.{Parts as ReplicaParts}
+use Rattle.replica_state.specs.Replica.{IsWholeReplica, HasMetas, IsMergeCopy}
+use Rattle.replica_state.specs.Sources.{CopiesFrom, HeldReadAs, IsSourced}
+use Rattle.replica_state.proofs.Metas.{listed_meta, some_meta}
+use Rattle.history_rules.specs.Nodes.{Past}
+use Rattle.history_rules.specs.Points.{documents_at}
 use Rattle.history_tables.specs.declared.jobs.Job.{Job}
 use Rattle.history_book.specs.Log.{Log, printed}
-use Rattle.cluster_places.specs.Outs.{states_like}
+use Rattle.cluster_nodes.specs.Outs.{states_like}
 use Rattle.cluster_state.specs.Files.{CopyShows, JobShows, PrimaryFiles}
 use Rattle.cluster_state.specs.Disks.{IsPastPoint, PointsStay}
-use Rattle.cluster_places.specs.KeptFiles.{KeepsPrimaryFiles, FillsPrimaryFiles}
+use Rattle.cluster_nodes.specs.KeptFiles.{KeepsPrimaryFiles, FillsPrimaryFiles}
 use Rattle.cluster_state.proofs.Points.{point_stays}
 
 -- what stands there stands there still
@@ -133,6 +133,7 @@ module _ {D : Type 0} (cells : D → Cells) (source wider : Name → Content) (m
 -- what the log shows of a job
 copy_wider : (source wider : Name → Content) (log : Log) (n : ℕ) (job : Job) (j : PointJob) → Extends source wider → CopyShows source log n job j → CopyShows wider log n job j
 copy_wider source wider log n job j more was = record {
+  runs = was.runs;
   number = was.number;
   version = was.version;
   point = point_wider source wider (printed log) j.infos more was.point;
@@ -145,7 +146,7 @@ copy_wider source wider log n job j more was = record {
 
 pub shows_wider : (source wider : Name → Content) (log : Log) (n : ℕ) (o : Option Job) (p : Option PointJob) → Extends source wider → JobShows source log n o p → JobShows wider log n o p
 shows_wider source wider log n None None more was = was
-shows_wider source wider log n None (Some j) more was = was
+shows_wider source wider log n None (Some j) more was = record { stopped = was.stopped; metas = metas_wider source wider j.copy.want.files more was.metas }
 shows_wider source wider log n (Some job) None more was = was
 shows_wider source wider log n (Some job) (Some j) more was = copy_wider source wider log n job j more was
 

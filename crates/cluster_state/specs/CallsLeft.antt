@@ -3,8 +3,8 @@ use Rattle.std.specs.Prelude.{ℕ, List, map, Option, Some, None}
 use Rattle.commit_steps.specs.declared.stage.Stage.{Stage}
 use Rattle.commit_steps.specs.declared.stage.Stage.TheVariants.{Begun, Synced, Written, Pending, Named, Renamed}
 use Rattle.commit_steps.specs.declared.stage.CommitBook.{CommitBook}
-use Rattle.cluster_places.specs.declared.nodes.Place.{Place}
-use Rattle.cluster_places.specs.Places.{disk_of}
+use Rattle.cluster_nodes.specs.declared.nodes.Place.{Place}
+use Rattle.cluster_nodes.specs.Places.{disk_of}
 
 -- the calls that a commit in this state still needs: none where none is in flight
 abbrev pub stage_calls : Option Stage → ℕ

@@ -1,23 +1,25 @@
 -- What copies hand out, take back and end with.
-use Rattle.std.specs.Prelude.{◌≡◌, ◌≢◌, ◌<◌, ◌∷◌, false, Bool, true, Option, Some, None}
+use Rattle.std.specs.Prelude.{ℕ, ◌≡◌, ◌≢◌, ◌<◌, List, [], ◌∷◌, false, not, Bool, true, Option, Some, None}
+use Rattle.std.specs.List.{filter}
 use Rattle.nrt_base.specs.declared.numbers.At.{At}
 use Rattle.nrt_base.specs.declared.numbers.NodeNo.{NodeNo}
 use Rattle.nrt_base.specs.declared.numbers.Version.{Version}
+use Rattle.disk_model.specs.Disk.{Name, same, is_among}
 use Rattle.codec_frame.specs.Checking.{HasFooter}
 use Rattle.copy_state.specs.Meta.{IsMetaOf}
-use Rattle.history_entries.specs.declared.entry.Event.{Event}
-use Rattle.history_entries.specs.declared.entry.Event.TheVariants.{Copying, Switched, Copied}
-use Rattle.history_entries.specs.Nodes.{Past, newest_version}
-use Rattle.history_entries.specs.Lines.{start_entry, highest_switched, NodeSurvives, SourceSurvives}
+use Rattle.history_rules.specs.declared.entry.Event.{Event}
+use Rattle.history_rules.specs.declared.entry.Event.TheVariants.{Copying, Switched, Copied}
+use Rattle.history_rules.specs.Nodes.{Past, generation_of, newest_version}
+use Rattle.history_rules.specs.Lines.{start_entry, highest_switched, NodeSurvives, SourceSurvives}
 use Rattle.history_tables.specs.declared.jobs.JobRow.{JobRow}
 use Rattle.history_tables.specs.declared.jobs.Job.{Job}
 use Rattle.history_tables.specs.Begins.{open_line}
 use Rattle.history_book.specs.Log.{Log, printed, shown, kept}
 use Rattle.history_book.specs.Jobs.{job_of}
 use Rattle.history_book.specs.declared.inner.Inner.TheVariants.{JobBegun, FileOut, JobEnd}
-use Rattle.cluster_places.specs.declared.tasks.CopyTask.{CopyTask}
-use Rattle.cluster_places.specs.declared.tasks.FileTask.{FileTask}
-use Rattle.cluster_state.specs.Run.{Run, IsNow}
+use Rattle.cluster_nodes.specs.declared.tasks.CopyTask.{CopyTask}
+use Rattle.cluster_nodes.specs.declared.tasks.FileTask.{FileTask}
+use Rattle.cluster_state.specs.Run.{JobFiles, Run, files_at, IsNow}
 
 -- the newest version
 abbrev pub newest_of : Past → Version
@@ -45,18 +47,40 @@ pub record JobRuns (log : Log) (row : JobRow) : Type 0 where
   pub survives : NodeSurvives (printed log) row.job.at row.job.node.0
   pub source : SourceSurvives (printed log) row.job.at
 
--- a job of the newest version began for the line at the node, behind these entries, and runs; the line copies by it
+-- A job of this generation that begins takes over what the one before it has brought over, where the node had seen the generation: it
+-- lacks none of these files. The node has seen it now.
+pub record TakesOver (generation : ℕ) (old new : JobFiles) : Type 0 where
+  pub seen : new.seen ≡ generation
+  pub takes : old.seen ≡ generation → (q : Name) → is_among old.brought q ≡ true → is_among new.missing q ≡ false
+
+-- a job of the newest version began for the line at the node, behind these entries, and runs; the line copies by it, and the job took
+-- over what the one before it had brought over
 pub record BeginsJob (at : At) (n : NodeNo) (old new : Run) (log : Log) (task : CopyTask) : Type 0 where
   pub now : IsNow old new (kept (JobBegun at.line n task.job (Some (newest_of (printed old.log))) (Some at)) ∷ log)
   pub node : task.node ≡ n
   pub copying : IsCopying at new.log task
   pub runs : JobRuns new.log copying.row
+  pub takes : TakesOver (generation_of (printed old.log)) (files_at n.0 old) (files_at n.0 new)
 
--- a file was handed out to the job, with its metadata; it ends in a footer
+-- the name is the first of these
+abbrev pub IsFirstOf : List Name → Name → Type 0
+IsFirstOf [] q = ⊥
+IsFirstOf (p ∷ ps) q = p ≡ q
+
+-- a file was handed out to the job, the first that it lacks, with its metadata; it ends in a footer
 pub record HandsFile (job : Job) (old new : Run) (file : FileTask) : Type 0 where
   pub now : IsNow old new (kept (FileOut job.at.line job.node job.number file.name file.source (Some job.at)) ∷ old.log)
+  pub first : IsFirstOf (files_at job.node.0 old).missing file.name
+  pub files : files_at job.node.0 new ≡ files_at job.node.0 old
   pub meta : IsMetaOf file.source file.meta
   pub footer : HasFooter file.source
+
+-- a job lacks a file no more, which it has brought over where it lacked it; what it had it has still
+pub record BringsFile (name : Name) (old new : JobFiles) : Type 0 where
+  pub seen : new.seen ≡ old.seen
+  pub missing : new.missing ≡ filter (λ q. not (same q name)) old.missing
+  pub brought : is_among old.missing name ≡ true → is_among new.brought name ≡ true
+  pub stays : (q : Name) → is_among old.brought q ≡ true → is_among new.brought q ≡ true
 
 -- the line started as a copy
 abbrev pub is_copy_start : Option Event → Bool

@@ -9,22 +9,22 @@ use Rattle.segment_infos.specs.declared.infos.Infos.{Infos}
 use Rattle.segment_infos.specs.Files.{files_of_segment}
 use Rattle.seg_reader.specs.Stands.{StandsFor}
 use Rattle.script_serving.specs.Refusals.{put_publishes}
-use Rattle.primary_parts.specs.Held.{AreNumbered}
+use Rattle.primary_state.specs.Held.{AreNumbered}
 use Rattle.commit_steps.specs.Book.{commit_of}
 use Rattle.commit_steps.specs.declared.states.Commit.{Commit}
 use Rattle.commit_steps.specs.declared.stage.Stage.{Stage}
 use Rattle.commit_steps.specs.declared.stage.CommitBook.{CommitBook}
-use Rattle.replica_parts.specs.Given.{FindsPoint, IsSettledOn}
-use Rattle.history_entries.specs.declared.entry.Event.TheVariants.{Committing}
-use Rattle.history_entries.specs.Nodes.{Past, IsNode, generation_of, newest_version}
-use Rattle.history_entries.specs.Lines.{start_entry, commit_in_flight}
-use Rattle.history_entries.specs.Points.{documents_at}
-use Rattle.history_entries.specs.Commits.{has_committed}
-use Rattle.history_entries.specs.Tasks.{merge_count}
+use Rattle.replica_state.specs.Given.{FindsPoint, IsSettledOn}
+use Rattle.history_rules.specs.declared.entry.Event.TheVariants.{Committing}
+use Rattle.history_rules.specs.Nodes.{Past, IsNode, generation_of, newest_version}
+use Rattle.history_rules.specs.Lines.{start_entry, commit_in_flight}
+use Rattle.history_rules.specs.Points.{documents_at}
+use Rattle.history_rules.specs.Commits.{has_committed}
+use Rattle.history_rules.specs.Tasks.{merge_count}
 use Rattle.history_book.specs.Laws.{may_find}
 use Rattle.history_book.specs.Log.{Log, printed}
-use Rattle.cluster_places.specs.declared.nodes.Place.{Place}
-use Rattle.cluster_places.specs.Places.{Disk, place_of, disk_at}
+use Rattle.cluster_nodes.specs.declared.nodes.Place.{Place}
+use Rattle.cluster_nodes.specs.Places.{Disk, place_of, disk_at}
 
 -- what a writer needs of a point to go on from it: no more segments than publishes had puts, each with a live row where no merge was
 -- started, and numbers that are drawn

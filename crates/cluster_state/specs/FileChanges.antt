@@ -2,16 +2,17 @@
 use Rattle.std.specs.Prelude.{ℕ, ◌≡◌, ◌≢◌, ◌≤◌, ◌==◌, List, Bool, true, false, not, Option, Some, None}
 use Rattle.nrt_base.specs.declared.numbers.At.{At}
 use Rattle.disk_model.specs.Disk.{Name}
-use Rattle.history_entries.specs.declared.entry.Event.{Event}
-use Rattle.history_entries.specs.declared.entry.Event.TheVariants.{Copying, Switched, Committing, Committed, Crashed, Reopened, Promoted}
-use Rattle.history_entries.specs.Nodes.{newest_version, version_of}
-use Rattle.history_entries.specs.Lines.{start_entry, before_start, copy_in_flight, highest_copy}
+use Rattle.history_rules.specs.declared.entry.Event.{Event}
+use Rattle.history_rules.specs.declared.entry.Event.TheVariants.{Copying, Switched, Committing, Committed, Crashed, Reopened, Promoted}
+use Rattle.history_rules.specs.Nodes.{newest_version, version_of}
+use Rattle.history_rules.specs.Lines.{start_entry, before_start, copy_in_flight}
+use Rattle.history_rules.specs.Commits.{is_passed}
 use Rattle.history_tables.specs.declared.jobs.Job.{Job}
 use Rattle.history_book.specs.Log.{Log, printed}
 use Rattle.history_book.specs.declared.inner.Inner.{Inner}
 use Rattle.history_book.specs.declared.inner.Inner.TheVariants.{JobBegun, FileOut, JobEnd}
 use Rattle.history_book.specs.Jobs.{job_at}
-use Rattle.cluster_tasks.specs.TaskLog.{carried_out}
+use Rattle.merge_tasks.specs.TaskLog.{carried_out}
 use Rattle.cluster_state.specs.FilesOut.{file_out}
 use Rattle.cluster_state.specs.Disks.{PointsStay}
 
@@ -53,7 +54,7 @@ CarriesNoMore log now = (q : Name) (bytes : List ℕ) → carried_out q now ≡ 
 pub record SameJob (log now : Log) (n : ℕ) : Type 0 where
   pub job : job_at n now ≡ job_at n log
   pub points : PointsStay (printed log) (printed now)
-  pub latest : highest_copy n (printed now) ≤ highest_copy n (printed log)
+  pub latest : (v : ℕ) → is_passed n v (printed log) ≡ false → is_passed n v (printed now) ≡ false
   pub version : version_of n (printed now) ≡ version_of n (printed log)
   pub start : (job : Job) → job_at n log ≡ Some job → start_entry job.at (printed log) ≢ None
       → (start_entry job.at (printed now) ≢ None) × (before_start job.at (printed now) ≡ before_start job.at (printed log))

@@ -1,52 +1,60 @@
 -- What the files of a cluster's nodes have to do with each other and with the log: each name of a segment's file means the same
 -- bytes at every node, and each running job copies what the log shows of it.
-use Rattle.std.specs.Prelude.{ℕ, ◌≡◌, ◌≢◌, ◌≤◌, ◌<◌, ◌+◌, ◌^◌, List, Option, Some, None, IsSomeAnd, ⊤}
+use Rattle.std.specs.Prelude.{ℕ, ◌≡◌, ◌≢◌, ◌≤◌, ◌<◌, ◌+◌, ◌^◌, List, true, false, Option, Some, None, IsSomeAnd, ⊤}
 use Rattle.std.specs.List.{All}
 use Rattle.nrt_base.specs.declared.numbers.At.{At}
 use Rattle.disk_model.specs.Disk.{Name, Content, Cells}
 use Rattle.file_names.specs.Names.{live_name_of}
 use Rattle.segment_infos.specs.declared.infos.SegRecord.{SegRecord}
 use Rattle.segment_steps.specs.Next.{live_base}
-use Rattle.primary_parts.specs.declared.parts.Parts.{Parts as PrimaryParts}
-use Rattle.primary_parts.specs.declared.states.Out.{Out}
-use Rattle.primary_parts.specs.Primary.{loose_of, IsUnwritten}
-use Rattle.primary_parts.specs.Held.{IsUndrawn}
-use Rattle.replica_parts.specs.Given.{HasMeta, IsLasting}
-use Rattle.replica_parts.specs.declared.job.PointJob.{PointJob}
-use Rattle.replica_parts.specs.declared.parts.Parts.{Parts as ReplicaParts}
-use Rattle.replica_parts.specs.Sources.{HeldReadAs, IsSourced}
-use Rattle.history_entries.specs.Nodes.{Past, IsNode, newest_version, generation_of, version_of}
-use Rattle.history_entries.specs.Lines.{start_entry, before_start, copy_in_flight, highest_copy}
-use Rattle.history_entries.specs.Points.{IsDrawnFile}
+use Rattle.primary_state.specs.declared.parts.Parts.{Parts as PrimaryParts}
+use Rattle.primary_state.specs.declared.states.Out.{Out}
+use Rattle.primary_state.specs.Primary.{loose_of, IsUnwritten}
+use Rattle.primary_state.specs.Held.{IsUndrawn}
+use Rattle.replica_state.specs.Given.{HasMeta, IsLasting}
+use Rattle.replica_state.specs.declared.job.PointJob.{PointJob}
+use Rattle.replica_state.specs.declared.parts.Parts.{Parts as ReplicaParts}
+use Rattle.replica_state.specs.Sources.{HeldReadAs, IsSourced}
+use Rattle.history_rules.specs.Nodes.{Past, IsNode, newest_version, generation_of, version_of}
+use Rattle.history_rules.specs.Lines.{start_entry, before_start, copy_in_flight}
+use Rattle.history_rules.specs.Commits.{is_passed}
+use Rattle.history_rules.specs.Points.{IsDrawnFile}
 use Rattle.history_tables.specs.declared.jobs.Job.{Job}
 use Rattle.history_book.specs.Log.{Log, printed}
 use Rattle.history_book.specs.Jobs.{job_at}
-use Rattle.cluster_tasks.specs.TaskLog.{carried_out}
-use Rattle.cluster_places.specs.declared.nodes.Node.{Node}
-use Rattle.cluster_places.specs.declared.nodes.Node.TheVariants.{Primary, Replica, Down}
-use Rattle.cluster_places.specs.declared.nodes.Place.{Place}
-use Rattle.cluster_places.specs.Places.{place_of}
+use Rattle.merge_tasks.specs.TaskLog.{carried_out}
+use Rattle.cluster_nodes.specs.declared.nodes.Node.{Node}
+use Rattle.cluster_nodes.specs.declared.nodes.Node.TheVariants.{Primary, Replica, Down}
+use Rattle.cluster_nodes.specs.declared.nodes.Place.{Place}
+use Rattle.cluster_nodes.specs.Places.{place_of}
 use Rattle.cluster_state.specs.FilesOut.{file_out}
 use Rattle.cluster_state.specs.Names.{NamesShow}
 use Rattle.cluster_state.specs.Disks.{IsPastPoint, DisksShow}
-use Rattle.cluster_places.specs.Outs.{states_like, jobs_like}
+use Rattle.cluster_nodes.specs.Outs.{states_like, jobs_like}
 
--- The job of a replica is the one that the log shows to run there: of its number and version, which no copy to the node passed;
--- the node was behind what its line noted, and is. Its point is one of the history, the files that it wants have their metadata at the
+-- The job of a replica is the one that the log shows to run there, and was not stopped: of its number and version, which no copy to
+-- the node passed; the node was behind what its line noted, and is. Its point is one of the history, the files that it wants have their metadata at the
 -- source, and each file that was handed out to it is as at the source.
 pub record CopyShows (source : Name → Content) (log : Log) (n : ℕ) (job : Job) (j : PointJob) : Type 0 where
+  pub runs : j.stopped ≡ false
   pub number : j.copy.number ≡ job.number
   pub version : j.infos.version.0 ≡ job.version.0
   pub point : IsPastPoint source (printed log) j.infos
-  pub latest : highest_copy n (printed log) ≤ job.version.0
+  pub latest : is_passed n job.version.0 (printed log) ≡ false
   pub begun : start_entry job.at (printed log) ≢ None
   pub behind : version_of n (printed log) < newest_version (before_start job.at (printed log))
   pub metas : All (λ f. HasMeta source f.0 f.1) j.copy.want.files
   pub handed : (q : Name) (bytes : List ℕ) → file_out job.at n job.number q log ≡ Some bytes → source q ≡ Some bytes
 
--- a replica has the job that the log shows to run there, and none where none runs
+-- a job was stopped: the files that it wants have their metadata at the source
+pub record StoppedShows (source : Name → Content) (j : PointJob) : Type 0 where
+  pub stopped : j.stopped ≡ true
+  pub metas : All (λ f. HasMeta source f.0 f.1) j.copy.want.files
+
+-- a replica has the job that the log shows to run there; where none runs it has none, or one that was stopped
 abbrev pub JobShows : (Name → Content) → Log → ℕ → Option Job → Option PointJob → Type 0
 JobShows source log n None None = ⊤
+JobShows source log n None (Some j) = StoppedShows source j
 JobShows source log n (Some job) (Some j) = CopyShows source log n job j
 JobShows source log n job j = ⊥
 

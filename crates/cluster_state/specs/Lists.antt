@@ -3,7 +3,7 @@ use Rattle.std.specs.Prelude.{List, ◌∷◌}
 use Rattle.nrt_base.specs.declared.numbers.At.{At}
 use Rattle.nrt_base.specs.declared.numbers.NodeNo.{NodeNo}
 use Rattle.disk_model.specs.Disk.{Name}
-use Rattle.history_entries.specs.declared.entry.Event.TheVariants.{Files}
+use Rattle.history_rules.specs.declared.entry.Event.TheVariants.{Files}
 use Rattle.history_book.specs.Log.{shown}
 use Rattle.cluster_state.specs.Run.{Run, IsNow}
 

@@ -3,11 +3,11 @@ use Rattle.std.specs.Prelude.{ℕ, ◌≡◌, ◌≢◌, ◌+◌, ◌∷◌, Boo
 use Rattle.nrt_base.specs.declared.numbers.At.{At}
 use Rattle.nrt_base.specs.declared.numbers.NodeNo.{NodeNo}
 use Rattle.nrt_base.specs.declared.numbers.Version.{Version}
-use Rattle.history_entries.specs.declared.entry.Event.TheVariants.{Committing, Committed, Reopened}
-use Rattle.history_entries.specs.Nodes.{version_of}
+use Rattle.history_rules.specs.declared.entry.Event.TheVariants.{Committing, Committed, Reopened}
+use Rattle.history_rules.specs.Nodes.{version_of}
 use Rattle.history_book.specs.Laws.{may_find}
 use Rattle.history_book.specs.Log.{printed, shown}
-use Rattle.cluster_places.specs.declared.tasks.CommitTask.{CommitTask}
+use Rattle.cluster_nodes.specs.declared.tasks.CommitTask.{CommitTask}
 use Rattle.cluster_state.specs.Run.{Run, calls_at, IsNow}
 
 -- a commit of the version that the node searches begins: it needs six calls of the directory

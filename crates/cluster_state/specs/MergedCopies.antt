@@ -1,8 +1,8 @@
 -- The copies of merged segments that run at nodes, as callers see them.
 use Rattle.std.specs.Prelude.{true, false, List, [], ◌∷◌, map, Option, Some, None}
 use Rattle.copy_job.specs.Jobs.{Job}
-use Rattle.cluster_places.specs.declared.nodes.Node.TheVariants.{Primary, Replica, Down}
-use Rattle.cluster_places.specs.declared.nodes.Place.{Place}
+use Rattle.cluster_nodes.specs.declared.nodes.Node.TheVariants.{Primary, Replica, Down}
+use Rattle.cluster_nodes.specs.declared.nodes.Place.{Place}
 use Rattle.cluster_state.specs.Run.{MergedCopy}
 
 -- what callers see of a copy

@@ -5,28 +5,28 @@ use Rattle.disk_model.specs.Disk.{Name, Content}
 use Rattle.copy_state.specs.States.{meta_names, IsCopyState}
 use Rattle.copy_job.specs.Jobs.{Job}
 use Rattle.segment_steps.specs.Given.{Merged}
-use Rattle.primary_parts.specs.declared.parts.Parts.{Parts as PrimaryParts}
-use Rattle.primary_parts.specs.declared.states.Merging.{Merging}
-use Rattle.primary_parts.specs.declared.states.Out.{Out}
-use Rattle.primary_parts.specs.Merges.{merge_of}
-use Rattle.primary_parts.specs.States.{out_of, IsMetaIn}
-use Rattle.primary_parts.specs.Written.{names_of}
-use Rattle.replica_parts.specs.declared.parts.Parts.{Parts as ReplicaParts}
-use Rattle.replica_parts.specs.Merges.{copy_at}
-use Rattle.history_entries.specs.Nodes.{IsNode, primary_of}
+use Rattle.primary_state.specs.declared.parts.Parts.{Parts as PrimaryParts}
+use Rattle.primary_state.specs.declared.states.Merging.{Merging}
+use Rattle.primary_state.specs.declared.states.Out.{Out}
+use Rattle.primary_state.specs.Merges.{merge_of}
+use Rattle.primary_state.specs.States.{out_of, IsMetaIn}
+use Rattle.primary_state.specs.Written.{names_of}
+use Rattle.replica_state.specs.declared.parts.Parts.{Parts as ReplicaParts}
+use Rattle.replica_state.specs.Merges.{copy_at}
+use Rattle.history_rules.specs.Nodes.{IsNode, primary_of}
 use Rattle.history_book.specs.Log.{Log, printed}
-use Rattle.cluster_places.specs.Given.{IsFitTask}
-use Rattle.cluster_tasks.specs.declared.tasks.TaskKind.{TaskKind}
-use Rattle.cluster_tasks.specs.declared.tasks.TaskKind.TheVariants.{Merge, PreCopy, Cut}
-use Rattle.cluster_tasks.specs.declared.tasks.Spread.{Spread}
-use Rattle.cluster_tasks.specs.declared.tasks.OpenMerge.{OpenMerge}
-use Rattle.cluster_tasks.specs.TaskLog.{inputs_out, merge_task}
-use Rattle.cluster_tasks.specs.Board.{Board, open_merge, spread_at, is_sent_in, TasksShow}
-use Rattle.cluster_places.specs.declared.nodes.Node.{Node}
-use Rattle.cluster_places.specs.declared.nodes.Node.TheVariants.{Primary, Replica, Down}
-use Rattle.cluster_places.specs.declared.nodes.Place.{Place}
-use Rattle.cluster_places.specs.Places.{place_of}
-use Rattle.cluster_places.specs.Outs.{one_like, states_like, jobs_like}
+use Rattle.cluster_nodes.specs.Given.{IsFitTask}
+use Rattle.merge_tasks.specs.declared.tasks.TaskKind.{TaskKind}
+use Rattle.merge_tasks.specs.declared.tasks.TaskKind.TheVariants.{Merge, PreCopy, Cut}
+use Rattle.merge_tasks.specs.declared.tasks.Spread.{Spread}
+use Rattle.merge_tasks.specs.declared.tasks.OpenMerge.{OpenMerge}
+use Rattle.merge_tasks.specs.TaskLog.{inputs_out, merge_task}
+use Rattle.merge_tasks.specs.Board.{Board, open_merge, spread_at, is_sent_in, TasksShow}
+use Rattle.cluster_nodes.specs.declared.nodes.Node.{Node}
+use Rattle.cluster_nodes.specs.declared.nodes.Node.TheVariants.{Primary, Replica, Down}
+use Rattle.cluster_nodes.specs.declared.nodes.Place.{Place}
+use Rattle.cluster_nodes.specs.Places.{place_of}
+use Rattle.cluster_nodes.specs.Outs.{one_like, states_like, jobs_like}
 
 -- the copy state names the files of the merged segment, with the metadata of their bytes
 pub record IsStateOfMerged (merged : Merged) (s : Spread) : Type 0 where

@@ -3,18 +3,18 @@ use Rattle.std.specs.Prelude.{ℕ, ◌≡◌, ◌≤◌, ◌==◌, List, Bool, t
 use Rattle.nrt_base.specs.declared.numbers.At.{At}
 use Rattle.nrt_base.specs.declared.numbers.NodeNo.{NodeNo}
 use Rattle.seg_reader.specs.Shown.{Shown}
-use Rattle.history_entries.specs.declared.entry.Event.{Event}
-use Rattle.history_entries.specs.declared.entry.Event.TheVariants.{Accepted, Publishing, Published, Switched, Opened, Crashed, Reopened, Promoted, Merging}
-use Rattle.history_entries.specs.Nodes.{Past, primary_of, is_at, is_running, generation_of, version_of, newest_version}
-use Rattle.history_entries.specs.Lines.{before_start, publish_in_flight}
-use Rattle.history_entries.specs.Points.{operations_of_generation, published_in_generation, names_drawn}
-use Rattle.history_entries.specs.Tickets.{open_ticket, IsTicketOf}
-use Rattle.history_entries.specs.Tasks.{merge_count}
+use Rattle.history_rules.specs.declared.entry.Event.{Event}
+use Rattle.history_rules.specs.declared.entry.Event.TheVariants.{Accepted, Publishing, Published, Switched, Opened, Crashed, Reopened, Promoted, Merging}
+use Rattle.history_rules.specs.Nodes.{Past, primary_of, is_at, is_running, generation_of, version_of, newest_version}
+use Rattle.history_rules.specs.Lines.{before_start, publish_in_flight}
+use Rattle.history_rules.specs.Points.{operations_of_generation, published_in_generation, names_drawn}
+use Rattle.history_rules.specs.Tickets.{open_ticket, IsTicketOf}
+use Rattle.history_rules.specs.Tasks.{merge_count}
 use Rattle.script_serving.specs.Refusals.{put_publishes}
 use Rattle.cluster_state.specs.Lookups.{IsSearching}
-use Rattle.cluster_places.specs.declared.held.Key.{Key}
-use Rattle.cluster_places.specs.declared.held.Key.TheVariants.{Search}
-use Rattle.cluster_places.specs.Held.{same_key}
+use Rattle.cluster_nodes.specs.declared.held.Key.{Key}
+use Rattle.cluster_nodes.specs.declared.held.Key.TheVariants.{Search}
+use Rattle.cluster_nodes.specs.Held.{same_key}
 use Rattle.cluster_state.specs.State.{StandForVersion, ticket_key}
 
 -- the entry moves a word of the node, but for its tickets and searches

@@ -7,12 +7,12 @@ use Rattle.file_deleter.specs.Holdings.{IsThere}
 use Rattle.seg_reader.specs.Shown.{Shown}
 use Rattle.searcher_switch.specs.declared.open.Open.{Open}
 use Rattle.searcher_switch.specs.declared.open.Point.{Point}
-use Rattle.primary_parts.specs.Primary.{loose_of}
-use Rattle.history_entries.specs.Nodes.{Past}
-use Rattle.history_entries.specs.Points.{is_drawn}
-use Rattle.history_entries.specs.Rules.{MayHaveName}
-use Rattle.cluster_places.specs.declared.nodes.Node.{Node}
-use Rattle.cluster_places.specs.declared.nodes.Node.TheVariants.{Primary, Replica, Down}
+use Rattle.primary_state.specs.Primary.{loose_of}
+use Rattle.history_rules.specs.Nodes.{Past}
+use Rattle.history_rules.specs.Points.{is_drawn}
+use Rattle.history_rules.specs.Rules.{MayHaveName}
+use Rattle.cluster_nodes.specs.declared.nodes.Node.{Node}
+use Rattle.cluster_nodes.specs.declared.nodes.Node.TheVariants.{Primary, Replica, Down}
 
 -- where a point has segments, one of its names is that of stored documents
 abbrev pub NamesDocuments : Point Shown → Type 0

@@ -2,10 +2,11 @@
 use Rattle.std.specs.Prelude.{ℕ, zero, suc, ◌≡◌, ◌==◌, ◌&&◌, if◌then◌else◌, List, [], ◌∷◌, Bool, true, false, Option, Some, None, unwrap_or}
 use Rattle.std.specs.List.{slice_get}
 use Rattle.disk_model.specs.Disk.{Name, same}
+use Rattle.disk_model.specs.Faults.{Plans}
 use Rattle.file_names.specs.Names.{part_name_of}
 use Rattle.file_names.specs.declared.composed.SegPart.TheVariants.{Docs}
 use Rattle.history_book.specs.declared.inner.Mark.{Mark}
-use Rattle.cluster_tasks.specs.Board.{Board}
+use Rattle.merge_tasks.specs.Board.{Board}
 
 -- a copy of a merged segment that runs at a node: its number, the first of the files that it wants, and whether it misses one
 pub record MergedCopy : Type 0 where
@@ -13,15 +14,25 @@ pub record MergedCopy : Type 0 where
   pub first : Option Name
   pub misses : Bool
 
+-- the files of a job that copies a point to a node, and the generation that the node has seen: the names of the files that the job still
+-- lacks, and of those that it has brought over
+pub record JobFiles : Type 0 where
+  pub seen : ℕ
+  pub missing : List Name
+  pub brought : List Name
+
 -- How many calls of its directory the commit in flight at each node still needs, 0 where none is in flight; whether a merge was cut over
--- since the last point; the sizes of the primary's segments, of which merges are chosen; the copies of merged segments that run at each
--- node; and the tasks of merges.
+-- since the last point; the sizes of the primary's segments, of which merges are chosen; the files of the job at each node, which runs or
+-- was stopped, none where it has no job; the copies of merged segments that run at each node; the tasks of merges; and the faults that are
+-- planned for each disk, with how many it has met.
 pub record Rest : Type 0 where
   pub calls_left : List ℕ
   pub cut : Bool
   pub sizes : List (Option ℕ)
+  pub jobs : List JobFiles
   pub copies : List (List MergedCopy)
   pub tasks : Board
+  pub plans : List Plans
 
 -- whether it has ended, how many nodes it has, all that happened, newest first, and what else callers are told
 pub record Run : Type 0 where
@@ -34,6 +45,15 @@ pub record Run : Type 0 where
 abbrev pub calls_at : ℕ → Run → ℕ
 calls_at zero r = 0
 calls_at (suc k) r = unwrap_or (slice_get r.rest.calls_left k) 0
+
+-- none, of a node that is no replica
+abbrev pub no_files : JobFiles
+no_files = record { seen = 0; missing = []; brought = [] }
+
+-- the files of the job at a node, which runs or was stopped, none where it has no job
+abbrev pub files_at : ℕ → Run → JobFiles
+files_at zero r = no_files
+files_at (suc k) r = unwrap_or (slice_get r.rest.jobs k) no_files
 
 -- the file is that of the stored documents of this segment
 abbrev pub is_docs_of : ℕ → Option Name → Bool

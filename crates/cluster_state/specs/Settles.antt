@@ -3,11 +3,11 @@ use Rattle.std.specs.Prelude.{ℕ, ◌≡◌, ◌≢◌, ◌≤◌, ◌<◌, ◌
 use Rattle.std.specs.List.{All, AllPairs, Contains}
 use Rattle.nrt_base.specs.declared.numbers.At.{At}
 use Rattle.nrt_base.specs.declared.numbers.NodeNo.{NodeNo}
-use Rattle.history_entries.specs.declared.entry.Event.TheVariants.{Settling}
-use Rattle.history_entries.specs.Nodes.{Past, IsNode, IsReplica, version_of}
-use Rattle.history_entries.specs.Lines.{start_entry, before_start, highest_switched, NodeSurvives}
+use Rattle.history_rules.specs.declared.entry.Event.TheVariants.{Settling}
+use Rattle.history_rules.specs.Nodes.{Past, IsNode, IsReplica, version_of}
+use Rattle.history_rules.specs.Lines.{start_entry, before_start, highest_switched, NodeSurvives}
 use Rattle.history_tables.specs.Begins.{open_line}
-use Rattle.cluster_places.specs.declared.tasks.SettleTask.{SettleTask}
+use Rattle.cluster_nodes.specs.declared.tasks.SettleTask.{SettleTask}
 
 -- these are the replicas, ascending
 pub record AreReplicas (size : ℕ) (past : Past) (nodes : List NodeNo) : Type 0 where

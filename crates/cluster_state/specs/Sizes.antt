@@ -1,9 +1,9 @@
 -- The sizes of the primary's segments, of which merges are chosen.
 use Rattle.std.specs.Prelude.{ℕ, List, [], ◌∷◌, Option, Some, None}
-use Rattle.cluster_places.specs.Given.{merge_sizes}
-use Rattle.cluster_places.specs.declared.nodes.Node.{Node}
-use Rattle.cluster_places.specs.declared.nodes.Node.TheVariants.{Primary, Replica, Down}
-use Rattle.cluster_places.specs.declared.nodes.Place.{Place}
+use Rattle.cluster_nodes.specs.Given.{merge_sizes}
+use Rattle.cluster_nodes.specs.declared.nodes.Node.{Node}
+use Rattle.cluster_nodes.specs.declared.nodes.Node.TheVariants.{Primary, Replica, Down}
+use Rattle.cluster_nodes.specs.declared.nodes.Place.{Place}
 
 module _ {D : Type 0} where
   -- those of this node, where it is the primary

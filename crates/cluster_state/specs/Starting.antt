@@ -1,22 +1,22 @@
 -- What the nodes of a cluster are that has just started.
 use Rattle.std.specs.Prelude.{ℕ, ◌≡◌, List, [], None, Some}
 use Rattle.copy_job.specs.Jobs.{Job}
-use Rattle.cluster_places.specs.declared.nodes.Node.{Node}
-use Rattle.cluster_places.specs.declared.nodes.Node.TheVariants.{Primary, Replica, Down}
+use Rattle.cluster_nodes.specs.declared.nodes.Node.{Node}
+use Rattle.cluster_nodes.specs.declared.nodes.Node.TheVariants.{Primary, Replica, Down}
 use Rattle.disk_model.specs.Disk.{Name, Cells, Image, IsImage, reads_of}
 use Rattle.seg_reader.specs.Stands.{StandsFor, AreSegmentsOf}
 use Rattle.commit_steps.specs.declared.stage.CommitBook.{CommitBook}
-use Rattle.replica_parts.specs.Given.{opening_infos}
-use Rattle.replica_parts.specs.declared.parts.Parts.{Parts as ReplicaParts}
-use Rattle.replica_parts.specs.Replica.{IsWholeReplica, AreStanding}
-use Rattle.replica_parts.specs.Sources.{IsSourced}
-use Rattle.cluster_places.specs.declared.nodes.Place.{Place}
+use Rattle.replica_state.specs.Given.{opening_infos}
+use Rattle.replica_state.specs.declared.parts.Parts.{Parts as ReplicaParts}
+use Rattle.replica_state.specs.Replica.{IsWholeReplica, AreStanding}
+use Rattle.replica_state.specs.Sources.{IsSourced}
+use Rattle.cluster_nodes.specs.declared.nodes.Place.{Place}
 use Rattle.cluster_state.specs.State.{PlaceShows}
 use Rattle.cluster_state.specs.Names.{NamesShow}
 use Rattle.cluster_state.specs.Files.{NodeFiles}
 use Rattle.cluster_state.specs.Disks.{DiskShows}
-use Rattle.cluster_places.specs.Places.{disk_of}
-use Rattle.cluster_places.specs.Outs.{want_at}
+use Rattle.cluster_nodes.specs.Places.{disk_of}
+use Rattle.cluster_nodes.specs.Outs.{want_at}
 
 -- nothing stands in the directory, and a crash leaves nothing there
 pub record IsEmptyDir (cells : Cells) : Type 0 where

@@ -11,26 +11,26 @@ use Rattle.searcher_switch.specs.declared.searchers.Lease.{Lease}
 use Rattle.searcher_switch.specs.declared.open.Open.{Open}
 use Rattle.searcher_switch.specs.declared.open.Point.{Point}
 use Rattle.searcher_switch.specs.Tickets.{ticket_at}
-use Rattle.history_entries.specs.Nodes.{Past, IsNode, primary_of, is_at, is_running, generation_of, version_of, newest_version}
-use Rattle.history_entries.specs.Lines.{start_entry, before_start, publish_in_flight}
-use Rattle.history_entries.specs.Points.{documents_at, operations_of_generation, cut_of, names_drawn}
-use Rattle.history_entries.specs.Tickets.{open_ticket, IsTicketOf}
-use Rattle.history_entries.specs.Tasks.{merge_count}
+use Rattle.history_rules.specs.Nodes.{Past, IsNode, primary_of, is_at, is_running, generation_of, version_of, newest_version}
+use Rattle.history_rules.specs.Lines.{start_entry, before_start, publish_in_flight}
+use Rattle.history_rules.specs.Points.{documents_at, operations_of_generation, cut_of, names_drawn}
+use Rattle.history_rules.specs.Tickets.{open_ticket, IsTicketOf}
+use Rattle.history_rules.specs.Tasks.{merge_count}
 use Rattle.history_book.specs.Log.{Log, printed}
-use Rattle.primary_parts.specs.declared.parts.Parts.{Parts as PrimaryParts}
-use Rattle.primary_parts.specs.declared.parts.Publish.{Publish}
-use Rattle.primary_parts.specs.Primary.{IsPrimary}
-use Rattle.replica_parts.specs.declared.parts.Parts.{Parts as ReplicaParts}
-use Rattle.replica_parts.specs.Replica.{IsWholeReplica, AreStanding}
-use Rattle.cluster_places.specs.declared.held.Held.{Held}
-use Rattle.cluster_places.specs.declared.held.Key.{Key}
-use Rattle.cluster_places.specs.declared.held.Key.TheVariants.{Ticket, Search}
-use Rattle.cluster_places.specs.declared.nodes.Node.{Node}
-use Rattle.cluster_places.specs.declared.nodes.Node.TheVariants.{Primary, Replica, Down}
-use Rattle.cluster_places.specs.declared.nodes.Place.{Place}
-use Rattle.cluster_places.specs.Held.{same_key, held_number}
+use Rattle.primary_state.specs.declared.parts.Parts.{Parts as PrimaryParts}
+use Rattle.primary_state.specs.declared.parts.Publish.{Publish}
+use Rattle.primary_state.specs.Primary.{IsPrimary}
+use Rattle.replica_state.specs.declared.parts.Parts.{Parts as ReplicaParts}
+use Rattle.replica_state.specs.Replica.{IsWholeReplica, AreStanding}
+use Rattle.cluster_nodes.specs.declared.held.Held.{Held}
+use Rattle.cluster_nodes.specs.declared.held.Key.{Key}
+use Rattle.cluster_nodes.specs.declared.held.Key.TheVariants.{Ticket, Search}
+use Rattle.cluster_nodes.specs.declared.nodes.Node.{Node}
+use Rattle.cluster_nodes.specs.declared.nodes.Node.TheVariants.{Primary, Replica, Down}
+use Rattle.cluster_nodes.specs.declared.nodes.Place.{Place}
+use Rattle.cluster_nodes.specs.Held.{same_key, held_number}
 use Rattle.cluster_state.specs.Lookups.{flush_out, IsSearching}
-use Rattle.cluster_places.specs.Places.{place_of, tickets_of}
+use Rattle.cluster_nodes.specs.Places.{place_of, tickets_of}
 
 -- the segments are of the documents of the point of this version
 pub record StandForVersion (past : Past) (v : ℕ) (segs : List Shown) : Type 0 where

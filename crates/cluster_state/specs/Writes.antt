@@ -6,9 +6,9 @@ use Rattle.seg_reader.specs.Sound.{IsSound}
 use Rattle.segment_steps.specs.declared.flushing.FlushTask.{FlushTask}
 use Rattle.segment_steps.specs.declared.flushing.FlushWork.{FlushWork}
 use Rattle.segment_steps.specs.Next.{IsFlushOf}
-use Rattle.history_entries.specs.declared.entry.Event.TheVariants.{Publishing}
-use Rattle.history_entries.specs.Lines.{before_start}
-use Rattle.history_entries.specs.Points.{cut_of, cut_has_put}
+use Rattle.history_rules.specs.declared.entry.Event.TheVariants.{Publishing}
+use Rattle.history_rules.specs.Lines.{before_start}
+use Rattle.history_rules.specs.Points.{cut_of, cut_has_put}
 use Rattle.script_serving.specs.Refusals.{may_be_full}
 use Rattle.history_book.specs.Log.{Log, printed, shown, kept}
 use Rattle.history_book.specs.declared.inner.Inner.TheVariants.{FlushOut}

@@ -1,11 +1,10 @@
 //! The cluster.
 
-use cluster_places::Place;
-use cluster_tasks::Tasks;
+use cluster_nodes::Place;
 use disk_model::FaultDir;
 use history_book::Book;
-use history_entries::Event;
-use history_merges::Ledger;
+use history_rules::Event;
+use merge_tasks::{Ledger, Tasks};
 use nrt_base::{At, NoMemory, NodeNo};
 use std::marker::Model;
 
@@ -33,7 +32,9 @@ impl<D: FaultDir> Model for ClusterState<D> {
     ghost use Rattle.cluster_state.specs.Merging.{MergesStand};
     ghost use Rattle.cluster_state.specs.CallsLeft.{calls_in};
     ghost use Rattle.cluster_state.specs.Sizes.{sizes_in};
+    ghost use Rattle.cluster_state.specs.JobsIn.{jobs_in};
     ghost use Rattle.cluster_state.specs.MergedCopies.{copies_in};
+    ghost use Rattle.cluster_state.specs.PlansIn.{plans_in};
 
     ghost view = { λ c. record {
       ended = c.ended;
@@ -43,8 +44,10 @@ impl<D: FaultDir> Model for ClusterState<D> {
         calls_left = calls_in c.places.items;
         cut = c.ledger.cut;
         sizes = sizes_in c.places.items;
+        jobs = jobs_in c.places.items;
         copies = copies_in c.places.items;
         tasks = c.tasks;
+        plans = plans_in D.planned c.places.items;
       };
     } };
 
@@ -56,16 +59,17 @@ impl<D: FaultDir> Model for ClusterState<D> {
 impl<D: FaultDir + Drop> ClusterState<D> {
     ghost use Rattle.std.specs.Prelude.{ℕ, ◌≡◌, ◌≢◌, ◌∷◌, false, true, Some, Option, OnOk, OnErr, IfSome};
     ghost use Rattle.nrt_base.specs.declared.numbers.NodeNo.{NodeNo};
-    ghost use Rattle.history_entries.specs.Nodes.{IsNode, primary_of};
-    ghost use Rattle.history_entries.specs.Lines.{start_entry, publish_in_flight, commit_in_flight};
-    ghost use Rattle.history_entries.specs.Legal.{KeepsRule};
+    ghost use Rattle.history_rules.specs.Nodes.{IsNode, primary_of};
+    ghost use Rattle.history_rules.specs.Lines.{start_entry, publish_in_flight, commit_in_flight};
+    ghost use Rattle.history_rules.specs.Legal.{KeepsRule};
     ghost use Rattle.history_tables.specs.Openings.{opens_ticket};
     ghost use Rattle.history_book.specs.Log.{printed, shown};
     ghost use Rattle.history_book.specs.Turns.{InTurn};
+    ghost use Rattle.history_book.specs.Told.{IsSo, cut_since};
     ghost use Rattle.cluster_state.specs.Run.{IsNow, IsEnded};
     ghost use Rattle.cluster_state.specs.Moves.{moves, moves_tickets};
     ghost use Rattle.cluster_state.specs.FileChanges.{keeps_jobs, is_commit_line, keeps_commits};
-    ghost use Rattle.cluster_tasks.specs.TaskLog.{is_drained};
+    ghost use Rattle.merge_tasks.specs.TaskLog.{is_drained};
 
     /// What happened, for readers.
     pub fn book(&self) -> &Book
@@ -82,9 +86,10 @@ impl<D: FaultDir + Drop> ClusterState<D> {
         self.ended
     }
 
-    /// Whether a merge was cut over since the last point.
+    /// Whether a merge was cut over since the last point, as the history shows.
     pub fn has_cut_over(&self) -> bool
-        ensures { result ≡ self.now.rest.cut }
+        ensures is { result ≡ self.now.rest.cut }
+        ensures since { result ≡ cut_since self.now.log }
     {
         self.ledger.has_cut()
     }
@@ -141,6 +146,7 @@ impl<D: FaultDir + Drop> ClusterState<D> {
         requires running { self.old.ended ≡ false }
         requires rule { KeepsRule self.old.nodes (printed self.old.log) at event }
         requires turn { InTurn (printed self.old.log) at event }
+        requires told { IsSo self.old.log at event }
         requires line { publish_in_flight (printed self.old.log) ≢ Some at }
         requires still { (p : Option NodeNo) (m : ℕ) → moves event p m ≡ false }
         requires apart { (m : ℕ) → moves_tickets event m ≡ false }
@@ -151,6 +157,7 @@ impl<D: FaultDir + Drop> ClusterState<D> {
         requires drains { is_drained event ≡ false }
         ensures ok { OnOk result (IsNow self.old self.new (shown at event ∷ self.old.log)) }
         ensures tasks { OnOk result (self.new.rest.tasks ≡ self.old.rest.tasks) }
+        ensures jobs { OnOk result (self.new.rest.jobs ≡ self.old.rest.jobs) }
         ensures err { OnErr result (IsEnded self.old self.new) }
     {
         self.ended = true;

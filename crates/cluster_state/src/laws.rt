@@ -6,7 +6,7 @@ use nrt_base::NodeNo;
 
 impl<D: FaultDir + Drop> ClusterState<D> {
     ghost use Rattle.std.specs.Prelude.{◌≡◌, ◌≤◌, false, IfSome};
-    ghost use Rattle.history_entries.specs.Nodes.{IsNode, IsReplica, newest_version};
+    ghost use Rattle.history_rules.specs.Nodes.{IsNode, IsReplica, newest_version};
     ghost use Rattle.history_book.specs.Log.{printed};
     ghost use Rattle.history_book.specs.Jobs.{job_at};
 

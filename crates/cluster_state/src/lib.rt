@@ -1,10 +1,18 @@
-//! All nodes of a cluster, the tickets that are held of them, and the history: what is true of them between two calls.
+//! The state of a cluster, and which lines have their turn over it.
 #![tactic(auto)]
 
 mod cluster;
 mod laws;
+mod met;
+mod refusals;
+mod standing;
+mod turn;
 
 pub use cluster::ClusterState;
-pub use cluster_places::{
+pub use cluster_nodes::{
     CommitTask, CopyTask, FileTask, Node, Place, Replica, SettleTask, files_last,
 };
+pub use met::{are_planned, has_risen, kinds_in, show_met};
+pub use refusals::{refuse, refuse_turn};
+pub use standing::Standing;
+pub use turn::Turn;

@@ -1,6 +1,7 @@
 mod Steps
 mod Remainder
 mod Slicing
+mod Pairs
 mod KnownSums
 pub mod ByteLaws
 mod Fields

@@ -6,6 +6,7 @@ use Rattle.std.proofs.lemmas.List.{drop_all}
 use Rattle.std.specs.Int.{w64, from_le_bytes}
 use Rattle.std.specs.Int.Bits.{xor_zero_r, xor_shifted}
 use Rattle.std.proofs.lemmas.Nat.{xor_comm, shr-shr}
+use Rattle.byteorder.specs.Endian.{little_number}
 use Rattle.codec_frame.specs.declared.tables.TheConstants.{TABLES}
 use Rattle.codec_frame.specs.Register.{step, steps, taken_in}
 use Rattle.codec_frame.specs.Bytes.{AreBytes}
@@ -121,11 +122,8 @@ taken_in-word s w bytes fits len e =
     let word : bit_xor s (bytes_number bytes) ≡ w = rw (bytes_number-le bytes len, xor_comm s (from_le_bytes w64 bytes)) (sym e) in
     taken_in-steps bytes s fits ∙ rw (count, word) refl
 
--- two words
-pub taken_in-words : (s v w : ℕ) (a b : List ℕ) → AreBytes a → AreBytes b → length a ≡ 8 → length b ≡ 8 → v ≡ bit_xor (from_le_bytes w64 a) s → w ≡ from_le_bytes w64 b
-    → taken_in (taken_in s a) b ≡ bit_xor (steps 128 v) (steps 64 w)
-taken_in-words s v w a b fa fb la lb ev ew =
-    let first : taken_in s a ≡ steps 64 v = taken_in-word s v a fa la ev in
-    let second : taken_in (taken_in s a) b ≡ steps 64 (bit_xor w (taken_in s a)) = taken_in-word (taken_in s a) (bit_xor w (taken_in s a)) b fb lb (ap (λ (x : ℕ). bit_xor x (taken_in s a)) ew) in
-    second ∙ steps-xor 64 w (taken_in s a) ∙ xor_comm (steps 64 w) (steps 64 (taken_in s a))
-    ∙ ap (λ (x : ℕ). bit_xor x (steps 64 w)) (ap (steps 64) first ∙ sym (steps-add 64 64 v))
+-- the same of the word as it is read
+pub taken_in-read : (s n : ℕ) (word : List ℕ) → AreBytes word → length word ≡ 8 → n ≡ little_number 8 word → taken_in s word ≡ steps 64 (bit_xor n s)
+taken_in-read s n word fits len e =
+    let same : little_number 8 word ≡ from_le_bytes w64 word = omega arith in
+    taken_in-word s (bit_xor n s) word fits len (ap (λ (x : ℕ). bit_xor x s) (e ∙ same))

@@ -1,11 +1,12 @@
 //! Whether bytes are framed as wanted.
 
 ghost use Rattle.std.specs.Prelude.{◌≡◌, ◌+◌, ◌^◌, ◌<◌, ◌≤◌, ◌↔◌, length, IsTrue, IfSome, IfOk, IfErr, OnOk, slice_range};
-ghost use Rattle.codec_frame.specs.Checking.{NoFaultBelow, IsChecked, IsFirstFault, HasHeader, HasFooter, HasShortString, be32_at};
+ghost use Rattle.codec_frame.specs.Checking.{NoFaultBelow, IsChecked, IsFirstFault, HasHeader, HasFooter, HasShortString, be32_at, be64_at};
 ghost use Rattle.codec_frame.specs.Frame.{header_length, wanted};
 
 use crate::crc::crc32;
 use crate::frame::{FOOTER_LENGTH, FOOTER_MAGIC, FrameFault, Framed, HEADER_MAGIC, Want};
+use byteorder::{BigEndian, ByteOrder};
 
 /// Whether the bytes are a file that is framed as wanted: the frame, or the first fault. A file that
 /// was written so is accepted, with its version, its id and its body.
@@ -75,7 +76,7 @@ fn check_footer(bytes: &[u8], want: &Want) -> Result<(), FrameFault>
         return Err(FrameFault::Algorithm);
     }
     let want = u64::from(crc32(&bytes[..footer + 8]));
-    let found = u64::from_be_bytes(array_of(bytes, footer + 8));
+    let found = u64_of(bytes, footer + 8);
     if want != found {
         return Err(FrameFault::Checksum { want, found });
     }
@@ -105,7 +106,15 @@ fn u32_of(bytes: &[u8], at: usize) -> u32
     requires { at + 4 ≤ length bytes.now }
     ensures { result ≡ be32_at bytes.now at }
 {
-    u32::from_be_bytes(array_of(bytes, at))
+    BigEndian::read_u32(&bytes[at..])
+}
+
+// The number in the eight bytes from a place on.
+fn u64_of(bytes: &[u8], at: usize) -> u64
+    requires { at + 8 ≤ length bytes.now }
+    ensures { result ≡ be64_at bytes.now at }
+{
+    BigEndian::read_u64(&bytes[at..])
 }
 
 // The N bytes from a place on.

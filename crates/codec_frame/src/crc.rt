@@ -1,10 +1,11 @@
-//! CRC-32, sixteen bytes a turn.
+//! CRC-32, two words a turn.
 
-ghost use Rattle.std.specs.Prelude.{◌≡◌, ◌+◌, ◌*◌, ◌%◌, ◌<◌, ℕ, bit_xor};
+ghost use Rattle.std.specs.Prelude.{◌≡◌, ◌+◌, ◌*◌, ◌%◌, ◌<◌, ℕ, length, bit_xor};
 ghost use Rattle.codec_frame.specs.Division.{IsCrc, crc_of};
 ghost use Rattle.codec_frame.specs.Register.{steps, taken_in};
 
 use crate::tables::TABLES;
+use byteorder::{ByteOrder, LittleEndian};
 
 /// The CRC-32 of the bytes, as zlib computes it: the reflected polynomial edb88320, with ffffffff
 /// as the start and as the last exclusive or.
@@ -15,38 +16,53 @@ pub fn crc32(bytes: &[u8]) -> u32
     ensures division { IsCrc bytes.now result }
     ensures only { (c : ℕ) → IsCrc bytes.now c → c ≡ result }
 {
-    let mut register: u32 = 0xffff_ffff;
-    let mut left = bytes;
-    'words: while let Some((first, rest)) = left.split_first_chunk::<8>() {
-        match rest.split_first_chunk::<8>() {
-            Some((second, after)) => {
-                register = take_in_words(register, first, second);
-                left = after;
-            }
-            None => {
-                register = take_in_word(register, first);
-                left = rest;
-            }
-        }
+    let (mut register, mut left) = take_in_pairs(0xffff_ffff, bytes);
+    'words: while left.len() >= 8 {
+        let (word, rest) = left.split_at(8);
+        register = take_in_word(register, word);
+        left = rest;
     }
     take_in_rest(register, left) ^ 0xffff_ffff
 }
 
-// The register after two words.
-#[inline(always)]
-fn take_in_words(register: u32, first: &[u8; 8], second: &[u8; 8]) -> u32
-    ensures { result ≡ taken_in (taken_in register first.now) second.now }
+// The register after pairs of words, and the bytes after them. The words go into two registers in turn, so that none
+// waits for the word before it.
+fn take_in_pairs(register: u32, bytes: &[u8]) -> (u32, &[u8])
+    ensures { taken_in result.0 result.1.now ≡ taken_in register bytes.now }
 {
-    let front = u64::from_le_bytes(*first) ^ register as u64;
-    eight_before(front) ^ eight_last(u64::from_le_bytes(*second))
+    let mut even = register;
+    let mut odd: u32 = 0;
+    let mut left = bytes;
+    'pairs: while left.len() >= 24 {
+        let (first, rest) = left.split_at(8);
+        let (second, after) = rest.split_at(8);
+        even = take_in_and_pass(even, first);
+        odd = take_in_and_pass(odd, second);
+        left = after;
+    }
+    if left.len() < 8 {
+        return (even, left);
+    }
+    let (word, rest) = left.split_at(8);
+    (take_in_word(even, word) ^ odd, rest)
+}
+
+// The register after one word, and after the places of one more.
+#[inline(always)]
+fn take_in_and_pass(register: u32, word: &[u8]) -> u32
+    requires { length word.now ≡ 8 }
+    ensures { result ≡ steps 64 (taken_in register word.now) }
+{
+    eight_before(LittleEndian::read_u64(word) ^ register as u64)
 }
 
 // The register after one word.
 #[inline(always)]
-fn take_in_word(register: u32, word: &[u8; 8]) -> u32
+fn take_in_word(register: u32, word: &[u8]) -> u32
+    requires { length word.now ≡ 8 }
     ensures { result ≡ taken_in register word.now }
 {
-    eight_last(u64::from_le_bytes(*word) ^ register as u64)
+    eight_last(LittleEndian::read_u64(word) ^ register as u64)
 }
 
 // The register after the bytes, one at a time.

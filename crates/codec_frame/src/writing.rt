@@ -1,10 +1,12 @@
 //! What writes the header and the footer of a frame.
 
 ghost use Rattle.std.specs.Prelude.{◌≡◌, ◌+◌, ◌<◌, ◌≤◌, ◌++◌, length, OnOk, OnErr, vec_len, vec_capacity};
+ghost use Rattle.std.specs.Int.{w32, w64, to_be_bytes};
 ghost use Rattle.codec_frame.specs.Frame.{header, index_header, with_footer};
 
 use crate::crc::crc32;
 use crate::frame::{FOOTER_LENGTH, FOOTER_MAGIC, HEADER_MAGIC};
+use byteorder::{BigEndian, ByteOrder};
 use std::alloc::AllocError;
 
 /// Adds a header: the magic, the name of the format and its version.
@@ -48,10 +50,10 @@ pub fn write_footer(out: &mut Vec<u8>) -> Result<(), AllocError>
     ensures err { OnErr result (out.new.items ≡ out.old.items) }
 {
     out.reserve(FOOTER_LENGTH)?;
-    add(out, &FOOTER_MAGIC.to_be_bytes());
-    add(out, &0u32.to_be_bytes());
+    add_u32(out, FOOTER_MAGIC);
+    add_u32(out, 0);
     let checksum = u64::from(crc32(out));
-    add(out, &checksum.to_be_bytes());
+    add_u64(out, checksum);
     Ok(())
 }
 
@@ -64,10 +66,34 @@ fn add_header(out: &mut Vec<u8>, name: &[u8], version: u32)
     ensures len { vec_len out.new ≡ vec_len out.old + (9 + length name.now) }
     ensures room { vec_capacity out.old ≤ vec_capacity out.new }
 {
-    add(out, &HEADER_MAGIC.to_be_bytes());
+    add_u32(out, HEADER_MAGIC);
     add(out, &[name.len() as u8]);
     add(out, name);
-    add(out, &version.to_be_bytes());
+    add_u32(out, version);
+}
+
+// Adds a number in four bytes, for which there is room.
+fn add_u32(out: &mut Vec<u8>, n: u32)
+    requires { vec_len out.old + 4 ≤ vec_capacity out.old }
+    ensures items { out.new.items ≡ out.old.items ++ to_be_bytes w32 n }
+    ensures len { vec_len out.new ≡ vec_len out.old + 4 }
+    ensures room { vec_capacity out.old ≤ vec_capacity out.new }
+{
+    let mut bytes = [0; 4];
+    BigEndian::write_u32(&mut bytes, n);
+    add(out, &bytes);
+}
+
+// Adds a number in eight bytes, for which there is room.
+fn add_u64(out: &mut Vec<u8>, n: u64)
+    requires { vec_len out.old + 8 ≤ vec_capacity out.old }
+    ensures items { out.new.items ≡ out.old.items ++ to_be_bytes w64 n }
+    ensures len { vec_len out.new ≡ vec_len out.old + 8 }
+    ensures room { vec_capacity out.old ≤ vec_capacity out.new }
+{
+    let mut bytes = [0; 8];
+    BigEndian::write_u64(&mut bytes, n);
+    add(out, &bytes);
 }
 
 // Adds bytes, for which there is room.

@@ -13,17 +13,22 @@ use file_names::{FileName, commit_name};
 use nrt_base::NoMemory;
 use segment_infos::{Infos, ReadFault, decode, files_of, last_commit};
 use std::alloc::Global;
+use thiserror::Error;
 
 /// Why no commit is recovered.
-#[derive(Clone, Copy, Debug, PartialEq, Eq)]
+#[derive(Clone, Copy, Debug, PartialEq, Eq, Error)]
 pub enum RecoverFault {
     /// Out of memory.
+    #[error("out of memory")]
     Memory,
     /// The disk failed.
+    #[error("the disk failed")]
     Failed,
     /// The `segments_N` with the greatest N has this name, and its bytes are refused.
+    #[error("the last commit cannot be read: {0}: {1}")]
     Broken(FileName, FileFault),
     /// The last commit's infos name this file, which does not exist, the first such in ascending order.
+    #[error("the last commit needs the file {0}, which does not exist")]
     Gone(FileName),
 }
 

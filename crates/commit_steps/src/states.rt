@@ -6,6 +6,7 @@ use bytes::Bytes;
 use file_names::FileName;
 use nrt_base::{List, NoMemory};
 use segment_infos::Infos;
+use thiserror::Error;
 
 /// What is committed.
 #[derive(Drop)]
@@ -55,11 +56,13 @@ pub struct Renamed(pub Flight);
 pub struct Done(pub Flight);
 
 /// Why a call of a commit is refused.
-#[derive(Clone, Copy, Debug, PartialEq, Eq)]
+#[derive(Clone, Copy, Debug, PartialEq, Eq, Error)]
 pub enum CommitFault {
     /// Out of memory.
+    #[error("out of memory")]
     Memory,
     /// The disk failed.
+    #[error("the disk failed")]
     Failed,
 }
 

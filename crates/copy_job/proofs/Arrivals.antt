@@ -160,6 +160,13 @@ module _ (a : Option (ℕ × ℕ)) (file source slice bytes : List ℕ) (d0 d wa
   pub turned_down : (found : ℕ) → IsDifference slice want (Some found) → (a ≢ None) × Rose d0 d
   turned_down found differ = refused a source slice d0 d want long footer want_is fits fits2 is received as_long found differ
 
+-- what was received shows what the file shows as it was carried
+pub arrived_shows : (a now : Option (ℕ × ℕ)) (file source slice bytes : List ℕ) (d0 d want size found : ℕ) → file ≡ source → slice ≡ bytes → HasReceived a file d0 d bytes × (length bytes ≡ size) → size ≡ length source → now ≡ a
+    → IsDifference slice want (Some found) → IsDifference (carried_by now source) want (Some found)
+arrived_shows a now file source slice bytes d0 d want size found begun got h size_is now_is =
+    subst (λ (t : List ℕ). IsDifference t want (Some found))
+    (got ∙ whole a file bytes d0 d h.0 (h.1 ∙ size_is ∙ ap length (sym begun)) ∙ ap (carried_by a) begun ∙ ap (λ (x : Option (ℕ × ℕ)). carried_by x source) (sym now_is))
+
 -- ---- where the fate of a file is known
 pub by_fate_taken : (f : Option Fate) (source : List ℕ) (a : Option (ℕ × ℕ)) (part : Part) → GoesByFate {T = Unit {0}} f source a (Ok tt) → a ≡ None → ArrivesByFate f (Ok part)
 by_fate_taken None source a part goes none = tt

@@ -1,7 +1,9 @@
 mod Arrivals
+mod Ascending
 pub mod Placings
-mod Naming
+pub mod Naming
 mod Lookups
 mod TestLaws
-mod Kept
+pub mod Kept
+pub mod Taking
 pub mod Points

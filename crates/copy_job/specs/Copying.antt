@@ -55,6 +55,11 @@ HasCopyCause name meta faults faults_now damages damages_now (Err (Damaged its_n
 HasCopyCause name meta faults faults_now damages damages_now (Err DirFailed) = ⊥
 HasCopyCause name meta faults faults_now damages damages_now (Err (NameClash its_name ours theirs)) = ⊥
 
+-- where a copy is damaged it tells what these bytes show: the first of their two checksums that is not the wanted one
+abbrev pub TellsDifference : (arrived : List ℕ) → (want : ℕ) → Result Part JobFault → Type 0
+TellsDifference arrived want (Err (Damaged name its_want found)) = IsDifference arrived want (Some found)
+TellsDifference arrived want r = Unit {0}
+
 -- where the fate of the file is known, this comes, or want of memory
 abbrev pub ArrivesByFate : Option Fate → Result Part JobFault → Type 0
 ArrivesByFate None r = Unit {0}

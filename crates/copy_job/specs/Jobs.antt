@@ -1,8 +1,11 @@
 -- A job: what it is to copy, what it has of it, and what the files of its point are meanwhile.
-use Rattle.std.specs.Prelude.{◌≡◌, ◌≢◌, ℕ, ◌+◌, not, is_none, is_some, if◌then◌else◌, List, [], ◌∷◌, ◌++◌, filter, Some, IsSomeAnd}
+use Rattle.std.specs.Prelude.{◌≡◌, ◌≢◌, ◌&&◌, ℕ, ◌+◌, ◌==◌, Bool, true, false, not, is_none, is_some, if◌then◌else◌, List, [], ◌∷◌, ◌++◌, filter, Option, Some, None, IsSomeAnd}
 use Rattle.std.specs.List.{All}
+use Rattle.std.specs.List.Sorted.{IsStrictlySortedBy}
+use Rattle.std.specs.Ordering.{nat_cmp}
+use Rattle.std.specs.Cmp.Lexicographic.{slice_cmp}
 use Rattle.file_names.specs.Names.{temp_name_of}
-use Rattle.disk_model.specs.Disk.{Name, Content, same}
+use Rattle.disk_model.specs.Disk.{Name, Content, same, is_among}
 use Rattle.file_deleter.specs.Holdings.{times}
 use Rattle.copy_state.specs.declared.meta.FileMetaData.{FileMetaData}
 use Rattle.copy_state.specs.declared.state.CopyState.{CopyState}
@@ -11,7 +14,7 @@ use Rattle.copy_job.specs.declared.part.JobPart.{JobPart}
 use Rattle.copy_job.specs.declared.part.JobKind.{JobKind}
 use Rattle.copy_job.specs.declared.fault.JobFault.{JobFault}
 use Rattle.copy_job.specs.declared.fault.JobFault.TheVariants.{Memory, LinkFailed, Damaged, DirFailed, NameClash}
-use Rattle.copy_job.specs.Parts.{present_names, own_names}
+use Rattle.copy_job.specs.Parts.{present_names, own_names, insert_part}
 
 -- a job: its number, what is copied by it, the files that it lacks, those that it has, and those that it reuses
 pub record Job : Type 0 where
@@ -35,10 +38,12 @@ present_of (p ∷ ps) q = if same p.own q then p.now else present_of ps q
 abbrev pub reads_under : List JobPart → (Name → Content) → Name → Content
 reads_under parts reads q = reads (present_of parts q)
 
--- each file of the state is missing, a part or reused, and one of these alone
+-- each file of the state is missing, a part or reused, and one of these alone; what is missing ascends, and so do the parts by their own names
 pub record IsJob (j : Job) : Type 0 where
   pub state : IsCopyState j.want
   pub each : (q : Name) → times j.missing q + times (own_names j.parts) q + times j.reused q ≡ times (meta_names j.want.files) q
+  pub lacking : IsStrictlySortedBy (slice_cmp nat_cmp) j.missing
+  pub ascending : IsStrictlySortedBy (slice_cmp nat_cmp) (own_names j.parts)
 
 -- the names of which the list has no metadata
 abbrev pub unheld_names : List (Name × FileMetaData) → List Name → List Name
@@ -63,7 +68,31 @@ begun_job number kind want held = record {
 abbrev pub with_part : Job → Name → Job
 with_part j name = record j {
   missing = filter (λ q. not (same q name)) j.missing;
-  parts = j.parts ++ record { own = name; now = temp_name_of name j.number } ∷ [];
+  parts = insert_part (record { own = name; now = temp_name_of name j.number }) j.parts;
+}
+
+-- both files are listed, with the same metadata
+abbrev pub is_same_meta : Option FileMetaData → Option FileMetaData → Bool
+is_same_meta (Some a) (Some b) = same a.header b.header && (same a.footer b.footer && ((a.length == b.length) && (a.checksum == b.checksum)))
+is_same_meta a b = false
+
+-- the part is that of a missing file, which is wanted with the metadata that it has
+abbrev pub is_still_wanted : List Name → (had wanted : List (Name × FileMetaData)) → JobPart → Bool
+is_still_wanted missing had wanted p = is_among missing p.own && is_same_meta (meta_in had p.own) (meta_in wanted p.own)
+
+-- the part of an older job is of a file that this one lacks, and wants with the same metadata
+abbrev pub is_taken : Job → Job → JobPart → Bool
+is_taken j old p = is_still_wanted j.missing old.want.files j.want.files p
+
+-- the finished parts of an older job that are taken over
+abbrev pub taken_parts : Job → Job → List JobPart
+taken_parts j old = filter (is_taken j old) old.parts
+
+-- the job with the parts that it takes over from an older one, which it lacks no more
+abbrev pub taken_over : Job → Job → Job
+taken_over j old = record j {
+  missing = filter (λ q. not (is_among (own_names (taken_parts j old)) q)) j.missing;
+  parts = taken_parts j old;
 }
 
 -- a held file of this name has other metadata

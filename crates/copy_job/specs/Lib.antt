@@ -2,4 +2,4 @@ pub mod Copying
 pub mod Parts
 pub mod Placing
 pub mod Jobs
-pub mod Held
+pub mod Taking

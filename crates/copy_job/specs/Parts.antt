@@ -1,5 +1,8 @@
 -- The finished parts of a job, and the names that they hold.
-use Rattle.std.specs.Prelude.{◌≡◌, ◌⊎◌, ◌≤◌, ℕ, zero, suc, List, [], ◌∷◌, if◌then◌else◌, Option, Some, slice_get}
+use Rattle.std.specs.Prelude.{◌≡◌, ◌⊎◌, ◌≤◌, ℕ, zero, suc, List, [], ◌∷◌, length, insert, take_while, if◌then◌else◌, Option, Some, slice_get}
+use Rattle.std.specs.Ordering.{nat_cmp}
+use Rattle.std.specs.Cmp.Lexicographic.{slice_cmp}
+use Rattle.file_names.specs.Names.{is_less}
 use Rattle.disk_model.specs.Disk.{Name, same}
 use Rattle.file_deleter.specs.Holdings.{Holdings, count_of, times}
 use Rattle.copy_job.specs.declared.part.JobPart.{JobPart}
@@ -20,6 +23,14 @@ present_names (p ∷ ps) = p.now ∷ present_names ps
 abbrev pub own_names : List JobPart → List Name
 own_names [] = []
 own_names (p ∷ ps) = p.own ∷ own_names ps
+
+-- how many of the first parts have own names below this one
+abbrev pub parts_below : Name → List JobPart → ℕ
+parts_below own parts = length (take_while (λ p. is_less (slice_cmp nat_cmp p.own own)) parts)
+
+-- the parts with one more, behind the first ones whose own names are below its own
+abbrev pub insert_part : JobPart → List JobPart → List JobPart
+insert_part part parts = insert parts (parts_below part.own parts) part
 
 -- a part has its own name, or the job alone holds it under another and nobody holds a file of its own name
 abbrev pub IsPlaceable : Holdings → JobPart → Type 0

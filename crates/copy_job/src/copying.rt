@@ -3,8 +3,8 @@ ghost use Rattle.std.specs.Prelude.{◌≡◌, ◌≢◌, ◌+◌, ◌-◌, ◌<
 ghost use Rattle.codec_frame.specs.Bytes.{AreBytes};
 ghost use Rattle.codec_frame.specs.Checking.{be64_at, HasFooter};
 ghost use Rattle.copy_state.specs.Meta.{IsMetaOf};
-ghost use Rattle.link_model.specs.Carrying.{CountsLinkFaults};
-ghost use Rattle.copy_job.specs.Copying.{HasReceived, IsDifference, IsPartOf, HasCopyCause, ArrivesByFate};
+ghost use Rattle.link_model.specs.Carrying.{CountsLinkFaults, carried_by};
+ghost use Rattle.copy_job.specs.Copying.{HasReceived, IsDifference, IsPartOf, HasCopyCause, TellsDifference, ArrivesByFate};
 
 use crate::fault::JobFault;
 use bytes::Bytes;
@@ -56,6 +56,7 @@ fn receive<L: Link>(alloc: Global, link: &mut L, size: usize) -> Result<Vec<u8>,
     requires begun { length (L.begun link.old) ≡ size }
     ensures received { IfOk result (λ bytes. HasReceived (L.altered link.old) (L.begun link.old)
         (L.damages link.old) (L.damages link.new) bytes.items × (length bytes.items ≡ size)) }
+    ensures altered { L.altered link.new ≡ L.altered link.old }
     ensures faults { CountsLinkFaults (L.faults link.old) (L.faults link.new) result }
     ensures fate { IsSome (L.fate link.old) → IsErrOf result LinkFault.Failed → ⊥ }
 {
@@ -129,6 +130,8 @@ pub fn copy_file<L: Link>(
     ensures causes { HasCopyCause name.now meta.now (L.faults link.old) (L.faults link.new)
         (L.damages link.old) (L.damages link.new) result }
     ensures fate { ArrivesByFate (L.fate link.old) result }
+    ensures found { TellsDifference (carried_by (L.altered link.new) source.now)
+        meta.now.checksum result }
 {
     link.begin(source)?;
     let bytes = receive(alloc, link, size_of(source.as_slice()))?;

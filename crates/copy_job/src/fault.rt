@@ -4,15 +4,19 @@ use copy_state::FileMetaData;
 use file_names::FileName;
 use link_model::LinkFault;
 use nrt_base::NoMemory;
+use thiserror::Error;
 
 /// Why a copy is refused.
-#[derive(Debug, Drop)]
+#[derive(Debug, Drop, Error)]
 pub enum JobFault {
     /// Memory was wanting.
+    #[error("out of memory")]
     Memory,
     /// The link failed.
+    #[error("the link to the other node failed")]
     LinkFailed,
     /// The bytes that arrived are not those of the file.
+    #[error("the file {name} was damaged on its way: its checksum is {want:08x}, {found:08x} arrived")]
     Damaged {
         name: FileName,
         /// The checksum of the file's metadata.
@@ -21,8 +25,10 @@ pub enum JobFault {
         found: u64,
     },
     /// The disk failed.
+    #[error("the disk failed")]
     DirFailed,
     /// A held file of that name has other metadata.
+    #[error("another file {name} is here: its checksum is {here:08x}, that of the other node {there:08x}", here = .ours.checksum, there = .theirs.checksum)]
     NameClash {
         name: FileName,
         ours: FileMetaData,

@@ -1,6 +1,7 @@
 //! A job: the files of a point that are copied, and those that need not be.
 
 ghost use Rattle.std.specs.Prelude.{filter, not, ◌≡◌, ◌≤◌, ◌<◌, ◌⊎◌, ◌+◌, ℕ, List, [], ◌∷◌, ◌++◌, length, Some, Ok, Err, IfOk, IfErr, OnOk, OnErr, IsErrOf};
+ghost use Rattle.std.specs.Vec.{vec_capacity};
 ghost use Rattle.nrt_base.specs.Causes.{Rose};
 ghost use Rattle.file_names.specs.Names.{temp_name_of};
 ghost use Rattle.disk_model.specs.Disk.{same};
@@ -10,9 +11,9 @@ ghost use Rattle.std.specs.List.Sorted.{IsStrictlySortedBy};
 ghost use Rattle.std.specs.Ordering.{nat_cmp};
 ghost use Rattle.std.specs.Cmp.Lexicographic.{slice_cmp};
 ghost use Rattle.copy_state.specs.States.{meta_names, meta_in, IsCopyState};
-ghost use Rattle.copy_job.specs.Parts.{ArePlaceable};
+ghost use Rattle.copy_job.specs.Parts.{ArePlaceable, own_names};
 ghost use Rattle.copy_job.specs.Placing.{Places, IsPlacingFault};
-ghost use Rattle.copy_job.specs.Jobs.{IsJob, job_names, begun_job, with_part, AreAgreed, IsBeginningFault};
+ghost use Rattle.copy_job.specs.Jobs.{IsJob, job_names, begun_job, with_part, taken_over, AreAgreed, IsBeginningFault};
 
 use crate::arriving::write_part;
 use crate::copying::Part;
@@ -20,11 +21,12 @@ use crate::fault::JobFault;
 use crate::part::{JobKind, JobPart};
 use crate::placing::place;
 use crate::sorting::{Sorted, sort_out};
+use crate::takeover::{Wants, strike_own, take_parts};
 use copy_state::{CopyState, FileMetaData};
 use disk_model::Dir;
 use file_deleter::FileDeleter;
 use file_names::{FileName, temp_name};
-use nrt_base::{List, NoMemory, Share};
+use nrt_base::{List, NoMemory};
 use std::alloc::Global;
 use std::marker::Model;
 
@@ -35,15 +37,16 @@ pub struct CopyJob {
     kind: JobKind,
     want: CopyState,
     missing: Vec<FileName>,
-    parts: List<JobPart>,
+    parts: Vec<JobPart>,
     reused: List<FileName>,
     // What the job holds: the files that it reuses, and then its parts under the names that they have
-    // now.
-    names: List<FileName>,
+    // now. There is room for what is missing in the parts and here.
+    names: Vec<FileName>,
 }
 
 impl Model for CopyJob {
-    ghost use Rattle.std.specs.Prelude.{◌≡◌, ◌++◌};
+    ghost use Rattle.std.specs.Prelude.{◌≡◌, ◌≤◌, ◌+◌, ◌++◌, length};
+    ghost use Rattle.std.specs.Vec.{vec_capacity};
     ghost use Rattle.copy_job.specs.Jobs.{Job, IsJob};
     ghost use Rattle.copy_job.specs.Parts.{present_names};
 
@@ -54,19 +57,21 @@ impl Model for CopyJob {
       kind = j.kind;
       want = j.want;
       missing = j.missing.items;
-      parts = j.parts;
+      parts = j.parts.items;
       reused = j.reused;
     } };
 
-    ghost invariant = { λ j. (j.names ≡ j.reused ++ present_names j.parts)
+    ghost invariant = { λ j. (j.names.items ≡ j.reused ++ present_names j.parts.items)
         × IsJob (record {
           number = j.number;
           kind = j.kind;
           want = j.want;
           missing = j.missing.items;
-          parts = j.parts;
+          parts = j.parts.items;
           reused = j.reused;
-        }) };
+        })
+        × (length j.missing.items + length j.parts.items ≤ vec_capacity j.parts)
+        × (length j.missing.items + length j.names.items ≤ vec_capacity j.names) };
 }
 
 // Takes a name out, wherever it stands.
@@ -74,6 +79,21 @@ fn strike(names: &mut Vec<FileName>, name: &FileName)
     ensures { names.new.items ≡ filter (λ q. not (same q name.now)) names.old.items }
 {
     names.retain(|q| q != name);
+}
+
+// The names, and room for as many more.
+fn names_with_room(
+    alloc: Global,
+    names: &[FileName],
+    more: usize,
+) -> Result<Vec<FileName>, NoMemory>
+    ensures items { IfOk result (λ v. v.items ≡ names.now) }
+    ensures room { IfOk result (λ v. more + length v.items ≤ vec_capacity v) }
+{
+    let mut copies = Vec::new(alloc);
+    copies.extend_from_slice(names)?;
+    copies.reserve(more)?;
+    Ok(copies)
 }
 
 impl CopyJob {
@@ -95,13 +115,15 @@ impl CopyJob {
         ensures fault { IfErr result (IsBeginningFault held.now want.files) }
     {
         let Sorted { missing, reused } = sort_out(alloc, want.files.as_slice(), held)?;
-        let names = reused.share(alloc)?;
+        let missing = missing.into_vec();
+        let parts = Vec::with_capacity(alloc, missing.as_slice().len())?;
+        let names = names_with_room(alloc, reused.as_slice(), missing.as_slice().len())?;
         Ok(CopyJob {
             number,
             kind,
             want,
-            missing: missing.into_vec(),
-            parts: List::new(alloc),
+            missing,
+            parts,
             reused,
             names,
         })
@@ -134,9 +156,10 @@ impl CopyJob {
         self.missing.as_slice()
     }
 
-    /// The finished parts, in the order in which they came.
+    /// The finished parts, ascending by their own names.
     pub fn parts(&self) -> &[JobPart]
-        ensures { result.now ≡ self.now.parts }
+        ensures parts { result.now ≡ self.now.parts }
+        ensures ascending { IsStrictlySortedBy (slice_cmp nat_cmp) (own_names self.now.parts) }
     {
         self.parts.as_slice()
     }
@@ -186,6 +209,39 @@ impl CopyJob {
             }
             Err(fault) => Err(fault),
         }
+    }
+
+    /// Takes over the finished parts of an older job that this one lacks and wants with the same metadata, and
+    /// gives back all else that the older job holds, by one release. Takes no memory.
+    pub fn transfer<D: Dir>(&mut self, old: CopyJob, files: &mut FileDeleter, dir: &mut D)
+        requires none { self.old.parts ≡ [] }
+        requires counted { AreCounted (job_names self.old ++ job_names old) files.old }
+        ensures job { self.new ≡ taken_over self.old old }
+        ensures moves { MovesCounts [] (job_names self.old ++ job_names old) (job_names self.new)
+            files.old files.new (D.cells dir.old) (D.cells dir.new) }
+        ensures later { D.faults dir.old ≤ D.faults dir.new }
+    {
+        let CopyJob {
+            want,
+            parts,
+            mut names,
+            ..
+        } = old;
+        let wants = Wants {
+            missing: self.missing.as_slice(),
+            had: want.files.as_slice(),
+            wanted: self.want.files.as_slice(),
+        };
+        let kept = take_parts(
+            wants,
+            parts.as_slice(),
+            &mut self.parts,
+            &mut self.names,
+            &mut names,
+        );
+        strike_own(&mut self.missing, self.parts.as_slice());
+        names.truncate(kept);
+        files.release(names.as_slice(), dir);
     }
 
     /// Gives each part its own name, in order, and ends at the first rename that is refused; the parts

@@ -6,9 +6,11 @@ mod copying;
 mod fault;
 mod job;
 pub mod laws;
+mod lookup;
 mod part;
 mod placing;
 mod sorting;
+mod takeover;
 
 pub use copying::{Part, copy_file};
 pub use fault::JobFault;

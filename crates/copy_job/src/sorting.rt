@@ -1,17 +1,16 @@
 //! Which files of a state are held already.
 
 ghost use Rattle.std.specs.Prelude.{◌≡◌, List, [], ◌∷◌, ◌++◌, IfOk, IfErr, OnOk};
-ghost use Rattle.std.specs.Option.{option_map};
 ghost use Rattle.std.specs.List.Sorted.{IsStrictlySortedBy};
 ghost use Rattle.std.specs.Ordering.{nat_cmp};
 ghost use Rattle.std.specs.Cmp.Lexicographic.{slice_cmp};
 ghost use Rattle.disk_model.specs.Disk.{Name};
 ghost use Rattle.copy_state.specs.declared.meta.FileMetaData.{FileMetaData};
-ghost use Rattle.copy_state.specs.States.{meta_names, meta_in};
-ghost use Rattle.copy_job.specs.Held.{AreHeld};
+ghost use Rattle.copy_state.specs.States.{meta_names};
 ghost use Rattle.copy_job.specs.Jobs.{AreAgreed, AreSortedOut, IsBeginningFault};
 
 use crate::fault::JobFault;
+use crate::lookup::meta_of;
 use copy_state::{FileMetaData, same};
 use file_names::FileName;
 use nrt_base::{List, NoMemory, Share};
@@ -22,31 +21,6 @@ use std::alloc::Global;
 pub(crate) struct Sorted {
     pub(crate) missing: List<FileName>,
     pub(crate) reused: List<FileName>,
-}
-
-/// The files that a node holds, with their names apart.
-#[derive(Clone, Copy)]
-pub(crate) struct Held<'a> {
-    pub(crate) files: &'a [(FileName, FileMetaData)],
-    pub(crate) names: &'a [FileName],
-}
-
-// The names of files.
-fn names_of(alloc: Global, files: &[(FileName, FileMetaData)]) -> Result<Vec<FileName>, NoMemory>
-    ensures { IfOk result (λ names. names.items ≡ meta_names files.now) }
-{
-    files.iter().map(|file| file.0).collect(alloc)
-}
-
-// The metadata that is held under a name.
-fn meta_of<'a>(held: Held<'a>, name: &FileName) -> Option<&'a FileMetaData>
-    requires { AreHeld held }
-    ensures { option_map (λ m. m.now) result ≡ meta_in held.entry.files.now name.now }
-{
-    match held.names.binary_search(name) {
-        Ok(place) => Some(&held.files[place].1),
-        Err(_) => None,
-    }
 }
 
 // The clash of a file with what is held of it.
@@ -68,16 +42,16 @@ fn clash(
 fn sort_one(
     alloc: Global,
     file: &(FileName, FileMetaData),
-    held: Held,
+    held: &[(FileName, FileMetaData)],
     sorted: &mut Sorted,
 ) -> Result<(), JobFault>
-    requires { AreHeld held }
+    requires { IsStrictlySortedBy (slice_cmp nat_cmp) (meta_names held.now) }
     ensures ok { (front : List (Name × FileMetaData))
-        → AreSortedOut held.entry.files.now front sorted.old.missing sorted.old.reused
-        → OnOk result (AreSortedOut held.entry.files.now (front ++ file.now ∷ [])
+        → AreSortedOut held.now front sorted.old.missing sorted.old.reused
+        → OnOk result (AreSortedOut held.now (front ++ file.now ∷ [])
         sorted.new.missing sorted.new.reused) }
-    ensures err { (front rest : List (Name × FileMetaData)) → AreAgreed held.entry.files.now front
-        → IfErr result (IsBeginningFault held.entry.files.now (front ++ file.now ∷ rest)) }
+    ensures err { (front rest : List (Name × FileMetaData)) → AreAgreed held.now front
+        → IfErr result (IsBeginningFault held.now (front ++ file.now ∷ rest)) }
 {
     let Some(ours) = meta_of(held, &file.0) else {
         sorted.missing.push(file.0)?;
@@ -100,11 +74,6 @@ pub(crate) fn sort_out(
     ensures ok { IfOk result (λ s. AreSortedOut held.now files.now s.missing s.reused) }
     ensures err { IfErr result (IsBeginningFault held.now files.now) }
 {
-    let names = names_of(alloc, held)?;
-    let held = Held {
-        files: held,
-        names: names.as_slice(),
-    };
     let mut sorted = Sorted {
         missing: List::new(alloc),
         reused: List::new(alloc),

@@ -5,6 +5,7 @@ ghost use Rattle.std.specs.Prelude.{◌≡◌, ◌↔◌, IsTrue};
 use codec_frame::FrameFault;
 use segment_infos::{NameBytes, NoMemory, Share};
 use std::alloc::Global;
+use thiserror::Error;
 
 /// The index header of a file, its last sixteen bytes, its length, and its last eight bytes as a number.
 #[derive(Debug, Drop)]
@@ -27,9 +28,11 @@ impl Share for FileMetaData {
 }
 
 /// Why metadata is not read: the file's frame is refused, or the reader is out of memory.
-#[derive(Clone, Copy, Debug, PartialEq, Eq)]
+#[derive(Clone, Copy, Debug, PartialEq, Eq, Error)]
 pub enum MetaFault {
+    #[error(transparent)]
     Frame(FrameFault),
+    #[error("out of memory")]
     Memory,
 }
 

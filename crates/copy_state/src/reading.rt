@@ -6,6 +6,7 @@ ghost use Rattle.codec_frame.specs.declared.frame.FrameFault.{FrameFault};
 ghost use Rattle.copy_state.specs.Meta.{name_length, told_header, meta_fault, meta_fault_by, IsMetaOf};
 
 use crate::meta::{FileMetaData, MetaFault};
+use byteorder::{BigEndian, ByteOrder};
 use codec_frame::{FOOTER_LENGTH, FOOTER_MAGIC, FrameFault, HEADER_MAGIC};
 use segment_infos::NameBytes;
 use std::alloc::Global;
@@ -32,7 +33,7 @@ fn u32_of(bytes: &[u8], at: usize) -> u32
     requires { at + 4 ≤ length bytes.now }
     ensures { result ≡ be32_at bytes.now at }
 {
-    u32::from_be_bytes(array_of(bytes, at))
+    BigEndian::read_u32(&bytes[at..])
 }
 
 // How long the index header is that the bytes tell of.
@@ -101,7 +102,7 @@ fn meta_of(alloc: Global, bytes: &[u8]) -> Result<FileMetaData, MetaFault>
         header,
         footer: array_of(bytes, footer),
         length: bytes.len() as u64,
-        checksum: u64::from_be_bytes(array_of(bytes, footer + 8)),
+        checksum: BigEndian::read_u64(&bytes[footer + 8..]),
     })
 }
 

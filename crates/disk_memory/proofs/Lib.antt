@@ -1,5 +1,6 @@
 mod FlushLemmas
 mod RenameLemmas
+mod SettleLemmas
 mod TableLemmas
 mod WalkLemmas
 mod CellBridge

@@ -1,3 +1,4 @@
+pub mod Changed
 pub mod Crash
 pub mod Held
 pub mod Memory

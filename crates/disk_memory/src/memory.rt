@@ -5,21 +5,19 @@ ghost use Rattle.std.specs.Cmp.Lexicographic.{slice_cmp};
 ghost use Rattle.std.specs.Ordering.{nat_cmp};
 ghost use Rattle.std.specs.List.Sorted.{IsStrictlySortedBy};
 ghost use Rattle.disk_model.specs.Disk as model;
-ghost use Rattle.disk_model.specs.Disk.{is_among, BothRead, HasCrashed};
+ghost use Rattle.disk_model.specs.Disk.{is_among, BothRead, HasCrashed, restarted};
 ghost use Rattle.disk_model.specs.Faults.{CountsFaults, FailsByPlans, ended};
 ghost use Rattle.disk_memory.specs.Held.{untouched};
 ghost use Rattle.disk_memory.specs.Table.{table_after_write, table_after_remove, table_after_rename, table_after_sync, table_after_sync_names};
 ghost use Rattle.disk_memory.specs.Crash.{held_after_crash};
-ghost use Rattle.disk_memory.specs.Memory.{entries_of, table_of, plans_of, cells_in, faults_in, known_plans};
+ghost use Rattle.disk_memory.specs.Memory.{entries_of, table_of, plans_of, cells_in, faults_in, known_plans, image_in};
 
 use crate::plans::Planned;
-use crate::slot::Slot;
+use crate::slots::Slots;
 use crate::state::State;
-use crate::table;
 use bytes::Bytes;
 use disk_model::{Dir, DirFault, FaultDir, FileName, NoMemory};
 use std::alloc::Global;
-use std::collections::BTreeMap;
 
 /// A directory in memory. It shares the contents that it is given and gives, and copies none.
 ///
@@ -28,7 +26,7 @@ use std::collections::BTreeMap;
 #[derive(Drop)]
 pub struct MemDir {
     alloc: Global,
-    slots: BTreeMap<FileName, Slot>,
+    slots: Slots,
     plans: Planned,
 }
 
@@ -41,7 +39,7 @@ impl MemDir {
     {
         Ok(MemDir {
             alloc,
-            slots: BTreeMap::new(alloc),
+            slots: Slots::new(alloc),
             plans: Planned::new(),
         })
     }
@@ -55,7 +53,7 @@ impl Dir for MemDir {
     ghost plans = { known_plans };
 
     fn has(&self, name: &FileName) -> bool {
-        table::has(&self.slots, name)
+        self.slots.has(name)
     }
 
     fn list(&mut self) -> Result<Vec<FileName>, DirFault>
@@ -73,7 +71,7 @@ impl Dir for MemDir {
             self.plans.count();
             return Err(DirFault::Failed);
         }
-        let names = table::names(self.alloc, &self.slots)?;
+        let names = self.slots.names(self.alloc)?;
         self.plans.count();
         Ok(names)
     }
@@ -87,14 +85,14 @@ impl Dir for MemDir {
         ensures plans { FailsByPlans (known_plans self.old) (known_plans self.new) result }
         ensures entries { entries_of self.new ≡ entries_of self.old }
     {
-        if !table::has(&self.slots, name) {
+        if !self.slots.has(name) {
             return Err(DirFault::Missing);
         }
         if self.plans.is_met() {
             self.plans.count();
             return Err(DirFault::Failed);
         }
-        let bytes = table::load(&self.slots, name)?;
+        let bytes = self.slots.load(name)?;
         self.plans.count();
         Ok(bytes)
     }
@@ -107,15 +105,15 @@ impl Dir for MemDir {
         ensures plans { FailsByPlans (known_plans self.old) (known_plans self.new) result }
         ensures table { table_of self.new ≡ table_after_write (table_of self.old) name.now bytes result }
     {
-        if table::has(&self.slots, name) {
+        if self.slots.has(name) {
             return Err(DirFault::Exists);
         }
         if self.plans.is_met() {
-            table::half_set(self.alloc, &mut self.slots, name, State::Loose(bytes))?;
+            self.slots.half_set(self.alloc, name, State::Loose(bytes))?;
             self.plans.count();
             return Err(DirFault::Failed);
         }
-        table::set(self.alloc, &mut self.slots, name, State::Loose(bytes))?;
+        self.slots.set(self.alloc, name, State::Loose(bytes))?;
         self.plans.count();
         Ok(())
     }
@@ -130,14 +128,14 @@ impl Dir for MemDir {
         ensures plans { FailsByPlans (known_plans self.old) (known_plans self.new) result }
         ensures table { table_of self.new ≡ table_after_sync (table_of self.old) names.now result }
     {
-        if !table::has_all(&self.slots, names) {
+        if !self.slots.has_all(names) {
             return Err(DirFault::Missing);
         }
         if self.plans.is_met() {
             self.plans.count();
             return Err(DirFault::Failed);
         }
-        table::flush_all(&mut self.slots, names);
+        self.slots.flush_all(names);
         self.plans.count();
         Ok(())
     }
@@ -153,7 +151,7 @@ impl Dir for MemDir {
             self.plans.count();
             return Err(DirFault::Failed);
         }
-        table::settle_all(&mut self.slots);
+        self.slots.settle_all();
         self.plans.count();
         Ok(())
     }
@@ -168,18 +166,18 @@ impl Dir for MemDir {
         ensures table { table_of self.new
             ≡ table_after_rename (table_of self.old) from.now to.now result }
     {
-        if !table::has(&self.slots, from) {
+        if !self.slots.has(from) {
             return Err(DirFault::Missing);
         }
-        if table::has(&self.slots, to) {
+        if self.slots.has(to) {
             return Err(DirFault::Exists);
         }
         if self.plans.is_met() {
-            table::half_rename(self.alloc, &mut self.slots, from, to)?;
+            self.slots.half_rename(self.alloc, from, to)?;
             self.plans.count();
             return Err(DirFault::Failed);
         }
-        table::rename(self.alloc, &mut self.slots, from, to)?;
+        self.slots.rename(self.alloc, from, to)?;
         self.plans.count();
         Ok(())
     }
@@ -193,15 +191,15 @@ impl Dir for MemDir {
         ensures plans { FailsByPlans (known_plans self.old) (known_plans self.new) result }
         ensures table { table_of self.new ≡ table_after_remove (table_of self.old) name.now result }
     {
-        if !table::has(&self.slots, name) {
+        if !self.slots.has(name) {
             return Err(DirFault::Missing);
         }
         if self.plans.is_met() {
-            table::half_remove(&mut self.slots, name);
+            self.slots.half_remove(name);
             self.plans.count();
             return Err(DirFault::Failed);
         }
-        table::remove(&mut self.slots, name);
+        self.slots.remove(name);
         self.plans.count();
         Ok(())
     }
@@ -213,6 +211,8 @@ impl Dir for MemDir {
 
 impl FaultDir for MemDir {
     ghost planned = { plans_of };
+
+    ghost leaves = { image_in };
 
     ghost known = { λ m. refl };
 
@@ -245,15 +245,16 @@ impl FaultDir for MemDir {
     /// This takes no memory.
     fn crash(&mut self, pick: u64) -> Result<(), NoMemory>
         ensures image { OnOk result (HasCrashed (cells_in self.old) (cells_in self.new)) }
+        ensures picked { OnOk result (cells_in self.new ≡ restarted (image_in self.old pick)) }
         ensures plans { OnOk result (plans_of self.new ≡ ended (plans_of self.old)) }
         ensures faults { faults_in self.new ≡ faults_in self.old }
         ensures refused { OnErr result (cells_in self.new ≡ cells_in self.old) }
         ensures refused_plans { OnErr result (plans_of self.new ≡ plans_of self.old) }
         ensures always { IsOk result }
-        ensures picked { (q : List ℕ) → table_of self.new q
+        ensures table { (q : List ℕ) → table_of self.new q
             ≡ held_after_crash pick (entries_of self.old) q }
     {
-        table::crash_all(&mut self.slots, pick);
+        self.slots.crash_all(pick);
         self.plans.set_once(0);
         self.plans.set_stop(0);
         Ok(())

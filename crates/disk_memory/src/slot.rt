@@ -1,6 +1,7 @@
 //! One name of the disk: its state and its past outcomes.
 
-ghost use Rattle.std.specs.Prelude.{[], ◌≡◌, ◌+◌, ◌<◌, ◌≤◌, true, false, None, OnOk, OnErr, IfOk, IsOk, if◌then◌else◌, vec_len, vec_capacity, is_some, slice_index_or};
+ghost use Rattle.std.specs.Prelude.{[], ◌≡◌, ◌≢◌, ◌+◌, ◌<◌, ◌≤◌, true, false, None, OnOk, OnErr, IfOk, IsOk, if◌then◌else◌, vec_len, vec_capacity, is_some, slice_index_or};
+ghost use Rattle.std.specs.Bool.{OnTrue};
 ghost use Rattle.disk_memory.specs.Held.{untouched, content_of, outcome_of, ends_with, gain, set_to, with_outcome, held_flushed, held_settled};
 ghost use Rattle.disk_memory.specs.Crash.{picked, is_picked, started};
 
@@ -140,6 +141,13 @@ impl Slot {
         ensures { self.new ≡ held_settled self.old }
     {
         self.past.clear();
+    }
+
+    /// Whether there are past outcomes.
+    pub fn has_past(&self) -> bool
+        ensures { OnTrue result (self.now.past ≢ []) }
+    {
+        !self.past.is_empty()
     }
 
     /// Whether a crash has something to pick here.

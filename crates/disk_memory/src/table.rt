@@ -264,6 +264,47 @@ pub fn names(alloc: Global, slots: &BTreeMap<FileName, Slot>) -> Result<Vec<File
     Ok(names)
 }
 
+// Forgets the past outcomes of a name. Whether a file exists under it.
+fn settle_slot(slots: &mut BTreeMap<FileName, Slot>, name: &FileName) -> bool
+    ensures held { ChangesAt slots.old.entries slots.new.entries name.now held_settled }
+    ensures there { result ≡ is_some (reads_in slots.new.entries name.now) }
+{
+    match slots.get_mut(name) {
+        Some(slot) => {
+            slot.settle();
+            !slot.state().is_absent()
+        }
+        None => false,
+    }
+}
+
+// Forgets a name.
+fn forget(slots: &mut BTreeMap<FileName, Slot>, name: &FileName)
+    ensures { held_in slots.new.entries ≡ put (held_in slots.old.entries) name.now untouched }
+{
+    let _ = slots.remove(name);
+}
+
+// Forgets the past outcomes of a name, and the name where no file exists under it.
+fn settle(slots: &mut BTreeMap<FileName, Slot>, name: &FileName)
+    ensures { ChangesAt slots.old.entries slots.new.entries name.now held_settled }
+{
+    if !settle_slot(slots, name) {
+        forget(slots, name);
+    }
+}
+
+/// Forgets the past outcomes of these names, and those of them under which no file exists.
+pub fn settle_these(slots: &mut BTreeMap<FileName, Slot>, names: &[FileName])
+    ensures { (q : List ℕ) → held_in slots.new.entries q
+        ≡ (if is_among names.now q then held_settled (held_in slots.old.entries q)
+        else held_in slots.old.entries q) }
+{
+    for name in names {
+        settle(slots, name);
+    }
+}
+
 /// Forgets the past outcomes of every name, and the names under which no file exists.
 pub fn settle_all(slots: &mut BTreeMap<FileName, Slot>)
     ensures { (q : List ℕ) → held_in slots.new.entries q

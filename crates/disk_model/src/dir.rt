@@ -4,22 +4,27 @@ ghost use Rattle.std.specs.Prelude.{◌≡◌, ◌<◌, ◌≤◌, ◌↔◌, �
 ghost use Rattle.std.specs.Cmp.Lexicographic.{slice_cmp};
 ghost use Rattle.std.specs.Ordering.{nat_cmp};
 ghost use Rattle.std.specs.List.Sorted.{IsStrictlySortedBy};
-ghost use Rattle.disk_model.specs.Disk.{Cell, Cells, Content, is_among, after_write, after_remove, after_rename, after_sync, after_sync_names, reads_of, first_missing, BothRead, HasCrashed};
+ghost use Rattle.disk_model.specs.Disk.{Cell, Cells, Content, is_among, after_write, after_remove, after_rename, after_sync, after_sync_names, reads_of, first_missing, BothRead, Image, HasCrashed, restarted};
 ghost use Rattle.disk_model.specs.Faults.{Plans, CountsFaults, FailsByPlans, ended, faults_met};
 
 use bytes::Bytes;
 use file_names::{FileName, NoMemory};
+use thiserror::Error;
 
 /// Why a call of a directory is refused. Missing is looked at before Exists, and both before Failed.
-#[derive(Clone, Copy, Debug, PartialEq, Eq)]
+#[derive(Clone, Copy, Debug, PartialEq, Eq, Error)]
 pub enum DirFault {
     /// Out of memory. All is as before.
+    #[error("out of memory")]
     Memory,
     /// A name that is loaded, synced, renamed from or removed does not exist. All is as before.
+    #[error("the file does not exist")]
     Missing,
     /// The name of a new file, or the target of a rename, exists. All is as before.
+    #[error("a file of this name exists already")]
     Exists,
     /// The disk failed. What reads now is as before.
+    #[error("the disk failed")]
     Failed,
 }
 
@@ -128,6 +133,9 @@ pub trait FaultDir: Dir {
     /// The plans.
     ghost planned: { Self → Plans };
 
+    /// The image that a crash with this number leaves.
+    ghost leaves: { Self → ℕ → Image };
+
     /// The k-th counted call from now fails once. This takes the place of the plan before.
     fn plan(&mut self, k: u64)
         requires { 0 < k }
@@ -149,6 +157,7 @@ pub trait FaultDir: Dir {
     /// A crash leaves an image, and ends the plans. The number picks among the images.
     fn crash(&mut self, pick: u64) -> Result<(), NoMemory>
         ensures image { OnOk result (HasCrashed (Self.cells self.old) (Self.cells self.new)) }
+        ensures picked { OnOk result (Self.cells self.new ≡ restarted (leaves self.old pick)) }
         ensures plans { OnOk result (planned self.new ≡ ended (planned self.old)) }
         ensures faults { Self.faults self.new ≡ Self.faults self.old }
         ensures refused { OnErr result (Self.cells self.new ≡ Self.cells self.old) }

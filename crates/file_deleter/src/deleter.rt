@@ -16,13 +16,16 @@ use bytes::Bytes;
 use disk_model::{Dir, DirFault, FileName, NoMemory, first_missing};
 use std::alloc::Global;
 use std::marker::Model;
+use thiserror::Error;
 
 /// Why names are not counted.
-#[derive(Clone, Copy, Debug, PartialEq, Eq)]
+#[derive(Clone, Copy, Debug, PartialEq, Eq, Error)]
 pub enum HoldFault {
     /// Out of memory, or a count would pass the end of its type. All is as before.
+    #[error("out of memory")]
     Memory,
     /// The directory lacks this name, the first such in order. All is as before.
+    #[error("the file {0} does not exist")]
     Absent(FileName),
 }
 

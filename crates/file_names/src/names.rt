@@ -14,6 +14,7 @@ use std::cmp::Ordering;
 use std::fmt;
 use std::hash::{Hash, Hasher};
 use std::marker::Model;
+use thiserror::Error;
 
 const LONGEST: usize = 64;
 
@@ -40,13 +41,16 @@ impl Model for FileName {
 }
 
 /// Why bytes are no file's name.
-#[derive(Clone, Copy, Debug, PartialEq, Eq)]
+#[derive(Clone, Copy, Debug, PartialEq, Eq, Error)]
 pub enum NameFault {
     /// There are none.
+    #[error("a name of a file is empty")]
     Empty,
     /// There are this many, more than 64.
+    #[error("a name of a file has {0} bytes, at most 64")]
     Long(usize),
     /// The first byte that no name may have stands at this place, from 0.
+    #[error("a name of a file has small letters, digits, `_` and `.` alone, not so at offset {0}")]
     Byte(usize),
 }
 
@@ -110,12 +114,19 @@ impl FileName {
 }
 
 /// The name as it is.
-impl fmt::Debug for FileName {
+impl fmt::Display for FileName {
     fn fmt<W: fmt::Write>(&self, f: &mut fmt::Formatter<W>) -> fmt::Result {
         for byte in self.as_slice() {
             write!(f, "{}", *byte as char)?;
         }
         Ok(())
+    }
+}
+
+/// The name as it is.
+impl fmt::Debug for FileName {
+    fn fmt<W: fmt::Write>(&self, f: &mut fmt::Formatter<W>) -> fmt::Result {
+        write!(f, "{self}")
     }
 }
 

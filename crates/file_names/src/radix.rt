@@ -3,17 +3,22 @@ ghost use Rattle.std.specs.List.{list_all};
 ghost use Rattle.file_names.specs.Base36.{is_base36_digit, digit_value, base36_value, has_leading_zero, first_not_digit, base36_of, SpellsBase36, IsLedByZero, SpellsTooLarge};
 
 use crate::numeral::Base36;
+use thiserror::Error;
 
 /// Why bytes are no number in base 36.
-#[derive(Clone, Copy, Debug, PartialEq, Eq)]
+#[derive(Clone, Copy, Debug, PartialEq, Eq, Error)]
 pub enum Base36Fault {
     /// There are none.
+    #[error("a number in base 36 has no digit")]
     Empty,
     /// The first byte that is no digit stands at this place, from 0.
+    #[error("a number in base 36 has the digits 0-9 and a-z alone, not so at offset {0}")]
     Digit(usize),
     /// A zero stands before other digits.
+    #[error("a number in base 36 begins with a zero that it does not need")]
     LeadingZero,
     /// The number is above 2^64 - 1.
+    #[error("a number in base 36 is above 18446744073709551615")]
     TooLarge,
 }
 

@@ -4,24 +4,23 @@ use Rattle.std.proofs.lemmas.List.{reverse-append}
 use Rattle.std.specs.List.{slice_get}
 use Rattle.nrt_base.specs.declared.numbers.At.{At}
 use Rattle.nrt_base.specs.declared.numbers.NodeNo.{NodeNo}
-use Rattle.history_entries.specs.declared.entry.Entry.{Entry}
-use Rattle.history_entries.specs.declared.entry.Event.{Event}
-use Rattle.history_entries.specs.Nodes.{Past, is_at}
-use Rattle.history_entries.specs.Lines.{same_at, start_entry, publish_in_flight}
-use Rattle.history_entries.specs.Points.{accepted_at_start}
-use Rattle.history_entries.specs.Tickets.{Ticket, ticket_by}
-use Rattle.history_entries.specs.Commits.{starts_commit}
-use Rattle.history_entries.specs.Legal.{KeepsRule, IsLegalPast}
+use Rattle.history_rules.specs.declared.entry.Entry.{Entry}
+use Rattle.history_rules.specs.declared.entry.Event.{Event}
+use Rattle.history_rules.specs.Nodes.{Past, is_at}
+use Rattle.history_rules.specs.Lines.{same_at, start_entry, publish_in_flight}
+use Rattle.history_rules.specs.Points.{accepted_at_start}
+use Rattle.history_rules.specs.Tickets.{Ticket, ticket_by}
+use Rattle.history_rules.specs.Commits.{starts_commit}
+use Rattle.history_rules.specs.Legal.{KeepsRule, IsLegalPast}
 use Rattle.history_tables.specs.declared.numbers.Numbers.{Numbers}
 use Rattle.history_tables.specs.declared.rows.NodeRow.{NodeRow}
 use Rattle.history_tables.specs.declared.lines.Begun.{Begun}
 use Rattle.history_tables.specs.declared.lines.LineRow.{LineRow}
-use Rattle.history_tables.specs.declared.tickets.TicketRow.{TicketRow}
 use Rattle.history_tables.specs.Begins.{event_of, open_line, begun_under, begun_by}
 use Rattle.history_tables.specs.Numbering.{NumbersTell, IsFound}
-use Rattle.history_tables.specs.NodeRows.{NodeTells, IsTold, RowsTell, AreRowsLow}
+use Rattle.history_tables.specs.NodeRows.{NodeTells, KnowsPlace, RowsTell, AreRowsLow}
 use Rattle.history_tables.specs.WorkRows.{IsCommitter}
-use Rattle.history_tables.specs.Openings.{opened_of, IsLife}
+use Rattle.history_tables.specs.Openings.{TicketRow, opened_of, IsLife}
 use Rattle.history_tables.specs.declared.jobs.JobRow.{JobRow}
 use Rattle.history_tables.specs.declared.jobs.JobStep.{JobStep}
 use Rattle.history_tables.specs.declared.jobs.KeyedJob.{KeyedJob}
@@ -34,6 +33,7 @@ use Rattle.history_book.specs.declared.inner.Mark.TheVariants.{Kept}
 use Rattle.history_book.specs.Log.{Log, Pages, FaultsFollow, FollowsMerging, printed, weave, marks, mark_for, stop_for}
 use Rattle.history_book.specs.Turns.{InTurn, AreInTurn}
 use Rattle.history_book.specs.Tells.{Tells, IsWoven}
+use Rattle.history_book.specs.Told.{IsTold}
 use Rattle.history_book.proofs.LineLaws.{flying, open_started}
 use Rattle.history_book.proofs.CopyLaws.{knows_newest}
 
@@ -75,7 +75,7 @@ pub tells_next : (size : ℕ) (past : Past) (at : At) (e : Event) (count : ℕ) 
     → Tells past size count k rows lines tickets → KeepsRule size past at e → InTurn past at e
     → ((p : Past) → length p ≡ count → IsFound at p e started → NumbersTell p k → NumbersTell (record { at = at; event = e } ∷ p) k') → IsFound at past e started
     → length rows' ≡ length rows
-    → ((p : Past) → IsTold p at e count k.primary line → RowsTell p rows → RowsTell (record { at = at; event = e } ∷ p) rows') → IsCommitter at past e line
+    → ((p : Past) → KnowsPlace p at e count k.primary line → RowsTell p rows → RowsTell (record { at = at; event = e } ∷ p) rows') → IsCommitter at past e line
     → ((b : At) → begun_under lines' b ≡ (if same_at at b then begun_by e count k.accepted (begun_under lines b) else begun_under lines b))
     → ((p : Past) (l t : ℕ) → IsLife e p life → opened_of tickets' l t ≡ ticket_by l t at e p (opened_of tickets l t)) → IsLife e past life
     → Tells (record { at = at; event = e } ∷ past) size (count + 1) k' rows' lines' tickets'
@@ -188,13 +188,14 @@ holds_kept i step before size old new at_nodes nodes' of_lanes lanes' is does co
 pub opened : (size : ℕ) (stops : List Stop) (es : List Entry) (numbers : Numbers) (rows : List NodeRow) (lines : List LineRow) (tickets : List TicketRow) (at_nodes of_lanes : List KeyedJob)
     → stops ≡ [] → es ≡ [] → NumbersTell [] numbers → length rows ≡ size → RowsTell [] rows → lines ≡ [] → tickets ≡ [] → at_nodes ≡ [] → of_lanes ≡ []
     → IsWoven (reverse stops) (reverse es) (length es) × Tells (printed (weave (reverse stops) (reverse es))) size (length es) numbers rows lines tickets
-    × HoldsJobs size (weave (reverse stops) (reverse es)) at_nodes of_lanes
+    × HoldsJobs size (weave (reverse stops) (reverse es)) at_nodes of_lanes × IsTold (weave (reverse stops) (reverse es))
 opened size stops es numbers rows lines tickets at_nodes of_lanes s e n count r l t x y =
     subst
     (λ (p : List Stop × List Entry × List LineRow × List TicketRow × List KeyedJob × List KeyedJob). IsWoven (reverse p.0) (reverse p.1) (length p.1)
-    × Tells (printed (weave (reverse p.0) (reverse p.1))) size (length p.1) numbers rows p.2 p.3 × HoldsJobs size (weave (reverse p.0) (reverse p.1)) p.4 p.5)
+    × Tells (printed (weave (reverse p.0) (reverse p.1))) size (length p.1) numbers rows p.2 p.3 × HoldsJobs size (weave (reverse p.0) (reverse p.1)) p.4 p.5 × IsTold (weave (reverse p.0) (reverse p.1)))
     (λ i. (sym s i, sym e i, sym l i, sym t i, sym x i, sym y i)) (
       record { printed_count = refl; faults = tt },
       record { legal = tt; turns = tt; entries = refl; nodes = count; numbers_tell = n; rows_tell = r; lines_tell = λ at. refl; tickets_tell = λ lane k. refl },
       record { turns = tt; nodes_tell = λ k. refl; lanes_tell = λ k. refl },
+      tt,
     )

@@ -6,16 +6,16 @@ use Rattle.std.proofs.lemmas.Bool.{eqb-true, eq-eqb, or_left, or_right}
 use Rattle.nrt_base.specs.declared.numbers.At.{At}
 use Rattle.nrt_base.specs.declared.numbers.NodeNo.{NodeNo}
 use Rattle.nrt_base.specs.declared.numbers.Version.{Version}
-use Rattle.history_entries.specs.declared.entry.Entry.{Entry}
-use Rattle.history_entries.specs.declared.entry.Event.{Event}
-use Rattle.history_entries.specs.declared.entry.Event.TheVariants.{Publishing, Copying, Switched, Settling, Opened, Asking, Committing, Crashed, Fault}
-use Rattle.history_entries.specs.Nodes.{Past, crashes, version_of}
-use Rattle.history_entries.specs.Lines.{same_at, is_start, start_entry, before_start, without_at, commit_in_flight}
-use Rattle.history_entries.specs.Commits.{starts_commit, was_searched_since}
-use Rattle.history_entries.specs.Points.{operations_of_generation}
-use Rattle.history_entries.specs.Rules.{MayStartCommit, MayCommit}
-use Rattle.history_entries.specs.Legal.{KeepsRule, IsLegalPast}
-use Rattle.history_laws.specs.Steps.{crashes_by, commit_by}
+use Rattle.history_rules.specs.declared.entry.Entry.{Entry}
+use Rattle.history_rules.specs.declared.entry.Event.{Event}
+use Rattle.history_rules.specs.declared.entry.Event.TheVariants.{Publishing, Copying, Switched, Settling, Opened, Asking, Committing, Crashed, Fault}
+use Rattle.history_rules.specs.Nodes.{Past, crashes, version_of}
+use Rattle.history_rules.specs.Lines.{same_at, is_start, start_entry, before_start, without_at, commit_in_flight}
+use Rattle.history_rules.specs.Commits.{starts_commit, was_searched_since}
+use Rattle.history_rules.specs.Points.{operations_of_generation}
+use Rattle.history_rules.specs.Rules.{MayStartCommit, MayCommit}
+use Rattle.history_rules.specs.Legal.{KeepsRule, IsLegalPast}
+use Rattle.history_rules.specs.Steps.{crashes_by, commit_by}
 use Rattle.history_tables.proofs.RowLemmas.{by_test, same_at_self}
 use Rattle.history_tables.specs.Begins.{begun_by, open_line}
 use Rattle.history_book.specs.Turns.{StartsOnce, InTurn, AreInTurn}

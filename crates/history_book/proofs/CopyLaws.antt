@@ -2,12 +2,12 @@
 use Rattle.std.proofs.Common.{◌≡◌, ◌≤◌, ◌<◌, ◌+◌, ◌&&◌, ◌||◌, ◌==◌, ℕ, Bool, true, false, [], ◌∷◌, Some, None, max, refl, ap, ◌∙◌, arith, if◌then◌else◌}
 use Rattle.std.proofs.lemmas.Bool.Decides.{nat_tests}
 use Rattle.nrt_base.specs.declared.numbers.At.{At}
-use Rattle.history_entries.specs.declared.entry.Event.{Event}
-use Rattle.history_entries.specs.declared.entry.Event.TheVariants.{Published, Copying, Crashed, Promoted}
-use Rattle.history_entries.specs.Nodes.{Past, is_at, primary_of, newest_version}
-use Rattle.history_entries.specs.Lines.{is_reply, without_at, copy_in_flight}
-use Rattle.history_entries.specs.Legal.{KeepsRule, IsLegalPast}
-use Rattle.history_laws.specs.Steps.{newest_by, copy_by}
+use Rattle.history_rules.specs.declared.entry.Event.{Event}
+use Rattle.history_rules.specs.declared.entry.Event.TheVariants.{Published, Copying, Crashed, Promoted}
+use Rattle.history_rules.specs.Nodes.{Past, is_at, primary_of, newest_version}
+use Rattle.history_rules.specs.Lines.{is_reply, without_at, copy_in_flight}
+use Rattle.history_rules.specs.Legal.{KeepsRule, IsLegalPast}
+use Rattle.history_rules.specs.Steps.{newest_by, copy_by}
 use Rattle.history_tables.specs.WorkRows.{IsUncopied, KnowsNewest}
 
 copy_step : (size n v : ℕ) (past : Past) (at : At) (e : Event) → KeepsRule size past at e → newest_by e (newest_version past) < v

@@ -6,20 +6,20 @@ use Rattle.std.proofs.lemmas.Bool.{eqb-true, eq-eqb}
 use Rattle.nrt_base.specs.declared.numbers.At.{At}
 use Rattle.nrt_base.specs.declared.numbers.NodeNo.{NodeNo}
 use Rattle.nrt_base.specs.declared.numbers.Version.{Version}
-use Rattle.history_entries.specs.declared.cause.Cause.{Cause}
-use Rattle.history_entries.specs.declared.cause.Cause.TheVariants.{DiskFault}
-use Rattle.history_entries.specs.declared.entry.Entry.{Entry}
-use Rattle.history_entries.specs.declared.entry.Event.{Event}
-use Rattle.history_entries.specs.declared.entry.Event.TheVariants.{Publishing, Published, Copying, Switched, Settling, Opened, Asking, Committing, Committed, Crashed, Reopened, Promoted, Fault, Refused}
-use Rattle.history_entries.specs.Nodes.{Past, is_at, primary_of, is_running, crashes, version_of}
-use Rattle.history_entries.specs.Lines.{same_at, is_start, is_reply, start_entry, before_start, without_at, commit_in_flight}
-use Rattle.history_entries.specs.Commits.{is_disk_fault, starts_commit, is_stuck, late_commit, more_by, reopenable_versions}
-use Rattle.history_entries.specs.Points.{operations_of_generation}
-use Rattle.history_entries.specs.Rules.{MayRefuseLine}
-use Rattle.history_entries.specs.Legal.{KeepsRule, IsLegalPast}
-use Rattle.history_laws.specs.Steps.{is_running_by, crashes_by, commit_by}
-use Rattle.history_laws.proofs.NodeLemmas.{crashes_rise}
-use Rattle.history_laws.proofs.CommitLemmas.{more_found}
+use Rattle.history_rules.specs.declared.cause.Cause.{Cause}
+use Rattle.history_rules.specs.declared.cause.Cause.TheVariants.{DiskFault}
+use Rattle.history_rules.specs.declared.entry.Entry.{Entry}
+use Rattle.history_rules.specs.declared.entry.Event.{Event}
+use Rattle.history_rules.specs.declared.entry.Event.TheVariants.{Publishing, Published, Copying, Switched, Settling, Opened, Asking, Committing, Committed, Crashed, Reopened, Promoted, Fault, Refused}
+use Rattle.history_rules.specs.Nodes.{Past, is_at, primary_of, is_running, crashes, version_of}
+use Rattle.history_rules.specs.Lines.{same_at, is_start, is_reply, start_entry, before_start, without_at, commit_in_flight}
+use Rattle.history_rules.specs.Commits.{is_disk_fault, starts_commit, is_stuck, late_commit, more_by, reopenable_versions}
+use Rattle.history_rules.specs.Points.{operations_of_generation}
+use Rattle.history_rules.specs.Rules.{MayRefuseLine}
+use Rattle.history_rules.specs.Legal.{KeepsRule, IsLegalPast}
+use Rattle.history_rules.specs.Steps.{is_running_by, crashes_by, commit_by}
+use Rattle.history_rules.proofs.NodeLemmas.{crashes_rise}
+use Rattle.history_rules.proofs.CommitLemmas.{more_found}
 use Rattle.history_tables.proofs.RowLemmas.{by_test, same_at_self, same_at_is}
 use Rattle.history_tables.specs.Begins.{begin, begun_by, open_line}
 use Rattle.history_tables.specs.declared.lines.Start.TheVariants.{Searching as SearchStart}

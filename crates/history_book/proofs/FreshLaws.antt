@@ -2,13 +2,13 @@
 use Rattle.std.proofs.Common.{◌≡◌, ◌≢◌, ◌&&◌, ◌||◌, ◌==◌, Bool, true, false, [], ◌∷◌, Some, None, Option, length, refl, ap, ◌∙◌, subst, if◌then◌else◌}
 use Rattle.std.specs.Prelude.{not}
 use Rattle.nrt_base.specs.declared.numbers.At.{At}
-use Rattle.history_entries.specs.declared.entry.Entry.{Entry}
-use Rattle.history_entries.specs.declared.entry.Event.{Event}
-use Rattle.history_entries.specs.declared.entry.Event.TheVariants.{Publishing, Copying, Switched, Settling, Opened, Asking, Committing, Fault}
-use Rattle.history_entries.specs.Nodes.{Past}
-use Rattle.history_entries.specs.Lines.{same_at, is_start, is_reply, is_answered, entries_of_line, last_of_line, start_entry}
-use Rattle.history_entries.specs.Faults.{has_met_fault}
-use Rattle.history_entries.specs.Points.{operations_of_generation}
+use Rattle.history_rules.specs.declared.entry.Entry.{Entry}
+use Rattle.history_rules.specs.declared.entry.Event.{Event}
+use Rattle.history_rules.specs.declared.entry.Event.TheVariants.{Publishing, Copying, Switched, Settling, Opened, Asking, Committing, Fault}
+use Rattle.history_rules.specs.Nodes.{Past}
+use Rattle.history_rules.specs.Lines.{same_at, is_start, is_reply, is_answered, entries_of_line, last_of_line, start_entry}
+use Rattle.history_rules.specs.Faults.{has_met_fault}
+use Rattle.history_rules.specs.Points.{operations_of_generation}
 use Rattle.history_tables.specs.declared.lines.Start.TheVariants.{Searching as SearchStart}
 use Rattle.history_tables.specs.Begins.{begin, begun_by, open_line}
 use Rattle.history_book.specs.Turns.{StartsOnce, AreInTurn}

@@ -8,18 +8,20 @@ use Rattle.nrt_base.specs.declared.numbers.At.{At}
 use Rattle.nrt_base.specs.declared.numbers.LineNo.{LineNo}
 use Rattle.nrt_base.specs.declared.numbers.NodeNo.{NodeNo}
 use Rattle.nrt_base.specs.declared.numbers.Version.{Version}
-use Rattle.history_entries.specs.declared.entry.Entry.{Entry}
-use Rattle.history_entries.specs.declared.entry.Event.{Event}
-use Rattle.history_entries.specs.declared.entry.Event.TheVariants.{Published, Copying, Settling, Crashed, Reopened, Promoted}
-use Rattle.history_entries.specs.Nodes.{Past, primary_by, version_of, IsNode, IsReplica, is_at, primary_of, primary_crashes, is_running, crashes, newest_version, is_point, is_made_in_generation}
-use Rattle.history_entries.specs.Lines.{highest_copy, highest_switched, same_at, is_start, is_reply, is_answered, start_entry, before_start, NodeSurvives, SourceSurvives}
-use Rattle.history_entries.specs.Rules.{StartedCopy, MaySwitch, is_node_of, is_copied_beside, is_settled_beside, MayCancel}
-use Rattle.history_entries.specs.Legal.{KeepsRule, IsLegalPast}
-use Rattle.history_laws.proofs.PastLemmas.{point_stays, newest_made}
-use Rattle.history_laws.proofs.NodeLemmas.{known, crashes_rise, runs_through}
+use Rattle.history_rules.specs.declared.entry.Entry.{Entry}
+use Rattle.history_rules.specs.declared.entry.Event.{Event}
+use Rattle.history_rules.specs.declared.entry.Event.TheVariants.{Published, Copying, Settling, Crashed, Reopened, Promoted}
+use Rattle.history_rules.specs.Nodes.{Past, primary_by, version_of, IsNode, IsReplica, is_at, primary_of, primary_crashes, is_running, crashes, newest_version, is_point, is_made_in_generation}
+use Rattle.history_rules.specs.Commits.{is_passed}
+use Rattle.history_rules.specs.Lines.{highest_switched, same_at, is_start, is_reply, is_answered, start_entry, before_start, NodeSurvives, SourceSurvives}
+use Rattle.history_rules.specs.Rules.{StartedCopy, MaySwitch, MayCancel, IsWhole}
+use Rattle.history_rules.specs.Started.{is_node_of, is_copied_beside, is_settled_beside}
+use Rattle.history_rules.specs.Legal.{KeepsRule, IsLegalPast}
+use Rattle.history_rules.proofs.PastLemmas.{point_stays, newest_made}
+use Rattle.history_rules.proofs.NodeLemmas.{known, crashes_rise, runs_through}
 use Rattle.history_tables.specs.NodeRows.{crashed_at}
 use Rattle.history_tables.specs.Numbering.{primary_crashed}
-use Rattle.history_laws.specs.Steps.{is_running_by}
+use Rattle.history_rules.specs.Steps.{is_running_by}
 use Rattle.history_book.specs.Steps.{crashed_by, primary_crashed_by}
 use Rattle.history_book.specs.declared.inner.Inner.{Inner}
 use Rattle.history_book.specs.declared.inner.Inner.TheVariants.{JobBegun, JobEnd}
@@ -549,9 +551,9 @@ point_positive size (e ∷ past) v legal is = step e.event legal.0 is (point_pos
 
 -- the node of a job that is below the version of the line's start may switch to the job's
 pub job_switches : (size : ℕ) (past : Past) (row : JobRow) → IsLegalPast size past → LaneJobShows size past row → NodeSurvives past row.job.at row.job.node.0 → SourceSurvives past row.job.at
-    → version_of row.job.node.0 past < newest_version (before_start row.job.at past) → highest_copy row.job.node.0 past ≤ row.job.version.0 → highest_switched row.job.at past < row.job.node.0
+    → version_of row.job.node.0 past < newest_version (before_start row.job.at past) → is_passed row.job.node.0 row.job.version.0 past ≡ false → IsWhole size past row.job.at → highest_switched row.job.at past < row.job.node.0
     → MaySwitch size past row.job.at row.job.node row.job.version
-job_switches size past row legal s alive source below latest ordered =
+job_switches size past row legal s alive source below latest whole ordered =
     let high = s.newest in
     let one = point_positive size past (version_of row.job.node.0 past) legal ((known size past legal).version row.job.node.0) in
     record {
@@ -562,6 +564,7 @@ job_switches size past row legal s alive source below latest ordered =
       latest = latest;
       ordered = ordered;
       started = started (start_entry row.job.at past) refl s.started;
+      whole = whole;
       survives = alive;
       source = source;
     }

@@ -1,11 +1,12 @@
-pub mod LineLaws
-pub mod ReignLaws
-pub mod OpenLaws
-mod CopyLaws
-pub mod FreshLaws
-pub mod FoundLaws
-pub mod CommitLaws
-pub mod JobLaws
 mod BookLemmas
+pub mod CommitLaws
+mod CopyLaws
+pub mod FoundLaws
+pub mod FreshLaws
+pub mod JobLaws
+pub mod LineLaws
+pub mod OpenLaws
+pub mod ReignLaws
+pub mod ToldLaws
 mod Weaving
-pub mod Given
+mod WholeLaws

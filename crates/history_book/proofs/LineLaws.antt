@@ -1,22 +1,22 @@
 -- What is remembered of a line is how it started; the publish in flight.
 use Rattle.std.proofs.Common.{◌≡◌, ◌≢◌, ◌&&◌, ◌==◌, ℕ, Bool, true, false, true≢false, [], ◌∷◌, Some, None, Option, length, refl, ap, ◌∙◌, sym, subst, arith, if◌then◌else◌}
 use Rattle.std.specs.Prelude.{not, ⊤}
-use Rattle.history_entries.specs.Tickets.{Ticket, is_ticket, ticket_by, last_opened}
+use Rattle.history_rules.specs.Tickets.{Ticket, is_ticket, ticket_by, last_opened}
 use Rattle.std.proofs.lemmas.Bool.{eqb-true}
 use Rattle.std.proofs.lemmas.Bool.Decides.{nat_tests}
 use Rattle.std.proofs.Math.Bool.{and-true, and-false}
 use Rattle.nrt_base.specs.declared.numbers.At.{At}
-use Rattle.history_entries.specs.declared.entry.Entry.{Entry}
-use Rattle.history_entries.specs.declared.entry.Event.{Event}
-use Rattle.history_entries.specs.declared.entry.Event.TheVariants.{Publishing, Published, Copying, Switched, Settling, Opened, Closed, Asking, Committing, Crashed, Promoted, Fault}
-use Rattle.history_entries.specs.Nodes.{Past, IsNode, is_at, primary_of, primary_by, primary_crashes, newest_version, crashes}
-use Rattle.history_entries.specs.Lines.{same_at, is_start, start_entry, before_start, without_at, publish_in_flight}
-use Rattle.history_entries.specs.Points.{accepted_at_start, operations_of_generation, published_in_generation}
-use Rattle.history_entries.specs.Legal.{KeepsRule, IsLegalPast}
+use Rattle.history_rules.specs.declared.entry.Entry.{Entry}
+use Rattle.history_rules.specs.declared.entry.Event.{Event}
+use Rattle.history_rules.specs.declared.entry.Event.TheVariants.{Publishing, Published, Copying, Switched, Settling, Opened, Closed, Asking, Committing, Crashed, Promoted, Fault}
+use Rattle.history_rules.specs.Nodes.{Past, IsNode, is_at, primary_of, primary_by, primary_crashes, newest_version, crashes}
+use Rattle.history_rules.specs.Lines.{same_at, is_start, start_entry, before_start, without_at, publish_in_flight}
+use Rattle.history_rules.specs.Points.{accepted_at_start, operations_of_generation, published_in_generation}
+use Rattle.history_rules.specs.Legal.{KeepsRule, IsLegalPast}
 use Rattle.history_tables.specs.declared.lines.Begun.{Begun}
 use Rattle.history_tables.specs.declared.lines.Start.TheVariants.{Publishing as PublishStart, Searching as SearchStart}
 use Rattle.history_tables.specs.Begins.{begin, begun_by, open_line}
-use Rattle.history_laws.specs.Steps.{newest_by}
+use Rattle.history_rules.specs.Steps.{newest_by}
 use Rattle.history_book.specs.Steps.{primary_crashes_by, publish_by, published_by}
 use Rattle.history_book.specs.Turns.{StartsOnce, InTurn, AreInTurn}
 use Rattle.history_book.specs.Laws.{Started, Flying}

@@ -5,20 +5,20 @@ use Rattle.std.proofs.lemmas.Bool.{eqb-true, eq-eqb}
 use Rattle.nrt_base.specs.declared.numbers.At.{At}
 use Rattle.nrt_base.specs.declared.numbers.NodeNo.{NodeNo}
 use Rattle.nrt_base.specs.declared.numbers.Version.{Version}
-use Rattle.history_entries.specs.declared.entry.Entry.{Entry}
-use Rattle.history_entries.specs.declared.entry.Event.{Event}
-use Rattle.history_entries.specs.declared.entry.Event.TheVariants.{Publishing, Copying, Settling, Opened, Asking, Committing, Crashed, Fault}
-use Rattle.history_entries.specs.Nodes.{Past, is_at, primary_of, primary_crashes, crashes}
-use Rattle.history_entries.specs.Lines.{same_at, is_start, is_reply, last_of_line, start_entry, before_start, without_at, publish_in_flight, commit_in_flight, is_free_for, has_switched, highest_switched}
-use Rattle.history_entries.specs.Points.{operations_of_generation}
-use Rattle.history_laws.specs.Steps.{crashes_by, commit_by}
+use Rattle.history_rules.specs.declared.entry.Entry.{Entry}
+use Rattle.history_rules.specs.declared.entry.Event.{Event}
+use Rattle.history_rules.specs.declared.entry.Event.TheVariants.{Publishing, Copying, Settling, Opened, Asking, Committing, Crashed, Fault}
+use Rattle.history_rules.specs.Nodes.{Past, is_at, primary_of, primary_crashes, crashes}
+use Rattle.history_rules.specs.Lines.{same_at, is_start, is_reply, last_of_line, start_entry, before_start, without_at, publish_in_flight, commit_in_flight, is_free_for, has_switched, highest_switched}
+use Rattle.history_rules.specs.Points.{operations_of_generation}
+use Rattle.history_rules.specs.Steps.{crashes_by, commit_by}
 use Rattle.history_book.specs.Steps.{primary_crashes_by, publish_by, last_by, highest_by}
-use Rattle.history_entries.specs.Legal.{KeepsRule, IsLegalPast}
+use Rattle.history_rules.specs.Legal.{KeepsRule, IsLegalPast}
 use Rattle.history_tables.specs.Begins.{begun_by, open_line}
 use Rattle.history_tables.specs.declared.lines.Begun.{Begun}
 use Rattle.history_book.specs.Laws.{LastStarted}
 use Rattle.history_tables.proofs.RowLemmas.{by_test, same_at_is}
-use Rattle.history_laws.proofs.NodeLemmas.{crashes_rise}
+use Rattle.history_rules.proofs.NodeLemmas.{crashes_rise}
 use Rattle.history_book.proofs.ReignLaws.{node_crashes_rise, source_crashes_rise, primary_crashes_rise}
 
 -- an event that starts a line is remembered

@@ -7,20 +7,20 @@ use Rattle.std.proofs.Math.Seq.{take-length}
 use Rattle.nrt_base.specs.declared.numbers.At.{At}
 use Rattle.nrt_base.specs.declared.numbers.NodeNo.{NodeNo}
 use Rattle.documents.specs.declared.operation.Op.{Op}
-use Rattle.history_entries.specs.declared.entry.Event.{Event}
-use Rattle.history_entries.specs.declared.entry.Event.TheVariants.{Accepted, Publishing, Published, Crashed, Promoted}
-use Rattle.history_entries.specs.Nodes.{Past, is_at, primary_of, primary_crashes, newest_version, is_made_in_generation, crashes, version_of}
-use Rattle.history_entries.specs.Lines.{same_at, is_start, start_entry, before_start}
-use Rattle.history_entries.specs.Points.{accepted_at_start, published_in_generation, operations_of_generation, operations_at, operations_at_start, cut_of}
-use Rattle.history_tables.specs.Given.{operations_before_generation}
-use Rattle.history_entries.specs.Legal.{KeepsRule, IsLegalPast}
-use Rattle.history_laws.specs.Steps.{crashes_by}
+use Rattle.history_rules.specs.declared.entry.Event.{Event}
+use Rattle.history_rules.specs.declared.entry.Event.TheVariants.{Accepted, Publishing, Published, Crashed, Promoted}
+use Rattle.history_rules.specs.Nodes.{Past, is_at, primary_of, primary_crashes, newest_version, is_made_in_generation, crashes, version_of}
+use Rattle.history_rules.specs.Lines.{same_at, is_start, start_entry, before_start}
+use Rattle.history_rules.specs.Points.{accepted_at_start, published_in_generation, operations_of_generation, operations_at, operations_at_start, cut_of}
+use Rattle.history_facts.specs.Origins.{operations_before_generation}
+use Rattle.history_rules.specs.Legal.{KeepsRule, IsLegalPast}
+use Rattle.history_rules.specs.Steps.{crashes_by}
 use Rattle.history_book.specs.Steps.{primary_crashes_by, crashed_by, primary_crashed_by}
 use Rattle.history_tables.specs.NodeRows.{crashed_at}
 use Rattle.history_tables.specs.Numbering.{primary_crashed}
 use Rattle.history_book.specs.Laws.{Reigns, Written, Flying, Flushed}
-use Rattle.history_laws.proofs.PastLemmas.{legal_before}
-use Rattle.history_tables.proofs.Given.{written as base_written, started as start_written}
+use Rattle.history_rules.proofs.PastLemmas.{legal_before}
+use Rattle.history_facts.proofs.WrittenLemmas.{written as base_written, started as start_written}
 use Rattle.history_tables.proofs.RowLemmas.{same_at_is}
 
 -- the start entry of a line kept its rule

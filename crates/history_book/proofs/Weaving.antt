@@ -1,7 +1,7 @@
 -- The printed entries of a woven list.
 use Rattle.std.proofs.Common.{◌≡◌, List, [], ◌∷◌, length, reverse, refl, ap, ◌∙◌, sym, arith}
 use Rattle.std.proofs.lemmas.List.{length-reverse}
-use Rattle.history_entries.specs.declared.entry.Entry.{Entry}
+use Rattle.history_rules.specs.declared.entry.Entry.{Entry}
 use Rattle.history_book.specs.declared.inner.Stop.{Stop}
 use Rattle.history_book.specs.declared.inner.Stop.TheVariants.{Printed, Task, Inner as InnerStop}
 use Rattle.history_book.specs.Log.{printed, weave, marks}

@@ -2,11 +2,11 @@
 use Rattle.std.specs.Prelude.{ℕ, ◌≡◌, ◌≢◌, ◌≤◌, ◌<◌, List, [], ◌∷◌, Bool, true, false, Option, Some, None, ⊤, length, nat_le}
 use Rattle.nrt_base.specs.declared.numbers.At.{At}
 use Rattle.nrt_base.specs.declared.numbers.Version.{Version}
-use Rattle.history_entries.specs.declared.entry.Event.{Event}
-use Rattle.history_entries.specs.declared.entry.Event.TheVariants.{Copying, Settling}
-use Rattle.history_entries.specs.Nodes.{Past, IsNode, IsReplica, is_running, primary_of, newest_version, is_made_in_generation}
-use Rattle.history_entries.specs.Lines.{start_entry, before_start, NodeSurvives, SourceSurvives}
-use Rattle.history_entries.specs.Rules.{MayCancel}
+use Rattle.history_rules.specs.declared.entry.Event.{Event}
+use Rattle.history_rules.specs.declared.entry.Event.TheVariants.{Copying, Settling}
+use Rattle.history_rules.specs.Nodes.{Past, IsNode, IsReplica, is_running, primary_of, newest_version, is_made_in_generation}
+use Rattle.history_rules.specs.Lines.{start_entry, before_start, NodeSurvives, SourceSurvives}
+use Rattle.history_rules.specs.Rules.{MayCancel}
 use Rattle.history_tables.specs.declared.jobs.Job.{Job}
 use Rattle.history_tables.specs.declared.jobs.JobRow.{JobRow}
 use Rattle.history_tables.specs.declared.jobs.JobStep.{JobStep}

@@ -5,14 +5,14 @@ use Rattle.nrt_base.specs.declared.numbers.At.{At}
 use Rattle.nrt_base.specs.declared.numbers.NodeNo.{NodeNo}
 use Rattle.nrt_base.specs.declared.numbers.Version.{Version}
 use Rattle.documents.specs.declared.operation.Op.{Op}
-use Rattle.history_entries.specs.declared.entry.Event.{Event}
-use Rattle.history_entries.specs.declared.entry.Event.TheVariants.{Publishing, Committing}
-use Rattle.history_entries.specs.Nodes.{Past, version_of, primary_of, crashes, primary_crashes, generation_of, newest_version, is_made_in_generation}
-use Rattle.history_entries.specs.Lines.{start_entry, before_start, last_of_line, is_answered}
-use Rattle.history_entries.specs.Faults.{has_met_fault}
-use Rattle.history_entries.specs.Commits.{is_stuck, reopenable_versions}
-use Rattle.history_entries.specs.Points.{accepted_at_start, published_in_generation, operations_of_generation, operations_at, operations_at_start, operations_written, cut_of}
-use Rattle.history_tables.specs.Given.{operations_before_generation}
+use Rattle.history_rules.specs.declared.entry.Event.{Event}
+use Rattle.history_rules.specs.declared.entry.Event.TheVariants.{Publishing, Committing}
+use Rattle.history_rules.specs.Nodes.{Past, version_of, primary_of, crashes, primary_crashes, generation_of, newest_version, is_made_in_generation}
+use Rattle.history_rules.specs.Lines.{start_entry, before_start, last_of_line, is_answered}
+use Rattle.history_rules.specs.Faults.{has_met_fault}
+use Rattle.history_rules.specs.Commits.{is_stuck, reopenable_versions}
+use Rattle.history_rules.specs.Points.{accepted_at_start, published_in_generation, operations_of_generation, operations_at, operations_at_start, operations_written, cut_of}
+use Rattle.history_facts.specs.Origins.{operations_before_generation}
 use Rattle.history_tables.specs.declared.lines.Begun.{Begun}
 use Rattle.history_tables.specs.declared.lines.Start.TheVariants.{Publishing as PublishStart}
 use Rattle.history_tables.specs.Begins.{event_of, open_line}

@@ -1,7 +1,8 @@
-pub mod Log
-pub mod Turns
-pub mod Tells
-pub mod Laws
-pub mod Steps
 pub mod Jobs
-pub mod Given
+pub mod Laws
+pub mod Log
+pub mod Steps
+pub mod Tells
+pub mod Told
+pub mod ToldReads
+pub mod Turns

@@ -3,10 +3,10 @@
 use Rattle.std.specs.Prelude.{ℕ, ◌+◌, Option, Some, None, ◌==◌, max, if◌then◌else◌}
 use Rattle.nrt_base.specs.declared.numbers.At.{At}
 use Rattle.nrt_base.specs.declared.numbers.NodeNo.{NodeNo}
-use Rattle.history_entries.specs.declared.entry.Event.{Event}
-use Rattle.history_entries.specs.declared.entry.Event.TheVariants.{Publishing, Published, Switched, Crashed, Promoted, Fault}
-use Rattle.history_entries.specs.Nodes.{is_at}
-use Rattle.history_entries.specs.Lines.{is_reply, without_at}
+use Rattle.history_rules.specs.declared.entry.Event.{Event}
+use Rattle.history_rules.specs.declared.entry.Event.TheVariants.{Publishing, Published, Switched, Crashed, Promoted, Fault}
+use Rattle.history_rules.specs.Nodes.{is_at}
+use Rattle.history_rules.specs.Lines.{is_reply, without_at}
 
 abbrev pub primary_crashes_by : Event → Option NodeNo → ℕ → ℕ
 primary_crashes_by e p k = elim e [ Crashed m ↦ if is_at p m.0 then k + 1 else k | _ ↦ k ]

@@ -1,18 +1,17 @@
 -- What a book keeps at hand is what its entries show.
 use Rattle.std.specs.Prelude.{ℕ, ◌≡◌, List, length}
 use Rattle.nrt_base.specs.declared.numbers.At.{At}
-use Rattle.history_entries.specs.declared.entry.Entry.{Entry}
-use Rattle.history_entries.specs.Nodes.{Past}
-use Rattle.history_entries.specs.Tickets.{last_opened}
-use Rattle.history_entries.specs.Legal.{IsLegalPast}
+use Rattle.history_rules.specs.declared.entry.Entry.{Entry}
+use Rattle.history_rules.specs.Nodes.{Past}
+use Rattle.history_rules.specs.Tickets.{last_opened}
+use Rattle.history_rules.specs.Legal.{IsLegalPast}
 use Rattle.history_tables.specs.declared.numbers.Numbers.{Numbers}
 use Rattle.history_tables.specs.declared.rows.NodeRow.{NodeRow}
 use Rattle.history_tables.specs.declared.lines.LineRow.{LineRow}
-use Rattle.history_tables.specs.declared.tickets.TicketRow.{TicketRow}
 use Rattle.history_tables.specs.Begins.{open_line, begun_under}
 use Rattle.history_tables.specs.Numbering.{NumbersTell}
 use Rattle.history_tables.specs.NodeRows.{RowsTell}
-use Rattle.history_tables.specs.Openings.{opened_of}
+use Rattle.history_tables.specs.Openings.{TicketRow, opened_of}
 use Rattle.history_book.specs.Log.{FaultsFollow, marks, weave}
 use Rattle.history_book.specs.declared.inner.Stop.{Stop}
 use Rattle.history_book.specs.Turns.{AreInTurn}

@@ -1,10 +1,10 @@
 -- In which turn entries come: a line starts once, before its reply, and what ends is what is in flight.
 use Rattle.std.specs.Prelude.{◌≡◌, ◌≢◌, ◌⊎◌, [], ◌∷◌, Bool, true, false, Some, None, ⊤}
 use Rattle.nrt_base.specs.declared.numbers.At.{At}
-use Rattle.history_entries.specs.declared.entry.Event.{Event}
-use Rattle.history_entries.specs.declared.entry.Event.TheVariants.{Published, Committed, Refused}
-use Rattle.history_entries.specs.Nodes.{Past}
-use Rattle.history_entries.specs.Lines.{is_start, start_entry, is_answered, publish_in_flight, commit_in_flight}
+use Rattle.history_rules.specs.declared.entry.Event.{Event}
+use Rattle.history_rules.specs.declared.entry.Event.TheVariants.{Published, Committed, Refused}
+use Rattle.history_rules.specs.Nodes.{Past}
+use Rattle.history_rules.specs.Lines.{is_start, start_entry, is_answered, publish_in_flight, commit_in_flight}
 use Rattle.history_tables.specs.Begins.{open_line}
 
 -- the line has neither started nor its reply

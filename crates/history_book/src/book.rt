@@ -2,12 +2,12 @@
 
 ghost use Rattle.std.specs.Prelude.{ℕ, ◌≡◌, ◌<◌, Some, vec_len};
 ghost use Rattle.std.specs.List.{slice_get};
-ghost use Rattle.history_entries.specs.Nodes.{is_at};
-ghost use Rattle.history_entries.specs.Commits.{starts_commit};
+ghost use Rattle.history_rules.specs.Nodes.{is_at};
+ghost use Rattle.history_rules.specs.Commits.{starts_commit};
 ghost use Rattle.history_tables.specs.Begins.{event_of};
 
 use crate::inner::{Inner, Stop, job_step, stop_for};
-use history_entries::{Entry, Event, FaultKind, History};
+use history_rules::{Entry, Event, FaultKind, History};
 use history_tables::{
     Begun, Job, JobRow, JobTable, Lines, NodeRow, Numbers, Opening, Plans, Start, Tickets,
     first_rows, step_rows,
@@ -35,6 +35,7 @@ impl Model for Book {
     ghost use Rattle.history_book.specs.Log.{Pages, printed, weave};
     ghost use Rattle.history_book.specs.Tells.{IsWoven, Tells};
     ghost use Rattle.history_book.specs.Jobs.{HoldsJobs};
+    ghost use Rattle.history_book.specs.Told.{IsTold};
     ghost use Rattle.documents.specs.contracts.query.Query as query;
     ghost use Rattle.std.specs.Coded.{codes};
 
@@ -56,7 +57,8 @@ impl Model for Book {
         × Tells (printed (weave (reverse b.stops.items) (reverse b.entries.items))) b.nodes
         (length b.entries.items) b.numbers b.rows.items b.lines.rows b.tickets.rows
         × HoldsJobs b.nodes (weave (reverse b.stops.items) (reverse b.entries.items))
-        b.node_jobs.rows b.lane_jobs.rows };
+        b.node_jobs.rows b.lane_jobs.rows
+        × IsTold (weave (reverse b.stops.items) (reverse b.entries.items)) };
 }
 
 // the row at this place
@@ -84,14 +86,14 @@ fn commit_node(start: Start) -> Option<NodeNo>
 
 impl Book {
     ghost use Rattle.std.specs.Prelude.{ℕ, ◌≤◌, ◌<◌, ◌≡◌, ◌≢◌, ◌⊎◌, ◌+◌, ◌∷◌, [], ◌==◌, nat_lt, true, false, None, Some, IfSome, IfOk, OnOk, length, reverse};
-    ghost use Rattle.history_entries.specs.Nodes.{IsNode, IsReplica, is_at, crashes, primary_crashes, primary_of, newest_version, generation_of, accepted_count, is_running, version_of};
-    ghost use Rattle.history_entries.specs.Lines.{SourceSurvives, NodeSurvives, is_start, is_answered, entries_of_line, last_of_line, start_entry, before_start, publish_in_flight, commit_in_flight, copy_in_flight, highest_copy, highest_switched, has_switched};
-    ghost use Rattle.history_entries.specs.Points.{operations_of_generation, accepted_at_start, published_in_generation, names_drawn, merges_started, idle_publishes, cut_of, cut_has_put};
-    ghost use Rattle.history_entries.specs.Commits.{has_committed, is_stuck, starts_commit};
-    ghost use Rattle.history_entries.specs.Rules.{MaySwitch, MayCommit};
-    ghost use Rattle.history_entries.specs.Tasks.{merge_count, drained_count};
-    ghost use Rattle.history_entries.specs.Legal.{KeepsRule, IsLegalPast};
-    ghost use Rattle.history_entries.specs.Tickets.{open_ticket, last_opened};
+    ghost use Rattle.history_rules.specs.Nodes.{IsNode, IsReplica, is_at, crashes, primary_crashes, primary_of, newest_version, generation_of, accepted_count, is_running, version_of};
+    ghost use Rattle.history_rules.specs.Lines.{SourceSurvives, NodeSurvives, is_start, is_answered, entries_of_line, last_of_line, start_entry, before_start, publish_in_flight, commit_in_flight, copy_in_flight, highest_switched, has_switched};
+    ghost use Rattle.history_rules.specs.Points.{operations_of_generation, accepted_at_start, published_in_generation, names_drawn, merges_started, idle_publishes, cut_of, cut_has_put};
+    ghost use Rattle.history_rules.specs.Commits.{has_committed, is_stuck, starts_commit, is_passed};
+    ghost use Rattle.history_rules.specs.Rules.{MaySwitch, MayCommit, IsWhole};
+    ghost use Rattle.history_rules.specs.Tasks.{merge_count, drained_count};
+    ghost use Rattle.history_rules.specs.Legal.{KeepsRule, IsLegalPast};
+    ghost use Rattle.history_rules.specs.Tickets.{open_ticket, last_opened};
     ghost use Rattle.history_tables.specs.Begins.{open_line};
     ghost use Rattle.history_tables.specs.Numbering.{IsFound, primary_crashed};
     ghost use Rattle.history_tables.specs.NodeRows.{NodeTells, crashed_at};
@@ -100,6 +102,7 @@ impl Book {
     ghost use Rattle.history_tables.specs.Openings.{IsLife, opens_ticket, ticket_of};
     ghost use Rattle.history_book.specs.Log.{printed, shown, kept, mark_for, FaultsFollow, FollowsMerging};
     ghost use Rattle.history_book.specs.Turns.{InTurn, AreInTurn};
+    ghost use Rattle.history_book.specs.Told.{IsSo, IsTold};
     ghost use Rattle.history_book.specs.Laws.{Reigns, Written, LastStarted, Flying, Flushed, IsFresh, CommitFound, CommitFlies};
     ghost use Rattle.history_tables.specs.JobRows.{is_begin, while_going};
     ghost use Rattle.history_book.specs.Jobs.{job_step, last_job, job_at, job_of, IsInside, LaneJobShows};
@@ -128,6 +131,7 @@ impl Book {
         ensures legal { IsLegalPast self.now.nodes (printed self.now.log) }
         ensures turns { AreInTurn (printed self.now.log) }
         ensures faults { FaultsFollow self.now.log }
+        ensures told { IsTold self.now.log }
     {
         let _numbers = &self.numbers;
     }
@@ -155,6 +159,7 @@ impl Book {
         requires ticket { opens_ticket event ≡ true → 1 ≤ self.old.places }
         requires rule { KeepsRule self.old.nodes (printed self.old.log) at event }
         requires turn { InTurn (printed self.old.log) at event }
+        requires told { IsSo self.old.log at event }
         ensures log { self.new.log ≡ shown at event ∷ self.old.log }
         ensures nodes { self.new.nodes ≡ self.old.nodes }
         ensures room { self.new.room + 1 ≡ self.old.room }
@@ -187,6 +192,7 @@ impl Book {
         requires rule { KeepsRule self.old.nodes (printed self.old.log) at event }
         requires turn { InTurn (printed self.old.log) at event }
         requires merge { by_task ≡ true → FollowsMerging at event (printed self.old.log) }
+        requires told { by_task ≡ false → IsSo self.old.log at event }
         ensures log { self.new.log ≡ mark_for by_task (record { at = at; event = event })
             ∷ self.old.log }
         ensures nodes { self.new.nodes ≡ self.old.nodes }
@@ -367,7 +373,7 @@ impl Book {
     }
 
     // how many entries stood before the start of a line
-    fn before(&self, at: At) -> usize
+    pub(crate) fn before(&self, at: At) -> usize
         requires line { open_line at (printed self.now.log) ≢ None }
         ensures { result ≡ length (before_start at (printed self.now.log)) }
     {
@@ -570,14 +576,6 @@ impl Book {
         self.row(n).work.copying
     }
 
-    /// The greatest version of a copy to a node that was started, or 1.
-    pub fn highest_copy(&self, n: NodeNo) -> u64
-        requires { IsNode self.now.nodes n.0 }
-        ensures { result ≡ highest_copy n.0 (printed self.now.log) }
-    {
-        self.row(n).work.highest
-    }
-
     /// Whether a disk fault refused a commit of a node, and neither was one acknowledged since nor
     /// did it reopen.
     pub fn is_stuck(&self, n: NodeNo) -> bool
@@ -726,7 +724,9 @@ impl Book {
         requires source { SourceSurvives (printed self.now.log) row.job.at }
         requires below { version_of row.job.node.0 (printed self.now.log)
             < newest_version (before_start row.job.at (printed self.now.log)) }
-        requires latest { highest_copy row.job.node.0 (printed self.now.log) ≤ row.job.version.0 }
+        requires latest { is_passed row.job.node.0 row.job.version.0 (printed self.now.log)
+            ≡ false }
+        requires whole { IsWhole self.now.nodes (printed self.now.log) row.job.at }
         requires ordered { highest_switched row.job.at (printed self.now.log) < row.job.node.0 }
         ensures { MaySwitch self.now.nodes (printed self.now.log) row.job.at row.job.node
             row.job.version }

@@ -6,7 +6,7 @@ ghost use Rattle.history_book.specs.Log.{stop_for};
 
 use bytes::Bytes;
 use file_names::FileName;
-use history_entries::Entry;
+use history_rules::Entry;
 use history_tables::{Job, JobStep};
 use nrt_base::{At, LineNo, List, NodeNo, SegNo, Version};
 use seg_reader::Segment;
@@ -39,9 +39,10 @@ pub enum Inner {
         seg: SegNo,
         inputs: List<Segment>,
     },
-    /// That merge has ended.
+    /// That merge has ended, cut over or not.
     MergeEnd {
         seg: SegNo,
+        cut: bool,
     },
     /// A job of a copy or a settle began, or with no version that of a merge.
     JobBegun {

@@ -1,11 +1,14 @@
-//! What happened in a cluster: printed entries and those of inner work as one list, and what the printed ones show.
+//! The book of a run: its entries and inner work in one list, kept legal, with what each entry tells.
 #![tactic(auto)]
 
-pub mod book;
-pub mod inner;
-#[cfg(test)]
-mod tests;
+mod book;
+mod inner;
+pub mod laws;
+mod whole;
 
 pub use book::Book;
-pub use history_tables::{Begun, Job, JobRow, Opening, Start};
+pub use history_tables::{Job, JobRow, Opening, Start};
 pub use inner::{Inner, Mark, Step, Stop};
+
+#[cfg(test)]
+mod tests;

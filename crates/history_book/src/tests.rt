@@ -1,7 +1,8 @@
 //! A book from its opening to its history.
 
-use super::*;
-use history_entries::Event;
+use crate::book::Book;
+use crate::inner::Inner;
+use history_rules::Event;
 use nrt_base::{At, LaneNo, LineNo, NodeNo};
 use std::test::Fail;
 

@@ -1,8 +1,8 @@
 -- Whether a name is of a segment that was drawn, by the one segment that it is of.
 use Rattle.std.proofs.Common.{◌≡◌, ℕ, ◌↔◌, Bool, true, false, Option, Some, None, IsTrue, sym, ap, ◌∙◌}
 use Rattle.nrt_base.specs.declared.numbers.SegNo.{SegNo}
-use Rattle.history_entries.specs.Nodes.{Past}
-use Rattle.history_entries.specs.Points.{is_drawn}
+use Rattle.history_rules.specs.Nodes.{Past}
+use Rattle.history_rules.specs.Points.{is_drawn}
 
 one_segment : (s t : SegNo) → ◌≡◌ {A = Option SegNo} (Some s) (Some t) → s.0 ≡ t.0
 one_segment s t e = cc

@@ -2,10 +2,10 @@
 use Rattle.std.proofs.Common.{◌≡◌, ℕ, [], ◌∷◌, refl}
 use Rattle.std.specs.Prelude.{is_some, Bool, true, false, ◌||◌, ◌==◌, if◌then◌else◌, Option, Some, None}
 use Rattle.nrt_base.specs.declared.numbers.At.{At}
-use Rattle.history_entries.specs.declared.entry.Event.{Event}
-use Rattle.history_entries.specs.declared.entry.Event.TheVariants.{Opened, Closed}
-use Rattle.history_entries.specs.Nodes.{Past, crashes}
-use Rattle.history_entries.specs.Tickets.{Ticket, is_ticket, ticket_by, last_opened, while_alive, open_ticket, IsTicketOf}
+use Rattle.history_rules.specs.declared.entry.Event.{Event}
+use Rattle.history_rules.specs.declared.entry.Event.TheVariants.{Opened, Closed}
+use Rattle.history_rules.specs.Nodes.{Past, crashes}
+use Rattle.history_rules.specs.Tickets.{Ticket, is_ticket, ticket_by, last_opened, while_alive, open_ticket, IsTicketOf}
 use Rattle.history_facts.specs.Openings.{opens_by, was_opened}
 
 opened_test : (none this was : Bool) (old : Option Ticket) (ticket : Ticket) → (is_some old ≡ true → was ≡ true)

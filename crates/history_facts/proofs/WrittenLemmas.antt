@@ -5,14 +5,14 @@ use Rattle.std.specs.Prelude.{Bool, true, false, ◌&&◌, if◌then◌else◌}
 use Rattle.std.proofs.lemmas.Grind.{common_steps}
 use Rattle.nrt_base.specs.declared.numbers.At.{At}
 use Rattle.documents.specs.declared.operation.Op.{Op}
-use Rattle.history_entries.specs.declared.entry.Event.{Event}
-use Rattle.history_entries.specs.declared.entry.Event.TheVariants.{Accepted, Promoted}
-use Rattle.history_entries.specs.Nodes.{Past, accepted_count}
-use Rattle.history_entries.specs.Lines.{same_at, is_start, before_start}
-use Rattle.history_entries.specs.Points.{operations_written, operations_at_start, operations_at, operations_of_generation}
-use Rattle.history_laws.specs.Steps.{written_by, accepted_ops_by}
+use Rattle.history_rules.specs.declared.entry.Event.{Event}
+use Rattle.history_rules.specs.declared.entry.Event.TheVariants.{Accepted, Promoted}
+use Rattle.history_rules.specs.Nodes.{Past, accepted_count}
+use Rattle.history_rules.specs.Lines.{same_at, is_start, before_start}
+use Rattle.history_rules.specs.Points.{operations_written, operations_at_start, operations_at, operations_of_generation}
+use Rattle.history_rules.specs.Steps.{written_by, accepted_ops_by}
 use Rattle.history_facts.specs.Origins.{operations_base_by, operations_before_generation}
-use Rattle.history_laws.proofs.PointLemmas.{length-documents_at-le, operations_counted}
+use Rattle.history_rules.proofs.PointLemmas.{length-documents_at-le, operations_counted}
 
 written_step : (e : Event) (past : Past) (points : ℕ → List Op) (base own written : List Op) → written ≡ base ++ own
     → written_by e past points written ≡ operations_base_by e past points base ++ accepted_ops_by e own

@@ -5,8 +5,8 @@ use Rattle.std.specs.List.{list_any}
 use Rattle.std.specs.Ordering.{nat_cmp}
 use Rattle.history_facts.specs.declared.generation.Generation.{Generation}
 use Rattle.documents.specs.Documents.{is_put}
-use Rattle.history_entries.specs.Nodes.{Past, generation_of}
-use Rattle.history_entries.specs.Points.{published_in_generation, operations_of_generation, names_drawn, names_drawn_in, merges_started, idle_publishes}
+use Rattle.history_rules.specs.Nodes.{Past, generation_of}
+use Rattle.history_rules.specs.Points.{published_in_generation, operations_of_generation, names_drawn, names_drawn_in, merges_started, idle_publishes}
 
 -- the numbers are those of the present generation, and none is above the number of entries
 pub record ShowsGeneration (past : Past) (g : Generation) : Type 0 where

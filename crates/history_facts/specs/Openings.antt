@@ -1,11 +1,11 @@
 -- Which tickets the entries before a place opened, and what the open ones hold.
 use Rattle.std.specs.Prelude.{ℕ, ◌≡◌, [], ◌∷◌, reverse, Bool, true, false, ◌||◌}
 use Rattle.nrt_base.specs.declared.numbers.At.{At}
-use Rattle.history_entries.specs.declared.entry.Event.{Event}
-use Rattle.history_entries.specs.declared.entry.Event.TheVariants.{Opened}
-use Rattle.history_entries.specs.Nodes.{Past, crashes}
-use Rattle.history_entries.specs.Tickets.{Ticket, is_ticket, open_ticket, IsTicketOf}
-use Rattle.history_entries.specs.Rules.{has_documents}
+use Rattle.history_rules.specs.declared.entry.Event.{Event}
+use Rattle.history_rules.specs.declared.entry.Event.TheVariants.{Opened}
+use Rattle.history_rules.specs.Nodes.{Past, crashes}
+use Rattle.history_rules.specs.Tickets.{Ticket, is_ticket, open_ticket, IsTicketOf}
+use Rattle.history_rules.specs.Points.{has_documents}
 use Rattle.history_facts.specs.declared.tickets.Opening.{Opening}
 
 -- the ticket of an opening: its node and version, and how often the node had crashed before it

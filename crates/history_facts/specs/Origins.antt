@@ -1,12 +1,12 @@
 -- Where the operations of a point come from.
 use Rattle.std.specs.Prelude.{ℕ, ◌+◌, List, [], ◌∷◌, length, reverse}
 use Rattle.documents.specs.declared.operation.Op.{Op}
-use Rattle.history_entries.specs.declared.entry.Event.{Event}
-use Rattle.history_entries.specs.declared.entry.Event.TheVariants.{Promoted}
+use Rattle.history_rules.specs.declared.entry.Event.{Event}
+use Rattle.history_rules.specs.declared.entry.Event.TheVariants.{Promoted}
 use Rattle.history_facts.specs.declared.written.Origin.{Origin}
 use Rattle.history_facts.specs.declared.written.Origin.TheVariants.{Nothing, Written, Searched}
-use Rattle.history_entries.specs.Nodes.{Past, version_of}
-use Rattle.history_entries.specs.Points.{operations_at, operations_written}
+use Rattle.history_rules.specs.Nodes.{Past, version_of}
+use Rattle.history_rules.specs.Points.{operations_at, operations_written}
 
 -- none, those written after some entries, or those of the version that a node searched after some entries
 abbrev pub operations_from : Origin → List Op

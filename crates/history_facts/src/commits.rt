@@ -1,13 +1,13 @@
 ghost use Rattle.std.specs.Prelude.{◌≡◌, ◌==◌, ◌∷◌, ℕ, List, None, if◌then◌else◌, reverse};
 ghost use Rattle.std.specs.Option.{option_copied};
 ghost use Rattle.std.specs.List.{list_any};
-ghost use Rattle.history_entries.specs.Nodes.{primary_of};
-ghost use Rattle.history_entries.specs.Commits.{has_committed, is_disk_fault, starts_commit, is_stuck, late_commit, reopenable_versions, was_searched_since};
-ghost use Rattle.history_laws.specs.Steps.{commit_by, is_stuck_by};
+ghost use Rattle.history_rules.specs.Nodes.{primary_of};
+ghost use Rattle.history_rules.specs.Commits.{has_committed, is_disk_fault, starts_commit, is_stuck, late_commit, reopenable_versions, was_searched_since, is_refused_by_disk, passes, is_passed};
+ghost use Rattle.history_rules.specs.Steps.{commit_by, is_stuck_by};
 
 use crate::lines::{commit_after, is_start, same_at, start_entry};
 use crate::nodes::{Searched, is_at};
-use history_entries::{Cause, Entry, Event};
+use history_rules::{Cause, Entry, Event};
 use nrt_base::{At, NodeNo, Version};
 
 /// Whether a commit of the node was acknowledged, or found by a reopening.
@@ -151,4 +151,34 @@ pub fn was_searched_since(at: At, n: NodeNo, version: Version, entries: &[Entry]
         }
     }
     was
+}
+
+/// Whether a fault of a disk refused a line.
+fn is_refused_by_disk(at: At, entries: &[Entry]) -> bool
+    ensures { result ≡ is_refused_by_disk at (reverse entries.now) }
+{
+    let mut refused = false;
+    for entry in entries {
+        if let Event::Refused { cause } = &entry.event {
+            if is_disk_fault(cause) && same_at(entry.at, at) {
+                refused = true;
+            }
+        }
+    }
+    refused
+}
+
+/// Whether a copy to a node above this version was started that no fault of a disk refused.
+pub fn is_passed(n: NodeNo, v: Version, entries: &[Entry]) -> bool
+    ensures { result ≡ is_passed n.0 v.0 (reverse entries.now) }
+{
+    let mut passed = false;
+    for entry in entries {
+        if let Event::Copying { n: m, v: w } = &entry.event {
+            if m.0 == n.0 && v.0 < w.0 && !is_refused_by_disk(entry.at, entries) {
+                passed = true;
+            }
+        }
+    }
+    passed
 }

@@ -1,8 +1,8 @@
 //! Which segment names the generations of a history have drawn.
 
 ghost use Rattle.std.specs.Prelude.{◌≡◌, ◌==◌, ◌↔◌, ℕ, if◌then◌else◌, IsTrue, OnOk};
-ghost use Rattle.history_entries.specs.Nodes.{Past};
-ghost use Rattle.history_entries.specs.Points.{is_drawn, IsDrawnFile, IsDrawnTemporary};
+ghost use Rattle.history_rules.specs.Nodes.{Past};
+ghost use Rattle.history_rules.specs.Points.{is_drawn, IsDrawnFile, IsDrawnTemporary};
 ghost use Rattle.history_facts.specs.Generations.{drawn_in, ShowsDrawn};
 
 use crate::generation::Generation;

@@ -1,8 +1,8 @@
 ghost use Rattle.std.specs.Prelude.{◌≡◌, reverse};
-ghost use Rattle.history_entries.specs.Faults.{kind_of, same_kind, is_of_disk, is_planned, has_met_fault};
+ghost use Rattle.history_rules.specs.Faults.{kind_of, same_kind, is_of_disk, is_planned, has_met_fault, has_file_fault, has_just_failed, fails_now};
 
-use crate::lines::same_at;
-use history_entries::{Entry, Event, FaultKind, FaultPlan};
+use crate::lines::{is_start, same_at};
+use history_rules::{Entry, Event, FaultKind, FaultPlan};
 use nrt_base::{At, NodeNo};
 
 fn kind_of(plan: FaultPlan) -> FaultKind
@@ -76,4 +76,40 @@ pub fn has_met_fault(at: At, entries: &[Entry]) -> bool
         }
     }
     met
+}
+
+/// Whether a line has met a fault of the link, or a damage, in a file for a node.
+pub fn has_file_fault(n: NodeNo, at: At, entries: &[Entry]) -> bool
+    ensures { result ≡ has_file_fault n.0 at (reverse entries.now) }
+{
+    let mut met = false;
+    for entry in entries {
+        if let Event::Fault { n: m, kind } = &entry.event {
+            if m.0 == n.0 && !is_of_disk(*kind) && same_at(entry.at, at) {
+                met = true;
+            }
+        }
+    }
+    met
+}
+
+/// Whether the newest entry is a fault of a disk that a line met, or is the line's start entry right behind one.
+pub fn fails_now(at: At, entries: &[Entry]) -> bool
+    ensures { result ≡ fails_now at (reverse entries.now) }
+{
+    let mut failed = false;
+    let mut fails = false;
+    for entry in entries {
+        let now = match &entry.event {
+            Event::Fault { kind, .. } => is_of_disk(*kind) && same_at(entry.at, at),
+            _ => false,
+        };
+        fails = if is_start(&entry.event) && same_at(entry.at, at) {
+            failed
+        } else {
+            now
+        };
+        failed = now;
+    }
+    fails
 }

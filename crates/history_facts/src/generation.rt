@@ -2,12 +2,12 @@ ghost use Rattle.std.specs.Prelude.{◌≡◌, ◌≤◌, ◌<◌, ◌+◌, ◌^
 ghost use Rattle.nrt_base.specs.SegNumbers.{segment_number};
 ghost use Rattle.nrt_base.specs.declared.numbers.Version.{Version};
 ghost use Rattle.documents.specs.Documents.{is_put};
-ghost use Rattle.history_entries.specs.Points.{operations_of_generation, cut_of, idle_publishes, merges_started};
+ghost use Rattle.history_rules.specs.Points.{operations_of_generation, cut_of, idle_publishes, merges_started};
 ghost use Rattle.history_facts.specs.Generations.{ShowsGeneration};
 
 use crate::lines::before_start;
 use documents::Op;
-use history_entries::{Entry, Event};
+use history_rules::{Entry, Event};
 use nrt_base::{At, Gen, SegNo};
 
 /// What the entries before a place show of the present generation.

@@ -1,10 +1,10 @@
 ghost use Rattle.std.specs.Prelude.{◌≡◌, ◌↔◌, ◌≤◌, reverse, length, IsTrue};
 ghost use Rattle.std.specs.Option.{option_copied};
-ghost use Rattle.history_entries.specs.Lines.{same_at, is_start, is_reply, is_answered, start_entry, before_start, last_of_line, without_at, publish_in_flight, commit_in_flight, copy_in_flight, is_free_for, highest_copy, has_switched, highest_switched, NodeSurvives, SourceSurvives};
-ghost use Rattle.history_laws.specs.Steps.{commit_by, copy_by};
+ghost use Rattle.history_rules.specs.Lines.{same_at, is_start, is_reply, is_answered, start_entry, before_start, last_of_line, without_at, publish_in_flight, commit_in_flight, copy_in_flight, is_free_for, has_switched, has_just_switched, highest_switched, NodeSurvives, SourceSurvives};
+ghost use Rattle.history_rules.specs.Steps.{commit_by, copy_by};
 
 use crate::nodes::{Searched, crashes, is_at, primary_of};
-use history_entries::{Entry, Event};
+use history_rules::{Entry, Event};
 use nrt_base::{At, NodeNo, Version};
 
 /// Whether the two are one line of the script.
@@ -262,21 +262,6 @@ pub fn is_free_for(at: At, line: Option<At>) -> bool
     }
 }
 
-/// The greatest version of a copy to a node that was started, or 1.
-pub fn highest_copy(n: NodeNo, entries: &[Entry]) -> u64
-    ensures { result ≡ highest_copy n.0 (reverse entries.now) }
-{
-    let mut highest: u64 = 1;
-    for entry in entries {
-        if let Event::Copying { n: m, v } = &entry.event {
-            if m.0 == n.0 {
-                highest = highest.max(v.0);
-            }
-        }
-    }
-    highest
-}
-
 /// The greatest node that a line has switched since its start entry, or 0.
 pub fn highest_switched(at: At, entries: &[Entry]) -> u8
     ensures { result ≡ highest_switched at (reverse entries.now) }
@@ -299,4 +284,18 @@ pub fn has_switched(at: At, entries: &[Entry]) -> bool
     ensures { result ≡ has_switched at (reverse entries.now) }
 {
     highest_switched(at, entries) > 0
+}
+
+/// Whether the newest entry switched a replica for a line.
+pub fn has_just_switched(at: At, entries: &[Entry]) -> bool
+    ensures { result ≡ has_just_switched at (reverse entries.now) }
+{
+    let mut switched = false;
+    for entry in entries {
+        switched = match &entry.event {
+            Event::Switched { .. } => same_at(entry.at, at),
+            _ => false,
+        };
+    }
+    switched
 }

@@ -1,8 +1,8 @@
 ghost use Rattle.std.specs.Prelude.{◌≡◌, ◌↔◌, ◌≤◌, reverse, length, IsTrue, []};
-ghost use Rattle.history_entries.specs.Nodes.{IsNode, IsReplica, is_at, primary_by, primary_of, primary_crashes, is_running, crashes, version_of, newest_version, is_made_in_generation, is_point, accepted_count};
-ghost use Rattle.history_laws.specs.Steps.{version_by};
+ghost use Rattle.history_rules.specs.Nodes.{IsNode, IsReplica, is_at, primary_by, primary_of, primary_crashes, is_running, crashes, version_of, newest_version, is_made_in_generation, is_point, accepted_count};
+ghost use Rattle.history_rules.specs.Steps.{version_by};
 
-use history_entries::{Entry, Event};
+use history_rules::{Entry, Event};
 use nrt_base::{NodeNo, Version};
 
 /// Whether this node is the one.

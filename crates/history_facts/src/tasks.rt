@@ -1,9 +1,9 @@
 //! The merges that a history shows, and the tasks that were done for them.
 
 ghost use Rattle.std.specs.Prelude.{◌≡◌, ◌≤◌, ◌*◌, ◌^◌, reverse, length};
-ghost use Rattle.history_entries.specs.Tasks.{merge_count, drained_count};
+ghost use Rattle.history_rules.specs.Tasks.{merge_count, drained_count};
 
-use history_entries::{Entry, Event};
+use history_rules::{Entry, Event};
 
 /// How many merges were started.
 pub fn merge_count(entries: &[Entry]) -> usize

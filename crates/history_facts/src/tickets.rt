@@ -1,9 +1,9 @@
 ghost use Rattle.std.specs.Prelude.{◌≡◌, ◌↔◌, reverse, IsTrue, IsSomeAnd, MatchOption};
 ghost use Rattle.history_facts.specs.Openings.{opening_of};
-ghost use Rattle.history_entries.specs.Tickets.{last_opened, open_ticket, has_ticket, IsTicketOf};
+ghost use Rattle.history_rules.specs.Tickets.{last_opened, open_ticket, has_ticket, IsTicketOf};
 
 use crate::nodes::crashes;
-use history_entries::{Entry, Event};
+use history_rules::{Entry, Event};
 use nrt_base::{At, LaneNo, NodeNo, TicketNo, Version};
 
 /// An opening of a ticket.

@@ -1,13 +1,13 @@
 ghost use Rattle.std.specs.Prelude.{◌≡◌, ◌≤◌, ◌+◌, ◌∷◌, ◌++◌, reverse, length, IfOk, OnOk};
-ghost use Rattle.history_entries.specs.Nodes.{accepted_count};
-ghost use Rattle.history_entries.specs.Points.{operations_written, operations_at, operations_of_generation, documents_at};
+ghost use Rattle.history_rules.specs.Nodes.{accepted_count};
+ghost use Rattle.history_rules.specs.Points.{operations_written, operations_at, operations_of_generation, documents_at};
 ghost use Rattle.history_facts.specs.Origins.{operations_from, operations_before_generation, size_of};
 
 use crate::generation::accepted_in_generation;
 use crate::lines::before_start;
 use crate::nodes::{accepted_count, version_of};
 use documents::{Op, apply};
-use history_entries::{Entry, Event};
+use history_rules::{Entry, Event};
 use nrt_base::{Doc, NoMemory, NodeNo, Share, Version};
 use std::alloc::Global;
 

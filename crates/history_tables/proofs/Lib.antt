@@ -1,4 +1,3 @@
 pub mod RowLemmas
 mod NodeRowLemmas
 mod JobRowLemmas
-pub mod Given

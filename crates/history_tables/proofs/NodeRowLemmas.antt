@@ -4,7 +4,7 @@ use Rattle.std.proofs.Math.ListN.{set}
 use Rattle.std.proofs.lemmas.Bool.Decides.{nat_tests}
 use Rattle.std.proofs.lemmas.Option.{slice_get_within}
 use Rattle.std.specs.List.{slice_get}
-use Rattle.history_entries.specs.Nodes.{Past}
+use Rattle.history_rules.specs.Nodes.{Past}
 use Rattle.history_tables.specs.declared.rows.NodeRow.{NodeRow}
 use Rattle.history_tables.specs.NodeRows.{NodeTells, RowsTell, told_by}
 

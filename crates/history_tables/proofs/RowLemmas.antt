@@ -1,21 +1,21 @@
--- Rows of lines and of tickets after a removal, and after one more.
-use Rattle.std.proofs.Common.{◌≡◌, ◌&&◌, ◌==◌, ◌++◌, ℕ, Bool, true, false, List, [], ◌∷◌, Some, None, refl, ap, ◌∙◌, arith, if◌then◌else◌}
+-- Rows of lines after a removal and after one more, and what rows of tickets say then.
+use Rattle.std.proofs.Common.{◌≡◌, ◌&&◌, ◌==◌, ◌++◌, ℕ, Bool, true, false, true≢false, List, [], ◌∷◌, Option, Some, None, refl, sym, ap, ◌∙◌, arith, if◌then◌else◌}
 use Rattle.std.specs.Prelude.{not}
 use Rattle.std.specs.List.{filter}
+use Rattle.std.specs.Option.{option_map}
+use Rattle.std.specs.Map.{lookup}
+use Rattle.std.specs.Prelude.{Result, Ok, Err, IsOk, OnOk}
 use Rattle.std.proofs.lemmas.Bool.Decides.{nat_tests}
 use Rattle.nrt_base.specs.declared.numbers.At.{At}
-use Rattle.nrt_base.specs.declared.numbers.LaneNo.{LaneNo}
-use Rattle.nrt_base.specs.declared.numbers.TicketNo.{TicketNo}
 use Rattle.history_tables.specs.declared.tickets.Opening.{Opening}
-use Rattle.history_entries.specs.declared.cause.Cause.{Cause}
-use Rattle.history_entries.specs.declared.entry.Event.TheVariants.{Refused}
-use Rattle.history_entries.specs.Nodes.{Past}
-use Rattle.history_entries.specs.Lines.{same_at}
+use Rattle.history_rules.specs.declared.cause.Cause.{Cause}
+use Rattle.history_rules.specs.declared.entry.Event.TheVariants.{Refused}
+use Rattle.history_rules.specs.Nodes.{Past}
+use Rattle.history_rules.specs.Lines.{same_at}
 use Rattle.history_tables.specs.declared.lines.Begun.{Begun}
 use Rattle.history_tables.specs.declared.lines.LineRow.{LineRow}
-use Rattle.history_tables.specs.declared.tickets.TicketRow.{TicketRow}
 use Rattle.history_tables.specs.Begins.{begun_under, open_line}
-use Rattle.history_tables.specs.Openings.{opened_of, ticket_of}
+use Rattle.history_tables.specs.Openings.{TicketRow, ticket_of, is_key, opened_of}
 
 -- a fact by which way a test went
 pub by_test : (b : Bool) (P : Bool → Type 0) → (b ≡ true → P true) → (b ≡ false → P false) → P b
@@ -39,15 +39,8 @@ row_without : (rows : List LineRow) (at b : At) → begun_under (filter (λ r. n
 row_without [] at b = grind (arith, nat_tests)
 row_without (r ∷ rows) at b = grind (arith, nat_tests, row_without rows at b)
 
-opened_without : (rows : List TicketRow) (lane number l t : ℕ) → opened_of (filter (λ r. not ((r.lane.0 == lane) && (r.number.0 == number))) rows) l t ≡ (if (lane == l) && (number == t) then None else opened_of rows l t)
-opened_without [] lane number l t = grind (arith, nat_tests)
-opened_without (r ∷ rows) lane number l t = grind (arith, nat_tests, opened_without rows lane number l t)
-
 pub row_kept : (old new : List LineRow) (at b : At) → new ≡ filter (λ r. not (same_at r.at at)) old → begun_under new b ≡ (if same_at at b then None else begun_under old b)
 row_kept old new at b e = ap (λ rows. begun_under rows b) e ∙ row_without old at b
-
-pub opened_kept : (old new : List TicketRow) (lane number l t : ℕ) → new ≡ filter (λ r. not ((r.lane.0 == lane) && (r.number.0 == number))) old → opened_of new l t ≡ (if (lane == l) && (number == t) then None else opened_of old l t)
-opened_kept old new lane number l t e = ap (λ rows. opened_of rows l t) e ∙ opened_without old lane number l t
 
 row_end : (rows : List LineRow) (r : LineRow) (b : At) → begun_under rows r.at ≡ None → begun_under (rows ++ r ∷ []) b ≡ (if same_at r.at b then Some r.begun else begun_under rows b)
 row_end [] r b fresh = refl
@@ -63,18 +56,14 @@ pub row_last : (old new : List LineRow) (at : At) (begun : Begun) (b : At) → n
     → begun_under new b ≡ (if same_at at b then Some begun else begun_under old b)
 row_last old new at begun b e fresh = ap (λ rows. begun_under rows b) e ∙ row_end old (record { at = at; begun = begun }) b fresh
 
-opened_end : (rows : List TicketRow) (r : TicketRow) (l t : ℕ) → opened_of rows r.lane.0 r.number.0 ≡ None
-    → opened_of (rows ++ r ∷ []) l t ≡ (if (r.lane.0 == l) && (r.number.0 == t) then Some (ticket_of r.opening) else opened_of rows l t)
-opened_end [] r l t fresh = refl
-opened_end (q ∷ rows) r l t fresh = ends ((q.lane.0 == r.lane.0) && (q.number.0 == r.number.0)) refl fresh (opened_end rows r l t)
-  where
-    ends : (s : Bool) → ((q.lane.0 == r.lane.0) && (q.number.0 == r.number.0)) ≡ s → (if s then Some (ticket_of q.opening) else opened_of rows r.lane.0 r.number.0) ≡ None
-        → (opened_of rows r.lane.0 r.number.0 ≡ None → opened_of (rows ++ r ∷ []) l t ≡ (if (r.lane.0 == l) && (r.number.0 == t) then Some (ticket_of r.opening) else opened_of rows l t))
-        → (if (q.lane.0 == l) && (q.number.0 == t) then Some (ticket_of q.opening) else opened_of (rows ++ r ∷ []) l t)
-        ≡ (if (r.lane.0 == l) && (r.number.0 == t) then Some (ticket_of r.opening) else if (q.lane.0 == l) && (q.number.0 == t) then Some (ticket_of q.opening) else opened_of rows l t)
-    ends true is none more = absurd (cc)
-    ends false is none more = let rest = more none in grind (arith, nat_tests, rest, is)
+-- what holds where a call succeeds, of one that did
+pub when_ok : {T E P : Type 0} (r : Result T E) → IsOk r → OnOk r P → P
+when_ok (Ok x) ok so = so
+when_ok (Err e) ok so = absurd (true≢false (sym ok))
 
-pub opened_last : (old new : List TicketRow) (lane : LaneNo) (number : TicketNo) (opening : Opening) (l t : ℕ) → new ≡ old ++ record { lane = lane; number = number; opening = opening } ∷ [] → opened_of old lane.0 number.0 ≡ None
-    → opened_of new l t ≡ (if (lane.0 == l) && (number.0 == t) then Some (ticket_of opening) else opened_of old l t)
-opened_last old new lane number opening l t e fresh = ap (λ rows. opened_of rows l t) e ∙ opened_end old (record { lane = lane; number = number; opening = opening }) l t fresh
+-- what a table of tickets says after one of them is opened or closed
+pub opened_by : (b : Bool) (one : Option Opening) (old new : List TicketRow) (l t : ℕ)
+    → lookup (is_key l t) new ≡ (if b then one else lookup (is_key l t) old)
+    → opened_of new l t ≡ (if b then option_map ticket_of one else opened_of old l t)
+opened_by true one old new l t is = ap (option_map ticket_of) is
+opened_by false one old new l t is = ap (option_map ticket_of) is

@@ -1,11 +1,11 @@
 -- How lines have started, and what is remembered of those that have no reply.
 use Rattle.std.specs.Prelude.{ℕ, List, [], ◌∷◌, Option, Some, None, length, ◌==◌, if◌then◌else◌}
 use Rattle.nrt_base.specs.declared.numbers.At.{At}
-use Rattle.history_entries.specs.declared.entry.Event.{Event}
-use Rattle.history_entries.specs.declared.entry.Event.TheVariants.{Publishing, Copying, Settling, Opened, Asking, Committing, Switched, Fault}
-use Rattle.history_entries.specs.Nodes.{Past, over}
-use Rattle.history_entries.specs.Lines.{same_at}
-use Rattle.history_entries.specs.Points.{operations_of_generation}
+use Rattle.history_rules.specs.declared.entry.Event.{Event}
+use Rattle.history_rules.specs.declared.entry.Event.TheVariants.{Publishing, Copying, Settling, Opened, Asking, Committing, Switched, Fault}
+use Rattle.history_rules.specs.Nodes.{Past, over}
+use Rattle.history_rules.specs.Lines.{same_at}
+use Rattle.history_rules.specs.Points.{operations_of_generation}
 use Rattle.history_tables.specs.declared.lines.Start.{Start}
 use Rattle.history_tables.specs.declared.lines.Start.TheVariants.{Publishing as PublishStart, Copying as CopyStart, Settling as SettleStart, Searching as SearchStart, Asking as AskStart, Committing as CommitStart}
 use Rattle.history_tables.specs.declared.lines.Begun.{Begun}

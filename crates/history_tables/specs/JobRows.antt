@@ -1,6 +1,6 @@
 -- What is remembered of the jobs that copy points to nodes.
 use Rattle.std.specs.Prelude.{ℕ, List, [], ◌∷◌, Bool, true, false, Option, Some, None, not, is_some, ◌&&◌, ◌==◌, nat_le, if◌then◌else◌}
-use Rattle.history_entries.specs.Nodes.{Past}
+use Rattle.history_rules.specs.Nodes.{Past}
 use Rattle.history_tables.specs.declared.jobs.Job.{Job}
 use Rattle.history_tables.specs.declared.jobs.JobRow.{JobRow}
 use Rattle.history_tables.specs.declared.jobs.JobStep.{JobStep}

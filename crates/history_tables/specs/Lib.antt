@@ -5,4 +5,3 @@ pub mod WorkRows
 pub mod PlanRows
 pub mod Openings
 pub mod JobRows
-pub mod Given

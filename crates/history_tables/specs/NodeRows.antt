@@ -2,13 +2,13 @@
 use Rattle.std.specs.Prelude.{ℕ, ◌≡◌, ◌≤◌, ◌+◌, List, Option, Some, length, Bool, true, false, slice_get, if◌then◌else◌, ◌==◌}
 use Rattle.nrt_base.specs.declared.numbers.At.{At}
 use Rattle.nrt_base.specs.declared.numbers.NodeNo.{NodeNo}
-use Rattle.history_entries.specs.declared.entry.Event.{Event}
-use Rattle.history_entries.specs.declared.entry.Event.TheVariants.{Crashed}
-use Rattle.history_entries.specs.Nodes.{Past, over, primary_of, is_running, crashes, version_of, newest_version}
-use Rattle.history_entries.specs.declared.cause.FaultKind.TheVariants.{Link, Damage, Disk, Stop}
-use Rattle.history_entries.specs.Lines.{commit_in_flight, copy_in_flight, highest_copy}
-use Rattle.history_entries.specs.Commits.{has_committed, is_stuck}
-use Rattle.history_entries.specs.Faults.{is_planned}
+use Rattle.history_rules.specs.declared.entry.Event.{Event}
+use Rattle.history_rules.specs.declared.entry.Event.TheVariants.{Crashed}
+use Rattle.history_rules.specs.Nodes.{Past, over, primary_of, is_running, crashes, version_of, newest_version}
+use Rattle.history_rules.specs.declared.cause.FaultKind.TheVariants.{Link, Damage, Disk, Stop}
+use Rattle.history_rules.specs.Lines.{commit_in_flight, copy_in_flight}
+use Rattle.history_rules.specs.Commits.{has_committed, is_stuck}
+use Rattle.history_rules.specs.Faults.{is_planned}
 use Rattle.history_tables.specs.declared.states.NodeState.{NodeState}
 use Rattle.history_tables.specs.declared.rows.NodeRow.{NodeRow}
 use Rattle.history_tables.specs.WorkRows.{KnowsNewest, IsCommitter}
@@ -37,7 +37,6 @@ pub record NodeTells (past : Past) (n : ℕ) (row : NodeRow) : Type 0 where
   pub low : row.state.crashes ≤ length past
   pub stuck : row.work.stuck ≡ is_stuck n past
   pub committed : row.work.committed ≡ has_committed n past
-  pub highest : row.work.highest ≡ highest_copy n past
   pub copying : row.work.copying ≡ copy_in_flight n (newest_version past) past
   pub link : row.plans.link ≡ is_planned n Link past
   pub damage : row.plans.damage ≡ is_planned n Damage past
@@ -45,7 +44,7 @@ pub record NodeTells (past : Past) (n : ℕ) (row : NodeRow) : Type 0 where
   pub stop : row.plans.stop ≡ is_planned n Stop past
 
 -- what rows are told of the place where an entry comes
-pub record IsTold (past : Past) (at : At) (e : Event) (size : ℕ) (primary line : Option NodeNo) : Type 0 where
+pub record KnowsPlace (past : Past) (at : At) (e : Event) (size : ℕ) (primary line : Option NodeNo) : Type 0 where
   pub count : length past ≡ size
   pub source : primary_of past ≡ primary
   pub newest : (n : ℕ) → KnowsNewest n at past e

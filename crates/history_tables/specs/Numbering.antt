@@ -2,13 +2,13 @@
 use Rattle.std.specs.Prelude.{ℕ, ◌≡◌, ◌≤◌, ◌+◌, ◌*◌, ◌^◌, length, drop, nat_lt, if◌then◌else◌, ⊤}
 use Rattle.std.specs.List.{list_any}
 use Rattle.nrt_base.specs.declared.numbers.At.{At}
-use Rattle.history_entries.specs.declared.entry.Event.{Event}
-use Rattle.history_entries.specs.declared.entry.Event.TheVariants.{Crashed, Published}
-use Rattle.history_entries.specs.Nodes.{Past, over, is_at, primary_of, generation_of, newest_version, accepted_count}
-use Rattle.history_entries.specs.Lines.{publish_in_flight}
-use Rattle.history_entries.specs.Points.{operations_of_generation, accepted_at_start, published_in_generation, names_drawn, merges_started, idle_publishes}
+use Rattle.history_rules.specs.declared.entry.Event.{Event}
+use Rattle.history_rules.specs.declared.entry.Event.TheVariants.{Crashed, Published}
+use Rattle.history_rules.specs.Nodes.{Past, over, is_at, primary_of, generation_of, newest_version, accepted_count}
+use Rattle.history_rules.specs.Lines.{publish_in_flight}
+use Rattle.history_rules.specs.Points.{operations_of_generation, accepted_at_start, published_in_generation, names_drawn, merges_started, idle_publishes}
 use Rattle.documents.specs.Documents.{is_put}
-use Rattle.history_entries.specs.Tasks.{merge_count, drained_count}
+use Rattle.history_rules.specs.Tasks.{merge_count, drained_count}
 use Rattle.history_tables.specs.declared.numbers.Numbers.{Numbers}
 
 -- how many entries there were after the last crash of a running primary

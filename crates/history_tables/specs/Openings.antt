@@ -1,11 +1,17 @@
 -- The last openings of tickets.
-use Rattle.std.specs.Prelude.{ℕ, ◌≡◌, List, [], ◌∷◌, Bool, false, not, Option, Some, None, ◌&&◌, ◌==◌, if◌then◌else◌, ⊤}
-use Rattle.history_entries.specs.declared.entry.Event.{Event}
-use Rattle.history_entries.specs.declared.entry.Event.TheVariants.{Opened}
-use Rattle.history_entries.specs.Nodes.{Past, crashes}
-use Rattle.history_entries.specs.Tickets.{Ticket}
+use Rattle.std.specs.Prelude.{ℕ, ◌≡◌, List, Bool, false, not, Option, ◌&&◌, ◌==◌, ⊤}
+use Rattle.std.specs.Map.{lookup}
+use Rattle.std.specs.Option.{option_map}
+use Rattle.history_rules.specs.declared.entry.Event.{Event}
+use Rattle.history_rules.specs.declared.entry.Event.TheVariants.{Opened}
+use Rattle.history_rules.specs.Nodes.{Past, crashes}
+use Rattle.history_rules.specs.Tickets.{Ticket}
 use Rattle.history_tables.specs.declared.tickets.Opening.{Opening}
-use Rattle.history_tables.specs.declared.tickets.TicketRow.{TicketRow}
+use Rattle.history_tables.specs.declared.tickets.TicketKey.{TicketKey}
+
+-- a ticket of a lane, and what was opened
+abbrev pub TicketRow : Type 0
+TicketRow = TicketKey × Opening
 
 -- rows of tickets, and for how many more there is room
 pub record TicketRows : Type 0 where
@@ -16,11 +22,13 @@ pub record TicketRows : Type 0 where
 abbrev pub ticket_of : Opening → Ticket
 ticket_of o = record { node = o.node.0; version = o.version.0; life = o.life }
 
+-- the ticket of this number of the lane
+abbrev pub is_key : ℕ → ℕ → TicketKey → Bool
+is_key lane t key = (lane == key.lane.0) && (t == key.number.0)
+
 -- what the rows say of a ticket of a lane
 abbrev pub opened_of : List TicketRow → ℕ → ℕ → Option Ticket
-opened_of [] lane t = None
-opened_of (row ∷ rows) lane t =
-    if (row.lane.0 == lane) && (row.number.0 == t) then Some (ticket_of row.opening) else opened_of rows lane t
+opened_of rows lane t = option_map ticket_of (lookup (is_key lane t) rows)
 
 -- the event opens a ticket
 abbrev pub opens_ticket : Event → Bool

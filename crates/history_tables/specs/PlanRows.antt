@@ -1,8 +1,8 @@
 -- The faults that are planned at nodes.
 use Rattle.std.specs.Prelude.{ℕ, ◌≡◌}
-use Rattle.history_entries.specs.declared.cause.FaultKind.TheVariants.{Link, Damage, Disk, Stop}
-use Rattle.history_entries.specs.Nodes.{Past}
-use Rattle.history_entries.specs.Faults.{is_planned}
+use Rattle.history_rules.specs.declared.cause.FaultKind.TheVariants.{Link, Damage, Disk, Stop}
+use Rattle.history_rules.specs.Nodes.{Past}
+use Rattle.history_rules.specs.Faults.{is_planned}
 use Rattle.history_tables.specs.declared.plans.Plans.{Plans}
 
 -- a fault is remembered as planned where the entries show it

@@ -2,18 +2,17 @@
 use Rattle.std.specs.Prelude.{ℕ, ◌≡◌, Option, None, max, ⊤}
 use Rattle.nrt_base.specs.declared.numbers.At.{At}
 use Rattle.nrt_base.specs.declared.numbers.NodeNo.{NodeNo}
-use Rattle.history_entries.specs.declared.entry.Event.{Event}
-use Rattle.history_entries.specs.declared.entry.Event.TheVariants.{Published, Promoted, Copying, Refused}
-use Rattle.history_entries.specs.Nodes.{Past, is_at, newest_version}
-use Rattle.history_entries.specs.Lines.{start_entry, without_at, copy_in_flight, highest_copy}
-use Rattle.history_entries.specs.Commits.{has_committed, is_stuck, starts_commit}
+use Rattle.history_rules.specs.declared.entry.Event.{Event}
+use Rattle.history_rules.specs.declared.entry.Event.TheVariants.{Published, Promoted, Copying, Refused}
+use Rattle.history_rules.specs.Nodes.{Past, is_at, newest_version}
+use Rattle.history_rules.specs.Lines.{start_entry, without_at, copy_in_flight}
+use Rattle.history_rules.specs.Commits.{has_committed, is_stuck, starts_commit}
 use Rattle.history_tables.specs.declared.work.Work.{Work}
 
 -- what is remembered is what the entries show
 pub record WorkTells (past : Past) (n : ℕ) (work : Work) : Type 0 where
   pub stuck : work.stuck ≡ is_stuck n past
   pub committed : work.committed ≡ has_committed n past
-  pub highest : work.highest ≡ highest_copy n past
   pub copying : work.copying ≡ copy_in_flight n (newest_version past) past
 
 -- no other line copies to the node what is the newest version when this one was made

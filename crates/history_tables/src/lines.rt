@@ -2,11 +2,11 @@
 
 ghost use Rattle.std.specs.Prelude.{◌≡◌, ◌≤◌, not};
 ghost use Rattle.std.specs.List.{filter};
-ghost use Rattle.history_entries.specs.Lines.{same_at, without_at};
+ghost use Rattle.history_rules.specs.Lines.{same_at, without_at};
 ghost use Rattle.history_tables.specs.Begins.{start_by};
 
-use history_entries::Event;
 use history_facts::same_at;
+use history_rules::Event;
 use nrt_base::{At, NodeNo, TicketNo, Version};
 use std::alloc::{AllocError, Global};
 use std::marker::Model;
@@ -98,7 +98,7 @@ fn without(rows: &mut Vec<LineRow>, at: At)
 impl Lines {
     ghost use Rattle.std.specs.Prelude.{ℕ, ◌≡◌, ◌≤◌, [], true, if◌then◌else◌, OnOk};
     ghost use Rattle.nrt_base.specs.declared.numbers.At.{At};
-    ghost use Rattle.history_entries.specs.Lines.{same_at, is_start};
+    ghost use Rattle.history_rules.specs.Lines.{same_at, is_start};
     ghost use Rattle.history_tables.specs.Begins.{begun_under, begun_by};
 
     pub fn new(alloc: Global) -> Self

@@ -1,15 +1,15 @@
 //! The numbers of a whole run, and of its present generation.
 
 ghost use Rattle.std.specs.Prelude.{◌≡◌, ◌≤◌, ◌<◌, ◌+◌, ◌*◌, ◌^◌, ◌∷◌, [], Some, None, ℕ, length, max, nat_lt, nat_le, if◌then◌else◌};
-ghost use Rattle.history_entries.specs.Lines.{without_at};
-ghost use Rattle.history_entries.specs.Nodes.{Past};
+ghost use Rattle.history_rules.specs.Lines.{without_at};
+ghost use Rattle.history_rules.specs.Nodes.{Past};
 ghost use Rattle.documents.specs.Documents.{is_put};
 ghost use Rattle.history_tables.specs.Numbering.{NumbersTell, IsFound, AreLow};
 
 use crate::lines::other_line;
 use documents::Op;
-use history_entries::Event;
 use history_facts::is_at;
+use history_rules::Event;
 use nrt_base::{At, NodeNo};
 
 /// Numbers of the whole run.

@@ -1,10 +1,10 @@
 //! The faults that are planned at nodes.
 
 ghost use Rattle.std.specs.Prelude.{◌≡◌, ◌∷◌, [], ℕ, false};
-ghost use Rattle.history_entries.specs.Nodes.{Past};
+ghost use Rattle.history_rules.specs.Nodes.{Past};
 ghost use Rattle.history_tables.specs.PlanRows.{PlansTell};
 
-use history_entries::{Event, FaultKind, FaultPlan};
+use history_rules::{Event, FaultKind, FaultPlan};
 use nrt_base::At;
 
 /// Which kinds of faults are planned at a node.

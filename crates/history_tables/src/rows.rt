@@ -1,13 +1,13 @@
 //! A row for each node.
 
 ghost use Rattle.std.specs.Prelude.{◌≡◌, ◌≤◌, ◌<◌, ◌+◌, ◌^◌, ◌∷◌, [], List, ℕ, length, IfOk};
-ghost use Rattle.history_entries.specs.Nodes.{Past};
-ghost use Rattle.history_tables.specs.NodeRows.{NodeTells, IsTold, RowsTell, AreRowsLow};
+ghost use Rattle.history_rules.specs.Nodes.{Past};
+ghost use Rattle.history_tables.specs.NodeRows.{NodeTells, KnowsPlace, RowsTell, AreRowsLow};
 
 use crate::plans::Plans;
 use crate::states::NodeState;
 use crate::work::Work;
-use history_entries::Event;
+use history_rules::Event;
 use nrt_base::{At, NodeNo};
 use std::alloc::{AllocError, Global};
 
@@ -42,7 +42,7 @@ impl NodeRow {
     ) -> Self
         requires few { size + 1 < 2 ^ 64 }
         requires low { self.state.crashes ≤ size }
-        ensures { (past : Past) → IsTold past at event.now size primary line
+        ensures { (past : Past) → KnowsPlace past at event.now size primary line
             → NodeTells past n self
             → NodeTells (record { at = at; event = event.now } ∷ past) n result }
     {
@@ -66,7 +66,7 @@ pub fn step_rows(
     requires nodes { length rows.old.items ≤ 255 }
     requires low { AreRowsLow size rows.old.items }
     ensures count { length rows.new.items ≡ length rows.old.items }
-    ensures rows { (past : Past) → IsTold past at event.now size primary line
+    ensures rows { (past : Past) → KnowsPlace past at event.now size primary line
         → RowsTell past rows.old.items
         → RowsTell (record { at = at; event = event.now } ∷ past) rows.new.items }
 {

@@ -1,13 +1,13 @@
 //! Whether a node runs, how often it has crashed, and what it searches.
 
 ghost use Rattle.std.specs.Prelude.{◌≡◌, ◌≤◌, ◌<◌, ◌+◌, ◌^◌, ◌∷◌, [], ℕ, length};
-ghost use Rattle.history_entries.specs.Nodes.{Past, primary_of};
-ghost use Rattle.history_entries.specs.Lines.{without_at};
+ghost use Rattle.history_rules.specs.Nodes.{Past, primary_of};
+ghost use Rattle.history_rules.specs.Lines.{without_at};
 ghost use Rattle.history_tables.specs.NodeRows.{StateTells};
 
 use crate::lines::other_line;
-use history_entries::Event;
 use history_facts::is_at;
+use history_rules::Event;
 use nrt_base::{At, NodeNo};
 
 /// What is remembered of a node's life.

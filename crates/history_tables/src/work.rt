@@ -1,13 +1,13 @@
 //! The copies to a node and the commits of it that have been started.
 
 ghost use Rattle.std.specs.Prelude.{◌≡◌, ◌∷◌, [], ℕ, None};
-ghost use Rattle.history_entries.specs.Nodes.{Past, primary_of};
-ghost use Rattle.history_entries.specs.Lines.{without_at};
+ghost use Rattle.history_rules.specs.Nodes.{Past, primary_of};
+ghost use Rattle.history_rules.specs.Lines.{without_at};
 ghost use Rattle.history_tables.specs.WorkRows.{WorkTells, KnowsNewest, IsCommitter};
 
 use crate::lines::other_line;
-use history_entries::Event;
 use history_facts::{is_at, is_disk_fault};
+use history_rules::Event;
 use nrt_base::{At, NodeNo};
 
 /// What is remembered of a node's copies and commits.
@@ -17,8 +17,6 @@ pub struct Work {
     pub stuck: bool,
     /// Whether a commit was acknowledged, or found by a reopening.
     pub committed: bool,
-    /// The greatest version of a copy that was started.
-    pub highest: u64,
     /// The line whose copy of the newest version is in flight.
     pub copying: Option<At>,
 }
@@ -31,7 +29,6 @@ impl Work {
         Work {
             stuck: false,
             committed: false,
-            highest: 1,
             copying: None,
         }
     }
@@ -83,10 +80,9 @@ impl Work {
                     ..work
                 }
             }
-            Event::Copying { n: m, v } => {
+            Event::Copying { n: m, .. } => {
                 if m.0 == n {
                     Work {
-                        highest: self.highest.max(v.0),
                         copying: Some(at),
                         ..self
                     }

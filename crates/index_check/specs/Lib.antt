@@ -1,6 +1,11 @@
 pub mod Answers
-pub mod Segments
-pub mod Loading
-pub mod Rows
 pub mod Checked
+pub mod Checks
 pub mod Commit
+pub mod Directory
+pub mod Images
+pub mod Lines
+pub mod Loading
+pub mod Reading
+pub mod Rows
+pub mod Segments

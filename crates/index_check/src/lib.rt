@@ -1,15 +1,27 @@
-//! A check of a directory that somebody else made: whether it stands for documents, and for which; or what is wrong first.
+//! A check of a directory that somebody else made, of its image, and the command that does it.
 #![tactic(auto)]
 
 mod check;
+mod checking;
 mod commit;
+mod directory;
 mod fault;
 mod files;
+mod line;
+mod reading;
 mod rows;
 mod segment;
 mod standing;
+mod writing;
 
 pub use check::check_dir;
+pub use checking::check_image;
 pub use commit::read_commit;
-pub use dir_images::{ImageFault, read_image, write_image};
 pub use fault::CheckFault;
+pub use reading::{ImageFault, read_image};
+pub use writing::write_image;
+
+#[cfg(test)]
+mod check_tests;
+#[cfg(test)]
+mod image_tests;

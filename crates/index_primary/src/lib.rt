@@ -1,10 +1,14 @@
-//! The primary: publishes, merges, copy states, tickets and commits over any directory, whole at every exit.
+//! A primary: its publishes, and all its calls as one type.
 #![tactic(auto)]
 
+mod cut;
+mod ends;
 mod primary;
+mod ready;
+mod starts;
 
 pub use primary::Primary;
-pub use primary_cut_overs::{
+pub use primary_merges::{
     FlushTask, FlushWork, MergeTask, Merged, Merging, NextSegments, Out, Parts, PrimaryFault,
     Publish, PublishFault, flush,
 };

@@ -10,8 +10,12 @@ ghost use Rattle.file_deleter.specs.Holdings.{times};
 ghost use Rattle.commit_steps.specs.Commits.{ImagesHave};
 ghost use Rattle.commit_steps.specs.Book.{commit_of, shown_by, book_after, is_last_step, HasBegun};
 ghost use Rattle.copy_state.specs.States.{IsCopyState};
-ghost use Rattle.primary_calls.specs.Given.{ticket_at, tickets_without, IsWholeNode, IsStanding, ImagesStand, NoneAppears, AppearsOnly, IsNameInFlight};
-ghost use Rattle.primary_cut_overs.specs.Given.{state_names, is_out, out_of, states_without, IsStateOf, last_number, IsIdle, AreSpent, AreTooMany};
+ghost use Rattle.searcher_switch.specs.Tickets.{ticket_at, tickets_without};
+ghost use Rattle.searcher_switch.specs.Node.{IsWholeNode};
+ghost use Rattle.searcher_switch.specs.Standing.{IsStanding, ImagesStand};
+ghost use Rattle.searcher_switch.specs.Appearing.{NoneAppears, AppearsOnly, IsNameInFlight};
+ghost use Rattle.primary_state.specs.States.{state_names, is_out, out_of, states_without, IsStateOf};
+ghost use Rattle.primary_state.specs.Cut.{last_number, IsIdle, AreSpent, AreTooMany};
 
 use bytes::Bytes;
 use commit_steps::{CommitBook, CommitFault};
@@ -21,10 +25,10 @@ use documents::Op;
 use file_deleter::FileDeleter;
 use file_names::FileName;
 use nrt_base::{List, NoMemory, SegNo, Version};
-use primary_calls::{Lease, Searchers, Ticket};
-use primary_cut_overs::{
+use primary_merges::{
     FlushTask, FlushWork, MergeTask, Merged, Parts, PrimaryFault, PublishFault, Segment,
 };
+use primary_state::{Lease, Searchers, Ticket};
 use segment_infos::Infos;
 use std::alloc::Global;
 use std::marker::Model;
@@ -37,8 +41,8 @@ pub struct Primary<D: Dir> {
 }
 
 impl<D: Dir> Model for Primary<D> {
-    ghost use Rattle.primary_cut_overs.specs.Given.{Parts};
-    ghost use Rattle.primary_cut_overs.specs.Given.{IsPrimary};
+    ghost use Rattle.primary_state.specs.declared.parts.Parts.{Parts};
+    ghost use Rattle.primary_state.specs.Primary.{IsPrimary};
 
     ghost Value = { Parts D };
 
@@ -48,16 +52,16 @@ impl<D: Dir> Model for Primary<D> {
 }
 
 impl<D: Dir> Primary<D> {
-    ghost use Rattle.primary_cut_overs.specs.Given.{merges_without};
-    ghost use Rattle.primary_cut_overs.specs.Given.{names_of, ReadsSo};
-    ghost use Rattle.primary_starts.specs.StartCalls.{IsFitTask, AnswersMerge};
-    ghost use Rattle.primary_cut_overs.specs.Given.{IsMadeFor, IsReadied};
-    ghost use Rattle.primary_cut_overs.specs.CutOverCalls.{IsFilledMerge, IsCutOver, KeepsDocuments};
-    ghost use Rattle.primary_cut_overs.specs.Given.{IsPrimary, KeepsHeldBytes, loose_of};
-    ghost use Rattle.primary_cut_overs.specs.Given.{IsHeld, IsOwnFile, AreUndrawn, AreNumbered};
-    ghost use Rattle.primary_cut_overs.specs.Given.{IsOpenedOn, IsTaskOf, after_start, IsPublished, KeepsPoint, KeepsOthers, HasSameCounts, FillsUndrawn, DrawsOnly, HoldsNoNew};
-    ghost use Rattle.primary_cut_overs.specs.Given.{IsWorkOf, AreOfCut};
-    ghost use Rattle.primary_calls.specs.Given.{IsLeaseOf, searcher_names};
+    ghost use Rattle.primary_state.specs.Merges.{merges_without};
+    ghost use Rattle.primary_state.specs.Written.{names_of, ReadsSo};
+    ghost use Rattle.primary_merges.specs.StartCalls.{IsFitTask, AnswersMerge};
+    ghost use Rattle.primary_merges.specs.MergeCalls.{IsMadeFor, IsReadied};
+    ghost use Rattle.primary_merges.specs.CutOverCalls.{IsFilledMerge, IsCutOver, KeepsDocuments};
+    ghost use Rattle.primary_state.specs.Primary.{IsPrimary, KeepsHeldBytes, loose_of};
+    ghost use Rattle.primary_state.specs.Held.{IsHeld, IsOwnFile, AreUndrawn, AreNumbered};
+    ghost use Rattle.primary_state.specs.Calls.{IsOpenedOn, IsTaskOf, after_start, IsPublished, KeepsPoint, KeepsOthers, HasSameCounts, FillsUndrawn, DrawsOnly, HoldsNoNew};
+    ghost use Rattle.primary_state.specs.Work.{IsWorkOf, AreOfCut};
+    ghost use Rattle.searcher_switch.specs.Searching.{IsLeaseOf, searcher_names};
 
     /// The primary of a directory, whose deleter counts just the files of the searchers and of the commits, and whose
     /// searchers have the files of these infos. It searches the infos from now on, at their version. The directory is not
@@ -81,7 +85,7 @@ impl<D: Dir> Primary<D> {
         ensures whole { IfOk result (IsPrimary D.cells) }
         ensures opened { IfOk result (IsOpenedOn dir searchers commits infos segs) }
     {
-        let parts = primary_calls::from_parts(alloc, dir, files, searchers, commits, infos, segs)?;
+        let parts = primary_state::from_parts(alloc, dir, files, searchers, commits, infos, segs)?;
         Ok(Primary { parts })
     }
 
@@ -96,7 +100,7 @@ impl<D: Dir> Primary<D> {
         ensures err { OnErr result (self.new ≡ self.old) }
         ensures whole { IsPrimary D.cells self.new }
     {
-        primary_calls::accept(&mut self.parts, op)
+        primary_state::accept(&mut self.parts, op)
     }
 
     /// Starts a publish, which takes every operation that was accepted and is not published. None comes exactly where there
@@ -114,7 +118,7 @@ impl<D: Dir> Primary<D> {
         ensures drawn { DrawsOnly self.old self.new }
         ensures whole { IsPrimary D.cells self.new }
     {
-        primary_publish::publish_start(alloc, &mut self.parts)
+        crate::starts::publish_start(alloc, &mut self.parts)
     }
 
     /// Ends a publish with the work that was made for it: writes the new files, makes a point of the new segments, and gives
@@ -139,7 +143,7 @@ impl<D: Dir> Primary<D> {
         ensures later { D.faults self.old.dir ≤ D.faults self.new.dir }
         ensures whole { IsPrimary D.cells self.new }
     {
-        primary_publish::publish_end(alloc, &mut self.parts, work)
+        crate::ends::publish_end(alloc, &mut self.parts, work)
     }
 
     /// Starts a merge of the first neighbours that can be chosen, as many as the factor: draws its number, and holds the files of its
@@ -157,7 +161,7 @@ impl<D: Dir> Primary<D> {
         ensures drawn { DrawsOnly self.old self.new }
         ensures whole { IsPrimary D.cells self.new }
     {
-        primary_starts::merge_start(alloc, &mut self.parts, factor)
+        primary_merges::merge_start(alloc, &mut self.parts, factor)
     }
 
     /// Writes the files of a merge in flight, of which the merged segment was made, and holds them. Answers a copy state that
@@ -191,7 +195,7 @@ impl<D: Dir> Primary<D> {
         ensures later { D.faults self.old.dir ≤ D.faults self.new.dir }
         ensures whole { IsPrimary D.cells self.new }
     {
-        primary_cut_overs::merge_ready(alloc, &mut self.parts, merged)
+        primary_merges::merge_ready(alloc, &mut self.parts, merged)
     }
 
     /// Puts the merged segment of a merge whose files are written in the place of its inputs. Rows that died since the merge started
@@ -230,7 +234,7 @@ impl<D: Dir> Primary<D> {
         ensures later { D.faults self.old.dir ≤ D.faults self.new.dir }
         ensures whole { IsPrimary D.cells self.new }
     {
-        primary_cut_overs::merge_cut(alloc, &mut self.parts, seg)
+        primary_merges::merge_cut(alloc, &mut self.parts, seg)
     }
 
     /// The copy state of the point that is searched: one load for each of its files, ascending. It holds these files until
@@ -255,7 +259,7 @@ impl<D: Dir> Primary<D> {
         ensures later { D.faults self.old.dir ≤ D.faults self.new.dir }
         ensures whole { IsPrimary D.cells self.new }
     {
-        primary_calls::take_state(alloc, &mut self.parts)
+        primary_state::take_state(alloc, &mut self.parts)
     }
 
     /// The bytes of a file that a copy state which is out names.
@@ -270,7 +274,7 @@ impl<D: Dir> Primary<D> {
         ensures later { D.faults self.old.dir ≤ D.faults self.new.dir }
         ensures whole { IsPrimary D.cells self.new }
     {
-        primary_calls::source(&mut self.parts, name)
+        primary_state::source(&mut self.parts, name)
     }
 
     /// Takes a copy state back, and gives its files back. Takes no memory.
@@ -288,7 +292,7 @@ impl<D: Dir> Primary<D> {
         ensures later { D.faults self.old.dir ≤ D.faults self.new.dir }
         ensures whole { IsPrimary D.cells self.new }
     {
-        primary_calls::give_back(&mut self.parts, state);
+        primary_state::give_back(&mut self.parts, state);
     }
 
     /// Opens a ticket on the point that is searched.
@@ -306,7 +310,7 @@ impl<D: Dir> Primary<D> {
         ensures no_new { HoldsNoNew self.old self.new }
         ensures whole { IsPrimary D.cells self.new }
     {
-        primary_calls::acquire(alloc, &mut self.parts)
+        primary_state::acquire(alloc, &mut self.parts)
     }
 
     /// What a search under a ticket reads: the point on which the ticket was opened.
@@ -315,7 +319,7 @@ impl<D: Dir> Primary<D> {
         ensures { IfOk result (λ lease.
             IfSome (ticket_at ticket.now.number self.now.searchers.tickets) (IsLeaseOf lease)) }
     {
-        primary_calls::lease(alloc, &self.parts, ticket)
+        primary_state::lease(alloc, &self.parts, ticket)
     }
 
     /// Closes a ticket, and gives its files back. Takes no memory.
@@ -335,7 +339,7 @@ impl<D: Dir> Primary<D> {
         ensures later { D.faults self.old.dir ≤ D.faults self.new.dir }
         ensures whole { IsPrimary D.cells self.new }
     {
-        primary_calls::release(&mut self.parts, ticket);
+        primary_state::release(&mut self.parts, ticket);
     }
 
     /// The names of the directory's files, ascending. The directory is not called.
@@ -344,7 +348,7 @@ impl<D: Dir> Primary<D> {
             → is_among names.items q ≡ is_some (D.cells self.now.dir q).now) }
         ensures ascending { IfOk result (λ names. IsStrictlySortedBy (slice_cmp nat_cmp) names.items) }
     {
-        primary_calls::names(alloc, &self.parts)
+        primary_state::names(alloc, &self.parts)
     }
 
     /// The number that the next commit gets.
@@ -366,7 +370,7 @@ impl<D: Dir> Primary<D> {
         ensures stays { KeepsHeldBytes D.cells self.old self.new }
         ensures whole { IsPrimary D.cells self.new }
     {
-        primary_calls::commit_begin(alloc, &mut self.parts)
+        primary_state::commit_begin(alloc, &mut self.parts)
     }
 
     /// Makes the next call of the directory for the commit in flight, and answers whether the commit is done.
@@ -390,7 +394,7 @@ impl<D: Dir> Primary<D> {
         ensures later { D.faults self.old.dir ≤ D.faults self.new.dir }
         ensures whole { IsPrimary D.cells self.new }
     {
-        primary_calls::commit_step(alloc, &mut self.parts)
+        primary_state::commit_step(alloc, &mut self.parts)
     }
 
     /// The directory, as it stands.
@@ -398,12 +402,12 @@ impl<D: Dir> Primary<D> {
         ensures { result ≡ self.dir }
     {
         let Primary { parts } = self;
-        primary_calls::into_dir(parts)
+        primary_state::into_dir(parts)
     }
 
     /// Each image of the directory shows the last commit or the one in flight, of the documents that the directory has of it
     /// now, or nothing where there is no last one.
-    #[tactic(auto, using(node_files::proofs::Standing::images_stand))]
+    #[tactic(auto, using(searcher_switch::proofs::Standing::images_stand))]
     pub fn images(&self)
         ensures { ImagesStand (D.cells self.now.dir) self.now.commits.last
             (shown_by self.now.commits.stage) }
@@ -413,7 +417,7 @@ impl<D: Dir> Primary<D> {
 }
 
 impl<D: FaultDir> Primary<D> {
-    ghost use Rattle.primary_cut_overs.specs.Given.{IsPrimary};
+    ghost use Rattle.primary_state.specs.Primary.{IsPrimary};
 
     /// The k-th counted call of the directory from now fails once.
     pub fn plan(&mut self, k: u64)
@@ -424,7 +428,7 @@ impl<D: FaultDir> Primary<D> {
         ensures others { self.new ≡ record self.old { dir = self.new.dir } }
         ensures whole { IsPrimary D.cells self.new }
     {
-        primary_calls::plan(&mut self.parts, k);
+        primary_state::plan(&mut self.parts, k);
     }
 
     /// The k-th counted call of the directory from now and every later one fail.
@@ -436,7 +440,7 @@ impl<D: FaultDir> Primary<D> {
         ensures others { self.new ≡ record self.old { dir = self.new.dir } }
         ensures whole { IsPrimary D.cells self.new }
     {
-        primary_calls::stop_at(&mut self.parts, k);
+        primary_state::stop_at(&mut self.parts, k);
     }
 
     /// How many faults of the directory were met by `plan`, and how many by `stop_at`.

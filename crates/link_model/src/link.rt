@@ -8,13 +8,16 @@ ghost use Rattle.link_model.specs.Carrying.{carried_by, IsAlteration, is_handed_
 use crate::fate::Fate;
 use bytes::Bytes;
 use nrt_base::NoMemory;
+use thiserror::Error;
 
 /// Why a link refuses a call.
-#[derive(Clone, Copy, Debug, PartialEq, Eq)]
+#[derive(Clone, Copy, Debug, PartialEq, Eq, Error)]
 pub enum LinkFault {
     /// Memory was wanting.
+    #[error("out of memory")]
     Memory,
     /// The link failed.
+    #[error("the link to the other node failed")]
     Failed,
 }
 

@@ -5,8 +5,8 @@ ghost use Rattle.load_script.specs.Generated.{load_lines};
 ghost use Rattle.load_script.specs.Totals.{total_at, place_behind, totals_in, summary_line, summary_text};
 
 use crate::commands::push_number;
-use history_entries::{Entry, Event};
 use history_facts::same_at;
+use history_rules::{Entry, Event};
 use nrt_base::{At, LaneNo, LineNo, NoMemory};
 use std::alloc::Global;
 

@@ -1,8 +1,9 @@
-//! The generated script, and the summary of a run of it.
+//! The generated script, the summary of a run of it, and what every run of it finds.
 #![tactic(auto)]
 
 mod commands;
 mod found;
+mod laws;
 mod lines;
 mod whole;
 

@@ -1,8 +1,9 @@
 //! The generated script of a few documents, and the summary of a run.
 
-use super::*;
+use crate::found::summary;
+use crate::whole::generated;
 use documents::{Answer, Query};
-use history_entries::{Entry, Event};
+use history_rules::{Entry, Event};
 use nrt_base::{At, LaneNo, LineNo, List, NoMemory, NodeNo, TicketNo, Version, Word};
 use std::alloc::Global;
 use std::test::Fail;

@@ -9,23 +9,27 @@ use Rattle.disk_model.specs.Disk.{Name, Content, Cells, is_among}
 use Rattle.file_deleter.specs.Holdings.{Holdings, times}
 use Rattle.file_deleter.proofs.NameLemmas.{among_times}
 use Rattle.file_names.specs.Names.{temp_name_of}
-use Rattle.node_files.specs.Appearing.{NoneAppears, AppearsOnly}
+use Rattle.searcher_switch.specs.Appearing.{NoneAppears, AppearsOnly}
 use Rattle.copy_state.specs.declared.state.CopyState.{CopyState}
 use Rattle.copy_state.specs.declared.meta.FileMetaData.{FileMetaData}
 use Rattle.copy_state.specs.States.{meta_names, meta_in}
 use Rattle.copy_job.specs.declared.copying.Part.{Part}
 use Rattle.copy_job.specs.Jobs.{Job, IsJob, with_part}
-use Rattle.replica_parts.specs.declared.parts.Parts.{Parts as ReplicaParts}
-use Rattle.replica_parts.specs.declared.job.PointJob.{PointJob}
-use Rattle.replica_parts.specs.declared.merges.MergeCopies.{MergeCopies}
-use Rattle.replica_parts.specs.Merges.{copy_at, copies_with, copies_without, copies_seen, no_copies, SharesNone}
-use Rattle.replica_parts.specs.Jobs.{merge_job_on}
-use Rattle.replica_parts.specs.Replica.{IsWholeReplica, AreStanding, MayLaunch}
-use Rattle.replica_parts.specs.Sources.{IsSourced, KeepsSource}
-use Rattle.node_jobs.specs.Given.{running_job, with_job, without_job, Node, Primary, Replica, Down, Place, IsNextToFetch}
+use Rattle.replica_state.specs.declared.parts.Parts.{Parts as ReplicaParts}
+use Rattle.replica_state.specs.declared.job.PointJob.{PointJob}
+use Rattle.replica_state.specs.declared.merges.MergeCopies.{MergeCopies}
+use Rattle.replica_state.specs.Merges.{copy_at, copies_with, copies_without, copies_seen, no_copies, SharesNone}
+use Rattle.replica_state.specs.Jobs.{job_seen, merge_job_on, running_point}
+use Rattle.replica_state.specs.Replica.{IsWholeReplica, AreStanding, MayLaunch}
+use Rattle.replica_state.specs.Sources.{IsSourced, KeepsSource}
+use Rattle.cluster_nodes.specs.Given.{running_job, with_job, without_job}
+use Rattle.cluster_nodes.specs.declared.nodes.Node.{Node}
+use Rattle.cluster_nodes.specs.declared.nodes.Node.TheVariants.{Primary, Replica, Down}
+use Rattle.cluster_nodes.specs.declared.nodes.Place.{Place}
+use Rattle.cluster_nodes.specs.JobChanges.{IsNextToFetch}
 use Rattle.history_tables.proofs.RowLemmas.{by_test}
-use Rattle.node_jobs.proofs.JobFiles.{wanted_meta}
-use Rattle.primary_parts.specs.declared.parts.Parts.{Parts as PrimaryParts}
+use Rattle.cluster_nodes.proofs.JobFiles.{wanted_meta}
+use Rattle.primary_state.specs.declared.parts.Parts.{Parts as PrimaryParts}
 use Rattle.node_merges.specs.declared.copies.CopyStep.{CopyStep}
 use Rattle.node_merges.specs.declared.copies.CopyStep.TheVariants.{Gone}
 use Rattle.node_merges.specs.MergeChanges.{is_copy_of, MaySend, SendsMerged, IsStepOf, TakesMerged, DropsMerged}
@@ -38,13 +42,23 @@ seen_copies P seen generation c one none = by_test (nat_lt seen generation) (λ 
 nothing_shared : (names : List Name) → SharesNone [] names
 nothing_shared names q some = absurd (omega (arith, some))
 
+-- what is so of a job is so of what is left of it
+seen_kept : (P : PointJob → Type 0) (seen generation : ℕ) (o : Option PointJob) → IfSome o P → IfSome (job_seen seen generation o) P
+seen_kept P seen generation o is = by (nat_lt seen generation) o is
+  where
+    by : (b : Bool) (p : Option PointJob) → IfSome p P → IfSome (if b then running_point p else p) P
+    by false p is = is
+    by true None is = tt
+    by true (Some j) is = elim j.stopped as (λ b. IfSome (if b then None else Some j) P) [ true ↦ tt | false ↦ is ]
+
 module _ {D : Type 0} where
   -- the state can be launched once the replica was told of its generation
-  pub may_launch : (state : CopyState) (r s : ReplicaParts D) → MaySend state r → s.seen.0 ≡ max r.seen.0 state.primary_gen.0 → s.copies ≡ copies_seen r.seen.0 state.primary_gen.0 r.copies → s.job ≡ r.job → MayLaunch s state
+  pub may_launch : (state : CopyState) (r s : ReplicaParts D) → MaySend state r → s.seen.0 ≡ max r.seen.0 state.primary_gen.0 → s.copies ≡ copies_seen r.seen.0 state.primary_gen.0 r.copies → s.job ≡ job_seen r.seen.0 state.primary_gen.0 r.job → MayLaunch s state
   may_launch state r s may seen copies job = record {
     segment = may.segment;
     seen = gen_same state.primary_gen s.seen (let low = may.seen in omega (arith, seen, low));
-    job = subst (λ (o : Option PointJob). IfSome o (λ j. SharesNone (meta_names j.copy.want.files) (meta_names state.files))) (sym job) may.job;
+    job = subst (λ (o : Option PointJob). IfSome o (λ j. SharesNone (meta_names j.copy.want.files) (meta_names state.files))) (sym job)
+        (seen_kept (λ j. SharesNone (meta_names j.copy.want.files) (meta_names state.files)) r.seen.0 state.primary_gen.0 r.job may.job);
     copies = subst (λ (c : MergeCopies). AllByRecursion (λ j. SharesNone (meta_names j.want.files) (meta_names state.files)) c.running) (sym copies)
         (seen_copies (λ c. AllByRecursion (λ j. SharesNone (meta_names j.want.files) (meta_names state.files)) c.running) r.seen.0 state.primary_gen.0 r.copies may.copies (record {}));
     pending = subst (λ (c : MergeCopies). SharesNone (meta_names c.pending.files) (meta_names state.files)) (sym copies)
@@ -56,11 +70,11 @@ module _ {D : Type 0} where
 
   -- a copy began
   pub sends : (cells : D → Cells) (state copy : CopyState) (number : ℕ) (r s t : ReplicaParts D) → copy ≡ state → MaySend state r
-      → s.seen.0 ≡ max r.seen.0 state.primary_gen.0 → s.copies ≡ copies_seen r.seen.0 state.primary_gen.0 r.copies → s ≡ record r { dir = s.dir; files = s.files; seen = s.seen; copies = s.copies }
+      → s.seen.0 ≡ max r.seen.0 state.primary_gen.0 → s.copies ≡ copies_seen r.seen.0 state.primary_gen.0 r.copies → s.job ≡ job_seen r.seen.0 state.primary_gen.0 r.job → s ≡ record r { dir = s.dir; files = s.files; seen = s.seen; job = s.job; copies = s.copies }
       → (AreStanding cells r → AreStanding cells s) → KeepsSource cells r s → NoneAppears (cells r.dir) (cells s.dir)
       → number ≡ s.jobs + 1 → t.jobs ≡ s.jobs + 1 → t.copies ≡ record s.copies { running = s.copies.running ++ merge_job_on (s.jobs + 1) copy s.files ∷ [] } → t ≡ record s { files = t.files; jobs = t.jobs; copies = t.copies }
       → IsWholeReplica cells t → (AreStanding cells s → AreStanding cells t) → KeepsSource cells s t → SendsMerged cells state number r t
-  sends cells state copy number r s t same may seen copies told standing sourced none next jobs begun launched whole standing2 sourced2 = record {
+  sends cells state copy number r s t same may seen copies left told standing sourced none next jobs begun launched whole standing2 sourced2 = record {
     next = next ∙ ap (λ (k : ℕ). k + 1) before;
     jobs = jobs ∙ ap (λ (k : ℕ). k + 1) before;
     seen = ap (λ (z : ReplicaParts D). z.seen) launched ∙ gen_same s.seen state.primary_gen (let low = may.seen in omega (arith, seen, low));
@@ -68,7 +82,8 @@ module _ {D : Type 0} where
     copies = begun ∙ ap (λ (m : MergeCopies). record m { running = m.running ++ merge_job_on (s.jobs + 1) copy s.files ∷ [] }) copies
         ∙ ap (λ (k : ℕ). record (copies_seen r.seen.0 state.primary_gen.0 r.copies) { running = (copies_seen r.seen.0 state.primary_gen.0 r.copies).running ++ merge_job_on k copy s.files ∷ [] }) (sym next)
         ∙ ap (λ (z : CopyState). record (copies_seen r.seen.0 state.primary_gen.0 r.copies) { running = (copies_seen r.seen.0 state.primary_gen.0 r.copies).running ++ merge_job_on number z s.files ∷ [] }) same;
-    others = launched ∙ ap (λ (z : ReplicaParts D). record z { files = t.files; jobs = t.jobs; copies = t.copies }) (told ∙ ap (λ (g : Gen). record r { dir = s.dir; files = s.files; seen = g; copies = s.copies }) (sym (ap (λ (z : ReplicaParts D). z.seen) launched))) ∙ dirs;
+    job = ap (λ (z : ReplicaParts D). z.job) launched ∙ left;
+    others = launched ∙ ap (λ (z : ReplicaParts D). record z { files = t.files; jobs = t.jobs; copies = t.copies }) (told ∙ ap (λ (g : Gen). record r { dir = s.dir; files = s.files; seen = g; job = s.job; copies = s.copies }) (sym (ap (λ (z : ReplicaParts D). z.seen) launched))) ∙ dirs;
     whole = whole;
     standing = λ is. standing2 (standing is);
     sourced = λ source is. sourced2 source (sourced source is);
@@ -81,8 +96,9 @@ module _ {D : Type 0} where
       gen_same : (a b : Gen) → a.0 ≡ b.0 → a ≡ b
       gen_same a b is = λ i. record { 0 = is i }
 
-      dirs : record r { dir = s.dir; files = t.files; seen = t.seen; jobs = t.jobs; copies = t.copies } ≡ record r { dir = t.dir; files = t.files; seen = t.seen; jobs = t.jobs; copies = t.copies }
-      dirs = ap (λ (d : D). record r { dir = d; files = t.files; seen = t.seen; jobs = t.jobs; copies = t.copies }) (sym (ap (λ (z : ReplicaParts D). z.dir) launched))
+      dirs : record r { dir = s.dir; files = t.files; seen = t.seen; jobs = t.jobs; job = s.job; copies = t.copies } ≡ record r { dir = t.dir; files = t.files; seen = t.seen; jobs = t.jobs; job = t.job; copies = t.copies }
+      dirs = ap (λ (x : D × Option PointJob). record r { dir = x.0; files = t.files; seen = t.seen; jobs = t.jobs; job = x.1; copies = t.copies })
+          (λ i. (sym (ap (λ (z : ReplicaParts D). z.dir) launched) i, sym (ap (λ (z : ReplicaParts D). z.job) launched) i))
 
 -- ---- a copy by its number
 
@@ -113,9 +129,25 @@ number_at (x ∷ cs) number c is =
     hit a b e = grind (arith, nat_tests, e)
 
 pub wants : (o : Option Job) (c : Job) (seg : ℕ) (answer : Option (Name × FileMetaData)) (f : Name × FileMetaData) → o ≡ Some c → is_copy_of seg c ≡ true → answer ≡ Some f → IsNextToFetch c answer
-    → IsSomeAnd o (λ j. (is_copy_of seg j ≡ true) × ((0 < times j.missing f.0) × (meta_in j.want.files f.0 ≡ Some f.1)))
-wants o c seg answer f at is same next = subst (λ (x : Option Job). IsSomeAnd x (λ j. (is_copy_of seg j ≡ true) × ((0 < times j.missing f.0) × (meta_in j.want.files f.0 ≡ Some f.1)))) (sym at)
+    → IsSomeAnd o (λ j. (is_copy_of seg j ≡ true) × IsNextToFetch j (Some (f.0, f.1)))
+wants o c seg answer f at is same next = subst (λ (x : Option Job). IsSomeAnd x (λ j. (is_copy_of seg j ≡ true) × IsNextToFetch j (Some (f.0, f.1)))) (sym at)
     (is, subst (IsNextToFetch c) same next)
+
+pub lacks_one : (o : Option Job) (c : Job) (seg : ℕ) (answer : Option (Name × FileMetaData)) (f : Name × FileMetaData) → o ≡ Some c → is_copy_of seg c ≡ true → answer ≡ Some f → IsNextToFetch c answer
+    → IsSomeAnd o (λ j. (is_copy_of seg j ≡ true) × (j.missing ≢ []))
+lacks_one o c seg answer f at is same next = subst (λ (x : Option Job). IsSomeAnd x (λ j. (is_copy_of seg j ≡ true) × (j.missing ≢ []))) (sym at)
+    (is, λ none. let first = subst (IsNextToFetch c) same next in some_first f.0 first.0 (sym none ∙ first.1))
+  where
+    some_first : (q : Name) (rest : List Name) → [] ≡ q ∷ rest → ⊥
+    some_first q rest e = absurd (cc)
+
+-- whether a job runs is whether one is lent
+pub lent_some : {A B C : Type 0} (f : A → C) (g : B → C) (answer : Option A) (o : Option B) → option_map f answer ≡ option_map g o → is_some answer ≡ is_some o
+lent_some f g answer o same = sym (mapped f answer) ∙ (ap is_some same ∙ mapped g o)
+  where
+    mapped : {X Y : Type 0} (h : X → Y) (x : Option X) → is_some (option_map h x) ≡ is_some x
+    mapped h None = refl
+    mapped h (Some x) = refl
 
 pub no_job : {A : Type 0} (answer : Option A) (o : Option PointJob) → is_some answer ≡ is_some o → is_some answer ≡ false → o ≡ None
 no_job answer None same none = refl

@@ -4,18 +4,22 @@ use Rattle.std.specs.Prelude.{IfOk, OnOk}
 use Rattle.nrt_base.specs.declared.numbers.SegNo.{SegNo}
 use Rattle.disk_model.specs.Disk.{Name, Cells}
 use Rattle.file_deleter.specs.Holdings.{count_of}
-use Rattle.node_files.specs.Appearing.{NoneAppears, AppearsOnly}
-use Rattle.node_files.proofs.Appearing.{only_then_none}
+use Rattle.searcher_switch.specs.Appearing.{NoneAppears, AppearsOnly}
+use Rattle.searcher_switch.proofs.Appearing.{only_then_none}
 use Rattle.copy_state.specs.declared.state.CopyState.{CopyState}
-use Rattle.primary_parts.specs.declared.parts.Parts.{Parts as PrimaryParts}
-use Rattle.primary_parts.specs.declared.states.Out.{Out}
-use Rattle.primary_parts.specs.Held.{IsOwnFile}
-use Rattle.primary_parts.specs.States.{out_of, is_out, states_without}
-use Rattle.primary_parts.specs.Primary.{IsPrimary, KeepsHeldBytes, IsUnwritten, loose_of}
-use Rattle.primary_parts.specs.Calls.{FillsUndrawn, DrawsOnly, HoldsNoNew}
-use Rattle.node_jobs.specs.Given.{IsCutOver, KeepsDocuments, Held, Primary, Replica, Place, place_of, IsSlot}
-use Rattle.replica_parts.specs.declared.parts.Parts.{Parts as ReplicaParts}
-use Rattle.node_jobs.proofs.Given.{moved_one}
+use Rattle.primary_state.specs.declared.parts.Parts.{Parts as PrimaryParts}
+use Rattle.primary_state.specs.declared.states.Out.{Out}
+use Rattle.primary_state.specs.Held.{IsOwnFile}
+use Rattle.primary_state.specs.States.{out_of, is_out, states_without}
+use Rattle.primary_state.specs.Primary.{IsPrimary, KeepsHeldBytes, IsUnwritten, loose_of}
+use Rattle.primary_state.specs.Calls.{FillsUndrawn, DrawsOnly, HoldsNoNew}
+use Rattle.cluster_nodes.specs.Given.{IsCutOver, KeepsDocuments}
+use Rattle.cluster_nodes.specs.declared.held.Held.{Held}
+use Rattle.cluster_nodes.specs.declared.nodes.Node.TheVariants.{Primary, Replica}
+use Rattle.cluster_nodes.specs.declared.nodes.Place.{Place}
+use Rattle.cluster_nodes.specs.Places.{place_of, IsSlot}
+use Rattle.replica_state.specs.declared.parts.Parts.{Parts as ReplicaParts}
+use Rattle.cluster_nodes.proofs.Taking.{moved_one}
 use Rattle.node_merges.specs.MergeChanges.{CutsMerge}
 use Rattle.node_merges.specs.MergePlaces.{MovesPrimary, MovesReplica}
 

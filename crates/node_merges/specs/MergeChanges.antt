@@ -6,7 +6,7 @@ use Rattle.disk_model.specs.Disk.{Name, Content, Cells, reads_of, same}
 use Rattle.file_deleter.specs.Holdings.{Holdings, times}
 use Rattle.file_names.specs.Names.{part_name_of, temp_name_of}
 use Rattle.file_names.specs.declared.composed.SegPart.TheVariants.{Docs}
-use Rattle.node_files.specs.Appearing.{NoneAppears, AppearsOnly}
+use Rattle.searcher_switch.specs.Appearing.{NoneAppears, AppearsOnly}
 use Rattle.copy_state.specs.declared.state.CopyState.{CopyState}
 use Rattle.copy_state.specs.declared.meta.FileMetaData.{FileMetaData}
 use Rattle.copy_state.specs.States.{meta_names, meta_in, IsCopyState}
@@ -14,21 +14,22 @@ use Rattle.copy_job.specs.declared.copying.Part.{Part}
 use Rattle.copy_job.specs.Jobs.{Job, reads_under}
 use Rattle.seg_merge.specs.declared.task.MergeTask.{MergeTask}
 use Rattle.seg_merge.specs.declared.task.Merged.{Merged}
-use Rattle.primary_parts.specs.declared.parts.Parts.{Parts as PrimaryParts}
-use Rattle.primary_parts.specs.declared.parts.PublishFault.{PublishFault}
-use Rattle.primary_parts.specs.declared.states.Out.{Out}
-use Rattle.primary_parts.specs.Cut.{last_number}
-use Rattle.primary_parts.specs.Held.{IsOwnFile}
-use Rattle.primary_parts.specs.States.{out_of, is_out, states_without, IsStateOf}
-use Rattle.primary_parts.specs.Written.{names_of, ReadsSo}
-use Rattle.primary_parts.specs.Primary.{IsPrimary, KeepsHeldBytes, loose_of}
-use Rattle.primary_parts.specs.Calls.{FillsUndrawn, DrawsOnly, HoldsNoNew}
-use Rattle.node_jobs.specs.Given.{AnswersMerge, IsFitTask, IsReadied, IsFilledMerge, IsCutOver, KeepsDocuments, SettlesCopy, IsNextToFetch}
-use Rattle.replica_parts.specs.declared.parts.Parts.{Parts as ReplicaParts}
-use Rattle.replica_parts.specs.Merges.{copy_at, copies_with, copies_without, copies_seen, IsSegmentState, SharesNone}
-use Rattle.replica_parts.specs.Jobs.{merge_job_on}
-use Rattle.replica_parts.specs.Replica.{IsWholeReplica, AreStanding}
-use Rattle.replica_parts.specs.Sources.{IsSourced, KeepsSource}
+use Rattle.primary_state.specs.declared.parts.Parts.{Parts as PrimaryParts}
+use Rattle.primary_state.specs.declared.parts.PublishFault.{PublishFault}
+use Rattle.primary_state.specs.declared.states.Out.{Out}
+use Rattle.primary_state.specs.Cut.{last_number}
+use Rattle.primary_state.specs.Held.{IsOwnFile}
+use Rattle.primary_state.specs.States.{out_of, is_out, states_without, IsStateOf}
+use Rattle.primary_state.specs.Written.{names_of, ReadsSo}
+use Rattle.primary_state.specs.Primary.{IsPrimary, KeepsHeldBytes, loose_of}
+use Rattle.primary_state.specs.Calls.{FillsUndrawn, DrawsOnly, HoldsNoNew}
+use Rattle.cluster_nodes.specs.Given.{AnswersMerge, IsFitTask, IsReadied, IsFilledMerge, IsCutOver, KeepsDocuments, SettlesCopy}
+use Rattle.cluster_nodes.specs.JobChanges.{IsNextToFetch}
+use Rattle.replica_state.specs.declared.parts.Parts.{Parts as ReplicaParts}
+use Rattle.replica_state.specs.Merges.{copy_at, copies_with, copies_without, copies_seen, IsSegmentState, SharesNone}
+use Rattle.replica_state.specs.Jobs.{merge_job_on, job_seen, running_point}
+use Rattle.replica_state.specs.Replica.{IsWholeReplica, AreStanding}
+use Rattle.replica_state.specs.Sources.{IsSourced, KeepsSource}
 use Rattle.node_merges.specs.declared.copies.CopyStep.{CopyStep}
 use Rattle.node_merges.specs.declared.copies.CopyStep.TheVariants.{Gone, Waits, Complete, Wants}
 
@@ -101,7 +102,7 @@ module _ {D : Type 0} where
     pub copies : AllByRecursion (λ c. SharesNone (meta_names c.want.files) (meta_names state.files)) r.copies.running
     pub pending : SharesNone (meta_names r.copies.pending.files) (meta_names state.files)
 
-  -- A copy of it began under this number; what a higher generation ended has ended before.
+  -- A copy of it began under this number; what a higher generation ended, a stopped job among it, has ended before.
   pub record SendsMerged (cells : D → Cells) (state : CopyState) (number : ℕ) (old new : ReplicaParts D) : Type 0 where
     pub next : number ≡ old.jobs + 1
     pub jobs : new.jobs ≡ old.jobs + 1
@@ -110,7 +111,8 @@ module _ {D : Type 0} where
     pub copies : new.copies ≡ record (copies_seen old.seen.0 state.primary_gen.0 old.copies) {
       running = (copies_seen old.seen.0 state.primary_gen.0 old.copies).running ++ merge_job_on number state holdings ∷ [];
     }
-    pub others : new ≡ record old { dir = new.dir; files = new.files; seen = new.seen; jobs = new.jobs; copies = new.copies }
+    pub job : new.job ≡ job_seen old.seen.0 state.primary_gen.0 old.job
+    pub others : new ≡ record old { dir = new.dir; files = new.files; seen = new.seen; jobs = new.jobs; job = new.job; copies = new.copies }
     pub whole : IsWholeReplica cells new
     pub standing : AreStanding cells old → AreStanding cells new
     pub sourced : KeepsSource cells old new
@@ -120,8 +122,8 @@ module _ {D : Type 0} where
   abbrev pub IsStepOf : ℕ → ℕ → ReplicaParts D → CopyStep → Type 0
   IsStepOf seg number r Gone = (c : Job) → copy_at number r.copies.running ≡ Some c → is_copy_of seg c ≡ false
   IsStepOf seg number r Complete = IsSomeAnd (copy_at number r.copies.running) (λ c. (is_copy_of seg c ≡ true) × (c.missing ≡ []))
-  IsStepOf seg number r Waits = IsSomeAnd (copy_at number r.copies.running) (λ c. (is_copy_of seg c ≡ true) × (c.missing ≢ [])) × IsSome r.job
-  IsStepOf seg number r (Wants q meta) = IsSomeAnd (copy_at number r.copies.running) (λ c. (is_copy_of seg c ≡ true) × IsNextToFetch c (Some (q, meta))) × (r.job ≡ None)
+  IsStepOf seg number r Waits = IsSomeAnd (copy_at number r.copies.running) (λ c. (is_copy_of seg c ≡ true) × (c.missing ≢ [])) × IsSome (running_point r.job)
+  IsStepOf seg number r (Wants q meta) = IsSomeAnd (copy_at number r.copies.running) (λ c. (is_copy_of seg c ≡ true) × IsNextToFetch c (Some (q, meta))) × (running_point r.job ≡ None)
 
   -- The copy of this number runs, and wants this part with the part's metadata if it wants it.
   pub record MayTakeMerged (number : ℕ) (part : Part) (r : ReplicaParts D) : Type 0 where

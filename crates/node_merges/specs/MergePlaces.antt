@@ -7,11 +7,17 @@ use Rattle.copy_state.specs.declared.state.CopyState.{CopyState}
 use Rattle.copy_job.specs.declared.copying.Part.{Part}
 use Rattle.seg_merge.specs.declared.task.MergeTask.{MergeTask}
 use Rattle.seg_merge.specs.declared.task.Merged.{Merged}
-use Rattle.primary_parts.specs.declared.parts.Parts.{Parts as PrimaryParts}
-use Rattle.primary_parts.specs.declared.parts.PublishFault.{PublishFault}
-use Rattle.node_jobs.specs.Given.{IsMadeFor, Held, Primary, Replica, Down, Place, place_of, IsSlot, HasPrimary, HasReplica, IsPrimaryAt, IsReplicaAt, MovesOne}
-use Rattle.replica_parts.specs.declared.parts.Parts.{Parts as ReplicaParts}
-use Rattle.replica_parts.specs.Merges.{copy_at}
+use Rattle.primary_state.specs.declared.parts.Parts.{Parts as PrimaryParts}
+use Rattle.primary_state.specs.declared.parts.PublishFault.{PublishFault}
+use Rattle.cluster_nodes.specs.Given.{IsMadeFor}
+use Rattle.cluster_nodes.specs.declared.held.Held.{Held}
+use Rattle.cluster_nodes.specs.declared.nodes.Node.TheVariants.{Primary, Replica, Down}
+use Rattle.cluster_nodes.specs.declared.nodes.Place.{Place}
+use Rattle.cluster_nodes.specs.Places.{place_of, IsSlot, HasPrimary}
+use Rattle.cluster_nodes.specs.JobChanges.{HasReplica}
+use Rattle.cluster_nodes.specs.JobPlaces.{IsPrimaryAt, IsReplicaAt, MovesOne}
+use Rattle.replica_state.specs.declared.parts.Parts.{Parts as ReplicaParts}
+use Rattle.replica_state.specs.Merges.{copy_at}
 use Rattle.node_merges.specs.declared.copies.CopyStep.{CopyStep}
 use Rattle.node_merges.specs.declared.copies.CopyStep.TheVariants.{Gone}
 use Rattle.node_merges.specs.MergeChanges.{is_copy_of, AsksMerge, ReadiesMerge, MayCut, CutsMerge, MaySend, SendsMerged, IsStepOf, MayTakeMerged, TakesMerged, MaySettle, SettlesMerged, DropsMerged}

@@ -3,18 +3,19 @@
 ghost use Rattle.std.specs.Prelude.{◌≡◌, ◌<◌, ◌+◌, ◌^◌, true, false, None, Some, IsSome, IfSome, IfOk, OnOk};
 ghost use Rattle.copy_state.specs.Meta.{IsMetaOf};
 ghost use Rattle.copy_state.specs.States.{IsCopyState};
-ghost use Rattle.replica_parts.specs.Merges.{copy_at};
-ghost use Rattle.node_jobs.specs.Given.{place_of, IsSlot, HasReplica};
+ghost use Rattle.replica_state.specs.Merges.{copy_at};
+ghost use Rattle.cluster_nodes.specs.Places.{place_of, IsSlot};
+ghost use Rattle.cluster_nodes.specs.JobChanges.{HasReplica};
 ghost use Rattle.node_merges.specs.MergeChanges.{is_copy_of, MaySend, SendsMerged, IsStepOf, MayTakeMerged, TakesMerged, MaySettle, SettlesMerged, DropsMerged};
 ghost use Rattle.node_merges.specs.MergePlaces.{IsReplicaIn, MovesReplica, IsStepAt, RunsCopyOf};
 
+use cluster_nodes::{
+    Node, Place, Replica, copy_runs, lacks, next_file, put, share_state, take_replica,
+};
 use copy_job::{CopyJob, Part};
 use copy_state::{CopyState, FileMetaData};
 use disk_model::Dir;
 use file_names::{FileName, SegPart, part_name};
-use node_jobs::{
-    Node, Place, Replica, copy_runs, lacks, next_file, put, share_state, take_replica,
-};
 use nrt_base::{NoMemory, NodeNo, SegNo};
 use std::alloc::{AllocError, Global};
 

@@ -1,14 +1,15 @@
 //! The steps of a merge at the primary.
 
 ghost use Rattle.std.specs.Prelude.{◌≡◌, ◌≤◌, true, IfOk, OnOk};
-ghost use Rattle.primary_parts.specs.States.{out_of, is_out};
-ghost use Rattle.node_jobs.specs.Given.{IsMadeFor, place_of, IsSlot, HasPrimary};
+ghost use Rattle.primary_state.specs.States.{out_of, is_out};
+ghost use Rattle.cluster_nodes.specs.Given.{IsMadeFor};
+ghost use Rattle.cluster_nodes.specs.Places.{place_of, IsSlot, HasPrimary};
 ghost use Rattle.node_merges.specs.MergeChanges.{AsksMerge, ReadiesMerge, MayCut, CutsMerge};
 ghost use Rattle.node_merges.specs.MergePlaces.{IsPrimaryIn, MovesPrimary};
 
+use cluster_nodes::{Node, Place, Primary, PublishFault, put, take_primary};
 use copy_state::CopyState;
 use disk_model::Dir;
-use node_jobs::{Node, Place, Primary, PublishFault, put, take_primary};
 use nrt_base::{NoMemory, NodeNo, SegNo};
 use seg_merge::{MergeTask, Merged};
 use std::alloc::{AllocError, Global};

@@ -12,6 +12,7 @@ use crate::NoMemory;
 use crate::share::Share;
 use std::alloc::Global;
 use std::cmp::Ordering;
+use std::fmt;
 use std::hash::{Hash, Hasher};
 use std::marker::Model;
 
@@ -47,6 +48,16 @@ impl Key {
         ensures kind { IsTrue (is_key self.now) }
     {
         self.bytes.as_slice()
+    }
+}
+
+/// The key as it is.
+impl fmt::Display for Key {
+    fn fmt<W: fmt::Write>(&self, f: &mut fmt::Formatter<W>) -> fmt::Result {
+        for byte in self.as_slice() {
+            write!(f, "{}", *byte as char)?;
+        }
+        Ok(())
     }
 }
 

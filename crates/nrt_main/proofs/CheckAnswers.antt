@@ -3,12 +3,12 @@ use Rattle.std.proofs.Common.{◌≡◌, ℕ, List, Option, Some, None, Result, 
 use Rattle.std.specs.Prelude.{◌⊎◌, IsSome}
 use Rattle.std.proofs.lemmas.Option.{none-some}
 use Rattle.nrt_base.proofs.Plain.{ok_never_err, same_ok}
-use Rattle.dir_images.specs.declared.reading.ImageFault.{ImageFault}
-use Rattle.dir_images.specs.declared.reading.ImageFault.TheVariants.{Memory}
-use Rattle.dir_images.specs.Images.{IsNoImage}
+use Rattle.index_check.specs.declared.reading.ImageFault.{ImageFault}
+use Rattle.index_check.specs.declared.reading.ImageFault.TheVariants.{Memory}
+use Rattle.index_check.specs.Images.{IsNoImage}
 use Rattle.index_check.specs.declared.fault.CheckFault.{CheckFault}
-use Rattle.check_run.specs.declared.checking.Checked.{Checked}
-use Rattle.check_run.specs.Checks.{IsCheckOfImage}
+use Rattle.index_check.specs.declared.checking.Checked.{Checked}
+use Rattle.index_check.specs.Checks.{IsCheckOfImage}
 use Rattle.nrt_main.specs.declared.status.Status.{Status}
 use Rattle.nrt_main.specs.declared.status.Status.TheVariants.{Done, WriteFault, BadIndex, BadImage}
 use Rattle.nrt_main.specs.Check.{IsCheckAnswer}

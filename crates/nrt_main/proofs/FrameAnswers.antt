@@ -6,7 +6,7 @@ use Rattle.wire_frames.specs.declared.message.Message.{Message}
 use Rattle.wire_frames.specs.declared.message.WireFault.{WireFault}
 use Rattle.wire_frames.specs.Streams.{AreMessagesOf, IsUnfinished, IsStreamFault}
 use Rattle.wire_frames.proofs.StreamLaws.{one_reading, one_fault, never_faulty, are_messages, nothing_unfinished}
-use Rattle.frames_run.specs.Runs.{Gave, GaveMessages, IsTextOf, GaveFault, AreUnfinished, GaveFront, GaveMore, GaveBadStream, wire_number}
+use Rattle.wire_frames.specs.Runs.{Gave, GaveMessages, IsTextOf, GaveFault, AreUnfinished, GaveFront, GaveMore, GaveBadStream, wire_number}
 use Rattle.nrt_main.specs.Headline.{TakesWithin, TakesMore}
 use Rattle.nrt_main.specs.declared.status.Status.{Status}
 use Rattle.nrt_main.specs.declared.status.Status.TheVariants.{Done, WriteFault, BadStream}

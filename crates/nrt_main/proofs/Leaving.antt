@@ -3,8 +3,8 @@ use Rattle.std.proofs.Common.{◌≡◌, ℕ, List, Option, false, refl, ap, ◌
 use Rattle.std.specs.List.{flat_map}
 use Rattle.std.specs.Io.KnownBytes.{Appends}
 use Rattle.std.proofs.lemmas.List.{reverse-reverse}
-use Rattle.history_entries.specs.declared.entry.Entry.{Entry}
-use Rattle.history_entries.specs.Legal.{IsLegal}
+use Rattle.history_rules.specs.declared.entry.Entry.{Entry}
+use Rattle.history_rules.specs.Legal.{IsLegal}
 use Rattle.history_book.specs.Log.{printed}
 use Rattle.report_text.specs.Texts.{text_of_entry, text_of}
 use Rattle.script_serving.specs.declared.script.Script.{Script}

@@ -10,8 +10,8 @@ use Rattle.std.proofs.lemmas.Fmt.{decimal_injective}
 use Rattle.std.proofs.lemmas.List.{reverse-reverse}
 use Rattle.std.proofs.lemmas.List.Folds.{list_all-append}
 use Rattle.nrt_base.specs.Bytes.{is_between}
-use Rattle.history_entries.specs.declared.entry.Entry.{Entry}
-use Rattle.history_entries.specs.Legal.{IsLegal}
+use Rattle.history_rules.specs.declared.entry.Entry.{Entry}
+use Rattle.history_rules.specs.Legal.{IsLegal}
 use Rattle.history_book.specs.Log.{printed}
 use Rattle.script_text.specs.Reading.{number_within}
 use Rattle.script_text.proofs.NumberLemmas.{number_case}
@@ -24,7 +24,7 @@ use Rattle.script_serving.specs.Serves.{Serves}
 use Rattle.load_script.specs.Generated.{load_lane, load_commands, load_lines, generated_script}
 use Rattle.load_script.specs.Totals.{totals_in, totals_of, summary_text}
 use Rattle.load_script.proofs.LoadForm.{last_of, phases_for, lines_all, commands_all, load_all}
-use Rattle.load_laws.proofs.Searching.{totals_are}
+use Rattle.load_script.proofs.Searching.{totals_are}
 use Rattle.cluster_state.specs.Run.{Run}
 use Rattle.cluster_run.specs.Built.{is_run, IsPlainScript}
 use Rattle.cluster_run.specs.Running.{history_of}

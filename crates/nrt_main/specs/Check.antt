@@ -1,9 +1,9 @@
 -- What the program promises of the image of a directory.
 use Rattle.std.specs.Prelude.{ℕ, ◌≡◌, ◌⊎◌, List, [], ◌∷◌, take, codes, Option, None, IsSome}
 use Rattle.std.specs.Io.KnownBytes.{Appends}
-use Rattle.dir_images.specs.Images.{IsNoImage}
-use Rattle.check_run.specs.declared.checking.Checked.{Checked}
-use Rattle.check_run.specs.Checks.{IsCheckOfImage}
+use Rattle.index_check.specs.Images.{IsNoImage}
+use Rattle.index_check.specs.declared.checking.Checked.{Checked}
+use Rattle.index_check.specs.Checks.{IsCheckOfImage}
 use Rattle.nrt_main.specs.declared.status.Status.{Status}
 use Rattle.nrt_main.specs.declared.status.Status.TheVariants.{Done, WriteFault, BadIndex, BadImage}
 use Rattle.nrt_main.specs.Headline.{ReadWhole}

@@ -4,7 +4,7 @@ use Rattle.std.specs.Io.KnownBytes.{IsAtEnd, Appends}
 use Rattle.wire_frames.specs.declared.message.Message.{Message}
 use Rattle.wire_frames.specs.declared.message.WireFault.{WireFault}
 use Rattle.wire_frames.specs.Streams.{AreMessagesOf, IsStreamFault}
-use Rattle.frames_run.specs.Runs.{Gave, AreUnfinished, IsTextOf, wire_number}
+use Rattle.wire_frames.specs.Runs.{Gave, AreUnfinished, IsTextOf, wire_number}
 use Rattle.nrt_main.specs.declared.status.Status.{Status}
 use Rattle.nrt_main.specs.declared.status.Status.TheVariants.{Done, WriteFault, BadStream}
 

@@ -2,8 +2,8 @@
 use Rattle.std.specs.Prelude.{ℕ, ◌≡◌, ◌≤◌, ◌<◌, ◌⊎◌, List, [], ◌∷◌, length, take, codes, false, Option}
 use Rattle.std.specs.Io.KnownBytes.{Consumes, IsAtEnd, Appends}
 use Rattle.nrt_base.specs.declared.numbers.LineNo.{LineNo}
-use Rattle.history_entries.specs.declared.entry.History.{History}
-use Rattle.history_entries.specs.Legal.{IsLegal}
+use Rattle.history_rules.specs.declared.entry.History.{History}
+use Rattle.history_rules.specs.Legal.{IsLegal}
 use Rattle.report_text.specs.Texts.{text_of}
 use Rattle.script_text.specs.declared.fault.LineFault.{LineFault}
 use Rattle.script_text.specs.declared.fault.LineFault.TheVariants.{NotBuilt}

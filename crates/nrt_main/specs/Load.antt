@@ -2,7 +2,7 @@
 use Rattle.std.specs.Prelude.{ℕ, ◌≡◌, ◌≤◌, ◌⊎◌, List, [], ◌∷◌, take, codes, false, Option}
 use Rattle.std.specs.Fmt.{decimal}
 use Rattle.std.specs.Io.KnownBytes.{Appends}
-use Rattle.history_entries.specs.Legal.{IsLegal}
+use Rattle.history_rules.specs.Legal.{IsLegal}
 use Rattle.script_serving.specs.Serves.{Serves}
 use Rattle.load_script.specs.Generated.{generated_script}
 use Rattle.load_script.specs.Totals.{totals_of, summary_text}

@@ -1,7 +1,7 @@
 -- What the private calls below the top call give: the report of a run, and the answer where nothing is run.
 use Rattle.std.specs.Prelude.{ℕ, ◌≡◌, List, take, false, Option, ⊤}
 use Rattle.std.specs.Io.KnownBytes.{Appends}
-use Rattle.history_entries.specs.Legal.{IsLegal}
+use Rattle.history_rules.specs.Legal.{IsLegal}
 use Rattle.report_text.specs.Texts.{text_of}
 use Rattle.script_serving.specs.declared.script.Script.{Script}
 use Rattle.script_serving.specs.Serves.{Serves}

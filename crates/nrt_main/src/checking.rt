@@ -2,14 +2,14 @@
 
 ghost use Rattle.std.specs.Prelude.{◌≡◌, ◌≢◌, ◌<◌, ◌^◌, ◌-◌, ℕ};
 ghost use Rattle.nrt_base.specs.Causes.{Rose};
-ghost use Rattle.dir_images.specs.Images.{IsNoImage};
+ghost use Rattle.index_check.specs.Images.{IsNoImage};
 ghost use Rattle.nrt_main.specs.Headline.{TakesWithin, TakesMore};
 ghost use Rattle.nrt_main.specs.Check.{TellsRight, TellsWrong, TellsInPart, IsCheckAnswer, RanCheck, FoundWrong, RanCheckInPart, GaveNoImage, AnswersCheck};
 
 use crate::reading::{ReadEnd, read_all};
 use crate::status::Status;
 use crate::writing::write_all;
-use check_run::{ImageFault, check_image};
+use index_check::{ImageFault, check_image};
 use nrt_base::LineNo;
 use nrt_streams::{Sink, Source};
 use script_text::LineFault;

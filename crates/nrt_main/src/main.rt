@@ -11,6 +11,8 @@ mod gate;
 mod loading;
 mod message;
 mod reading;
+#[cfg(test)]
+mod sentences;
 mod standard;
 mod status;
 #[cfg(test)]
@@ -19,17 +21,19 @@ mod top;
 mod writing;
 
 use crate::gate::OpenGate;
-use crate::message::{line_of, stream_cause, unknown_word};
+use crate::message::stream_fault;
 use crate::standard::{StdSink, StdSource};
 use crate::status::Status;
 use crate::top::run_nrt;
-use check_run::{check_image, name_and_number, words_of};
 use cluster_run::Cluster;
 use disk_memory::MemDir;
+use index_check::check_image;
+use line_advice::advice;
+use nrt_base::LineNo;
 use nrt_streams::Arg;
 use script_text::LineFault;
 use std::process::ExitCode;
-use std::{env, io, str};
+use std::{env, io};
 
 /// The words after the program's name.
 fn words(rt: &HostRuntime) -> io::Result<Vec<Arg>> {
@@ -55,57 +59,44 @@ fn cause_number(cause: LineFault) -> u8
     }
 }
 
-/// Says in words what is wrong with a line.
-fn explain_line(rt: &HostRuntime, line: &str, cause: LineFault) -> io::Result<()> {
-    match cause {
-        LineFault::NoNodes => eprintln!(rt; "a script begins with `nodes N`, N from 2 to 16"),
-        LineFault::Word => eprintln!(rt; "unknown word \"{}\"", unknown_word(line)),
-        LineFault::Count => eprintln!(rt; "a word is missing, or there is one too many"),
-        LineFault::Range => eprintln!(rt; "a number, a key or a text is out of its range"),
-        LineFault::Query(fault) => eprintln!(rt; "{}", fault),
-        LineFault::Text => eprintln!(rt; "a byte is not printable"),
-        LineFault::NotBuilt => eprintln!(rt; "the program does not run \"{}\" yet", line),
+/// Says what is wrong with a line.
+fn explain_line(rt: &HostRuntime, script: &[u8], line: LineNo, cause: LineFault) -> io::Result<()> {
+    eprintln!(rt; "line {} cause {}", line.0, cause_number(cause))?;
+    match advice(script, line, cause) {
+        Some(advice) => eprintln!(rt; "nrt: line {}: {}", line.0, advice),
+        None => eprintln!(rt; "nrt: {}", Status::BadScript(line, cause)),
     }
 }
 
-/// Says in words what is wrong with the directory of an image.
+/// Says what is wrong with the directory of an image.
 fn explain_image(rt: &HostRuntime, image: &[u8]) -> io::Result<()> {
     let Ok(checked) = check_image(rt.alloc(), image) else {
         return Ok(());
     };
-    let Some(fault) = &checked.fault else {
-        return Ok(());
-    };
-    match name_and_number(fault) {
-        Some((name, _)) => {
-            let name = str::from_utf8(name.as_slice()).unwrap_or("");
-            eprintln!(rt; "nrt: {}: {}", name, words_of(fault))
-        }
+    match &checked.fault {
+        Some(fault) => eprintln!(rt; "nrt: {}", fault),
         None => Ok(()),
     }
 }
 
-/// Says on standard error why nothing was run.
-fn explain(rt: &HostRuntime, status: Status, script: &[u8]) -> io::Result<()> {
+/// Says on standard error why not all was done. Who reads the output may leave without a word.
+fn explain(rt: &HostRuntime, status: Status, input: &[u8], is_broken: bool) -> io::Result<()> {
     match status {
+        Status::Done => Ok(()),
+        Status::WriteFault if is_broken => Ok(()),
         Status::Usage => {
             eprintln!(rt; "usage: nrt run < SCRIPT")?;
             eprintln!(rt; "       nrt frames < STREAM")?;
             eprintln!(rt; "       nrt check < IMAGE")?;
             eprintln!(rt; "       nrt load N, N from 1 to 10000")
         }
-        Status::BadScript(line, cause) => {
-            eprintln!(rt; "line {} cause {}", line.0, cause_number(cause))?;
-            eprint!(rt; "nrt: line {}: ", line.0)?;
-            explain_line(rt, line_of(script, line), cause)
+        Status::BadScript(line, cause) => explain_line(rt, input, line, cause),
+        Status::BadStream(_) => {
+            eprintln!(rt; "{}", status)?;
+            eprintln!(rt; "nrt: {}", stream_fault(rt.alloc(), input))
         }
-        Status::BadStream(cause) => {
-            eprintln!(rt; "bad stream, cause {}", cause)?;
-            eprintln!(rt; "nrt: {}", stream_cause(cause))
-        }
-        Status::BadIndex => explain_image(rt, script),
-        Status::BadImage => eprintln!(rt; "nrt: the input is no image of a directory"),
-        _ => Ok(()),
+        Status::BadIndex => explain_image(rt, input),
+        _ => eprintln!(rt; "nrt: {}", status),
     }
 }
 
@@ -128,6 +119,6 @@ fn main(rt: HostRuntime) -> ExitCode {
             _ => Status::Memory,
         },
     };
-    let _ = explain(&rt, status, source.seen());
+    let _ = explain(&rt, status, source.seen(), sink.is_broken());
     ExitCode::from(status.number())
 }

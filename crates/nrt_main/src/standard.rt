@@ -2,7 +2,7 @@ ghost use Rattle.std.specs.Prelude.{◌≡◌, None};
 
 use nrt_streams::{Failed, Sink, Source};
 use std::alloc::Global;
-use std::io::{Read, Write};
+use std::io::{self, Read, Write};
 
 /// A reader of the system as a source. It tells nothing of its bytes, and keeps those that were read, as far as
 /// memory lasts, for messages.
@@ -58,13 +58,23 @@ impl<R: Read> Source for StdSource<R> {
 pub struct StdSink<W> {
     writer: W,
     faults: u64,
+    broken: bool,
 }
 
 impl<W> StdSink<W> {
     pub fn new(writer: W) -> Self
         ensures { result.faults ≡ 0 }
     {
-        StdSink { writer, faults: 0 }
+        StdSink {
+            writer,
+            faults: 0,
+            broken: false,
+        }
+    }
+
+    /// Whether the other end of a pipe was closed.
+    pub fn is_broken(&self) -> bool {
+        self.broken
     }
 }
 
@@ -76,7 +86,12 @@ impl<W: Write> Sink for StdSink<W> {
     fn write(&mut self, bytes: &[u8]) -> Result<usize, Failed> {
         match self.writer.write(bytes) {
             Ok(count) if count > 0 || bytes.is_empty() => Ok(count),
-            _ => {
+            Ok(_) => {
+                self.faults = self.faults.saturating_add(1);
+                Err(Failed)
+            }
+            Err(error) => {
+                self.broken = error.kind() == io::ErrorKind::BrokenPipe;
                 self.faults = self.faults.saturating_add(1);
                 Err(Failed)
             }

@@ -1,32 +1,44 @@
 ghost use Rattle.std.specs.Prelude.{◌≡◌};
 ghost use Rattle.nrt_main.specs.Statuses.{exit_status};
 
+use index_check::ImageFault;
 use nrt_base::LineNo;
 use script_text::LineFault;
+use thiserror::Error;
 
 /// What the program answers.
-#[derive(Clone, Copy, Debug, PartialEq, Eq)]
+#[derive(Clone, Copy, Debug, PartialEq, Eq, Error)]
 pub enum Status {
     /// The source was read to its end, and the text of what it gave fully written.
+    #[error("all is done")]
     Done,
     /// The words are no row of the table.
+    #[error("the words after the program's name are no command")]
     Usage,
     /// This line is the first that is refused, for this cause.
+    #[error("line {number}: {1}", number = .0.0)]
     BadScript(LineNo, LineFault),
     /// The source failed.
+    #[error("standard input cannot be read")]
     ReadFault,
     /// The sink failed; a part of the text from its front is written.
+    #[error("standard output cannot be written")]
     WriteFault,
     /// Want of memory.
+    #[error("out of memory")]
     Memory,
     /// The source has more than 16,777,216 bytes.
+    #[error("the input has more than 16777216 bytes")]
     TooLarge,
     /// Something is wrong with the directory, and the line that names it is written.
+    #[error("the directory is not as its last commit says")]
     BadIndex,
     /// The bytes are no image of a directory.
+    #[error("{fault}", fault = ImageFault::Body)]
     BadImage,
     /// The stream is bad: its first faulty frame has a wrong length (1), a wrong kind (2) or a wrong body (3), or it ends
     /// within a frame (4).
+    #[error("bad stream, cause {0}")]
     BadStream(u8),
 }
 

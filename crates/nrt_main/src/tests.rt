@@ -663,3 +663,97 @@ fn merge_beside_lane(rt: HostRuntime) -> Result<(), Fail> {
     assert!(rt; gate.meeting.was_in_time());
     Ok(())
 }
+
+/// Holds the build of line 7 until line 5 came to its first chunk, and that chunk until line 8 came to its first one.
+#[derive(Drop)]
+struct Overtakes {
+    first: Meeting,
+    second: Meeting,
+}
+
+impl Gate for Overtakes {
+    fn pass(&self, place: Place) {
+        match place {
+            Place::Chunk(line, ..) => {
+                if line.0 == 5 {
+                    self.first.arrive();
+                    self.second.wait();
+                } else {
+                    self.second.arrive();
+                }
+            }
+            Place::Build(line) => {
+                if line.0 == 7 {
+                    self.first.wait();
+                }
+            }
+            Place::Evaluate(..) | Place::Merge(_) => {}
+        }
+    }
+}
+
+/// Holds the evaluation of line 6 until line 5 came to its first chunk, and that chunk until line 8 came to its evaluation.
+#[derive(Drop)]
+struct Crashes {
+    first: Meeting,
+    second: Meeting,
+}
+
+impl Gate for Crashes {
+    fn pass(&self, place: Place) {
+        match place {
+            Place::Chunk(..) => {
+                self.first.arrive();
+                self.second.wait();
+            }
+            Place::Evaluate(line, _) => {
+                if line.0 == 6 {
+                    self.first.wait();
+                } else {
+                    self.second.arrive();
+                }
+            }
+            Place::Build(_) | Place::Merge(_) => {}
+        }
+    }
+}
+
+// A copy that a later one overtakes, which takes over what it has.
+const OVERTAKEN: &[u8] =
+    b"nodes 2\n1 put a x\n1 publish\njoin\n1 copy 2\n2 put b x\n2 publish\n2 copy 2\n";
+
+// A copy whose node crashes.
+const CRASHED: &[u8] =
+    b"nodes 2\n1 put a x\n1 publish\njoin\n1 copy 2\n2 search 1 x\n2 crash 2 0\n2 search 1 x\n";
+
+/// Whether it is a line of the report.
+fn has_line(report: &[u8], line: &[u8]) -> bool {
+    report
+        .split(|byte| *byte == b'\n')
+        .any(|other| other == line)
+}
+
+#[test]
+fn copy_overtaken(rt: HostRuntime) -> Result<(), Fail> {
+    let gate = Overtakes {
+        first: Meeting::new(),
+        second: Meeting::new(),
+    };
+    let (status, text) = run_gated(&rt, rt.alloc(), &gate, &[b"run"], OVERTAKEN, &[], &[])?;
+    assert!(rt; status == Status::Done && gate.first.was_in_time() && gate.second.was_in_time());
+    assert!(rt; has_line(text.as_slice(), b"5 refused cancelled 3"));
+    assert!(rt; has_line(text.as_slice(), b"8 switched 2 3"));
+    Ok(())
+}
+
+#[test]
+fn copy_whose_node_crashes(rt: HostRuntime) -> Result<(), Fail> {
+    let gate = Crashes {
+        first: Meeting::new(),
+        second: Meeting::new(),
+    };
+    let (status, text) = run_gated(&rt, rt.alloc(), &gate, &[b"run"], CRASHED, &[], &[])?;
+    assert!(rt; status == Status::Done && gate.first.was_in_time() && gate.second.was_in_time());
+    assert!(rt; has_line(text.as_slice(), b"5 refused lost"));
+    Ok(())
+}

@@ -3,7 +3,7 @@ ghost use Rattle.nrt_base.specs.Causes.{Rose};
 ghost use Rattle.script_serving.specs.Form.{IsInForm};
 ghost use Rattle.cluster_run.specs.Built.{IsPlainScript};
 ghost use Rattle.nrt_main.specs.Headline.{Ran, Answers, RanInPart, AnswersInPart, IsRunnable, RefusesLine, IsAnswer, AnswersWhole, Refuses, IsRun, LeavesRun, LeavesRunInPart, TakesWithin, TakesMore, longest};
-ghost use Rattle.frames_run.specs.Runs.{GaveBadStream, GaveMore};
+ghost use Rattle.wire_frames.specs.Runs.{GaveBadStream, GaveMore};
 ghost use Rattle.nrt_main.specs.Frames.{IsFrames, RanFrames, RanFramesInPart, IsFramesAnswer};
 ghost use Rattle.nrt_main.specs.Check.{IsCheck, RanCheck, FoundWrong, RanCheckInPart, GaveNoImage, AnswersCheck};
 ghost use Rattle.nrt_main.specs.Load.{IsLoad, IsLoadOf, LeavesSummary, LeavesSummaryInPart, IsLoadAnswer};
@@ -18,7 +18,6 @@ use crate::status::Status;
 use crate::writing::write_all;
 use cluster_run::{Cluster, Gate, run_script};
 use disk_memory::MemDir;
-use frames_run::{FramesEnd, run_frames};
 use nrt_base::{LineNo, NoMemory};
 use nrt_streams::{Arg, Sink, Source};
 use report_text::report_entries;
@@ -27,6 +26,7 @@ use script_text::{LineFault, ScriptFault, parse_script};
 use std::alloc::Global;
 use std::sync::Wait;
 use std::thread::Threads;
+use wire_frames::{FramesEnd, run_frames};
 
 /// The script that the bytes are, where the program runs its every statement; else the answer to them.
 #[tactic(auto, using(crate::proofs::AnswerLaws::refused_line))]

@@ -3,7 +3,7 @@ use Rattle.std.proofs.Common.{◌≡◌, ℕ, ◌≤◌, List, [], ◌∷◌, le
 use Rattle.std.specs.Prelude.{true, reverse}
 use Rattle.std.proofs.lemmas.List.{take_all}
 use Rattle.file_names.specs.Names.{is_ascending}
-use Rattle.history_entries.specs.Nodes.{Past}
+use Rattle.history_rules.specs.Nodes.{Past}
 use Rattle.history_facts.specs.Openings.{was_opened, HoldsNone}
 use Rattle.history_facts.proofs.TicketLemmas.{held_was_opened}
 

@@ -9,18 +9,18 @@ use Rattle.nrt_base.specs.declared.numbers.Gen.{Gen}
 use Rattle.nrt_base.specs.declared.numbers.NodeNo.{NodeNo}
 use Rattle.nrt_base.specs.declared.numbers.Version.{Version}
 use Rattle.documents.specs.declared.operation.Op.{Op}
-use Rattle.history_entries.specs.declared.entry.Entry.{Entry}
-use Rattle.history_entries.specs.declared.entry.Event.{Event}
-use Rattle.history_entries.specs.declared.entry.Event.TheVariants.{Accepted, Published, Promoted}
-use Rattle.history_entries.specs.declared.point.Point.{Point}
+use Rattle.history_rules.specs.declared.entry.Entry.{Entry}
+use Rattle.history_rules.specs.declared.entry.Event.{Event}
+use Rattle.history_rules.specs.declared.entry.Event.TheVariants.{Accepted, Published, Promoted}
+use Rattle.history_rules.specs.declared.point.Point.{Point}
 use Rattle.point_history.specs.declared.published.Walk.{Walk}
 use Rattle.documents.specs.Documents.{IsAscending, key_cmp, document_of, documents_after, after_op}
-use Rattle.history_entries.specs.Nodes.{Past, version_of}
-use Rattle.history_entries.specs.Lines.{same_at}
-use Rattle.history_entries.specs.Points.{operations_written, operations_at, documents_at, points_of}
-use Rattle.history_entries.specs.Legal.{KeepsRule, IsLegalPast}
+use Rattle.history_rules.specs.Nodes.{Past, version_of}
+use Rattle.history_rules.specs.Lines.{same_at}
+use Rattle.history_rules.specs.Points.{operations_written, operations_at, documents_at, points_of}
+use Rattle.history_rules.specs.Legal.{KeepsRule, IsLegalPast}
 use Rattle.point_history.specs.Walks.{KnowsPast, Promotes, IsStarted, line_cmp, begun_at, made_at, searched_by}
-use Rattle.history_laws.proofs.PastLemmas.{keeps_at}
+use Rattle.history_rules.proofs.PastLemmas.{keeps_at}
 use Rattle.documents.proofs.DocumentLemmas.{documents_ascend, documents_after_last}
 
 pub is_eq-line_cmp : (a b : At) → is_eq (line_cmp (a.lane.0, a.line.0) (b.lane.0, b.line.0)) ≡ same_at a b

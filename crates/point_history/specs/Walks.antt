@@ -8,13 +8,13 @@ use Rattle.nrt_base.specs.declared.numbers.At.{At}
 use Rattle.nrt_base.specs.declared.numbers.Gen.{Gen}
 use Rattle.nrt_base.specs.declared.numbers.NodeNo.{NodeNo}
 use Rattle.nrt_base.specs.declared.numbers.Version.{Version}
-use Rattle.history_entries.specs.declared.entry.Event.{Event}
-use Rattle.history_entries.specs.declared.entry.Event.TheVariants.{Publishing, Published}
+use Rattle.history_rules.specs.declared.entry.Event.{Event}
+use Rattle.history_rules.specs.declared.entry.Event.TheVariants.{Publishing, Published}
 use Rattle.point_history.specs.declared.published.Walk.{Walk}
 use Rattle.documents.specs.Documents.{key_cmp, document_of, documents_after}
-use Rattle.history_entries.specs.Nodes.{Past, primary_of, version_of}
-use Rattle.history_entries.specs.Lines.{start_entry}
-use Rattle.history_entries.specs.Points.{operations_written, operations_at_start, documents_at, points_of}
+use Rattle.history_rules.specs.Nodes.{Past, primary_of, version_of}
+use Rattle.history_rules.specs.Lines.{start_entry}
+use Rattle.history_rules.specs.Points.{operations_written, operations_at_start, documents_at, points_of}
 
 -- lines are in the order of their lanes, and within a lane of their numbers
 abbrev pub line_cmp : ℕ × ℕ → ℕ × ℕ → Ordering

@@ -1,13 +1,14 @@
 ghost use Rattle.std.specs.Prelude.{◌≡◌, ◌<◌, ◌^◌, ◌↔◌, reverse, IfOk, IsTrue};
 ghost use Rattle.documents.specs.Ranking.{first_rank, scan_of};
-ghost use Rattle.history_entries.specs.Nodes.{accepted_count};
-ghost use Rattle.history_entries.specs.Lines.{start_entry};
-ghost use Rattle.history_entries.specs.Points.{documents_at};
-ghost use Rattle.history_entries.specs.Rules.{StartedSearch, MayAnswer};
+ghost use Rattle.history_rules.specs.Nodes.{accepted_count};
+ghost use Rattle.history_rules.specs.Lines.{start_entry};
+ghost use Rattle.history_rules.specs.Points.{documents_at};
+ghost use Rattle.history_rules.specs.Rules.{MayAnswer};
+ghost use Rattle.history_rules.specs.Started.{StartedSearch};
 
 use documents::{Answer, Hit, Query, scan_if_told};
-use history_entries::{Entry, Event};
 use history_facts::{documents_at, is_node, node_survives, start_entry};
+use history_rules::{Entry, Event};
 use nrt_base::{At, NoMemory, NodeNo, TicketNo, Version};
 use std::alloc::Global;
 

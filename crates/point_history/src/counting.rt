@@ -1,12 +1,12 @@
 //! How many operations a point has.
 
 ghost use Rattle.std.specs.Prelude.{◌≡◌, ◌∷◌, ℕ, true, false, reverse, length, MatchOption};
-ghost use Rattle.history_entries.specs.Nodes.{Past, is_point, accepted_count};
-ghost use Rattle.history_entries.specs.Points.{operations_at};
-ghost use Rattle.history_entries.specs.Legal.{IsLegal, KeepsRule};
+ghost use Rattle.history_rules.specs.Nodes.{Past, is_point, accepted_count};
+ghost use Rattle.history_rules.specs.Points.{operations_at};
+ghost use Rattle.history_rules.specs.Legal.{IsLegal, KeepsRule};
 
-use history_entries::{Entry, Event, History};
 use history_facts::{is_point, operation_count};
+use history_rules::{Entry, Event, History};
 use nrt_base::Version;
 
 /// The number of the operation that was accepted last, or 0, after one more entry.

@@ -1,16 +1,17 @@
 //! The rules of faults: where one may be met.
 
-ghost use Rattle.std.specs.Prelude.{◌≡◌, ◌↔◌, ◌⊎◌, reverse, true, false, IsTrue};
+ghost use Rattle.std.specs.Prelude.{◌≡◌, ◌↔◌, ◌⊎◌, ◌||◌, reverse, true, false, IsTrue};
 ghost use Rattle.std.specs.Option.{option_copied};
-ghost use Rattle.history_entries.specs.Lines.{last_of_line, is_answered};
-ghost use Rattle.history_entries.specs.Rules.{copies_to, is_merging, fetches_at, MayFault};
+ghost use Rattle.history_rules.specs.Nodes.{is_running};
+ghost use Rattle.history_rules.specs.Lines.{last_of_line, is_answered};
+ghost use Rattle.history_rules.specs.Rules.{copies_to, is_merging, is_unbegun, fetches_at, MayFault};
 
 use crate::refusals::is_node_of;
-use history_entries::{Entry, Event, FaultKind};
 use history_facts::{
     before_start, is_answered, is_at, is_node, is_of_disk, is_planned, is_running, last_of_line,
     primary_of, start_entry,
 };
+use history_rules::{Entry, Event, FaultKind};
 use nrt_base::{At, NodeNo};
 
 /// Whether a line started as a copy or a settle after these entries, and this is a node of it.
@@ -57,6 +58,23 @@ fn is_at_work(at: At, entries: &[Entry]) -> bool
     !is_answered(at, entries) || is_merging(last_of_line(at, entries))
 }
 
+fn is_unbegun(last: Option<&Event>) -> bool
+    ensures { result ≡ is_unbegun (option_copied last.entry) }
+{
+    match last {
+        Some(_) => false,
+        None => true,
+    }
+}
+
+/// Whether a node runs, or the line has no entry but faults.
+fn is_alive(n: NodeNo, at: At, entries: &[Entry]) -> bool
+    ensures { result ≡ (is_running n.0 (reverse entries.now)
+        || is_unbegun (last_of_line at (reverse entries.now))) }
+{
+    is_running(n, entries) || is_unbegun(last_of_line(at, entries))
+}
+
 pub(crate) fn may_fault(nodes: u8, entries: &[Entry], at: At, n: NodeNo, kind: FaultKind) -> bool
     ensures { IsTrue result ↔ MayFault nodes (reverse entries.now) at n kind }
 {
@@ -64,4 +82,5 @@ pub(crate) fn may_fault(nodes: u8, entries: &[Entry], at: At, n: NodeNo, kind: F
         && is_planned(n, kind, entries)
         && is_at_work(at, entries)
         && (is_of_disk(kind) || fetches_at(nodes, at, entries, n))
+        && is_alive(n, at, entries)
 }

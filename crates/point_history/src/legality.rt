@@ -1,7 +1,7 @@
 ghost use Rattle.std.specs.Prelude.{◌≡◌, ◌<◌, ◌+◌, ◌^◌, ◌∷◌, ◌↔◌, reverse, length, IfOk, IsTrue};
-ghost use Rattle.history_entries.specs.Nodes.{accepted_count};
+ghost use Rattle.history_rules.specs.Nodes.{accepted_count};
 ghost use Rattle.history_facts.specs.Generations.{ShowsGeneration, ShowsDrawn};
-ghost use Rattle.history_entries.specs.Legal.{KeepsRule, rule_number, IsVerdict};
+ghost use Rattle.history_rules.specs.Legal.{KeepsRule, rule_number, IsVerdict};
 
 use crate::answers::may_answer;
 use crate::fault_rules::may_fault;
@@ -12,8 +12,8 @@ use crate::rules::{
     may_plan, may_promote, may_publish, may_reopen, may_settle, may_start_commit, may_start_copy,
     may_start_merge, may_start_publish, may_start_settle, may_switch,
 };
-use history_entries::{Entry, Event, History, Verdict};
 use history_facts::{Drawn, Generation, note_drawn};
+use history_rules::{Entry, Event, History, Verdict};
 use nrt_base::NoMemory;
 use std::alloc::Global;
 
@@ -76,7 +76,7 @@ fn keeps(
         Event::Copying { n, v } => may_start_copy(nodes, before, at, *n, *v),
         Event::Switched { n, v } => may_switch(nodes, before, at, *n, *v),
         Event::Copied { n, v } => may_finish_copy(nodes, before, at, *n, *v),
-        Event::Settling { v } => may_start_settle(before, *v),
+        Event::Settling { v } => may_start_settle(before, at, *v),
         Event::Settled { v } => may_settle(nodes, before, at, *v),
         Event::Opened { n, t, v } => may_open(nodes, before, at, *n, *t, *v),
         Event::Asking { n, t, v } => may_ask(nodes, before, at, *n, *t, *v),

@@ -16,7 +16,6 @@ pub use counting::operations;
 pub use documents::{
     Answer, Hit, Op, Query, Texts, apply, change, has_word, listed, matches, scan, words,
 };
-pub use history_entries::{Cause, Entry, Event, FaultKind, FaultPlan, History, Point, Verdict};
-pub use history_laws::laws;
+pub use history_rules::{Cause, Entry, Event, FaultKind, FaultPlan, History, Point, Verdict, laws};
 pub use legality::legal;
 pub use published::points;

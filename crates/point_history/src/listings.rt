@@ -6,15 +6,16 @@ ghost use Rattle.std.specs.Ordering.{nat_cmp};
 ghost use Rattle.std.specs.Cmp.Lexicographic.{slice_cmp};
 ghost use Rattle.file_names.specs.Names.{is_commit_name, is_pending_name, is_documents_name, is_less, is_ascending};
 ghost use Rattle.history_facts.specs.Generations.{ShowsDrawn};
-ghost use Rattle.history_entries.specs.Rules.{has_documents, MayHaveName, MayListFiles};
+ghost use Rattle.history_rules.specs.Rules.{MayHaveName, MayListFiles};
+ghost use Rattle.history_rules.specs.Points.{has_documents};
 ghost use Rattle.history_facts.specs.Openings.{opens_by, HoldsNone};
 
 use file_names::{FileName, commit_of, pending_of};
-use history_entries::{Entry, Event};
 use history_facts::{
     Drawn, documents_at, has_committed, has_met_fault, is_drawn_file, is_drawn_temporary, is_node,
     is_running, open_ticket, version_of,
 };
+use history_rules::{Entry, Event};
 use nrt_base::{At, NoMemory, NodeNo, Version};
 use std::alloc::Global;
 use std::cmp::Ordering;

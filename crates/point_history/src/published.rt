@@ -2,14 +2,14 @@ ghost use Rattle.std.specs.Prelude.{◌≡◌, ◌==◌, ◌<◌, ◌+◌, ◌�
 ghost use Rattle.std.specs.BTreeMap.{IsOrdered};
 ghost use Rattle.nrt_base.specs.declared.numbers.At.{At};
 ghost use Rattle.documents.specs.Documents.{IsAscending, document_of, key_cmp};
-ghost use Rattle.history_entries.specs.Nodes.{Past, is_at};
-ghost use Rattle.history_entries.specs.Lines.{same_at};
-ghost use Rattle.history_entries.specs.Points.{points_of};
-ghost use Rattle.history_entries.specs.Legal.{IsLegal};
+ghost use Rattle.history_rules.specs.Nodes.{Past, is_at};
+ghost use Rattle.history_rules.specs.Lines.{same_at};
+ghost use Rattle.history_rules.specs.Points.{points_of};
+ghost use Rattle.history_rules.specs.Legal.{IsLegal};
 ghost use Rattle.point_history.specs.Walks.{KnowsPast, Promotes, IsStarted, begun_at, made_at, searched_by};
 
 use documents::{Texts, change, listed, texts_of};
-use history_entries::{Entry, Event, History, Point};
+use history_rules::{Entry, Event, History, Point};
 use nrt_base::{At, Doc, Gen, List, NoMemory, NodeNo, Share, Version};
 use std::alloc::Global;
 use std::collections::BTreeMap;

@@ -1,21 +1,22 @@
 //! The rule of a refusal.
 
-ghost use Rattle.std.specs.Prelude.{◌≡◌, ◌↔◌, true, reverse, IsTrue};
-ghost use Rattle.history_entries.specs.declared.cause.FaultKind.TheVariants.{Damage};
-ghost use Rattle.history_entries.specs.Commits.{is_disk_fault};
-ghost use Rattle.history_entries.specs.Faults.{same_kind, has_fault, has_met_fault};
-ghost use Rattle.history_entries.specs.Points.{IsDrawnFile};
+ghost use Rattle.std.specs.Prelude.{◌≡◌, ◌↔◌, ◌==◌, true, reverse, IsTrue};
+ghost use Rattle.history_rules.specs.declared.cause.FaultKind.TheVariants.{Link, Damage};
+ghost use Rattle.history_rules.specs.Commits.{is_disk_fault};
+ghost use Rattle.history_rules.specs.Faults.{same_kind, has_fault, has_met_fault, has_damage, fails_now};
+ghost use Rattle.history_rules.specs.Points.{IsDrawnFile};
 ghost use Rattle.history_facts.specs.Generations.{ShowsDrawn};
-ghost use Rattle.history_entries.specs.Lines.{start_entry};
-ghost use Rattle.history_entries.specs.Rules.{is_node_of, is_source_of, is_lost, is_above, is_copied_beside, is_settled_beside, is_copy, is_loss, has_disk_fault, MayCancel, MayBreakOff, MayRefuse, MayRefuseLine};
+ghost use Rattle.history_rules.specs.Lines.{start_entry};
+ghost use Rattle.history_rules.specs.Rules.{has_disk_fault, MayCancel, MayBreakOff, MayRefuse, MayRefuseLine};
+ghost use Rattle.history_rules.specs.Started.{is_node_of, is_source_of, is_lost, is_above, is_copied_beside, is_settled_beside, is_copy, is_loss};
 
 use file_names::FileName;
-use history_entries::{Cause, Entry, Event, FaultKind};
 use history_facts::{
-    Drawn, before_start, crashes, has_met_fault, has_switched, is_answered, is_at, is_disk_fault,
-    is_drawn_file, is_of_disk, is_point, is_running, is_start, primary_of, same_at, same_kind,
-    start_entry,
+    Drawn, before_start, crashes, fails_now, has_met_fault, has_switched, is_answered, is_at,
+    is_disk_fault, is_drawn_file, is_of_disk, is_point, is_running, is_start, primary_of, same_at,
+    same_kind, start_entry,
 };
+use history_rules::{Cause, Entry, Event, FaultKind};
 use nrt_base::{At, NodeNo, Version};
 
 /// Whether a node is one of a line that started with this event after these entries.
@@ -144,6 +145,41 @@ fn has_fault_at_node(
     met
 }
 
+/// Whether a line has met a fault of the link at this node.
+fn has_link_fault(n: NodeNo, at: At, entries: &[Entry]) -> bool
+    ensures { result ≡ has_fault (λ m. m == n.0) (same_kind Link) at (reverse entries.now) }
+{
+    let mut met = false;
+    for entry in entries {
+        if let Event::Fault { n: m, kind } = &entry.event {
+            if m.0 == n.0 && same_kind(FaultKind::Link, *kind) && same_at(entry.at, at) {
+                met = true;
+            }
+        }
+    }
+    met
+}
+
+/// Whether a line has met a damage at a node of its own, and at that node no fault of the link.
+fn has_damage(nodes: u8, start: &[Entry], begun: &Event, at: At, entries: &[Entry]) -> bool
+    ensures { result ≡ has_damage (is_node_of nodes (reverse start.now) begun.now) at
+        (reverse entries.now) }
+{
+    let mut met = false;
+    for entry in entries {
+        if let Event::Fault { n, kind } = &entry.event {
+            if is_node_of(nodes, start, begun, *n)
+                && !has_link_fault(*n, at, entries)
+                && same_kind(FaultKind::Damage, *kind)
+                && same_at(entry.at, at)
+            {
+                met = true;
+            }
+        }
+    }
+    met
+}
+
 /// Whether a line has met a fault of a disk at a node of its own or at its source.
 fn has_disk_fault(nodes: u8, start: &[Entry], begun: &Event, at: At, entries: &[Entry]) -> bool
     ensures { result ≡ has_disk_fault nodes (reverse start.now) begun.now at (reverse entries.now) }
@@ -187,11 +223,10 @@ fn may_be_damaged(
     name: &FileName,
 ) -> bool
     requires shown { ShowsDrawn (reverse entries.now) drawn.now }
-    ensures { IsTrue result ↔ ((has_fault (is_node_of nodes (reverse start.now) begun.now)
-        (same_kind Damage) at (reverse entries.now) ≡ true) × IsDrawnFile (reverse entries.now) name.now) }
+    ensures { IsTrue result ↔ ((has_damage (is_node_of nodes (reverse start.now) begun.now) at
+        (reverse entries.now) ≡ true) × IsDrawnFile (reverse entries.now) name.now) }
 {
-    has_fault_at_node(nodes, start, begun, FaultKind::Damage, at, entries)
-        && is_drawn_file(drawn, name)
+    has_damage(nodes, start, begun, at, entries) && is_drawn_file(drawn, name)
 }
 
 fn may_break_off(
@@ -211,7 +246,9 @@ fn may_break_off(
         Cause::Cancelled(v) => may_cancel(nodes, entries, at, start, begun, *v),
         Cause::LinkFault => has_fault_at_node(nodes, start, begun, FaultKind::Link, at, entries),
         Cause::Damaged(name) => may_be_damaged(nodes, entries, drawn, at, start, begun, name),
-        Cause::DiskFault => has_disk_fault(nodes, start, begun, at, entries),
+        Cause::DiskFault => {
+            has_disk_fault(nodes, start, begun, at, entries) && fails_now(at, entries)
+        }
         _ => false,
     }
 }

@@ -1,19 +1,19 @@
 ghost use Rattle.std.specs.Prelude.{◌≡◌, ◌≤◌, ◌<◌, ◌+◌, ◌^◌, ◌↔◌, ◌⊎◌, ℕ, reverse, length, IsTrue, true, false};
-ghost use Rattle.history_entries.specs.Nodes.{IsNode, IsReplica, version_of, accepted_count};
-ghost use Rattle.history_entries.specs.Lines.{start_entry, before_start, has_switched, NodeSurvives};
-ghost use Rattle.history_entries.specs.Commits.{starts_commit};
-ghost use Rattle.history_entries.specs.Faults.{has_met_fault};
+ghost use Rattle.history_rules.specs.Nodes.{IsNode, IsReplica, version_of, accepted_count};
+ghost use Rattle.history_rules.specs.Lines.{start_entry, before_start, has_just_switched, NodeSurvives};
+ghost use Rattle.history_rules.specs.Commits.{starts_commit};
+ghost use Rattle.history_rules.specs.Faults.{has_met_fault, has_file_fault};
 ghost use Rattle.history_facts.specs.Generations.{ShowsGeneration};
-ghost use Rattle.history_entries.specs.Rules.{MayAccept, MayStartPublish, MayPublish, MayStartCopy, MaySwitch, MayFinishCopy, MayStartSettle, MaySettle, MayOpen, MayAsk, MayClose, MayStartCommit, MayCommit, MayCrash, MayReopen, MayPromote, MayStartMerge, MayDrain, StartedCopy};
+ghost use Rattle.history_rules.specs.Rules.{MayAccept, MayStartPublish, MayPublish, MayStartCopy, MaySwitch, MayFinishCopy, MayStartSettle, MaySettle, MayOpen, MayAsk, MayClose, MayStartCommit, MayCommit, MayCrash, MayReopen, MayPromote, MayStartMerge, MayDrain, StartedCopy, IsWhole};
 
-use history_entries::{Entry, Event};
 use history_facts::{
     Generation, accepted_count, before_start, commit_in_flight, copy_in_flight, drained_count,
-    has_met_fault, has_switched, has_ticket, highest_copy, highest_switched, is_answered,
-    is_free_for, is_made_in_generation, is_node, is_reopenable, is_replica, is_running, is_stuck,
-    is_ticket_at, is_ticket_of, merge_count, newest_version, node_survives, primary_of,
+    has_file_fault, has_just_switched, has_met_fault, has_ticket, highest_switched, is_answered,
+    is_free_for, is_made_in_generation, is_node, is_passed, is_reopenable, is_replica, is_running,
+    is_stuck, is_ticket_at, is_ticket_of, merge_count, newest_version, node_survives, primary_of,
     publish_in_flight, source_survives, start_entry, version_of, was_searched_since,
 };
+use history_rules::{Entry, Event};
 use nrt_base::{At, Gen, NodeNo, SegNo, TicketNo, Version};
 
 pub(crate) fn may_accept(entries: &[Entry], at: At, seq: u32) -> bool
@@ -32,6 +32,7 @@ pub(crate) fn may_start_publish(entries: &[Entry], generation: &Generation, at: 
 {
     primary_of(entries).node.is_some()
         && is_free_for(at, publish_in_flight(entries))
+        && !has_met_fault(at, entries)
         && generation.has_something_to_publish(entries)
 }
 
@@ -93,9 +94,10 @@ pub(crate) fn may_switch(nodes: u8, entries: &[Entry], at: At, n: NodeNo, v: Ver
         && is_replica(n, entries)
         && is_made_in_generation(v, entries)
         && version_of(n, entries) < v.0
-        && highest_copy(n, entries) <= v.0
+        && !is_passed(n, v, entries)
         && highest_switched(at, entries) < n.0
         && started_copy(n, v, at, entries)
+        && all_whole(nodes, at, entries)
         && node_survives(n, at, entries)
         && source_survives(at, entries)
 }
@@ -109,12 +111,12 @@ fn started_copy_of(n: NodeNo, v: Version, at: At, entries: &[Entry]) -> bool
     }
 }
 
-/// Whether the copy of a line has switched the node, or the node searched the version before the line started.
+/// Whether the copy of a line has just switched the node, or the node searched the version before the line started.
 fn has_brought(n: NodeNo, v: Version, at: At, entries: &[Entry]) -> bool
-    ensures { IsTrue result ↔ ((has_switched at (reverse entries.now) ≡ true) ⊎
+    ensures { IsTrue result ↔ ((has_just_switched at (reverse entries.now) ≡ true) ⊎
         (version_of n.0 (before_start at (reverse entries.now)) ≡ v.0)) }
 {
-    has_switched(at, entries) || version_of(n, before_start(at, entries)) == v.0
+    has_just_switched(at, entries) || version_of(n, before_start(at, entries)) == v.0
 }
 
 pub(crate) fn may_finish_copy(nodes: u8, entries: &[Entry], at: At, n: NodeNo, v: Version) -> bool
@@ -128,10 +130,12 @@ pub(crate) fn may_finish_copy(nodes: u8, entries: &[Entry], at: At, n: NodeNo, v
         && source_survives(at, entries)
 }
 
-pub(crate) fn may_start_settle(entries: &[Entry], v: Version) -> bool
-    ensures { IsTrue result ↔ MayStartSettle (reverse entries.now) v }
+pub(crate) fn may_start_settle(entries: &[Entry], at: At, v: Version) -> bool
+    ensures { IsTrue result ↔ MayStartSettle (reverse entries.now) at v }
 {
-    primary_of(entries).node.is_some() && v.0 == newest_version(entries)
+    primary_of(entries).node.is_some()
+        && v.0 == newest_version(entries)
+        && !has_met_fault(at, entries)
 }
 
 fn started_settle(v: Version, at: At, entries: &[Entry]) -> bool
@@ -153,6 +157,25 @@ fn is_settled(n: NodeNo, v: Version, at: At, entries: &[Entry]) -> bool
         || v.0 <= version_of(n, entries)
 }
 
+/// Whether a node of a settle has crashed since, or the settle met no fault in a file for it.
+fn is_whole(n: NodeNo, at: At, entries: &[Entry]) -> bool
+    ensures { IsTrue result ↔ (NodeSurvives (reverse entries.now) at n.0 →
+        has_file_fault n.0 at (reverse entries.now) ≡ false) }
+{
+    !node_survives(n, at, entries) || !has_file_fault(n, at, entries)
+}
+
+fn all_whole(nodes: u8, at: At, entries: &[Entry]) -> bool
+    ensures { IsTrue result ↔ IsWhole nodes (reverse entries.now) at }
+{
+    for below in 0..nodes {
+        if !is_whole(NodeNo(below + 1), at, entries) {
+            return false;
+        }
+    }
+    true
+}
+
 fn all_settled(nodes: u8, v: Version, at: At, entries: &[Entry]) -> bool
     ensures { IsTrue result ↔ ((n : ℕ) → IsNode nodes n →
         IsReplica (before_start at (reverse entries.now)) n →
@@ -172,6 +195,7 @@ pub(crate) fn may_settle(nodes: u8, entries: &[Entry], at: At, v: Version) -> bo
     started_settle(v, at, entries)
         && source_survives(at, entries)
         && all_settled(nodes, v, at, entries)
+        && all_whole(nodes, at, entries)
 }
 
 pub(crate) fn may_open(
@@ -201,7 +225,7 @@ pub(crate) fn may_ask(
 ) -> bool
     ensures { IsTrue result ↔ MayAsk nodes (reverse entries.now) at n t v }
 {
-    is_node(nodes, n) && is_ticket_of(n, v, at.lane, t, entries)
+    is_node(nodes, n) && is_ticket_of(n, v, at.lane, t, entries) && !has_met_fault(at, entries)
 }
 
 pub(crate) fn may_close(nodes: u8, entries: &[Entry], at: At, n: NodeNo, t: TicketNo) -> bool
@@ -217,6 +241,7 @@ pub(crate) fn may_start_commit(nodes: u8, entries: &[Entry], at: At, n: NodeNo, 
         && is_running(n, entries)
         && v.0 == version_of(n, entries)
         && is_free_for(at, commit_in_flight(n, entries))
+        && !has_met_fault(at, entries)
 }
 
 fn started_commit(n: NodeNo, at: At, entries: &[Entry]) -> bool
@@ -295,6 +320,7 @@ pub(crate) fn may_start_merge(
 {
     primary_of(entries).node.is_some()
         && generation.is_next_segment(seg)
+        && (generation.names as u64) < SegNo::OF_GENERATION
         && !has_met_fault(at, entries)
 }
 

@@ -7,8 +7,7 @@ mod legal_cases;
 
 use crate::{operations, points};
 use documents::Op;
-use history_entries::{Entry, Event, History};
-use history_laws::laws;
+use history_rules::{Entry, Event, History, laws};
 use nrt_base::{At, Doc, Gen, Key, LaneNo, LineNo, List, NoMemory, Text, Version};
 use std::alloc::Global;
 use std::test::Fail;

@@ -8,13 +8,13 @@ use Rattle.nrt_base.proofs.Plain.{cons_first, cons_rest}
 use Rattle.postings_plain.specs.declared.format.Format.{Format}
 use Rattle.postings_plain.specs.declared.blocks.BlockStart.{BlockStart}
 use Rattle.postings_plain.specs.Postings.{Hit, row_of, above_hit, block_rows, block_count, skip_count, Skip, above_block, hits_from, HitsFitFrom, skip_of, skips_from}
-use Rattle.postings_plain.specs.Rows.{from_row, first_row}
+use Rattle.postings_plain.specs.Rows.{from_row, first_row, first_hit, after_first}
 use Rattle.postings_plain.specs.Reading.{hit_at, end_after, skip_at, skips_at, blocks_at, rows_of_term_at, hits_or_none, AreHits}
 use Rattle.postings_plain.specs.Blocks.{IsBlockStart, IsAhead, IsReached}
 use Rattle.postings_plain.proofs.HitLaws.{rows_format, hits_from-append, fits_parts, all_below}
 use Rattle.postings_plain.proofs.BlockLaws.{block_rows-is, block_count-more, skip_count-blocks, length-block, above_end, term_takes}
 use Rattle.postings_plain.proofs.CountedHits.{next_skip}
-use Rattle.postings_plain.proofs.Passing.{rows_at, was_read, is_read, Head, head_of, none_left, from_row-below, from_row-at}
+use Rattle.postings_plain.proofs.Passing.{rows_at, was_read, is_read, Head, head_of, none_left, from_row-below, from_row-at, rows_ascend, all_from}
 
 -- ---- the block after a block
 
@@ -240,6 +240,48 @@ runs_out field count least rest row whole next z p =
       first = sym (ap first_row here);
       ahead = still_ahead field count least rest row whole next p;
     }
+
+-- ---- the first hit is taken
+
+from_row-zero : (hs : List Hit) → from_row 0 hs ≡ hs
+from_row-zero [] = refl
+from_row-zero (h ∷ hs) = from_row-at 0 h hs (omega arith)
+
+-- the hits left are those after the first, whose row and number of positions these are
+pub record TakesFirst (field count least : ℕ) (rest : List ℕ) (row times : ℕ) (whole : List Hit) (next : BlockStart) : Type 0 where
+  pub first : ◌≡◌ {A = Option (ℕ × ℕ)} (Some (row, times)) (first_hit whole)
+  pub read : AreHits (rows_at field count least rest)
+  pub left : hits_or_none (rows_at field count least rest) ≡ after_first whole
+  pub above : All (λ h. row < row_of h) (hits_or_none (rows_at field count least rest))
+  pub ahead : IsAhead field (hits_or_none (rows_at field count least rest)) next
+
+pub takes_first : (field count least : ℕ) (rest : List ℕ) (whole : List Hit) (next : BlockStart) (x times : ℕ) (xs after : List ℕ) → 0 < count → hit_at field least rest ≡ Some ((x, xs), after) → length xs ≡ times
+    → (IsReached next count 0 → ⊥) → Passes field count least rest 0 whole next → TakesFirst field (count - 1) (x + 1) after x times whole next
+takes_first field count least rest whole next x times xs after pos e long away p =
+    let h = head_of field count least rest p.left p.tail pos p.read in
+    let f = front field count least rest p.left p.tail x xs after h e in
+    let is : whole ≡ (x, xs) ∷ h.others = sym (from_row-zero whole) ∙ sym p.same ∙ from_row-zero p.left ∙ f.0 in
+    let now : hits_or_none (rows_at field (count - 1) (x + 1) after) ≡ h.others = ap hits_or_none f.1 in
+    let up = rows_ascend field (count - 1) (x + 1) after h.others p.tail f.1 in
+    record {
+      first = ap (λ (n : ℕ). Some (x, n)) (sym long) ∙ sym (ap first_hit is);
+      read = is_read (rows_at field (count - 1) (x + 1) after) h.others p.tail f.1;
+      left = now ∙ sym (ap after_first is);
+      above = subst (All (λ (g : Hit). x < row_of g)) (sym now) (λ i d lt. let least = all_from (x + 1) h.others up i d lt in omega (arith, least));
+      ahead = subst (λ (hs : List Hit). IsAhead field hs next) (sym now)
+          (ahead_after field count (x, xs) p.left h.others next f.0 (rows_long field count least rest p.left p.tail p.read) (λ there near. away (record { there = there; near = inl near })) p.ahead);
+    }
+
+-- none is left to take
+pub record TakesNone (field count least : ℕ) (rest : List ℕ) (whole : List Hit) : Type 0 where
+  pub first : ◌≡◌ {A = Option (ℕ × ℕ)} None (first_hit whole)
+  pub left : hits_or_none (rows_at field count least rest) ≡ after_first whole
+
+pub takes_none : (field count least : ℕ) (rest : List ℕ) (whole : List Hit) (next : BlockStart) → count ≡ 0 → Passes field count least rest 0 whole next → TakesNone field count least rest whole
+takes_none field count least rest whole next z p =
+    let none = none_left field count least rest p.left p.tail z p.read in
+    let is : whole ≡ [] = sym (from_row-zero whole) ∙ sym p.same ∙ ap (from_row 0) none in
+    record { first = sym (ap first_hit is); left = ap hits_or_none p.read ∙ none ∙ sym (ap after_first is) }
 
 -- ---- where a cursor begins
 

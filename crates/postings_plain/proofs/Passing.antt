@@ -81,7 +81,7 @@ rows_ascend field (suc n) least rest hs tail e =
     let others : rows_at field n (above_hit h.head) h.after ≡ Some (h.others, tail) = ap (λ (k : ℕ). rows_at field k (above_hit h.head) h.after) (sym m) ∙ h.onward in
     subst (Ascends least) (sym h.whole) (hit_not_lower field least rest h.head h.after h.first, rows_ascend field n (above_hit h.head) h.after h.others tail others)
 
-all_from : (k : ℕ) (hs : List Hit) → Ascends k hs → (i : ℕ) (d : Hit) → i < length hs → k ≤ row_of (get_or hs i d)
+pub all_from : (k : ℕ) (hs : List Hit) → Ascends k hs → (i : ℕ) (d : Hit) → i < length hs → k ≤ row_of (get_or hs i d)
 all_from k [] a i d lt = absurd (omega arith)
 all_from k (h ∷ hs) a zero d lt = a.0
 all_from k (h ∷ hs) a (suc i) d lt = omega (arith, all_from (above_hit h) hs a.1 i d (omega arith), a.0)

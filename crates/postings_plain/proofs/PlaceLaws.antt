@@ -85,6 +85,31 @@ pub length-numbers : (n k : ℕ) (bytes : List ℕ) → length (numbers_or_none 
 length-numbers zero k bytes = omega arith
 length-numbers (suc n) k bytes = after_first n (length-numbers n) (difference_at k bytes)
 
+long : (n k : ℕ) (bytes xs tail : List ℕ) → chain_at difference_at above n k bytes ≡ Some (xs, tail) → length xs ≡ n
+long zero k bytes xs tail e = let q = read_is [] xs bytes tail e in ap length (sym q.0)
+long (suc n) k bytes xs tail e =
+    let f = bind_some (difference_at k bytes) (λ x. chain_at difference_at above n (above x.0) x.1 >>= λ xs. Some (x.0 ∷ xs.0, xs.1)) (xs, tail) e in
+    let g = bind_some (chain_at difference_at above n (above f.0.0) f.0.1) (λ xs. Some (f.0.0 ∷ xs.0, xs.1)) (xs, tail) f.2 in
+    let q = read_is (f.0.0 ∷ g.0.0) xs g.0.1 tail g.2 in
+    ap length (sym q.0) ∙ ap suc (long n (above f.0.0) f.0.1 g.0.0 g.0.1 g.1)
+
+-- as many as are said to be there
+pub length-places : (bytes xs tail : List ℕ) (count : ℕ) (rest : List ℕ) → ascending_at bytes ≡ Some (xs, tail) → ◌≡◌ {A = Read ℕ} (Some (count, rest)) (positive_at bytes) → length xs ≡ count
+length-places bytes xs tail count rest e r = long count 0 rest xs tail (counted_places bytes xs tail count rest e r)
+
+pub counts_positions : (field : ℕ) (bytes xs rest : List ℕ) (count : ℕ) (after : List ℕ) → 0 < field → ascending_at bytes ≡ Some (xs, rest) → ◌≡◌ {A = Read ℕ} (Some (count, after)) (positive_at bytes)
+    → (positions : List ℕ) × (positions_at field bytes ≡ Some (positions, rest)) × (length positions ≡ count)
+counts_positions zero bytes xs rest count after pos e r = absurd (omega arith)
+counts_positions (suc field) bytes xs rest count after pos e r = (xs, e, length-places bytes xs rest count after e r)
+
+-- as many as are left to be read
+pub length-left : (n k : ℕ) (bytes : List ℕ) → AreNumbers (chain_at difference_at above n k bytes) → length (numbers_or_none (chain_at difference_at above n k bytes)) ≡ n
+length-left n k bytes are = by_read (chain_at difference_at above n k bytes) refl are
+  where
+    by_read : (r : Read (List ℕ)) → chain_at difference_at above n k bytes ≡ r → AreNumbers r → length (numbers_or_none r) ≡ n
+    by_read None e h = absurd h
+    by_read (Some x) e h = long n k bytes x.0 x.1 e
+
 -- ---- they ascend
 
 all_above : (x k : ℕ) (xs : List ℕ) → x < k → ChainFits MayCome above k xs → AllByRecursion (λ y. nat_cmp x y ≡ Less) xs

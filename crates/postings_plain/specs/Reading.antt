@@ -69,6 +69,17 @@ abbrev pub SkipsHit : Option (ℕ × List ℕ) → Read Hit → Type 0
 SkipsHit None read = read ≡ None
 SkipsHit (Some found) read = (positions : List ℕ) × (read ≡ Some ((found.0, positions), found.1))
 
+-- positions are read past, and how many they are is known
+abbrev pub CountsPositions : Option (ℕ × List ℕ) → Read (List ℕ) → Type 0
+CountsPositions None read = read ≡ None
+CountsPositions (Some found) read = (positions : List ℕ) × (read ≡ Some (positions, found.1)) × (length positions ≡ found.0)
+
+-- a hit is read past, and its row and how many positions are in it are known
+abbrev pub CountsHit : Option (ℕ × (ℕ × List ℕ)) → Read Hit → Type 0
+CountsHit None read = read ≡ None
+CountsHit (Some found) read =
+    (positions : List ℕ) × (read ≡ Some ((found.0, positions), found.1.1)) × (length positions ≡ found.1.0)
+
 -- the hits are read past, whose rows are k or above, and the least row that may come after them is known
 abbrev pub SkipsHits : (k : ℕ) → Option (ℕ × List ℕ) → Read (List Hit) → Type 0
 SkipsHits k None read = read ≡ None

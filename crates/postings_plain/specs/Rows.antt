@@ -1,5 +1,5 @@
 -- The hits of a term that were not passed.
-use Rattle.std.specs.Prelude.{◌≡◌, ℕ, ◌≤◌, List, [], ◌∷◌, Option, Some, None, nat_lt, if◌then◌else◌}
+use Rattle.std.specs.Prelude.{◌≡◌, ℕ, ◌≤◌, List, [], ◌∷◌, length, Option, Some, None, nat_lt, if◌then◌else◌}
 use Rattle.std.specs.List.{All, Any}
 use Rattle.postings_plain.specs.Postings.{Hit, row_of, positions_in}
 
@@ -23,3 +23,13 @@ first_row (h ∷ hs) = Some (row_of h)
 abbrev pub first_positions : List Hit → List ℕ
 first_positions [] = []
 first_positions (h ∷ hs) = positions_in h
+
+-- the first hit, by its row and how many positions are in it
+abbrev pub first_hit : List Hit → Option (ℕ × ℕ)
+first_hit [] = None
+first_hit (h ∷ hs) = Some (row_of h, length (positions_in h))
+
+-- the hits after the first
+abbrev pub after_first : List Hit → List Hit
+after_first [] = []
+after_first (h ∷ hs) = hs

@@ -4,7 +4,7 @@ ghost use Rattle.std.specs.Prelude.{◌≡◌, ◌<◌, ◌≤◌, ◌^◌, ℕ,
 ghost use Rattle.std.specs.Option.{option_map};
 ghost use Rattle.body_forms.specs.Format.{Skips};
 ghost use Rattle.postings_plain.specs.Postings.{Skip};
-ghost use Rattle.postings_plain.specs.Reading.{SkipsHit, SkipsHits, SkipsEntry, counted_from_at, field_at, term_at, positions_at, hit_at, skips_at, blocks_at, rows_of_term_at, hits_at, entry_at};
+ghost use Rattle.postings_plain.specs.Reading.{SkipsHit, CountsPositions, CountsHit, SkipsHits, SkipsEntry, counted_from_at, field_at, term_at, positions_at, hit_at, skips_at, blocks_at, rows_of_term_at, hits_at, entry_at};
 
 use crate::blocks::{first_block, skip_of, skip_skips, skips_of_rows};
 use crate::format::Format;
@@ -60,6 +60,31 @@ pub fn skip_hit(field: u8, least: u64, bytes: &[u8]) -> Option<(u32, &[u8])>
     let (row, rest) = difference_of(least, bytes)?;
     let rest = skip_positions(field, rest)?;
     Some((row, rest))
+}
+
+// Reads past the positions of a hit, and says how many they are.
+fn count_positions(field: u8, bytes: &[u8]) -> Option<(u32, &[u8])>
+    ensures { CountsPositions (option_map (λ x. (x.0, x.1.now)) result)
+        (positions_at field bytes.now) }
+{
+    if field == 0 {
+        return Some((0, bytes));
+    }
+    let (count, _) = positive_of(bytes)?;
+    let rest = skip_ascending(bytes)?;
+    Some((count, rest))
+}
+
+/// Reads past a hit, and says which row it is of and how many positions are in it.
+pub fn count_hit(field: u8, least: u64, bytes: &[u8]) -> Option<(u32, u32, &[u8])>
+    requires { least ≤ 2 ^ 32 }
+    ensures value { CountsHit (option_map (λ x. (x.0, (x.1, x.2.now))) result)
+        (hit_at field least bytes.now) }
+    ensures below { IfSome result (λ x. x.0 < 2 ^ 32) }
+{
+    let (row, rest) = difference_of(least, bytes)?;
+    let (count, rest) = count_positions(field, rest)?;
+    Some((row, count, rest))
 }
 
 /// Reads past the hits of a term, and says which row is one above the last of them.

@@ -84,7 +84,7 @@ impl PostFile {
     }
 
     /// How many entries there are, each before the next one, by field and by the bytes of the term.
-    pub(crate) fn terms(&self) -> u32
+    pub fn terms(&self) -> u32
         ensures count { result ≡ length self.now.entries }
         ensures ascend { AllPairs IsBefore self.now.entries }
     {
@@ -93,7 +93,7 @@ impl PostFile {
     }
 
     /// The entry at a place: its field, its term and its hits.
-    pub(crate) fn entry(&self, place: u32) -> (u8, &[u8], Postings<'_>)
+    pub fn entry(&self, place: u32) -> (u8, &[u8], Postings<'_>)
         requires { place < length self.now.entries }
         ensures value { (result.0, (result.1.now, result.2)) ≡ at_place self.now.entries place }
         ensures fit { IsFileEntry self.now.format (at_place self.now.entries place) }

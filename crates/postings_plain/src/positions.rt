@@ -59,6 +59,13 @@ impl Positions<'_> {
             None => unreachable!(),
         }
     }
+
+    /// How many are left.
+    pub fn left(&self) -> u32
+        ensures { result ≡ length self.now }
+    {
+        self.count
+    }
 }
 
 impl<'a> Iterator for Positions<'a> {

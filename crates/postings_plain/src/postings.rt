@@ -4,11 +4,11 @@ ghost use Rattle.std.specs.Prelude.{◌≡◌, ◌<◌, ◌^◌, length, IfSome,
 ghost use Rattle.std.specs.Ordering.{nat_cmp};
 ghost use Rattle.std.specs.List.Sorted.{IsStrictlySortedBy};
 ghost use Rattle.postings_plain.specs.Postings.{row_of, Entry, IsFileEntry, entry, hits_of};
-ghost use Rattle.postings_plain.specs.Rows.{from_row, first_row, first_positions, IsLeastFrom};
+ghost use Rattle.postings_plain.specs.Rows.{from_row, first_row, first_positions, first_hit, after_first, IsLeastFrom};
 ghost use Rattle.postings_plain.specs.Reading.{IsEntry, rows_of_term_at, hits_or_none, AreHits};
 
 use crate::blocks::{BlockStart, skip_skips, skips_of_rows};
-use crate::entries::{field_of, skip_hit, term_of};
+use crate::entries::{count_hit, field_of, skip_hit, term_of};
 use crate::format::Format;
 use crate::positions::Positions;
 use body_forms::{difference_of, positive_of};
@@ -108,6 +108,33 @@ impl<'a> Postings<'a> {
                     self.least = u64::from(found) + 1;
                     self.count -= 1;
                     self.rest = after;
+                }
+                None => unreachable!(),
+            }
+        }
+        None
+    }
+
+    /// Takes the first hit that is left: says which row it is of and how many positions are in it, and passes it.
+    pub fn next_hit(&mut self) -> Option<(u32, u32)>
+        ensures answer { result ≡ first_hit self.old }
+        ensures left { self.new ≡ after_first self.old }
+        ensures above { IfSome result (λ hit. All (λ h. hit.0 < row_of h) self.new) }
+    {
+        while self.count > 0 {
+            if self.next.is_reached(self.count, 0) {
+                self.least = self.next.least;
+                self.count = self.next.count;
+                self.rest = self.next.rest;
+                self.next = self.next.following();
+                continue;
+            }
+            match count_hit(self.field, self.least, self.rest) {
+                Some((row, count, after)) => {
+                    self.least = u64::from(row) + 1;
+                    self.count -= 1;
+                    self.rest = after;
+                    return Some((row, count));
                 }
                 None => unreachable!(),
             }

@@ -15,12 +15,12 @@ use Rattle.searcher_switch.specs.declared.searchers.Ticket.{Ticket}
 use Rattle.searcher_switch.specs.Searching.{searcher_names}
 use Rattle.searcher_switch.specs.Tickets.{ticket_at, tickets_without, ticket_names}
 use Rattle.segment_steps.specs.declared.flushing.FlushTask.{FlushTask}
-use Rattle.primary_parts.specs.declared.parts.Parts.{Parts}
-use Rattle.primary_parts.specs.declared.states.Out.{Out}
-use Rattle.primary_parts.specs.States.{out_of, same_out, is_out, states_without}
-use Rattle.primary_parts.specs.Calls.{IsTaskOf, after_start}
-use Rattle.primary_parts.specs.Primary.{IsPrimary}
-use Rattle.primary_parts.proofs.StateLemmas.{same_out_self}
+use Rattle.primary_state.specs.declared.parts.Parts.{Parts}
+use Rattle.primary_state.specs.declared.states.Out.{Out}
+use Rattle.primary_state.specs.States.{out_of, same_out, is_out, states_without}
+use Rattle.primary_state.specs.Calls.{IsTaskOf, after_start}
+use Rattle.primary_state.specs.Primary.{IsPrimary}
+use Rattle.primary_state.proofs.StateLemmas.{same_out_self}
 use Rattle.primary_bench.specs.declared.seen.Seen.{Seen}
 use Rattle.primary_bench.specs.Seeing.{IsSeen, open_numbers, ticket_numbers, tasks_of}
 

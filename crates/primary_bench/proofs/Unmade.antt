@@ -11,16 +11,16 @@ use Rattle.disk_model.specs.Disk.{Name}
 use Rattle.seg_merge.specs.declared.task.MergeTask.{MergeTask}
 use Rattle.seg_merge.specs.declared.task.Merged.{Merged}
 use Rattle.seg_merge.specs.Merging.{IsMergedOf}
-use Rattle.primary_parts.specs.declared.parts.Parts.{Parts}
-use Rattle.primary_parts.specs.declared.states.Merging.{Merging}
-use Rattle.primary_parts.specs.declared.states.Out.{Out}
+use Rattle.primary_state.specs.declared.parts.Parts.{Parts}
+use Rattle.primary_state.specs.declared.states.Merging.{Merging}
+use Rattle.primary_state.specs.declared.states.Out.{Out}
 use Rattle.copy_state.specs.declared.state.CopyState.{CopyState}
-use Rattle.primary_parts.specs.States.{out_of}
-use Rattle.primary_parts.specs.Written.{names_of}
-use Rattle.primary_parts.specs.Merges.{merge_of, merges_with, merges_without}
-use Rattle.primary_starts.specs.StartCalls.{IsFitTask, StartsMerge}
+use Rattle.primary_state.specs.States.{out_of}
+use Rattle.primary_state.specs.Written.{names_of}
+use Rattle.primary_state.specs.Merges.{merge_of, merges_with, merges_without}
+use Rattle.primary_merges.specs.StartCalls.{IsFitTask, StartsMerge}
 use Rattle.primary_merges.specs.MergeCalls.{IsMadeFor, IsReadied}
-use Rattle.primary_cut_overs.specs.CutOverCalls.{IsFilledMerge}
+use Rattle.primary_merges.specs.CutOverCalls.{IsFilledMerge}
 use Rattle.primary_bench.specs.declared.seen.Seen.{Seen}
 use Rattle.primary_bench.specs.Seeing.{IsSeen, tasks_of, unmade_tasks, given_tasks, open_numbers}
 

@@ -7,10 +7,10 @@ use Rattle.searcher_switch.specs.declared.open.Open.{Open}
 use Rattle.searcher_switch.specs.declared.searchers.Ticket.{Ticket}
 use Rattle.seg_reader.specs.Shown.{Shown}
 use Rattle.seg_merge.specs.declared.task.MergeTask.{MergeTask}
-use Rattle.primary_parts.specs.declared.parts.Parts.{Parts}
-use Rattle.primary_parts.specs.declared.states.Merging.{Merging}
-use Rattle.primary_parts.specs.States.{out_of}
-use Rattle.primary_starts.specs.StartCalls.{IsFitTask}
+use Rattle.primary_state.specs.declared.parts.Parts.{Parts}
+use Rattle.primary_state.specs.declared.states.Merging.{Merging}
+use Rattle.primary_state.specs.States.{out_of}
+use Rattle.primary_merges.specs.StartCalls.{IsFitTask}
 use Rattle.primary_bench.specs.declared.seen.Seen.{Seen}
 
 -- no name reads, and no image shows a commit

@@ -8,20 +8,20 @@ use Rattle.disk_model.specs.Disk.{Name, Cells, reads_of}
 use Rattle.file_deleter.specs.Holdings.{Holdings, count_of, times, AreCounted}
 use Rattle.file_deleter.specs.Moves.{KeepsFiles, LetsGo}
 use Rattle.file_deleter.proofs.NameLemmas.{times-append}
-use Rattle.primary_parts.specs.Given.{searcher_names}
-use Rattle.node_files.specs.Node.{IsWholeNode}
-use Rattle.node_files.proofs.Carry.{node_lets_go, node_same_names, front_counted}
-use Rattle.primary_parts.specs.declared.parts.Parts.{Parts}
-use Rattle.primary_parts.specs.declared.parts.Publish.{Publish}
-use Rattle.primary_parts.specs.declared.states.Merging.{Merging}
-use Rattle.primary_parts.specs.Held.{IsUnused}
-use Rattle.primary_parts.specs.States.{state_names}
-use Rattle.primary_parts.specs.Merges.{merge_names, merge_loose, merge_of, merges_without, IsMerging}
-use Rattle.primary_parts.specs.Primary.{loose_in, publish_loose, rest_loose, loose_of, filled_of, rest_names, primary_names, IsUnwritten, IsPrimary, KeepsHeldBytes}
-use Rattle.primary_parts.specs.Calls.{FillsUndrawn, DrawsOnly, HoldsNoNew}
-use Rattle.primary_parts.proofs.Drawing.{numbered_within}
-use Rattle.primary_parts.proofs.NewFiles.{undrawn_of}
-use Rattle.primary_parts.proofs.MergeLists.{names_split, loose_at, loose_without, loose_gone, filled_or, all_without, apart_without}
+use Rattle.searcher_switch.specs.Searching.{searcher_names}
+use Rattle.searcher_switch.specs.Node.{IsWholeNode}
+use Rattle.searcher_switch.proofs.Carry.{node_lets_go, node_same_names, front_counted}
+use Rattle.primary_state.specs.declared.parts.Parts.{Parts}
+use Rattle.primary_state.specs.declared.parts.Publish.{Publish}
+use Rattle.primary_state.specs.declared.states.Merging.{Merging}
+use Rattle.primary_state.specs.Held.{IsUnused}
+use Rattle.primary_state.specs.States.{state_names}
+use Rattle.primary_state.specs.Merges.{merge_names, merge_loose, merge_of, merges_without, IsMerging}
+use Rattle.primary_state.specs.Primary.{loose_in, publish_loose, rest_loose, loose_of, filled_of, rest_names, primary_names, IsUnwritten, IsPrimary, KeepsHeldBytes}
+use Rattle.primary_state.specs.Calls.{FillsUndrawn, DrawsOnly, HoldsNoNew}
+use Rattle.primary_state.proofs.Drawing.{numbered_within}
+use Rattle.primary_state.proofs.NewFiles.{undrawn_of}
+use Rattle.primary_state.proofs.MergeLists.{names_split, loose_at, loose_without, loose_gone, filled_or, all_without, apart_without}
 use Rattle.primary_merges.specs.MergeCalls.{loose_left, filled_left}
 use Rattle.primary_merges.proofs.Carrying.{standing_carried, writer_carried, searched_carried, merging_carried}
 

@@ -3,20 +3,20 @@ use Rattle.std.proofs.Common.{◌≡◌, ◌<◌, List, ◌++◌}
 use Rattle.std.specs.List.{AllByRecursion}
 use Rattle.disk_model.specs.Disk.{Name, Cells, reads_of}
 use Rattle.file_deleter.specs.Holdings.{Holdings, count_of, times}
-use Rattle.node_files.specs.Node.{IsWholeNode}
-use Rattle.node_files.specs.Standing.{IsStanding}
-use Rattle.node_files.proofs.Standing.{standing_kept}
-use Rattle.primary_parts.specs.Given.{searcher_names}
-use Rattle.primary_parts.specs.declared.parts.Parts.{Parts}
-use Rattle.primary_parts.specs.declared.states.Out.{Out}
-use Rattle.primary_parts.specs.declared.states.Merging.{Merging}
-use Rattle.primary_parts.specs.Held.{IsHeld}
-use Rattle.primary_parts.specs.States.{state_names}
-use Rattle.primary_parts.specs.Merges.{merge_names, IsMerging}
-use Rattle.primary_parts.specs.Primary.{primary_names, rest_names, IsPrimary}
-use Rattle.primary_parts.proofs.Holding.{held_kept}
-use Rattle.primary_parts.proofs.Keeping.{writer_counted, point_counted, book_counted, merges_counted}
-use Rattle.primary_parts.proofs.MergeLists.{merging_kept}
+use Rattle.searcher_switch.specs.Node.{IsWholeNode}
+use Rattle.searcher_switch.specs.Standing.{IsStanding}
+use Rattle.searcher_switch.proofs.Standing.{standing_kept}
+use Rattle.searcher_switch.specs.Searching.{searcher_names}
+use Rattle.primary_state.specs.declared.parts.Parts.{Parts}
+use Rattle.primary_state.specs.declared.states.Out.{Out}
+use Rattle.primary_state.specs.declared.states.Merging.{Merging}
+use Rattle.primary_state.specs.Held.{IsHeld}
+use Rattle.primary_state.specs.States.{state_names}
+use Rattle.primary_state.specs.Merges.{merge_names, IsMerging}
+use Rattle.primary_state.specs.Primary.{primary_names, rest_names, IsPrimary}
+use Rattle.primary_state.proofs.Holding.{held_kept}
+use Rattle.primary_state.proofs.Keeping.{writer_counted, point_counted, book_counted, merges_counted}
+use Rattle.primary_state.proofs.MergeLists.{merging_kept}
 
 module _ {D : Type 0} (cells : D → Cells) (p : Parts D) (is : IsPrimary cells p) (dir : D) (files : Holdings) (states : List Out) (merges : List Merging)
     (node : IsWholeNode (cells dir) files (searcher_names p.searchers ++ (p.names ++ (state_names states ++ merge_names merges))) p.commits)

@@ -12,13 +12,13 @@ use Rattle.copy_state.specs.Meta.{IsMetaOf}
 use Rattle.copy_state.specs.States.{meta_names, AreShortNames}
 use Rattle.seg_merge.specs.declared.task.Merged.{Merged}
 use Rattle.seg_merge.specs.Merging.{IsMergedOf}
-use Rattle.primary_parts.specs.declared.parts.Parts.{Parts}
-use Rattle.primary_parts.specs.declared.states.Merging.{Merging}
-use Rattle.primary_parts.specs.Cut.{last_number}
-use Rattle.primary_parts.specs.Merges.{merge_of, merge_place, merges_with}
-use Rattle.primary_parts.specs.States.{IsMetaIn}
-use Rattle.primary_parts.specs.Written.{names_of}
-use Rattle.primary_parts.proofs.MergeLists.{merge_at}
+use Rattle.primary_state.specs.declared.parts.Parts.{Parts}
+use Rattle.primary_state.specs.declared.states.Merging.{Merging}
+use Rattle.primary_state.specs.Cut.{last_number}
+use Rattle.primary_state.specs.Merges.{merge_of, merge_place, merges_with}
+use Rattle.primary_state.specs.States.{IsMetaIn}
+use Rattle.primary_state.specs.Written.{names_of}
+use Rattle.primary_state.proofs.MergeLists.{merge_at}
 use Rattle.primary_merges.specs.MergeCalls.{IsStateReady}
 
 abbrev Meta : Type 0

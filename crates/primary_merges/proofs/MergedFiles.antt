@@ -26,10 +26,10 @@ use Rattle.seg_merge.proofs.Given.{names_ascend}
 use Rattle.seg_merge.specs.declared.task.MergeTask.{MergeTask}
 use Rattle.seg_merge.specs.declared.task.Merged.{Merged}
 use Rattle.seg_merge.specs.Merging.{docs_by_input, all_live_docs, IsMergedOf}
-use Rattle.primary_parts.proofs.Given.{new_names}
+use Rattle.segment_steps.proofs.NextNames.{new_names}
 use Rattle.copy_state.specs.States.{AreShortNames}
-use Rattle.primary_parts.specs.States.{IsFramedFile}
-use Rattle.primary_parts.specs.Written.{names_of}
+use Rattle.primary_state.specs.States.{IsFramedFile}
+use Rattle.primary_state.specs.Written.{names_of}
 
 -- the names of the parts of a segment
 abbrev pub part_names : ℕ → List Name

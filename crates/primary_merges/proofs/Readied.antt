@@ -12,24 +12,24 @@ use Rattle.seg_merge.specs.Merging.{IsMergedOf}
 use Rattle.file_deleter.specs.Holdings.{Holdings, count_of, times, AreThere}
 use Rattle.file_deleter.specs.Moves.{KeepsFiles, LetsGo, MovesCounts}
 use Rattle.file_deleter.proofs.NameLemmas.{times-append, among_times, not_among_times}
-use Rattle.primary_parts.specs.Given.{searcher_names}
-use Rattle.node_files.specs.Node.{IsWholeNode, IsApart, HasNoPending, AddsOnly, KeepsBytes}
-use Rattle.node_files.specs.Appearing.{AppearsOnly}
-use Rattle.node_files.proofs.Appearing.{keeps_only}
-use Rattle.node_files.proofs.Carry.{node_kept, node_gathers, node_lets_go, node_same_counts, node_there, nothing_written, unheld_apart}
-use Rattle.primary_parts.specs.declared.parts.Parts.{Parts}
-use Rattle.primary_parts.specs.declared.states.Out.{Out}
-use Rattle.primary_parts.specs.declared.states.Merging.{Merging}
-use Rattle.primary_parts.specs.Held.{IsUnused, part, live, next_live, IsOwnFile, IsDrawnRecord, drawn_to}
-use Rattle.primary_parts.specs.States.{state_names}
-use Rattle.primary_parts.specs.Merges.{merge_names, merge_loose, merge_filled, merge_of, merges_with, IsMerging}
-use Rattle.primary_parts.specs.Primary.{loose_in, publish_loose, rest_loose, loose_of, filled_of, rest_names, primary_names, IsUnwritten, IsPrimary}
-use Rattle.primary_parts.specs.Written.{names_of, ReadsSo}
-use Rattle.primary_parts.specs.Calls.{FillsUndrawn, DrawsOnly}
-use Rattle.primary_parts.proofs.Drawing.{drawn_small, numbered_within}
-use Rattle.primary_parts.proofs.NewFiles.{undrawn_of}
-use Rattle.primary_parts.proofs.Keeping.{primary_same}
-use Rattle.primary_parts.proofs.MergeLists.{all_at, loose_at, unfilled_at, filled_with, filled_own, loose_with, names_with, all_with, apart_with}
+use Rattle.searcher_switch.specs.Searching.{searcher_names}
+use Rattle.searcher_switch.specs.Node.{IsWholeNode, IsApart, HasNoPending, AddsOnly, KeepsBytes}
+use Rattle.searcher_switch.specs.Appearing.{AppearsOnly}
+use Rattle.searcher_switch.proofs.Appearing.{keeps_only}
+use Rattle.searcher_switch.proofs.Carry.{node_kept, node_gathers, node_lets_go, node_same_counts, node_there, nothing_written, unheld_apart}
+use Rattle.primary_state.specs.declared.parts.Parts.{Parts}
+use Rattle.primary_state.specs.declared.states.Out.{Out}
+use Rattle.primary_state.specs.declared.states.Merging.{Merging}
+use Rattle.primary_state.specs.Held.{IsUnused, part, live, next_live, IsOwnFile, IsDrawnRecord, drawn_to}
+use Rattle.primary_state.specs.States.{state_names}
+use Rattle.primary_state.specs.Merges.{merge_names, merge_loose, merge_filled, merge_of, merges_with, IsMerging}
+use Rattle.primary_state.specs.Primary.{loose_in, publish_loose, rest_loose, loose_of, filled_of, rest_names, primary_names, IsUnwritten, IsPrimary}
+use Rattle.primary_state.specs.Written.{names_of, ReadsSo}
+use Rattle.primary_state.specs.Calls.{FillsUndrawn, DrawsOnly}
+use Rattle.primary_state.proofs.Drawing.{drawn_small, numbered_within}
+use Rattle.primary_state.proofs.NewFiles.{undrawn_of}
+use Rattle.primary_state.proofs.Keeping.{primary_same}
+use Rattle.primary_state.proofs.MergeLists.{all_at, loose_at, unfilled_at, filled_with, filled_own, loose_with, names_with, all_with, apart_with}
 use Rattle.primary_merges.proofs.MergedFiles.{part_names, part_among, parts_once, merged_names}
 use Rattle.primary_merges.proofs.Carrying.{standing_carried, writer_carried, searched_carried, merging_carried}
 

@@ -1,1 +1,3 @@
+pub mod CutOverCalls
 pub mod MergeCalls
+pub mod StartCalls

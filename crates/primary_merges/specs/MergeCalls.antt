@@ -6,13 +6,13 @@ use Rattle.disk_model.specs.Disk.{Name, Content}
 use Rattle.seg_merge.specs.declared.task.Merged.{Merged}
 use Rattle.seg_merge.specs.Merging.{IsMergedOf}
 use Rattle.copy_state.specs.States.{IsCopyState}
-use Rattle.primary_parts.specs.declared.parts.Parts.{Parts}
-use Rattle.primary_parts.specs.declared.states.Merging.{Merging}
-use Rattle.primary_parts.specs.Cut.{last_number}
-use Rattle.primary_parts.specs.States.{IsStateOf, out_of}
-use Rattle.primary_parts.specs.Merges.{merge_loose, merge_filled, merge_of, merges_with, merges_without}
-use Rattle.primary_parts.specs.Primary.{publish_loose}
-use Rattle.primary_parts.specs.Written.{names_of}
+use Rattle.primary_state.specs.declared.parts.Parts.{Parts}
+use Rattle.primary_state.specs.declared.states.Merging.{Merging}
+use Rattle.primary_state.specs.Cut.{last_number}
+use Rattle.primary_state.specs.States.{IsStateOf, out_of}
+use Rattle.primary_state.specs.Merges.{merge_loose, merge_filled, merge_of, merges_with, merges_without}
+use Rattle.primary_state.specs.Primary.{publish_loose}
+use Rattle.primary_state.specs.Written.{names_of}
 use Rattle.primary_merges.specs.declared.readying.StateReady.{StateReady}
 
 module _ {D : Type 0} where

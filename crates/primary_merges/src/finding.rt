@@ -1,13 +1,13 @@
 // A merge in flight, by its number; and the end of one that is given up.
 ghost use Rattle.std.specs.Prelude.{◌≡◌, ◌≤◌, Some, true, is_some};
-ghost use Rattle.node_files.specs.Appearing.{NoneAppears};
-ghost use Rattle.primary_parts.specs.Merges.{merge_of, merge_place, merges_without};
-ghost use Rattle.primary_parts.specs.Primary.{IsPrimary, KeepsHeldBytes};
-ghost use Rattle.primary_parts.specs.Calls.{DrawsOnly, HoldsNoNew};
+ghost use Rattle.searcher_switch.specs.Appearing.{NoneAppears};
+ghost use Rattle.primary_state.specs.Merges.{merge_of, merge_place, merges_without};
+ghost use Rattle.primary_state.specs.Primary.{IsPrimary, KeepsHeldBytes};
+ghost use Rattle.primary_state.specs.Calls.{DrawsOnly, HoldsNoNew};
 
 use disk_model::Dir;
 use nrt_base::{List, SegNo};
-use primary_parts::{Merging, Parts};
+use primary_state::{Merging, Parts};
 
 /// The place of the merge of a number.
 pub(crate) fn place_of(merges: &[Merging], seg: SegNo) -> usize
@@ -24,7 +24,7 @@ pub(crate) fn place_of(merges: &[Merging], seg: SegNo) -> usize
 }
 
 /// The merge of a number.
-#[tactic(auto, using(primary_parts::proofs::MergeLists::merge_at))]
+#[tactic(auto, using(primary_state::proofs::MergeLists::merge_at))]
 pub fn merge_in(merges: &[Merging], seg: SegNo) -> &Merging
     requires { is_some (merge_of seg.0 merges.now) ≡ true }
     ensures { Some result.now ≡ merge_of seg.0 merges.now }
@@ -34,7 +34,7 @@ pub fn merge_in(merges: &[Merging], seg: SegNo) -> &Merging
 }
 
 /// Takes the merge of a number out.
-#[tactic(auto, using(primary_parts::proofs::MergeLists::merge_at))]
+#[tactic(auto, using(primary_state::proofs::MergeLists::merge_at))]
 pub fn take_merge(merges: &mut List<Merging>, seg: SegNo) -> Merging
     requires { is_some (merge_of seg.0 merges.old) ≡ true }
     ensures rest { merges.new ≡ merges_without seg.0 merges.old }

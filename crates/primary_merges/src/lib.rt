@@ -1,8 +1,14 @@
-//! Merges of a primary that are in flight: their files are written, or they end.
+//! The merges of a primary: they start, get ready and are cut over.
 #![tactic(auto)]
 
+mod cutting;
 mod finding;
 mod readying;
+mod starting;
 
-pub use finding::{abandon, merge_in, take_merge};
-pub use readying::{StateReady, merge_ready};
+pub use cutting::merge_cut;
+pub use primary_state::{Merging, Out, Parts, PrimaryFault, Publish, PublishFault};
+pub use readying::merge_ready;
+pub use seg_reader::Segment;
+pub use segment_steps::{FlushTask, FlushWork, MergeTask, Merged, NextSegments, flush};
+pub use starting::merge_start;

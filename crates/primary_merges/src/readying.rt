@@ -4,14 +4,14 @@ ghost use Rattle.std.specs.List.{All};
 ghost use Rattle.nrt_base.specs.Causes.{Rose};
 ghost use Rattle.disk_model.specs.Disk.{Name, Content, reads_of};
 ghost use Rattle.copy_state.specs.States.{IsCopyState, meta_names};
-ghost use Rattle.node_files.specs.Appearing.{AppearsOnly};
-ghost use Rattle.primary_parts.specs.Cut.{last_number};
-ghost use Rattle.primary_parts.specs.Held.{IsOwnFile};
-ghost use Rattle.primary_parts.specs.States.{IsFramedFile, IsMetaIn, IsStateOf, out_of};
-ghost use Rattle.primary_parts.specs.Merges.{merge_of, merges_with, merges_without};
-ghost use Rattle.primary_parts.specs.Primary.{IsPrimary, KeepsHeldBytes, loose_of};
-ghost use Rattle.primary_parts.specs.Written.{names_of, ReadsSo};
-ghost use Rattle.primary_parts.specs.Calls.{DrawsOnly, FillsUndrawn, HoldsNoNew};
+ghost use Rattle.searcher_switch.specs.Appearing.{AppearsOnly};
+ghost use Rattle.primary_state.specs.Cut.{last_number};
+ghost use Rattle.primary_state.specs.Held.{IsOwnFile};
+ghost use Rattle.primary_state.specs.States.{IsFramedFile, IsMetaIn, IsStateOf, out_of};
+ghost use Rattle.primary_state.specs.Merges.{merge_of, merges_with, merges_without};
+ghost use Rattle.primary_state.specs.Primary.{IsPrimary, KeepsHeldBytes, loose_of};
+ghost use Rattle.primary_state.specs.Written.{names_of, ReadsSo};
+ghost use Rattle.primary_state.specs.Calls.{DrawsOnly, FillsUndrawn, HoldsNoNew};
 ghost use Rattle.primary_merges.specs.MergeCalls.{IsMadeFor, IsReadied, IsStateReady};
 
 use crate::finding::{abandon, merge_in, place_of};
@@ -20,7 +20,7 @@ use copy_state::{CopyState, FileMetaData};
 use disk_model::{Dir, DirFault};
 use file_names::FileName;
 use nrt_base::{List, NoMemory, Share};
-use primary_parts::{
+use primary_state::{
     Merging, Out, Parts, PrimaryFault, joined, lend, meta_told, names_in, write_all,
 };
 use seg_merge::Merged;

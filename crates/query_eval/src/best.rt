@@ -3,7 +3,8 @@
 ghost use Rattle.std.specs.Prelude.{◌≡◌, ◌+◌, ◌<◌, ◌≤◌, ◌^◌, [], length, slice_get, IsTrue, IfSome, OnOk};
 ghost use Rattle.std.specs.Ordering.{is_lt};
 ghost use Rattle.documents.specs.Ranking.{answer_of, hit_cmp};
-ghost use Rattle.query_eval.specs.Best.{count_ahead as count_ahead_lem, hit_with, AreBest, AreBeyond, CountsHit};
+ghost use Rattle.seg_reader.specs.Placing.{IsPlacing, place_in};
+ghost use Rattle.query_eval.specs.Best.{count_ahead as count_ahead_lem, hit_with, AreBest, AreBeyond, CountsHit, IsBar};
 
 use documents::{Answer, Hit};
 use nrt_base::{Key, List, NoMemory};
@@ -23,10 +24,13 @@ pub struct BestHits {
 
 impl Model for BestHits {
     ghost use Rattle.documents.specs.declared.answer.Answer.{Answer};
+    ghost use Rattle.query_eval.specs.Best.{AreBest};
 
     ghost Value = { Answer };
 
     ghost view = { λ best. record { total = best.total; hits = best.hits.items } };
+
+    ghost invariant = { λ best. AreBest best.hits.items };
 }
 
 // Whether a hit stands ahead of one of this key and this rank.
@@ -64,6 +68,32 @@ fn are_beyond(hits: &[Hit], rank: u32) -> bool
     rank < hits[MOST_HITS - 1].rank
 }
 
+/// Hits that are refused unread in a segment: those of this rank or a lesser one, whose rows stand at this place or behind it
+/// in the order of keys. None is where the place is 0.
+#[derive(Drop)]
+pub struct Bar {
+    rank: u32,
+    place: u32,
+}
+
+impl Bar {
+    /// A bar that refuses none.
+    pub fn new() -> Bar
+        ensures { result.place ≡ 0 }
+    {
+        Bar { rank: 0, place: 0 }
+    }
+
+    // Whether a hit of this rank is refused, whose row stands at this place.
+    fn refuses(&self, rank: u32, place: u32) -> bool
+        ensures some { IsTrue result → 0 < self.now.place }
+        ensures place { IsTrue result → self.now.place ≤ place }
+        ensures rank { IsTrue result → rank ≤ self.now.rank }
+    {
+        self.place > 0 && place >= self.place && rank <= self.rank
+    }
+}
+
 impl BestHits {
     pub fn new(alloc: Global) -> BestHits
         ensures { result ≡ answer_of [] }
@@ -74,16 +104,33 @@ impl BestHits {
         }
     }
 
-    /// Counts the document of a row, which has this rank. Its key is read only where it may come among the first 20.
-    pub fn add(&mut self, alloc: Global, seg: &Segment, row: u32, rank: u32) -> Result<(), NoMemory>
+    /// Counts the document of a row, which has this rank. Its key is read only where it may come among the first 20: behind a
+    /// hit of the segment that was read and refused none is.
+    pub fn add(
+        &mut self,
+        alloc: Global,
+        seg: &Segment,
+        places: &[u32],
+        bar: &mut Bar,
+        row: u32,
+        rank: u32,
+    ) -> Result<(), NoMemory>
         requires row { row < length seg.now.docs }
+        requires rows { length places.now ≡ length seg.now.docs }
+        requires order { IsPlacing seg.now.docs places.now }
+        requires bar { IsBar seg.now.docs places.now bar.old self.old.hits }
         requires room { self.old.total + 1 < 2 ^ 32 }
-        ensures { OnOk result
+        ensures counts { OnOk result
             (IfSome (slice_get seg.now.docs row)
             (λ doc. CountsHit (hit_with doc.key rank) self.old self.new)) }
+        ensures bar { OnOk result (IsBar seg.now.docs places.now bar.new self.new.hits) }
     {
         self.total += 1;
         if are_beyond(self.hits.as_slice(), rank) {
+            return Ok(());
+        }
+        let at = places[row as usize];
+        if bar.refuses(rank, at) {
             return Ok(());
         }
         let key = seg.key(row);
@@ -92,6 +139,8 @@ impl BestHits {
             let key = Key::new(alloc, key)?;
             self.hits.insert(place, Hit { key, rank })?;
             self.hits.truncate(MOST_HITS);
+        } else {
+            *bar = Bar { rank, place: at };
         }
         Ok(())
     }

@@ -7,10 +7,12 @@ ghost use Rattle.documents.specs.Matching.{is_well_formed};
 ghost use Rattle.documents.specs.Ranking.{scan_of};
 ghost use Rattle.seg_reader.specs.Shown.{AreLiveDocuments};
 ghost use Rattle.seg_reader.specs.Sound.{IsSound};
+ghost use Rattle.seg_reader.specs.Placing.{IsPlacing};
+ghost use Rattle.query_eval.specs.Best.{IsBar};
 ghost use Rattle.query_eval.specs.Matching.{CountsRow, CountsSegment, rows_of};
 ghost use Rattle.query_eval.specs.Ranks.{rank_in, KeepsRanks};
 
-use crate::best::BestHits;
+use crate::best::{Bar, BestHits};
 use crate::building::cursor_of;
 use crate::cursor::advance;
 use crate::rank::Ranker;
@@ -23,18 +25,24 @@ use std::alloc::Global;
 fn count_row(
     alloc: Global,
     seg: &Segment,
+    places: &[u32],
     row: u32,
     ranker: &mut Ranker<'_>,
+    bar: &mut Bar,
     best: &mut BestHits,
 ) -> Result<(), NoMemory>
     requires row { row < length seg.now.docs }
+    requires rows { length places.now ≡ length seg.now.docs }
+    requires order { IsPlacing seg.now.docs places.now }
+    requires bar { IsBar seg.now.docs places.now bar.old best.old.hits }
     requires room { best.old.total + 1 < 2 ^ 32 }
     ensures counts { OnOk result
         (CountsRow seg.now row (min (rank_in ranker.old row) (2 ^ 32 - 1)) best.old best.new) }
     ensures keeps { KeepsRanks row ranker.old ranker.new }
+    ensures bar { OnOk result (IsBar seg.now.docs places.now bar.new best.new.hits) }
 {
     if seg.is_live(row) {
-        best.add(alloc, seg, row, ranker.rank(row))?;
+        best.add(alloc, seg, places, bar, row, ranker.rank(row))?;
     }
     Ok(())
 }
@@ -49,12 +57,14 @@ fn search(alloc: Global, seg: &Segment, query: &Query, best: &mut BestHits) -> R
     let mut ranker = Ranker::new(alloc);
     let mut cursor = cursor_of(alloc, seg, query, &mut ranker)?;
     let rows = seg.rows();
+    let places = seg.places();
+    let mut bar = Bar::new();
     let mut row = 0;
     while let Some(found) = advance(&mut cursor, row) {
         if found >= rows {
             break;
         }
-        count_row(alloc, seg, found, &mut ranker, best)?;
+        count_row(alloc, seg, places, found, &mut ranker, &mut bar, best)?;
         row = found + 1;
     }
     Ok(())

@@ -49,9 +49,13 @@ fn text_at(alloc: Global, place: usize) -> Result<Text, NoMemory> {
     }
 }
 
-// One of the documents, by its place in order of key.
+// One of the documents, by its place in order of key. A dead one has the key of the one behind it in its segment.
 fn document_at(alloc: Global, place: usize) -> Result<Doc, NoMemory> {
-    let key = key_at(alloc, place)?;
+    let key = if is_dead(place) {
+        key_at(alloc, place % DOCUMENTS + SEGMENTS)?
+    } else {
+        key_at(alloc, place)?
+    };
     let text = text_at(alloc, place)?;
     Ok(Doc { key, text })
 }
@@ -65,12 +69,17 @@ fn is_dead(place: usize) -> bool {
     }
 }
 
-// The places of the rows of a segment: every fifth document, the greatest key first.
+// The places of the rows of a segment: every fifth document, the greatest key first in the first three segments and the
+// least key first in the others.
 fn place_at(number: usize, row: usize) -> usize
     requires number { number < SEGMENTS }
     requires row { row < ROWS }
 {
-    number + SEGMENTS * (ROWS - 1 - row)
+    if number < 3 {
+        number + SEGMENTS * (ROWS - 1 - row)
+    } else {
+        number + SEGMENTS * row
+    }
 }
 
 fn rows_at(alloc: Global, number: usize) -> Result<Vec<Prepared>, NoMemory>

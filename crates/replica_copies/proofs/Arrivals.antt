@@ -1,27 +1,31 @@
 -- A part that arrives.
-use Rattle.replica_parts.proofs.Parting.{part_added, adds_made, adds_none, temp_plain, temp_none}
-use Rattle.replica_parts.proofs.Cores.{IsCore}
-use Rattle.std.proofs.Common.{◌≡◌, ◌+◌, ◌<◌, Bool, true, false, List, [], ◌∷◌, ◌++◌, Option, Some, cond, refl, sym, ap, subst, ◌∙◌, arith, inl, inr}
+use Rattle.replica_state.proofs.Parting.{part_added, adds_made, adds_none, temp_plain, temp_none}
+use Rattle.replica_state.proofs.Cores.{IsCore}
+use Rattle.std.proofs.Common.{◌≡◌, ◌+◌, ◌<◌, ◌^◌, Bool, true, false, List, [], ◌∷◌, ◌++◌, Option, Some, cond, refl, sym, ap, subst, ◌∙◌, arith, inl, inr}
 use Rattle.file_names.specs.Names.{temp_name_of}
 use Rattle.disk_model.specs.Disk.{Name, Cells, same, is_among}
 use Rattle.disk_model.proofs.CellLemmas.{same_true}
 use Rattle.file_deleter.specs.Holdings.{Holdings, count_of, times}
 use Rattle.file_deleter.specs.Moves.{MovesCounts}
 use Rattle.file_deleter.proofs.NameLemmas.{times-append, times_one, among_times}
-use Rattle.replica_parts.specs.Given.{IsWholeNode, IsApart, HasNoPending, AddsOnly, ticket_names, searcher_names, IsLasting, book_names}
-use Rattle.replica_parts.proofs.Given.{node_moves, unheld_apart}
-use Rattle.copy_job.specs.Jobs.{Job, job_names}
-use Rattle.replica_parts.specs.declared.parts.Parts.{Parts}
-use Rattle.replica_parts.specs.Merges.{copies_names}
-use Rattle.replica_parts.specs.Replica.{IsPointState, IsJobAbove, names_of_job}
-use Rattle.replica_parts.specs.declared.job.PointJob.{PointJob}
+use Rattle.searcher_switch.specs.Node.{IsWholeNode, IsApart, HasNoPending, AddsOnly}
+use Rattle.searcher_switch.specs.Tickets.{ticket_names}
+use Rattle.searcher_switch.specs.Searching.{searcher_names}
+use Rattle.replica_state.specs.Given.{IsLasting}
+use Rattle.commit_steps.specs.Book.{book_names}
+use Rattle.searcher_switch.proofs.Carry.{node_moves, unheld_apart}
+use Rattle.copy_job.specs.Jobs.{Job, job_names, IsJob, with_part}
+use Rattle.replica_state.specs.declared.parts.Parts.{Parts}
+use Rattle.replica_state.specs.Merges.{copies_names, copied_names}
+use Rattle.replica_state.proofs.Sparing.{copied_missing}
+use Rattle.replica_state.specs.Replica.{IsPointState, IsJobAbove, names_of_job}
+use Rattle.replica_state.specs.declared.job.PointJob.{PointJob}
 use Rattle.std.specs.Prelude.{IfSome}
 use Rattle.copy_state.specs.declared.state.CopyState.{CopyState}
-use Rattle.copy_job.specs.Jobs.{IsJob, with_part}
-use Rattle.replica_parts.specs.Waiting.{IsWaiting}
-use Rattle.replica_parts.proofs.Waiting.{temp_free, waits_arrived}
-use Rattle.replica_parts.proofs.Temporary.{book_no_temporary}
-use Rattle.replica_parts.proofs.Along.{point_along}
+use Rattle.replica_state.specs.Waiting.{IsWaiting}
+use Rattle.replica_state.proofs.Waiting.{temp_free, waits_arrived}
+use Rattle.replica_state.proofs.Temporary.{book_no_temporary}
+use Rattle.replica_state.proofs.Along.{point_along}
 
 -- ---- a replica over a part that arrives, or does not
 module _ {D : Type 0} (cells : D → Cells) (p : Parts D) (is : IsCore cells p) (j : PointJob) (e : p.job ≡ Some j) where
@@ -54,7 +58,7 @@ module _ {D : Type 0} (cells : D → Cells) (p : Parts D) (is : IsCore cells p) 
         (temp_name_of name j.copy.number ∷ []) node_j apart moves
         (λ q. omega (arith, held_split (job_names j.copy) q, held_split (job_names now) q)) plain
 
-    pub arrived : (is_job : IsJob now) → now.want ≡ j.copy.want → IsWaiting files now → IsCore cells (record p { dir = dir; files = files; job = Some (record { copy = now; infos = j.infos }) })
+    pub arrived : (is_job : IsJob now) → now.want ≡ j.copy.want → IsWaiting files now → IsCore cells (record p { dir = dir; files = files; job = Some (record { copy = now; infos = j.infos; stopped = j.stopped }) })
     arrived is_job want waits = record {
       node = node_arrived;
       point = point_along (cells p.dir) (cells dir) p.infos p.searchers.point is.point (λ q some.
@@ -69,7 +73,7 @@ module _ {D : Type 0} (cells : D → Cells) (p : Parts D) (is : IsCore cells p) 
     }
 
 -- ---- a part of the job arrives, or does not
-module _ {D : Type 0} (cells : D → Cells) (p : Parts D) (is : IsCore cells p) (j : PointJob) (e : p.job ≡ Some j) (foreign : (name : Name) → times (copies_names p.copies) (temp_name_of name j.copy.number) ≡ 0) where
+module _ {D : Type 0} (cells : D → Cells) (p : Parts D) (is : IsCore cells p) (j : PointJob) (e : p.job ≡ Some j) (few : j.copy.number < 2 ^ 64) (foreign : (name : Name) → 0 < times (copied_names j.copy) name → times (copies_names p.copies) (temp_name_of name j.copy.number) ≡ 0) where
   above_j : IsJobAbove p.searchers.point.version.0 j
   above_j = subst (λ (x : Option PointJob). IfSome x (IsJobAbove p.searchers.point.version.0)) e is.newer
 
@@ -86,7 +90,7 @@ module _ {D : Type 0} (cells : D → Cells) (p : Parts D) (is : IsCore cells p) 
     others_none : times ((searcher_names p.searchers ++ book_names p.commits) ++ copies_names p.copies) (temp_name_of name j.copy.number) ≡ 0
     others_none = omega (
       arith,
-      foreign name,
+      foreign name (copied_missing j.copy name missing_j),
       is.lasting.each name j.copy.number,
       (book_no_temporary (cells p.dir) p.files p.commits is.node.sound).each name j.copy.number,
       times-append (searcher_names p.searchers ++ book_names p.commits) (copies_names p.copies) (temp_name_of name j.copy.number),
@@ -94,14 +98,14 @@ module _ {D : Type 0} (cells : D → Cells) (p : Parts D) (is : IsCore cells p) 
     )
 
     pub free_j : count_of p.files (temp_name_of name j.copy.number) ≡ 0
-    free_j = temp_free j.infos j.copy above_j.copy above_j.state.files p.files waits_j name missing_j ((searcher_names p.searchers ++ book_names p.commits) ++ copies_names p.copies) others_none counts_j
+    free_j = temp_free j.infos j.copy above_j.copy above_j.state.files p.files waits_j few name missing_j ((searcher_names p.searchers ++ book_names p.commits) ++ copies_names p.copies) others_none counts_j
 
     module _ (dir : D) (files : Holdings) (now : Job) (moves : MovesCounts (temp_name_of name j.copy.number ∷ []) (job_names j.copy) (job_names now) p.files files (cells p.dir) (cells dir)) (is_job : IsJob now) where
-      pub arrives : now ≡ with_part j.copy name → IsCore cells (record p { dir = dir; files = files; job = Some (record { copy = now; infos = j.infos }) })
+      pub arrives : now ≡ with_part j.copy name → IsCore cells (record p { dir = dir; files = files; job = Some (record { copy = now; infos = j.infos; stopped = j.stopped }) })
       arrives made = arrived cells p is j e name free_j dir files now moves (adds_made j.copy now name made) is_job (ap (λ (x : Job). x.want) made)
-          (waits_arrived j.infos j.copy above_j.copy above_j.state.files p.files waits_j name missing_j files now made free_j (λ q. omega (arith, moves.balance q, part_added j.copy now name made q)))
+          (waits_arrived j.infos j.copy above_j.copy above_j.state.files p.files waits_j few name missing_j files now made free_j (λ q. omega (arith, moves.balance q, part_added j.copy now name made q)))
 
-      pub stays_out : now ≡ j.copy → IsCore cells (record p { dir = dir; files = files; job = Some (record { copy = now; infos = j.infos }) })
+      pub stays_out : now ≡ j.copy → IsCore cells (record p { dir = dir; files = files; job = Some (record { copy = now; infos = j.infos; stopped = j.stopped }) })
       stays_out same_job = arrived cells p is j e name free_j dir files now moves (adds_none j.copy now name same_job) is_job (ap (λ (x : Job). x.want) same_job) (subst (IsWaiting files) (sym same_job) still)
         where
           same_counts : (q : Name) → count_of files q ≡ count_of p.files q
@@ -109,7 +113,7 @@ module _ {D : Type 0} (cells : D → Cells) (p : Parts D) (is : IsCore cells p) 
 
           still : IsWaiting files j.copy
           still = record {
-            each = λ place part at. elim (waits_j.each place part at) [ inl own ↦ inl own | inr l ↦ inr (record { temporary = l.temporary; once = same_counts part.now ∙ l.once; free = same_counts part.own ∙ l.free }) ];
+            each = λ place part at. elim (waits_j.each place part at) [ inl own ↦ inl own | inr l ↦ inr (record { job = l.job; small = l.small; temporary = l.temporary; once = same_counts part.now ∙ l.once; free = same_counts part.own ∙ l.free }) ];
             missing = λ q some. same_counts q ∙ waits_j.missing q some;
           }
 

@@ -1,4 +1,19 @@
+mod Advances
 mod Arrivals
 mod Begun
+mod Came
+mod Finished
+mod Finishes
+mod Launched
+mod Moved
+mod Naming
+pub mod Overlaps
+mod Parted
+mod Placed
+mod Settled
+mod Spared
 mod States
+mod Switched
+mod Switching
 mod Taken
+mod Wanted

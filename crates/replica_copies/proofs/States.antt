@@ -4,7 +4,7 @@ use Rattle.segment_infos.specs.declared.infos.Infos.{Infos}
 use Rattle.segment_infos.specs.Infos.{IsInfosFile}
 use Rattle.segment_infos.proofs.FileLaws.{infos_files_one_to_one}
 use Rattle.copy_state.specs.declared.state.CopyState.{CopyState}
-use Rattle.replica_parts.specs.Replica.{IsPointState}
+use Rattle.replica_state.specs.Replica.{IsPointState}
 
 -- what was read is what the state spells
 pub state_read : (state : CopyState) (slice : List ℕ) → slice ≡ state.infos → (due : Infos) → IsPointState state due → (infos : Infos) → IsInfosFile infos slice → IsPointState state infos

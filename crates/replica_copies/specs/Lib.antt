@@ -1,0 +1,4 @@
+pub mod Advancing
+pub mod Overlapping
+pub mod Parting
+pub mod Settling

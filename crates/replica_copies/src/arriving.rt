@@ -5,17 +5,18 @@ ghost use Rattle.nrt_base.specs.Causes.{Rose};
 ghost use Rattle.disk_model.specs.Disk.{Name, Content};
 ghost use Rattle.copy_job.specs.Placing.{IsPlacingFault};
 ghost use Rattle.copy_job.specs.Jobs.{with_part};
-ghost use Rattle.replica_parts.specs.Replica.{IsWholeReplica, AreStanding};
+ghost use Rattle.replica_state.specs.Replica.{IsWholeReplica, AreStanding};
 ghost use Rattle.file_names.specs.Names.{temp_name_of};
 ghost use Rattle.file_deleter.specs.Holdings.{times};
-ghost use Rattle.replica_parts.specs.Given.{KeepsBytes, AppearsOnly};
+ghost use Rattle.searcher_switch.specs.Node.{KeepsBytes};
+ghost use Rattle.searcher_switch.specs.Appearing.{AppearsOnly};
 ghost use Rattle.copy_state.specs.Meta.{IsMetaOf};
 ghost use Rattle.copy_state.specs.States.{meta_in};
-ghost use Rattle.replica_parts.specs.Sources.{IsSourced, HoldsOnly};
+ghost use Rattle.replica_state.specs.Sources.{IsSourced, HoldsOnly};
 
 use copy_job::{JobFault, Part};
 use disk_model::Dir;
-use replica_parts::{Parts, PointJob, told};
+use replica_state::{Parts, PointJob, told};
 
 /// Writes a part of the job under its temporary name. After a refusal it is still missing.
 pub fn arrived<D: Dir>(parts: &mut Parts<D>, job: u64, part: Part) -> Result<(), JobFault>
@@ -50,18 +51,33 @@ pub fn arrived<D: Dir>(parts: &mut Parts<D>, job: u64, part: Part) -> Result<(),
       job = parts.new.job;
     } }
 {
-    let Some(PointJob { mut copy, infos }) = parts.job.take() else {
+    let Some(
+        PointJob {
+            mut copy,
+            infos,
+            stopped,
+        },
+    ) = parts.job.take()
+    else {
         unreachable!();
     };
     match copy.arrived(part, &mut parts.files, &mut parts.dir) {
         Ok(()) => {
             told(&copy);
-            parts.job = Some(PointJob { copy, infos });
+            parts.job = Some(PointJob {
+                copy,
+                infos,
+                stopped,
+            });
             Ok(())
         }
         Err(fault) => {
             told(&copy);
-            parts.job = Some(PointJob { copy, infos });
+            parts.job = Some(PointJob {
+                copy,
+                infos,
+                stopped,
+            });
             Err(fault)
         }
     }

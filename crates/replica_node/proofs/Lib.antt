@@ -1,5 +1,4 @@
-mod Mids
+pub mod Lent
 mod Numbered
 mod Sourced
 mod Started
-pub mod Given

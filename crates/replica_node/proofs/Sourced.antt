@@ -9,7 +9,7 @@ use Rattle.file_deleter.specs.Holdings.{Holdings, count_of, times}
 use Rattle.segment_infos.specs.declared.infos.Infos.{Infos}
 use Rattle.segment_infos.specs.Files.{AreFilesOf}
 use Rattle.seg_reader.specs.Stands.{StandsFor}
-use Rattle.node_files.proofs.Standing.{stands_along}
+use Rattle.searcher_switch.proofs.Standing.{stands_along}
 use Rattle.copy_state.specs.declared.meta.FileMetaData.{FileMetaData}
 use Rattle.copy_state.specs.States.{meta_names}
 use Rattle.copy_state.specs.Meta.{IsMetaOf}
@@ -17,11 +17,11 @@ use Rattle.copy_state.proofs.MetaLaws.{one_meta}
 use Rattle.copy_job.specs.declared.fault.JobFault.{JobFault}
 use Rattle.copy_job.specs.declared.fault.JobFault.TheVariants.{Memory, LinkFailed, Damaged, DirFailed, NameClash}
 use Rattle.copy_job.specs.Jobs.{Job, reads_under}
-use Rattle.replica_parts.specs.Given.{IsLasting, HasMeta}
-use Rattle.replica_parts.proofs.Given.{same_bytes}
-use Rattle.replica_parts.specs.Jobs.{IsStartingFault}
-use Rattle.replica_parts.specs.Sources.{CopiesFrom}
-use Rattle.replica_parts.proofs.Named.{file_counted}
+use Rattle.replica_state.specs.Given.{IsLasting, HasMeta}
+use Rattle.replica_state.proofs.Given.{same_bytes}
+use Rattle.replica_state.specs.Jobs.{IsStartingFault}
+use Rattle.replica_state.specs.Sources.{CopiesFrom}
+use Rattle.replica_state.proofs.Named.{file_counted}
 
 -- what reads under a name has one metadata
 has_one : (reads other : Name → Content) (q : Name) (m n : FileMetaData) → reads q ≡ other q → HasMeta reads q m → HasMeta other q n → m ≡ n

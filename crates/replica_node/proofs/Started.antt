@@ -6,36 +6,38 @@ use Rattle.nrt_base.specs.declared.numbers.Gen.{Gen}
 use Rattle.file_deleter.specs.Holdings.{count_of, times, IsThere}
 use Rattle.file_deleter.proofs.NameLemmas.{times-append, times_one, among_times}
 use Rattle.file_names.specs.Names.{is_commit_name, commit_number}
-use Rattle.disk_model.specs.Disk.{same, is_among, Image}
+use Rattle.disk_model.specs.Disk.{same, is_among, Image, Name, Content, Cells, reads_of}
 use Rattle.disk_model.proofs.CellLemmas.{same_true}
 use Rattle.segment_infos.specs.Files.{files_of_segment, AreFilesOf}
 use Rattle.seg_reader.specs.Shown.{Shown}
-use Rattle.node_files.specs.Node.{IsWholeNode}
-use Rattle.node_files.proofs.Carry.{node_same_names}
-use Rattle.replica_switches.specs.Given.{Open, Searchers, ticket_names, searcher_names}
-use Rattle.replica_parts.specs.Given.{IsLasting, FindsPoint, number_of_last, Opened, IsNodeOpened, IsHandedBack}
-use Rattle.replica_parts.specs.declared.merges.MergeCopies.{MergeCopies}
-use Rattle.replica_parts.specs.declared.parts.Parts.{Parts}
-use Rattle.replica_parts.specs.Merges.{no_copies}
-use Rattle.replica_parts.specs.Sources.{IsSourced}
-use Rattle.replica_parts.proofs.Named.{among_file, some_among}
+use Rattle.searcher_switch.specs.Node.{IsWholeNode}
+use Rattle.searcher_switch.proofs.Carry.{node_same_names}
+use Rattle.searcher_switch.specs.declared.open.Open.{Open}
+use Rattle.searcher_switch.specs.declared.searchers.Searchers.{Searchers}
+use Rattle.searcher_switch.specs.Tickets.{ticket_names}
+use Rattle.searcher_switch.specs.Searching.{searcher_names}
+use Rattle.replica_state.specs.Given.{IsLasting, FindsPoint, number_of_last, Opened, IsNodeOpened, IsHandedBack}
+use Rattle.replica_state.specs.declared.merges.MergeCopies.{MergeCopies}
+use Rattle.replica_state.specs.declared.parts.Parts.{Parts}
+use Rattle.replica_state.specs.Merges.{no_copies}
+use Rattle.replica_state.specs.Sources.{IsSourced}
+use Rattle.replica_state.proofs.Named.{among_file, some_among}
 use Rattle.commit_steps.proofs.Safe.{own_is, number_of_own}
-use Rattle.replica_parts.specs.Waiting.{HasNoTemporary}
-use Rattle.replica_parts.specs.Replica.{IsWholeReplica}
-use Rattle.replica_parts.proofs.Temporary.{joins, files_no_temporary}
+use Rattle.replica_state.specs.Waiting.{HasNoTemporary}
+use Rattle.replica_state.specs.Replica.{IsWholeReplica}
+use Rattle.replica_state.proofs.Temporary.{joins, files_no_temporary}
 use Rattle.std.specs.Prelude.{IfSome, IsSomeAnd}
 use Rattle.std.proofs.lemmas.Option.{same_Some, none-some}
-use Rattle.node_files.specs.Appearing.{NoneAppears}
-use Rattle.node_files.proofs.Appearing.{there_or}
-use Rattle.replica_parts.specs.Starting.{HasJustItsFiles}
-use Rattle.disk_model.specs.Disk.{Name, Content, Cells, reads_of}
+use Rattle.searcher_switch.specs.Appearing.{NoneAppears}
+use Rattle.searcher_switch.proofs.Appearing.{there_or}
+use Rattle.replica_state.specs.Starting.{HasJustItsFiles}
 use Rattle.segment_infos.specs.declared.infos.Infos.{Infos}
 use Rattle.commit_steps.specs.declared.states.Commit.{Commit}
 use Rattle.commit_steps.specs.declared.stage.Stage.{Stage}
 use Rattle.commit_steps.specs.declared.stage.CommitBook.{CommitBook}
 use Rattle.commit_steps.specs.Flights.{IsCommit, own_name}
 use Rattle.commit_steps.specs.Book.{commit_of, last_names, flying_names, book_names}
-use Rattle.node_files.specs.Standing.{StandsForSome, IsStanding}
+use Rattle.searcher_switch.specs.Standing.{StandsForSome, IsStanding}
 
 last_stands : (reads : Name → Content) (infos : Infos) (last : Option Commit) → IfSome last (λ c. IsCommit c × (c.infos ≡ infos)) → StandsForSome reads infos → IfSome last (λ c. StandsForSome reads c.infos)
 last_stands reads infos None is stands = tt

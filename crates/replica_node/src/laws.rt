@@ -1,6 +1,6 @@
 //! What holds of directories and of points, for proofs to call. No function here does anything.
 
-ghost use Rattle.std.specs.Prelude.{◌≡◌, ◌<◌, ℕ, List, [], Some, None, Contains};
+ghost use Rattle.std.specs.Prelude.{◌≡◌, ◌<◌, ℕ, List, [], Some, None, false, Contains};
 ghost use Rattle.std.specs.List.{All, flat_map};
 ghost use Rattle.nrt_base.specs.declared.doc.Doc.{Doc};
 ghost use Rattle.disk_model.specs.Disk.{Name, Content, Cells, Image, restarted};
@@ -13,13 +13,13 @@ ghost use Rattle.copy_state.specs.declared.meta.FileMetaData.{FileMetaData};
 ghost use Rattle.copy_state.specs.States.{meta_names};
 ghost use Rattle.copy_job.specs.declared.fault.JobFault.{JobFault};
 ghost use Rattle.copy_job.specs.Jobs.{Job, reads_under};
-ghost use Rattle.replica_parts.specs.Given.{IsLasting, HasMeta, AreReaders, IsSettledOn};
-ghost use Rattle.replica_parts.specs.Jobs.{IsStartingFault};
-ghost use Rattle.replica_parts.specs.declared.job.PointJob.{PointJob};
-ghost use Rattle.replica_parts.specs.declared.parts.Parts.{Parts};
-ghost use Rattle.replica_parts.specs.Merges.{copy_at, copies_with, copies_without};
-ghost use Rattle.replica_parts.specs.Replica.{IsWholeReplica};
-ghost use Rattle.replica_parts.specs.Sources.{CopiesFrom};
+ghost use Rattle.replica_state.specs.Given.{IsLasting, HasMeta, AreReaders, IsSettledOn};
+ghost use Rattle.replica_state.specs.Jobs.{stopped_job, IsStartingFault};
+ghost use Rattle.replica_state.specs.declared.job.PointJob.{PointJob};
+ghost use Rattle.replica_state.specs.declared.parts.Parts.{Parts};
+ghost use Rattle.replica_state.specs.Merges.{copy_at, copies_with, copies_without};
+ghost use Rattle.replica_state.specs.Replica.{IsWholeReplica};
+ghost use Rattle.replica_state.specs.Sources.{CopiesFrom};
 ghost use Rattle.replica_node.specs.Running.{running_job, with_job, without_job};
 
 /// A directory that restarted from an image, as after a crash, shows in each image what it shows.
@@ -58,10 +58,10 @@ pub fn sourced_stands()
 
 /// Where the job of a newer point has the number, it is the one that the calls by number are about.
 pub fn point_runs<D>()
-    ensures { (number : ℕ) (p : Parts D) (j : PointJob) → p.job ≡ Some j → j.copy.number ≡ number
-        → (running_job number p ≡ Some j.copy)
+    ensures { (number : ℕ) (p : Parts D) (j : PointJob) → p.job ≡ Some j → j.stopped ≡ false
+        → j.copy.number ≡ number → (running_job number p ≡ Some j.copy)
         × ((k : Job) → with_job number k p ≡ record p { job = Some (record j { copy = k }) })
-        × (without_job number p ≡ record p { job = None }) }
+        × (without_job number p ≡ record p { job = Some (stopped_job j) }) }
 {}
 
 /// Where a copy of a merged segment has the number, it is the one that the calls by number are about.

@@ -1,6 +1,6 @@
 //! The replica.
 
-ghost use Rattle.std.specs.Prelude.{◌≡◌, ◌<◌, ◌≤◌, ◌+◌, ◌++◌, ◌∷◌, ◌^◌, ℕ, List, [], None, Some, Ok, IsSome, IfOk, IfErr, IfSome, OnOk, OnErr, IsErrOf, MatchResult, Contains, is_some, nat_lt, true, false, max};
+ghost use Rattle.std.specs.Prelude.{◌≡◌, ◌<◌, ◌≤◌, ◌+◌, ◌++◌, ◌∷◌, ◌^◌, ℕ, List, [], None, Some, Ok, IsSome, IfOk, IfErr, IfSome, OnOk, OnErr, IsErrOf, IsSomeAnd, MatchResult, Contains, is_some, nat_lt, true, false, max};
 ghost use Rattle.std.specs.List.{flat_map};
 ghost use Rattle.nrt_base.specs.Causes.{Rose};
 ghost use Rattle.nrt_base.specs.declared.doc.Doc.{Doc};
@@ -11,15 +11,15 @@ ghost use Rattle.std.specs.List.Sorted.{IsStrictlySortedBy};
 ghost use Rattle.file_deleter.specs.Holdings.{count_of};
 ghost use Rattle.segment_infos.specs.Files.{files_of_segment};
 ghost use Rattle.seg_reader.specs.Stands.{StandsFor};
-ghost use Rattle.node_files.specs.Appearing.{NoneAppears};
+ghost use Rattle.searcher_switch.specs.Appearing.{NoneAppears};
 ghost use Rattle.copy_job.specs.Placing.{IsPlacingFault};
-ghost use Rattle.replica_parts.specs.Given.{StartFault, IsLasting, FindsPoint, number_of_last, IsStartRefusal, IsCutOffOr, IsSettledOn, IsHandedBack};
-ghost use Rattle.replica_parts.specs.Sources.{IsSourced};
-ghost use Rattle.replica_parts.specs.Starting.{IsJustOpened, SearchesJust, HasJustItsFiles};
+ghost use Rattle.replica_state.specs.Given.{StartFault, IsLasting, FindsPoint, number_of_last, IsStartRefusal, IsCutOffOr, IsSettledOn, IsHandedBack};
+ghost use Rattle.replica_state.specs.Sources.{IsSourced};
+ghost use Rattle.replica_state.specs.Starting.{IsJustOpened, SearchesJust, HasJustItsFiles};
 ghost use Rattle.replica_node.specs.Refusals.{IsHandedOut};
-ghost use Rattle.replica_parts.specs.Replica.{IsWholeReplica};
+ghost use Rattle.replica_state.specs.Replica.{IsWholeReplica};
 
-use crate::jobs::{arrive, begin, end};
+use crate::jobs::{arrive, end, running_of};
 use commit_steps::CommitFault;
 use copy_job::{CopyJob, JobFault, Part};
 use copy_state::CopyState;
@@ -27,12 +27,11 @@ use disk_model::{Dir, FaultDir};
 use file_names::FileName;
 use merge_precopy::Precopies;
 use nrt_base::{Gen, NoMemory, Version};
-use replica_parts::{MergeCopies, NodeParts, Parts, PointAnswer, RunningCopies, StartFault, open};
-use replica_precopies::{
-    acquire, commit_begin, commit_step, finish_precopy, into_dir, launch_precopy, lease, new_point,
-    plan, release, stop_at, take_apart,
+use replica_copies::{
+    Lease, Ticket, acquire, commit_begin, commit_step, finish, finish_precopy, into_dir,
+    launch_precopy, lease, new_point, plan, release, start_job, stop_at, take_apart,
 };
-use replica_switches::{Lease, Ticket, finish};
+use replica_state::{MergeCopies, NodeParts, Parts, PointAnswer, RunningCopies, StartFault, open};
 use seg_reader::Segment;
 use std::alloc::Global;
 use std::marker::Model;
@@ -104,8 +103,8 @@ pub struct Replica<D: Dir> {
 }
 
 impl<D: Dir> Model for Replica<D> {
-    ghost use Rattle.replica_parts.specs.declared.parts.Parts.{Parts};
-    ghost use Rattle.replica_parts.specs.Replica.{IsWholeReplica};
+    ghost use Rattle.replica_state.specs.declared.parts.Parts.{Parts};
+    ghost use Rattle.replica_state.specs.Replica.{IsWholeReplica};
 
     ghost Value = { Parts D };
 
@@ -123,26 +122,26 @@ impl<D: Dir> Replica<D> {
     ghost use Rattle.nrt_base.specs.declared.doc.Doc.{Doc};
     ghost use Rattle.file_names.specs.Names.{temp_name_of};
     ghost use Rattle.file_deleter.specs.Holdings.{count_of, times};
-    ghost use Rattle.node_files.specs.Node.{IsWholeNode, KeepsBytes};
+    ghost use Rattle.searcher_switch.specs.Node.{IsWholeNode, KeepsBytes};
     ghost use Rattle.commit_steps.specs.Commits.{ImagesAre, ImagesHave};
     ghost use Rattle.commit_steps.specs.Book.{commit_of, shown_by, book_after, is_last_step, HasBegun};
-    ghost use Rattle.replica_switches.specs.Given.{ticket_at, tickets_without};
-    ghost use Rattle.replica_switches.specs.Given.{IsLeaseOf, searcher_names};
+    ghost use Rattle.searcher_switch.specs.Tickets.{ticket_at, tickets_without};
+    ghost use Rattle.searcher_switch.specs.Searching.{IsLeaseOf, searcher_names};
     ghost use Rattle.copy_state.specs.Meta.{IsMetaOf};
     ghost use Rattle.std.specs.Option.{option_map};
     ghost use Rattle.copy_state.specs.States.{meta_in, meta_names, IsCopyState};
     ghost use Rattle.copy_job.specs.Jobs.{with_part, reads_under};
-    ghost use Rattle.replica_parts.specs.Merges.{copy_at, copies_seen};
-    ghost use Rattle.replica_parts.specs.Answers.{point_answer};
-    ghost use Rattle.replica_parts.specs.Jobs.{Agrees, IsStartingFault, merge_job_on};
-    ghost use Rattle.replica_precopies.specs.Overlapping.{StartsBeside, copies_beside};
-    ghost use Rattle.replica_parts.specs.Sources.{HeldReadAs, IsSourced, KeepsSource, HoldsOnly, HoldsOnlyWanted, IsWantedName, IsStillCopying, IsTakenApart};
-    ghost use Rattle.replica_parts.specs.Replica.{IsWholeReplica, AreStanding, IsWanted, MayLaunch};
-    ghost use Rattle.replica_precopies.specs.Settling.{SettlesCopy, EndsCopy, StillCopies};
-    ghost use Rattle.replica_switches.specs.Parting.{pending_after};
-    ghost use Rattle.replica_node.specs.Running.{running_job, with_job, without_job};
-    ghost use Rattle.node_files.specs.Standing.{StandsForSome, IsStanding, ImagesStand};
-    ghost use Rattle.node_files.specs.Appearing.{AppearsOnly, IsNameInFlight};
+    ghost use Rattle.replica_state.specs.Merges.{copy_at, copies_seen};
+    ghost use Rattle.replica_state.specs.Answers.{point_answer};
+    ghost use Rattle.replica_state.specs.Jobs.{Agrees, IsPointJob, IsStartingFault, merge_job_on, running_point, job_seen};
+    ghost use Rattle.replica_copies.specs.Overlapping.{copies_beside};
+    ghost use Rattle.replica_state.specs.Sources.{HeldReadAs, IsSourced, KeepsSource, HoldsOnly, HoldsOnlyWanted, IsWantedName, IsStillCopying, IsTakenApart};
+    ghost use Rattle.replica_state.specs.Replica.{IsWholeReplica, AreStanding, IsWanted, MayLaunch};
+    ghost use Rattle.replica_copies.specs.Settling.{SettlesCopy, EndsCopy, StillCopies};
+    ghost use Rattle.replica_copies.specs.Parting.{pending_after};
+    ghost use Rattle.replica_node.specs.Running.{is_job_number, running_job, with_job, without_job};
+    ghost use Rattle.searcher_switch.specs.Standing.{StandsForSome, IsStanding, ImagesStand};
+    ghost use Rattle.searcher_switch.specs.Appearing.{AppearsOnly, IsNameInFlight};
 
     /// Opens a replica on a directory, at the commit that it shows, or at the opening point where it shows none. Every other
     /// file is removed. Each image of the directory must show what the directory shows, as after a crash.
@@ -208,20 +207,17 @@ impl<D: Dir> Replica<D> {
         self.parts.commits.next
     }
 
-    /// The job, where there is one.
+    /// The job, where one runs.
     pub fn job(&self) -> Option<&CopyJob>
-        ensures some { is_some result ≡ is_some self.now.job }
-        ensures job { IfSome result (λ copy. IfSome self.now.job (λ j. copy.now ≡ j.copy)) }
+        ensures { option_map (λ copy. copy.now) result
+            ≡ option_map (λ j. j.copy) (running_point self.now.job) }
     {
-        match &self.parts.job {
-            Some(job) => Some(&job.copy),
-            None => None,
-        }
+        running_of(&self.parts.job)
     }
 
     /// Each image of the directory shows the last commit or the one in flight, of the documents that the directory has of it
     /// now, or nothing where there is no last one.
-    #[tactic(auto, using(node_files::proofs::Standing::images_stand))]
+    #[tactic(auto, using(searcher_switch::proofs::Standing::images_stand))]
     pub fn images(&self)
         requires { AreStanding D.cells self.now }
         ensures { ImagesStand (D.cells self.now.dir) self.now.commits.last
@@ -230,8 +226,8 @@ impl<D: Dir> Replica<D> {
         let _parts = &self.parts;
     }
 
-    /// What to do with a point of this generation and version. On a higher generation than was seen each copy of a merged segment
-    /// ends, and every pending file is given back. Takes no memory.
+    /// What to do with a point of this generation and version. On a higher generation than was seen a stopped job and each copy of
+    /// a merged segment end, and every pending file is given back. Takes no memory.
     pub fn new_point(&mut self, generation: Gen, version: Version) -> PointAnswer
         ensures whole { IsWholeReplica D.cells self.new }
         ensures answer { result ≡ point_answer self.old.seen.0 self.old.searchers.point.version.0
@@ -239,6 +235,7 @@ impl<D: Dir> Replica<D> {
         ensures seen { self.new.seen.0 ≡ max self.old.seen.0 generation.0 }
         ensures copies { self.new.copies
             ≡ copies_seen self.old.seen.0 generation.0 self.old.copies }
+        ensures job { self.new.job ≡ job_seen self.old.seen.0 generation.0 self.old.job }
 
         // What stays.
         ensures standing { AreStanding D.cells self.old → AreStanding D.cells self.new }
@@ -254,6 +251,7 @@ impl<D: Dir> Replica<D> {
           dir = self.new.dir;
           files = self.new.files;
           seen = self.new.seen;
+          job = self.new.job;
           copies = self.new.copies;
         } }
     {
@@ -367,24 +365,32 @@ impl<D: Dir> Replica<D> {
         commit_step(alloc, &mut self.parts)
     }
 
-    /// Begins a job of a newer point, and answers its number. Each copy of a merged segment that copies a file of the point ends
-    /// before. The job fetches the files of the point that nobody holds, and reuses the others. A file that is held with other
-    /// metadata, the first in the order of the state, is a clash.
+    /// Begins a job of a newer point, and answers its number. It takes the place of an older job, which runs or was stopped: it takes
+    /// over the finished parts of it that it wants. It fetches the other files of the point that nobody holds, and reuses those that
+    /// somebody does. Each copy of a merged segment that copies a file of the point ends. A file that is held with other metadata,
+    /// the first in the order of the state, is a clash. After a refusal all is as before.
     pub fn start_job(&mut self, alloc: Global, state: CopyState) -> Result<u64, JobFault>
-        requires none { self.old.job ≡ None }
         requires few { self.old.jobs + 1 < 2 ^ 63 }
         requires state { IsCopyState state }
         requires wanted { IsWanted self.old state }
 
-        // The job that begins, or why none begins.
+        // The job that begins.
         ensures whole { IsWholeReplica D.cells self.new }
-        ensures starts { StartsBeside D.cells state self.old self.new result }
         ensures number { IfOk result (λ number. number ≡ self.old.jobs + 1) }
         ensures jobs { OnOk result (self.new.jobs ≡ self.old.jobs + 1) }
+        ensures begun { OnOk result (IfSome self.new.job
+            (IsPointJob (self.old.jobs + 1) state self.old.files self.old.job)) }
         ensures some { OnOk result (IsSome self.new.job) }
-        ensures copies { self.new.copies ≡ record self.old.copies {
+        ensures copies { OnOk result (self.new.copies ≡ record self.old.copies {
           running = copies_beside (meta_names state.files) self.old.copies.running;
-        } }
+        }) }
+        ensures agreed { OnOk result (All (Agrees (reads_of (D.cells self.old.dir)) self.old.files)
+            state.files) }
+
+        // Why none begins.
+        ensures err { OnErr result (self.new ≡ self.old) }
+        ensures fault { IfErr result (IsStartingFault (reads_of (D.cells self.old.dir))
+            self.old.files state.files) }
 
         // What stays.
         ensures standing { AreStanding D.cells self.old → AreStanding D.cells self.new }
@@ -402,7 +408,7 @@ impl<D: Dir> Replica<D> {
           copies = self.new.copies;
         } }
     {
-        begin(alloc, &mut self.parts, state)
+        start_job(alloc, &mut self.parts, state)
     }
 
     /// Begins a copy of a merged segment, and answers its number. It fetches the files of the segment that nobody holds, and
@@ -486,8 +492,8 @@ impl<D: Dir> Replica<D> {
     }
 
     /// Searches the point of the job, of which nothing is missing, and ends the job. After a refusal the job holds what it
-    /// has, the renamed parts under their own names, and the point is as before. A pending file that the point names belongs to
-    /// the point, and one that is completed and not named is given back.
+    /// has, the renamed parts under their own names, and the point is as before; where the disk failed, the job is stopped. A
+    /// pending file that the point names belongs to the point, and one that is completed and not named is given back.
     pub fn finish(&mut self, alloc: Global, job: u64) -> Result<Version, JobFault>
         requires runs { IfSome self.old.job (λ j. j.copy.number ≡ job) }
         requires some { IsSome self.old.job }
@@ -513,6 +519,8 @@ impl<D: Dir> Replica<D> {
             → StandsFor (reads_under j.copy.parts (reads_of (D.cells self.old.dir))) j.infos docs
             → StandsFor (reads_of (D.cells self.new.dir)) self.new.infos docs)) }
         ensures err { OnErr result (IfSome self.old.job (IsStillCopying self.old self.new)) }
+        ensures stops { IsErrOf result JobFault.DirFailed
+            → IsSomeAnd self.new.job (λ j. j.stopped ≡ true) }
 
         // What stays, and when the disk failed.
         ensures stays { KeepsBytes self.old.files self.new.files
@@ -579,7 +587,8 @@ impl<D: Dir> Replica<D> {
         finish_precopy(alloc, &mut self.parts, job)
     }
 
-    /// Ends a job or a copy of a merged segment, and gives back what it held, by one release.
+    /// Stops a job, which keeps what it has and makes no call of the disk, or ends a copy of a merged segment, which gives back
+    /// what it held, by one release.
     pub fn fail(&mut self, job: u64)
         requires { IsSome (running_job job self.old) }
         ensures whole { IsWholeReplica D.cells self.new }
@@ -590,6 +599,7 @@ impl<D: Dir> Replica<D> {
           dir = self.new.dir;
           files = self.new.files;
         } }
+        ensures kept { is_job_number job self.old.job ≡ true → self.new ≡ without_job job self.old }
         ensures fewer { (q : List ℕ) → count_of self.new.files q ≤ count_of self.old.files q }
         ensures stays { KeepsBytes self.old.files self.new.files
             (D.cells self.old.dir) (D.cells self.new.dir) }
@@ -642,8 +652,8 @@ impl<D: Dir> Replica<D> {
 }
 
 impl<D: FaultDir> Replica<D> {
-    ghost use Rattle.replica_parts.specs.Sources.{KeepsSource, HoldsOnly};
-    ghost use Rattle.replica_parts.specs.Replica.{IsWholeReplica, AreStanding};
+    ghost use Rattle.replica_state.specs.Sources.{KeepsSource, HoldsOnly};
+    ghost use Rattle.replica_state.specs.Replica.{IsWholeReplica, AreStanding};
 
     /// The k-th counted call of the directory from now fails once.
     pub fn plan(&mut self, k: u64)

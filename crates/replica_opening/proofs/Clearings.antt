@@ -24,9 +24,9 @@ use Rattle.commit_steps.specs.Commits.{ImagesAre, HasInfos}
 use Rattle.commit_steps.specs.Book.{shown_by, last_names, flying_names, book_names, IsBookSound}
 use Rattle.commit_steps.proofs.Safe.{among_of}
 use Rattle.commit_steps.proofs.Beside.{sound_beside, sound_images}
-use Rattle.searcher_switch.specs.Given.{IsWholeNode}
+use Rattle.searcher_switch.specs.Node.{IsWholeNode}
 use Rattle.replica_opening.proofs.Metas.{knows_along}
-use Rattle.searcher_switch.proofs.Given.{segments_along}
+use Rattle.searcher_switch.proofs.Standing.{segments_along}
 use Rattle.searcher_switch.specs.Searching.{searcher_names}
 use Rattle.searcher_switch.specs.Tickets.{ticket_names}
 use Rattle.replica_opening.specs.declared.opening.Taken.{Taken}

@@ -6,4 +6,3 @@ mod Recoveries
 mod Releasing
 pub mod Segments
 pub mod Settled
-pub mod Given

@@ -19,7 +19,7 @@ use Rattle.commit_steps.specs.Found.{ShowsNothing}
 use Rattle.commit_steps.specs.Recovery.{IsWholeCommit}
 use Rattle.commit_steps.specs.Book.{book_names, IsBookSound}
 use Rattle.commit_steps.proofs.Safe.{among_of, contains_of}
-use Rattle.searcher_switch.specs.Given.{AreFree}
+use Rattle.searcher_switch.specs.Node.{AreFree}
 use Rattle.replica_opening.specs.declared.fault.StartFault.{StartFault}
 use Rattle.replica_opening.specs.declared.fault.StartFault.TheVariants.{Memory, Recover, Segment, Failed}
 use Rattle.std.proofs.Math.Bool.{or-true, or-false}

@@ -4,4 +4,3 @@ pub mod Opening
 pub mod Places
 pub mod Readers
 pub mod Reading
-pub mod Given

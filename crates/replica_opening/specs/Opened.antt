@@ -9,7 +9,7 @@ use Rattle.segment_infos.specs.Files.{files_of_segment, AreFilesOf}
 use Rattle.commit_steps.specs.Flights.{IsCommit}
 use Rattle.commit_steps.specs.Commits.{HasFilesOf, ImagesShowNothing, ImagesShow}
 use Rattle.commit_steps.specs.Book.{book_names, IsBookSound}
-use Rattle.searcher_switch.specs.Given.{HasNoPending, AreFree}
+use Rattle.searcher_switch.specs.Node.{HasNoPending, AreFree}
 use Rattle.searcher_switch.specs.Searching.{searcher_names}
 use Rattle.replica_opening.specs.declared.opening.Counted.{Counted}
 use Rattle.replica_opening.specs.declared.opening.Found.{Found}

@@ -14,7 +14,7 @@ ghost use Rattle.seg_reader.specs.Stands.{IsSegmentIn};
 ghost use Rattle.commit_steps.specs.Flights.{IsCommit};
 ghost use Rattle.commit_steps.specs.Book.{book_names, IsBookSound};
 ghost use Rattle.commit_steps.specs.Recovery.{IsWholeCommit};
-ghost use Rattle.searcher_switch.specs.Given.{IsWholeNode};
+ghost use Rattle.searcher_switch.specs.Node.{IsWholeNode};
 ghost use Rattle.searcher_switch.specs.Searching.{searcher_names};
 ghost use Rattle.replica_opening.specs.declared.fault.StartFault.{StartFault};
 ghost use Rattle.replica_opening.specs.Readers.{AreReaders, IsRefusedIn, IsFirstRefusedSegment};

@@ -19,15 +19,19 @@ use nrt_base::{NoMemory, Share};
 use seg_reader::{SegFault, SegParts, Segment};
 use segment_infos::SegRecord;
 use std::alloc::Global;
+use thiserror::Error;
 
 /// Why a segment is not read.
-#[derive(Clone, Copy, Debug, PartialEq, Eq)]
+#[derive(Clone, Copy, Debug, PartialEq, Eq, Error)]
 pub enum ReadFault {
     /// Out of memory.
+    #[error("out of memory")]
     Memory,
     /// The disk failed.
+    #[error("the disk failed")]
     Failed,
     /// Its files are refused.
+    #[error(transparent)]
     Refused(SegFault),
 }
 

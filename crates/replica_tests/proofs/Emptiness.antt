@@ -14,7 +14,7 @@ use Rattle.segment_infos.specs.Files.{AreFilesOf}
 use Rattle.segment_infos.proofs.FileLaws.{infos_files_one_to_one}
 use Rattle.segment_infos.proofs.SetLaws.{no_files}
 use Rattle.seg_reader.specs.Stands.{IsSegmentIn, AreSegmentsOf}
-use Rattle.node_files.specs.Standing.{StandsForSome}
+use Rattle.searcher_switch.specs.Standing.{StandsForSome}
 use Rattle.file_deleter.specs.Holdings.{Holdings}
 use Rattle.copy_state.specs.declared.meta.FileMetaData.{FileMetaData}
 use Rattle.copy_state.specs.declared.state.CopyState.{CopyState}
@@ -23,10 +23,10 @@ use Rattle.copy_job.specs.Jobs.{Job}
 use Rattle.nrt_base.specs.declared.numbers.Gen.{Gen}
 use Rattle.nrt_base.specs.declared.numbers.Version.{Version}
 use Rattle.nrt_base.proofs.Plain.{sorted_none}
-use Rattle.replica_parts.specs.declared.job.PointJob.{PointJob}
-use Rattle.replica_parts.specs.declared.parts.Parts.{Parts}
-use Rattle.replica_parts.specs.Jobs.{job_on, IsPointJob}
-use Rattle.replica_parts.specs.Replica.{IsWanted}
+use Rattle.replica_state.specs.declared.job.PointJob.{PointJob}
+use Rattle.replica_state.specs.declared.parts.Parts.{Parts}
+use Rattle.replica_state.specs.Jobs.{job_on, job_taking, IsPointJob}
+use Rattle.replica_state.specs.Replica.{IsWanted}
 use Rattle.replica_tests.specs.States.{IsEmptyState}
 
 pub empty_made : (infos : Infos) (state : CopyState) → infos.segs ≡ [] → IsInfosFile infos state.infos → state.files ≡ [] → state.completed ≡ [] → infos.generation ≡ state.primary_gen → infos.version ≡ state.version → IsEmptyState state.primary_gen state.version state
@@ -62,17 +62,21 @@ module _ (generation : Gen) (version : Version) (state : CopyState) (is : IsEmpt
   pub empty_wanted : {D : Type 0} (p : Parts D) → generation ≡ p.seen → p.searchers.point.version.0 < version.0 → IsWanted p state
   empty_wanted p seen above = record { infos = is.infos; is = is.point; seen = is.generation_is ∙ seen; above = subst (λ (v : Version). p.searchers.point.version.0 < v.0) (sym is.version_is) above }
 
-  module _ (number : ℕ) (holdings : Holdings) (job : Option PointJob) (begun : IfSome job (IsPointJob number state holdings)) where
+  module _ (number : ℕ) (holdings : Holdings) (old : Option PointJob) (fresh : old ≡ None) (job : Option PointJob) (begun : IfSome job (IsPointJob number state holdings old)) where
     -- a claim of the job from one of each job that began so
-    from_begun : (P : PointJob → Type 0) → ((j : PointJob) → IsPointJob number state holdings j → P j) → (o : Option PointJob) → IfSome o (IsPointJob number state holdings) → IfSome o P
+    from_begun : (P : PointJob → Type 0) → ((j : PointJob) → IsPointJob number state holdings old j → P j) → (o : Option PointJob) → IfSome o (IsPointJob number state holdings old) → IfSome o P
     from_begun P turns None h = tt
     from_begun P turns (Some j) h = turns j h
 
+    -- it took nothing over
+    begun_is : (j : PointJob) → IsPointJob number state holdings old j → j.copy ≡ job_on number state holdings
+    begun_is j h = h.copy ∙ ap (λ (o : Option PointJob). job_taking o (job_on number state holdings)) fresh
+
     pub empty_number : IfSome job (λ j. j.copy.number ≡ number)
-    empty_number = from_begun (λ j. j.copy.number ≡ number) (λ j h. ap (λ (x : Job). x.number) h.copy) job begun
+    empty_number = from_begun (λ j. j.copy.number ≡ number) (λ j h. ap (λ (x : Job). x.number) (begun_is j h)) job begun
 
     pub empty_missing : IfSome job (λ j. j.copy.missing ≡ [])
-    empty_missing = from_begun (λ j. j.copy.missing ≡ []) (λ j h. ap (λ (x : Job). x.missing) h.copy ∙ ap (λ (fs : List (Name × FileMetaData)). (job_on number (record state { files = fs }) holdings).missing) is.files) job begun
+    empty_missing = from_begun (λ j. j.copy.missing ≡ []) (λ j h. ap (λ (x : Job). x.missing) (begun_is j h) ∙ ap (λ (fs : List (Name × FileMetaData)). (job_on number (record state { files = fs }) holdings).missing) is.files) job begun
 
     pub empty_standing : (reads : Job → Name → Content) → IfSome job (λ j. StandsForSome (reads j.copy) j.infos)
     empty_standing reads = from_begun (λ j. StandsForSome (reads j.copy) j.infos) (λ j h.

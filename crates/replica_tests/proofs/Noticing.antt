@@ -1,5 +1,6 @@
 -- What tests know of a replica, over its calls.
 use Rattle.std.proofs.Common.{◌≡◌, ◌==◌, ℕ, Bool, true, false, if◌then◌else◌, List, [], ◌∷◌, length, Option, Some, None, is_some, refl, sym, ap, ◌∙◌, arith, true≢false, slice_get}
+use Rattle.std.specs.Prelude.{nat_lt}
 use Rattle.std.specs.List.{remove}
 use Rattle.std.proofs.lemmas.Bool.{eq-eqb}
 use Rattle.seg_reader.specs.Shown.{Shown}
@@ -7,7 +8,9 @@ use Rattle.searcher_switch.specs.declared.open.Open.{Open}
 use Rattle.searcher_switch.specs.declared.open.Point.{Point}
 use Rattle.searcher_switch.specs.declared.searchers.Ticket.{Ticket}
 use Rattle.searcher_switch.specs.Tickets.{ticket_at, tickets_without}
-use Rattle.replica_parts.specs.declared.parts.Parts.{Parts}
+use Rattle.replica_state.specs.declared.job.PointJob.{PointJob}
+use Rattle.replica_state.specs.declared.parts.Parts.{Parts}
+use Rattle.replica_state.specs.Jobs.{job_seen, running_point}
 use Rattle.replica_tests.specs.declared.seen.Seen.{Seen}
 use Rattle.replica_tests.specs.Seeing.{IsReplicaSeen, numbers_open, numbers_given}
 
@@ -46,3 +49,11 @@ seen_closed {D} old new seen is ticket given first rest e point closed = record 
   in_flight = ap (λ (p : Parts D). is_some p.commits.stage) e ∙ is.in_flight;
   tickets = ap (λ (ts : List (Open Shown)). numbers_open ts) closed ∙ (first_closed old.searchers.tickets seen.tickets ticket is.tickets first).1 ∙ ap (λ (ts : List Ticket). numbers_given ts) (sym rest);
 }
+
+-- where there is no job, there is none after a generation is told
+pub none_told : (seen generation : ℕ) (old new : Option PointJob) → new ≡ job_seen seen generation old → old ≡ None → new ≡ None
+none_told seen generation old new told none = told ∙ ap (λ (o : Option PointJob). job_seen seen generation o) none ∙ by (nat_lt seen generation)
+  where
+    by : (b : Bool) → (if b then running_point None else None) ≡ None
+    by true = refl
+    by false = refl

@@ -1,6 +1,7 @@
 -- The job or the copy that a call by number is about.
 use Rattle.std.proofs.Common.{◌≡◌, ℕ, ◌+◌, ◌<◌, ◌^◌, true, false, List, [], ◌∷◌, Option, Some, None, Result, Ok, Err, is_some, refl, sym, ap, subst, ◌∙◌, arith, true≢false}
 use Rattle.std.specs.Prelude.{IfSome, OnOk, OnErr}
+use Rattle.std.specs.Option.{option_map}
 use Rattle.std.specs.List.{AllByRecursion}
 use Rattle.nrt_base.specs.declared.numbers.SegNo.{SegNo}
 use Rattle.file_names.specs.Names.{part_name_of}
@@ -11,31 +12,28 @@ use Rattle.copy_state.specs.declared.meta.FileMetaData.{FileMetaData}
 use Rattle.copy_state.specs.declared.state.CopyState.{CopyState}
 use Rattle.copy_state.specs.States.{meta_names}
 use Rattle.copy_job.specs.Jobs.{Job, with_part}
-use Rattle.replica_parts.specs.declared.job.PointJob.{PointJob}
-use Rattle.replica_parts.specs.declared.merges.MergeCopies.{MergeCopies}
-use Rattle.replica_parts.specs.declared.parts.Parts.{Parts}
-use Rattle.replica_parts.specs.Merges.{IsSegmentState, SharesNone}
-use Rattle.replica_parts.specs.Replica.{MayLaunch}
-use Rattle.replica_parts.specs.Sources.{CopiesFrom, HeldReadAs, IsSourced}
-use Rattle.replica_parts.specs.Starting.{IsJustOpened}
+use Rattle.replica_state.specs.declared.job.PointJob.{PointJob}
+use Rattle.replica_state.specs.declared.merges.MergeCopies.{MergeCopies}
+use Rattle.replica_state.specs.declared.parts.Parts.{Parts}
+use Rattle.replica_state.specs.Merges.{IsSegmentState, SharesNone}
+use Rattle.replica_state.specs.Replica.{MayLaunch}
+use Rattle.replica_state.specs.Sources.{CopiesFrom, HeldReadAs, IsSourced}
+use Rattle.replica_state.specs.Starting.{IsJustOpened}
+use Rattle.replica_state.specs.Jobs.{running_point}
 use Rattle.replica_node.specs.Running.{running_job, with_job}
+use Rattle.replica_node.proofs.Lent.{runs_here}
 
 -- ---- which one it is
--- the job that is seen
-job_seen : (o : Option PointJob) (seen : Job) → is_some o ≡ true → IfSome o (λ j. seen ≡ j.copy) → (j : PointJob) × (o ≡ Some j) × (seen ≡ j.copy)
-job_seen None seen some is = absurd (true≢false (sym some))
-job_seen (Some j) seen some is = (j, refl, is)
-
 -- the law of `replica_node` on the job of a newer point
 abbrev PointRuns : {D : Type 0} → Parts D → ℕ → Type 0
-PointRuns p number = (j : PointJob) → p.job ≡ Some j → j.copy.number ≡ number → (running_job number p ≡ Some j.copy) × ((k : Job) → with_job number k p ≡ record p { job = Some (record j { copy = k }) })
+PointRuns p number = (j : PointJob) → p.job ≡ Some j → j.stopped ≡ false → j.copy.number ≡ number → (running_job number p ≡ Some j.copy) × ((k : Job) → with_job number k p ≡ record p { job = Some (record j { copy = k }) })
 
-module _ {D : Type 0} (p : Parts D) (number : ℕ) (seen : Job) (law : PointRuns p number) (some : is_some p.job ≡ true) (is : IfSome p.job (λ j. seen ≡ j.copy)) (same : number ≡ seen.number) where
+module _ {D : Type 0} (p : Parts D) (number : ℕ) (seen : Job) (law : PointRuns p number) (lent : Some seen ≡ option_map (λ (j : PointJob). j.copy) (running_point p.job)) (same : number ≡ seen.number) where
   pub seen_runs : running_job number p ≡ Some seen
-  seen_runs = let f = job_seen p.job seen some is in (law f.0 f.1 (sym (ap (λ (k : Job). k.number) f.2) ∙ sym same)).0 ∙ ap Some (sym f.2)
+  seen_runs = let f = runs_here p.job seen lent in (law f.job f.there f.going (sym (ap (λ (k : Job). k.number) f.copy) ∙ sym same)).0 ∙ ap Some (sym f.copy)
 
   pub seen_commits : (k : Job) → (with_job number k p).commits ≡ p.commits
-  seen_commits k = let f = job_seen p.job seen some is in ap (λ (x : Parts D). x.commits) ((law f.0 f.1 (sym (ap (λ (j : Job). j.number) f.2) ∙ sym same)).1 k)
+  seen_commits k = let f = runs_here p.job seen lent in ap (λ (x : Parts D). x.commits) ((law f.job f.there f.going (sym (ap (λ (j : Job). j.number) f.copy) ∙ sym same)).1 k)
 
 -- a claim of the one that runs
 pub of_running : {D : Type 0} (P : Job → Type 0) (p : Parts D) (number : ℕ) (seen : Job) → running_job number p ≡ Some seen → P seen → IfSome (running_job number p) P

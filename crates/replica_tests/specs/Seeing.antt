@@ -3,7 +3,7 @@ use Rattle.std.specs.Prelude.{◌≡◌, ℕ, List, map, None, is_some}
 use Rattle.searcher_switch.specs.declared.open.Open.{Open}
 use Rattle.searcher_switch.specs.declared.searchers.Ticket.{Ticket}
 use Rattle.seg_reader.specs.Shown.{Shown}
-use Rattle.replica_parts.specs.declared.parts.Parts.{Parts}
+use Rattle.replica_state.specs.declared.parts.Parts.{Parts}
 use Rattle.replica_tests.specs.declared.seen.Seen.{Seen}
 
 -- the numbers of open tickets

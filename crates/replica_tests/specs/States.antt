@@ -12,7 +12,7 @@ use Rattle.copy_job.specs.Jobs.{Job}
 use Rattle.nrt_base.specs.declared.numbers.Gen.{Gen}
 use Rattle.nrt_base.specs.declared.numbers.Version.{Version}
 use Rattle.segment_infos.specs.declared.infos.Infos.{Infos}
-use Rattle.replica_parts.specs.Replica.{IsPointState}
+use Rattle.replica_state.specs.Replica.{IsPointState}
 
 -- the files have these names, which are short
 pub record HaveShortNames (names : List Name) (files : List (Name × FileMetaData)) : Type 0 where

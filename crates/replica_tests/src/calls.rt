@@ -2,7 +2,7 @@
 
 ghost use Rattle.std.specs.Prelude.{◌≡◌, ◌<◌, [], OnOk, IfOk};
 ghost use Rattle.replica_opening.specs.Opened.{IsSettledOn};
-ghost use Rattle.replica_parts.specs.Starting.{IsJustOpened};
+ghost use Rattle.replica_state.specs.Starting.{IsJustOpened};
 ghost use Rattle.replica_tests.specs.Seeing.{IsReplicaSeen};
 ghost use Rattle.replica_tests.specs.States.{IsEmptyState};
 
@@ -31,6 +31,7 @@ pub enum Turn {
 }
 
 /// Tells of a point.
+#[tactic(auto, using(crate::proofs::Noticing::none_told))]
 pub fn new_point<D: Dir>(
     replica: &mut Replica<D>,
     seen: &mut Seen,

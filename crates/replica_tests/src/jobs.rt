@@ -4,8 +4,8 @@ ghost use Rattle.std.specs.Prelude.{◌≡◌, ◌<◌, None, Some, IfOk, IfSome
 ghost use Rattle.std.specs.Option.{option_map};
 ghost use Rattle.copy_state.specs.States.{IsCopyState, meta_in};
 ghost use Rattle.replica_opening.specs.Opened.{IsSettledOn};
-ghost use Rattle.replica_parts.specs.Replica.{IsPointState};
-ghost use Rattle.replica_parts.specs.Sources.{KeepsSource};
+ghost use Rattle.replica_state.specs.Replica.{IsPointState};
+ghost use Rattle.replica_state.specs.Sources.{KeepsSource};
 ghost use Rattle.segment_infos.specs.declared.infos.Infos.{Infos};
 ghost use Rattle.segment_infos.specs.Infos.{CanSpell};
 ghost use Rattle.replica_tests.specs.States.{HaveShortNames, IsDuePart};

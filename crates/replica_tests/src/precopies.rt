@@ -6,9 +6,9 @@ ghost use Rattle.file_names.specs.Names.{part_name_of};
 ghost use Rattle.file_names.specs.declared.composed.SegPart.TheVariants.{Docs, Post, Info};
 ghost use Rattle.copy_state.specs.States.{IsCopyState, meta_names};
 ghost use Rattle.replica_opening.specs.Opened.{IsSettledOn};
-ghost use Rattle.replica_parts.specs.Merges.{IsSegmentState};
-ghost use Rattle.replica_parts.specs.Sources.{IsSourced, KeepsSource};
-ghost use Rattle.replica_parts.specs.Starting.{IsJustOpened};
+ghost use Rattle.replica_state.specs.Merges.{IsSegmentState};
+ghost use Rattle.replica_state.specs.Sources.{IsSourced, KeepsSource};
+ghost use Rattle.replica_state.specs.Starting.{IsJustOpened};
 
 use crate::files::{DOCS, SEG, crashed, opened_on};
 use crate::finishing::{check_empty, finish};

@@ -4,13 +4,13 @@ use Rattle.std.specs.List.{list_all}
 use Rattle.nrt_base.specs.Bytes.{is_key}
 use Rattle.file_names.specs.Names.{is_file_name}
 use Rattle.documents.specs.declared.answer.Hit.{Hit}
-use Rattle.history_entries.specs.declared.cause.Cause.{Cause}
-use Rattle.history_entries.specs.declared.cause.Cause.TheVariants.{ForceLow, Cancelled, Damaged}
-use Rattle.history_entries.specs.declared.cause.FaultPlan.{FaultPlan}
-use Rattle.history_entries.specs.declared.cause.FaultPlan.TheVariants.{Link, Damage, Disk, Stop}
-use Rattle.history_entries.specs.declared.entry.Event.{Event}
-use Rattle.history_entries.specs.declared.entry.Event.TheVariants.{Accepted, Publishing, Published, Copying, Switched, Copied, Settling, Settled, Opened, Asking, Answered, Closed, Committing, Committed, Crashed, Reopened, Promoted, Merging, Drained, Files, Planned, Fault, Refused}
-use Rattle.history_entries.specs.declared.entry.Entry.{Entry}
+use Rattle.history_rules.specs.declared.cause.Cause.{Cause}
+use Rattle.history_rules.specs.declared.cause.Cause.TheVariants.{ForceLow, Cancelled, Damaged}
+use Rattle.history_rules.specs.declared.cause.FaultPlan.{FaultPlan}
+use Rattle.history_rules.specs.declared.cause.FaultPlan.TheVariants.{Link, Damage, Disk, Stop}
+use Rattle.history_rules.specs.declared.entry.Event.{Event}
+use Rattle.history_rules.specs.declared.entry.Event.TheVariants.{Accepted, Publishing, Published, Copying, Switched, Copied, Settling, Settled, Opened, Asking, Answered, Closed, Committing, Committed, Crashed, Reopened, Promoted, Merging, Drained, Files, Planned, Fault, Refused}
+use Rattle.history_rules.specs.declared.entry.Entry.{Entry}
 
 -- the two events differ at most in what is not printed: an operation, a query, how many tasks were
 -- asked for

@@ -4,15 +4,15 @@ use Rattle.std.specs.List.{flat_map}
 use Rattle.std.specs.Fmt.{decimal}
 use Rattle.file_names.specs.Base36.{base36_of}
 use Rattle.documents.specs.declared.answer.Hit.{Hit}
-use Rattle.history_entries.specs.declared.cause.Cause.{Cause}
-use Rattle.history_entries.specs.declared.cause.Cause.TheVariants.{Down, Primary, NoPrimary, PrimaryUp, ForceLow, NoTicket, Lost, Cancelled, LinkFault, Damaged, DiskFault, Nothing, Up, NameUsed, NamesSpent, TooManySegments, ForceHigh}
-use Rattle.history_entries.specs.declared.cause.FaultKind.{FaultKind}
-use Rattle.history_entries.specs.declared.cause.FaultKind.TheVariants.{Link, Damage, Disk, Stop}
-use Rattle.history_entries.specs.declared.entry.Event.{Event}
-use Rattle.history_entries.specs.declared.entry.Event.TheVariants.{Accepted, Publishing, Published, Copying, Switched, Copied, Settling, Settled, Opened, Asking, Answered, Closed, Committing, Committed, Crashed, Reopened, Promoted, Merging, Drained, Files, Planned, Fault, Refused}
-use Rattle.history_entries.specs.declared.entry.Entry.{Entry}
-use Rattle.history_entries.specs.declared.entry.History.{History}
-use Rattle.history_entries.specs.Faults.{plan_words}
+use Rattle.history_rules.specs.declared.cause.Cause.{Cause}
+use Rattle.history_rules.specs.declared.cause.Cause.TheVariants.{Down, Primary, NoPrimary, PrimaryUp, ForceLow, NoTicket, Lost, Cancelled, LinkFault, Damaged, DiskFault, Nothing, Up, NameUsed, NamesSpent, TooManySegments, ForceHigh}
+use Rattle.history_rules.specs.declared.cause.FaultKind.{FaultKind}
+use Rattle.history_rules.specs.declared.cause.FaultKind.TheVariants.{Link, Damage, Disk, Stop}
+use Rattle.history_rules.specs.declared.entry.Event.{Event}
+use Rattle.history_rules.specs.declared.entry.Event.TheVariants.{Accepted, Publishing, Published, Copying, Switched, Copied, Settling, Settled, Opened, Asking, Answered, Closed, Committing, Committed, Crashed, Reopened, Promoted, Merging, Drained, Files, Planned, Fault, Refused}
+use Rattle.history_rules.specs.declared.entry.Entry.{Entry}
+use Rattle.history_rules.specs.declared.entry.History.{History}
+use Rattle.history_rules.specs.Faults.{plan_words}
 
 -- each after a space
 abbrev pub all_spaced : List (List ℕ) → List ℕ

@@ -2,11 +2,11 @@
 
 ghost use Rattle.std.specs.Prelude.{◌≡◌, ◌++◌, ◌∷◌, [], OnOk, codes};
 ghost use Rattle.report_text.specs.Texts.{AddsWords, kind_text, cause_words};
-ghost use Rattle.history_entries.specs.Faults.{plan_words};
+ghost use Rattle.history_rules.specs.Faults.{plan_words};
 
 use crate::words::{push_with_numbers, push_word};
 use file_names::FileName;
-use history_entries::{Cause, FaultKind, FaultPlan};
+use history_rules::{Cause, FaultKind, FaultPlan};
 use nrt_base::{NoMemory, NodeNo};
 use std::alloc::Global;
 

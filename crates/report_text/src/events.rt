@@ -3,13 +3,13 @@
 ghost use Rattle.std.specs.Prelude.{◌≡◌, [], ◌∷◌, ◌++◌, OnOk, map, codes};
 ghost use Rattle.file_names.specs.Base36.{base36_of};
 ghost use Rattle.report_text.specs.Texts.{AddsWords, with_numbers, hit_text, kind_text, cause_words, event_words};
-ghost use Rattle.history_entries.specs.Faults.{plan_words};
+ghost use Rattle.history_rules.specs.Faults.{plan_words};
 
 use crate::causes::{push_cause, push_kind, push_plan};
 use crate::words::{push_hits, push_names, push_with_numbers, push_word};
 use documents::Answer;
 use file_names::{FileName, base36};
-use history_entries::{Cause, Event, FaultKind, FaultPlan};
+use history_rules::{Cause, Event, FaultKind, FaultPlan};
 use nrt_base::{NoMemory, NodeNo, SegNo, TicketNo, Version};
 use std::alloc::Global;
 

@@ -6,7 +6,7 @@ ghost use Rattle.report_text.specs.Texts.{text_of_entry, text_of};
 
 use crate::events::push_event;
 use crate::words::push_number;
-use history_entries::{Entry, History};
+use history_rules::{Entry, History};
 use nrt_base::NoMemory;
 use std::alloc::Global;
 

@@ -6,7 +6,7 @@ ghost use Rattle.nrt_base.specs.Bytes.{is_key};
 use crate::{line, report};
 use documents::{Answer, Hit, Op, Query};
 use file_names::{SegPart, commit_name, part_name};
-use history_entries::{Cause, Entry, Event, FaultKind, FaultPlan, History};
+use history_rules::{Cause, Entry, Event, FaultKind, FaultPlan, History};
 use nrt_base::{
     At, Doc, Gen, Key, LaneNo, LineNo, List, NoMemory, NodeNo, SegNo, Text, TicketNo, Version, Word,
 };

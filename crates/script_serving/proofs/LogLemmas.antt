@@ -1,19 +1,20 @@
 -- What a log has and what a replay has left of it go together: the operations written and those left to replay are the logged ones.
 use Rattle.std.proofs.Common.{◌≡◌, ℕ, Bool, true, false, ◌&&◌, ◌||◌, ◌==◌, List, [], ◌∷◌, ◌++◌, drop, length, Option, Some, None, refl, sym, ap, subst, ◌∙◌, append_assoc, append-nil, reverse}
-use Rattle.std.specs.Prelude.{if◌then◌else◌}
+use Rattle.std.specs.Prelude.{if◌then◌else◌, ⊤}
 use Rattle.std.proofs.Math.Seq.{drop-append_seam}
-use Rattle.std.proofs.lemmas.Bool.{false≢true, eq-eqb}
+use Rattle.std.proofs.lemmas.Bool.{and_parts, false≢true, eq-eqb}
 use Rattle.std.proofs.lemmas.Option.{none-some}
 use mathlib.Core.List.{IsPrefix}
 use Rattle.nrt_base.specs.declared.numbers.At.{At}
+use Rattle.documents.specs.Documents.{documents_after}
 use Rattle.documents.specs.declared.operation.Op.{Op}
-use Rattle.history_entries.specs.declared.entry.Event.{Event}
-use Rattle.history_entries.specs.declared.entry.Event.TheVariants.{Accepted, Published, Promoted, Fault}
-use Rattle.history_entries.specs.declared.entry.Entry.{Entry}
-use Rattle.history_entries.specs.declared.entry.History.{History}
-use Rattle.history_entries.specs.Nodes.{Past, version_of}
-use Rattle.history_entries.specs.Lines.{same_at, is_start, is_reply, is_answered, last_of_line}
-use Rattle.history_entries.specs.Points.{operations_written, operations_at_start, operations_at}
+use Rattle.history_rules.specs.declared.entry.Event.{Event}
+use Rattle.history_rules.specs.declared.entry.Event.TheVariants.{Accepted, Published, Promoted, Fault}
+use Rattle.history_rules.specs.declared.entry.Entry.{Entry}
+use Rattle.history_rules.specs.declared.entry.History.{History}
+use Rattle.history_rules.specs.Nodes.{Past, version_of}
+use Rattle.history_rules.specs.Lines.{same_at, is_start, is_reply, is_answered, last_of_line, before_start}
+use Rattle.history_rules.specs.Points.{operations_written, operations_at_start, operations_at}
 use Rattle.script_serving.specs.declared.script.Line.{Line}
 use Rattle.script_serving.specs.declared.script.LineCommand.{LineCommand}
 use Rattle.script_serving.specs.declared.script.LineCommand.TheVariants.{Promote}
@@ -21,7 +22,7 @@ use Rattle.script_serving.specs.declared.script.Script.{Script}
 use Rattle.script_serving.specs.Lines.{lines_of_lane, command_at}
 use Rattle.script_serving.specs.Replays.{logged_operations, replay_due, due}
 use Rattle.script_serving.specs.Serves.{Suits, FitsTurn, FitsReplay, Fits, is_newest_at, ServesLanes, Serves}
-use Rattle.script_serving.specs.LogLaws.{PointsAreLogged, NothingIsLost}
+use Rattle.script_serving.specs.LogLaws.{PointsAreLogged, NothingIsLost, IsPublishWhole, PublishesAreWhole}
 
 abbrev entry : At → Event → Entry
 entry at event = record { at = at; event = event }
@@ -92,9 +93,10 @@ record IsLogged (past : Past) : Type 0 where
   points : (v : ℕ) → IsPrefix (operations_at past v) (logged_operations past)
   starts : (at : At) → IsPrefix (operations_at_start at past) (logged_operations past)
   replies : (at : At) → (replay_due past ≡ [] → ⊥) → is_newest_at at past ≡ true → is_answered at past ≡ true
+  whole : (at : At) → operations_at_start at past ≡ logged_operations (before_start at past)
 
 none_logged : IsLogged []
-none_logged = record { written = refl; points = λ v. no_operation []; starts = λ at. no_operation []; replies = λ at some newest. absurd (some refl) }
+none_logged = record { written = refl; points = λ v. no_operation []; starts = λ at. no_operation []; replies = λ at some newest. absurd (some refl); whole = λ at. refl }
 
 -- the entry is one that its line asks for, or the next of a replay
 record Comes (past : Past) (at : At) (event : Event) : Type 0 where
@@ -169,12 +171,36 @@ module _ (past : Past) (at : At) (logged : IsLogged past) where
   promoted_prefix : (n : ℕ) → IsPrefix (operations_at past (version_of n past)) (logged_operations past)
   promoted_prefix n = logged.points (version_of n past)
 
+  -- no line starts while a replay goes on
+  starts_apart : (op : Op) (command : Option LineCommand) (event : Event) → is_start event ≡ true → FitsReplay op past at command event → ⊥
+  starts_apart op None event start fits = fits
+  starts_apart op (Some (Promote n force)) (Accepted seq again) start fits = false≢true start
+  starts_apart op (Some (Promote n force)) event start fits = fits
+  starts_apart op (Some command) event start fits = fits
+
+  -- where a line starts, all that is logged is written
+  start_whole : (event : Event) → Comes past at event → is_start event ≡ true → operations_written past ≡ logged_operations past
+  start_whole event comes start = by_due (replay_due past) refl comes.fits
+    where
+      by_due : (ops : List Op) → replay_due past ≡ ops → Fits ops comes.lines past at comes.command event → operations_written past ≡ logged_operations past
+      by_due [] e fits = sym (append-nil (operations_written past)) ∙ (ap (λ (ops : List Op). operations_written past ++ ops) (sym e) ∙ logged.written)
+      by_due (op ∷ ops) e fits = absurd (starts_apart op comes.command event start fits)
+
+  starts_whole : (event : Event) → Comes past at event → (other : At) → operations_at_start other (entry at event ∷ past) ≡ logged_operations (before_start other (entry at event ∷ past))
+  starts_whole event comes other = by_test (is_start event && same_at at other) (λ both. start_whole event comes (and_parts (is_start event) (same_at at other) both).0)
+    where
+      by_test : (t : Bool) → (t ≡ true → operations_written past ≡ logged_operations past)
+          → (if t then operations_written past else operations_at_start other past) ≡ logged_operations (if t then past else before_start other past)
+      by_test true here = here refl
+      by_test false here = logged.whole other
+
   next : (event : Event) → Comes past at event → IsLogged (entry at event ∷ past)
   next (Accepted seq op) comes = record {
     written = accepted_written seq op comes;
     points = points_kept (Accepted seq op);
     starts = starts_next (Accepted seq op);
     replies = λ other some newest. replied (Accepted seq op) refl other newest;
+    whole = starts_whole (Accepted seq op) comes;
   }
   next (Promoted n g f v) comes =
       let made : (if v.0 == v.0 then operations_at past (version_of n.0 past) else operations_at past v.0) ≡ operations_at past (version_of n.0 past) = rw (eq-eqb v.0 v.0 refl) refl in
@@ -185,12 +211,14 @@ module _ (past : Past) (at : At) (logged : IsLogged past) where
         points = λ w. point_of (Promoted n g f v) (operations_at past (version_of n.0 past)) (v.0 == w) w (promoted_prefix n.0);
         starts = starts_next (Promoted n g f v);
         replies = λ other some newest. replied (Promoted n g f v) refl other newest;
+        whole = starts_whole (Promoted n g f v) comes;
       }
   next (Published g w) comes = record {
     written = logged.written;
     points = λ v. point_of (Published g w) (operations_at_start at past) (w.0 == v) v (logged.starts at);
     starts = starts_next (Published g w);
     replies = λ other some newest. absurd (no_replay (Published g w) (λ op command. never op command) comes some);
+    whole = starts_whole (Published g w) comes;
   }
     where
       never : (op : Op) (command : Option LineCommand) → FitsReplay op past at command (Published g w) → ⊥
@@ -202,6 +230,7 @@ module _ (past : Past) (at : At) (logged : IsLogged past) where
     points = points_kept event;
     starts = starts_next event;
     replies = λ other some newest. absurd (no_replay event (λ op command. never op command) comes some);
+    whole = starts_whole event comes;
   }
     where
       never : (op : Op) (command : Option LineCommand) → FitsReplay op past at command event → ⊥
@@ -235,3 +264,18 @@ nothing_is_lost script h log serves =
     let none : replay_due (reverse h.entries) ≡ [] = rw log at serves.replayed in
     sym (append-nil (operations_written (reverse h.entries)))
     ∙ (ap (λ (ops : List Op). operations_written (reverse h.entries) ++ ops) (sym none) ∙ (serves_with_log script h log serves).written)
+
+publish_whole : (past : Past) (e : Entry) → IsLogged past → IsPublishWhole e.at e.event past
+publish_whole past e logged = by_event e.event
+  where
+    by_event : (event : Event) → IsPublishWhole e.at event past
+    by_event (Published g v) =
+        let made : operations_at (entry e.at (Published g v) ∷ past) v.0 ≡ logged_operations (before_start e.at past) = rw (eq-eqb v.0 v.0 refl) (logged.whole e.at) in
+        ap documents_after made
+    by_event event = tt
+
+-- the point of each publish is what all operations leave that were logged before its start
+pub publishes_are_whole : (script : Script) (past : Past) → script.log ≡ true → ServesLanes script past → PublishesAreWhole past
+publishes_are_whole script [] log serves = tt
+publishes_are_whole script (e ∷ past) log serves =
+    (publish_whole past e (all_logged script past log serves.1), publishes_are_whole script past log serves.1)

@@ -4,8 +4,8 @@ use Rattle.std.specs.Prelude.{⊤}
 use Rattle.std.specs.List.{flat_map}
 use Rattle.std.proofs.lemmas.List.{append-nil}
 use Rattle.std.proofs.Math.Bool.{or-true}
-use Rattle.history_entries.specs.declared.entry.History.{History}
-use Rattle.history_entries.specs.Nodes.{Past}
+use Rattle.history_rules.specs.declared.entry.History.{History}
+use Rattle.history_rules.specs.Nodes.{Past}
 use Rattle.script_serving.specs.declared.script.Line.{Line}
 use Rattle.script_serving.specs.declared.script.Phase.{Phase}
 use Rattle.script_serving.specs.declared.script.Script.{Script}

@@ -3,8 +3,8 @@ use Rattle.std.specs.Prelude.{ℕ, ◌≤◌, List, [], ◌∷◌, Bool, true, �
 use Rattle.std.specs.List.{list_all}
 use Rattle.nrt_base.specs.declared.numbers.LaneNo.{LaneNo}
 use Rattle.nrt_base.specs.Bytes.{is_between, is_key, is_text, is_word}
-use Rattle.history_entries.specs.declared.cause.FaultPlan.{FaultPlan}
-use Rattle.history_entries.specs.declared.cause.FaultPlan.TheVariants.{Link, Damage, Disk, Stop}
+use Rattle.history_rules.specs.declared.cause.FaultPlan.{FaultPlan}
+use Rattle.history_rules.specs.declared.cause.FaultPlan.TheVariants.{Link, Damage, Disk, Stop}
 use Rattle.documents.specs.Matching.{is_well_formed}
 use Rattle.script_serving.specs.declared.script.Force.{Force}
 use Rattle.script_serving.specs.declared.script.Force.TheVariants.{Auto, Exactly}

@@ -3,8 +3,8 @@ use Rattle.std.specs.Prelude.{ℕ, List, [], ◌∷◌, ◌++◌, Bool, true, �
 use Rattle.std.specs.List.{flat_map, list_all, list_any}
 use Rattle.nrt_base.specs.declared.numbers.At.{At}
 use Rattle.nrt_base.specs.declared.numbers.LaneNo.{LaneNo}
-use Rattle.history_entries.specs.Nodes.{Past}
-use Rattle.history_entries.specs.Lines.{same_at, is_answered}
+use Rattle.history_rules.specs.Nodes.{Past}
+use Rattle.history_rules.specs.Lines.{same_at, is_answered}
 use Rattle.script_serving.specs.declared.script.Line.{Line}
 use Rattle.script_serving.specs.declared.script.LineCommand.{LineCommand}
 use Rattle.script_serving.specs.declared.script.Phase.{Phase}

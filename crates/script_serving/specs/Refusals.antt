@@ -2,17 +2,17 @@
 use Rattle.std.specs.Prelude.{ℕ, ◌+◌, ◌^◌, [], ◌∷◌, Bool, true, false, ◌&&◌, ◌||◌, not, ◌==◌, nat_lt, nat_le, length, if◌then◌else◌, Option, Some, None, is_some, is_none}
 use Rattle.std.specs.Option.{option_or}
 use Rattle.nrt_base.specs.declared.numbers.At.{At}
-use Rattle.history_entries.specs.declared.cause.Cause.{Cause}
-use Rattle.history_entries.specs.declared.cause.Cause.TheVariants.{Down, Primary, NoPrimary, PrimaryUp, ForceLow, NoTicket, Lost, Cancelled, LinkFault, Damaged, DiskFault, Nothing, Up, NameUsed, NamesSpent, TooManySegments, ForceHigh}
-use Rattle.history_entries.specs.declared.entry.Event.TheVariants.{Published}
-use Rattle.history_entries.specs.Lines.{before_start}
-use Rattle.history_entries.specs.Nodes.{Past, over, primary_of, is_at, is_running, newest_version}
-use Rattle.history_entries.specs.Points.{cut_of, cut_has_put, names_drawn, documents_at}
-use Rattle.history_entries.specs.Tickets.{has_ticket}
-use Rattle.history_entries.specs.Faults.{has_fault, is_of_disk}
-use Rattle.history_entries.specs.Commits.{is_disk_fault}
-use Rattle.history_entries.specs.Tasks.{merge_count}
-use Rattle.history_entries.specs.Rules.{is_loss}
+use Rattle.history_rules.specs.declared.cause.Cause.{Cause}
+use Rattle.history_rules.specs.declared.cause.Cause.TheVariants.{Down, Primary, NoPrimary, PrimaryUp, ForceLow, NoTicket, Lost, Cancelled, LinkFault, Damaged, DiskFault, Nothing, Up, NameUsed, NamesSpent, TooManySegments, ForceHigh}
+use Rattle.history_rules.specs.declared.entry.Event.TheVariants.{Published}
+use Rattle.history_rules.specs.Lines.{before_start}
+use Rattle.history_rules.specs.Nodes.{Past, over, primary_of, is_at, is_running, newest_version}
+use Rattle.history_rules.specs.Points.{cut_of, cut_has_put, names_drawn, documents_at}
+use Rattle.history_rules.specs.Tickets.{has_ticket}
+use Rattle.history_rules.specs.Faults.{has_fault, is_of_disk}
+use Rattle.history_rules.specs.Commits.{is_disk_fault}
+use Rattle.history_rules.specs.Tasks.{merge_count}
+use Rattle.history_rules.specs.Started.{is_loss}
 use Rattle.nrt_base.specs.SegNumbers.{segments_of_generation}
 use Rattle.script_serving.specs.declared.script.Force.{Force}
 use Rattle.script_serving.specs.declared.script.Force.TheVariants.{Auto, Exactly}

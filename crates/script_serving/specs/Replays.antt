@@ -1,10 +1,10 @@
 -- What a log has, and what a promotion has still to accept again of it.
 use Rattle.std.specs.Prelude.{List, [], ◌∷◌, ◌++◌, Bool, drop, length, if◌then◌else◌}
 use Rattle.documents.specs.declared.operation.Op.{Op}
-use Rattle.history_entries.specs.declared.entry.Event.TheVariants.{Accepted, Promoted}
-use Rattle.history_entries.specs.Nodes.{Past, over}
-use Rattle.history_entries.specs.Lines.{is_answered}
-use Rattle.history_entries.specs.Points.{operations_at}
+use Rattle.history_rules.specs.declared.entry.Event.TheVariants.{Accepted, Promoted}
+use Rattle.history_rules.specs.Nodes.{Past, over}
+use Rattle.history_rules.specs.Lines.{is_answered}
+use Rattle.history_rules.specs.Points.{operations_at}
 
 -- the operations that a log has: those that were accepted as the reply of their line, in order
 abbrev pub logged_operations : Past → List Op

@@ -1,5 +1,5 @@
 use documents::Query;
-use history_entries::FaultPlan;
+use history_rules::FaultPlan;
 use nrt_base::{At, Doc, Key, LaneNo, List, NodeNo, TicketNo, Word};
 
 /// The version that a promotion is forced to be above.

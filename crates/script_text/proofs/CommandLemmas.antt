@@ -13,9 +13,9 @@ use Rattle.nrt_base.specs.Bytes.{is_between, is_key, is_key_byte, is_text, is_te
 use Rattle.nrt_base.specs.declared.doc.Doc.{Doc}
 use Rattle.nrt_base.specs.declared.numbers.NodeNo.{NodeNo}
 use Rattle.nrt_base.specs.declared.numbers.TicketNo.{TicketNo}
-use Rattle.history_entries.specs.declared.cause.FaultKind.{FaultKind}
-use Rattle.history_entries.specs.declared.cause.FaultKind.TheVariants as kind
-use Rattle.history_entries.specs.declared.cause.FaultPlan.TheVariants as plan
+use Rattle.history_rules.specs.declared.cause.FaultKind.{FaultKind}
+use Rattle.history_rules.specs.declared.cause.FaultKind.TheVariants as kind
+use Rattle.history_rules.specs.declared.cause.FaultPlan.TheVariants as plan
 use Rattle.documents.specs.Matching.{is_well_formed}
 use Rattle.documents.specs.Words.{is_alphanumeric}
 use Rattle.script_text.specs.declared.fault.LineFault.TheVariants.{NoNodes, Word, Count, Range, Query as RefusedQuery, Text, NotBuilt}

@@ -10,8 +10,8 @@ use Rattle.nrt_base.specs.Bytes.{is_between}
 use Rattle.nrt_base.proofs.Plain.{between_high}
 use Rattle.documents.specs.declared.query.Query.{Query}
 use Rattle.documents.specs.declared.query.Query.TheVariants.{All}
-use Rattle.history_entries.specs.declared.cause.FaultPlan.{FaultPlan}
-use Rattle.history_entries.specs.declared.cause.FaultPlan.TheVariants.{Link, Damage, Disk, Stop}
+use Rattle.history_rules.specs.declared.cause.FaultPlan.{FaultPlan}
+use Rattle.history_rules.specs.declared.cause.FaultPlan.TheVariants.{Link, Damage, Disk, Stop}
 use Rattle.documents.specs.Matching.{is_well_formed}
 use Rattle.documents.specs.Words.{words_of}
 use Rattle.text_query.specs.Answers.{Parses}
@@ -23,7 +23,7 @@ use Rattle.script_serving.specs.declared.script.LineCommand.{LineCommand}
 use Rattle.script_serving.specs.declared.script.LineCommand.TheVariants.{Put, Delete, Drop, Publish, Copy, Settle, Search, Open, Ask, Close, Commit, Crash, Reopen, Promote, Merge, Drain, Files, Fault}
 use Rattle.script_serving.specs.Form.{is_plan, is_force, is_command}
 use Rattle.script_text.specs.Grammar.{Statement, words_in, word_at, rest_behind, force_word, command_words, Ends, SpellsLine}
-use Rattle.history_entries.specs.Faults.{plan_words}
+use Rattle.history_rules.specs.Faults.{plan_words}
 use Rattle.script_text.specs.Refused.{value_of}
 use Rattle.script_text.proofs.NumberLaws.{value_of-decimal, digits_of-decimal, other_word}
 use Rattle.script_text.proofs.RightLines.{three_words}

@@ -7,8 +7,8 @@ use Rattle.std.proofs.lemmas.Bool.{false≢true, le-leb, le-ltb, lt-leb, eq-eqb,
 use Rattle.nrt_base.specs.Bytes.{is_between, is_key, is_key_byte, is_text, is_text_byte, is_word, is_word_byte}
 use Rattle.nrt_base.proofs.Plain.{between_high}
 use Rattle.documents.specs.declared.query.Query.{Query}
-use Rattle.history_entries.specs.declared.cause.FaultPlan.{FaultPlan}
-use Rattle.history_entries.specs.declared.cause.FaultPlan.TheVariants.{Link, Damage, Disk, Stop}
+use Rattle.history_rules.specs.declared.cause.FaultPlan.{FaultPlan}
+use Rattle.history_rules.specs.declared.cause.FaultPlan.TheVariants.{Link, Damage, Disk, Stop}
 use Rattle.documents.specs.Matching.{is_well_formed}
 use Rattle.text_query.specs.declared.fault.QueryFault.TheVariants.{Empty}
 use Rattle.text_query.specs.Answers.{Parses}
@@ -21,7 +21,7 @@ use Rattle.script_serving.specs.declared.script.LineCommand.{LineCommand}
 use Rattle.script_serving.specs.declared.script.LineCommand.TheVariants.{Put, Delete, Drop, Publish, Copy, Settle, Search, Open, Ask, Close, Commit, Crash, Reopen, Promote, Merge, Drain, Files, Fault}
 use Rattle.script_serving.specs.Form.{is_plan, is_force, is_command}
 use Rattle.script_text.specs.Grammar.{Statement, words_in, rest_behind, force_word, command_words, IsQueryText, Ends, SpellsLine}
-use Rattle.history_entries.specs.Faults.{plan_words}
+use Rattle.history_rules.specs.Faults.{plan_words}
 use Rattle.script_text.specs.Refused.{is_number_in, Kind, number as number_kind, node as node_kind, force as force_kind, key as key_kind, letters as letters_kind, nothing, text as text_tail, query as query_tail, Shape, shape as shape_with, command, asked, is_kind, are_kinds, is_short, is_too_few_or_many, lane_line, Place, has_room, IsRight}
 use Rattle.script_text.proofs.NumberLaws.{number_in, digits_of-decimal, is_digits-decimal}
 use Rattle.script_text.proofs.WordLaws.{words_after, nothing_behind}

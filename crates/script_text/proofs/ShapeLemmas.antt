@@ -1,7 +1,7 @@
 -- The shapes of commands by their names.
 use Rattle.std.proofs.Common.{◌≡◌, ◌≤◌, length, ℕ, List, refl, ◌∙◌, arith}
-use Rattle.history_entries.specs.declared.cause.FaultKind.{FaultKind}
-use Rattle.history_entries.specs.declared.cause.FaultKind.TheVariants as kind
+use Rattle.history_rules.specs.declared.cause.FaultKind.{FaultKind}
+use Rattle.history_rules.specs.declared.cause.FaultKind.TheVariants as kind
 use Rattle.script_text.specs.declared.shapes.Plain.{Plain}
 use Rattle.script_text.specs.declared.shapes.Plain.TheVariants as plain
 use Rattle.script_text.specs.declared.shapes.Name.{Name}

@@ -8,7 +8,7 @@ use Rattle.nrt_base.specs.declared.numbers.LaneNo.{LaneNo}
 use Rattle.text_query.specs.Answers.{Parses}
 use Rattle.documents.specs.declared.query.Query.{Query}
 use Rattle.documents.specs.Words.{is_alphanumeric, words_of}
-use Rattle.history_entries.specs.Faults.{plan_words}
+use Rattle.history_rules.specs.Faults.{plan_words}
 use Rattle.script_serving.specs.declared.script.Force.{Force}
 use Rattle.script_serving.specs.declared.script.Force.TheVariants.{Auto, Exactly}
 use Rattle.script_serving.specs.declared.script.Line.{Line}

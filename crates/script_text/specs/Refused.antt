@@ -5,8 +5,8 @@ use Rattle.nrt_base.specs.Bytes.{is_between, is_text_byte}
 use Rattle.text_query.specs.Answers.{IsFault}
 use Rattle.script_text.specs.declared.fault.LineFault.{LineFault}
 use Rattle.script_text.specs.declared.fault.LineFault.TheVariants.{NoNodes, Word, Count, Range, Query as RefusedQuery, Text, NotBuilt}
-use Rattle.history_entries.specs.declared.cause.FaultKind.{FaultKind}
-use Rattle.history_entries.specs.declared.cause.FaultKind.TheVariants as kind
+use Rattle.history_rules.specs.declared.cause.FaultKind.{FaultKind}
+use Rattle.history_rules.specs.declared.cause.FaultKind.TheVariants as kind
 use Rattle.script_text.specs.declared.shapes.Plain.{Plain}
 use Rattle.script_text.specs.declared.shapes.Plain.TheVariants as plain
 use Rattle.script_text.specs.declared.shapes.Name.{Name}

@@ -10,7 +10,7 @@ use crate::numbers::{force, node, number_u32, number_u64, ticket};
 use crate::shapes::{Name, Plain};
 use crate::words::{Words, first_words, rest_behind};
 use documents::{Query, words};
-use history_entries::{FaultKind, FaultPlan};
+use history_rules::{FaultKind, FaultPlan};
 use nrt_base::{Doc, Key, Text, Word};
 use script_serving::LineCommand;
 use std::alloc::Global;

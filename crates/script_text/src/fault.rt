@@ -5,34 +5,45 @@ ghost use Rattle.script_text.specs.Reading.{fault_on};
 
 use nrt_base::{LineNo, NoMemory};
 use text_query::QueryFault;
+use thiserror::Error;
 
 /// Why a line is refused.
-#[derive(Clone, Copy, Debug, PartialEq, Eq)]
+#[derive(Clone, Copy, Debug, PartialEq, Eq, Error)]
 pub enum LineFault {
     /// The first statement is not `nodes`, or there is none.
+    #[error("a script begins with `nodes N`, N from 2 to 16")]
     NoNodes,
     /// A word is not allowed at its place.
+    #[error("a word is unknown, or is not allowed at its place")]
     Word,
     /// A word is missing or too many.
+    #[error("a word is missing, or there is one too many")]
     Count,
     /// A number, a key or a text is out of its range, or there are too many statements.
+    #[error("a number, a key or a text is out of its range, or there are too many statements")]
     Range,
     /// The query is refused.
+    #[error(transparent)]
     Query(QueryFault),
     /// A byte of the line is no printable one.
+    #[error("a byte is not printable: ASCII from the space to `~` is wanted")]
     Text,
     /// The program does not run this line yet.
+    #[error("the program does not run this line yet")]
     NotBuilt,
 }
 
 /// Why bytes are no script.
-#[derive(Clone, Copy, Debug, PartialEq, Eq)]
+#[derive(Clone, Copy, Debug, PartialEq, Eq, Error)]
 pub enum ScriptFault {
     /// Want of memory.
+    #[error("out of memory")]
     Memory,
     /// This line is the first that is refused, for this cause.
+    #[error("line {number}: {1}", number = .0.0)]
     BadScript(LineNo, LineFault),
     /// There are more than 16,777,216 bytes.
+    #[error("a script has at most 16777216 bytes")]
     TooLarge,
 }
 

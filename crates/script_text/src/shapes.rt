@@ -4,7 +4,7 @@ ghost use Rattle.script_text.specs.Refused.{asked as asked_lem, fault_asked as f
 ghost use Rattle.script_text.specs.Reading.{asked_of, NamesFront, IsNamed, IsFaultNamed, late_shapes};
 
 use crate::words::{is_word, next_word};
-use history_entries::FaultKind;
+use history_rules::FaultKind;
 
 /// A command that is read without memory.
 #[derive(Clone, Copy)]

@@ -1,10 +1,10 @@
 use Rattle.std.proofs.Common.{◌≡◌, ◌==◌, ℕ, zero, suc, ◌+◌, ◌<◌, ◌≤◌, Bool, true, false, if◌then◌else◌, List, [], ◌∷◌, ◌++◌, length, Option, Some, None, IfSome, subst, get_or, is_some, refl, sym, ap, ◌∙◌, arith, true≢false, slice_get}
 use Rattle.std.specs.List.{remove}
 use Rattle.std.proofs.lemmas.Bool.Decides.{nat_tests}
-use Rattle.node_files.specs.Given.{Name, Cells}
+use Rattle.disk_model.specs.Disk.{Name, Cells}
 use Rattle.file_deleter.specs.Holdings.{Holdings, count_of, times}
 use Rattle.file_deleter.specs.Moves.{HoldsFiles, LetsGo, MovesCounts}
-use Rattle.node_files.specs.Node.{AddsOnly}
+use Rattle.searcher_switch.specs.Node.{AddsOnly}
 use Rattle.file_deleter.proofs.Keeping.{moves_held, moves_released, moves_switched}
 use Rattle.searcher_switch.specs.declared.open.Point.{Point}
 use Rattle.file_deleter.proofs.NameLemmas.{times-append}

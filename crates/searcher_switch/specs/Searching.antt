@@ -1,6 +1,6 @@
 -- What searchers hold and lend.
 use Rattle.std.specs.Prelude.{◌≡◌, List, ◌++◌}
-use Rattle.node_files.specs.Given.{Name}
+use Rattle.disk_model.specs.Disk.{Name}
 use Rattle.searcher_switch.specs.declared.open.Open.{Open}
 use Rattle.searcher_switch.specs.declared.searchers.Lease.{Lease}
 use Rattle.searcher_switch.specs.declared.searchers.Searchers.{Searchers}

@@ -1,6 +1,6 @@
 -- Open tickets by their numbers.
 use Rattle.std.specs.Prelude.{◌==◌, ℕ, suc, if◌then◌else◌, List, [], ◌∷◌, ◌++◌, Option, Some, None}
-use Rattle.node_files.specs.Given.{Name}
+use Rattle.disk_model.specs.Disk.{Name}
 use Rattle.searcher_switch.specs.declared.open.Open.{Open}
 
 module _ {R : Type 0} where

@@ -4,8 +4,9 @@ ghost use Rattle.file_deleter.specs.Holdings.{AreThere};
 ghost use Rattle.file_deleter.specs.Moves.{HoldsFiles};
 ghost use Rattle.searcher_switch.specs.Tickets.{ticket_at, tickets_without, ticket_place};
 
+use disk_model::Dir;
 use file_deleter::FileDeleter;
-use node_files::{Dir, FileName};
+use file_names::FileName;
 use nrt_base::{List, NoMemory, Share, Version};
 use std::alloc::Global;
 

@@ -2,12 +2,13 @@
 ghost use Rattle.std.specs.Prelude.{◌≡◌, ◌<◌, ◌≤◌, ℕ, List, [], ◌∷◌, ◌++◌, Some, true, false, is_some, IfOk, IfSome, OnOk, OnErr};
 ghost use Rattle.file_deleter.specs.Holdings.{AreThere, AreCounted};
 ghost use Rattle.file_deleter.specs.Moves.{MovesCounts};
-ghost use Rattle.node_files.specs.Node.{AddsOnly};
+ghost use Rattle.searcher_switch.specs.Node.{AddsOnly};
 ghost use Rattle.searcher_switch.specs.Tickets.{ticket_at, tickets_without};
 
 use crate::open::{self, Open, Point};
+use disk_model::Dir;
 use file_deleter::FileDeleter;
-use node_files::{Dir, FileName};
+use file_names::FileName;
 use nrt_base::{List, NoMemory, Share, Version};
 use std::alloc::{AllocError, Global};
 

@@ -4,10 +4,12 @@ ghost use Rattle.std.specs.Prelude.{◌≡◌, ◌<◌, [], ◌∷◌};
 ghost use Rattle.file_deleter.specs.Holdings.{AreThere, AreCounted};
 ghost use Rattle.searcher_switch.specs.Searching.{searcher_names};
 
-use crate::Searchers;
+use crate::searchers::Searchers;
 use bytes::Bytes;
+use commit_steps::MemDir;
+use disk_model::Dir;
 use file_deleter::FileDeleter;
-use node_files::{Dir, FileName, MemDir, commit_name};
+use file_names::{FileName, commit_name};
 use nrt_base::{List, Version};
 use std::alloc::Global;
 use std::test::Fail;

@@ -6,6 +6,7 @@ mod agreement;
 mod id;
 pub mod laws;
 mod parts;
+mod placing;
 mod reading;
 mod segment;
 

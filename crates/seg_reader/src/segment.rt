@@ -9,10 +9,12 @@ ghost use Rattle.postings_plain.specs.Body.{HasEntry, HasNoEntry};
 ghost use Rattle.seg_reader.specs.Shown.{Shown, shown_with, key_field, word_field};
 ghost use Rattle.seg_reader.specs.Files.{IsSegmentOf};
 ghost use Rattle.seg_reader.specs.Faults.{IsSegmentFault};
+ghost use Rattle.seg_reader.specs.Placing.{IsPlacing};
 ghost use Rattle.seg_reader.specs.Reading.{IsLiveOrAll, IsSegmentAnswer};
 
 use crate::agreement::compare_numbers;
 use crate::parts::{SegFault, SegParts};
+use crate::placing::shared_places;
 use crate::reading::{Contents, read_contents};
 use docs_plain::DocsFile;
 use live_bits::LiveBits;
@@ -21,6 +23,7 @@ use postings_plain::{PostFile, Postings};
 use segment_infos::SegRecord;
 use std::alloc::Global;
 use std::marker::Model;
+use std::sync::Arc;
 
 /// The field of keys, and that of words, in postings.
 const KEY: u8 = 0;
@@ -34,18 +37,22 @@ pub struct Segment {
     docs: DocsFile,
     post: PostFile,
     live: LiveBits,
+    // Where each row stands in the order of keys.
+    places: Arc<Vec<u32>>,
 }
 
 impl Model for Segment {
     ghost use Rattle.std.specs.Prelude.{◌≡◌, length};
     ghost use Rattle.postings_plain.specs.Body.{IsRowCount};
+    ghost use Rattle.seg_reader.specs.Placing.{IsPlacing};
     ghost use Rattle.seg_reader.specs.Shown.{Shown};
 
     ghost Value = { Shown };
 
     ghost view = { λ s. record { docs = s.docs; live = s.live; entries = s.post.entries } };
 
-    ghost invariant = { λ s. (length s.live ≡ length s.docs) × IsRowCount s.post.entries (length s.docs) };
+    ghost invariant = { λ s. (length s.live ≡ length s.docs) × IsRowCount s.post.entries (length s.docs)
+        × (length s.places.value.items ≡ length s.docs) × IsPlacing s.docs s.places.value.items };
 }
 
 impl Segment {
@@ -108,6 +115,14 @@ impl Segment {
         self.docs.text(row)
     }
 
+    /// Where each row stands in the order of keys: 0 where that is not known.
+    pub fn places(&self) -> &[u32]
+        ensures rows { length result.now ≡ length self.now.docs }
+        ensures order { IsPlacing self.now.docs result.now }
+    {
+        self.places.as_slice()
+    }
+
     /// Which rows are live.
     pub fn live_rows(&self) -> &LiveBits
         ensures live { result.now ≡ self.now.live }
@@ -125,6 +140,7 @@ impl Segment {
             docs: self.docs.share(alloc)?,
             post: self.post.share(alloc)?,
             live,
+            places: self.places.clone()?,
         })
     }
 
@@ -181,7 +197,13 @@ fn answer(alloc: Global, parts: SegParts, record: &SegRecord) -> Result<Segment,
         ..
     } = contents;
     let live = live_or_all(alloc, live, record.rows)?;
-    Ok(Segment { docs, post, live })
+    let places = shared_places(alloc, &docs, &post)?;
+    Ok(Segment {
+        docs,
+        post,
+        live,
+        places,
+    })
 }
 
 /// The bytes of its files are shared, and the bits of its live rows are copied.
@@ -191,6 +213,7 @@ impl Share for Segment {
             docs: self.docs.share(alloc)?,
             post: self.post.share(alloc)?,
             live: self.live.share(alloc)?,
+            places: self.places.clone()?,
         })
     }
 }

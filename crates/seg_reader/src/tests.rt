@@ -170,6 +170,7 @@ fn a_dead_row(rt: HostRuntime) -> Result<(), Fail> {
     let read = read(rt.alloc(), TWO)??;
     let segment = read.share(rt.alloc())?;
     assert_eq!(rt; segment.rows(), 2);
+    assert_eq!(rt; segment.places(), [1, 1].as_slice());
     assert!(rt; has_live(&segment, 0));
     assert!(rt; !has_live(&segment, 1));
     if segment.rows() == 2 {

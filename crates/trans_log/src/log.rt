@@ -15,17 +15,22 @@ use disk_model::{Dir, DirFault};
 use file_names::FileName;
 use nrt_base::{NoMemory, Share};
 use std::alloc::Global;
+use thiserror::Error;
 
 /// Why a call of the log is refused.
-#[derive(Clone, Copy, Debug, PartialEq, Eq)]
+#[derive(Clone, Copy, Debug, PartialEq, Eq, Error)]
 pub enum LogFault {
     /// Out of memory.
+    #[error("out of memory")]
     Memory,
     /// The disk failed.
+    #[error("the disk failed")]
     Failed,
     /// The file with this name, the first such, is refused.
+    #[error("a record of the log cannot be read: {0}: {1}")]
     Broken(FileName, FileFault),
     /// The file of this number, the least such, is missing, and one with a greater number is there.
+    #[error("record {0} of the log does not exist, and a later one does")]
     Gap(u32),
 }
 

@@ -1,5 +1,6 @@
+mod FrameLaws
 mod MessageLaws
 mod NameTests
-mod FrameLaws
+mod Reading
 mod StateLaws
 pub mod StreamLaws

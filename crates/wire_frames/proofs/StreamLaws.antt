@@ -1,8 +1,9 @@
 -- A stream has one list of messages and one first fault, and a stream that goes on begins as it did.
 use Rattle.std.proofs.Common.{◌≡◌, ℕ, suc, ◌+◌, ◌<◌, ◌≤◌, ◌⊎◌, Bool, true, false, List, [], ◌∷◌, ◌++◌, length, Result, Ok, Err, refl, sym, ap, subst, ◌∙◌, append_assoc, arith, inl, inr}
 use Rattle.std.specs.Prelude.{IsTrue, not, IfOk, IfErr}
+use Rattle.std.specs.Int.{w32, from_be_bytes}
 use Rattle.std.specs.List.{All, flat_map}
-use Rattle.std.proofs.lemmas.List.{append-nil}
+use Rattle.std.proofs.lemmas.List.{append-nil, length-append, take-append-le}
 use Rattle.std.proofs.lemmas.List.Elements.{All-nil, All-cons, All-append}
 use Rattle.std.proofs.lemmas.List.Concat.{flat_map-append}
 use Rattle.codec_frame.specs.Bytes.{AreBytes}
@@ -11,7 +12,7 @@ use Rattle.wire_frames.specs.declared.message.Message.TheVariants.{Notice, State
 use Rattle.wire_frames.specs.declared.message.WireFault.{WireFault}
 use Rattle.wire_frames.specs.declared.message.WireFault.TheVariants.{Length, Kind, Body, Memory}
 use Rattle.wire_frames.specs.Wire.{message_kind, message_body, frame_of, wire_of, IsFramable}
-use Rattle.wire_frames.specs.Streams.{BeginsWith, BeginsWithMessage, AreMessagesOf, IsUnfinished, IsFrameFault, IsStreamFault, IsCauseOf, IsFrontFault, TakesMessage, is_message_kind}
+use Rattle.wire_frames.specs.Streams.{BeginsWith, BeginsWithMessage, AreMessagesOf, IsUnfinished, HasFrame, IsFrameFault, IsStreamFault, IsCauseOf, IsFrontFault, TakesMessage, is_message_kind, told_length}
 use Rattle.wire_frames.proofs.FrameLaws.{length_frame, frame_not_unfinished, frame_not_wrong, one_frame, one_message}
 
 -- ---- one frame
@@ -171,6 +172,37 @@ fault_then stream piece ms held f h p = record {
   rest = p.rest;
   front = begins_then stream piece ms p.messages held p.rest h p.front;
   faulty = p.faulty;
+}
+
+-- the length bytes stay where more follows
+told_stays : (bytes more : List ℕ) → 4 ≤ length bytes → told_length (bytes ++ more) ≡ told_length bytes
+unfolding told_length
+told_stays bytes more there = ap (from_be_bytes w32) (take-append-le 4 bytes more there)
+
+frame_stays : (bytes more : List ℕ) (kind : ℕ) (body : List ℕ) → HasFrame bytes kind body → HasFrame (bytes ++ more) kind body
+frame_stays bytes more kind body h = record {
+  after = h.after ++ more;
+  whole = ap (λ (x : List ℕ). x ++ more) h.whole ∙ append_assoc (frame_of kind body) h.after more;
+  short = h.short;
+}
+
+frame_fault_stays : (bytes more : List ℕ) (f : WireFault) → IsFrameFault bytes f → IsFrameFault (bytes ++ more) f
+frame_fault_stays bytes more (Length n) f = record {
+  there = (let there = f.there in let size = length-append bytes more in omega (arith, there, size));
+  told = f.told ∙ sym (told_stays bytes more f.there);
+  wrong = f.wrong;
+}
+frame_fault_stays bytes more (Kind k) f = (f.0, frame_stays bytes more k f.0 f.1, f.2)
+frame_fault_stays bytes more Body f = (f.0, f.1, frame_stays bytes more f.0 f.1 f.2, f.3, f.4)
+frame_fault_stays bytes more Memory f = f
+
+-- the fault of a stream is one of every longer stream
+pub fault_stays : (stream more : List ℕ) (f : WireFault) → IsStreamFault stream f → IsStreamFault (stream ++ more) f
+fault_stays stream more f p = record {
+  messages = p.messages;
+  rest = p.rest ++ more;
+  front = record { each = p.front.each; parts = ap (λ (x : List ℕ). x ++ more) p.front.parts ∙ append_assoc (flat_map wire_of p.messages) p.rest more };
+  faulty = frame_fault_stays p.rest more f p.faulty;
 }
 
 pub cause_then : (stream piece : List ℕ) (ms : List Message) (held : List ℕ) (f : WireFault) → BeginsWith stream ms held → IsCauseOf (held ++ piece) f → IsCauseOf (stream ++ piece) f

@@ -1,4 +1,6 @@
-pub mod Wire
-pub mod Streams
+pub mod Lines
 pub mod Reading
+pub mod Runs
 pub mod States
+pub mod Streams
+pub mod Wire

@@ -7,6 +7,7 @@ use copy_state::FileMetaData;
 use file_names::FileName;
 use nrt_base::{Gen, NoMemory, Version};
 use std::alloc::AllocFailed;
+use thiserror::Error;
 
 /// What one node tells another.
 #[derive(Debug, Drop)]
@@ -44,15 +45,19 @@ pub enum Message {
 }
 
 /// Why a stream is refused: its first faulty frame has this fault, or memory ran out.
-#[derive(Clone, Copy, Debug, PartialEq, Eq)]
+#[derive(Clone, Copy, Debug, PartialEq, Eq, Error)]
 pub enum WireFault {
     /// The length of the frame is this, 0 or above 65,536.
+    #[error("a frame has the length {0}, where 1 to 65536 is wanted")]
     Length(u32),
     /// The kind of the frame is this, and none.
+    #[error("a frame has the kind {0}, where 1 to 5 is wanted")]
     Kind(u8),
     /// The body is of no message of its kind.
+    #[error("the body of a frame is no message of its kind")]
     Body,
     /// Out of memory.
+    #[error("out of memory")]
     Memory,
 }
 
@@ -77,11 +82,13 @@ impl<T: Drop> From<AllocFailed<T>> for WireFault {
 }
 
 /// Why messages are no state.
-#[derive(Clone, Copy, Debug, PartialEq, Eq)]
+#[derive(Clone, Copy, Debug, PartialEq, Eq, Error)]
 pub enum StateFault {
     /// At this place the messages are not those of a state, or one is missing.
+    #[error("the messages are no state of a point: the one at place {0} is another or missing")]
     Order(usize),
     /// Out of memory.
+    #[error("out of memory")]
     Memory,
 }
 

@@ -3,7 +3,10 @@
 ghost use Rattle.std.specs.Prelude.{IsTrue};
 ghost use Rattle.wire_frames.specs.Wire.{CanEncode};
 
-use super::*;
+use crate::decoder::Decoder;
+use crate::encoding::encode;
+use crate::message::{Message, StateFault, WireFault};
+use crate::states::{state_messages, state_of};
 use bytes::Bytes;
 use copy_state::{CopyState, FileMetaData};
 use file_names::{FileName, file_name};

@@ -1,7 +1,7 @@
 use crate::legality::legal;
 use documents::{Answer, Hit, Op, Query};
 use file_names::file_name;
-use history_entries::{Cause, Entry, Event, FaultKind, FaultPlan, History, Verdict};
+use history_rules::{Cause, Entry, Event, FaultKind, FaultPlan, History, Verdict};
 use nrt_base::{
     At, Doc, Gen, Key, LaneNo, LineNo, List, NoMemory, NodeNo, SegNo, Text, TicketNo, Version, Word,
 };
@@ -20,6 +20,8 @@ const CASES: &str = "\
 2 vacant: 1 6 publishing
 2 start: 1 2 accepted 1 put_a; 1 3 publishing; 2 4 publishing
 2 start: 1 2 crashed 1; 1 3 publishing
+2 published: 1 4 accepted 2 put_b; 1 5 planned disk 1 1; 1 6 fault 1 disk; 1 6 publishing
+2 published: 1 4 accepted 2 put_b; 1 5 planned stop 1 1; 1 6 fault 1 stop; 1 6 publishing
 3 start: 1 2 accepted 1 put_a; 1 3 published 1 2
 3 start: 1 2 accepted 1 put_a; 1 3 publishing; 1 3 published 1 3
 3 start: 1 2 accepted 1 put_a; 1 3 publishing; 1 3 published 2 2
@@ -56,6 +58,9 @@ const CASES: &str = "\
 5 published: 1 4 settling 2; 1 4 switched 3 2; 1 4 switched 2 2
 5 promoted: 1 7 reopened 1 1; 1 8 settling 3; 1 8 switched 3 3; 1 8 switched 1 3
 5 promoted: 1 7 reopened 1 1; 1 8 accepted 2 put_b; 1 9 publishing; 1 9 published 2 4; 2 10 settling 4; 2 10 switched 3 4; 2 10 switched 1 4
+5 published: 1 4 planned link 2 1; 1 5 copying 2 2; 1 5 fault 2 link; 1 5 switched 2 2
+5 published: 1 4 planned damage 2 1 0; 1 5 copying 2 2; 1 5 fault 2 damage; 1 5 switched 2 2
+5 published: 1 4 planned link 2 1; 1 5 settling 2; 1 5 fault 2 link; 1 5 switched 3 2
 6 published: 1 4 copying 2 2; 1 4 copied 2 1
 6 published: 1 4 copying 3 2; 1 4 copied 3 1
 6 published: 1 4 copying 2 2; 1 4 copied 2 2
@@ -65,11 +70,18 @@ const CASES: &str = "\
 6 published: 1 4 copying 2 2; 2 5 settling 2; 2 5 switched 2 2; 1 4 copied 2 2
 6 published: 1 4 copying 3 2; 2 5 settling 2; 2 5 switched 3 2; 1 4 copied 3 2
 6 two: 1 7 copying 2 3; 2 8 settling 3; 2 8 switched 2 3; 1 7 copied 2 3
+6 published: 1 4 copying 2 2; 1 4 switched 2 2; 2 5 accepted 2 put_b; 1 4 copied 2 2
+6 published: 1 4 copying 2 2; 1 4 switched 2 2; 2 5 copying 3 2; 1 4 copied 2 2
+6 published: 1 4 copying 2 2; 1 4 switched 2 2; 2 5 copying 3 2; 2 5 switched 3 2; 1 4 copied 2 2
 7 published: 1 4 settling 1
 7 vacant: 1 6 settling 2
 7 published: 1 4 settling 2; 1 4 settled 2
 7 copied: 1 5 settling 2; 1 5 settled 2
 7 copied: 1 5 settling 2; 1 5 settled 1
+7 published: 1 4 planned disk 1 1; 1 5 fault 1 disk; 1 5 settling 2
+7 published: 1 4 planned stop 1 1; 1 5 fault 1 stop; 1 5 settling 2
+7 published: 1 4 planned link 3 1; 1 5 settling 2; 1 5 fault 3 link; 2 6 copying 2 2; 2 6 switched 2 2; 2 6 copied 2 2; 2 7 copying 3 2; 2 7 switched 3 2; 2 7 copied 3 2; 1 5 settled 2
+7 published: 1 4 planned damage 2 1 0; 1 5 settling 2; 1 5 fault 2 damage; 2 6 copying 2 2; 2 6 switched 2 2; 2 6 copied 2 2; 2 7 copying 3 2; 2 7 switched 3 2; 2 7 copied 3 2; 1 5 settled 2
 8 copied: 1 5 opened 2 7 1
 8 down: 1 6 opened 2 7 2
 8 opened: 1 6 opened 3 7 1
@@ -82,6 +94,8 @@ const CASES: &str = "\
 9 opened: 1 6 closed 2 7; 1 7 asking 2 7 2
 9 opened: 1 6 asking 2 7 1
 9 opened: 1 6 crashed 2; 1 7 asking 2 7 2
+9 opened: 1 6 planned disk 2 1; 1 7 fault 2 disk; 1 7 asking 2 7 2
+9 opened: 1 6 planned stop 2 1; 1 7 fault 2 stop; 1 7 asking 2 7 2
 10 copied: 1 5 opened 2 0 2; 1 5 answer 2 0 2 0
 10 copied: 1 5 opened 2 0 2; 1 5 answer 2 0 2 1 1:b
 10 copied: 1 5 answer 2 0 2 1 1:a
@@ -96,6 +110,8 @@ const CASES: &str = "\
 12 copied: 1 5 committing 2 1
 12 down: 1 6 committing 2 2
 12 copied: 1 5 committing 2 2; 2 6 committing 2 2
+12 copied: 1 5 planned disk 2 1; 1 6 fault 2 disk; 1 6 committing 2 2
+12 copied: 1 5 planned stop 2 1; 1 6 fault 2 stop; 1 6 committing 2 2
 13 copied: 1 5 committed 2 2
 13 copied: 1 5 committing 2 2; 1 5 committed 2 1
 13 copied: 1 5 committing 2 2; 2 6 crashed 2; 1 5 committed 2 2
@@ -157,6 +173,8 @@ const CASES: &str = "\
 19 published: 1 4 planned link 1 1; 1 5 settling 2; 1 5 fault 1 link
 19 published: 1 4 planned damage 2 1 36; 1 5 opened 2 0 1; 1 5 fault 2 damage
 19 two: 1 7 planned link 1 1; 1 8 merging 1679618; 1 8 fault 1 link
+19 down: 1 6 planned disk 2 1; 1 7 opened 1 0 2; 1 7 fault 2 disk
+19 down: 1 6 planned stop 2 1; 1 7 opened 1 0 2; 1 7 fault 2 stop
 20 published: 1 4 copying 2 2; 1 4 refused lost
 20 published: 1 4 planned link 2 1; 1 5 copying 2 2; 1 5 fault 2 link; 2 6 crashed 2; 1 5 refused link-fault
 20 published: 1 4 copying 2 2; 1 4 refused link-fault
@@ -179,6 +197,11 @@ const CASES: &str = "\
 20 start: 1 2 planned disk 1 1; 1 3 fault 1 disk; 1 3 refused none
 20 down: 1 6 planned stop 2 1; 1 7 fault 2 stop; 1 7 refused down
 20 start: 1 2 refused disk-fault
+20 published: 1 4 planned link 2 1; 1 5 planned damage 2 1 0; 1 6 copying 2 2; 1 6 fault 2 link; 1 6 fault 2 damage; 1 6 refused damaged _10000.docs
+20 copied: 1 5 planned disk 2 1; 1 6 committing 2 2; 1 6 fault 2 disk; 2 7 accepted 2 put_b; 1 6 refused disk-fault
+20 published: 1 4 planned link 2 1; 1 5 planned damage 2 1 0; 1 6 settling 2; 1 6 fault 2 link; 1 6 fault 2 damage; 1 6 refused damaged _10000.docs
+20 published: 1 4 planned disk 2 1; 1 5 copying 2 2; 1 5 fault 2 disk; 2 6 accepted 2 put_b; 1 5 refused disk-fault
+20 published: 1 4 planned disk 2 1; 1 5 fault 2 disk; 2 6 accepted 2 put_b; 1 5 copying 2 2; 1 5 refused disk-fault
 21 start: 1 2 drained 1 9
 21 two: 1 7 merging 1679618; 1 8 drained 5 9
 21 two: 1 7 merging 1679618; 1 8 drained 4 9; 1 9 drained 1 9
@@ -188,6 +211,14 @@ const CASES: &str = "\
 22 start: 1 2 planned disk 1 1; 1 3 fault 1 disk; 1 3 planned disk 1 1
 22 start: 1 2 planned stop 1 1; 1 3 fault 1 stop; 1 3 planned link 2 1
 22 start: 1 2 planned disk 2 1; 1 3 fault 2 disk; 1 3 planned stop 1 1
+0 published: 1 4 planned link 2 1; 1 5 settling 2; 1 5 fault 2 link; 2 6 crashed 2; 1 5 switched 3 2; 1 5 settled 2
+0 published: 1 4 planned link 2 1; 1 5 copying 2 2; 1 5 fault 2 link; 2 6 copying 3 2; 2 6 switched 3 2; 2 6 copied 3 2
+0 published: 1 4 accepted 2 put_b; 1 5 planned disk 2 1; 2 6 copying 2 2; 2 6 fault 2 disk; 2 6 refused disk-fault; 1 7 publishing
+0 published: 1 4 planned disk 2 1; 1 5 fault 2 disk; 1 5 copying 2 2; 1 5 refused disk-fault
+0 published: 1 4 copying 2 2; 2 5 accepted 2 put_b; 2 6 publishing; 2 6 published 1 3; 2 7 planned disk 1 1; 2 8 fault 1 disk; 2 8 copying 2 3; 2 8 refused disk-fault; 1 4 switched 2 2; 1 4 copied 2 2
+0 published: 1 4 planned link 2 1; 1 5 planned damage 2 1 0; 1 6 copying 2 2; 1 6 fault 2 link; 1 6 fault 2 damage; 1 6 refused link-fault
+0 published: 1 4 planned link 2 1; 1 5 planned damage 3 1 0; 1 6 settling 2; 1 6 fault 2 link; 2 7 crashed 2; 1 6 fault 3 damage; 1 6 refused damaged _10000.docs
+0 copied: 1 5 planned disk 2 1; 1 6 committing 2 2; 2 7 accepted 2 put_b; 1 6 fault 2 disk; 1 6 refused disk-fault
 0 copied: 1 5 opened 2 0 2; 1 5 answer 2 0 2 1 1:a
 0 two: 1 7 accepted 3 drop_x; 1 8 publishing; 1 8 published 1 4; 1 9 opened 1 0 4; 1 9 answer 1 0 4 0
 0 two: 1 7 opened 2 0 2; 1 7 answer 2 0 2 1 1:a; 1 8 opened 1 0 3; 1 8 answer 1 0 3 2 1:a 1:b; 1 9 opened 3 0 1; 1 9 answer 3 0 1 0

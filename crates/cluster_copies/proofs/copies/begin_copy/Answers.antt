@@ -1,7 +1,7 @@
 use Rattle.std.proofs.Common.{◌∙◌, ℕ, ap, refl, Some, ◌∷◌, ◌≡◌, []}
 use Rattle.nrt_base.specs.declared.numbers.Version.{Version}
-use Rattle.history_entries.specs.declared.entry.Event.TheVariants.{Copying}
-use Rattle.history_entries.specs.Nodes.{newest_version}
+use Rattle.history_rules.specs.declared.entry.Event.TheVariants.{Copying}
+use Rattle.history_rules.specs.Nodes.{newest_version}
 use Rattle.history_book.specs.Log.{Log, printed, shown, kept}
 use Rattle.history_book.specs.declared.inner.Inner.TheVariants.{JobBegun}
 use Rattle.history_book.specs.Laws.{IsFresh}
@@ -9,8 +9,9 @@ use Rattle.cluster_state.specs.Run.{Run}
 use Rattle.cluster_state.proofs.Frames.{rule_at}
 use Rattle.cluster_state.proofs.Turning.{past_has, fresh_turn_at}
 use Rattle.cluster_copies.proofs.CopyPaths.{can_begin, may_copy, copy_path, copy_turn, copy_begun}
+use Rattle.cluster_copies.proofs.TakingOver.{taken_by}
 use Rattle.cluster_state.proofs.Ledgers.{asked_of, fresh_of, told_of}
-use Rattle.history_entries.specs.Lines.{entries_of_line}
+use Rattle.history_rules.specs.Lines.{entries_of_line}
 use Rattle.cluster_state.proofs.MergingPaths.{two_parts, three_parts, third_at}
 use Rattle.cluster_state.proofs.MergingStill.{stand_shown, stand_kept, all_keep}
 use Rattle.cluster_copies.proofs.JobMerges.{begun_stand}
@@ -50,6 +51,7 @@ returns-clause-ok g c = copy_begun c.args.cluster.now _ c.args.at c.args.n (reco
     (ap (λ (k : ℕ). let v : Version = record { 0 = k } in v) ((told_of c.book-book.ensures.log newest_version c.newest-newest.ensures) ∙ ap (λ (r : Run). newest_version (printed r.log)) c.cluster.view_is))
     (c.keep.ensures.log ∙ ap (λ (l : Log). kept (JobBegun c.args.at.line c.args.n c.in_ok-job.job (Some (record { 0 = c.newest-newest.result })) (Some c.args.at)) ∷ l)
     (c.show.ensures.log ∙ ap (λ (l : Log). shown c.args.at (Copying c.args.n (record { 0 = c.newest-newest.result })) ∷ l) (c.in_ok-reserve.ensures.log ∙ ap (λ (r : Run). r.log) c.cluster.view_is)))
+    (taken_by g.D.Dir.cells c.args.cluster.now _ _ c.cluster.inside.ledger _ _ c.args.p c.args.n c.in_ok-job.job c.cluster.view_is c.requires.running (two_parts c.cluster.invariant) c.files_last.ensures refl refl c.requires.source c.requires.node c.in_ok-job.ensures)
 
 pub is_fresh-requires : goal.is_fresh-requires
 is_fresh-requires g c = asked_of (λ (l : Log). entries_of_line c.args.at (printed l) ≡ []) c.cluster.view_is c.book-book.ensures.log c.requires.fresh

@@ -1,10 +1,11 @@
 use Rattle.std.proofs.Common.{◌∙◌, ℕ, ap, refl, Some, ◌∷◌}
 use Rattle.nrt_base.specs.declared.numbers.Version.{Version}
-use Rattle.history_entries.specs.Nodes.{newest_version}
+use Rattle.history_rules.specs.Nodes.{newest_version}
 use Rattle.history_book.specs.Log.{Log, printed, kept}
 use Rattle.history_book.specs.declared.inner.Inner.TheVariants.{JobBegun}
 use Rattle.cluster_state.specs.Run.{Run}
 use Rattle.cluster_copies.proofs.CopyPaths.{can_begin_settling, settle_path, settle_turn, settle_job_begun}
+use Rattle.cluster_copies.proofs.TakingOver.{taken_by}
 use Rattle.cluster_state.proofs.Ledgers.{legal_of, told_of}
 use Rattle.cluster_state.proofs.MergingPaths.{two_parts, three_parts, third_at}
 use Rattle.cluster_state.proofs.MergingStill.{stand_same, stand_kept, all_keep}
@@ -38,3 +39,4 @@ returns-clause-ok g c = settle_job_begun c.args.cluster.now _ c.args.at c.args.n
     (ap (λ (k : ℕ). let v : Version = record { 0 = k } in v) ((told_of c.book-book.ensures.log newest_version c.newest-newest.ensures) ∙ ap (λ (r : Run). newest_version (printed r.log)) c.cluster.view_is))
     (c.keep.ensures.log ∙ ap (λ (l : Log). kept (JobBegun c.args.at.line c.args.n c.in_ok-job.job (Some (record { 0 = c.newest-newest.result })) (Some c.args.at)) ∷ l) (c.in_ok-reserve.ensures.log ∙ ap (λ (r : Run). r.log) c.cluster.view_is))
     c.requires.line c.requires.waits c.requires.survives
+    (taken_by g.D.Dir.cells c.args.cluster.now _ _ c.cluster.inside.ledger _ _ c.args.p c.args.n c.in_ok-job.job c.cluster.view_is c.requires.running (two_parts c.cluster.invariant) c.files_last.ensures refl refl c.requires.source c.requires.waits.node c.in_ok-job.ensures)

@@ -1,11 +1,11 @@
 use Rattle.cluster_copies.proofs.CopiedNow.{copying_rule, copied_rule, copied_shows, copied_files}
 use Rattle.cluster_state.proofs.Ledgers.{asked_of, fresh_of, told_of}
-use Rattle.history_entries.specs.Nodes.{newest_version}
-use Rattle.history_entries.specs.Lines.{entries_of_line}
+use Rattle.history_rules.specs.Nodes.{newest_version}
+use Rattle.history_rules.specs.Lines.{entries_of_line}
 use Rattle.history_book.specs.Log.{Log, printed}
 use Rattle.std.proofs.Common.{◌≡◌, [], refl}
 use Rattle.cluster_state.proofs.Turning.{fresh_turn_at}
-use Rattle.history_entries.specs.declared.entry.Event.TheVariants.{Copying, Copied}
+use Rattle.history_rules.specs.declared.entry.Event.TheVariants.{Copying, Copied}
 use Rattle.cluster_state.proofs.MergingPaths.{third_at}
 use Rattle.cluster_state.proofs.MergingStill.{stand_shown, all_keep}
 use Rattle.cluster_copies.proofs.copies.note_copied.Goals as goal

@@ -1,14 +1,14 @@
 use Rattle.std.proofs.Common.{◌≡◌, ℕ, refl, ap, subst, []}
 use Rattle.cluster_state.specs.Settles.{AreReplicas}
-use Rattle.history_entries.specs.Nodes.{newest_version}
+use Rattle.history_rules.specs.Nodes.{newest_version}
 use Rattle.history_book.specs.Laws.{IsFresh}
 use Rattle.cluster_state.specs.FileChanges.{is_commit_line}
 use Rattle.cluster_state.proofs.Turning.{past_has, fresh_turn}
 use Rattle.cluster_copies.proofs.Settling.{settle_begun}
 use Rattle.cluster_state.proofs.Ledgers.{asked_of, fresh_of, told_of}
-use Rattle.history_entries.specs.Lines.{entries_of_line}
+use Rattle.history_rules.specs.Lines.{entries_of_line}
 use Rattle.history_book.specs.Log.{Log, printed}
-use Rattle.history_entries.specs.declared.entry.Event.TheVariants.{Settling}
+use Rattle.history_rules.specs.declared.entry.Event.TheVariants.{Settling}
 use Rattle.cluster_copies.proofs.settles.begin_settle.Goals as goal
 
 pub has_no_commit-requires : goal.has_no_commit-requires
@@ -18,6 +18,7 @@ pub note-requires-clause-rule : goal.note-requires-clause-rule
 note-requires-clause-rule g c = record {
   source = c.requires.source;
   newest = past_has (λ p. c.newest.result ≡ newest_version p) c.args.cluster.now _ c.cluster.inside.ledger c.cluster.view_is (told_of c.book-book.ensures.log newest_version c.newest.ensures);
+  spared = (past_has (IsFresh c.args.at) c.args.cluster.now _ c.cluster.inside.ledger c.cluster.view_is (fresh_of c.book-book.ensures.log c.is_fresh.ensures)).spared;
 }
 
 pub returns-clause-settling : goal.returns-clause-settling

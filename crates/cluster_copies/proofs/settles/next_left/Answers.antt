@@ -5,8 +5,8 @@ use Rattle.history_book.specs.Log.{printed}
 use Rattle.cluster_copies.proofs.Settling.{first_is, none_is, first_least, waits_at, one_passed, reached_at, crashed_at, none_left}
 use Rattle.cluster_copies.proofs.settles.next_left.Goals.{else-node_survives-via-then-node_survives+else-version-task, else-node_survives-via-else-node_survives}
 use Rattle.cluster_state.proofs.Ledgers.{legal_of, told_of}
-use Rattle.history_entries.specs.Nodes.{crashes, version_of}
-use Rattle.history_entries.specs.Lines.{before_start}
+use Rattle.history_rules.specs.Nodes.{crashes, version_of}
+use Rattle.history_rules.specs.Lines.{before_start}
 use Rattle.cluster_copies.proofs.settles.next_left.Goals as goal
 
 pub returns-then-version-task-clause-first : goal.returns-then-version-task-clause-first
@@ -42,6 +42,6 @@ loop-n-preserved g c =
     }
 
 pub returns-clause-done : goal.returns-clause-done
-returns-clause-done g c = λ none.
+returns-clause-done g c = λ none whole.
     none_left c.args.cluster.now.nodes (printed c.args.cluster.now.log) c.args.at c.loop-n.task c.requires.survives
-    (none_is c.deref.result.now c.loop-n.task.left.items _ c.deref.ensures.value c.in_default.ensures.value refl) c.loop-n.invariant.settling
+    (none_is c.deref.result.now c.loop-n.task.left.items _ c.deref.ensures.value c.in_default.ensures.value refl) whole c.loop-n.invariant.settling

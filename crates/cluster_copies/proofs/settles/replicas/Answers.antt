@@ -1,6 +1,6 @@
 use Rattle.std.proofs.Common.{◌∙◌, ◌+◌, List, Vec, Global, Option, ap, sym, subst, arith, true≢false}
 use Rattle.nrt_base.specs.declared.numbers.NodeNo.{NodeNo}
-use Rattle.history_entries.specs.Nodes.{is_at}
+use Rattle.history_rules.specs.Nodes.{is_at}
 use Rattle.history_book.specs.Log.{printed}
 use Rattle.cluster_copies.proofs.Settling.{AreReplicasTo, one_more, none_more}
 use Rattle.cluster_copies.proofs.settles.replicas.Goals.{then-runs+then-not-is_node+in_ok-push, else-runs, else-runs-via-then-runs+else-not-is_node, else-runs-via-else-runs}

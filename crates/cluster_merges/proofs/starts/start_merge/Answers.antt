@@ -1,13 +1,14 @@
 use Rattle.std.proofs.Common.{◌≡◌, [], Ok, ap, ◌∙◌, sym, subst}
-use Rattle.history_entries.specs.Lines.{entries_of_line}
-use Rattle.history_entries.specs.Rules.{MayStartMerge}
+use Rattle.history_rules.specs.Lines.{entries_of_line}
+use Rattle.history_rules.specs.Rules.{MayStartMerge}
 use Rattle.history_book.specs.Log.{Log, printed}
 use Rattle.cluster_state.specs.CallsLeft.{calls_in}
+use Rattle.cluster_state.specs.JobsIn.{jobs_in}
 use Rattle.cluster_state.specs.MergedCopies.{copies_in}
 use Rattle.cluster_state.specs.Sizes.{sizes_in}
 use Rattle.cluster_state.proofs.Frames.{slot_at}
 use Rattle.cluster_state.proofs.Ledgers.{asked_of, fresh_of, legal_of, turns_of}
-use Rattle.cluster_drains.proofs.AtPrimary.{has_primary_at}
+use Rattle.cluster_merges.proofs.AtPrimary.{has_primary_at}
 use Rattle.cluster_merges.proofs.StartPaths.{not_many, none_all, spent_all, none_starts, spent_starts, merging_rule, started_all, begins_merge}
 use Rattle.cluster_merges.proofs.starts.start_merge.Goals as goal
 
@@ -44,7 +45,7 @@ pub returns-in-Err-clause-ok : goal.returns-in-Err-clause-ok
 returns-in-Err-clause-ok g c = spent_starts g.D.Dir.cells c.args.cluster.now c.cluster.inside.places.items c.ask_in.new.places.items c.cluster.inside.ledger c.reserve.new.self c.cluster.inside.tasks c.args.at c.args.p c.args.factor c.ask_in.result c.cluster.view_is c.requires.running c.cluster.invariant
     c.in_ok-reserve.ensures.log c.in_ok-reserve.ensures.nodes c.in_ok-reserve.ensures.cut (legal_of c.book-book.ensures.nodes c.book-book.ensures.log c.is_legal.ensures.legal) (turns_of c.book-book.ensures.log c.is_legal.ensures.turns) (fresh_of c.book-book.ensures.log c.is_fresh.ensures)
     c.requires.node c.requires.primary c.ask_in.ensures c.in-Err.fault c.in_ok-cause-in-Err.cause c.in-Err.is c.in_ok-cause-in-Err.ensures.0 c.in_ok-cause-in-Err.ensures.1
-    (calls_in c.ask_in.new.places.items) c.reserve.new.self.cut (sizes_in c.ask_in.new.places.items) (copies_in c.ask_in.new.places.items)
+    (calls_in c.ask_in.new.places.items) c.reserve.new.self.cut (sizes_in c.ask_in.new.places.items) (copies_in c.ask_in.new.places.items) (jobs_in c.ask_in.new.places.items) _
 
 pub show_merging-requires-clause-rule : goal.show_merging-requires-clause-rule
 show_merging-requires-clause-rule g c = subst (λ (l : Log). MayStartMerge (printed l) c.args.at c.in-Ok-Some.task.seg) (sym c.in_ok-reserve.ensures.log)

@@ -3,21 +3,14 @@ use Rattle.std.proofs.lemmas.Nat.{xor_comm}
 use Rattle.codec_frame.specs.Bytes.{AreBytes}
 use Rattle.codec_frame.specs.Division.{IsCrc, crc_of}
 use Rattle.codec_frame.specs.Register.{taken_in}
-use Rattle.codec_frame.proofs.Steps.{taken_in-cut}
+use Rattle.codec_frame.proofs.Pairs.{word_taken}
 use Rattle.codec_frame.proofs.Remainder.{crc_of-register, crc_is_remainder, crc_is_the_only}
 use Rattle.codec_frame.proofs.crc.crc32.Goals as goal
 
 pub words-preserved : goal.words-preserved
 words-preserved c =
-    let e = c.in-Some.ensures in
-    rw (c.take_in_word-register.ensures, e.cases.0, e.cases.1) (taken_in-cut 8 c.words.register c.words.left.now ∙ c.words.invariant)
-
-pub words-preserved-in-Some-split_first_chunk : goal.words-preserved-in-Some-split_first_chunk
-words-preserved-in-Some-split_first_chunk c =
-    let e = c.in-Some.ensures in
-    let f = c.in-Some-split_first_chunk.ensures in
-    rw (c.take_in_words-register.ensures, f.cases.0, f.cases.1)
-    (taken_in-cut 8 (taken_in c.words.register c.in-Some.first.now) c.in-Some.rest.now ∙ rw (e.cases.0, e.cases.1) (taken_in-cut 8 c.words.register c.words.left.now ∙ c.words.invariant))
+    word_taken c.words.register c.take_in_word-register.result c.words.left.now c.split_at.result.0.now c.split_at.result.1.now c.split_at.ensures.front c.split_at.ensures.back c.take_in_word-register.ensures
+    ∙ c.words.invariant
 
 -- the register at the end, inverted
 inverted : (bytes : List ℕ) (register rest : ℕ) → AreBytes bytes → rest ≡ register → register ≡ taken_in 0xffffffff bytes → bit_xor rest 0xffffffff ≡ crc_of bytes

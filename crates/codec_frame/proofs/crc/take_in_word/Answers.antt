@@ -1,8 +1,7 @@
-use Rattle.std.proofs.Common.{ap, sym, ◌∙◌, bit_xor}
-use Rattle.codec_frame.proofs.Slicing.{taken_in-word}
+use Rattle.std.proofs.Common.{◌∙◌, sym, arith}
+use Rattle.codec_frame.proofs.Slicing.{taken_in-read}
 use Rattle.codec_frame.proofs.crc.take_in_word.Goals as goal
 
 pub returns : goal.returns
 returns c =
-    let w = bit_xor c.from_le_bytes.result c.args.register in
-    c.eight_last.ensures ∙ sym (taken_in-word c.args.register w c.args.word.now c.fits-word c.told-word (ap (λ x. bit_xor x c.args.register) c.from_le_bytes.ensures))
+    c.eight_last.ensures ∙ sym (taken_in-read c.args.register c.read_u64.result c.args.word.now (λ i. omega (arith, c.type_inv.word i)) c.requires c.read_u64.ensures)

@@ -2,7 +2,7 @@ use Rattle.std.proofs.Common.{◌∙◌, ap, refl, subst}
 use Rattle.std.proofs.Common.{length}
 use Rattle.nrt_base.specs.Causes.{Rose}
 use Rattle.codec_frame.specs.Bytes.{AreBytes}
-use Rattle.copy_job.proofs.Arrivals.{long_enough, taken, turned_down, by_fate_taken, by_fate_turned_down}
+use Rattle.copy_job.proofs.Arrivals.{long_enough, taken, turned_down, arrived_shows, by_fate_taken, by_fate_turned_down}
 use Rattle.copy_job.proofs.copying.copy_file.Goals as goal
 
 pub returns-in_ok-bytes-in-None-clause-part : goal.returns-in_ok-bytes-in-None-clause-part
@@ -34,3 +34,8 @@ returns-in-Some-clause-fate g c =
     let t = turned_down (g.L.Link.altered c.begin.new.self) _ c.args.source.now c.as_slice-2.result.now c.in_ok-bytes.bytes.items _ _ c.args.meta.now.checksum _ c.in_ok-begin.ensures.file c.as_slice-2.ensures.value (long_enough c.args.source.now c.args.meta.now c.requires.meta) c.requires.checksum
     c.requires.meta.checksum (subst AreBytes c.as_slice.ensures c.size_of.ensures.fits) c.in-Some.ensures.fits c.in_ok-begin.ensures.altered c.in_ok-bytes.ensures.received (c.size_of.ensures.size ∙ ap length c.as_slice.ensures) c.in-Some.found c.in-Some.ensures.difference in
     by_fate_turned_down (g.L.Link.fate c.args.link.now) c.args.source.now (g.L.Link.altered c.begin.new.self) c.args.name.now c.args.meta.now.checksum c.in-Some.found c.in_ok-begin.ensures.fate t.0
+
+pub returns-in-Some-clause-found : goal.returns-in-Some-clause-found
+returns-in-Some-clause-found g c =
+    arrived_shows (g.L.Link.altered c.begin.new.self) (g.L.Link.altered c.receive.new.link) _ c.args.source.now c.as_slice-2.result.now c.in_ok-bytes.bytes.items _ _ c.args.meta.now.checksum _ c.in-Some.found
+    c.in_ok-begin.ensures.file c.as_slice-2.ensures.value c.in_ok-bytes.ensures.received (c.size_of.ensures.size ∙ ap length c.as_slice.ensures) c.receive.ensures.altered c.in-Some.ensures.difference

@@ -1,6 +1,6 @@
 use Rattle.std.proofs.Common.{◌≡◌, take}
 use Rattle.std.specs.Prelude.{reverse}
-use Rattle.history_entries.specs.Commits.{has_committed}
+use Rattle.history_rules.specs.Commits.{has_committed}
 use Rattle.history_facts.proofs.commits.has_committed.Given as goal
 
 abbrev pub invariant-loop-entry : goal.invariant-loop-entry

@@ -1,9 +1,9 @@
 use Rattle.std.proofs.Common.{◌≡◌, take}
 use Rattle.std.specs.Prelude.{◌==◌, reverse}
 use Rattle.std.specs.List.{list_any}
-use Rattle.history_entries.specs.Nodes.{primary_of}
-use Rattle.history_entries.specs.Lines.{commit_in_flight}
-use Rattle.history_entries.specs.Commits.{is_stuck, reopenable_versions}
+use Rattle.history_rules.specs.Nodes.{primary_of}
+use Rattle.history_rules.specs.Lines.{commit_in_flight}
+use Rattle.history_rules.specs.Commits.{is_stuck, reopenable_versions}
 use Rattle.history_facts.proofs.commits.is_reopenable.Given as goal
 
 abbrev pub invariant-loop-i : goal.invariant-loop-i

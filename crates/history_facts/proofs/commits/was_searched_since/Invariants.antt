@@ -1,7 +1,7 @@
 use Rattle.std.proofs.Common.{◌≡◌, take}
 use Rattle.std.specs.Prelude.{reverse}
-use Rattle.history_entries.specs.Nodes.{primary_of, version_of}
-use Rattle.history_entries.specs.Commits.{was_searched_since}
+use Rattle.history_rules.specs.Nodes.{primary_of, version_of}
+use Rattle.history_rules.specs.Commits.{was_searched_since}
 use Rattle.history_facts.proofs.commits.was_searched_since.Given as goal
 
 abbrev pub invariant-loop-entry : goal.invariant-loop-entry

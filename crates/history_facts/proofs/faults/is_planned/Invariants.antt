@@ -1,6 +1,6 @@
 use Rattle.std.proofs.Common.{◌≡◌, take}
 use Rattle.std.specs.Prelude.{reverse}
-use Rattle.history_entries.specs.Faults.{is_planned}
+use Rattle.history_rules.specs.Faults.{is_planned}
 use Rattle.history_facts.proofs.faults.is_planned.Given as goal
 
 abbrev pub invariant-loop-entry : goal.invariant-loop-entry

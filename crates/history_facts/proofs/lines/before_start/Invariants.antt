@@ -1,6 +1,6 @@
 use Rattle.std.proofs.Common.{◌≡◌, ◌≤◌, length, take}
 use Rattle.std.specs.Prelude.{reverse}
-use Rattle.history_entries.specs.Lines.{before_start}
+use Rattle.history_rules.specs.Lines.{before_start}
 use Rattle.history_facts.proofs.lines.before_start.Given as goal
 
 abbrev pub invariant-loop-i : goal.invariant-loop-i

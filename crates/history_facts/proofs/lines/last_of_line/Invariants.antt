@@ -1,6 +1,6 @@
 use Rattle.std.proofs.Common.{◌≡◌, take}
 use Rattle.std.specs.Prelude.{reverse}
-use Rattle.history_entries.specs.Lines.{last_of_line}
+use Rattle.history_rules.specs.Lines.{last_of_line}
 use Rattle.std.specs.Option.{option_copied}
 use Rattle.history_facts.proofs.lines.last_of_line.Given as goal
 

@@ -1,7 +1,7 @@
 use Rattle.std.proofs.Common.{◌≡◌, take}
 use Rattle.std.specs.Prelude.{reverse}
-use Rattle.history_entries.specs.Nodes.{primary_of}
-use Rattle.history_entries.specs.Lines.{publish_in_flight}
+use Rattle.history_rules.specs.Nodes.{primary_of}
+use Rattle.history_rules.specs.Lines.{publish_in_flight}
 use Rattle.history_facts.proofs.lines.publish_in_flight.Given as goal
 
 abbrev pub invariant-loop-entry : goal.invariant-loop-entry

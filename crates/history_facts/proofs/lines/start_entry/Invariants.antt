@@ -1,6 +1,6 @@
 use Rattle.std.proofs.Common.{◌≡◌, take}
 use Rattle.std.specs.Prelude.{reverse}
-use Rattle.history_entries.specs.Lines.{start_entry}
+use Rattle.history_rules.specs.Lines.{start_entry}
 use Rattle.std.specs.Option.{option_copied}
 use Rattle.history_facts.proofs.lines.start_entry.Given as goal
 

@@ -1,6 +1,6 @@
 use Rattle.std.proofs.Common.{◌≡◌, ◌≤◌, take}
 use Rattle.std.specs.Prelude.{reverse}
-use Rattle.history_entries.specs.Nodes.{accepted_count}
+use Rattle.history_rules.specs.Nodes.{accepted_count}
 use Rattle.history_facts.proofs.nodes.accepted_count.Given as goal
 
 abbrev pub invariant-loop-entry : goal.invariant-loop-entry

@@ -1,6 +1,6 @@
 use Rattle.std.proofs.Common.{◌≡◌, take}
 use Rattle.std.specs.Prelude.{reverse}
-use Rattle.history_entries.specs.Nodes.{version_of, primary_of}
+use Rattle.history_rules.specs.Nodes.{version_of, primary_of}
 use Rattle.history_facts.proofs.nodes.version_of.Given as goal
 
 abbrev pub invariant-loop-entry : goal.invariant-loop-entry

@@ -1,6 +1,6 @@
 use Rattle.std.proofs.Common.{◌≡◌, ◌≤◌, take}
 use Rattle.std.specs.Prelude.{reverse}
-use Rattle.history_entries.specs.Tasks.{merge_count}
+use Rattle.history_rules.specs.Tasks.{merge_count}
 use Rattle.history_facts.proofs.tasks.merge_count.Given as goal
 
 abbrev pub invariant-loop-entry : goal.invariant-loop-entry

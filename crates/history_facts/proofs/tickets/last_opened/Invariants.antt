@@ -1,7 +1,7 @@
 use Rattle.std.proofs.Common.{◌≡◌, take}
 use Rattle.std.specs.Prelude.{reverse}
 use Rattle.history_facts.specs.Openings.{opening_of}
-use Rattle.history_entries.specs.Tickets.{last_opened}
+use Rattle.history_rules.specs.Tickets.{last_opened}
 use Rattle.std.specs.Option.{MatchOption}
 use Rattle.std.specs.Prelude.{Some, None}
 use Rattle.history_facts.proofs.tickets.last_opened.Given as goal

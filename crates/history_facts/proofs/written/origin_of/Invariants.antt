@@ -1,6 +1,6 @@
 use Rattle.std.proofs.Common.{◌≡◌, ◌≤◌, take}
 use Rattle.std.specs.Prelude.{reverse}
-use Rattle.history_entries.specs.Points.{operations_at}
+use Rattle.history_rules.specs.Points.{operations_at}
 use Rattle.history_facts.specs.Origins.{operations_from, size_of}
 use Rattle.history_facts.proofs.written.origin_of.Given as goal
 

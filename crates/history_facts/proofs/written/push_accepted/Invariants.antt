@@ -1,6 +1,6 @@
 use Rattle.std.proofs.Common.{◌≡◌, ◌++◌, length, take}
 use Rattle.std.specs.Prelude.{reverse}
-use Rattle.history_entries.specs.Points.{operations_of_generation}
+use Rattle.history_rules.specs.Points.{operations_of_generation}
 use Rattle.history_facts.proofs.written.push_accepted.Given as goal
 
 abbrev pub invariant-loop-entry : goal.invariant-loop-entry

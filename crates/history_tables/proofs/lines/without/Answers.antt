@@ -1,7 +1,7 @@
 use Rattle.std.proofs.Common.{rules}
 use Rattle.std.specs.Prelude.{not}
 use Rattle.std.proofs.lemmas.Fn.{filter_same}
-use Rattle.history_entries.specs.Lines.{same_at}
+use Rattle.history_rules.specs.Lines.{same_at}
 use Rattle.history_tables.specs.declared.lines.LineRow.{LineRow}
 use Rattle.history_tables.proofs.lines.without.Goals as goal
 

@@ -1,5 +1,5 @@
 use Rattle.std.proofs.Common.{◌∙◌}
-use Rattle.node_jobs.proofs.Given.{place_read}
+use Rattle.cluster_nodes.proofs.Slots.{place_read}
 use Rattle.node_merges.proofs.CopySteps.{step_there, gone_primary, gone_down}
 use Rattle.node_merges.proofs.copies.step_in.Goals as goal
 

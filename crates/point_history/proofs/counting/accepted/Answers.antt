@@ -1,8 +1,8 @@
 use Rattle.std.proofs.Common.{◌≡◌, List, reverse, take, subst, sym}
-use Rattle.history_entries.specs.declared.entry.Entry.{Entry}
-use Rattle.history_entries.specs.Nodes.{Past, accepted_count}
-use Rattle.history_entries.specs.Legal.{IsLegalPast}
-use Rattle.history_laws.proofs.PastLemmas.{past_next, keeps_at}
+use Rattle.history_rules.specs.declared.entry.Entry.{Entry}
+use Rattle.history_rules.specs.Nodes.{Past, accepted_count}
+use Rattle.history_rules.specs.Legal.{IsLegalPast}
+use Rattle.history_rules.proofs.PastLemmas.{past_next, keeps_at}
 use Rattle.point_history.proofs.counting.accepted.Goals as goal
 
 pub loop-entry-preserved : goal.loop-entry-preserved

@@ -1,5 +1,5 @@
 use Rattle.std.proofs.Common.{◌≡◌, reverse, take}
-use Rattle.history_entries.specs.Nodes.{accepted_count}
+use Rattle.history_rules.specs.Nodes.{accepted_count}
 use Rattle.point_history.proofs.counting.accepted.Given as goal
 
 abbrev pub invariant-loop-entry : goal.invariant-loop-entry

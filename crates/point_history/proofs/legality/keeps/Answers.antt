@@ -1,6 +1,6 @@
 use Rattle.std.proofs.Common.{◌↔◌, IsTrue, reverse, subst, sym}
-use Rattle.history_entries.specs.declared.entry.Event.{Event}
-use Rattle.history_entries.specs.Legal.{KeepsRule}
+use Rattle.history_rules.specs.declared.entry.Event.{Event}
+use Rattle.history_rules.specs.Legal.{KeepsRule}
 use Rattle.point_history.proofs.legality.keeps.Goals as goal
 
 pub returns-in_ok-may_answer-in-Answered-clause-rule : goal.returns-in_ok-may_answer-in-Answered-clause-rule

@@ -1,8 +1,8 @@
 use Rattle.std.proofs.Common.{◌<◌, ◌^◌, take}
 use Rattle.std.specs.Prelude.{reverse}
-use Rattle.history_entries.specs.Nodes.{accepted_count}
+use Rattle.history_rules.specs.Nodes.{accepted_count}
 use Rattle.history_facts.specs.Generations.{ShowsGeneration, ShowsDrawn}
-use Rattle.history_entries.specs.Legal.{IsLegalPast}
+use Rattle.history_rules.specs.Legal.{IsLegalPast}
 use Rattle.point_history.proofs.legality.legal.Given as goal
 
 abbrev pub invariant-loop-at : goal.invariant-loop-at

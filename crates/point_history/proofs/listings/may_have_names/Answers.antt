@@ -2,7 +2,7 @@ use Rattle.std.proofs.Common.{◌≡◌, take, reverse, refl, subst, sym, ◌∙
 use Rattle.std.specs.List.{All}
 use Rattle.std.proofs.lemmas.List.{take_all}
 use Rattle.std.proofs.lemmas.List.Elements.{All-more}
-use Rattle.history_entries.specs.Rules.{MayHaveName}
+use Rattle.history_rules.specs.Rules.{MayHaveName}
 use Rattle.point_history.proofs.listings.may_have_names.Goals as goal
 
 pub returns-then-not-may_have_name : goal.returns-then-not-may_have_name

@@ -1,7 +1,7 @@
 use Rattle.std.proofs.Common.{take}
 use Rattle.std.specs.Prelude.{reverse}
 use Rattle.std.specs.List.{All}
-use Rattle.history_entries.specs.Rules.{MayHaveName}
+use Rattle.history_rules.specs.Rules.{MayHaveName}
 use Rattle.point_history.proofs.listings.may_have_names.Given as goal
 
 abbrev pub invariant-loop-name : goal.invariant-loop-name

@@ -1,9 +1,9 @@
 use Rattle.std.proofs.Common.{List, reverse, take, subst, sym}
-use Rattle.history_entries.specs.declared.entry.Entry.{Entry}
-use Rattle.history_entries.specs.Nodes.{Past}
-use Rattle.history_entries.specs.Legal.{IsLegalPast}
+use Rattle.history_rules.specs.declared.entry.Entry.{Entry}
+use Rattle.history_rules.specs.Nodes.{Past}
+use Rattle.history_rules.specs.Legal.{IsLegalPast}
 use Rattle.point_history.specs.Walks.{KnowsPast}
-use Rattle.history_laws.proofs.PastLemmas.{past_next}
+use Rattle.history_rules.proofs.PastLemmas.{past_next}
 use Rattle.point_history.proofs.WalkLemmas.{made_ascend, is_started}
 use Rattle.point_history.proofs.published.points.Goals as goal
 

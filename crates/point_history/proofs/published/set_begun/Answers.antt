@@ -1,7 +1,7 @@
 use Rattle.std.proofs.Common.{ap, ◌∙◌, Bool, Option, Some, [], List, if◌then◌else◌, unwrap_or}
 use Rattle.std.specs.BTreeMap.{get}
 use Rattle.nrt_base.specs.declared.doc.Doc.{Doc}
-use Rattle.history_entries.specs.Lines.{same_at}
+use Rattle.history_rules.specs.Lines.{same_at}
 use Rattle.point_history.specs.Walks.{line_cmp}
 use Rattle.point_history.proofs.WalkLemmas.{is_eq-line_cmp, unwrap_or-if}
 use Rattle.point_history.proofs.published.set_begun.Goals as goal

@@ -1,6 +1,6 @@
 use Rattle.std.proofs.Common.{◌≡◌, take}
 use Rattle.std.specs.Prelude.{reverse}
-use Rattle.history_entries.specs.Rules.{has_disk_fault}
+use Rattle.history_rules.specs.Rules.{has_disk_fault}
 use Rattle.point_history.proofs.refusals.has_disk_fault.Given as goal
 
 abbrev pub invariant-loop-entry : goal.invariant-loop-entry

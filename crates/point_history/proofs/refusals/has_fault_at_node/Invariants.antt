@@ -1,7 +1,7 @@
 use Rattle.std.proofs.Common.{◌≡◌, take}
 use Rattle.std.specs.Prelude.{reverse}
-use Rattle.history_entries.specs.Faults.{same_kind, has_fault}
-use Rattle.history_entries.specs.Rules.{is_node_of}
+use Rattle.history_rules.specs.Faults.{same_kind, has_fault}
+use Rattle.history_rules.specs.Started.{is_node_of}
 use Rattle.point_history.proofs.refusals.has_fault_at_node.Given as goal
 
 abbrev pub invariant-loop-entry : goal.invariant-loop-entry

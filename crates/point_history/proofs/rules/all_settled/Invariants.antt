@@ -1,7 +1,7 @@
 use Rattle.std.proofs.Common.{ℕ, ◌≤◌}
 use Rattle.std.specs.Prelude.{reverse}
-use Rattle.history_entries.specs.Nodes.{IsReplica, version_of}
-use Rattle.history_entries.specs.Lines.{before_start, NodeSurvives}
+use Rattle.history_rules.specs.Nodes.{IsReplica, version_of}
+use Rattle.history_rules.specs.Lines.{before_start, NodeSurvives}
 use Rattle.point_history.proofs.rules.all_settled.Given as goal
 
 abbrev pub invariant-loop-below : goal.invariant-loop-below

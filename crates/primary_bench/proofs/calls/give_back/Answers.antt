@@ -1,6 +1,6 @@
 use Rattle.std.proofs.Common.{ap, sym, ◌∙◌, List, map}
 use Rattle.copy_state.specs.declared.state.CopyState.{CopyState}
-use Rattle.primary_parts.specs.States.{out_of}
+use Rattle.primary_state.specs.States.{out_of}
 use Rattle.primary_bench.proofs.Seeing.{first_back, seen_states}
 use Rattle.primary_bench.proofs.calls.give_back.Goals as goal
 

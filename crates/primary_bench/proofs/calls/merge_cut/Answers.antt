@@ -1,6 +1,6 @@
 use Rattle.std.proofs.Common.{Err, ap, sym}
 use Rattle.segment_infos.specs.declared.infos.Infos.{Infos}
-use Rattle.primary_parts.specs.declared.parts.Parts.{Parts}
+use Rattle.primary_state.specs.declared.parts.Parts.{Parts}
 use Rattle.primary_bench.proofs.Unmade.{filled_at, seen_cut}
 use Rattle.primary_bench.proofs.calls.merge_cut.Goals as goal
 

@@ -3,7 +3,7 @@ use Rattle.file_deleter.specs.Holdings.{Holdings}
 use Rattle.commit_steps.specs.declared.stage.CommitBook.{CommitBook}
 use Rattle.searcher_switch.specs.declared.open.Point.{Point}
 use Rattle.seg_reader.specs.Shown.{Shown}
-use Rattle.primary_parts.proofs.Callers.{empty_node, empty_held}
+use Rattle.primary_state.proofs.Callers.{empty_node, empty_held}
 use Rattle.primary_bench.proofs.Seeing.{no_names, empty_spelled}
 use Rattle.primary_bench.proofs.calls.start.Goals as goal
 

@@ -1,5 +1,5 @@
 use Rattle.std.proofs.Common.{sym}
-use Rattle.node_files.proofs.Appearing.{keeps_none}
+use Rattle.searcher_switch.proofs.Appearing.{keeps_none}
 use Rattle.primary_merges.proofs.Abandoned.{names_counted, primary_abandons, abandon_draws, abandon_no_new}
 use Rattle.primary_merges.proofs.finding.abandon.Goals as goal
 

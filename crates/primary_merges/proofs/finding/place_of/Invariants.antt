@@ -1,5 +1,5 @@
 use Rattle.std.proofs.Common.{◌≡◌, ◌+◌, ◌-◌, length, drop}
-use Rattle.primary_parts.specs.Merges.{merge_place}
+use Rattle.primary_state.specs.Merges.{merge_place}
 use Rattle.primary_merges.proofs.finding.place_of.Given as goal
 
 abbrev pub invariant-loop-i : goal.invariant-loop-i

@@ -1,10 +1,10 @@
 use Rattle.std.proofs.Common.{List, ap, refl, sym, subst, ◌∙◌, is_some}
 use Rattle.disk_model.specs.Disk.{reads_of}
-use Rattle.node_files.proofs.Appearing.{keeps_none, only_then_none}
-use Rattle.primary_parts.specs.declared.states.Out.{Out}
-use Rattle.primary_parts.specs.Held.{IsOwnFile}
-use Rattle.primary_parts.specs.Primary.{loose_of, IsPrimary}
-use Rattle.primary_parts.proofs.NewFiles.{same_no_new}
+use Rattle.searcher_switch.proofs.Appearing.{keeps_none, only_then_none}
+use Rattle.primary_state.specs.declared.states.Out.{Out}
+use Rattle.primary_state.specs.Held.{IsOwnFile}
+use Rattle.primary_state.specs.Primary.{loose_of, IsPrimary}
+use Rattle.primary_state.proofs.NewFiles.{same_no_new}
 use Rattle.primary_merges.proofs.Abandoned.{refused_no_new, refused_fills, refused_stays}
 use Rattle.primary_merges.proofs.Readied.{fresh, once, ready_appears, ready_unwritten, written_there, written_counted, unheld_counts, unheld_stays, ready_unheld, primary_ready, ready_draws, ready_fills, ready_stays}
 use Rattle.primary_merges.proofs.readying.merge_ready.Goals as goal

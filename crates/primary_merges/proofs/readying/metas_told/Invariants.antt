@@ -2,8 +2,8 @@ use Rattle.std.proofs.Common.{◌≡◌, Some, take}
 use Rattle.std.specs.List.{All}
 use Rattle.disk_model.specs.Disk.{Name, Content}
 use Rattle.copy_state.specs.States.{meta_names}
-use Rattle.primary_parts.specs.States.{IsMetaIn}
-use Rattle.primary_parts.specs.Written.{names_of}
+use Rattle.primary_state.specs.States.{IsMetaIn}
+use Rattle.primary_state.specs.Written.{names_of}
 use Rattle.primary_merges.proofs.readying.metas_told.Given as goal
 
 abbrev pub invariant-loop-file : goal.invariant-loop-file

@@ -1,5 +1,5 @@
 use Rattle.std.proofs.Common.{rules, ◌≡◌, None, sym}
-use Rattle.primary_parts.specs.declared.states.Merging.{Merging}
+use Rattle.primary_state.specs.declared.states.Merging.{Merging}
 use Rattle.seg_merge.specs.Merging.{IsMergedOf}
 use Rattle.primary_merges.proofs.Making.{so_at, state_ready_of}
 use Rattle.primary_merges.proofs.MergedFiles.{merged_framed, merged_short}

@@ -1,5 +1,5 @@
 use Rattle.std.proofs.Common.{◌<◌, ◌∙◌, ℕ, List, Some, length, get_or, slice_set, sym, ap, subst}
-use Rattle.primary_parts.specs.declared.states.Merging.{Merging}
+use Rattle.primary_state.specs.declared.states.Merging.{Merging}
 use Rattle.primary_merges.proofs.Making.{place_within, made_at}
 use Rattle.primary_merges.proofs.readying.set_made.Goals as goal
 

@@ -1,6 +1,7 @@
 use Rattle.std.proofs.Common.{ℕ, Option, subst, arith}
 use Rattle.query_eval.specs.Advance.{FindsRow}
 use Rattle.query_eval.specs.Cursor.{answers}
+use Rattle.query_eval.proofs.BestLemmas.{no_bar}
 use Rattle.query_eval.proofs.SearchLemmas.{search_start, search_step, search_beyond, search_none}
 use Rattle.query_eval.proofs.search.search.Goals as goal
 use Rattle.query_eval.proofs.search.search.Goals.{in-Some+then-found-rows, in_default}
@@ -9,6 +10,7 @@ pub loop-found-init : goal.loop-found-init
 loop-found-init c = (
   c.rows-rows.ensures.docs,
   search_start c.args.query.now c.args.seg.now c.args.best.now c.in_ok-cursor.cursor c.new-ranker.result c.cursor_of.new.ranker c.in_ok-cursor.ensures.answers c.in_ok-cursor.ensures.ranks c.new-ranker.ensures,
+  no_bar c.args.seg.now.docs c.places-places.result.now c.new-bar.result c.args.best.now.hits c.new-bar.ensures,
 )
 
 pub loop-found-preserved : goal.loop-found-preserved
@@ -16,6 +18,7 @@ loop-found-preserved c = (
   c.loop-found.invariant.0,
   search_step c.args.query.now c.args.seg.now c.args.best.now c.loop-found.best c.count_row.new.best c.loop-found.cursor c.advance.new.cursor c.loop-found.ranker c.count_row.new.ranker
       c.loop-found.row c.in-Some.found c.requires.well_formed c.rows-rows.ensures.texts c.loop-found.invariant.1 c.in-Some.ensures.found (omega arith) c.in_ok-count_row.ensures.counts c.in_ok-count_row.ensures.keeps,
+  c.in_ok-count_row.ensures.bar,
 )
 
 pub returns : goal.returns

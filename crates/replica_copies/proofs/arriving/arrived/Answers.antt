@@ -1,17 +1,16 @@
 use Rattle.std.proofs.Common.{◌≡◌, sym, subst, Option, Some}
 use Rattle.std.specs.Prelude.{IfSome}
 use Rattle.copy_state.specs.States.{meta_in}
-use Rattle.replica_parts.specs.declared.job.PointJob.{PointJob}
+use Rattle.replica_state.specs.declared.job.PointJob.{PointJob}
 use Rattle.replica_copies.proofs.Arrivals.{free_j}
-use Rattle.replica_parts.proofs.Beside.{standing_jobs}
-use Rattle.replica_parts.proofs.Foreign.{beside_foreign}
-use Rattle.replica_parts.proofs.Keeping.{core_of}
-use Rattle.replica_copies.proofs.Taken.{arrived_core, arrived_whole, arrived_sourced, arrived_held, out_core, out_whole, out_sourced, out_held}
-use Rattle.replica_parts.proofs.Appears.{part_appears}
+use Rattle.replica_state.proofs.Beside.{standing_jobs}
+use Rattle.replica_state.proofs.Keeping.{core_of}
+use Rattle.replica_copies.proofs.Taken.{few_job, foreign_job, arrived_core, arrived_whole, arrived_sourced, arrived_held, out_core, out_whole, out_sourced, out_held}
+use Rattle.replica_state.proofs.Appears.{part_appears}
 use Rattle.replica_copies.proofs.arriving.arrived.Goals as goal
 
 pub arrived-requires-clause-free : goal.arrived-requires-clause-free
-arrived-requires-clause-free g c = free_j g.D.Dir.cells c.args.parts.now (core_of g.D.Dir.cells c.args.parts.now c.requires.whole) c.in-Some.field-0 (sym c.in-Some.ensures.value) (beside_foreign g.D.Dir.cells c.args.parts.now c.requires.whole c.in-Some.field-0 (sym c.in-Some.ensures.value)) c.args.part.name c.requires.missing
+arrived-requires-clause-free g c = free_j g.D.Dir.cells c.args.parts.now (core_of g.D.Dir.cells c.args.parts.now c.requires.whole) c.in-Some.field-0 (sym c.in-Some.ensures.value) (few_job g.D.Dir.cells c.args.parts.now c.requires.whole c.in-Some.field-0 (sym c.in-Some.ensures.value)) (foreign_job g.D.Dir.cells c.args.parts.now c.requires.whole c.in-Some.field-0 (sym c.in-Some.ensures.value)) c.args.part.name c.requires.missing
 
 pub returns-in-Ok-clause-whole : goal.returns-in-Ok-clause-whole
 returns-in-Ok-clause-whole g c =
@@ -26,13 +25,13 @@ returns-in-Err-clause-whole g c =
 
 pub returns-in-Ok-clause-standing : goal.returns-in-Ok-clause-standing
 returns-in-Ok-clause-standing g c =
-    standing_jobs g.D.Dir.cells c.args.parts.now (core_of g.D.Dir.cells c.args.parts.now c.requires.whole) c.arrived.new.dir c.arrived.new.files (Some (record { copy = c.arrived.new.self; infos = c.in-Some.field-0.infos })) c.args.parts.now.known
+    standing_jobs g.D.Dir.cells c.args.parts.now (core_of g.D.Dir.cells c.args.parts.now c.requires.whole) c.arrived.new.dir c.arrived.new.files (Some (record { copy = c.arrived.new.self; infos = c.in-Some.field-0.infos; stopped = c.in-Some.field-0.stopped })) c.args.parts.now.known
     (arrived_core g.D.Dir.cells c.args.parts.now c.requires.whole c.in-Some.field-0 (sym c.in-Some.ensures.value) c.args.part.name c.requires.missing c.arrived.new.dir c.arrived.new.files c.arrived.new.self
     c.in-Ok.ensures.moves c.told.ensures c.in-Ok.ensures.ok) c.in-Ok.ensures.moves.keeps.reads
 
 pub returns-in-Err-clause-standing : goal.returns-in-Err-clause-standing
 returns-in-Err-clause-standing g c =
-    standing_jobs g.D.Dir.cells c.args.parts.now (core_of g.D.Dir.cells c.args.parts.now c.requires.whole) c.arrived.new.dir c.arrived.new.files (Some (record { copy = c.arrived.new.self; infos = c.in-Some.field-0.infos })) c.args.parts.now.known
+    standing_jobs g.D.Dir.cells c.args.parts.now (core_of g.D.Dir.cells c.args.parts.now c.requires.whole) c.arrived.new.dir c.arrived.new.files (Some (record { copy = c.arrived.new.self; infos = c.in-Some.field-0.infos; stopped = c.in-Some.field-0.stopped })) c.args.parts.now.known
     (out_core g.D.Dir.cells c.args.parts.now c.requires.whole c.in-Some.field-0 (sym c.in-Some.ensures.value) c.args.part.name c.requires.missing c.arrived.new.dir c.arrived.new.files c.arrived.new.self
     c.in-Err.ensures.moves c.told-in-Err.ensures c.in-Err.ensures.err) c.in-Err.ensures.moves.keeps.reads
 

@@ -2,7 +2,7 @@ use Rattle.std.proofs.Common.{◌≡◌, ◌<◌, ◌∙◌, sym, Some}
 use Rattle.file_names.specs.Names.{temp_name_of}
 use Rattle.file_deleter.specs.Holdings.{times}
 use Rattle.copy_state.specs.States.{meta_in}
-use Rattle.replica_parts.specs.Merges.{copy_at}
+use Rattle.replica_state.specs.Merges.{copy_at}
 use Rattle.replica_node.proofs.Numbered.{point_number, point_some, point_all, copy_all, copy_some, point_named, point_ok, point_err, copy_ok, copy_err}
 use Rattle.replica_node.proofs.jobs.arrive.Goals as goal
 

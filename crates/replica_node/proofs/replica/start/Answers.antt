@@ -1,5 +1,5 @@
 use Rattle.disk_model.specs.Disk.{reads_of}
-use Rattle.replica_parts.proofs.Documents.{readers_search, stands_back}
+use Rattle.replica_state.proofs.Documents.{readers_search, stands_back}
 use Rattle.replica_node.proofs.Started.{book_stands, file_opened, whole_opened, sourced_opened, its_opened, none_opened}
 use Rattle.replica_node.proofs.replica.start.Goals as goal
 

@@ -1,7 +1,7 @@
 use Rattle.std.proofs.Common.{subst, sym, ap, ◌∙◌}
 use Rattle.disk_model.specs.Disk.{Cells, reads_of}
 use Rattle.commit_steps.specs.declared.stage.CommitBook.{CommitBook}
-use Rattle.replica_parts.specs.Sources.{IsSourced}
+use Rattle.replica_state.specs.Sources.{IsSourced}
 use Rattle.replica_tests.proofs.Running.{just_sourced}
 use Rattle.replica_tests.proofs.finishing.copy_files.Goals as goal
 

@@ -13,15 +13,15 @@ returns-clause-sourced g c =
     on_ok c.match-arrived.result _ (λ was. c.arrived.ensures.sourced reads there was)
 
 pub arrived-requires-clause-runs : goal.arrived-requires-clause-runs
-arrived-requires-clause-runs g c = some_runs c.args.replica.now c.number-number.result c.in-Some.job.now (seen_runs c.args.replica.now c.number-number.result c.in-Some.job.now (λ j e n. let law = c.point_runs.ensures c.number-number.result c.args.replica.now j e n in (law.0, law.1)) (sym c.in-Some.ensures.some) c.in-Some.ensures.job c.number-number.ensures)
+arrived-requires-clause-runs g c = some_runs c.args.replica.now c.number-number.result c.in-Some.job.now (seen_runs c.args.replica.now c.number-number.result c.in-Some.job.now (λ j e going n. let law = c.point_runs.ensures c.number-number.result c.args.replica.now j e going n in (law.0, law.1)) c.in-Some.ensures c.number-number.ensures)
 
 pub arrived-requires-clause-missing : goal.arrived-requires-clause-missing
-arrived-requires-clause-missing g c = of_running (λ j. 0 < times j.missing c.in_ok-part.part.name) c.args.replica.now c.number-number.result c.in-Some.job.now (seen_runs c.args.replica.now c.number-number.result c.in-Some.job.now (λ j e n. let law = c.point_runs.ensures c.number-number.result c.args.replica.now j e n in (law.0, law.1)) (sym c.in-Some.ensures.some) c.in-Some.ensures.job c.number-number.ensures) c.in_ok-part.ensures.due.missing
+arrived-requires-clause-missing g c = of_running (λ j. 0 < times j.missing c.in_ok-part.part.name) c.args.replica.now c.number-number.result c.in-Some.job.now (seen_runs c.args.replica.now c.number-number.result c.in-Some.job.now (λ j e going n. let law = c.point_runs.ensures c.number-number.result c.args.replica.now j e going n in (law.0, law.1)) c.in-Some.ensures c.number-number.ensures) c.in_ok-part.ensures.due.missing
 
 pub arrived-requires-clause-wanted : goal.arrived-requires-clause-wanted
-arrived-requires-clause-wanted g c = of_running (λ j. meta_in j.want.files c.in_ok-part.part.name ≡ Some c.in_ok-part.part.meta) c.args.replica.now c.number-number.result c.in-Some.job.now (seen_runs c.args.replica.now c.number-number.result c.in-Some.job.now (λ j e n. let law = c.point_runs.ensures c.number-number.result c.args.replica.now j e n in (law.0, law.1)) (sym c.in-Some.ensures.some) c.in-Some.ensures.job c.number-number.ensures) c.in_ok-part.ensures.due.wanted
+arrived-requires-clause-wanted g c = of_running (λ j. meta_in j.want.files c.in_ok-part.part.name ≡ Some c.in_ok-part.part.meta) c.args.replica.now c.number-number.result c.in-Some.job.now (seen_runs c.args.replica.now c.number-number.result c.in-Some.job.now (λ j e going n. let law = c.point_runs.ensures c.number-number.result c.args.replica.now j e going n in (law.0, law.1)) c.in-Some.ensures c.number-number.ensures) c.in_ok-part.ensures.due.wanted
 
 pub returns-clause-commits : goal.returns-clause-commits
-returns-clause-commits g c = on_ok c.match-arrived.result _ (arrival_keeps (λ p. p.commits) c.args.replica.now c.arrived.new.self c.number-number.result c.in_ok-part.part.name c.in-Some.job.now (seen_runs c.args.replica.now c.number-number.result c.in-Some.job.now (λ j e n. let law = c.point_runs.ensures c.number-number.result c.args.replica.now j e n in (law.0, law.1)) (sym c.in-Some.ensures.some) c.in-Some.ensures.job c.number-number.ensures)
-    (seen_commits c.args.replica.now c.number-number.result c.in-Some.job.now (λ j e n. let law = c.point_runs.ensures c.number-number.result c.args.replica.now j e n in (law.0, law.1)) (sym c.in-Some.ensures.some) c.in-Some.ensures.job c.number-number.ensures _)
+returns-clause-commits g c = on_ok c.match-arrived.result _ (arrival_keeps (λ p. p.commits) c.args.replica.now c.arrived.new.self c.number-number.result c.in_ok-part.part.name c.in-Some.job.now (seen_runs c.args.replica.now c.number-number.result c.in-Some.job.now (λ j e going n. let law = c.point_runs.ensures c.number-number.result c.args.replica.now j e going n in (law.0, law.1)) c.in-Some.ensures c.number-number.ensures)
+    (seen_commits c.args.replica.now c.number-number.result c.in-Some.job.now (λ j e going n. let law = c.point_runs.ensures c.number-number.result c.args.replica.now j e going n in (law.0, law.1)) c.in-Some.ensures c.number-number.ensures _)
     refl c.arrived.result c.arrived.ensures.ok c.arrived.ensures.err)

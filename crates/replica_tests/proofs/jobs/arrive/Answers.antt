@@ -5,10 +5,10 @@ use Rattle.replica_tests.proofs.Running.{seen_runs, of_running, some_runs}
 use Rattle.replica_tests.proofs.jobs.arrive.Goals as goal
 
 pub arrived-requires-clause-runs : goal.arrived-requires-clause-runs
-arrived-requires-clause-runs g c = some_runs c.args.replica.now c.number-number.result c.in-Some.job.now (seen_runs c.args.replica.now c.number-number.result c.in-Some.job.now (λ j e n. let law = c.point_runs.ensures c.number-number.result c.args.replica.now j e n in (law.0, law.1)) (sym c.in-Some.ensures.some) c.in-Some.ensures.job c.number-number.ensures)
+arrived-requires-clause-runs g c = some_runs c.args.replica.now c.number-number.result c.in-Some.job.now (seen_runs c.args.replica.now c.number-number.result c.in-Some.job.now (λ j e going n. let law = c.point_runs.ensures c.number-number.result c.args.replica.now j e going n in (law.0, law.1)) c.in-Some.ensures c.number-number.ensures)
 
 pub arrived-requires-clause-missing : goal.arrived-requires-clause-missing
-arrived-requires-clause-missing g c = of_running (λ j. 0 < times j.missing c.in_ok-part.part.name) c.args.replica.now c.number-number.result c.in-Some.job.now (seen_runs c.args.replica.now c.number-number.result c.in-Some.job.now (λ j e n. let law = c.point_runs.ensures c.number-number.result c.args.replica.now j e n in (law.0, law.1)) (sym c.in-Some.ensures.some) c.in-Some.ensures.job c.number-number.ensures) c.in_ok-part.ensures.due.missing
+arrived-requires-clause-missing g c = of_running (λ j. 0 < times j.missing c.in_ok-part.part.name) c.args.replica.now c.number-number.result c.in-Some.job.now (seen_runs c.args.replica.now c.number-number.result c.in-Some.job.now (λ j e going n. let law = c.point_runs.ensures c.number-number.result c.args.replica.now j e going n in (law.0, law.1)) c.in-Some.ensures c.number-number.ensures) c.in_ok-part.ensures.due.missing
 
 pub arrived-requires-clause-wanted : goal.arrived-requires-clause-wanted
-arrived-requires-clause-wanted g c = of_running (λ j. meta_in j.want.files c.in_ok-part.part.name ≡ Some c.in_ok-part.part.meta) c.args.replica.now c.number-number.result c.in-Some.job.now (seen_runs c.args.replica.now c.number-number.result c.in-Some.job.now (λ j e n. let law = c.point_runs.ensures c.number-number.result c.args.replica.now j e n in (law.0, law.1)) (sym c.in-Some.ensures.some) c.in-Some.ensures.job c.number-number.ensures) c.in_ok-part.ensures.due.wanted
+arrived-requires-clause-wanted g c = of_running (λ j. meta_in j.want.files c.in_ok-part.part.name ≡ Some c.in_ok-part.part.meta) c.args.replica.now c.number-number.result c.in-Some.job.now (seen_runs c.args.replica.now c.number-number.result c.in-Some.job.now (λ j e going n. let law = c.point_runs.ensures c.number-number.result c.args.replica.now j e going n in (law.0, law.1)) c.in-Some.ensures c.number-number.ensures) c.in_ok-part.ensures.due.wanted

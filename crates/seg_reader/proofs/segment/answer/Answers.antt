@@ -18,7 +18,8 @@ returns-in_err-compare_numbers c =
 pub invariant_of-result : goal.invariant_of-result
 invariant_of-result c =
     let e = all_agree c.args.record.now c.in_ok-contents.contents c.in_ok-compare_numbers.ensures in
-    kept c.args.parts c.args.record.now c.in_ok-contents.contents c.in_ok-live.live c.in_ok-contents.ensures e c.in_ok-live.ensures
+    let own = kept c.args.parts c.args.record.now c.in_ok-contents.contents c.in_ok-live.live c.in_ok-contents.ensures e c.in_ok-live.ensures in
+    (own.0, own.1, c.in_ok-places.ensures.rows, c.in_ok-places.ensures.order)
 
 pub returns : goal.returns
 returns c =

@@ -1,10 +1,10 @@
 use Rattle.std.proofs.Common.{refl}
 use Rattle.std.proofs.lemmas.Result.{on_ok_weaker}
-use Rattle.history_entries.specs.Nodes.{Past}
-use Rattle.history_entries.specs.Lines.{last_of_line}
-use Rattle.line_turns.specs.Calls.{ScansAt}
+use Rattle.history_rules.specs.Nodes.{Past}
+use Rattle.history_rules.specs.Lines.{last_of_line}
+use Rattle.cluster_state.specs.Calls.{ScansAt}
 use Rattle.cluster_core.specs.Doing.{AsksFor}
-use Rattle.line_turns.proofs.Rows.{turns_at}
+use Rattle.cluster_state.proofs.Rows.{turns_at}
 use Rattle.cluster_core.proofs.Does.{answer_does, does_was, past_in}
 use Rattle.cluster_core.proofs.cluster.Cluster.answer_end.Goals as goal
 

@@ -1,11 +1,11 @@
 use Rattle.std.proofs.Common.{subst}
 use Rattle.std.proofs.lemmas.Result.{IfOk-weaker}
-use Rattle.history_entries.specs.Tickets.{open_ticket}
+use Rattle.history_rules.specs.Tickets.{open_ticket}
 use Rattle.history_book.specs.Log.{printed}
 use Rattle.cluster_state.specs.Run.{Run}
 use Rattle.cluster_core.specs.Doing.{IsBegunAtWork}
-use Rattle.line_turns.specs.Calls.{asked_event}
-use Rattle.line_turns.proofs.Rows.{fresh_in}
+use Rattle.cluster_state.specs.Calls.{asked_event}
+use Rattle.cluster_state.proofs.Rows.{fresh_in}
 use Rattle.cluster_core.proofs.Does.{ask_does, ask_begun, does_was}
 use Rattle.cluster_core.proofs.cluster.Cluster.ask_start.Goals as goal
 

@@ -1,5 +1,5 @@
 use Rattle.std.proofs.lemmas.Result.{IfOk-weaker}
-use Rattle.line_turns.proofs.Rows.{fresh_in}
+use Rattle.cluster_state.proofs.Rows.{fresh_in}
 use Rattle.cluster_core.proofs.Does.{does_was, runs_in}
 use Rattle.cluster_core.proofs.LifeDoes.{commit_does, commit_begun}
 use Rattle.cluster_core.proofs.cluster.Cluster.commit_start.Goals as goal

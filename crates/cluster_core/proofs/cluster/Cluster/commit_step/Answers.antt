@@ -1,9 +1,9 @@
 use Rattle.std.proofs.Common.{◌≡◌, Some}
 use Rattle.std.proofs.lemmas.Result.{IfOk-weaker}
-use Rattle.history_entries.specs.declared.entry.Event.TheVariants.{Committing}
-use Rattle.history_entries.specs.Nodes.{Past}
-use Rattle.history_entries.specs.Lines.{last_of_line}
-use Rattle.line_turns.proofs.Rows.{turns_at}
+use Rattle.history_rules.specs.declared.entry.Event.TheVariants.{Committing}
+use Rattle.history_rules.specs.Nodes.{Past}
+use Rattle.history_rules.specs.Lines.{last_of_line}
+use Rattle.cluster_state.proofs.Rows.{turns_at}
 use Rattle.cluster_core.proofs.Does.{does_was, past_in}
 use Rattle.cluster_core.proofs.LifeDoes.{step_does}
 use Rattle.cluster_core.proofs.cluster.Cluster.commit_step.Goals as goal

@@ -1,6 +1,6 @@
 use Rattle.std.proofs.Common.{refl}
-use Rattle.line_turns.proofs.Rows.{legal_at, turns_at}
-use Rattle.line_copies.proofs.CopyRows.{job_found}
+use Rattle.cluster_state.proofs.Rows.{legal_at, turns_at}
+use Rattle.cluster_copies.proofs.CopyRows.{job_found}
 use Rattle.cluster_core.proofs.CopyDoes.{next_done}
 use Rattle.cluster_core.proofs.SettleStays.{next_settles}
 use Rattle.cluster_core.proofs.cluster.Cluster.copy_next.Goals as goal

@@ -1,7 +1,7 @@
 use Rattle.std.proofs.Common.{◌≤◌, sym, subst}
 use Rattle.std.proofs.lemmas.Result.{IfOk-weaker}
-use Rattle.cluster_tasks.specs.TaskLog.{counted_for}
-use Rattle.line_turns.proofs.Rows.{fresh_in}
+use Rattle.history_book.specs.Told.{counted_for}
+use Rattle.cluster_state.proofs.Rows.{fresh_in}
 use Rattle.cluster_state.specs.Run.{Run}
 use Rattle.cluster_core.proofs.Does.{does_was}
 use Rattle.cluster_core.proofs.MergeDoes.{drain_does, drain_replied}

@@ -1,5 +1,5 @@
 use Rattle.std.proofs.lemmas.Result.{on_ok_weaker}
-use Rattle.line_turns.proofs.Rows.{fresh_in}
+use Rattle.cluster_state.proofs.Rows.{fresh_in}
 use Rattle.cluster_core.proofs.Does.{files_does, files_replied, does_was}
 use Rattle.cluster_core.proofs.cluster.Cluster.files.Goals as goal
 

@@ -1,5 +1,5 @@
 use Rattle.std.proofs.lemmas.Result.{on_ok_weaker}
-use Rattle.line_turns.proofs.Rows.{fresh_in}
+use Rattle.cluster_state.proofs.Rows.{fresh_in}
 use Rattle.cluster_core.proofs.Does.{does_was}
 use Rattle.cluster_core.proofs.MergeDoes.{merge_does, merge_replied}
 use Rattle.cluster_core.proofs.cluster.Cluster.merge_start.Goals as goal

@@ -1,5 +1,5 @@
 use Rattle.std.proofs.lemmas.Result.{IfOk-weaker}
-use Rattle.line_turns.proofs.Rows.{fresh_in}
+use Rattle.cluster_state.proofs.Rows.{fresh_in}
 use Rattle.cluster_core.proofs.Does.{publish_does, publish_begun, does_was, runs_in}
 use Rattle.cluster_core.proofs.cluster.Cluster.publish_start.Goals as goal
 

@@ -1,5 +1,5 @@
 use Rattle.std.proofs.lemmas.Result.{IfOk-weaker}
-use Rattle.line_turns.proofs.Rows.{fresh_in}
+use Rattle.cluster_state.proofs.Rows.{fresh_in}
 use Rattle.cluster_core.proofs.Does.{search_does, search_begun, does_was}
 use Rattle.cluster_core.proofs.cluster.Cluster.search_start.Goals as goal
 

@@ -1,5 +1,5 @@
 use Rattle.std.proofs.Common.{refl}
-use Rattle.line_turns.proofs.Rows.{legal_at, turns_at}
+use Rattle.cluster_state.proofs.Rows.{legal_at, turns_at}
 use Rattle.cluster_core.proofs.CopyDoes.{settle_done}
 use Rattle.cluster_core.proofs.cluster.Cluster.settle_next.Goals as goal
 

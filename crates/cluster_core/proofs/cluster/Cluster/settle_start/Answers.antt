@@ -1,11 +1,11 @@
 use Rattle.std.proofs.Common.{subst}
 use Rattle.std.proofs.lemmas.Result.{IfOk-weaker}
-use Rattle.history_entries.specs.declared.entry.Event.TheVariants.{Settling}
+use Rattle.history_rules.specs.declared.entry.Event.TheVariants.{Settling}
 use Rattle.history_book.specs.Log.{printed}
 use Rattle.cluster_state.specs.Run.{Run}
 use Rattle.cluster_state.specs.Copies.{newest_of}
 use Rattle.cluster_core.specs.Doing.{IsBegunAtWork}
-use Rattle.line_turns.proofs.Rows.{fresh_in}
+use Rattle.cluster_state.proofs.Rows.{fresh_in}
 use Rattle.cluster_core.proofs.Does.{does_was}
 use Rattle.cluster_core.proofs.CopyDoes.{settle_does, settle_begun}
 use Rattle.cluster_core.proofs.cluster.Cluster.settle_start.Goals as goal

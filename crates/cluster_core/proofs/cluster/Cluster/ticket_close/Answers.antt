@@ -1,6 +1,6 @@
 use Rattle.std.proofs.Common.{refl}
 use Rattle.std.proofs.lemmas.Result.{on_ok_weaker}
-use Rattle.line_turns.proofs.Rows.{fresh_in}
+use Rattle.cluster_state.proofs.Rows.{fresh_in}
 use Rattle.cluster_core.proofs.Does.{close_does, does_was}
 use Rattle.cluster_core.proofs.cluster.Cluster.ticket_close.Goals as goal
 

@@ -1,5 +1,5 @@
 use Rattle.std.proofs.Common.{refl}
-use Rattle.lane_walks.proofs.WalkLemmas.{faults_without_log}
+use Rattle.lane_threads.proofs.WalkLemmas.{faults_without_log}
 use Rattle.cluster_core.proofs.shared.ClusterLaneRun.has_ended.Goals as goal
 
 pub returns-clause-faults : goal.returns-clause-faults

@@ -1,6 +1,6 @@
 use Rattle.std.proofs.Common.{ap}
 use Rattle.cluster_state.specs.Run.{Run}
-use Rattle.cluster_state.proofs.Frames.{noted, rule_at}
+use Rattle.cluster_state.proofs.Frames.{noted, rule_at, told_at}
 use Rattle.cluster_state.proofs.FileFrames.{files_noted}
 use Rattle.cluster_state.proofs.Ledgers.{still_apart, still_reigns}
 use Rattle.cluster_state.proofs.MergingStill.{stand_shown, all_keep}
@@ -23,6 +23,9 @@ invariant_of-self-2 g c = λ running. (
 pub show-requires-clause-rule : goal.show-requires-clause-rule
 show-requires-clause-rule g c = rule_at c.args.self.now _ c.self.inside.ledger c.reserve.new.self c.args.at c.args.event c.self.view_is c.in_ok-reserve.ensures.log c.in_ok-reserve.ensures.nodes c.requires.rule
 
+pub show-requires-clause-told : goal.show-requires-clause-told
+show-requires-clause-told g c = told_at c.args.self.now _ c.self.inside.ledger c.reserve.new.self c.args.at c.args.event c.self.view_is c.in_ok-reserve.ensures.log c.requires.told
+
 pub show-requires-clause-apart : goal.show-requires-clause-apart
 show-requires-clause-apart g c = still_apart c.args.event c.requires.still
 
@@ -31,3 +34,6 @@ show-requires-clause-reigns g c = still_reigns c.args.event _ c.requires.still
 
 pub returns-clause-tasks : goal.returns-clause-tasks
 returns-clause-tasks g c = ap (λ (r : Run). r.rest.tasks) c.self.view_is
+
+pub returns-clause-jobs : goal.returns-clause-jobs
+returns-clause-jobs g c = ap (λ (r : Run). r.rest.jobs) c.self.view_is

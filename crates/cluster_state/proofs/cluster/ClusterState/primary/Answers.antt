@@ -1,6 +1,6 @@
 use Rattle.cluster_state.proofs.BookLaws.{primary_is_node}
 use Rattle.cluster_state.proofs.Ledgers.{legal_of, told_of}
-use Rattle.history_entries.specs.Nodes.{primary_of}
+use Rattle.history_rules.specs.Nodes.{primary_of}
 use Rattle.std.proofs.Common.{ap, ◌∙◌}
 use Rattle.cluster_state.specs.Run.{Run}
 use Rattle.history_book.specs.Log.{printed}

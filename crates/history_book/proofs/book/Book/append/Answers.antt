@@ -1,6 +1,6 @@
-use Rattle.std.proofs.Common.{◌≡◌, ◌∙◌, ◌+◌, ◌++◌, ◌∷◌, [], ℕ, sym, subst, ap, rules, true, length, Bool, length-append, reverse}
-use Rattle.history_entries.specs.declared.entry.Entry.{Entry}
-use Rattle.history_entries.specs.Legal.{KeepsRule}
+use Rattle.std.proofs.Common.{◌≡◌, ◌∙◌, ◌+◌, ◌++◌, ◌∷◌, [], ℕ, sym, subst, ap, rules, true, false, length, Bool, length-append, reverse}
+use Rattle.history_rules.specs.declared.entry.Entry.{Entry}
+use Rattle.history_rules.specs.Legal.{KeepsRule}
 use Rattle.history_tables.specs.Numbering.{IsFound}
 use Rattle.history_tables.specs.WorkRows.{IsCommitter}
 use Rattle.history_tables.specs.Openings.{IsLife}
@@ -8,8 +8,10 @@ use Rattle.history_book.specs.declared.inner.Stop.{Stop}
 use Rattle.history_book.specs.Log.{Log, Pages, FollowsMerging, printed, weave, mark_for, stop_for}
 use Rattle.history_book.specs.Turns.{InTurn, StartsOnce}
 use Rattle.history_book.specs.Tells.{Tells}
+use Rattle.history_book.specs.Told.{IsSo}
 use Rattle.history_book.proofs.LineLaws.{open_none}
 use Rattle.history_book.proofs.BookLemmas.{told, tells_next, woven, woven_next, log_tells, holds_shown, rows_low}
+use Rattle.history_book.proofs.ToldLaws.{told_shown}
 use Rattle.history_book.proofs.book.Book.append.Goals as goal
 
 pub step-requires-clause-fresh : goal.step-requires-clause-fresh
@@ -49,6 +51,8 @@ invariant_of-self c =
           c.step-2.ensures
           (subst (λ (p : Pages). IsLife c.args.event (printed p.log) c.life-life.result) (sym c.self.view_is) c.life-life.ensures))),
       holds_shown c.args.by_task entry c.self.inside.nodes old _ _ _ (woven c.args.by_task _ _ _ _ entry stopped c.push_reserved.ensures.items) c.self.invariant.2,
+      told_shown c.args.by_task entry old _ (woven c.args.by_task _ _ _ _ entry stopped c.push_reserved.ensures.items)
+          (subst (λ (p : Pages). c.args.by_task ≡ false → IsSo p.log c.args.at c.args.event) (sym c.self.view_is) c.requires.told) c.self.invariant.3,
     )
 
 pub returns-clause-log : goal.returns-clause-log

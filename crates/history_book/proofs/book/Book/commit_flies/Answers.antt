@@ -1,6 +1,6 @@
 use Rattle.history_book.proofs.BookLemmas.{told}
 use Rattle.std.proofs.Common.{refl}
-use Rattle.history_entries.specs.declared.entry.Event.TheVariants.{Committing}
+use Rattle.history_rules.specs.declared.entry.Event.TheVariants.{Committing}
 use Rattle.history_book.specs.Log.{printed}
 use Rattle.history_book.proofs.OpenLaws.{commit_open, last_started}
 use Rattle.history_book.proofs.book.Book.commit_flies.Goals as goal

@@ -1,5 +1,5 @@
 use Rattle.std.proofs.Common.{refl}
-use Rattle.history_entries.specs.declared.entry.Event.TheVariants.{Copying}
+use Rattle.history_rules.specs.declared.entry.Event.TheVariants.{Copying}
 use Rattle.history_book.specs.Log.{printed}
 use Rattle.history_book.proofs.OpenLaws.{last_started}
 use Rattle.history_book.proofs.book.Book.copy_started.Goals as goal

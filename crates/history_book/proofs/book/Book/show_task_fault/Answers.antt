@@ -12,3 +12,6 @@ append-requires-clause-turn c = record { once = tt; flight = tt }
 
 pub append-requires-clause-merge : goal.append-requires-clause-merge
 append-requires-clause-merge c = λ task. c.requires.merge
+
+pub append-requires-clause-told : goal.append-requires-clause-told
+append-requires-clause-told c = λ shown. absurd (true≢false shown)

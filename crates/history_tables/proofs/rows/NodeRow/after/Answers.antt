@@ -3,7 +3,7 @@ use Rattle.history_tables.proofs.rows.NodeRow.after.Goals as goal
 pub returns : goal.returns
 returns c = λ past told was.
     let s = c.after-state.ensures past told.count told.source (record { running = was.running; crashes = was.crashes; crashed = was.crashed; version = was.version; committing = was.committing; low = was.low }) in
-    let w = c.after-work.ensures past told.source (told.newest c.args.n) told.commit (record { stuck = was.stuck; committed = was.committed; highest = was.highest; copying = was.copying }) in
+    let w = c.after-work.ensures past told.source (told.newest c.args.n) told.commit (record { stuck = was.stuck; committed = was.committed; copying = was.copying }) in
     let p = c.after-plans.ensures past (record { link = was.link; damage = was.damage; disk = was.disk; stop = was.stop }) in
     record {
       running = s.running;
@@ -14,7 +14,6 @@ returns c = λ past told was.
       low = s.low;
       stuck = w.stuck;
       committed = w.committed;
-      highest = w.highest;
       copying = w.copying;
       link = p.link;
       damage = p.damage;

@@ -14,7 +14,6 @@ returns c = λ n.
       low = s.low;
       stuck = w.stuck;
       committed = w.committed;
-      highest = w.highest;
       copying = w.copying;
       link = p.link;
       damage = p.damage;

@@ -1,5 +1,5 @@
 use Rattle.std.proofs.Common.{subst}
-use Rattle.replica_parts.specs.Sources.{HoldsOnly}
+use Rattle.replica_state.specs.Sources.{HoldsOnly}
 use Rattle.replica_node.proofs.replica.Replica.arrived.Goals as goal
 
 pub returns-clause-held : goal.returns-clause-held

@@ -1,6 +1,6 @@
 use Rattle.std.proofs.Common.{subst, IfSome}
-use Rattle.replica_parts.specs.Merges.{copy_at}
-use Rattle.replica_parts.specs.Sources.{HoldsOnlyWanted}
+use Rattle.replica_state.specs.Merges.{copy_at}
+use Rattle.replica_state.specs.Sources.{HoldsOnlyWanted}
 use Rattle.replica_node.proofs.replica.Replica.finish_precopy.Goals as goal
 
 pub returns-clause-held : goal.returns-clause-held

@@ -1,9 +1,9 @@
 use Rattle.std.proofs.Common.{sym, subst}
 use Rattle.commit_steps.specs.Book.{shown_by}
-use Rattle.node_files.specs.Standing.{ImagesStand}
-use Rattle.node_files.proofs.Standing.{images_stand}
-use Rattle.replica_parts.specs.declared.parts.Parts.{Parts}
-use Rattle.replica_parts.specs.Replica.{AreStanding}
+use Rattle.searcher_switch.specs.Standing.{ImagesStand}
+use Rattle.searcher_switch.proofs.Standing.{images_stand}
+use Rattle.replica_state.specs.declared.parts.Parts.{Parts}
+use Rattle.replica_state.specs.Replica.{AreStanding}
 use Rattle.replica_node.proofs.replica.Replica.images.Goals as goal
 
 pub returns : goal.returns

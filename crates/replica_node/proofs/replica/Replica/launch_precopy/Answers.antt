@@ -1,7 +1,7 @@
 use Rattle.std.proofs.Common.{subst, OnOk, IfErr}
 use Rattle.std.specs.List.{All}
 use Rattle.disk_model.specs.Disk.{reads_of}
-use Rattle.replica_parts.specs.Jobs.{Agrees, IsStartingFault}
+use Rattle.replica_state.specs.Jobs.{Agrees, IsStartingFault}
 use Rattle.replica_node.proofs.replica.Replica.launch_precopy.Goals as goal
 
 pub returns-clause-agreed : goal.returns-clause-agreed

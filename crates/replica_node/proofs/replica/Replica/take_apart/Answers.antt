@@ -2,7 +2,7 @@ use Rattle.std.proofs.Common.{subst, List}
 use Rattle.nrt_base.specs.declared.doc.Doc.{Doc}
 use Rattle.disk_model.specs.Disk.{reads_of}
 use Rattle.seg_reader.specs.Stands.{StandsFor, StandsWith}
-use Rattle.replica_parts.specs.declared.parts.Parts.{Parts}
+use Rattle.replica_state.specs.declared.parts.Parts.{Parts}
 use Rattle.replica_node.proofs.replica.Replica.take_apart.Goals as goal
 
 pub returns-clause-stands : goal.returns-clause-stands

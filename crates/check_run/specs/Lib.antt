@@ -1,3 +1,0 @@
-pub mod Directory
-pub mod Lines
-pub mod Checks

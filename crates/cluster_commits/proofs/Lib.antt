@@ -1,3 +1,0 @@
-mod Committing
-mod CallsLeft
-mod CommitMerges

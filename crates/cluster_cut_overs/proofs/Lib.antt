@@ -1,3 +1,0 @@
-mod CutStands
-mod CutFiles
-mod CutPaths

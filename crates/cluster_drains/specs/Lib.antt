@@ -1,2 +1,0 @@
-pub mod MergePaths
-pub mod Running

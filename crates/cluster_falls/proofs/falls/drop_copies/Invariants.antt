@@ -1,5 +1,0 @@
-use Rattle.cluster_falls.proofs.Dropping.{RowsEnd}
-use Rattle.cluster_falls.proofs.falls.drop_copies.Given as goal
-
-abbrev pub invariant-loop-row : goal.invariant-loop-row
-invariant-loop-row g l = RowsEnd g.D.Dir.cells l.n l.rows l.row-index l.initial.replica l.replica

@@ -1,6 +1,0 @@
-mod Crashing
-mod Outliving
-mod Reopening
-mod ReopenMerges
-mod FallenMerges
-mod CrashMerges

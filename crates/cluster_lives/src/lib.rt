@@ -1,6 +1,0 @@
-//! The paths by which nodes crash and reopen.
-#![tactic(auto)]
-
-mod lives;
-
-pub use lives::{crash_node, reopen_node};

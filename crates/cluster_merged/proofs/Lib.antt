@@ -1,7 +1,0 @@
-mod ReadyFiles
-mod WrittenStand
-mod ReplicaCount
-mod SendSteps
-mod SendLoop
-mod MaySending
-mod ReadyPaths

@@ -1,0 +1,14 @@
+mod CommitPlaces
+mod CrashedPlaces
+mod EndedJobs
+mod HeldRows
+pub mod JobFiles
+mod JobNumbers
+pub mod Keys
+pub mod OutCounts
+mod PromotedNodes
+pub mod RunningJobs
+pub mod Slots
+pub mod Stepping
+pub mod Taking
+pub mod TicketNodes

@@ -1,0 +1,64 @@
+-- What commits make of a node in its place.
+use Rattle.std.specs.Prelude.{ℕ, ◌≡◌, Bool, List, Option, Some, IsSomeAnd}
+use Rattle.disk_model.specs.Disk.{Cells}
+use Rattle.segment_infos.specs.declared.infos.Infos.{Infos}
+use Rattle.commit_steps.specs.declared.stage.Stage.{Stage}
+use Rattle.commit_steps.specs.declared.stage.CommitBook.{CommitBook}
+use Rattle.commit_steps.specs.Book.{book_after, is_last_step}
+use Rattle.searcher_switch.specs.Node.{HoldsNoMore}
+use Rattle.searcher_switch.specs.Appearing.{AppearsOnly, IsNameInFlight}
+use Rattle.replica_state.specs.declared.parts.Parts.{Parts as ReplicaParts}
+use Rattle.replica_state.specs.Replica.{IsWholeReplica, AreStanding}
+use Rattle.replica_state.specs.Sources.{KeepsSource}
+use Rattle.primary_state.specs.declared.parts.Parts.{Parts as PrimaryParts}
+use Rattle.primary_state.specs.Primary.{IsPrimary, KeepsHeldBytes}
+use Rattle.cluster_nodes.specs.declared.nodes.Node.{Node}
+use Rattle.cluster_nodes.specs.declared.nodes.Node.TheVariants.{Primary, Replica, Down}
+use Rattle.cluster_nodes.specs.declared.nodes.Place.{Place}
+use Rattle.cluster_nodes.specs.Places.{place_of, disk_of}
+use Rattle.cluster_nodes.specs.JobPlaces.{MovesOne}
+
+-- the commit in flight at a node that runs
+abbrev pub HasStage : (Option Stage → Type 0) → Option CommitBook → Type 0
+HasStage P book = IsSomeAnd book (λ b. P b.stage)
+
+-- the next call of the directory was made for the commit in flight, the last one or not
+pub record StepsBook (done : Bool) (infos : Infos) (was now : CommitBook) : Type 0 where
+  pub after : now ≡ book_after was
+  pub ends : done ≡ is_last_step was.stage
+
+module _ {D : Type 0} where
+  -- The primary, but for its directory, its counts and its commits: it holds no file of a segment that nobody held, and what came to stand has
+  -- a name of the commit in flight.
+  pub record AltersPrimaryCommits (cells : D → Cells) (old new : PrimaryParts D) : Type 0 where
+    pub others : new ≡ record old { dir = new.dir; files = new.files; commits = new.commits }
+    pub whole : IsPrimary cells new
+    pub stays : KeepsHeldBytes cells old new
+    pub no_more : IsPrimary cells old → HoldsNoMore old.files new.files
+    pub appears : AppearsOnly (IsNameInFlight old.commits.stage) (cells old.dir) (cells new.dir)
+
+  -- the same of a replica
+  pub record AltersReplicaCommits (cells : D → Cells) (old new : ReplicaParts D) : Type 0 where
+    pub others : new ≡ record old { dir = new.dir; files = new.files; commits = new.commits }
+    pub whole : IsWholeReplica cells new
+    pub standing : AreStanding cells old → AreStanding cells new
+    pub sourced : KeepsSource cells old new
+    pub appears : AppearsOnly (IsNameInFlight old.commits.stage) (cells old.dir) (cells new.dir)
+
+  -- a running node of which only the commits moved, and those so, with the infos of its point
+  abbrev pub AltersCommits : (Infos → CommitBook → CommitBook → Type 0) → (D → Cells) → Node D → Node D → Type 0
+  AltersCommits Step cells (Primary p) (Primary q) = AltersPrimaryCommits cells p q × Step p.point_infos p.commits q.commits
+  AltersCommits Step cells (Replica r) (Replica s) = AltersReplicaCommits cells r s × Step r.infos r.commits s.commits
+  AltersCommits Step cells old new = ⊥
+
+  -- the same of the node in a place
+  pub record CommitsIn (Step : Infos → CommitBook → CommitBook → Type 0) (cells : D → Cells) (n : ℕ) (old new : List (Option (Place D))) : Type 0 where
+    pub place : Place D
+    pub there : place_of old n ≡ Some place
+    pub node : Node D
+    pub moves : MovesOne n (record { node = node; held = place.held }) old new
+    pub alters : AltersCommits Step cells place.node node
+
+  -- a commit of the node in a place is so
+  abbrev pub HasStageAt : (Option Stage → Type 0) → Option (Place D) → Type 0
+  HasStageAt P place = IsSomeAnd place (λ z. HasStage P (disk_of z.node).book)

@@ -1,0 +1,13 @@
+pub mod Changes
+pub mod Commits
+pub mod Ends
+pub mod Given
+pub mod Held
+pub mod JobChanges
+pub mod JobPlaces
+pub mod KeptFiles
+pub mod Listed
+pub mod Lives
+pub mod Outs
+pub mod Places
+pub mod Promoting

@@ -1,0 +1,55 @@
+-- What a crash, and a reopening, make of a node in its place.
+use Rattle.std.specs.Prelude.{ℕ, ◌≡◌, [], List, Option, Some, Vec, Contains, length}
+use Rattle.std.specs.Global.{Global}
+use Rattle.std.specs.List.{flat_map}
+use Rattle.nrt_base.specs.declared.doc.Doc.{Doc}
+use Rattle.nrt_base.specs.declared.numbers.NodeNo.{NodeNo}
+use Rattle.nrt_base.specs.declared.numbers.Version.{Version}
+use Rattle.disk_model.specs.Disk.{Name, Content, Cells, HasCrashed, reads_of}
+use Rattle.segment_infos.specs.Files.{files_of_segment}
+use Rattle.seg_reader.specs.Stands.{StandsFor}
+use Rattle.replica_opening.specs.Opening.{FindsPoint, number_of_last}
+use Rattle.replica_opening.specs.Opened.{IsHandedBack}
+use Rattle.replica_state.specs.declared.parts.Parts.{Parts as ReplicaParts}
+use Rattle.replica_state.specs.Replica.{IsWholeReplica}
+use Rattle.replica_state.specs.Sources.{IsSourced}
+use Rattle.replica_state.specs.Starting.{IsJustOpened, SearchesJust, HasJustItsFiles}
+use Rattle.cluster_nodes.specs.declared.held.Held.{Held}
+use Rattle.cluster_nodes.specs.declared.nodes.Node.TheVariants.{Replica, Down}
+use Rattle.cluster_nodes.specs.declared.nodes.Place.{Place}
+use Rattle.cluster_nodes.specs.Places.{place_of, dir_of}
+use Rattle.cluster_nodes.specs.JobPlaces.{MovesOne}
+use Rattle.cluster_nodes.specs.Ends.{OthersOutlive}
+
+module _ {D : Type 0} where
+  -- The node crashed: its directory is what a crash leaves of it, nothing is held of it any more, and what ends with it has ended at the
+  -- others.
+  pub record CrashesIn (cells : D → Cells) (primary : Option NodeNo) (n : ℕ) (old new : List (Option (Place D))) : Type 0 where
+    pub place : Place D
+    pub there : place_of old n ≡ Some place
+    pub dir : D
+    pub held : Vec Held Global
+    pub none : held.items ≡ []
+    pub crashed : HasCrashed (cells (dir_of place.node)) (cells dir)
+    pub count : length new ≡ length old
+    pub here : place_of new n ≡ Some (record { node = Down dir; held = held })
+    pub others : OthersOutlive cells primary n old new
+
+  -- a replica opened on a directory: it stands at the point that this shows, and nothing was done with it
+  pub record OpensOn (cells : D → Cells) (dir : D) (r : ReplicaParts D) : Type 0 where
+    pub whole : IsWholeReplica cells r
+    pub point : FindsPoint (reads_of (cells dir)) (number_of_last r.commits.last) r.infos
+    pub documents : (docs : List Doc) → StandsFor (reads_of (cells dir)) r.infos docs → SearchesJust cells docs r
+    pub sourced : (source : Name → Content) → ((q : Name) → Contains (flat_map files_of_segment r.infos.segs) q → (cells dir q).now ≡ source q) → IsSourced source cells r
+    pub fresh : IsJustOpened r
+    pub back : IsHandedBack (cells dir) (cells r.dir)
+    pub only : HasJustItsFiles cells r
+
+  -- the node that was down opened on its directory, at this version; what was held of it is held
+  pub record ReopensIn (cells : D → Cells) (n : ℕ) (v : Version) (old new : List (Option (Place D))) : Type 0 where
+    pub place : Place D
+    pub there : place_of old n ≡ Some place
+    pub replica : ReplicaParts D
+    pub opens : OpensOn cells (dir_of place.node) replica
+    pub version : replica.searchers.point.version ≡ v
+    pub moves : MovesOne n (record { node = Replica replica; held = place.held }) old new

@@ -1,0 +1,29 @@
+//! The nodes of a cluster in their places, and what is done to them there.
+#![tactic(auto)]
+
+mod commits;
+mod ends;
+mod held;
+mod jobs;
+mod lists;
+mod lives;
+mod nodes;
+mod promoting;
+mod states;
+mod tasks;
+mod tickets;
+mod transfers;
+
+pub use commits::{begin_commit_in, step_commit_in};
+pub use held::Key;
+pub use index_primary::{FlushTask, FlushWork, Primary, PublishFault};
+pub use lists::names_in;
+pub use lives::{crash_in, reopen_in};
+pub use nodes::{Node, Place, primary_in, put, take};
+pub use promoting::promote_in;
+pub use replica_node::laws::{copy_runs, files_last, sourced_stands};
+pub use replica_node::{NodeParts, Replica};
+pub use states::{lacks, next_file, share_state};
+pub use tasks::{CommitTask, CopyTask, FileTask, SettleTask};
+pub use tickets::{give_ticket_back, hold_ticket, lease_in};
+pub use transfers::{begin_in, finish_in, next_in, read_in, take_in, take_primary, take_replica};

@@ -1,0 +1,200 @@
+//! Jobs that copy the primary's point to a replica, in the terms of places.
+
+ghost use Rattle.std.specs.Prelude.{ℕ, ◌≡◌, ◌==◌, Some, None, IfOk, OnOk, length, if◌then◌else◌};
+ghost use Rattle.copy_state.specs.Meta.{IsMetaOf};
+ghost use Rattle.cluster_nodes.specs.Places.{place_of, IsSlot, HasPrimary};
+ghost use Rattle.cluster_nodes.specs.JobChanges.{HasReplica, HasJob, HasNextFile};
+ghost use Rattle.cluster_nodes.specs.JobPlaces.{CanBegin, BeginsIn, CanFinish, FinishesIn, CanRead, ReadsIn, CanTake, TakesIn};
+
+use crate::held::Held;
+use crate::jobs::{begin_job, finish_job, take_part};
+use crate::nodes::{Node, Place, primary_in, put, take};
+use crate::states::next_lacking;
+use bytes::Bytes;
+use copy_job::Part;
+use copy_state::FileMetaData;
+use disk_model::Dir;
+use file_names::FileName;
+use index_primary::Primary;
+use nrt_base::{NoMemory, NodeNo};
+use replica_node::Replica;
+use std::alloc::{AllocError, Global};
+
+// The replica that is in this place.
+fn replica_in<D: Dir + Drop>(place: Place<D>) -> (Replica<D>, Vec<Held>)
+    requires { HasReplica (Some place) }
+    ensures { place ≡ record { node = Node.Replica result.0; held = result.1 } }
+{
+    let Place { node, held } = place;
+    match node {
+        Node::Replica(replica) => (replica, held),
+        Node::Primary(_) => unreachable!(),
+        Node::Down(_) => unreachable!(),
+    }
+}
+
+/// Takes the primary out of its place.
+pub fn take_primary<D: Dir + Drop>(
+    places: &mut Vec<Option<Place<D>>>,
+    p: NodeNo,
+) -> (Primary<D>, Vec<Held>)
+    requires slot { IsSlot places.old.items p.0 }
+    requires there { HasPrimary (place_of places.old.items p.0) }
+    ensures place { place_of places.old.items p.0
+        ≡ Some (record { node = Node.Primary result.0; held = result.1 }) }
+    ensures count { length places.new.items ≡ length places.old.items }
+    ensures places { (m : ℕ) → place_of places.new.items m
+        ≡ (if p.0 == m then None else place_of places.old.items m) }
+{
+    primary_in(take(places, p))
+}
+
+/// Takes a replica out of its place.
+pub fn take_replica<D: Dir + Drop>(
+    places: &mut Vec<Option<Place<D>>>,
+    n: NodeNo,
+) -> (Replica<D>, Vec<Held>)
+    requires slot { IsSlot places.old.items n.0 }
+    requires there { HasReplica (place_of places.old.items n.0) }
+    ensures place { place_of places.old.items n.0
+        ≡ Some (record { node = Node.Replica result.0; held = result.1 }) }
+    ensures count { length places.new.items ≡ length places.old.items }
+    ensures places { (m : ℕ) → place_of places.new.items m
+        ≡ (if n.0 == m then None else place_of places.old.items m) }
+{
+    replica_in(take(places, n))
+}
+
+/// Begins a job of the primary's point at a replica, and answers its number.
+pub fn begin_in<D: Dir + Drop>(
+    alloc: Global,
+    places: &mut Vec<Option<Place<D>>>,
+    p: NodeNo,
+    n: NodeNo,
+) -> Result<u64, NoMemory>
+    requires { CanBegin p.0 n.0 places.old.items }
+    ensures { IfOk result (λ number.
+        BeginsIn D.cells p.0 n.0 number places.old.items places.new.items) }
+{
+    let (mut primary, primary_held) = take_primary(places, p);
+    let (mut replica, held) = take_replica(places, n);
+    let begun = begin_job(alloc, &mut primary, &mut replica);
+    put_both(places, p, n, primary, primary_held, replica, held);
+    begun
+}
+
+// Puts the primary and a replica in their places.
+fn put_both<D: Dir + Drop>(
+    places: &mut Vec<Option<Place<D>>>,
+    p: NodeNo,
+    n: NodeNo,
+    primary: Primary<D>,
+    primary_held: Vec<Held>,
+    replica: Replica<D>,
+    held: Vec<Held>,
+)
+    requires slot_primary { IsSlot places.old.items p.0 }
+    requires slot_replica { IsSlot places.old.items n.0 }
+    ensures count { length places.new.items ≡ length places.old.items }
+    ensures places { (m : ℕ) → place_of places.new.items m
+        ≡ (if n.0 == m then Some (record { node = Node.Replica replica; held = held })
+        else if p.0 == m then Some (record { node = Node.Primary primary; held = primary_held })
+        else place_of places.old.items m) }
+{
+    let node = Node::Primary(primary);
+    put(
+        places,
+        p,
+        Place {
+            node,
+            held: primary_held,
+        },
+    );
+    let node = Node::Replica(replica);
+    put(places, n, Place { node, held });
+}
+
+/// Searches the point of a replica's job, of which nothing is missing. The job has ended.
+pub fn finish_in<D: Dir + Drop>(
+    alloc: Global,
+    places: &mut Vec<Option<Place<D>>>,
+    p: NodeNo,
+    n: NodeNo,
+) -> Result<(), NoMemory>
+    requires { CanFinish D.cells p.0 n.0 places.old.items }
+    ensures { OnOk result (FinishesIn D.cells p.0 n.0 places.old.items places.new.items) }
+{
+    let (mut primary, primary_held) = take_primary(places, p);
+    let (mut replica, held) = take_replica(places, n);
+    let finished = finish_job(alloc, &mut primary, &mut replica);
+    put_both(places, p, n, primary, primary_held, replica, held);
+    finished
+}
+
+/// The bytes of a file that a copy state which is out names.
+pub fn read_in<D: Dir + Drop>(
+    places: &mut Vec<Option<Place<D>>>,
+    p: NodeNo,
+    name: &FileName,
+) -> Result<Bytes, NoMemory>
+    requires { CanRead p.0 name.now places.old.items }
+    ensures { IfOk result (λ bytes.
+        ReadsIn D.cells p.0 name.now bytes places.old.items places.new.items) }
+{
+    let (mut primary, held) = take_primary(places, p);
+    let read = primary.source(name);
+    let node = Node::Primary(primary);
+    put(places, p, Place { node, held });
+    match read {
+        Ok(bytes) => Ok(bytes),
+        Err(_) => Err(AllocError),
+    }
+}
+
+/// Puts a part into the job of a replica, where the job lacks it still.
+pub fn take_in<D: Dir + Drop>(
+    places: &mut Vec<Option<Place<D>>>,
+    n: NodeNo,
+    part: Part,
+) -> Result<(), NoMemory>
+    requires can { CanTake n.0 part places.old.items }
+    requires meta { IsMetaOf part.bytes part.meta }
+    ensures { OnOk result (TakesIn D.cells n.0 part places.old.items places.new.items) }
+{
+    let (mut replica, held) = take_replica(places, n);
+    let taken = take_part(&mut replica, part);
+    let node = Node::Replica(replica);
+    put(places, n, Place { node, held });
+    taken
+}
+
+// The next file that the job of this replica lacks.
+fn next_of<D: Dir + Drop>(
+    alloc: Global,
+    place: &Place<D>,
+) -> Result<Option<(FileName, FileMetaData)>, NoMemory>
+    requires { HasJob (Some place.now) }
+    ensures { IfOk result (HasNextFile (Some place.now)) }
+{
+    match &place.node {
+        Node::Replica(replica) => next_lacking(alloc, replica),
+        Node::Primary(_) => unreachable!(),
+        Node::Down(_) => unreachable!(),
+    }
+}
+
+/// The next file that the job of the replica in this place lacks, with the metadata that is wanted of it.
+pub fn next_in<D: Dir + Drop>(
+    alloc: Global,
+    places: &Vec<Option<Place<D>>>,
+    n: NodeNo,
+) -> Result<Option<(FileName, FileMetaData)>, NoMemory>
+    requires slot { IsSlot places.now.items n.0 }
+    requires job { HasJob (place_of places.now.items n.0) }
+    ensures { IfOk result (HasNextFile (place_of places.now.items n.0)) }
+{
+    match &places[n.0 as usize - 1] {
+        Some(place) => next_of(alloc, place),
+        None => unreachable!(),
+    }
+}

@@ -1,8 +1,0 @@
-use Rattle.std.proofs.Common.{ap, ◌∙◌, List}
-use Rattle.cluster_places.specs.declared.held.Held.{Held}
-use Rattle.cluster_places.specs.Held.{held_number}
-use Rattle.cluster_places.proofs.HeldRows.{held_without}
-use Rattle.cluster_places.proofs.held.let_go.Goals as goal
-
-pub returns : goal.returns
-returns c = λ k. ap (λ (rows : List Held). held_number rows k) c.without.ensures ∙ held_without c.args.held.now.items c.args.key k

@@ -1,8 +1,0 @@
-use Rattle.std.proofs.Common.{◌==◌, ◌∙◌, ap, Option, if◌then◌else◌}
-use Rattle.cluster_places.specs.Places.{place_of}
-use Rattle.cluster_places.proofs.Slots.{place_set}
-use Rattle.cluster_places.proofs.nodes.put.Goals as goal
-
-pub returns-clause-places : goal.returns-clause-places
-returns-clause-places g c = λ m. place_set c.args.places.now.items c.args.n.0 _ c.requires.slot m
-    ∙ ap (λ (x : Option _). if c.args.n.0 == m then x else place_of c.args.places.now.items m) c.replace.ensures.after

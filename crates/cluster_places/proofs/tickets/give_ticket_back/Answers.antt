@@ -1,5 +1,0 @@
-use Rattle.cluster_places.proofs.TicketNodes.{node_alone}
-use Rattle.cluster_places.proofs.tickets.give_ticket_back.Goals as goal
-
-pub returns-in_default-clause-files : goal.returns-in_default-clause-files
-returns-in_default-clause-files g c = node_alone g.D.Dir.cells c.args.place.now.node

@@ -1,4 +1,0 @@
--- The words of the crates below that this crate gives on to those above.
-pub use Rattle.index_primary.specs.Given.{AnswersMerge, IsCutOver, IsFilledMerge, IsFitTask, IsMadeFor, IsReadied, KeepsDocuments, merge_sizes}
-pub use Rattle.replica_node.specs.Given.{SettlesCopy, copies_beside, overlaps}
-pub use Rattle.replica_node.specs.Running.{running_job, with_job, without_job}

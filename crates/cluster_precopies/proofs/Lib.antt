@@ -1,7 +1,0 @@
-mod CopyLists
-mod WrittenMerges
-mod EndedCopies
-mod MovedCopies
-mod CopyFacts
-mod CopyPaths
-pub mod CopyCalls

@@ -1,4 +1,0 @@
-use Rattle.cluster_precopies.proofs.precopies.settle_copy.Goals as goal
-
-pub returns-clause-ok : goal.returns-clause-ok
-returns-clause-ok g c = record { moves = c.in_ok-settle_in.ensures; ends = c.in_ok-end_task.ensures.ok }

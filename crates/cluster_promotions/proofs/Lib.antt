@@ -1,2 +1,0 @@
-mod Promotions
-mod PromotedMerges

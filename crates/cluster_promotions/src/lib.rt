@@ -1,6 +1,0 @@
-//! Promotions of nodes.
-#![tactic(auto)]
-
-mod promoting;
-
-pub use promoting::promote_node;

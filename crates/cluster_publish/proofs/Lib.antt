@@ -1,0 +1,12 @@
+mod CutRows
+mod Cuts
+mod Filling
+pub mod GivenUp
+mod MetStands
+mod MetWords
+mod Primaries
+mod PublishEnding
+mod PublishFiles
+mod PublishPaths
+mod Writing
+mod Written

@@ -1,0 +1,128 @@
+-- All that is true of a cluster of which a node crashed, merges among it.
+use Rattle.std.proofs.Common.{◌≡◌, ◌∙◌, ◌==◌, ℕ, Bool, true, false, List, [], ◌∷◌, None, Option, refl, ap, sym, subst, if◌then◌else◌}
+use Rattle.nrt_base.specs.declared.numbers.At.{At}
+use Rattle.nrt_base.specs.declared.numbers.NodeNo.{NodeNo}
+use Rattle.disk_model.specs.Disk.{Cells}
+use Rattle.std.specs.Prelude.{not}
+use Rattle.history_rules.specs.declared.entry.Event.TheVariants.{Crashed}
+use Rattle.history_rules.specs.Nodes.{IsNode, is_at, is_running, primary_of}
+use Rattle.history_rules.specs.Lines.{start_entry}
+use Rattle.history_rules.specs.Legal.{KeepsRule, IsLegalPast}
+use Rattle.history_book.specs.Log.{Log, printed, shown}
+use Rattle.history_book.specs.Laws.{IsFresh}
+use Rattle.history_book.specs.Jobs.{job_at}
+use Rattle.history_book.specs.Turns.{AreInTurn}
+use Rattle.merge_tasks.specs.Merging.{Sheet}
+use Rattle.merge_tasks.specs.Board.{Board}
+use Rattle.cluster_nodes.specs.declared.nodes.Place.{Place}
+use Rattle.cluster_nodes.specs.Lives.{CrashesIn}
+use Rattle.cluster_recovery.specs.Falls.{Falls}
+use Rattle.cluster_nodes.specs.Outs.{want_at}
+use Rattle.cluster_nodes.specs.Places.{place_of}
+use Rattle.cluster_state.specs.JobsIn.{place_files, jobs_in}
+use Rattle.cluster_state.proofs.JobsLeft.{files_are}
+use Rattle.cluster_recovery.proofs.Outliving.{jobs_outlive}
+use Rattle.cluster_state.specs.Run.{Run, Rest, files_at}
+use Rattle.cluster_state.specs.State.{Shows}
+use Rattle.cluster_state.specs.Files.{FilesShow}
+use Rattle.cluster_state.specs.Merging.{MergesStand}
+use Rattle.cluster_state.proofs.Frames.{was}
+use Rattle.cluster_state.proofs.Turning.{past_has}
+use Rattle.cluster_state.proofs.FileFrames.{files_was}
+use Rattle.cluster_state.proofs.Naming.{FilesLast}
+use Rattle.cluster_state.proofs.MergingStill.{stand_moved}
+use Rattle.merge_tasks.proofs.TaskFrames.{tasks_still}
+use Rattle.cluster_recovery.proofs.Crashing.{crash_keeps, crash_sent}
+use Rattle.cluster_recovery.proofs.FallenMerges.{lost_all, lost_all_files, lost_jobs, fallen}
+
+module _ {D : Type 0} (cells : D → Cells) where
+  pub crash_all : (r : Run) (ended : Bool) (b0 b1 b2 : Sheet) (board now : Board) (old mid new : List (Option (Place D))) (at : At) (n : NodeNo) (reigning : Option NodeNo) → {left : Rest} → record { ended = ended; nodes = b0.nodes; log = b0.log; rest = left } ≡ r → r.ended ≡ false
+      → (ended ≡ false → Shows cells b0.log b0.nodes old × FilesShow cells b0.log b0.nodes old) → MergesStand b0.log b0.cut b0.nodes board old → b1.log ≡ b0.log → b1.nodes ≡ b0.nodes → b1.cut ≡ b0.cut → b2.log ≡ shown at (Crashed n) ∷ b1.log → b2.nodes ≡ b1.nodes
+      → b2.cut ≡ (if is_at (primary_of (printed b1.log)) n.0 then false else b1.cut) → IsLegalPast b1.nodes (printed b1.log) → AreInTurn (printed b1.log) → FilesLast → ((m : ℕ) → primary_of (printed b2.log) ≡ None → job_at m b2.log ≡ None) → IsFresh at (printed b0.log)
+      → IsNode r.nodes n.0 → is_running n.0 (printed r.log) ≡ true → reigning ≡ primary_of (printed r.log) → CrashesIn cells reigning n.0 old mid → Shows cells b2.log b2.nodes mid × FilesShow cells b2.log b2.nodes mid
+      → (is_at reigning n.0 ≡ true → Falls cells board now mid new) → (is_at reigning n.0 ≡ false → (now ≡ board) × (new ≡ mid)) → Shows cells b2.log b2.nodes new × FilesShow cells b2.log b2.nodes new × MergesStand b2.log b2.cut b2.nodes now new
+  crash_all r ended b0 b1 b2 board now old mid new at n reigning view running pair stand e1 n1 c1 e2 n2 c2 legal turns lasting vacant fresh node up is crashed_so both falls stays = tests (is_at reigning n.0) refl
+    where
+      log : b2.log ≡ shown at (Crashed n) ∷ r.log
+      log = e2 ∙ ap (λ (l : Log). shown at (Crashed n) ∷ l) (e1 ∙ ap (λ (x : Run). x.log) view)
+
+      size : b2.nodes ≡ r.nodes
+      size = n2 ∙ (n1 ∙ ap (λ (x : Run). x.nodes) view)
+
+      none : start_entry at (printed r.log) ≡ None
+      none = (past_has (IsFresh at) r ended b0 view fresh).begun
+
+      rule : KeepsRule r.nodes (printed r.log) at (Crashed n)
+      rule = record { node = node; running = up }
+
+      s : Shows cells r.log r.nodes old
+      s = was cells r ended b0.nodes b0.log old view running (λ e. (pair e).0)
+
+      f : FilesShow cells r.log r.nodes old
+      f = files_was cells r ended b0.nodes b0.log old view running (λ e. (pair e).1)
+
+      m : MergesStand r.log b0.cut r.nodes board old
+      m = subst (λ (x : Run). MergesStand x.log b0.cut x.nodes board old) view stand
+
+      legal_r : IsLegalPast r.nodes (printed r.log)
+      legal_r = subst (λ (x : ℕ × Log). IsLegalPast x.0 (printed x.1)) (λ i. ((n1 ∙ ap (λ (x : Run). x.nodes) view) i, (e1 ∙ ap (λ (x : Run). x.log) view) i)) legal
+
+      turns_r : AreInTurn (printed r.log)
+      turns_r = subst (λ (l : Log). AreInTurn (printed l)) (e1 ∙ ap (λ (x : Run). x.log) view) turns
+
+      vacant_r : (k : ℕ) → primary_of (printed (shown at (Crashed n) ∷ r.log)) ≡ None → job_at k (shown at (Crashed n) ∷ r.log) ≡ None
+      vacant_r = subst (λ (l : Log). (k : ℕ) → primary_of (printed l) ≡ None → job_at k l ≡ None) log vacant
+
+      crashes : CrashesIn cells (primary_of (printed r.log)) n.0 old mid
+      crashes = subst (λ (o : Option NodeNo). CrashesIn cells o n.0 old mid) is crashed_so
+
+      shows_mid : Shows cells (shown at (Crashed n) ∷ r.log) r.nodes mid
+      shows_mid = subst (λ (x : Log × ℕ). Shows cells x.0 x.1 mid) (λ i. (log i, size i)) both.0
+
+      files_mid : FilesShow cells (shown at (Crashed n) ∷ r.log) r.nodes mid
+      files_mid = subst (λ (x : Log × ℕ). FilesShow cells x.0 x.1 mid) (λ i. (log i, size i)) both.1
+
+      at_primary : (t : Bool) → is_at reigning n.0 ≡ t → is_at (primary_of (printed r.log)) n.0 ≡ t
+      at_primary t e = ap (λ (o : Option NodeNo). is_at o n.0) (sym is) ∙ e
+
+      cut_is : (t : Bool) → is_at reigning n.0 ≡ t → b2.cut ≡ (if t then false else b0.cut)
+      cut_is t e = c2 ∙ (ap (λ (c : Bool). if c then false else b1.cut) (ap (λ (l : Log). is_at (primary_of (printed l)) n.0) (e1 ∙ ap (λ (x : Run). x.log) view) ∙ at_primary t e) ∙ ap (λ (c : Bool). if t then false else c) c1)
+
+      -- in the terms of the log as it is now
+      back : (cut : Bool) (board : Board) (places : List (Option (Place D))) → b2.cut ≡ cut → Shows cells (shown at (Crashed n) ∷ r.log) r.nodes places → FilesShow cells (shown at (Crashed n) ∷ r.log) r.nodes places
+          → MergesStand (shown at (Crashed n) ∷ r.log) cut r.nodes board places → Shows cells b2.log b2.nodes places × FilesShow cells b2.log b2.nodes places × MergesStand b2.log b2.cut b2.nodes board places
+      back cut board places same shows files merges = (
+        subst (λ (x : Log × ℕ). Shows cells x.0 x.1 places) (λ i. (sym log i, sym size i)) shows,
+        subst (λ (x : Log × ℕ). FilesShow cells x.0 x.1 places) (λ i. (sym log i, sym size i)) files,
+        subst (λ (x : Log × (Bool × ℕ)). MergesStand x.0 x.1.0 x.1.1 board places) (λ i. (sym log i, (sym same i, sym size i))) merges,
+      )
+
+      tests : (t : Bool) → is_at reigning n.0 ≡ t → Shows cells b2.log b2.nodes new × FilesShow cells b2.log b2.nodes new × MergesStand b2.log b2.cut b2.nodes now new
+      tests true e =
+          let here = at_primary true e in
+          let fell = falls e in
+          back false now new (cut_is true e)
+          (lost_all cells board.rows r.nodes (shown at (Crashed n) ∷ r.log) mid new fell.lose shows_mid)
+          (lost_all_files cells board.rows r.nodes (shown at (Crashed n) ∷ r.log) mid new fell.lose files_mid)
+          (fallen cells r.nodes r.log at n board now mid new here fell m.tasks shows_mid.each
+          (crash_sent cells r.nodes r.log old mid at n legal_r turns_r rule none crashes lasting vacant_r node s f b0.cut board.rows here m.each))
+      tests false e =
+          let far = at_primary false e in
+          let kept = stays e in
+          subst (λ (x : Board × List (Option (Place D))). Shows cells b2.log b2.nodes x.1 × FilesShow cells b2.log b2.nodes x.1 × MergesStand b2.log b2.cut b2.nodes x.0 x.1) (λ i. (sym kept.0 i, sym kept.1 i))
+          (back b0.cut board mid (cut_is false e) shows_mid files_mid
+          (stand_moved r.log (shown at (Crashed n) ∷ r.log) b0.cut r.nodes board old mid (λ seg inputs got. got) (tasks_still r.nodes r.log board at (Crashed n) (ap not far) m.tasks)
+          (λ gone. sym (ap (λ (c : Bool). if c then None else primary_of (printed r.log)) far) ∙ gone)
+          (crash_keeps cells r.nodes r.log old mid at n legal_r turns_r rule none crashes lasting vacant_r node s f far) m))
+
+  -- what the jobs of the other nodes lack and have is as before
+  pub crash_jobs : (r x : Run) (old mid new : List (Option (Place D))) (primary : Option NodeNo) (n : NodeNo) (board now : Board) → r.rest.jobs ≡ jobs_in old → x.rest.jobs ≡ jobs_in new → CrashesIn cells primary n.0 old mid
+      → (is_at primary n.0 ≡ true → Falls cells board now mid new) → (is_at primary n.0 ≡ false → (now ≡ board) × (new ≡ mid)) → (m : ℕ) → (n.0 == m) ≡ false → files_at m x ≡ files_at m r
+  crash_jobs r x old mid new primary n board now before after b falls stays m apart =
+      files_are m x new after
+      ∙ (kept (is_at primary n.0) refl
+      ∙ (jobs_outlive cells (is_at primary n.0) (is_at primary m) (want_at (place_of old n.0)) (place_of old m) (place_of mid m) (b.others m apart) ∙ sym (files_are m r old before)))
+    where
+      kept : (t : Bool) → is_at primary n.0 ≡ t → place_files (place_of new m) ≡ place_files (place_of mid m)
+      kept true e = lost_jobs cells board.rows 0 [] mid new (falls e).lose m
+      kept false e = ap (λ (l : List (Option (Place D))). place_files (place_of l m)) (stays e).1

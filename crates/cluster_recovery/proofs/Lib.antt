@@ -1,0 +1,16 @@
+mod CallsLeft
+mod CommitMerges
+mod Committing
+mod CrashMerges
+mod Crashing
+mod Dropping
+mod FallenMerges
+mod FirstMerges
+mod FirstNodes
+mod FirstPlaces
+mod Outliving
+mod PromoteRows
+mod PromotedMerges
+mod PromotedNodes
+mod ReopenMerges
+mod Reopening

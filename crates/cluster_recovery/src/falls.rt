@@ -1,0 +1,121 @@
+//! The merges that end where the primary crashes.
+
+ghost use Rattle.std.specs.Prelude.{ℕ, ◌≡◌, ◌==◌, true, false, None, length};
+ghost use Rattle.history_rules.specs.Nodes.{is_at};
+ghost use Rattle.replica_state.specs.Merges.{copy_at};
+ghost use Rattle.cluster_nodes.specs.Places.{place_of, IsSlot};
+ghost use Rattle.merge_tasks.specs.Board.{is_sent_in};
+ghost use Rattle.cluster_recovery.specs.Falls.{LosesCopies, EndsSent, EndsSpread, EndsCopies, NodeLoses, PlaceLoses, AllLose, Falls};
+
+use cluster_state::{Node, Place, Replica};
+use disk_model::Dir;
+use merge_tasks::{OpenMerge, Sent, Spread, Tasks};
+use node_merges::drop_copy;
+use nrt_base::NodeNo;
+
+// Ends a copy that was sent to this replica, where it runs.
+fn drop_one<D: Dir + Drop>(replica: &mut Replica<D>, n: usize, sent: &Sent)
+    ensures { EndsSent D.cells n sent.now replica.old replica.new }
+{
+    replica.version();
+    if sent.node.0 as usize != n {
+        return;
+    }
+    let Some(_) = replica.precopy(sent.job) else {
+        return;
+    };
+    drop_copy(replica, sent.job);
+}
+
+// Ends those of these copies that were sent to this replica and run.
+fn drop_sent<D: Dir + Drop>(replica: &mut Replica<D>, n: usize, left: &[Sent])
+    ensures loses { LosesCopies D.cells replica.old replica.new }
+    ensures gone { (k : ℕ) → is_sent_in n k left.now ≡ true
+        → copy_at k replica.new.copies.running ≡ None }
+{
+    replica.version();
+    for sent in left {
+        drop_one(replica, n, sent);
+    }
+}
+
+// Ends the copies that a merge sent to this replica and that run.
+fn drop_spread<D: Dir + Drop>(replica: &mut Replica<D>, n: usize, spread: &Option<Spread>)
+    ensures { EndsSpread D.cells n spread.now replica.old replica.new }
+{
+    replica.version();
+    if let Some(spread) = spread {
+        drop_sent(replica, n, spread.left.as_slice());
+    }
+}
+
+// Ends the copies that these merges sent to this replica and that run.
+fn drop_copies<D: Dir + Drop>(replica: &mut Replica<D>, n: usize, rows: &[OpenMerge])
+    ensures { EndsCopies D.cells n rows.now replica.old replica.new }
+{
+    replica.version();
+    for row in rows {
+        drop_spread(replica, n, &row.spread);
+    }
+}
+
+// The same of a node, where it is a replica.
+fn drop_at_node<D: Dir + Drop>(node: &mut Node<D>, n: usize, rows: &[OpenMerge])
+    ensures { NodeLoses D.cells n rows.now node.old node.new }
+{
+    match node {
+        Node::Primary(_) => (),
+        Node::Replica(replica) => drop_copies(replica, n, rows),
+        Node::Down(_) => (),
+    }
+}
+
+// The same of the node that is there.
+fn drop_at_place<D: Dir + Drop>(slot: &mut Option<Place<D>>, n: usize, rows: &[OpenMerge])
+    ensures { PlaceLoses D.cells n rows.now slot.old slot.new }
+{
+    match slot {
+        None => (),
+        Some(place) => drop_at_node(&mut place.node, n, rows),
+    }
+}
+
+// The same of the node in a place.
+fn drop_at<D: Dir + Drop>(places: &mut Vec<Option<Place<D>>>, n: usize, rows: &[OpenMerge])
+    requires { IsSlot places.old.items n }
+    ensures count { length places.new.items ≡ length places.old.items }
+    ensures loses { PlaceLoses D.cells n rows.now
+        (place_of places.old.items n) (place_of places.new.items n) }
+    ensures others { (m : ℕ) → (n == m) ≡ false
+        → place_of places.new.items m ≡ place_of places.old.items m }
+{
+    drop_at_place(&mut places[n - 1], n, rows);
+}
+
+// Ends each copy of these merges, where it runs.
+fn drop_all<D: Dir + Drop>(places: &mut Vec<Option<Place<D>>>, rows: &[OpenMerge])
+    ensures { AllLose D.cells rows.now places.old.items places.new.items }
+{
+    for k in 0..places.len() {
+        drop_at(places, k + 1, rows);
+    }
+}
+
+/// Where the primary crashed, no merge is in flight any more, no task is posted, and no copy of a merge runs. Takes no memory.
+pub fn end_merges<D: Dir + Drop>(
+    places: &mut Vec<Option<Place<D>>>,
+    tasks: &mut Tasks,
+    primary: Option<NodeNo>,
+    n: NodeNo,
+)
+    ensures falls { is_at primary n.0 ≡ true
+        → Falls D.cells tasks.old tasks.new places.old.items places.new.items }
+    ensures stays { is_at primary n.0 ≡ false → (tasks.new ≡ tasks.old)
+        × (places.new.items ≡ places.old.items) }
+{
+    let Some(p) = primary else { return };
+    if p.0 == n.0 {
+        drop_all(places, tasks.rows());
+        tasks.clear();
+    }
+}

@@ -1,0 +1,16 @@
+//! How a cluster starts, commits, falls, comes back and promotes.
+#![tactic(auto)]
+
+mod commits;
+mod falls;
+mod line_commits;
+mod line_lives;
+mod lives;
+mod promoting;
+mod promotions;
+mod starting;
+
+pub use line_commits::{commit_start, commit_step};
+pub use line_lives::{crash, reopen};
+pub use promotions::promote;
+pub use starting::start_cluster;

@@ -1,0 +1,57 @@
+//! Crashes and reopenings of nodes.
+
+ghost use Rattle.std.specs.Prelude.{ℕ, ◌≡◌, ◌==◌, ◌∷◌, [], false, OnOk, OnErr};
+ghost use Rattle.history_rules.specs.Nodes.{IsNode};
+ghost use Rattle.history_rules.specs.Lines.{entries_of_line};
+ghost use Rattle.history_book.specs.Log.{printed, shown};
+ghost use Rattle.cluster_state.specs.Run.{files_at, IsNow, IsEnded};
+ghost use Rattle.cluster_state.specs.LifeCalls.{crash_event, ReopensNode};
+
+use crate::lives::{crash_node, reopen_node};
+use cluster_state::{ClusterState, refuse};
+use disk_model::FaultDir;
+use history_rules::Cause;
+use nrt_base::{At, NoMemory, NodeNo};
+use std::alloc::Global;
+
+/// Crashes a node. Jobs at other nodes lack and have what they did.
+pub fn crash<D: FaultDir + Drop>(
+    state: &mut ClusterState<D>,
+    alloc: Global,
+    at: At,
+    n: NodeNo,
+    pick: u64,
+) -> Result<(), NoMemory>
+    requires running { state.old.ended ≡ false }
+    requires fresh { entries_of_line at (printed state.old.log) ≡ [] }
+    requires node { IsNode state.old.nodes n.0 }
+    ensures ok { OnOk result (IsNow state.old state.new
+        (shown at (crash_event n (printed state.old.log)) ∷ state.old.log)) }
+    ensures stays { OnOk result ((m : ℕ) → (n.0 == m) ≡ false
+        → files_at m state.new ≡ files_at m state.old) }
+    ensures err { OnErr result (IsEnded state.old state.new) }
+{
+    if !state.book().runs(n) {
+        return refuse(state, at, Cause::Down);
+    }
+    crash_node(alloc, state, at, n, pick)
+}
+
+/// Reopens a node.
+pub fn reopen<D: FaultDir + Drop>(
+    state: &mut ClusterState<D>,
+    alloc: Global,
+    at: At,
+    n: NodeNo,
+) -> Result<(), NoMemory>
+    requires running { state.old.ended ≡ false }
+    requires fresh { entries_of_line at (printed state.old.log) ≡ [] }
+    requires node { IsNode state.old.nodes n.0 }
+    ensures ok { OnOk result (ReopensNode at n state.old state.new) }
+    ensures err { OnErr result (IsEnded state.old state.new) }
+{
+    if state.book().runs(n) {
+        return refuse(state, at, Cause::Up);
+    }
+    reopen_node(alloc, state, at, n)
+}

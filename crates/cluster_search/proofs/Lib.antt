@@ -1,0 +1,10 @@
+mod Closing
+mod Holding
+pub mod Leasing
+mod Listing
+mod Opened
+mod Opening
+mod PointNames
+mod ReadRows
+mod TicketFiles
+mod TicketPaths

@@ -1,0 +1,6 @@
+use Rattle.history_book.specs.Log.{printed}
+use Rattle.cluster_state.proofs.LifeRows.{search_no_commit}
+use Rattle.cluster_search.proofs.searches.end_search.Goals as goal
+
+pub has_no_commit-requires : goal.has_no_commit-requires
+has_no_commit-requires g c = record { line = search_no_commit (printed c.args.state.now.log) c.args.at c.args.n c.args.t c.args.v c.requires.started }

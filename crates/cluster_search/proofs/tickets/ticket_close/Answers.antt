@@ -1,0 +1,18 @@
+use Rattle.cluster_state.proofs.Rows.{fresh_start, legal_at}
+use Rattle.cluster_search.proofs.ReadRows.{ticket_told, close_rule, close_node}
+use Rattle.cluster_state.proofs.LifeRows.{fresh_no_commit}
+use Rattle.cluster_search.proofs.tickets.ticket_close.Goals as goal
+
+pub has_no_commit-requires : goal.has_no_commit-requires
+has_no_commit-requires g c = record { line = fresh_no_commit _ c.args.at c.requires.fresh }
+
+pub note_without-requires-clause-rule : goal.note_without-requires-clause-rule
+note_without-requires-clause-rule g c =
+    close_rule _ _ c.args.at c.args.t c.in-Some.opening (legal_at _ _ _ _ c.book-in-Some.ensures.nodes c.book-in-Some.ensures.log c.is_legal.ensures.legal) (ticket_told _ _ _ _ c.ticket.result _ c.book.ensures.log c.ticket.ensures.some c.in-Some.is)
+
+pub note_without-requires-clause-line : goal.note_without-requires-clause-line
+note_without-requires-clause-line g c = fresh_start _ c.args.at c.requires.fresh
+
+pub note_without-requires-clause-node : goal.note_without-requires-clause-node
+note_without-requires-clause-node g c =
+    close_node _ _ c.args.at c.args.t _ _ c.in-Some.opening c.book-in-Some.ensures.nodes c.book-in-Some.ensures.log c.is_legal.ensures.legal (ticket_told _ _ _ _ c.ticket.result _ c.book.ensures.log c.ticket.ensures.some c.in-Some.is)

@@ -1,0 +1,12 @@
+//! Searches of a cluster, and their tickets.
+#![tactic(auto)]
+
+mod line_lists;
+mod lists;
+mod reads;
+mod searches;
+mod tickets;
+
+pub use line_lists::files;
+pub use searches::{answer_end, ask_start, search_start};
+pub use tickets::{ticket_close, ticket_open};

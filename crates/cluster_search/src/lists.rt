@@ -1,0 +1,45 @@
+//! The names of the files of nodes, told in a line.
+
+ghost use Rattle.std.specs.Prelude.{◌≡◌, [], false, true, OnOk, OnErr};
+ghost use Rattle.history_rules.specs.Nodes.{IsNode, is_running};
+ghost use Rattle.history_rules.specs.Lines.{entries_of_line};
+ghost use Rattle.history_book.specs.Log.{printed};
+ghost use Rattle.cluster_state.specs.Run.{IsEnded};
+ghost use Rattle.cluster_state.specs.Lists.{TellsFiles};
+
+use cluster_nodes::names_in;
+use cluster_state::ClusterState;
+use disk_model::FaultDir;
+use history_rules::Event;
+use nrt_base::{At, NoMemory, NodeNo};
+use std::alloc::Global;
+
+/// Appends `Files` with the names in the directory of the running node `n`, ascending. The directory is not called. An error
+/// is want of memory: the cluster has ended, and its log is as before.
+pub fn list_files<D: FaultDir + Drop>(
+    alloc: Global,
+    cluster: &mut ClusterState<D>,
+    at: At,
+    n: NodeNo,
+) -> Result<(), NoMemory>
+    requires running { cluster.old.ended ≡ false }
+    requires fresh { entries_of_line at (printed cluster.old.log) ≡ [] }
+    requires node { IsNode cluster.old.nodes n.0 }
+    requires up { is_running n.0 (printed cluster.old.log) ≡ true }
+    ensures ok { OnOk result (TellsFiles at n cluster.old cluster.new) }
+    ensures err { OnErr result (IsEnded cluster.old cluster.new) }
+{
+    let book = cluster.ledger.book();
+    book.is_fresh(at);
+    cluster.is_apart(at);
+    cluster.has_no_commit(at);
+    let names = match names_in(alloc, &cluster.places, n) {
+        Ok(names) => names,
+        Err(fault) => {
+            cluster.ended = true;
+            return Err(fault);
+        }
+    };
+    cluster.note(at, Event::Files { n, names })?;
+    Ok(())
+}

@@ -1,3 +1,0 @@
-mod FirstNodes
-mod FirstPlaces
-mod FirstMerges

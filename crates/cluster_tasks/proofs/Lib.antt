@@ -1,3 +1,0 @@
-pub mod BoardRows
-pub mod Counts
-pub mod TaskFrames

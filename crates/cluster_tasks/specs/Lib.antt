@@ -1,2 +1,0 @@
-pub mod TaskLog
-pub mod Board

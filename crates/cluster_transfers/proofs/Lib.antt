@@ -1,6 +1,0 @@
-mod Handing
-mod HandPaths
-mod PartPaths
-mod JobEnds
-mod Ending
-mod TransferMerges

@@ -1,7 +1,0 @@
-mod Cuts
-mod Filling
-mod Writing
-mod Written
-mod Primaries
-mod PublishPaths
-mod PublishFiles

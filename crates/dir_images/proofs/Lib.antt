@@ -1,3 +1,0 @@
-mod NameTests
-mod Format
-mod Taking

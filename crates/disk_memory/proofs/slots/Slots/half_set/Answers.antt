@@ -1,0 +1,8 @@
+use Rattle.disk_memory.specs.Held.{outcome_of, with_outcome}
+use Rattle.disk_memory.specs.Table.{held_in}
+use Rattle.disk_memory.proofs.SettleLemmas.{noted_on}
+use Rattle.disk_memory.proofs.slots.Slots.half_set.Goals as goal
+
+pub invariant_of-self : goal.invariant_of-self
+invariant_of-self c =
+    noted_on c.self.inside.changed c.note.new.changed c.self.inside.by_name.entries c.half_set.new.slots.entries c.self.invariant c.note.ensures.kept c.half_set.result c.args.name.now (with_outcome (outcome_of c.args.state) (held_in c.self.inside.by_name.entries c.args.name.now)) c.note.ensures.here c.half_set.ensures.ok c.half_set.ensures.err

@@ -1,5 +1,0 @@
-use Rattle.history_laws.proofs.LawLemmas.{documents_are_few}
-use Rattle.history_laws.proofs.laws.documents_are_few.Goals as goal
-
-pub returns : goal.returns
-returns c = documents_are_few c.args.h.now

@@ -1,5 +1,0 @@
-use Rattle.history_laws.proofs.LawLemmas.{never_falls}
-use Rattle.history_laws.proofs.laws.versions_never_fall.Goals as goal
-
-pub returns : goal.returns
-returns c = never_falls c.args.h.now c.requires

@@ -1,4 +1,0 @@
-//! What holds of every legal history.
-#![tactic(auto)]
-
-pub mod laws;

@@ -1,2 +1,0 @@
-mod MergeRowLemmas
-mod MergeFrames

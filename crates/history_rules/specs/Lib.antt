@@ -1,0 +1,15 @@
+pub mod Commits
+pub mod FaultLaws
+pub mod Faults
+pub mod Laws
+pub mod Legal
+pub mod Lines
+pub mod Nodes
+pub mod Passed
+pub mod Plain
+pub mod Points
+pub mod Rules
+pub mod Started
+pub mod Steps
+pub mod Tasks
+pub mod Tickets

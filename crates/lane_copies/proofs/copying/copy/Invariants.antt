@@ -1,0 +1,6 @@
+use Rattle.script_serving.specs.declared.script.LineCommand.TheVariants.{Copy}
+use Rattle.lane_lines.specs.Turns.{TakesLineTo, IsUnbegunIn}
+use Rattle.lane_copies.proofs.copying.copy.Given as goal
+
+abbrev pub invariant-loop : goal.invariant-loop
+invariant-loop g l = TakesLineTo (IsUnbegunIn l.fn.at) l.lock (Copy l.fn.n) l.fn.at l.initial.seat l.seat

@@ -1,0 +1,7 @@
+use Rattle.script_serving.specs.declared.script.LineCommand.TheVariants.{Settle}
+use Rattle.lane_lines.specs.Turns.{TakesLineTo}
+use Rattle.lane_copies.proofs.Steps.{IsSettlingYet}
+use Rattle.lane_copies.proofs.settling.settle_on.Given as goal
+
+abbrev pub invariant-loop : goal.invariant-loop
+invariant-loop g l = TakesLineTo (IsSettlingYet l.fn.nodes l.fn.at l.left) l.lock Settle l.fn.at l.initial.seat l.seat

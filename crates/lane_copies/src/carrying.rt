@@ -1,0 +1,84 @@
+//! Files, carried over a link that passes the gate before each chunk.
+
+ghost use Rattle.std.specs.Prelude.{◌≡◌, IfOk};
+ghost use Rattle.codec_frame.specs.Checking.{HasFooter};
+ghost use Rattle.copy_state.specs.Meta.{IsMetaOf};
+ghost use Rattle.copy_job.specs.Copying.{IsPartOf};
+
+use bytes::Bytes;
+use cluster_nodes::FileTask;
+use copy_job::{Part, copy_file};
+use file_names::FileName;
+use lane_lines::{Gate, Place};
+use link_model::{Link, LinkFault, MemLink};
+use nrt_base::{At, LineNo, NoMemory, NodeNo};
+use std::alloc::{AllocError, Global};
+
+/// A link that passes the gate before each chunk, and is else the link that it wraps.
+#[derive(Drop)]
+pub struct GateLink<'g, G: Gate, L: Link> {
+    link: L,
+    gate: &'g G,
+    line: LineNo,
+    node: NodeNo,
+    name: FileName,
+    /// How many chunks were asked for.
+    chunks: usize,
+}
+
+impl<'g, G: Gate, L: Link> Link for GateLink<'g, G, L> {
+    ghost begun = { λ l. L.begun l.link };
+
+    ghost altered = { λ l. L.altered l.link };
+
+    ghost faults = { λ l. L.faults l.link };
+
+    ghost damages = { λ l. L.damages l.link };
+
+    ghost fate = { λ l. L.fate l.link };
+
+    fn begin(&mut self, file: &Bytes) -> Result<(), LinkFault> {
+        self.link.begin(file)
+    }
+
+    fn fetch(&mut self, at: usize, len: usize) -> Result<Bytes, LinkFault> {
+        self.gate
+            .pass(Place::Chunk(self.line, self.node, self.name, self.chunks));
+        self.chunks = self.chunks.wrapping_add(1);
+        self.link.fetch(at, len)
+    }
+
+    fn faults(&self) -> u64 {
+        self.link.faults()
+    }
+
+    fn damages(&self) -> u64 {
+        self.link.damages()
+    }
+}
+
+/// Carries a file whole to a node.
+pub fn carry<G: Gate>(
+    alloc: Global,
+    gate: &G,
+    at: At,
+    node: NodeNo,
+    file: &FileTask,
+) -> Result<Part, NoMemory>
+    requires meta { IsMetaOf file.now.source file.now.meta }
+    requires footer { HasFooter file.now.source }
+    ensures { IfOk result (IsPartOf file.now.name file.now.source file.now.meta) }
+{
+    let mut link = GateLink {
+        link: MemLink::new(alloc),
+        gate,
+        line: at.line,
+        node,
+        name: file.name,
+        chunks: 0,
+    };
+    match copy_file(alloc, &mut link, &file.source, &file.name, &file.meta) {
+        Ok(part) => Ok(part),
+        Err(_) => Err(AllocError),
+    }
+}

@@ -1,0 +1,106 @@
+//! Drains: a lane does tasks until as many count as its line asks for, or none is posted.
+
+ghost use Rattle.std.specs.Prelude.{◌≡◌, [], false, Some, IfOk, OnOk, OnErr};
+ghost use Rattle.history_rules.specs.Lines.{entries_of_line};
+ghost use Rattle.history_book.specs.Log.{printed};
+ghost use Rattle.script_serving.specs.declared.script.LineCommand.TheVariants.{Drain};
+ghost use Rattle.lane_lines.specs.Given.{Does};
+ghost use Rattle.lane_lines.specs.Turns.{IsUnbegunIn, NeverWaits, TurnShows, TurnsLine};
+ghost use Rattle.lane_threads.specs.Seats.{log_seen, IsLaneSeat, EndsItsLine};
+ghost use Rattle.lane_copies.specs.Taken.{WorksOn};
+
+use crate::tasks::do_first;
+use disk_model::FaultDir;
+use hist_lock::{HistLock, LaneSeat};
+use lane_lines::{Cluster, Gate, Turn, enter_cluster, give_way};
+use lane_threads::{Halt, leave};
+use nrt_base::{At, NoMemory};
+use std::alloc::{AllocError, Global};
+use std::sync::Wait;
+
+/// Ends a drain, where enough tasks count for it or none is posted. That no more count than it asks for is known of each cluster, but not
+/// of a value behind a lock.
+pub fn end_drain<D: FaultDir + Drop>(
+    cluster: &mut Cluster<D>,
+    at: At,
+    most: u32,
+) -> Result<Turn<()>, NoMemory>
+    requires running { cluster.old.ended ≡ false }
+    requires fresh { entries_of_line at (printed cluster.old.log) ≡ [] }
+    ensures ok { IfOk result (TurnShows (λ w. NeverWaits) (IsUnbegunIn at) at cluster.new) }
+    ensures err { OnErr result (cluster.new.log ≡ cluster.old.log) }
+    ensures does { OnOk result (Does (Drain most) at cluster.old cluster.new) }
+{
+    let done = cluster.counted(at);
+    if done > most {
+        return Err(AllocError);
+    }
+    cluster.drained(at, most)
+}
+
+// Ends a drain, or waits.
+fn end<R: Wait, D: FaultDir + Drop>(
+    rt: &R,
+    lock: &HistLock<Cluster<D>>,
+    nodes: u8,
+    seat: &mut LaneSeat<Cluster<D>>,
+    at: At,
+    most: u32,
+) -> Result<Turn<()>, NoMemory>
+    requires seat { IsLaneSeat false lock.now at.lane.0 seat.old }
+    requires fresh { entries_of_line at (printed (log_seen seat.old)) ≡ [] }
+    ensures { IfOk result (TurnsLine (λ w. NeverWaits) (IsUnbegunIn at) lock.now (Drain most) at
+        seat.old seat.new) }
+{
+    let mut held = enter_cluster(rt, lock, nodes, at, seat)?;
+    let answer = end_drain(held.value(), at, most);
+    leave(lock, at.lane, seat, held);
+    answer
+}
+
+// Does the task that was posted first, for a drain line. Where another has taken it the line gives way.
+fn help<R: Wait, D: FaultDir + Drop, G: Gate>(
+    rt: &R,
+    alloc: Global,
+    lock: &HistLock<Cluster<D>>,
+    nodes: u8,
+    gate: &G,
+    halt: &Halt,
+    seat: &mut LaneSeat<Cluster<D>>,
+    at: At,
+) -> Result<(), NoMemory>
+    requires { IsLaneSeat false lock.now at.lane.0 seat.old }
+    ensures { OnOk result (WorksOn lock.now at.lane.0 (Some at) seat.old seat.new) }
+{
+    let done = do_first(rt, alloc, lock, nodes, gate, halt, seat, at, Some(at))?;
+    if done {
+        return Ok(());
+    }
+    give_way(halt)
+}
+
+/// Does tasks of merges, until as many count for the line as it asks for, or none is posted.
+pub fn drain<R: Wait, D: FaultDir + Drop, G: Gate>(
+    rt: &R,
+    alloc: Global,
+    lock: &HistLock<Cluster<D>>,
+    nodes: u8,
+    gate: &G,
+    halt: &Halt,
+    seat: &mut LaneSeat<Cluster<D>>,
+    at: At,
+    most: u32,
+) -> Result<(), NoMemory>
+    requires seat { IsLaneSeat false lock.now at.lane.0 seat.old }
+    requires fresh { entries_of_line at (printed (log_seen seat.old)) ≡ [] }
+    ensures { OnOk result (EndsItsLine false lock.now (Drain most) at seat.old seat.new) }
+{
+    for _ in rt.forever() {
+        match end(rt, lock, nodes, seat, at, most)? {
+            Turn::Work(()) => unreachable!(),
+            Turn::Done => return Ok(()),
+            Turn::Busy => help(rt, alloc, lock, nodes, gate, halt, seat, at)?,
+        }
+    }
+    unreachable!()
+}

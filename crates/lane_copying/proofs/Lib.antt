@@ -1,4 +1,0 @@
-mod Stays
-mod JobCalls
-mod Steps
-pub mod Given

@@ -1,5 +1,0 @@
-use Rattle.lane_copying.specs.Jobs.{IsCopyingBy, StepsJob}
-use Rattle.lane_copying.proofs.jobs.bring_over.Given as goal
-
-abbrev pub invariant-loop : goal.invariant-loop
-invariant-loop g l = StepsJob l.fn.nodes l.lock l.fn.at l.task (IsCopyingBy l.fn.at l.task) l.initial.seat l.seat

@@ -1,5 +1,0 @@
-mod Places
-mod HeardLanes
-mod Crews
-mod Seatings
-mod Endings

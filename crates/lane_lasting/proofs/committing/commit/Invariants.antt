@@ -1,6 +1,0 @@
-use Rattle.script_serving.specs.declared.script.LineCommand.TheVariants.{Commit}
-use Rattle.lane_sections.specs.Turns.{TakesLineTo, IsUnbegunIn}
-use Rattle.lane_lasting.proofs.committing.commit.Given as goal
-
-abbrev pub invariant-loop : goal.invariant-loop
-invariant-loop g l = TakesLineTo (IsUnbegunIn l.fn.at) l.lock (Commit l.fn.n) l.fn.at l.initial.seat l.seat

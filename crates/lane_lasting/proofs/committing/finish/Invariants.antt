@@ -1,7 +1,0 @@
-use Rattle.script_serving.specs.declared.script.LineCommand.TheVariants.{Commit}
-use Rattle.lane_sections.specs.Turns.{TakesLineTo}
-use Rattle.lane_lasting.specs.Commits.{HasBegunCommit}
-use Rattle.lane_lasting.proofs.committing.finish.Given as goal
-
-abbrev pub invariant-loop : goal.invariant-loop
-invariant-loop g l = TakesLineTo (HasBegunCommit l.fn.at l.task) l.lock (Commit l.task.node) l.fn.at l.initial.seat l.seat

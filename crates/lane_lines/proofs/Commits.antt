@@ -1,0 +1,40 @@
+-- What the calls of a commit show of its line.
+use Rattle.std.proofs.Common.{◌≡◌, [], false, Some, ap, ◌∙◌, sym, subst}
+use Rattle.std.specs.Prelude.{Result, OnOk}
+use Rattle.nrt_base.specs.declared.numbers.At.{At}
+use Rattle.nrt_base.specs.declared.numbers.NodeNo.{NodeNo}
+use Rattle.history_rules.specs.declared.entry.Event.TheVariants.{Committing}
+use Rattle.history_rules.specs.Lines.{entries_of_line}
+use Rattle.history_book.specs.declared.inner.Mark.{Mark}
+use Rattle.history_book.specs.Log.{printed}
+use Rattle.script_serving.specs.declared.script.LineCommand.TheVariants.{Commit}
+use Rattle.hist_lock.specs.declared.grows.Grows.{Ghosts}
+use Rattle.hist_lock.specs.declared.lock.LaneSeat.{LaneSeat}
+use Rattle.hist_lock.specs.declared.lock.HistLock.{HistLock}
+use Rattle.lane_threads.specs.Seats.{EndsItsLine}
+use Rattle.cluster_nodes.specs.declared.tasks.CommitTask.{CommitTask}
+use Rattle.cluster_state.specs.Run.{Run}
+use Rattle.cluster_state.specs.declared.turn.Turn.{Turn}
+use Rattle.cluster_state.specs.declared.turn.Turn.TheVariants.{Work, Done, Busy}
+use Rattle.cluster_state.specs.LifeCalls.{CommitStarts, CommitSteps}
+use Rattle.cluster_core.specs.Doing.{IsRepliedAtDone, IsBegunAtWork}
+use Rattle.lane_lines.specs.Turns.{IsUnbegunIn, NeverWaits, TurnShows}
+use Rattle.lane_lines.specs.Commits.{HasBegunCommit, IsCommitting}
+
+pub commit_shows : (at : At) (n : NodeNo) (old new : Run) (turn : Turn CommitTask) → entries_of_line at (printed old.log) ≡ [] → CommitStarts at n old new turn → IsRepliedAtDone at new turn
+    → IsBegunAtWork at (λ task. Committing n task.version) new turn → TurnShows (IsCommitting at n) (IsUnbegunIn at) at new turn
+commit_shows at n old new (Work task) fresh starts replied begun =
+    record { node = starts.0.node; begun = begun.last ∙ ap (λ (m : NodeNo). Some (Committing m task.version)) (sym starts.0.node) }
+commit_shows at n old new Done fresh starts replied begun = replied
+commit_shows at n old new Busy fresh starts replied begun = subst (λ (r : Run). entries_of_line at (printed r.log) ≡ []) (sym starts.0) fresh
+
+pub step_shows : (at : At) (task : CommitTask) (old new : Run) (turn : Turn (Unit {0})) → HasBegunCommit at task old.log → CommitSteps at task.node task.version old new turn → IsRepliedAtDone at new turn
+    → TurnShows (λ made. HasBegunCommit at task) NeverWaits at new turn
+step_shows at task old new (Work made) begun steps replied = subst (HasBegunCommit at task) (sym steps.0.log) begun
+step_shows at task old new Done begun steps replied = replied
+step_shows at task old new Busy begun steps replied = absurd steps
+
+-- the node of what was handed out is the one that the line commits
+pub on_node : {T E : Type 0} {g : Ghosts Run Mark} (lock : HistLock Run Mark) (at : At) (m n : NodeNo) (r : Result T E) (before after : LaneSeat Run Mark g) → m ≡ n
+    → OnOk r (EndsItsLine false lock (Commit m) at before after) → OnOk r (EndsItsLine false lock (Commit n) at before after)
+on_node lock at m n r before after is ends = subst (λ (k : NodeNo). OnOk r (EndsItsLine false lock (Commit k) at before after)) is ends

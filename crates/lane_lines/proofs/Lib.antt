@@ -1,0 +1,4 @@
+mod Commits
+mod Publishes
+mod Searches
+pub mod Sections

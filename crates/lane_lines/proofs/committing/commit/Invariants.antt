@@ -1,0 +1,6 @@
+use Rattle.script_serving.specs.declared.script.LineCommand.TheVariants.{Commit}
+use Rattle.lane_lines.specs.Turns.{TakesLineTo, IsUnbegunIn}
+use Rattle.lane_lines.proofs.committing.commit.Given as goal
+
+abbrev pub invariant-loop : goal.invariant-loop
+invariant-loop g l = TakesLineTo (IsUnbegunIn l.fn.at) l.lock (Commit l.fn.n) l.fn.at l.initial.seat l.seat

@@ -1,0 +1,20 @@
+use Rattle.script_serving.specs.declared.script.LineCommand.TheVariants.{Publish}
+use Rattle.lane_lines.specs.Turns.{IsUnbegunIn}
+use Rattle.lane_lines.proofs.Sections.{found_entered, if_ok_three, call_extends, on_call_turns}
+use Rattle.lane_lines.specs.Flushes.{IsFlushing}
+use Rattle.lane_lines.proofs.Publishes.{publish_shows}
+use Rattle.lane_lines.proofs.publishing.start.Goals as goal
+
+pub leave-requires-clause-extends : goal.leave-requires-clause-extends
+leave-requires-clause-extends g c =
+    let entered = found_entered c.args.lock.now c.args.at c.args.seat.now c.enter_cluster.new.seat c.value.result.now c.in_ok-held.held c.value.ensures.value c.in_ok-held.ensures.entered in
+    call_extends c.args.lock.now Publish c.args.at c.args.seat.now c.enter_cluster.new.seat c.value.result.now c.publish_start-answer.new.self entered c.publish_start-answer.result c.publish_start-answer.ensures.does c.publish_start-answer.ensures.err
+
+pub returns : goal.returns
+returns g c =
+    let entered = found_entered c.args.lock.now c.args.at c.args.seat.now c.enter_cluster.new.seat c.value.result.now c.in_ok-held.held c.value.ensures.value c.in_ok-held.ensures.entered in
+    let found = c.value.result.now in
+    let new = c.publish_start-answer.new.self in
+    on_call_turns c.args.lock.now Publish c.args.at c.args.seat.now c.enter_cluster.new.seat found new entered c.leave.new.seat c.leave.ensures.seat c.leave.ensures.seen (IsFlushing c.args.at) (IsUnbegunIn c.args.at)
+    c.publish_start-answer.result c.publish_start-answer.ensures.does
+    (if_ok_three c.publish_start-answer.result (λ turn. publish_shows c.args.at found new turn (entered.stays.fresh c.requires.fresh)) c.publish_start-answer.ensures.ok c.publish_start-answer.ensures.replied c.publish_start-answer.ensures.begun)

@@ -1,0 +1,5 @@
+pub mod Commits
+pub mod Flushes
+pub mod Given
+pub mod Reads
+pub mod Turns

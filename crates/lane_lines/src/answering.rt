@@ -1,0 +1,42 @@
+//! The end of a search.
+
+ghost use Rattle.std.specs.Prelude.{◌≡◌, false, OnOk};
+ghost use Rattle.history_rules.specs.Lines.{last_of_line};
+ghost use Rattle.history_book.specs.Log.{printed};
+ghost use Rattle.script_serving.specs.declared.script.LineCommand.{LineCommand};
+ghost use Rattle.cluster_core.specs.Doing.{AsksFor};
+ghost use Rattle.lane_threads.specs.Seats.{log_seen, IsLaneSeat, EndsItsLine};
+ghost use Rattle.lane_lines.specs.Reads.{IsEvaluated};
+
+use crate::section::enter_cluster;
+use cluster_core::Cluster;
+use disk_model::FaultDir;
+use documents::{Answer, Query};
+use hist_lock::{HistLock, LaneSeat};
+use lane_threads::leave;
+use nrt_base::{At, NoMemory};
+use std::alloc::Global;
+use std::sync::Wait;
+
+/// Ends a search with its answer.
+pub fn answer_line<R: Wait, D: FaultDir + Drop>(
+    rt: &R,
+    alloc: Global,
+    lock: &HistLock<Cluster<D>>,
+    nodes: u8,
+    seat: &mut LaneSeat<Cluster<D>>,
+    at: At,
+    query: &Query,
+    answer: Answer,
+) -> Result<(), NoMemory>
+    requires seat { IsLaneSeat false lock.now at.lane.0 seat.old }
+    requires evaluated { IsEvaluated at query.now answer (log_seen seat.old) }
+    ensures { (command : LineCommand)
+        → AsksFor command query.now (last_of_line at (printed (log_seen seat.old)))
+        → OnOk result (EndsItsLine false lock.now command at seat.old seat.new) }
+{
+    let mut held = enter_cluster(rt, lock, nodes, at, seat)?;
+    let ended = held.value().answer_end(alloc, at, query, answer);
+    leave(lock, at.lane, seat, held);
+    ended
+}

@@ -1,0 +1,132 @@
+//! Searches. Queries are evaluated outside the lock.
+
+ghost use Rattle.std.specs.Prelude.{◌≡◌, [], false, true, OnOk, IfOk, IsTrue};
+ghost use Rattle.documents.specs.declared.query.Query.{Query};
+ghost use Rattle.documents.specs.Matching.{is_well_formed};
+ghost use Rattle.history_rules.specs.Nodes.{IsNode};
+ghost use Rattle.history_rules.specs.Lines.{entries_of_line};
+ghost use Rattle.history_book.specs.Log.{printed};
+ghost use Rattle.script_serving.specs.declared.script.LineCommand.TheVariants.{Search, Ask};
+ghost use Rattle.lane_threads.specs.Seats.{log_seen, IsLaneSeat, EndsItsLine};
+ghost use Rattle.lane_lines.specs.Turns.{NeverWaits, TurnsLine};
+ghost use Rattle.lane_lines.specs.Reads.{IsSearchingNode, IsAskingTicket};
+
+use crate::answering::answer_line;
+use crate::evaluation::evaluate;
+use crate::gate::{Gate, Place};
+use crate::section::enter_cluster;
+use cluster_core::{Cluster, Turn};
+use disk_model::FaultDir;
+use documents::Query;
+use hist_lock::{HistLock, LaneSeat};
+use lane_threads::leave;
+use nrt_base::{At, NoMemory, NodeNo, TicketNo};
+use searcher_switch::Lease;
+use seg_reader::Segment;
+use std::alloc::Global;
+use std::sync::Wait;
+
+// Starts a search of a node.
+fn start_search<R: Wait, D: FaultDir + Drop>(
+    rt: &R,
+    alloc: Global,
+    lock: &HistLock<Cluster<D>>,
+    nodes: u8,
+    seat: &mut LaneSeat<Cluster<D>>,
+    at: At,
+    n: NodeNo,
+) -> Result<Turn<Lease<Segment>>, NoMemory>
+    requires seat { IsLaneSeat false lock.now at.lane.0 seat.old }
+    requires fresh { entries_of_line at (printed (log_seen seat.old)) ≡ [] }
+    requires node { IsNode nodes n.0 }
+    ensures { (query : Query) → IfOk result (TurnsLine (IsSearchingNode at n) NeverWaits
+        lock.now (Search n query) at seat.old seat.new) }
+{
+    let mut held = enter_cluster(rt, lock, nodes, at, seat)?;
+    let answer = held.value().search_start(alloc, at, n);
+    leave(lock, at.lane, seat, held);
+    answer
+}
+
+// Starts a search of a ticket, and tells the ticket's node.
+fn start_ask<R: Wait, D: FaultDir + Drop>(
+    rt: &R,
+    alloc: Global,
+    lock: &HistLock<Cluster<D>>,
+    nodes: u8,
+    seat: &mut LaneSeat<Cluster<D>>,
+    at: At,
+    t: TicketNo,
+) -> Result<(Option<NodeNo>, Turn<Lease<Segment>>), NoMemory>
+    requires seat { IsLaneSeat false lock.now at.lane.0 seat.old }
+    requires fresh { entries_of_line at (printed (log_seen seat.old)) ≡ [] }
+    ensures { (query : Query) → IfOk result (λ r. TurnsLine (IsAskingTicket at t) NeverWaits
+        lock.now (Ask t query) at seat.old seat.new r.1) }
+{
+    let mut held = enter_cluster(rt, lock, nodes, at, seat)?;
+    let cluster = held.value();
+    let node = cluster.ticket_node(at.lane, t);
+    let answer = cluster.ask_start(alloc, at, t);
+    leave(lock, at.lane, seat, held);
+    Ok((node, answer?))
+}
+
+/// Searches at the point that a node searches.
+pub fn search<R: Wait, D: FaultDir + Drop, G: Gate>(
+    rt: &R,
+    alloc: Global,
+    lock: &HistLock<Cluster<D>>,
+    nodes: u8,
+    gate: &G,
+    seat: &mut LaneSeat<Cluster<D>>,
+    at: At,
+    n: NodeNo,
+    query: &Query,
+) -> Result<(), NoMemory>
+    requires seat { IsLaneSeat false lock.now at.lane.0 seat.old }
+    requires fresh { entries_of_line at (printed (log_seen seat.old)) ≡ [] }
+    requires node { IsNode nodes n.0 }
+    requires well_formed { IsTrue (is_well_formed query.now) }
+    ensures { OnOk result (EndsItsLine false lock.now (Search n query.now) at seat.old seat.new) }
+{
+    match start_search(rt, alloc, lock, nodes, seat, at, n)? {
+        Turn::Busy => unreachable!(),
+        Turn::Done => Ok(()),
+        Turn::Work(lease) => {
+            gate.pass(Place::Evaluate(at.line, n));
+            let answer = evaluate(alloc, &lease, query)?;
+            answer_line(rt, alloc, lock, nodes, seat, at, query, answer)
+        }
+    }
+}
+
+/// Searches at the point of a ticket.
+pub fn ask<R: Wait, D: FaultDir + Drop, G: Gate>(
+    rt: &R,
+    alloc: Global,
+    lock: &HistLock<Cluster<D>>,
+    nodes: u8,
+    gate: &G,
+    seat: &mut LaneSeat<Cluster<D>>,
+    at: At,
+    t: TicketNo,
+    query: &Query,
+) -> Result<(), NoMemory>
+    requires seat { IsLaneSeat false lock.now at.lane.0 seat.old }
+    requires fresh { entries_of_line at (printed (log_seen seat.old)) ≡ [] }
+    requires well_formed { IsTrue (is_well_formed query.now) }
+    ensures { OnOk result (EndsItsLine false lock.now (Ask t query.now) at seat.old seat.new) }
+{
+    let (node, turn) = start_ask(rt, alloc, lock, nodes, seat, at, t)?;
+    match turn {
+        Turn::Busy => unreachable!(),
+        Turn::Done => Ok(()),
+        Turn::Work(lease) => {
+            if let Some(n) = node {
+                gate.pass(Place::Evaluate(at.line, n));
+            }
+            let answer = evaluate(alloc, &lease, query)?;
+            answer_line(rt, alloc, lock, nodes, seat, at, query, answer)
+        }
+    }
+}

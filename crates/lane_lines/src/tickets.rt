@@ -1,0 +1,80 @@
+//! Tickets, and lists of files.
+
+ghost use Rattle.std.specs.Prelude.{◌≡◌, ◌≢◌, [], false, OnOk};
+ghost use Rattle.history_rules.specs.Nodes.{IsNode};
+ghost use Rattle.history_rules.specs.Lines.{entries_of_line};
+ghost use Rattle.history_book.specs.Log.{printed};
+ghost use Rattle.script_serving.specs.declared.script.LineCommand.TheVariants.{Open, Close, Files};
+ghost use Rattle.lane_threads.specs.Seats.{log_seen, IsLaneSeat, EndsItsLine};
+
+use crate::section::enter_cluster;
+use cluster_core::Cluster;
+use disk_model::FaultDir;
+use hist_lock::{HistLock, LaneSeat};
+use lane_threads::leave;
+use nrt_base::{At, NoMemory, NodeNo, TicketNo};
+use std::alloc::Global;
+use std::sync::Wait;
+
+/// Opens a ticket.
+pub fn open<R: Wait, D: FaultDir + Drop>(
+    rt: &R,
+    alloc: Global,
+    lock: &HistLock<Cluster<D>>,
+    nodes: u8,
+    seat: &mut LaneSeat<Cluster<D>>,
+    at: At,
+    n: NodeNo,
+    t: TicketNo,
+) -> Result<(), NoMemory>
+    requires seat { IsLaneSeat false lock.now at.lane.0 seat.old }
+    requires fresh { entries_of_line at (printed (log_seen seat.old)) ≡ [] }
+    requires node { IsNode nodes n.0 }
+    requires number { t.0 ≢ 0 }
+    ensures { OnOk result (EndsItsLine false lock.now (Open n t) at seat.old seat.new) }
+{
+    let mut held = enter_cluster(rt, lock, nodes, at, seat)?;
+    let answer = held.value().ticket_open(alloc, at, n, t);
+    leave(lock, at.lane, seat, held);
+    answer
+}
+
+/// Closes a ticket.
+pub fn close<R: Wait, D: FaultDir + Drop>(
+    rt: &R,
+    lock: &HistLock<Cluster<D>>,
+    nodes: u8,
+    seat: &mut LaneSeat<Cluster<D>>,
+    at: At,
+    t: TicketNo,
+) -> Result<(), NoMemory>
+    requires seat { IsLaneSeat false lock.now at.lane.0 seat.old }
+    requires fresh { entries_of_line at (printed (log_seen seat.old)) ≡ [] }
+    ensures { OnOk result (EndsItsLine false lock.now (Close t) at seat.old seat.new) }
+{
+    let mut held = enter_cluster(rt, lock, nodes, at, seat)?;
+    let answer = held.value().ticket_close(at, t);
+    leave(lock, at.lane, seat, held);
+    answer
+}
+
+/// Lists the files of a node.
+pub fn list_files<R: Wait, D: FaultDir + Drop>(
+    rt: &R,
+    alloc: Global,
+    lock: &HistLock<Cluster<D>>,
+    nodes: u8,
+    seat: &mut LaneSeat<Cluster<D>>,
+    at: At,
+    n: NodeNo,
+) -> Result<(), NoMemory>
+    requires seat { IsLaneSeat false lock.now at.lane.0 seat.old }
+    requires fresh { entries_of_line at (printed (log_seen seat.old)) ≡ [] }
+    requires node { IsNode nodes n.0 }
+    ensures { OnOk result (EndsItsLine false lock.now (Files n) at seat.old seat.new) }
+{
+    let mut held = enter_cluster(rt, lock, nodes, at, seat)?;
+    let answer = held.value().files(alloc, at, n);
+    leave(lock, at.lane, seat, held);
+    answer
+}

@@ -1,5 +1,0 @@
-mod Silence
-mod Claims
-mod Works
-mod Drains
-mod Hearing

@@ -1,6 +1,0 @@
-use Rattle.script_serving.specs.declared.script.LineCommand.TheVariants.{Drain}
-use Rattle.lane_copying.specs.Given.{TakesLineTo, IsUnbegunIn}
-use Rattle.lane_merging.proofs.draining.drain.Given as goal
-
-abbrev pub invariant-loop : goal.invariant-loop
-invariant-loop g l = TakesLineTo (IsUnbegunIn l.fn.at) l.lock (Drain l.fn.most) l.fn.at l.initial.seat l.seat

@@ -1,5 +1,0 @@
-use Rattle.lane_merging.specs.Taken.{WorksOn}
-use Rattle.lane_merging.proofs.tasks.cut_over.Given as goal
-
-abbrev pub invariant-loop : goal.invariant-loop
-invariant-loop g l = WorksOn l.lock l.fn.at.lane.0 l.task.by l.initial.seat l.seat

@@ -1,5 +1,0 @@
-use Rattle.lane_parts.specs.Parts.{HasHeard}
-use Rattle.lane_parts.proofs.turn.do_tasks.Given as goal
-
-abbrev pub invariant-loop : goal.invariant-loop
-invariant-loop g l = HasHeard (g.Q.RunsLines.set_up l.runner).log l.lock l.initial.lane l.lane

@@ -1,4 +1,0 @@
--- The words of the crates below that this crate gives on to those above.
-pub use Rattle.cluster_core.specs.Doing.{AsksFor, Does, IsBegunAtWork, IsBegunBy, IsReplied, IsRepliedAtDone, writing_command}
-pub use Rattle.cluster_core.specs.Given.{DrainTurns, PrecopyTurns}
-pub use Rattle.cluster_core.specs.Tasks.{DoesTask}

@@ -1,0 +1,44 @@
+use Rattle.std.proofs.Common.{◌∙◌, sym, subst, Bool, arith}
+use denote.Exit.{yes}
+use denote.Param.Send.{param_sync, arg_sync}
+use Rattle.lane_threads.specs.Parts.{HasHeard, IsIdleLane, MayRunPart, TakesTurn}
+use Rattle.lane_threads.specs.Lanes.{EachLane, EachChange}
+use Rattle.lane_threads.proofs.Crews.{each_idle, crew_did}
+use Rattle.lane_threads.proofs.HeardLanes.{idle_after, all_heard, included_before}
+use Rattle.lane_threads.proofs.phase.run_phase.Goals as goal
+
+pub run_parts-requires-sync-P : goal.run_parts-requires-sync-P
+run_parts-requires-sync-P g c κs within = param_sync _ _ (arg_sync _ yes _ c.phase_is_shared.ensures)
+
+pub run_parts-requires-clause-lanes : goal.run_parts-requires-clause-lanes
+run_parts-requires-clause-lanes g c = λ κs lives. c.requires.crew.lanes
+
+pub run_parts-requires-clause-may : goal.run_parts-requires-clause-may
+run_parts-requires-clause-may g c = λ κs lives.
+    subst (λ (b : Bool). EachLane (MayRunPart b c.args.lock.now (g.Q.RunsLines.runs c.args.runner.now) c.args.phase.now) c.args.lanes.now) (sym c.requires.logged) c.requires.may
+
+pub do_left-requires-clause-some : goal.do_left-requires-clause-some
+do_left-requires-clause-some g c = let count = c.run_parts.ensures.length in let lanes = c.requires.crew.lanes in omega (arith, count, lanes)
+
+pub do_left-requires-clause-idle : goal.do_left-requires-clause-idle
+do_left-requires-clause-idle g c =
+    each_idle (g.Q.RunsLines.set_up c.args.runner.now).log c.args.lock.now c.args.phase.now c.args.lanes.now c.run_parts.new.crew c.run_parts.new.crew c.run_parts.ensures.length c.run_parts.ensures.ran (c.any_failed.ensures c.if-any_failed.false)
+
+pub tell_all-requires-clause-idle : goal.tell_all-requires-clause-idle
+tell_all-requires-clause-idle g c =
+    subst (λ (b : Bool). EachLane (IsIdleLane b c.args.lock.now) c.do_left.new.lanes) c.requires.logged
+    (idle_after (g.Q.RunsLines.set_up c.args.runner.now).log c.args.lock.now c.run_parts.new.crew c.do_left.new.lanes c.in_ok-do_left.ensures.length c.in_ok-do_left.ensures.heard)
+
+pub returns : goal.returns
+returns g c =
+    let logged = c.args.logged in
+    let lock = c.args.lock.now in
+    let mid = c.run_parts.new.crew in
+    let left = c.do_left.new.lanes in
+    let new = c.tell_all.new.lanes in
+    let turns = subst (λ (b : Bool). EachChange (TakesTurn b lock c.args.phase.now) c.args.lanes.now mid) c.requires.logged c.run_parts.ensures.ran in
+    let heard = subst (λ (b : Bool). EachChange (HasHeard b lock) mid left) c.requires.logged c.in_ok-do_left.ensures.heard in
+    let count = c.in_ok-do_left.ensures.length in
+    crew_did logged lock c.args.phase.now c.args.lanes.now mid new c.run_parts.ensures.length turns (c.any_failed.ensures c.if-any_failed.false) c.requires.phase c.requires.crew (c.tell_all.ensures.length ∙ count)
+    (all_heard logged lock mid left new c.args.hub.now count heard c.tell_all.ensures.heard) (included_before logged lock mid left new count heard c.tell_all.ensures.all)
+    c.args.hub.now c.tell_all.new.hub c.tell_all.ensures.splits c.tell_all.ensures.hub

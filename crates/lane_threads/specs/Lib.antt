@@ -1,0 +1,7 @@
+pub mod Calls
+pub mod Lanes
+pub mod Owes
+pub mod Parts
+pub mod Phases
+pub mod Seats
+pub mod Walks

@@ -1,5 +1,0 @@
-use Rattle.lane_walks.proofs.LineLemmas.{fresh_after}
-use Rattle.lane_walks.proofs.laws.line_may_wait.Goals as goal
-
-pub returns : goal.returns
-returns c = fresh_after _ _ _ _ _ _ c.requires.before c.requires.after

@@ -1,9 +1,0 @@
-use Rattle.lane_walks.proofs.WalkLemmas.{apart_goes}
-use Rattle.lane_walks.proofs.StayLemmas.{line_stays}
-use Rattle.lane_walks.proofs.laws.others_leave_a_line.Goals as goal
-
-pub returns : goal.returns
-returns c = record {
-  goes = apart_goes _ _ _ _ _ c.requires;
-  stays = line_stays c.args.at _ _ _ c.requires;
-}

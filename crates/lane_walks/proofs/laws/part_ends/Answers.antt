@@ -1,5 +1,0 @@
-use Rattle.lane_walks.proofs.LineLemmas.{lines_ran}
-use Rattle.lane_walks.proofs.laws.part_ends.Goals as goal
-
-pub returns : goal.returns
-returns c = lines_ran _ _ _ _ _ _ c.requires.all c.requires.going

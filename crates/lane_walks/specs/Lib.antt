@@ -1,3 +1,0 @@
-pub mod Owes
-pub mod Walks
-pub mod Phases

@@ -1,6 +1,0 @@
-use Rattle.script_serving.specs.declared.script.LineCommand.TheVariants.{Publish}
-use Rattle.lane_sections.specs.Turns.{TakesLineTo, IsUnbegunIn}
-use Rattle.lane_writing.proofs.publishing.publish.Given as goal
-
-abbrev pub invariant-loop : goal.invariant-loop
-invariant-loop g l = TakesLineTo (IsUnbegunIn l.fn.at) l.lock Publish l.fn.at l.initial.seat l.seat

@@ -1,5 +1,0 @@
-use Rattle.line_copies.proofs.CopyRows.{reached_by}
-use Rattle.line_copies.proofs.copies.is_behind.Goals as goal
-
-pub returns-clause-reached : goal.returns-clause-reached
-returns-clause-reached c = λ other. reached_by _ _ c.args.n.0 _ _ c.is_legal.ensures.legal c.version.ensures c.newest.ensures other

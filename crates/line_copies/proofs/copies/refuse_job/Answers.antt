@@ -1,5 +1,0 @@
-use Rattle.line_turns.proofs.LifeRows.{job_line}
-use Rattle.line_copies.proofs.copies.refuse_job.Goals as goal
-
-pub has_no_commit-requires : goal.has_no_commit-requires
-has_no_commit-requires g c = record { line = job_line _ _ c.args.row.job.at _ _ c.book.ensures.log c.job_shows.ensures.started }

@@ -1,7 +1,0 @@
-use Rattle.std.proofs.lemmas.Result.{on_ok_weaker}
-use Rattle.line_turns.proofs.LifeRows.{unreopened, runs_told}
-use Rattle.line_lives.proofs.lives.reopen.Goals as goal
-
-pub returns-then-runs-clause-ok : goal.returns-then-runs-clause-ok
-returns-then-runs-clause-ok g c = on_ok_weaker c.refuse.result
-    (λ now. unreopened c.args.at c.args.n c.args.state.now c.refuse.new.state (runs_told c.args.n.0 _ _ _ _ c.book.ensures.log c.runs.ensures c.if-runs.true) now) c.refuse.ensures.ok

@@ -1,2 +1,0 @@
-pub mod TaskCalls
-pub mod Given

@@ -1,4 +1,0 @@
-pub mod Calls
-pub mod CopyCalls
-pub mod LifeCalls
-pub mod Given

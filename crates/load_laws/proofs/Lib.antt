@@ -1,7 +1,0 @@
-mod CalmPasts
-mod FewNames
-mod KeyedOps
-mod LaneSplits
-mod LastLines
-mod LoadTurns
-pub mod Searching

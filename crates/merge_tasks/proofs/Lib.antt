@@ -1,0 +1,5 @@
+pub mod BoardRows
+pub mod Counts
+mod MergeFrames
+mod MergeRowLemmas
+pub mod TaskFrames

@@ -1,8 +1,0 @@
-use Rattle.node_files.proofs.Appearing.{step_appears, stop_appears}
-use Rattle.node_files.proofs.laws.step_appears.Goals as goal
-
-pub returns-clause-step : goal.returns-clause-step
-returns-clause-step c = step_appears
-
-pub returns-clause-stopped : goal.returns-clause-stopped
-returns-clause-stopped c = stop_appears

@@ -1,3 +1,0 @@
--- The lemmas of the crates below that this crate gives on to those above.
-pub use Rattle.cluster_places.proofs.Slots.{place_read}
-pub use Rattle.cluster_places.proofs.Taking.{moved_one}

@@ -1,3 +1,0 @@
-pub mod JobFiles
-mod JobNumbers
-pub mod Given

@@ -1,2 +1,0 @@
-mod CrashedPlaces
-mod EndedJobs

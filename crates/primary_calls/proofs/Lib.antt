@@ -1,2 +1,0 @@
-mod Opening
-pub mod Given

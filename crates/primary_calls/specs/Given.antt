@@ -1,6 +1,0 @@
--- The words of the crates below that this crate gives on to those above.
-pub use Rattle.node_files.specs.Appearing.{AppearsOnly, IsNameInFlight, NoneAppears}
-pub use Rattle.node_files.specs.Node.{IsWholeNode}
-pub use Rattle.node_files.specs.Standing.{ImagesStand, IsStanding}
-pub use Rattle.searcher_switch.specs.Searching.{IsLeaseOf, searcher_names}
-pub use Rattle.searcher_switch.specs.Tickets.{ticket_at, tickets_without}

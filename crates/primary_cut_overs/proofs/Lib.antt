@@ -1,3 +1,0 @@
-mod CutSteps
-mod CutPlaced
-mod CutMaking

@@ -1,2 +1,0 @@
-pub mod CutOverCalls
-pub mod Given

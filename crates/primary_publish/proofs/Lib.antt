@@ -1,8 +1,0 @@
-mod Publishing
-mod Starting
-mod NextNames
-mod NextRecords
-mod Turns
-mod Joining
-mod Working
-mod StepFiles

@@ -1,4 +1,0 @@
-pub mod Publishing
-pub mod NextNames
-pub mod NextRecords
-pub mod Turns

@@ -1,3 +1,0 @@
-mod Begun
-mod Begins
-mod Choosing

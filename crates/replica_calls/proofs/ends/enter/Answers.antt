@@ -1,1 +1,0 @@
-use Rattle.replica_calls.proofs.ends.enter.Goals as goal

@@ -1,1 +1,0 @@
-use Rattle.replica_calls.proofs.ends.new_point.Goals as goal

@@ -1,9 +1,0 @@
-mod Came
-mod Finishing
-mod Launched
-mod Moved
-mod Naming
-pub mod Overlaps
-mod Placed
-mod Settled
-mod Wanted

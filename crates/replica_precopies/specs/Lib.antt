@@ -1,2 +1,0 @@
-pub mod Overlapping
-pub mod Settling

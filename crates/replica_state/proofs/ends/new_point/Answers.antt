@@ -1,0 +1,1 @@
+use Rattle.replica_state.proofs.ends.new_point.Goals as goal

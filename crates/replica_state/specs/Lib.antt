@@ -1,0 +1,10 @@
+pub mod Answers
+pub mod Given
+pub mod Held
+pub mod Jobs
+pub mod Merges
+pub mod Moving
+pub mod Replica
+pub mod Sources
+pub mod Starting
+pub mod Waiting

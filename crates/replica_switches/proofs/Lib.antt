@@ -1,6 +1,0 @@
-mod Advances
-mod Finished
-mod Parted
-mod Spared
-mod Switched
-mod Switching

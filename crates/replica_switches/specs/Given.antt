@@ -1,5 +1,0 @@
--- The words of the crates below that this crate gives on to those above.
-pub use Rattle.searcher_switch.specs.Searching.{IsLeaseOf, searcher_names}
-pub use Rattle.searcher_switch.specs.Tickets.{ticket_at, ticket_names, tickets_without}
-pub use Rattle.searcher_switch.specs.declared.open.Open.{Open}
-pub use Rattle.searcher_switch.specs.declared.searchers.Searchers.{Searchers}
