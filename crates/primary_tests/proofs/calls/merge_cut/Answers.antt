@@ -1,8 +1,8 @@
 use Rattle.std.proofs.Common.{Err, ap, sym}
 use Rattle.segment_infos.specs.declared.infos.Infos.{Infos}
 use Rattle.primary_state.specs.declared.parts.Parts.{Parts}
-use Rattle.primary_bench.proofs.Unmade.{filled_at, seen_cut}
-use Rattle.primary_bench.proofs.calls.merge_cut.Goals as goal
+use Rattle.primary_tests.proofs.Unmade.{filled_at, seen_cut}
+use Rattle.primary_tests.proofs.calls.merge_cut.Goals as goal
 
 pub merge_cut-requires-clause-ready : goal.merge_cut-requires-clause-ready
 merge_cut-requires-clause-ready g c = filled_at c.args.primary.now c.args.primary.now c.args.seen.now c.requires c.in-Some.task (sym c.in-Some.ensures.value)

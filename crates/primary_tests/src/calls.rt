@@ -1,19 +1,18 @@
 //! The calls of a primary, beside what is seen of it.
 
-ghost use Rattle.std.specs.Prelude.{◌≡◌, ◌<◌, ◌≤◌, OnOk, IfOk};
+ghost use Rattle.std.specs.Prelude.{◌<◌, ◌≤◌, OnOk, IfOk};
 ghost use Rattle.nrt_base.specs.SegNumbers.{segments_of_generation};
-ghost use Rattle.primary_bench.specs.Seeing.{IsSeen, IsEmpty};
+ghost use Rattle.primary_tests.specs.Seeing.{IsSeen, IsEmpty};
 
 use crate::Seen;
-use commit_steps::{CommitBook, CommitFault};
+use commit_steps::CommitBook;
 use disk_model::Dir;
 use documents::Op;
 use file_deleter::FileDeleter;
 use index_primary::{Primary, PrimaryFault, PublishFault};
 use nrt_base::{Gen, List, Version};
-use searcher_switch::{Lease, Searchers};
+use searcher_switch::Searchers;
 use seg_merge::merge;
-use seg_reader::Segment;
 use segment_infos::Infos;
 use segment_steps::flush;
 use std::alloc::Global;
@@ -33,15 +32,6 @@ pub enum Outcome {
     Started,
     Ready,
     CutOver,
-}
-
-/// What a call of a commit leads to.
-#[derive(Clone, Copy, PartialEq, Eq)]
-pub enum Turn {
-    Begun,
-    Failed,
-    Going,
-    Made,
 }
 
 /// A primary of an empty directory at version 1 of generation 1, which has drawn so many names.
@@ -67,10 +57,6 @@ pub fn start<D: Dir + Drop>(alloc: Global, dir: D, drawn: u32) -> Result<(Primar
     let seen = Seen {
         accepted: 0,
         version: 1,
-        next: 1,
-        in_flight: false,
-        tickets: List::new(alloc),
-        states: List::new(alloc),
         ready: None,
         merges: List::new(alloc),
     };
@@ -119,71 +105,6 @@ pub fn publish<D: Dir>(
     }
 }
 
-/// Opens a ticket, and reads under it.
-pub fn acquire<D: Dir>(
-    alloc: Global,
-    primary: &mut Primary<D>,
-    seen: &mut Seen,
-) -> Result<Lease<Segment>, Fail>
-    requires { IsSeen primary.old seen.old }
-    ensures { OnOk result (IsSeen primary.new seen.new) }
-{
-    let ticket = primary.acquire(alloc)?;
-    let lease = primary.lease(alloc, &ticket);
-    seen.tickets.push(ticket)?;
-    Ok(lease?)
-}
-
-/// Reads under the oldest ticket, and closes it.
-pub fn release<D: Dir>(
-    alloc: Global,
-    primary: &mut Primary<D>,
-    seen: &mut Seen,
-) -> Result<Lease<Segment>, Fail>
-    requires { IsSeen primary.old seen.old }
-    ensures { OnOk result (IsSeen primary.new seen.new) }
-{
-    if seen.tickets.as_slice().is_empty() {
-        return Err(Fail::new("no ticket is open"));
-    }
-    let ticket = seen.tickets.remove(0);
-    let lease = primary.lease(alloc, &ticket);
-    primary.release(ticket);
-    Ok(lease?)
-}
-
-/// Takes a copy state. False comes where the disk failed.
-pub fn take_state<D: Dir>(
-    alloc: Global,
-    primary: &mut Primary<D>,
-    seen: &mut Seen,
-) -> Result<bool, Fail>
-    requires { IsSeen primary.old seen.old }
-    ensures { OnOk result (IsSeen primary.new seen.new) }
-{
-    match primary.take_state(alloc) {
-        Ok(state) => {
-            seen.states.push(state)?;
-            Ok(true)
-        }
-        Err(PrimaryFault::Failed) => Ok(false),
-        Err(PrimaryFault::Memory) => Err(Fail::new("out of memory")),
-    }
-}
-
-/// Gives the oldest copy state back.
-pub fn give_back<D: Dir>(primary: &mut Primary<D>, seen: &mut Seen) -> Result<(), Fail>
-    requires { IsSeen primary.old seen.old }
-    ensures { OnOk result (IsSeen primary.new seen.new) }
-{
-    if seen.states.as_slice().is_empty() {
-        return Err(Fail::new("no copy state is out"));
-    }
-    let state = seen.states.remove(0);
-    primary.give_back(state);
-    Ok(())
-}
-
 /// Starts a merge, where some neighbours can be chosen.
 pub fn merge_start<D: Dir>(
     alloc: Global,
@@ -223,7 +144,7 @@ pub fn merge_ready<D: Dir>(
     let merged = merge(alloc, &task)?;
     match primary.merge_ready(alloc, merged) {
         Ok(state) => {
-            seen.states.push(state)?;
+            drop(state);
             seen.ready = Some(task);
             Ok(Outcome::Ready)
         }
@@ -248,34 +169,5 @@ pub fn merge_cut<D: Dir>(
         Ok(()) => Ok(Outcome::CutOver),
         Err(PrimaryFault::Failed) => Ok(Outcome::Failed),
         Err(PrimaryFault::Memory) => Err(Fail::new("out of memory")),
-    }
-}
-
-/// Begins a commit, where none is in flight, or else makes its next call.
-pub fn commit<D: Dir>(
-    alloc: Global,
-    primary: &mut Primary<D>,
-    seen: &mut Seen,
-) -> Result<Turn, Fail>
-    requires { IsSeen primary.old seen.old }
-    ensures { OnOk result (IsSeen primary.new seen.new) }
-{
-    if seen.next >= MANY {
-        return Err(Fail::new("too many commits"));
-    }
-    if !seen.in_flight {
-        primary.commit_begin(alloc)?;
-        seen.in_flight = true;
-        seen.next += 1;
-        return Ok(Turn::Begun);
-    }
-    match primary.commit_step(alloc) {
-        Ok(true) => {
-            seen.in_flight = false;
-            Ok(Turn::Made)
-        }
-        Ok(false) => Ok(Turn::Going),
-        Err(CommitFault::Failed) => Ok(Turn::Failed),
-        Err(fault) => Err(Fail::from(fault)),
     }
 }

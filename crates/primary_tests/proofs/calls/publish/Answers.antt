@@ -1,5 +1,5 @@
-use Rattle.primary_bench.proofs.Seeing.{task_sound}
-use Rattle.primary_bench.proofs.calls.publish.Goals as goal
+use Rattle.primary_tests.proofs.Seeing.{task_sound}
+use Rattle.primary_tests.proofs.calls.publish.Goals as goal
 
 pub flush-requires-clause-sound : goal.flush-requires-clause-sound
 flush-requires-clause-sound g c =

@@ -1,5 +1,5 @@
-use Rattle.primary_bench.specs.Seeing.{IsSeen}
-use Rattle.primary_bench.proofs.bench.Bench.play.Given as goal
+use Rattle.primary_tests.specs.Seeing.{IsSeen}
+use Rattle.primary_tests.proofs.bench.Bench.play.Given as goal
 
 -- what is seen of the primary stays so
 abbrev pub invariant-loop-call : goal.invariant-loop-call

@@ -1,6 +1,6 @@
 use Rattle.std.proofs.Common.{Err, ap}
-use Rattle.primary_bench.proofs.Unmade.{not_ready, fit_split, made_for, seen_readied, seen_ended}
-use Rattle.primary_bench.proofs.calls.merge_ready.Goals as goal
+use Rattle.primary_tests.proofs.Unmade.{not_ready, fit_split, made_for, seen_readied, seen_ended}
+use Rattle.primary_tests.proofs.calls.merge_ready.Goals as goal
 
 pub merge-requires-clause-sound : goal.merge-requires-clause-sound
 merge-requires-clause-sound g c = (fit_split c.args.seen.now.merges c.remove-task.result c.requires.fit c.remove-task.ensures.item).0.sound
@@ -13,11 +13,11 @@ merge_ready-requires g c =
 pub returns-in-Ok : goal.returns-in-Ok
 returns-in-Ok g c =
     let none = not_ready c.args.seen.now.ready c.is_some.result c.is_some.ensures c.if-is_some.false in
-    seen_readied c.args.primary.now c.merge_ready.new.self c.args.seen.now c.requires c.remove-task.result c.in_ok-merged.merged c.in-Ok.state c.push.new.self c.remove-task.new.self none c.remove-task.ensures.item
-    c.remove-task.ensures.rest c.in_ok-merged.ensures c.in-Ok.ensures.others c.in-Ok.ensures.merges c.in-Ok.ensures.out c.in_ok-push-in-Ok.ensures.ok
+    seen_readied c.args.primary.now c.merge_ready.new.self c.args.seen.now c.requires c.remove-task.result c.in_ok-merged.merged c.remove-task.new.self none c.remove-task.ensures.item
+    c.remove-task.ensures.rest c.in_ok-merged.ensures c.in-Ok.ensures.others c.in-Ok.ensures.merges
 
 pub returns-in-Err-Failed : goal.returns-in-Err-Failed
 returns-in-Err-Failed g c =
     let none = not_ready c.args.seen.now.ready c.is_some.result c.is_some.ensures c.if-is_some.false in
     seen_ended c.args.primary.now c.merge_ready.new.self c.args.seen.now c.requires c.remove-task.result c.in_ok-merged.merged c.remove-task.new.self none c.remove-task.ensures.item c.remove-task.ensures.rest
-    c.in_ok-merged.ensures c.in-Err-Failed.ensures.others c.in-Err-Failed.ensures.err (c.in-Err-Failed.ensures.ended (ap Err c.in-Err-Failed.field-0-is))
+    c.in_ok-merged.ensures c.in-Err-Failed.ensures.others (c.in-Err-Failed.ensures.ended (ap Err c.in-Err-Failed.field-0-is))

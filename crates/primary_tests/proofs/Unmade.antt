@@ -1,5 +1,5 @@
 -- What is seen of merges in flight.
-use Rattle.std.proofs.Common.{◌≡◌, ◌==◌, ℕ, Bool, true, false, if◌then◌else◌, List, [], ◌∷◌, ◌++◌, map, length, Option, Some, None, is_some, refl, sym, ap, subst, ◌∙◌, arith, All, true≢false, slice_get}
+use Rattle.std.proofs.Common.{◌≡◌, ◌==◌, ℕ, Bool, true, false, if◌then◌else◌, List, [], ◌∷◌, ◌++◌, length, Option, Some, None, is_some, refl, sym, ap, subst, ◌∙◌, arith, All, true≢false, slice_get}
 use Rattle.std.specs.List.{remove}
 use Rattle.std.specs.Option.{IsSomeAnd, IsSome}
 use Rattle.std.proofs.lemmas.Bool.{eq-eqb}
@@ -13,16 +13,13 @@ use Rattle.seg_merge.specs.declared.task.Merged.{Merged}
 use Rattle.seg_merge.specs.Merging.{IsMergedOf}
 use Rattle.primary_state.specs.declared.parts.Parts.{Parts}
 use Rattle.primary_state.specs.declared.states.Merging.{Merging}
-use Rattle.primary_state.specs.declared.states.Out.{Out}
-use Rattle.copy_state.specs.declared.state.CopyState.{CopyState}
-use Rattle.primary_state.specs.States.{out_of}
 use Rattle.primary_state.specs.Written.{names_of}
 use Rattle.primary_state.specs.Merges.{merge_of, merges_with, merges_without}
 use Rattle.primary_merges.specs.StartCalls.{IsFitTask, StartsMerge}
 use Rattle.primary_merges.specs.MergeCalls.{IsMadeFor, IsReadied}
 use Rattle.primary_merges.specs.CutOverCalls.{IsFilledMerge}
-use Rattle.primary_bench.specs.declared.seen.Seen.{Seen}
-use Rattle.primary_bench.specs.Seeing.{IsSeen, tasks_of, unmade_tasks, given_tasks, open_numbers}
+use Rattle.primary_tests.specs.declared.seen.Seen.{Seen}
+use Rattle.primary_tests.specs.Seeing.{IsSeen, tasks_of, unmade_tasks, given_tasks}
 
 -- ---- lists of merges
 none_made : (o : Option Merged) → is_some o ≡ false → o ≡ None
@@ -94,11 +91,7 @@ module _ {D : Type 0} (old new : Parts D) (seen : Seen) (is : IsSeen old seen) w
   seen_started factor task given starts fit pushed = record {
     accepted = ap (λ (p : Parts D). p.accepted) starts.next ∙ is.accepted;
     version = ap (λ (p : Parts D). p.infos.version.0) starts.next ∙ is.version;
-    next = ap (λ (p : Parts D). p.commits.next) starts.next ∙ is.next;
     publish = ap (λ (p : Parts D). p.publish) starts.next ∙ is.publish;
-    in_flight = ap (λ (p : Parts D). is_some p.commits.stage) starts.next ∙ is.in_flight;
-    tickets = ap (λ (p : Parts D). open_numbers p.searchers.tickets) starts.next ∙ is.tickets;
-    states = ap (λ (p : Parts D). p.states) starts.next ∙ is.states;
     merges = ap (λ (p : Parts D). tasks_of p.merges) starts.next
         ∙ map-append (λ (m : Merging). (m.task, is_some m.merged)) old.merges (starts.merging ∷ [])
         ∙ ap (λ (l : List (MergeTask × Bool)). l ++ (starts.merging.task, is_some starts.merging.merged) ∷ []) is.merges
@@ -159,32 +152,24 @@ module _ {D : Type 0} (old new : Parts D) (seen : Seen) (is : IsSeen old seen) w
       ap (λ (ms : List Merging). tasks_of ms) (gone ∙ ap (λ (ms : List Merging). merges_without task.seg.0 ms) at.is ∙ without_first at.m at.rest task.seg.0 (ap (λ (t : MergeTask). t.seg.0) at.task_is)) ∙ at.others
 
   -- what is seen once the files of the first merge are written
-  pub seen_readied : (task : MergeTask) (merged : Merged) (s : CopyState) (states : List CopyState) (rest : List MergeTask) → seen.ready ≡ None → Some task ≡ slice_get seen.merges 0 → rest ≡ remove seen.merges 0 → IsMergedOf task merged
-      → new ≡ record old { dir = new.dir; files = new.files; states = new.states; merges = new.merges } → IsReadied merged old new → new.states ≡ old.states ++ out_of s ∷ [] → states ≡ seen.states ++ s ∷ []
-      → IsSeen new (record seen { states = states; ready = Some task; merges = rest })
-  seen_readied task merged s states rest none first rest_is of e readied out pushed = record {
+  pub seen_readied : (task : MergeTask) (merged : Merged) (rest : List MergeTask) → seen.ready ≡ None → Some task ≡ slice_get seen.merges 0 → rest ≡ remove seen.merges 0 → IsMergedOf task merged
+      → new ≡ record old { dir = new.dir; files = new.files; states = new.states; merges = new.merges } → IsReadied merged old new
+      → IsSeen new (record seen { ready = Some task; merges = rest })
+  seen_readied task merged rest none first rest_is of e readied = record {
     accepted = ap (λ (p : Parts D). p.accepted) e ∙ is.accepted;
     version = ap (λ (p : Parts D). p.infos.version.0) e ∙ is.version;
-    next = ap (λ (p : Parts D). p.commits.next) e ∙ is.next;
     publish = ap (λ (p : Parts D). p.publish) e ∙ is.publish;
-    in_flight = ap (λ (p : Parts D). is_some p.commits.stage) e ∙ is.in_flight;
-    tickets = ap (λ (p : Parts D). open_numbers p.searchers.tickets) e ∙ is.tickets;
-    states = out ∙ ap (λ (l : List Out). l ++ out_of s ∷ []) is.states ∙ sym (map-append out_of seen.states (s ∷ [])) ∙ ap (λ (l : List CopyState). map out_of l) (sym pushed);
     merges = tasks_readied task merged none first of readied ∙ ap (λ (l : List MergeTask). given_tasks (Some task) l) (sym rest_is);
     fit = subst (λ (l : List MergeTask). All IsFitTask l) (sym rest_is) (fit_split seen.merges task is.fit first).1;
   }
 
   -- and once it has ended
   pub seen_ended : (task : MergeTask) (merged : Merged) (rest : List MergeTask) → seen.ready ≡ None → Some task ≡ slice_get seen.merges 0 → rest ≡ remove seen.merges 0 → IsMergedOf task merged
-      → new ≡ record old { dir = new.dir; files = new.files; states = new.states; merges = new.merges } → new.states ≡ old.states → new.merges ≡ merges_without merged.files.seg.0 old.merges → IsSeen new (record seen { merges = rest })
-  seen_ended task merged rest none first rest_is of e out gone = record {
+      → new ≡ record old { dir = new.dir; files = new.files; states = new.states; merges = new.merges } → new.merges ≡ merges_without merged.files.seg.0 old.merges → IsSeen new (record seen { merges = rest })
+  seen_ended task merged rest none first rest_is of e gone = record {
     accepted = ap (λ (p : Parts D). p.accepted) e ∙ is.accepted;
     version = ap (λ (p : Parts D). p.infos.version.0) e ∙ is.version;
-    next = ap (λ (p : Parts D). p.commits.next) e ∙ is.next;
     publish = ap (λ (p : Parts D). p.publish) e ∙ is.publish;
-    in_flight = ap (λ (p : Parts D). is_some p.commits.stage) e ∙ is.in_flight;
-    tickets = ap (λ (p : Parts D). open_numbers p.searchers.tickets) e ∙ is.tickets;
-    states = out ∙ is.states;
     merges = tasks_ended task merged.files.seg.0 none first (ap (λ (seg : SegNo). seg.0) (sym of.number)) gone ∙ ap (λ (l : List MergeTask). given_tasks None l) (sym rest_is) ∙ ap (λ (o : Option MergeTask). given_tasks o rest) (sym none);
     fit = subst (λ (l : List MergeTask). All IsFitTask l) (sym rest_is) (fit_split seen.merges task is.fit first).1;
   }
@@ -196,11 +181,7 @@ module _ {D : Type 0} (old new : Parts D) (seen : Seen) (is : IsSeen old seen) w
   seen_cut task left ready none same e gone = record {
     accepted = ap (λ (p : Parts D). p.accepted) e ∙ is.accepted;
     version = ap (λ (v : Version). v.0) same ∙ is.version;
-    next = ap (λ (p : Parts D). p.commits.next) e ∙ is.next;
     publish = ap (λ (p : Parts D). p.publish) e ∙ is.publish;
-    in_flight = ap (λ (p : Parts D). is_some p.commits.stage) e ∙ is.in_flight;
-    tickets = ap (λ (p : Parts D). open_numbers p.searchers.tickets) e ∙ is.tickets;
-    states = ap (λ (p : Parts D). p.states) e ∙ is.states;
     merges = tasks_cut task ready gone ∙ ap (λ (o : Option MergeTask). given_tasks o seen.merges) (sym none);
     fit = is.fit;
   }

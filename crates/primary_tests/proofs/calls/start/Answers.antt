@@ -4,8 +4,8 @@ use Rattle.commit_steps.specs.declared.stage.CommitBook.{CommitBook}
 use Rattle.searcher_switch.specs.declared.open.Point.{Point}
 use Rattle.seg_reader.specs.Shown.{Shown}
 use Rattle.primary_state.proofs.Callers.{empty_node, empty_held}
-use Rattle.primary_bench.proofs.Seeing.{no_names, empty_spelled}
-use Rattle.primary_bench.proofs.calls.start.Goals as goal
+use Rattle.primary_tests.proofs.Seeing.{no_names, empty_spelled}
+use Rattle.primary_tests.proofs.calls.start.Goals as goal
 
 pub from_parts-requires-clause-node : goal.from_parts-requires-clause-node
 from_parts-requires-clause-node g c =
