@@ -1,7 +1,6 @@
 //! Jobs that copy the primary's newest point to replicas: how they go on, file by file, and end.
 
 ghost use Rattle.std.specs.Prelude.{◌≡◌, ◌≢◌, ◌≤◌, ◌<◌, false, None, Some, OnOk, OnErr, IfOk};
-ghost use Rattle.codec_frame.specs.Bytes.{AreBytes};
 ghost use Rattle.copy_state.specs.Meta.{IsMetaOf};
 ghost use Rattle.history_rules.specs.Nodes.{version_of, newest_version, IsNode, primary_of};
 ghost use Rattle.history_rules.specs.Lines.{start_entry, before_start, highest_switched};
@@ -14,7 +13,7 @@ ghost use Rattle.cluster_state.specs.Run.{files_at, IsNow, IsEnded};
 ghost use Rattle.cluster_state.specs.FilesOut.{file_out};
 
 use cluster_nodes::{FileTask, files_last, finish_in, next_in, read_in, sourced_stands, take_in};
-use cluster_state::ClusterState;
+use cluster_state::{ClusterState, are_bytes};
 use copy_job::Part;
 use disk_model::FaultDir;
 use history_book::{Book, Inner, Job, JobRow, Start};
@@ -23,15 +22,8 @@ use merge_tasks::Ledger;
 use nrt_base::{At, NoMemory, NodeNo, Share};
 use std::alloc::{AllocError, Global};
 
-// Each is a byte. A law.
-fn are_bytes(bytes: &[u8])
-    ensures { AreBytes bytes.now }
-{
-    let _bytes = bytes;
-}
-
 // Whether an open line started as a copy.
-fn starts_as_copy(book: &Book, at: At) -> bool
+pub(crate) fn starts_as_copy(book: &Book, at: At) -> bool
     requires { open_line at (printed book.now.log) ≢ None }
     ensures { result ≡ is_copy_start (start_entry at (printed book.now.log)) }
 {

@@ -12,6 +12,7 @@ pub use cluster::ClusterState;
 pub use cluster_nodes::{
     CommitTask, CopyTask, FileTask, Node, Place, Replica, SettleTask, files_last,
 };
+pub use laws::are_bytes;
 pub use met::{are_planned, has_risen, kinds_in, show_met};
 pub use refusals::{refuse, refuse_turn};
 pub use standing::Standing;
