@@ -25,7 +25,7 @@ use Rattle.cluster_state.proofs.Growing.{fewer}
 use Rattle.cluster_state.proofs.Frames.{shows_still}
 use Rattle.cluster_state.proofs.FileFrames.{files_still}
 use Rattle.cluster_state.proofs.MergingStill.{stand_moved, all_keep}
-use Rattle.cluster_state.specs.Met.{fault_by, fault_on, fault_if, with_met, Stands}
+use Rattle.cluster_state.specs.Met.{fault_by, fault_on, fault_if, with_met, ClusterStands}
 
 -- ---- the words of one fault
 
@@ -155,6 +155,6 @@ met_has P task at step n (o ∷ olds) (w ∷ news) log was =
 
 -- all that is true of a cluster that runs, behind the faults that rose
 module _ {D : Type 0} (cells : D → Cells) (size : ℕ) (places : List (Option (Place D))) (cut : Bool) (board : Board) where
-  pub faulted : (task : Bool) (at : At) (n : ℕ) (olds news : List (ℕ × ℕ)) (log : Log) → Stands cells size places cut board log → Stands cells size places cut board (with_met task at n olds news log)
+  pub faulted : (task : Bool) (at : At) (n : ℕ) (olds news : List (ℕ × ℕ)) (log : Log) → ClusterStands cells size places cut board log → ClusterStands cells size places cut board (with_met task at n olds news log)
   faulted task at n olds news log was =
-      met_has (Stands cells size places cut board) task at (λ m kind l s. (fault_shows cells size places task l at m kind s.0, fault_files cells size places task l at m kind s.0 s.1, fault_merges cells size places task cut board l at m kind s.2)) n olds news log was
+      met_has (ClusterStands cells size places cut board) task at (λ m kind l s. (fault_shows cells size places task l at m kind s.0, fault_files cells size places task l at m kind s.0 s.1, fault_merges cells size places task cut board l at m kind s.2)) n olds news log was
