@@ -9,6 +9,7 @@ use Rattle.nrt_base.specs.SegNumbers.{segment_generation, segment_place}
 use Rattle.history_rules.specs.Nodes.{Past, generation_of}
 use Rattle.history_rules.specs.Points.{names_drawn, names_drawn_in}
 use Rattle.history_rules.specs.Commits.{is_passed}
+use Rattle.history_rules.proofs.FaultLaws.{both}
 use Rattle.history_rules.proofs.PassedLaws.{stays_unpassed}
 use Rattle.history_book.specs.Log.{Log, printed, shown, mark_for}
 use Rattle.cluster_nodes.specs.declared.nodes.Place.{Place}
@@ -97,10 +98,6 @@ fault_tasks true size log board at n kind s = tasks_faulted size log board at (r
 fault_tasks false size log board at n kind s = tasks_still size log board at (Fault (record { 0 = n }) kind) refl s
 
 -- names are drawn as before
-both : {X : Type 0} → (b : Bool) (x : X) → (if b then x else x) ≡ x
-both true x = refl
-both false x = refl
-
 names_over : (g : ℕ) (past : Past) (at : At) (n : ℕ) (kind : FaultKind) → names_drawn_in g (record { at = at; event = Fault (record { 0 = n }) kind } ∷ past) ≡ names_drawn_in g past
 names_over g [] at n kind = both (1 == g) 0
 names_over g (e ∷ past) at n kind = cases (generation_of (e ∷ past) == g) (names_drawn (e ∷ past)) (names_drawn_in g past)

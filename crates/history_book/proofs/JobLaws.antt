@@ -36,6 +36,7 @@ use Rattle.history_book.specs.Log.{Log, printed}
 use Rattle.history_book.specs.Turns.{StartsOnce, InTurn, AreInTurn}
 use Rattle.history_tables.proofs.RowLemmas.{same_at_is}
 use Rattle.history_book.proofs.FreshLaws.{open_unanswered}
+use Rattle.history_book.proofs.ToldLaws.{passes_old}
 use Rattle.history_book.proofs.ReignLaws.{since_start, reigns_on, start_kept, start_short, node_alive, source_alive, node_crashes_rise, source_crashes_rise, primary_crashes_rise}
 
 going_if : (b : Bool) (r : JobRow) (v : Version) → is_going (if b then record r { later = Some v } else r) ≡ true → b ≡ false
@@ -459,10 +460,6 @@ module _ (size : ℕ) (log : Log) (job : Job) (r : JobRow) (legal : IsLegalPast 
 
   cancels : IsCancelled size (printed log) r.job.at job.version (start_entry r.job.at (printed log))
   cancels = cancelled_by (start_entry r.job.at (printed log)) refl s.started
-
-passes_old : (o : Option JobRow) (row : JobRow) → row_if_some Passes o ≡ Some row → o ≡ Some row
-passes_old None row is = absurd (cc)
-passes_old (Some r) row is = is
 
 kept_step : (size lane : ℕ) (log : Log) (i : Inner) → IsLegalPast size (printed log) → AreInTurn (printed log) → IsInside size log i
     → ((r : JobRow) → job_of lane log ≡ Some r → LaneJobShows size (printed log) r)
