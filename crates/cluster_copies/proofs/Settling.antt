@@ -12,7 +12,7 @@ use Rattle.history_rules.specs.declared.entry.Event.TheVariants.{Settling}
 use Rattle.history_rules.specs.Nodes.{Past, IsNode, IsReplica, is_at, is_running, crashes, version_of}
 use Rattle.history_rules.specs.Lines.{same_at, start_entry, before_start, highest_switched, NodeSurvives, SourceSurvives}
 use Rattle.history_rules.specs.Points.{operations_of_generation}
-use Rattle.history_rules.specs.Rules.{IsWhole, MaySettle}
+use Rattle.history_rules.specs.Rules.{IsLineWhole, MaySettle}
 use Rattle.history_rules.specs.Legal.{IsLegalPast}
 use Rattle.history_rules.proofs.NodeLemmas.{runs_through}
 use Rattle.history_tables.specs.Begins.{begun_by, open_line}
@@ -138,7 +138,7 @@ one_passed size past at task now n rest is left same passed s = record {
         (subst (λ (k : NodeNo). task.version.0 ≤ version_of k.0 past) first (passed (subst (λ (k : NodeNo). NodeSurvives past at k.0) (sym first) survives)))
 
 -- where none is left the settle may end
-pub none_left : (size : ℕ) (past : Past) (at : At) (task : SettleTask) → SourceSurvives past at → task.left.items ≡ [] → IsWhole size past at → IsSettling size past at task → MaySettle size past at task.version
+pub none_left : (size : ℕ) (past : Past) (at : At) (task : SettleTask) → SourceSurvives past at → task.left.items ≡ [] → IsLineWhole size past at → IsSettling size past at task → MaySettle size past at task.version
 none_left size past at task source is whole s = record {
   started = s.started;
   source = source;

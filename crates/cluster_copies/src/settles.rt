@@ -4,7 +4,7 @@ ghost use Rattle.std.specs.Prelude.{◌≡◌, ◌≢◌, ◌≤◌, ◌∷◌, 
 ghost use Rattle.std.specs.List.{All};
 ghost use Rattle.history_rules.specs.Nodes.{is_at, primary_of};
 ghost use Rattle.history_rules.specs.Lines.{entries_of_line, SourceSurvives};
-ghost use Rattle.history_rules.specs.Rules.{IsWhole, MaySettle};
+ghost use Rattle.history_rules.specs.Rules.{IsLineWhole, MaySettle};
 ghost use Rattle.history_book.specs.Log.{printed, shown};
 ghost use Rattle.cluster_state.specs.Settles.{AreReplicas, IsSettling, WaitsFor};
 ghost use Rattle.cluster_state.specs.Run.{IsNow, IsEnded};
@@ -87,7 +87,7 @@ pub fn next_left<D: FaultDir + Drop>(
     ensures first { IfSome result (λ n. All (λ m. n.0 ≤ m.0) task.new.left.items) }
     ensures waits { IfSome result
         (WaitsFor cluster.now.nodes (printed cluster.now.log) at task.new.version.0) }
-    ensures done { result ≡ None → IsWhole cluster.now.nodes (printed cluster.now.log) at
+    ensures done { result ≡ None → IsLineWhole cluster.now.nodes (printed cluster.now.log) at
         → MaySettle cluster.now.nodes (printed cluster.now.log) at task.new.version }
 {
     let book = cluster.ledger.book();

@@ -5,7 +5,7 @@ ghost use Rattle.copy_state.specs.Meta.{IsMetaOf};
 ghost use Rattle.history_rules.specs.Nodes.{version_of, newest_version, IsNode, primary_of};
 ghost use Rattle.history_rules.specs.Lines.{start_entry, before_start, highest_switched};
 ghost use Rattle.history_rules.specs.Commits.{is_passed};
-ghost use Rattle.history_rules.specs.Rules.{IsWhole};
+ghost use Rattle.history_rules.specs.Rules.{IsLineWhole};
 ghost use Rattle.history_tables.specs.Begins.{open_line};
 ghost use Rattle.history_book.specs.Log.{printed};
 ghost use Rattle.cluster_state.specs.Copies.{is_copy_start, BringsFile, JobRuns, ended_log, GoesOn};
@@ -49,7 +49,7 @@ fn show_end(ledger: &mut Ledger, row: JobRow)
     requires below { version_of row.job.node.0 (printed ledger.old.log)
         < newest_version (before_start row.job.at (printed ledger.old.log)) }
     requires latest { is_passed row.job.node.0 row.job.version.0 (printed ledger.old.log) ≡ false }
-    requires whole { IsWhole ledger.old.nodes (printed ledger.old.log) row.job.at }
+    requires whole { IsLineWhole ledger.old.nodes (printed ledger.old.log) row.job.at }
     requires ordered { highest_switched row.job.at (printed ledger.old.log) < row.job.node.0 }
     ensures log { ledger.new.log
         ≡ ended_log row.job (start_entry row.job.at (printed ledger.old.log)) ledger.old.log }
@@ -79,7 +79,7 @@ fn show_end(ledger: &mut Ledger, row: JobRow)
 // An open line met no fault in a file. It never did so where its lane waits for each file, as the next one is not handed out then.
 fn must_be_whole(book: &Book, at: At) -> Result<(), NoMemory>
     requires { open_line at (printed book.now.log) ≢ None }
-    ensures { OnOk result (IsWhole book.now.nodes (printed book.now.log) at) }
+    ensures { OnOk result (IsLineWhole book.now.nodes (printed book.now.log) at) }
 {
     if book.is_whole(at) {
         Ok(())
