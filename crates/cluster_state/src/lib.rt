@@ -4,6 +4,7 @@
 mod cluster;
 mod laws;
 mod met;
+mod receivers;
 mod refusals;
 mod standing;
 mod turn;
@@ -14,6 +15,7 @@ pub use cluster_nodes::{
 };
 pub use laws::are_bytes;
 pub use met::{are_planned, has_risen, kinds_in, show_met};
+pub use receivers::replicas;
 pub use refusals::{refuse, refuse_turn};
 pub use standing::Standing;
 pub use turn::Turn;
