@@ -143,7 +143,8 @@ pub fn show_met<D: FaultDir + Drop>(
     requires count { length before.now ≡ ledger.old.nodes }
     requires places { length places.now.items ≡ ledger.old.nodes }
     requires few { length before.now ≤ 255 }
-    requires planned { ArePlanned 1 before.now (map (met_in D.planned) places.now.items) (printed ledger.old.log) }
+    requires planned { ArePlanned 1 before.now (map (met_in D.planned) places.now.items)
+        (printed ledger.old.log) }
     requires unanswered { is_answered at (printed ledger.old.log) ≡ false }
     ensures log { ledger.new.log
         ≡ with_met false at 1 before.now (map (met_in D.planned) places.now.items) ledger.old.log }
@@ -170,7 +171,8 @@ pub fn stands_behind<D: FaultDir + Drop>(
     at: At,
     before: &[(u64, u64)],
 )
-    ensures { (log : Log) → ClusterStands D.cells ledger.now.nodes places.now.items ledger.now.cut tasks.now log
+    ensures { (log : Log)
+        → ClusterStands D.cells ledger.now.nodes places.now.items ledger.now.cut tasks.now log
         → ClusterStands D.cells ledger.now.nodes places.now.items ledger.now.cut tasks.now
         (with_met false at 1 before.now (map (met_in D.planned) places.now.items) log) }
 {}

@@ -34,7 +34,8 @@ pub fn base36(n: u64) -> Base36
 pub fn read_base36(bytes: &[u8]) -> Result<u64, Base36Fault>
     ensures number { (n : ℕ) → (result ≡ Ok n) ↔ (SpellsBase36 bytes.now n × (n < 2 ^ 64)) }
     ensures empty { IsErrOf result Base36Fault.Empty ↔ (bytes.now ≡ []) }
-    ensures digit { (at : ℕ) → IsErrOf result (Base36Fault.Digit at) ↔ (first_not_digit bytes.now ≡ Some at) }
+    ensures digit { (at : ℕ)
+        → IsErrOf result (Base36Fault.Digit at) ↔ (first_not_digit bytes.now ≡ Some at) }
     ensures leading { IsErrOf result Base36Fault.LeadingZero ↔ IsLedByZero bytes.now }
     ensures large { IsErrOf result Base36Fault.TooLarge ↔ SpellsTooLarge bytes.now }
 {
