@@ -1,3 +1,5 @@
+//! Numbers in base 36, written as digits and read back.
+
 ghost use Rattle.std.specs.Prelude.{◌≡◌, ◌^◌, ◌<◌, ◌↔◌, ℕ, [], position, IsErrOf, IsTrue, SomeIff};
 ghost use Rattle.std.specs.List.{list_all};
 ghost use Rattle.file_names.specs.Base36.{is_base36_digit, digit_value, base36_value, has_leading_zero, first_not_digit, base36_of, SpellsBase36, IsLedByZero, SpellsTooLarge};

@@ -1,3 +1,5 @@
+//! The rules of entries: what may happen over the entries before.
+
 ghost use Rattle.std.specs.Prelude.{◌≡◌, ◌≤◌, ◌<◌, ◌+◌, ◌^◌, ◌↔◌, ◌⊎◌, ℕ, reverse, length, IsTrue, true, false};
 ghost use Rattle.history_rules.specs.Nodes.{IsNode, IsReplica, version_of, accepted_count};
 ghost use Rattle.history_rules.specs.Lines.{start_entry, before_start, has_just_switched, NodeSurvives};

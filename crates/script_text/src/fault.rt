@@ -1,3 +1,5 @@
+//! Why bytes are no script: the line that is refused, and the cause.
+
 ghost use Rattle.std.specs.Prelude.{◌≡◌};
 ghost use Rattle.script_text.specs.declared.fault.ScriptFault.TheVariants.{Memory};
 ghost use Rattle.script_text.specs.declared.fault.Refusal.TheVariants.{Memory as NotRead};
