@@ -26,12 +26,12 @@ pub fn is_node(nodes: u8, n: NodeNo) -> bool
 
 /// The running primary, and how often a running primary has crashed.
 #[derive(Drop)]
-pub struct Primary {
+pub struct RunningPrimary {
     pub node: Option<NodeNo>,
     pub crashes: usize,
 }
 
-pub fn primary_of(entries: &[Entry]) -> Primary
+pub fn primary_of(entries: &[Entry]) -> RunningPrimary
     ensures node { result.node ≡ primary_of (reverse entries.now) }
     ensures crashes { result.crashes ≡ primary_crashes (reverse entries.now) }
 {
@@ -49,7 +49,7 @@ pub fn primary_of(entries: &[Entry]) -> Primary
             _ => {}
         }
     }
-    Primary { node, crashes }
+    RunningPrimary { node, crashes }
 }
 
 /// Whether a node runs.
