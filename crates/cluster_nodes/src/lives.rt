@@ -52,7 +52,7 @@ pub fn crash_in<D: FaultDir + Drop>(
     crashed
 }
 
-// A replica on this directory. `Err` is want of memory, or a disk that failed.
+// A replica on this directory. It fails when out of memory or when the disk fails.
 fn open_on<D: Dir + Drop>(alloc: Global, dir: D) -> Result<Replica<D>, NoMemory>
     requires { IsSettledOn (D.cells dir) }
     ensures { IfOk result (OpensOn D.cells dir) }
@@ -63,8 +63,8 @@ fn open_on<D: Dir + Drop>(alloc: Global, dir: D) -> Result<Replica<D>, NoMemory>
     }
 }
 
-/// Opens a replica on the directory of a node that is down, and answers the version that it searches. `Err` is want of memory, or a
-/// disk that failed.
+/// Opens a replica on the directory of a node that is down, and answers the version that it searches. It fails when out of memory or when the
+/// disk fails.
 pub fn reopen_in<D: Dir + Drop>(
     alloc: Global,
     places: &mut Vec<Option<Place<D>>>,

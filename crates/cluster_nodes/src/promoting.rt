@@ -22,7 +22,7 @@ use replica_node::{NodeParts, Replica};
 use segment_infos::Infos;
 use std::alloc::{AllocError, Global};
 
-// The fault that is want of memory.
+// The fault that says "out of memory".
 fn memory(fault: PromoteFault) -> NoMemory
     requires { fault ≡ Memory }
 {

@@ -50,8 +50,8 @@ fn is_for_segments(fault: PublishFault) -> Result<(), NoMemory>
     }
 }
 
-/// The primary accepts an operation, whose number is one above that of the last that was accepted. `Err` is want of memory,
-/// or of a number below 2^32: the cluster has ended, and the history is as before.
+/// The primary accepts an operation, whose number is one above that of the last that was accepted. It fails when out of memory,
+/// or out of numbers below 2^32: the cluster has ended, and the history is as before.
 pub fn accept_at<D: FaultDir + Drop>(
     alloc: Global,
     cluster: &mut ClusterState<D>,
@@ -88,8 +88,8 @@ pub fn accept_at<D: FaultDir + Drop>(
 }
 
 /// Starts a publish, which has an operation or a cut-over to publish, and hands it out: `flush` makes the work, and `end_publish` takes it back.
-/// None is answered where there is a put and there are as many segments as there may be, and then all is as before. `Err`
-/// is want of memory: the cluster has ended, and the history is as before.
+/// None is answered where there is a put and there are as many segments as there may be, and then all is as before. It
+/// fails when out of memory: the cluster has ended, and the history is as before.
 pub fn start_publish<D: FaultDir + Drop>(
     alloc: Global,
     cluster: &mut ClusterState<D>,
@@ -163,7 +163,8 @@ fn note_published<D: FaultDir + Drop>(
     requires count { length before.now ≡ ledger.old.nodes }
     requires places { length places.now.items ≡ ledger.old.nodes }
     requires few { length before.now ≤ 255 }
-    requires planned { ArePlanned 1 before.now (map (met_in D.planned) places.now.items) (printed ledger.old.log) }
+    requires planned { ArePlanned 1 before.now (map (met_in D.planned) places.now.items)
+        (printed ledger.old.log) }
     requires unanswered { is_answered at (printed ledger.old.log) ≡ false }
     requires flight { publish_in_flight (printed ledger.old.log) ≡ Some at }
     requires present { generation.0 ≡ generation_of (printed ledger.old.log) }
@@ -195,7 +196,8 @@ fn note_given_up<D: FaultDir + Drop>(
     requires count { length before.now ≡ ledger.old.nodes }
     requires places { length places.now.items ≡ ledger.old.nodes }
     requires few { length before.now ≤ 255 }
-    requires planned { ArePlanned 1 before.now (map (met_in D.planned) places.now.items) (printed ledger.old.log) }
+    requires planned { ArePlanned 1 before.now (map (met_in D.planned) places.now.items)
+        (printed ledger.old.log) }
     requires risen { has_risen_at p.0 1 before.now (map (met_in D.planned) places.now.items) ≡ true }
     requires unanswered { is_answered at (printed ledger.old.log) ≡ false }
     requires flight { publish_in_flight (printed ledger.old.log) ≡ Some at }
@@ -223,7 +225,7 @@ fn note_given_up<D: FaultDir + Drop>(
 
 /// Ends the publish in flight with the work that was made for it: the primary writes its files, and searches the next
 /// version, which is answered by true. Where its disk failed, by a plan that the history shows, the publish is given up, and
-/// false is answered. `Err` is want of memory or of a version below 2^63: the cluster has ended, and the history is as before.
+/// false is answered. It fails when out of memory, or out of versions below 2^63: the cluster has ended, and the history is as before.
 pub fn end_publish<D: FaultDir + Drop>(
     alloc: Global,
     cluster: &mut ClusterState<D>,

@@ -80,7 +80,7 @@ fn first_places<D: Dir + Drop>(
 }
 
 /// A cluster over these directories, where nothing stands: node n is on the n-th of them, from 1. Node 1 is the primary, and
-/// the others are replicas. `Err` is want of memory, or a disk that failed.
+/// the others are replicas. It fails when out of memory or when the disk fails.
 pub fn start_cluster<D: FaultDir + Drop>(
     alloc: Global,
     dirs: Vec<D>,

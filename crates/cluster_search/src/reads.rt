@@ -28,7 +28,7 @@ use std::alloc::Global;
 
 /// Opens ticket `t` of the lane of `at`, on the point that the running node `n` searches, and appends `Opened` with that
 /// point's version. `t` is above 0, and the lane has no open ticket of that number. The point's files stay until the ticket
-/// is closed or the node crashes. An error is want of memory: the cluster has ended, and its log is as before.
+/// is closed or the node crashes. It fails when out of memory: the cluster has ended, and its log is as before.
 pub fn open_ticket<D: FaultDir + Drop>(
     alloc: Global,
     cluster: &mut ClusterState<D>,
@@ -62,8 +62,8 @@ pub fn open_ticket<D: FaultDir + Drop>(
 }
 
 /// Starts a search of the line `at` on the point that the running node `n` searches, appends `Opened` with ticket 0 and that
-/// point's version, and hands the point out. Its files stay until the search is answered or the node crashes. An error is
-/// want of memory: the cluster has ended, and its log is as before.
+/// point's version, and hands the point out. Its files stay until the search is answered or the node crashes. It fails when
+/// out of memory: the cluster has ended, and its log is as before.
 pub fn open_search<D: FaultDir + Drop>(
     alloc: Global,
     cluster: &mut ClusterState<D>,
@@ -99,7 +99,7 @@ pub fn open_search<D: FaultDir + Drop>(
 }
 
 /// Starts a search of the line `at` under the lane's open ticket `t`, whose opening this is, appends `Asking` with the
-/// ticket's node and version, and hands out the point on which it was opened. An error is want of memory: the cluster has
+/// ticket's node and version, and hands out the point on which it was opened. It fails when out of memory: the cluster has
 /// ended, and its log is as before.
 pub fn ask_ticket<D: FaultDir + Drop>(
     alloc: Global,
@@ -134,7 +134,7 @@ pub fn ask_ticket<D: FaultDir + Drop>(
 }
 
 /// Appends an entry that moves no node and starts no line, and gives back the ticket of node `n` that is held for `key`, if
-/// one is: after the entry nothing of the history needs it. An error is want of memory: the cluster has ended, and its log
+/// one is: after the entry nothing of the history needs it. It fails when out of memory: the cluster has ended, and its log
 /// is as before.
 pub fn note_without<D: FaultDir + Drop>(
     cluster: &mut ClusterState<D>,

@@ -141,7 +141,7 @@ impl<D: FaultDir + Drop> ClusterState<D> {
     }
 
     /// Appends an entry that moves no node, starts no copy and no commit, opens no ticket and is no drain's reply, of a line whose publish
-    /// or commit is not in flight. `Err` is want of memory: the cluster has ended, and the history is as before.
+    /// or commit is not in flight. It fails when out of memory: the cluster has ended, and the history is as before.
     pub fn note(&mut self, at: At, event: Event) -> Result<(), NoMemory>
         requires running { self.old.ended ≡ false }
         requires rule { KeepsRule self.old.nodes (printed self.old.log) at event }

@@ -54,7 +54,7 @@ fn send<D: Dir + Drop>(
     Ok(job)
 }
 
-/// Begins a copy of a merged segment at the replica in this place, and answers its number. `Err` is want of memory, or of a number
+/// Begins a copy of a merged segment at the replica in this place, and answers its number. It fails when out of memory, or out of numbers
 /// below 2^63.
 pub fn send_in<D: Dir + Drop>(
     alloc: Global,

@@ -5,7 +5,7 @@ ghost use Rattle.nrt_base.specs.SegNumbers.{segments_of_generation};
 ghost use Rattle.primary_tests.specs.Seeing.{IsSeen, IsEmpty};
 
 use crate::Seen;
-use crate::calls::{self, Outcome};
+use crate::calls::{self, CallOutcome};
 use disk_model::{Dir, FaultDir};
 use documents::Op;
 use index_primary::Primary;
@@ -20,13 +20,13 @@ pub enum Call {
     Put(u8),
     /// The key of this number loses its document.
     Delete(u8),
-    Publish(Outcome),
+    Publish(CallOutcome),
     /// A merge of two neighbours starts.
-    Start(Outcome),
+    Start(CallOutcome),
     /// The oldest merge is made.
-    Ready(Outcome),
+    Ready(CallOutcome),
     /// The cut-over.
-    Cut(Outcome),
+    Cut(CallOutcome),
     /// The k-th call of the directory from now fails.
     Plan(u64),
     /// How many faults the directory met.
@@ -62,7 +62,7 @@ impl<D: FaultDir> Bench<D> {
         calls::accept(&mut self.primary, &mut self.seen, op)
     }
 
-    fn publish(&mut self, alloc: Global, due: Outcome) -> Result<(), Fail>
+    fn publish(&mut self, alloc: Global, due: CallOutcome) -> Result<(), Fail>
         requires { IsSeen self.old.primary self.old.seen }
         ensures { OnOk result (IsSeen self.new.primary self.new.seen) }
     {
@@ -70,7 +70,7 @@ impl<D: FaultDir> Bench<D> {
         check(outcome == due, "a publish leads elsewhere")
     }
 
-    fn start(&mut self, alloc: Global, due: Outcome) -> Result<(), Fail>
+    fn start(&mut self, alloc: Global, due: CallOutcome) -> Result<(), Fail>
         requires { IsSeen self.old.primary self.old.seen }
         ensures { OnOk result (IsSeen self.new.primary self.new.seen) }
     {
@@ -78,7 +78,7 @@ impl<D: FaultDir> Bench<D> {
         check(outcome == due, "a start leads elsewhere")
     }
 
-    fn ready(&mut self, alloc: Global, due: Outcome) -> Result<(), Fail>
+    fn ready(&mut self, alloc: Global, due: CallOutcome) -> Result<(), Fail>
         requires { IsSeen self.old.primary self.old.seen }
         ensures { OnOk result (IsSeen self.new.primary self.new.seen) }
     {
@@ -86,7 +86,7 @@ impl<D: FaultDir> Bench<D> {
         check(outcome == due, "a merge leads elsewhere")
     }
 
-    fn cut(&mut self, alloc: Global, due: Outcome) -> Result<(), Fail>
+    fn cut(&mut self, alloc: Global, due: CallOutcome) -> Result<(), Fail>
         requires { IsSeen self.old.primary self.old.seen }
         ensures { OnOk result (IsSeen self.new.primary self.new.seen) }
     {

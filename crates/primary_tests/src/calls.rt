@@ -23,7 +23,7 @@ const MANY: u64 = 1_000_000;
 
 /// What a publish, or a call of a merge, leads to.
 #[derive(Clone, Copy, PartialEq, Eq)]
-pub enum Outcome {
+pub enum CallOutcome {
     Nothing,
     NamesSpent,
     TooManySegments,
@@ -80,7 +80,7 @@ pub fn publish<D: Dir>(
     alloc: Global,
     primary: &mut Primary<D>,
     seen: &mut Seen,
-) -> Result<Outcome, Fail>
+) -> Result<CallOutcome, Fail>
     requires { IsSeen primary.old seen.old }
     ensures { OnOk result (IsSeen primary.new seen.new) }
 {
@@ -89,18 +89,18 @@ pub fn publish<D: Dir>(
     }
     let task = match primary.publish_start(alloc) {
         Ok(Some(task)) => task,
-        Ok(None) => return Ok(Outcome::Nothing),
-        Err(PublishFault::NamesSpent) => return Ok(Outcome::NamesSpent),
-        Err(PublishFault::TooManySegments) => return Ok(Outcome::TooManySegments),
+        Ok(None) => return Ok(CallOutcome::Nothing),
+        Err(PublishFault::NamesSpent) => return Ok(CallOutcome::NamesSpent),
+        Err(PublishFault::TooManySegments) => return Ok(CallOutcome::TooManySegments),
         Err(PublishFault::Memory) => return Err(Fail::new("out of memory")),
     };
     let work = flush(alloc, &task)?;
     match primary.publish_end(alloc, work) {
         Ok(version) => {
             seen.version = version.0;
-            Ok(Outcome::Point)
+            Ok(CallOutcome::Point)
         }
-        Err(PrimaryFault::Failed) => Ok(Outcome::Failed),
+        Err(PrimaryFault::Failed) => Ok(CallOutcome::Failed),
         Err(PrimaryFault::Memory) => Err(Fail::new("out of memory")),
     }
 }
@@ -111,7 +111,7 @@ pub fn merge_start<D: Dir>(
     primary: &mut Primary<D>,
     seen: &mut Seen,
     factor: u32,
-) -> Result<Outcome, Fail>
+) -> Result<CallOutcome, Fail>
     requires seen { IsSeen primary.old seen.old }
     requires factor { 2 ≤ factor }
     ensures { OnOk result (IsSeen primary.new seen.new) }
@@ -119,11 +119,11 @@ pub fn merge_start<D: Dir>(
     match primary.merge_start(alloc, factor) {
         Ok(Some(task)) => {
             seen.merges.push(task)?;
-            Ok(Outcome::Started)
+            Ok(CallOutcome::Started)
         }
-        Ok(None) => Ok(Outcome::Nothing),
-        Err(PublishFault::NamesSpent) => Ok(Outcome::NamesSpent),
-        Err(PublishFault::TooManySegments) => Ok(Outcome::TooManySegments),
+        Ok(None) => Ok(CallOutcome::Nothing),
+        Err(PublishFault::NamesSpent) => Ok(CallOutcome::NamesSpent),
+        Err(PublishFault::TooManySegments) => Ok(CallOutcome::TooManySegments),
         Err(PublishFault::Memory) => Err(Fail::new("out of memory")),
     }
 }
@@ -133,7 +133,7 @@ pub fn merge_ready<D: Dir>(
     alloc: Global,
     primary: &mut Primary<D>,
     seen: &mut Seen,
-) -> Result<Outcome, Fail>
+) -> Result<CallOutcome, Fail>
     requires { IsSeen primary.old seen.old }
     ensures { OnOk result (IsSeen primary.new seen.new) }
 {
@@ -146,9 +146,9 @@ pub fn merge_ready<D: Dir>(
         Ok(state) => {
             drop(state);
             seen.ready = Some(task);
-            Ok(Outcome::Ready)
+            Ok(CallOutcome::Ready)
         }
-        Err(PrimaryFault::Failed) => Ok(Outcome::Failed),
+        Err(PrimaryFault::Failed) => Ok(CallOutcome::Failed),
         Err(PrimaryFault::Memory) => Err(Fail::new("out of memory")),
     }
 }
@@ -158,7 +158,7 @@ pub fn merge_cut<D: Dir>(
     alloc: Global,
     primary: &mut Primary<D>,
     seen: &mut Seen,
-) -> Result<Outcome, Fail>
+) -> Result<CallOutcome, Fail>
     requires { IsSeen primary.old seen.old }
     ensures { OnOk result (IsSeen primary.new seen.new) }
 {
@@ -166,8 +166,8 @@ pub fn merge_cut<D: Dir>(
         return Err(Fail::new("no merge is ready"));
     };
     match primary.merge_cut(alloc, task.seg) {
-        Ok(()) => Ok(Outcome::CutOver),
-        Err(PrimaryFault::Failed) => Ok(Outcome::Failed),
+        Ok(()) => Ok(CallOutcome::CutOver),
+        Err(PrimaryFault::Failed) => Ok(CallOutcome::Failed),
         Err(PrimaryFault::Memory) => Err(Fail::new("out of memory")),
     }
 }

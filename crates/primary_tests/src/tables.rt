@@ -6,7 +6,7 @@ ghost use Rattle.primary_tests.specs.Seeing.{IsEmpty};
 
 use crate::bench::Call::{self, Cut, Delete, HasMet, Plan, Publish, Put, Ready, Start};
 use crate::bench::run;
-use crate::calls::Outcome;
+use crate::calls::CallOutcome;
 use disk_memory::MemDir;
 use nrt_base::NoMemory;
 use std::alloc::Global;
@@ -32,9 +32,9 @@ const BEFORE_A_PUBLISH: [Call; 8] = [
     Put(0),
     Put(1),
     Put(2),
-    Publish(Outcome::Point),
+    Publish(CallOutcome::Point),
     Delete(2),
-    Publish(Outcome::Point),
+    Publish(CallOutcome::Point),
     Put(3),
     Delete(0),
 ];
@@ -42,10 +42,10 @@ const BEFORE_A_PUBLISH: [Call; 8] = [
 #[test]
 fn a_publish_stopped_at_each_call(rt: HostRuntime) -> Result<(), Fail> {
     for k in 1..5 {
-        let call = Publish(Outcome::Failed);
+        let call = Publish(CallOutcome::Failed);
         stopped(rt.alloc(), &BEFORE_A_PUBLISH, k, call, 1)?;
     }
-    let call = Publish(Outcome::Point);
+    let call = Publish(CallOutcome::Point);
     stopped(rt.alloc(), &BEFORE_A_PUBLISH, 5, call, 1)?;
     stopped(rt.alloc(), &BEFORE_A_PUBLISH, 6, call, 0)
 }
@@ -55,22 +55,22 @@ const BEFORE_A_MERGE: [Call; 9] = [
     Put(0),
     Put(1),
     Put(2),
-    Publish(Outcome::Point),
+    Publish(CallOutcome::Point),
     Put(3),
     Put(4),
     Delete(0),
-    Publish(Outcome::Point),
-    Start(Outcome::Started),
+    Publish(CallOutcome::Point),
+    Start(CallOutcome::Started),
 ];
 
 // A merge writes three files.
 #[test]
 fn a_merge_stopped_at_each_call(rt: HostRuntime) -> Result<(), Fail> {
     for k in 1..4 {
-        let call = Ready(Outcome::Failed);
+        let call = Ready(CallOutcome::Failed);
         stopped(rt.alloc(), &BEFORE_A_MERGE, k, call, 1)?;
     }
-    let call = Ready(Outcome::Ready);
+    let call = Ready(CallOutcome::Ready);
     stopped(rt.alloc(), &BEFORE_A_MERGE, 4, call, 0)
 }
 
@@ -79,12 +79,12 @@ fn a_merge_stopped_at_each_call(rt: HostRuntime) -> Result<(), Fail> {
 fn a_cut_over_stopped_at_each_call(rt: HostRuntime) -> Result<(), Fail> {
     let alloc = rt.alloc();
     let mut before = Vec::from_slice(alloc, &BEFORE_A_MERGE)?;
-    let point = Publish(Outcome::Point);
-    before.extend_from_slice(&[Ready(Outcome::Ready), Delete(1), point])?;
+    let point = Publish(CallOutcome::Point);
+    before.extend_from_slice(&[Ready(CallOutcome::Ready), Delete(1), point])?;
     let before = before.as_slice();
-    stopped(alloc, before, 1, Cut(Outcome::Failed), 1)?;
-    stopped(alloc, before, 2, Cut(Outcome::CutOver), 1)?;
-    stopped(alloc, before, 3, Cut(Outcome::CutOver), 0)
+    stopped(alloc, before, 1, Cut(CallOutcome::Failed), 1)?;
+    stopped(alloc, before, 2, Cut(CallOutcome::CutOver), 1)?;
+    stopped(alloc, before, 3, Cut(CallOutcome::CutOver), 0)
 }
 
 // A generation draws 1,679,616 names; from then on nothing is put.
@@ -93,9 +93,9 @@ fn names_are_spent_for_puts_alone(rt: HostRuntime) -> Result<(), Fail> {
     let alloc = rt.alloc();
     let calls = [
         Delete(0),
-        Publish(Outcome::Point),
+        Publish(CallOutcome::Point),
         Put(0),
-        Publish(Outcome::NamesSpent),
+        Publish(CallOutcome::NamesSpent),
     ];
     run(alloc, empty_dir(alloc)?, 1_679_616, &calls)
 }
@@ -105,8 +105,8 @@ fn a_put_wants_a_place_among_256_segments(rt: HostRuntime) -> Result<(), Fail> {
     let alloc = rt.alloc();
     let mut calls = Vec::new(alloc);
     for key in 0..=255 {
-        calls.extend_from_slice(&[Put(key), Publish(Outcome::Point)])?;
+        calls.extend_from_slice(&[Put(key), Publish(CallOutcome::Point)])?;
     }
-    calls.extend_from_slice(&[Put(0), Publish(Outcome::TooManySegments)])?;
+    calls.extend_from_slice(&[Put(0), Publish(CallOutcome::TooManySegments)])?;
     run(alloc, empty_dir(alloc)?, 0, calls.as_slice())
 }

@@ -22,7 +22,7 @@ use Rattle.cluster_state.specs.Run.{Run, IsEnded}
 use Rattle.cluster_state.specs.declared.turn.Turn.{Turn}
 use Rattle.cluster_state.specs.declared.turn.Turn.TheVariants.{Work, Done, Busy}
 use Rattle.cluster_core.specs.Doing.{Does, IsReplied}
-use Rattle.lane_lines.specs.Turns.{TakesLineTo, IsUnbegunIn, TurnShows, TurnsLine}
+use Rattle.lane_sections.specs.Turns.{TakesLineTo, IsUnbegunIn, TurnShows, TurnsLine}
 
 -- ---- one call
 

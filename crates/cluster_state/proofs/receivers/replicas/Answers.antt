@@ -2,9 +2,9 @@ use Rattle.std.proofs.Common.{◌∙◌, ◌+◌, List, Vec, Global, Option, ap,
 use Rattle.nrt_base.specs.declared.numbers.NodeNo.{NodeNo}
 use Rattle.history_rules.specs.Nodes.{is_at}
 use Rattle.history_book.specs.Log.{printed}
-use Rattle.cluster_copies.proofs.Settling.{AreReplicasTo, one_more, none_more}
-use Rattle.cluster_copies.proofs.settles.replicas.Goals.{then-runs+then-not-is_node+in_ok-push, else-runs, else-runs-via-then-runs+else-not-is_node, else-runs-via-else-runs}
-use Rattle.cluster_copies.proofs.settles.replicas.Goals as goal
+use Rattle.cluster_state.proofs.ReplicaLists.{AreReplicasTo, with_replica, without_replica}
+use Rattle.cluster_state.proofs.receivers.replicas.Goals.{then-runs+then-not-is_node+in_ok-push, else-runs, else-runs-via-then-runs+else-not-is_node, else-runs-via-else-runs}
+use Rattle.cluster_state.proofs.receivers.replicas.Goals as goal
 
 pub loop-k-preserved : goal.loop-k-preserved
 loop-k-preserved c =
@@ -14,14 +14,14 @@ loop-k-preserved c =
       | then-runs+then-not-is_node+in_ok-push w ↦
           subst (λ (nodes : List NodeNo). AreReplicasTo book.nodes (printed book.log) (n + 1) nodes)
           (sym (ap (λ (v : Vec NodeNo Global). v.items) w.left-is ∙ w.in_ok-push.ensures.items))
-          (one_more book.nodes (printed book.log) n c.loop-k.left.items (omega arith, omega arith)
+          (with_replica book.nodes (printed book.log) n c.loop-k.left.items (omega arith, omega arith)
           (record {
             running = sym c.runs.ensures ∙ w.if-runs.true;
             other = sym (ap (λ (p : Option NodeNo). is_at p n) c.primary-primary.ensures) ∙ (sym w.is_node.ensures ∙ w.if-not-is_node.true);
           }) c.loop-k.invariant)
       | else-runs w ↦
           subst (λ (nodes : List NodeNo). AreReplicasTo book.nodes (printed book.log) (n + 1) nodes) (sym (ap (λ (v : Vec NodeNo Global). v.items) w.left-is))
-          (none_more book.nodes (printed book.log) n c.loop-k.left.items (λ is. elim w.else-runs.branch [
+          (without_replica book.nodes (printed book.log) n c.loop-k.left.items (λ is. elim w.else-runs.branch [
             | else-runs-via-then-runs+else-not-is_node x ↦
                 true≢false (sym (sym (ap (λ (p : Option NodeNo). is_at p n) c.primary-primary.ensures) ∙ (sym x.is_node.ensures ∙ x.if-not-is_node.false)) ∙ is.other)
             | else-runs-via-else-runs x ↦ true≢false (sym is.running ∙ (sym c.runs.ensures ∙ x.if-runs.false))
