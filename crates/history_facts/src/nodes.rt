@@ -1,3 +1,5 @@
+//! What a history shows of the nodes: which is the primary, which run, and what each searches.
+
 ghost use Rattle.std.specs.Prelude.{◌≡◌, ◌↔◌, ◌≤◌, reverse, length, IsTrue, []};
 ghost use Rattle.history_rules.specs.Nodes.{IsNode, IsReplica, is_at, primary_by, primary_of, primary_crashes, is_running, crashes, version_of, newest_version, is_made_in_generation, is_point, accepted_count};
 ghost use Rattle.history_rules.specs.Steps.{version_by};

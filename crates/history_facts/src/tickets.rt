@@ -1,3 +1,5 @@
+//! What a history shows of tickets: which are open, and at which node and version.
+
 ghost use Rattle.std.specs.Prelude.{◌≡◌, ◌↔◌, reverse, IsTrue, IsSomeAnd, MatchOption};
 ghost use Rattle.history_facts.specs.Openings.{opening_of};
 ghost use Rattle.history_rules.specs.Tickets.{last_opened, open_ticket, has_ticket, IsTicketOf};
