@@ -13,7 +13,7 @@ use Rattle.seg_reader.specs.Shown.{Shown}
 use Rattle.seg_reader.specs.Stands.{AreSegmentsOf}
 use Rattle.segment_infos.specs.declared.infos.Infos.{Infos}
 use Rattle.searcher_switch.specs.declared.open.Open.{Open}
-use Rattle.searcher_switch.specs.declared.open.Point.{Point}
+use Rattle.searcher_switch.specs.declared.open.SearchPoint.{SearchPoint}
 use Rattle.searcher_switch.specs.Appearing.{NoneAppears}
 use Rattle.history_rules.specs.declared.entry.Entry.{Entry}
 use Rattle.history_rules.specs.declared.entry.Event.TheVariants.{Merging as MergingEvent}
@@ -99,7 +99,7 @@ module _ {D : Type 0} (cells : D → Cells) (size : ℕ) (log : Log) (at : At) (
           running = was.running;
           primary = was.primary;
           whole = whole;
-          point = subst (λ (o : Point Shown). IsPointAt (printed (shown at (MergingEvent seg) ∷ log)) (version_of n (printed log)) o) (sym (ap (λ (z : PrimaryParts D). z.searchers.point) is))
+          point = subst (λ (o : SearchPoint Shown). IsPointAt (printed (shown at (MergingEvent seg) ∷ log)) (version_of n (printed log)) o) (sym (ap (λ (z : PrimaryParts D). z.searchers.point) is))
               (record { version = was.point.version; stands = point });
           writer = subst (λ (x : Infos × List Shown). WritesAt (printed (shown at (MergingEvent seg) ∷ log)) x.0 x.1) (λ i. (sym (ap (λ (z : PrimaryParts D). z.infos) is) i, sym (ap (λ (z : PrimaryParts D). z.segs) is) i))
               (begun_writer (printed log) at seg p.infos p.segs newest.documents was.writer);

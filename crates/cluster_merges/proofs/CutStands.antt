@@ -15,7 +15,7 @@ use Rattle.copy_job.specs.Jobs.{Job}
 use Rattle.seg_reader.specs.Shown.{Shown}
 use Rattle.segment_infos.specs.declared.infos.Infos.{Infos}
 use Rattle.searcher_switch.specs.declared.open.Open.{Open}
-use Rattle.searcher_switch.specs.declared.open.Point.{Point}
+use Rattle.searcher_switch.specs.declared.open.SearchPoint.{SearchPoint}
 use Rattle.segment_steps.specs.Next.{Turn, stays, staying}
 use Rattle.segment_steps.specs.CutOver.{Part, inputs_in, in_place, lives_of, part_after, merged_turn, merged_turns}
 use Rattle.segment_steps.proofs.CutNumbers.{few_in_place}
@@ -98,7 +98,7 @@ module _ {D : Type 0} (cells : D → Cells) (log : Log) (n : ℕ) (seg : SegNo) 
     running = was.running;
     primary = was.primary;
     whole = cuts.whole;
-    point = subst (λ (o : Point Shown). IsPointAt (printed log) (version_of n (printed log)) o) (sym (ap (λ (z : PrimaryParts D). z.searchers.point) cuts.others)) was.point;
+    point = subst (λ (o : SearchPoint Shown). IsPointAt (printed log) (version_of n (printed log)) o) (sym (ap (λ (z : PrimaryParts D). z.searchers.point) cuts.others)) was.point;
     writer = cut_writer was.writer;
     waiting = ap (λ (z : PrimaryParts D). z.waiting) cuts.others ∙ was.waiting;
     accepted = ap (λ (z : PrimaryParts D). z.accepted) cuts.others ∙ was.accepted;

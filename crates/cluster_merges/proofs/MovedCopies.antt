@@ -12,7 +12,7 @@ use Rattle.file_names.specs.Names.{temp_name_of}
 use Rattle.segment_infos.specs.declared.infos.Infos.{Infos}
 use Rattle.seg_reader.specs.Shown.{Shown}
 use Rattle.searcher_switch.specs.declared.open.Open.{Open}
-use Rattle.searcher_switch.specs.declared.open.Point.{Point}
+use Rattle.searcher_switch.specs.declared.open.SearchPoint.{SearchPoint}
 use Rattle.searcher_switch.specs.declared.searchers.Searchers.{Searchers}
 use Rattle.primary_state.specs.declared.states.Out.{Out}
 use Rattle.replica_state.specs.declared.job.PointJob.{PointJob}
@@ -77,7 +77,7 @@ module _ {D : Type 0} (cells : D → Cells) where
         other = was.node_shows.other;
         whole = w.whole;
         standing = w.standing was.node_shows.standing;
-        point = subst (λ (z : Point Shown). IsPointAt (printed log) (version_of n (printed log)) z) (sym (ap (λ (z : Searchers Shown). z.point) w.searchers)) was.node_shows.point;
+        point = subst (λ (z : SearchPoint Shown). IsPointAt (printed log) (version_of n (printed log)) z) (sym (ap (λ (z : Searchers Shown). z.point) w.searchers)) was.node_shows.point;
         seen = (let low = was.node_shows.seen in let same_seen = w.seen in omega (arith, low, same_seen));
       };
       tickets = subst (λ (ts : List (Open Shown)). HoldsTickets (printed log) n ts held.items) (sym (ap (λ (z : Searchers Shown). z.tickets) w.searchers)) was.tickets;

@@ -15,7 +15,7 @@ use Rattle.seg_merge.specs.declared.task.MergeTask.{MergeTask}
 use Rattle.seg_merge.specs.declared.task.Merged.{Merged}
 use Rattle.seg_merge.specs.Merging.{IsMergedOf}
 use Rattle.searcher_switch.specs.declared.open.Open.{Open}
-use Rattle.searcher_switch.specs.declared.open.Point.{Point}
+use Rattle.searcher_switch.specs.declared.open.SearchPoint.{SearchPoint}
 use Rattle.searcher_switch.specs.Searching.{searcher_names}
 use Rattle.primary_state.specs.declared.parts.Parts.{Parts as PrimaryParts}
 use Rattle.primary_state.specs.declared.parts.Publish.{Publish}
@@ -118,7 +118,7 @@ module _ {D : Type 0} (cells : D → Cells) where
     running = was.running;
     primary = was.primary;
     whole = w.whole;
-    point = subst (λ (z : Point Shown). IsPointAt (printed log) (version_of n (printed log)) z) (sym (ap (λ (z : PrimaryParts D). z.searchers.point) w.others)) was.point;
+    point = subst (λ (z : SearchPoint Shown). IsPointAt (printed log) (version_of n (printed log)) z) (sym (ap (λ (z : PrimaryParts D). z.searchers.point) w.others)) was.point;
     writer = subst (λ (z : Infos × List Shown). WritesAt (printed log) z.0 z.1) (λ i. (sym (ap (λ (z : PrimaryParts D). z.infos) w.others) i, sym (ap (λ (z : PrimaryParts D). z.segs) w.others) i)) was.writer;
     waiting = ap (λ (z : PrimaryParts D). z.waiting) w.others ∙ was.waiting;
     accepted = ap (λ (z : PrimaryParts D). z.accepted) w.others ∙ was.accepted;

@@ -14,7 +14,7 @@ use Rattle.copy_job.specs.Jobs.{Job}
 use Rattle.segment_infos.specs.declared.infos.Infos.{Infos}
 use Rattle.seg_reader.specs.Shown.{Shown}
 use Rattle.searcher_switch.specs.declared.open.Open.{Open}
-use Rattle.searcher_switch.specs.declared.open.Point.{Point}
+use Rattle.searcher_switch.specs.declared.open.SearchPoint.{SearchPoint}
 use Rattle.primary_state.specs.declared.states.Out.{Out}
 use Rattle.replica_state.specs.declared.job.PointJob.{PointJob}
 use Rattle.replica_state.specs.declared.parts.Parts.{Parts as ReplicaParts}
@@ -120,7 +120,7 @@ module _ {D : Type 0} (cells : D → Cells) where
           other = mine.node_shows.other;
           whole = w.whole;
           standing = w.standing mine.node_shows.standing;
-          point = subst (λ (z : Point Shown). IsPointAt (printed log) (version_of n (printed log)) z) (sym (ap (λ (z : ReplicaParts D). z.searchers.point) w.others)) mine.node_shows.point;
+          point = subst (λ (z : SearchPoint Shown). IsPointAt (printed log) (version_of n (printed log)) z) (sym (ap (λ (z : ReplicaParts D). z.searchers.point) w.others)) mine.node_shows.point;
           seen = let is : s.seen.0 ≡ state.primary_gen.0 = ap (λ (g : Gen). g.0) w.seen in omega (arith, is, generation);
         };
         tickets = subst (λ (ts : List (Open Shown)). HoldsTickets (printed log) n ts held.items) (sym (ap (λ (z : ReplicaParts D). z.searchers.tickets) w.others)) mine.tickets;

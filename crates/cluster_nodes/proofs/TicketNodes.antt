@@ -10,7 +10,7 @@ use Rattle.primary_state.specs.Held.{IsUndrawn}
 use Rattle.primary_state.specs.Primary.{KeepsHeldBytes, loose_of, filled_of}
 use Rattle.primary_state.specs.Calls.{HoldsNoNew}
 use Rattle.seg_reader.specs.Shown.{Shown}
-use Rattle.searcher_switch.specs.declared.open.Point.{Point}
+use Rattle.searcher_switch.specs.declared.open.SearchPoint.{SearchPoint}
 use Rattle.cluster_nodes.specs.declared.nodes.Node.{Node}
 use Rattle.cluster_nodes.specs.declared.nodes.Node.TheVariants.{Primary, Replica, Down}
 use Rattle.cluster_nodes.specs.KeptFiles.{KeepsNodeFiles}
@@ -63,7 +63,7 @@ module _ {D : Type 0} (cells : D → Cells) where
     job = ap (λ (z : ReplicaParts D). z.job) others;
     jobs = ap (λ (z : ReplicaParts D). z.jobs) others;
     copies = ap (λ (z : ReplicaParts D). z.copies) others;
-    version = ap (λ (z : Point Shown). z.version) point;
+    version = ap (λ (z : SearchPoint Shown). z.version) point;
   })
 
   -- a node that no call changed

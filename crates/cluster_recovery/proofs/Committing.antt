@@ -17,7 +17,7 @@ use Rattle.commit_steps.specs.declared.stage.CommitBook.{CommitBook}
 use Rattle.commit_steps.specs.Book.{commit_of, book_by, is_last_step, IsBegun, HasBegun}
 use Rattle.searcher_switch.specs.Appearing.{IsNameInFlight}
 use Rattle.searcher_switch.specs.declared.open.Open.{Open}
-use Rattle.searcher_switch.specs.declared.open.Point.{Point}
+use Rattle.searcher_switch.specs.declared.open.SearchPoint.{SearchPoint}
 use Rattle.primary_state.specs.declared.parts.Parts.{Parts as PrimaryParts}
 use Rattle.primary_state.specs.declared.parts.Publish.{Publish}
 use Rattle.primary_state.specs.declared.states.Out.{Out}
@@ -74,7 +74,7 @@ module _ {D : Type 0} (cells : D → Cells) (Step : Infos → CommitBook → Com
         running = was.running;
         primary = was.primary;
         whole = a.0.whole;
-        point = subst (λ (z : Point Shown). IsPointAt (printed log) (version_of n (printed log)) z) (sym (ap (λ (z : PrimaryParts D). z.searchers.point) o)) was.point;
+        point = subst (λ (z : SearchPoint Shown). IsPointAt (printed log) (version_of n (printed log)) z) (sym (ap (λ (z : PrimaryParts D). z.searchers.point) o)) was.point;
         writer = subst (λ (z : Infos × List Shown). WritesAt (printed log) z.0 z.1) (λ i. (sym (ap (λ (z : PrimaryParts D). z.infos) o) i, sym (ap (λ (z : PrimaryParts D). z.segs) o) i)) was.writer;
         waiting = ap (λ (z : PrimaryParts D). z.waiting) o ∙ was.waiting;
         accepted = ap (λ (z : PrimaryParts D). z.accepted) o ∙ was.accepted;
@@ -88,7 +88,7 @@ module _ {D : Type 0} (cells : D → Cells) (Step : Infos → CommitBook → Com
         other = was.other;
         whole = a.0.whole;
         standing = a.0.standing was.standing;
-        point = subst (λ (z : Point Shown). IsPointAt (printed log) (version_of n (printed log)) z) (sym (ap (λ (z : ReplicaParts D). z.searchers.point) o)) was.point;
+        point = subst (λ (z : SearchPoint Shown). IsPointAt (printed log) (version_of n (printed log)) z) (sym (ap (λ (z : ReplicaParts D). z.searchers.point) o)) was.point;
         seen = (let is : s.seen.0 ≡ r.seen.0 = ap (λ (z : ReplicaParts D). z.seen.0) o in let low = was.seen in omega (arith, is, low));
       }
   shows_alter log n (Primary p) (Replica s) a was = absurd a

@@ -15,7 +15,7 @@ use Rattle.segment_infos.specs.declared.infos.Infos.{Infos}
 use Rattle.seg_reader.specs.Shown.{Shown}
 use Rattle.seg_reader.specs.Stands.{StandsFor, AreSegmentsOf}
 use Rattle.searcher_switch.specs.declared.open.Open.{Open}
-use Rattle.searcher_switch.specs.declared.open.Point.{Point}
+use Rattle.searcher_switch.specs.declared.open.SearchPoint.{SearchPoint}
 use Rattle.searcher_switch.specs.declared.searchers.Searchers.{Searchers}
 use Rattle.commit_steps.specs.declared.stage.CommitBook.{CommitBook}
 use Rattle.searcher_switch.proofs.Appearing.{only_none}

@@ -8,7 +8,7 @@ use Rattle.disk_model.specs.Disk.{Cells}
 use Rattle.seg_reader.specs.Shown.{Shown}
 use Rattle.segment_infos.specs.declared.infos.Infos.{Infos}
 use Rattle.searcher_switch.specs.declared.open.Open.{Open}
-use Rattle.searcher_switch.specs.declared.open.Point.{Point}
+use Rattle.searcher_switch.specs.declared.open.SearchPoint.{SearchPoint}
 use Rattle.searcher_switch.specs.Tickets.{ticket_at, tickets_without}
 use Rattle.history_rules.specs.Nodes.{Past, version_of}
 use Rattle.history_rules.specs.Lines.{publish_in_flight}
@@ -78,7 +78,7 @@ ticket_left P number gone (t ∷ ts) apart is =
 abbrev pub IsNewOr : Bool → ℕ → ℕ → Type 0 → Type 0
 IsNewOr same v w before = ((same ≡ true) × (w ≡ v)) ⊎ ((same ≡ false) × before)
 
-module _ (past now : Past) (n number v : ℕ) (key : Key) (point : Point Shown) (tickets after : List (Open Shown)) (held rows : List Held)
+module _ (past now : Past) (n number v : ℕ) (key : Key) (point : SearchPoint Shown) (tickets after : List (Open Shown)) (held rows : List Held)
     (fresh : is_some (ticket_at number tickets) ≡ false) (more : after ≡ tickets ++ record { number = number; point = point } ∷ [])
     (holds : (k : Key) → held_number rows k ≡ (if same_key key k then Some number else held_number held k)) where
   new_there : (P : Open Shown → Type 0) → P (record { number = number; point = point }) → IsSomeAnd (ticket_at number after) P
@@ -145,7 +145,7 @@ module _ {D : Type 0} (cells : D → Cells) where
     running = was.running;
     primary = was.primary;
     whole = k.2 was.whole;
-    point = subst (λ (o : Point Shown). IsPointAt (printed log) (version_of n (printed log)) o) (sym k.1) was.point;
+    point = subst (λ (o : SearchPoint Shown). IsPointAt (printed log) (version_of n (printed log)) o) (sym k.1) was.point;
     writer = subst (λ (x : Infos × List Shown). WritesAt (printed log) x.0 x.1) (λ i. (sym (ap (λ (z : PrimaryParts D). z.infos) k.0) i, sym (ap (λ (z : PrimaryParts D). z.segs) k.0) i)) was.writer;
     waiting = ap (λ (z : PrimaryParts D). z.waiting) k.0 ∙ was.waiting;
     accepted = ap (λ (z : PrimaryParts D). z.accepted) k.0 ∙ was.accepted;
@@ -161,7 +161,7 @@ module _ {D : Type 0} (cells : D → Cells) where
     other = was.other;
     whole = k.2 was.whole;
     standing = k.3 was.standing;
-    point = subst (λ (o : Point Shown). IsPointAt past (version_of n past) o) (sym k.1) was.point;
+    point = subst (λ (o : SearchPoint Shown). IsPointAt past (version_of n past) o) (sym k.1) was.point;
     seen = omega (arith, was.seen, ap (λ (z : ReplicaParts D). z.seen.0) k.0);
   }
 

@@ -5,7 +5,7 @@ use Rattle.std.proofs.lemmas.Bool.{eq-eqb}
 use Rattle.nrt_base.specs.declared.numbers.Version.{Version}
 use Rattle.seg_reader.specs.Shown.{Shown}
 use Rattle.searcher_switch.specs.declared.open.Open.{Open}
-use Rattle.searcher_switch.specs.declared.open.Point.{Point}
+use Rattle.searcher_switch.specs.declared.open.SearchPoint.{SearchPoint}
 use Rattle.searcher_switch.specs.declared.searchers.Searchers.{Searchers}
 use Rattle.searcher_switch.specs.declared.searchers.Lease.{Lease}
 use Rattle.searcher_switch.specs.Searching.{IsLeaseOf}
@@ -85,11 +85,11 @@ module _ {D : Type 0} (cells : D → Cells) where
       subst (λ (ts : List (Open Shown)). IsSomeAnd (ticket_at number ts) (λ o. o.point ≡ s.point)) (sym more)
       (ticket_last (λ o. o.point ≡ s.point) number s.tickets (record { number = number; point = s.point }) fresh refl refl)
 
-  read_new : (past : Past) (v : ℕ) (lease : Lease Shown) (point : Point Shown) (o : Option (Open Shown)) → IsPointAt past v point → IsSomeAnd o (λ t. t.point ≡ point) → IfSome o (IsLeaseOf lease) → ReadsAt past v lease
+  read_new : (past : Past) (v : ℕ) (lease : Lease Shown) (point : SearchPoint Shown) (o : Option (Open Shown)) → IsPointAt past v point → IsSomeAnd o (λ t. t.point ≡ point) → IfSome o (IsLeaseOf lease) → ReadsAt past v lease
   read_new past v lease point None at new is = absurd new
   read_new past v lease point (Some t) at new is = record {
-    version = ap (λ (w : Version). w.0) is.version ∙ (ap (λ (q : Point Shown). q.version.0) new ∙ at.version);
-    stands = subst (λ (segs : List Shown). StandForVersion past v segs) (sym (is.readers ∙ ap (λ (q : Point Shown). q.readers) new)) at.stands;
+    version = ap (λ (w : Version). w.0) is.version ∙ (ap (λ (q : SearchPoint Shown). q.version.0) new ∙ at.version);
+    stands = subst (λ (segs : List Shown). StandForVersion past v segs) (sym (is.readers ∙ ap (λ (q : SearchPoint Shown). q.readers) new)) at.stands;
   }
 
   under_new : (past : Past) (v number : ℕ) (lease : Lease Shown) (s : Searchers Shown) (after : List (Open Shown)) (o : Option ℕ) → o ≡ Some number → IsPointAt past v s.point

@@ -28,7 +28,7 @@ use Rattle.searcher_switch.specs.Node.{IsWholeNode}
 use Rattle.seg_reader.specs.Shown.{Shown}
 use Rattle.seg_reader.specs.Stands.{AreSegmentsOf}
 use Rattle.searcher_switch.specs.declared.open.Open.{Open}
-use Rattle.searcher_switch.specs.declared.open.Point.{Point}
+use Rattle.searcher_switch.specs.declared.open.SearchPoint.{SearchPoint}
 use Rattle.searcher_switch.specs.declared.searchers.Searchers.{Searchers}
 use Rattle.searcher_switch.specs.Tickets.{ticket_at, ticket_names}
 use Rattle.searcher_switch.specs.Searching.{searcher_names}
@@ -132,7 +132,7 @@ ticket_named (t ∷ ts) o q (i, lt, e) named = at i lt e (λ k lt' e'. ticket_na
 
 module _ (past : Past) (cells : Cells) (names : List Name) (told : AreNamesOf cells names) where
   -- the names of a point with documents have one of stored documents, which is told
-  point_told : (point : Point Shown) (v : ℕ) → ((q : Name) → 0 < times point.names q → IsThere cells q) → NamesDocuments point → StandForVersion past v point.readers → has_documents past v ≡ true → list_any is_documents_name names ≡ true
+  point_told : (point : SearchPoint Shown) (v : ℕ) → ((q : Name) → 0 < times point.names q → IsThere cells q) → NamesDocuments point → StandForVersion past v point.readers → has_documents past v ≡ true → list_any is_documents_name names ≡ true
   point_told point v stand named stands docs =
       let f = found is_documents_name point.names (named (some_segments (documents_at past v) point.readers stands.documents docs)) in
       listed is_documents_name names f.0 (told.told f.0 ∙ stand f.0 (among_times point.names f.0 (among_of point.names f.0 f.2))) f.1

@@ -13,7 +13,7 @@ use Rattle.segment_infos.specs.Files.{files_of_segment, AreFilesOf}
 use Rattle.seg_reader.specs.Shown.{Shown}
 use Rattle.seg_reader.specs.Stands.{IsSegmentIn}
 use Rattle.searcher_switch.specs.declared.open.Open.{Open}
-use Rattle.searcher_switch.specs.declared.open.Point.{Point}
+use Rattle.searcher_switch.specs.declared.open.SearchPoint.{SearchPoint}
 use Rattle.searcher_switch.specs.Tickets.{tickets_without}
 use Rattle.primary_state.specs.declared.parts.Parts.{Parts as PrimaryParts}
 use Rattle.primary_state.specs.Primary.{IsPrimary, loose_of}
@@ -46,7 +46,7 @@ any_passes {X} p (y ∷ xs) x (i, lt, e) passes = at i lt e (λ k lt' e'. any_pa
 -- ---- points
 
 -- a point whose readers are those of segments of which its names are the files
-named_by : (reads : Name → Content) (infos : Infos) (point : Point Shown) → AreFilesOf infos point.names → AllZip (IsSegmentIn reads) infos.segs point.readers → NamesDocuments point
+named_by : (reads : Name → Content) (infos : Infos) (point : SearchPoint Shown) → AreFilesOf infos point.names → AllZip (IsSegmentIn reads) infos.segs point.readers → NamesDocuments point
 named_by reads infos point files zip = by infos.segs (λ q. (files.named q).1) zip
   where
     by : (records : List SegRecord) → ((q : Name) → Contains (flat_map files_of_segment records) q → Contains point.names q) → AllZip (IsSegmentIn reads) records point.readers → NamesDocuments point
@@ -79,7 +79,7 @@ module _ {D : Type 0} (cells : D → Cells) where
   loose_kept (Down d) (Primary q) keeps = absurd keeps
   loose_kept (Down d) (Replica s) keeps = absurd keeps
 
-  more_tickets : (number : ℕ) (point : Point Shown) (old new : List (Open Shown)) → new ≡ old ++ record { number = number; point = point } ∷ [] → NamesDocuments point
+  more_tickets : (number : ℕ) (point : SearchPoint Shown) (old new : List (Open Shown)) → new ≡ old ++ record { number = number; point = point } ∷ [] → NamesDocuments point
       → (o : Open Shown) → Contains new o → Contains old o ⊎ NamesDocuments o.point
   more_tickets number point old new is named o held =
       elim (Contains-push_cases old (record { number = number; point = point }) o (subst (λ (ts : List (Open Shown)). Contains ts o) is held)) [

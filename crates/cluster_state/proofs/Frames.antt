@@ -10,7 +10,7 @@ use Rattle.seg_reader.specs.Shown.{Shown}
 use Rattle.seg_reader.specs.Stands.{AreSegmentsOf}
 use Rattle.segment_infos.specs.declared.infos.Infos.{Infos}
 use Rattle.searcher_switch.specs.declared.open.Open.{Open}
-use Rattle.searcher_switch.specs.declared.open.Point.{Point}
+use Rattle.searcher_switch.specs.declared.open.SearchPoint.{SearchPoint}
 use Rattle.searcher_switch.specs.Tickets.{ticket_at}
 use Rattle.history_rules.specs.declared.entry.Entry.{Entry}
 use Rattle.history_rules.specs.declared.entry.Event.{Event}
@@ -59,7 +59,7 @@ start_back at e past none = go (is_start e.event && same_at e.at at) none
 
 -- ---- tickets
 
-point_more : (past now : Past) (v w : ℕ) (p : Point Shown) → Lasts past now → w ≡ v → IsPointAt past v p → IsPointAt now w p
+point_more : (past now : Past) (v w : ℕ) (p : SearchPoint Shown) → Lasts past now → w ≡ v → IsPointAt past v p → IsPointAt now w p
 point_more past now v w p g same was = record { version = was.version ∙ sym same; stands = subst (λ (k : ℕ). StandForVersion now k p.readers) (sym same) (g.stands v p.readers was.stands) }
 
 pub holds_same : (past now : Past) (n : ℕ) (tickets : List (Open Shown)) (held : List Held) → Lasts past now → Fewer past now n → HoldsTickets past n tickets held → HoldsTickets now n tickets held

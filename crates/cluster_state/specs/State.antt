@@ -9,7 +9,7 @@ use Rattle.segment_infos.specs.declared.infos.Infos.{Infos}
 use Rattle.script_serving.specs.Refusals.{put_publishes}
 use Rattle.searcher_switch.specs.declared.searchers.Lease.{Lease}
 use Rattle.searcher_switch.specs.declared.open.Open.{Open}
-use Rattle.searcher_switch.specs.declared.open.Point.{Point}
+use Rattle.searcher_switch.specs.declared.open.SearchPoint.{SearchPoint}
 use Rattle.searcher_switch.specs.Tickets.{ticket_at}
 use Rattle.history_rules.specs.Nodes.{Past, IsNode, primary_of, is_at, is_running, generation_of, version_of, newest_version}
 use Rattle.history_rules.specs.Lines.{start_entry, before_start, publish_in_flight}
@@ -38,7 +38,7 @@ pub record StandForVersion (past : Past) (v : ℕ) (segs : List Shown) : Type 0 
   pub documents : AreSegmentsOf (documents_at past v) segs
 
 -- the point that is searched has this version, and its documents
-pub record IsPointAt (past : Past) (v : ℕ) (point : Point Shown) : Type 0 where
+pub record IsPointAt (past : Past) (v : ℕ) (point : SearchPoint Shown) : Type 0 where
   pub version : point.version.0 ≡ v
   pub stands : StandForVersion past v point.readers
 

@@ -16,7 +16,7 @@ use Rattle.file_deleter.specs.Holdings.{Holdings, count_of, times, AreThere, Are
 use Rattle.file_deleter.specs.Moves.{KeepsFiles, HoldsFiles, LetsGo}
 use Rattle.file_deleter.proofs.NameLemmas.{times-append, among_times, not_among_times}
 use Rattle.commit_steps.proofs.Safe.{among_of, contains_of}
-use Rattle.searcher_switch.specs.declared.open.Point.{Point}
+use Rattle.searcher_switch.specs.declared.open.SearchPoint.{SearchPoint}
 use Rattle.searcher_switch.specs.declared.open.Open.{Open}
 use Rattle.searcher_switch.specs.declared.searchers.Searchers.{Searchers}
 use Rattle.searcher_switch.specs.Tickets.{ticket_names}
@@ -176,7 +176,7 @@ module _ {D : Type 0} (cells : D → Cells) (p : Parts D) (r : Ready) (h : HasWr
       let n : times (r.names ++ rest_names p) q ≡ times r.names q + times (rest_names p) q = times-append r.names (rest_names p) q in
       let o : times (p.names ++ rest_names p) q ≡ times p.names q + times (rest_names p) q = times-append p.names (rest_names p) q in
       let c : times (searcher_names searchers) q ≡ times searchers.point.names q + times (ticket_names searchers.tickets) q = times-append searchers.point.names (ticket_names searchers.tickets) q in
-      let d : times searchers.point.names q ≡ times r.names q = ap (λ (x : Point Shown). times x.names q) point ∙ ap (λ (ns : List Name). times ns q) ready.point_names in
+      let d : times searchers.point.names q ≡ times r.names q = ap (λ (x : SearchPoint Shown). times x.names q) point ∙ ap (λ (ns : List Name). times ns q) ready.point_names in
       let e : times (ticket_names searchers.tickets) q ≡ times (ticket_names p.searchers.tickets) q = ap (λ (ts : List (Open Shown)). times (ticket_names ts) q) tickets in
       let f : times r.gone q ≡ times (p.searchers.point.names ++ p.names) q + times r.written q = ap (λ (ns : List Name). times ns q) ready.gone ∙ times-append (p.searchers.point.names ++ p.names) r.written q in
       let g : times (p.searchers.point.names ++ p.names) q ≡ times p.searchers.point.names q + times p.names q = times-append p.searchers.point.names p.names q in
@@ -216,7 +216,7 @@ module _ {D : Type 0} (cells : D → Cells) (p : Parts D) (r : Ready) (h : HasWr
     }
 
     searched_end : IsHeld (reads_of (cells dir)) r.point_infos searchers.point.readers searchers.point.names
-    searched_end = subst (λ (x : Point Shown). IsHeld (reads_of (cells dir)) r.point_infos x.readers x.names) (sym point)
+    searched_end = subst (λ (x : SearchPoint Shown). IsHeld (reads_of (cells dir)) r.point_infos x.readers x.names) (sym point)
         (subst (λ (i : Infos). IsHeld (reads_of (cells dir)) i r.readers r.point_names) (sym h.ready.point_infos)
         (subst (λ (ss : List Shown). IsHeld (reads_of (cells dir)) r.infos ss r.point_names) (sym h.ready.readers)
         (subst (λ (ns : List Name). IsHeld (reads_of (cells dir)) r.infos r.segs ns) (sym h.ready.point_names) writer_end)))
@@ -229,7 +229,7 @@ module _ {D : Type 0} (cells : D → Cells) (p : Parts D) (r : Ready) (h : HasWr
           standing = standing_kept (cells p.dir) (cells dir) p.files p.commits h.node.sound (λ q there. reads_end q (book_counted (cells dir) files new_names p.commits node_end q there)) h.standing;
           writer = writer_end;
           searched = searched_end;
-          version = ap (λ (i : Infos). i.version) h.ready.point_infos ∙ sym (ap (λ (x : Point Shown). x.version) point);
+          version = ap (λ (i : Infos). i.version) h.ready.point_infos ∙ sym (ap (λ (x : SearchPoint Shown). x.version) point);
           versions = sym (ap (λ (i : Infos). i.version) h.ready.point_infos);
           undrawn = record { each = λ q undrawn. omega (arith, h.undrawn.each q undrawn, lets.counts q) };
           numbered = subst (λ (i : Infos). AreNumbered i (rest_loose p)) (sym h.ready.infos) h.ready.step.numbered;

@@ -13,7 +13,7 @@ use Rattle.commit_steps.specs.declared.stage.CommitBook.{CommitBook}
 use Rattle.commit_steps.specs.Book.{book_names, IsBookSound, book_after, HasBegun}
 use Rattle.searcher_switch.specs.Node.{IsWholeNode, AddsOnly}
 use Rattle.searcher_switch.specs.Standing.{IsStanding}
-use Rattle.searcher_switch.specs.declared.open.Point.{Point}
+use Rattle.searcher_switch.specs.declared.open.SearchPoint.{SearchPoint}
 use Rattle.searcher_switch.specs.declared.searchers.Searchers.{Searchers}
 use Rattle.searcher_switch.specs.Tickets.{ticket_names}
 use Rattle.searcher_switch.specs.Searching.{searcher_names}
@@ -74,18 +74,18 @@ module _ {D : Type 0} (cells : D → Cells) (p : Parts D) (is : IsPrimary cells 
       → AddsOnly [] (searcher_names p.searchers) (searcher_names searchers) → searchers.point ≡ p.searchers.point → IsPrimary cells (record p { dir = dir; files = files; searchers = searchers })
   primary_searchers dir files searchers moves only e =
       let node : IsWholeNode (cells dir) files (searcher_names searchers ++ (p.names ++ rest_names p)) p.commits = node_front (cells p.dir) (cells dir) p.files files p.commits (searcher_names p.searchers) (searcher_names searchers) (p.names ++ rest_names p) is.node moves only in
-      let same_names : (q : Name) → times searchers.point.names q ≡ times p.searchers.point.names q = λ q. ap (λ (x : Point Shown). times x.names q) e in
+      let same_names : (q : Name) → times searchers.point.names q ≡ times p.searchers.point.names q = λ q. ap (λ (x : SearchPoint Shown). times x.names q) e in
       record {
         node = node;
         standing = standing_kept (cells p.dir) (cells dir) p.files p.commits is.node.sound
             (λ q there. moves.keeps.reads q (book_counted (cells p.dir) p.files (primary_names p) p.commits is.node q there) (book_counted (cells dir) files (searcher_names searchers ++ (p.names ++ rest_names p)) p.commits node q there)) is.standing;
         writer = held_kept (reads_of (cells p.dir)) (reads_of (cells dir)) p.infos p.segs p.names is.writer
             (λ q some. moves.keeps.reads q (writer_counted (cells p.dir) p.files p.searchers p.names (rest_names p) p.commits is.node q some) (writer_counted (cells dir) files searchers p.names (rest_names p) p.commits node q some));
-        searched = subst (λ (x : Point Shown). IsHeld (reads_of (cells dir)) p.point_infos x.readers x.names) (sym e)
+        searched = subst (λ (x : SearchPoint Shown). IsHeld (reads_of (cells dir)) p.point_infos x.readers x.names) (sym e)
             (held_kept (reads_of (cells p.dir)) (reads_of (cells dir)) p.point_infos p.searchers.point.readers p.searchers.point.names is.searched
             (λ q some. moves.keeps.reads q (point_counted (cells p.dir) p.files p.searchers (p.names ++ rest_names p) p.commits is.node q some)
             (let now : 0 < times searchers.point.names q = omega (arith, some, same_names q) in point_counted (cells dir) files searchers (p.names ++ rest_names p) p.commits node q now)));
-        version = is.version ∙ sym (ap (λ (x : Point Shown). x.version) e);
+        version = is.version ∙ sym (ap (λ (x : SearchPoint Shown). x.version) e);
         versions = is.versions;
         waits = is.waits;
         numbered = is.numbered;

@@ -13,7 +13,7 @@ use Rattle.segment_infos.specs.declared.infos.Infos.{Infos}
 use Rattle.segment_infos.specs.Files.{files_of_segment, AreFilesOf}
 use Rattle.seg_reader.specs.Shown.{Shown}
 use Rattle.commit_steps.specs.Book.{book_names}
-use Rattle.searcher_switch.specs.declared.open.Point.{Point}
+use Rattle.searcher_switch.specs.declared.open.SearchPoint.{SearchPoint}
 use Rattle.searcher_switch.specs.declared.open.Open.{Open}
 use Rattle.searcher_switch.specs.declared.searchers.Searchers.{Searchers}
 use Rattle.searcher_switch.specs.Tickets.{ticket_names}
@@ -247,7 +247,7 @@ module _ {D : Type 0} (cells : D → Cells) (p : Parts D) (is : IsWholeReplica c
         rest = ticket_names p.searchers.tickets ++ (book_names p.commits ++ copies_names p.copies)
 
         names_are : (q : Name) → times t.point.names q ≡ times point.names q
-        names_are q = ap (λ (x : Point Shown). times x.names q) searched
+        names_are q = ap (λ (x : SearchPoint Shown). times x.names q) searched
 
         tickets_are : (q : Name) → times (ticket_names t.tickets) q ≡ times (ticket_names p.searchers.tickets) q
         tickets_are q = ap (λ (ts : List (Open Shown)). times (ticket_names ts) q) tickets
@@ -325,7 +325,7 @@ module _ {D : Type 0} (cells : D → Cells) (p : Parts D) (is : IsWholeReplica c
         }
 
         pub done_whole : IsWholeReplica cells (record p { dir = dir; files = holdings; searchers = t; infos = j.infos; segs = point.segs; job = left; copies = next; known = known })
-        done_whole = whole_of cells (record p { dir = dir; files = holdings; searchers = t; infos = j.infos; segs = point.segs; job = left; copies = next; known = known }) done_core (sym (ap (λ (x : Point Shown). x.readers) searched))
+        done_whole = whole_of cells (record p { dir = dir; files = holdings; searchers = t; infos = j.infos; segs = point.segs; job = left; copies = next; known = known }) done_core (sym (ap (λ (x : SearchPoint Shown). x.readers) searched))
             (reads_known (cells dir) holdings known (held_finished (cells p.dir) (cells dir) p.files holdings j.copy j.infos p.searchers.point.names rest point.names above.state.files adv.names none_missing before_done after_done bytes_done reads_done
             (Knows noted) (Knows known) (HasWanted j.copy.want.files)
             (λ q content wanted has h. let k = turns q content wanted h in record { meta = k.meta; known_is = kept q has ∙ k.known_is; has = k.has })

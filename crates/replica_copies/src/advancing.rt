@@ -19,7 +19,7 @@ use file_deleter::FileDeleter;
 use file_names::FileName;
 use nrt_base::{List, NoMemory, Share};
 use replica_state::{ReadFault, readers_of};
-use searcher_switch::Point;
+use searcher_switch::SearchPoint;
 use seg_reader::Segment;
 use segment_infos::{Infos, files_of};
 use std::alloc::Global;
@@ -77,7 +77,7 @@ pub fn advance<D: Dir>(
     copy: &mut CopyJob,
     wanted: &Infos,
     infos: &Infos,
-    olds: &Point<Segment>,
+    olds: &SearchPoint<Segment>,
     dropped: &[FileName],
     files: &mut FileDeleter,
     dir: &mut D,

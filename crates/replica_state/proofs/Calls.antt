@@ -7,7 +7,7 @@ use Rattle.seg_reader.specs.Shown.{Shown}
 use Rattle.commit_steps.specs.declared.stage.CommitBook.{CommitBook}
 use Rattle.commit_steps.specs.Book.{book_names, book_after, HasBegun, IsBookSound}
 use Rattle.searcher_switch.specs.Node.{AddsOnly, KeepsBytes}
-use Rattle.searcher_switch.specs.declared.open.Point.{Point}
+use Rattle.searcher_switch.specs.declared.open.SearchPoint.{SearchPoint}
 use Rattle.searcher_switch.specs.declared.searchers.Searchers.{Searchers}
 use Rattle.searcher_switch.specs.Searching.{searcher_names}
 use Rattle.replica_state.specs.declared.parts.Parts.{Parts}
@@ -34,7 +34,7 @@ module _ {D : Type 0} (cells : D → Cells) (p : Parts D) (is : IsWholeReplica c
     searched_bytes = record { held = moves.keeps.reads }
 
     pub searched_whole : IsWholeReplica cells (record p { dir = dir; files = files; searchers = searchers })
-    searched_whole = whole_beside cells p (record p { dir = dir; files = files; searchers = searchers }) is searched_core refl refl searched_other searched_bytes refl refl (ap (λ (x : Point Shown). x.readers) same) refl
+    searched_whole = whole_beside cells p (record p { dir = dir; files = files; searchers = searchers }) is searched_core refl refl searched_other searched_bytes refl refl (ap (λ (x : SearchPoint Shown). x.readers) same) refl
 
     pub searched_sourced : KeepsSource cells p (record p { dir = dir; files = files; searchers = searchers })
     searched_sourced = sourced_beside cells p (record p { dir = dir; files = files; searchers = searchers }) is searched_core refl refl searched_other searched_bytes

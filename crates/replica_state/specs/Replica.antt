@@ -10,7 +10,7 @@ use Rattle.segment_infos.specs.Files.{AreFilesOf}
 use Rattle.seg_reader.specs.Shown.{Shown}
 use Rattle.searcher_switch.specs.Node.{IsWholeNode}
 use Rattle.searcher_switch.specs.Standing.{StandsForSome, IsStanding}
-use Rattle.searcher_switch.specs.declared.open.Point.{Point}
+use Rattle.searcher_switch.specs.declared.open.SearchPoint.{SearchPoint}
 use Rattle.searcher_switch.specs.Searching.{searcher_names}
 use Rattle.copy_state.specs.declared.meta.FileMetaData.{FileMetaData}
 use Rattle.copy_state.specs.declared.state.CopyState.{CopyState}
@@ -40,7 +40,7 @@ abbrev pub replica_names : {D : Type 0} → Parts D → List Name
 replica_names p = searcher_names p.searchers ++ copying_names p
 
 -- the point that is searched is that of the infos: it has their version, their files and their segments
-pub record IsPointOf (reads : Name → Content) (infos : Infos) (point : Point Shown) : Type 0 where
+pub record IsPointOf (reads : Name → Content) (infos : Infos) (point : SearchPoint Shown) : Type 0 where
   pub version : point.version ≡ infos.version
   pub names : AreFilesOf infos point.names
   pub readers : AreReaders reads infos.segs point.readers
