@@ -20,6 +20,6 @@ pub use job::{PointJob, told};
 pub use merges::{MergeCopies, RunningCopies};
 pub use parts::Parts;
 pub use plans::{plan, stop_at};
-pub use replica_opening::{ReadFault, StartFault, open, readers_of};
+pub use replica_opening::{LoadFault, StartFault, open, readers_of};
 pub use taking::NodeParts;
 pub use tickets::{acquire, lease, release};
