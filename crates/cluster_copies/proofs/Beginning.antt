@@ -12,7 +12,7 @@ use Rattle.segment_infos.specs.declared.infos.Infos.{Infos}
 use Rattle.segment_infos.specs.Files.{files_of_segment, AreFilesOf}
 use Rattle.segment_infos.proofs.FileLaws.{infos_files_one_to_one}
 use Rattle.copy_state.specs.declared.state.CopyState.{CopyState}
-use Rattle.primary_state.specs.declared.parts.Parts.{Parts as PrimaryParts}
+use Rattle.primary_state.specs.declared.parts.PrimaryParts.{PrimaryParts}
 use Rattle.primary_state.specs.declared.states.Out.{Out}
 use Rattle.primary_state.specs.States.{out_of, is_out}
 use Rattle.replica_opening.specs.Known.{IsLasting, HasMeta}

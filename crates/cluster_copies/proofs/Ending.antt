@@ -16,7 +16,7 @@ use Rattle.seg_reader.proofs.StandingLaws.{one_segs}
 use Rattle.copy_state.specs.States.{meta_names}
 use Rattle.copy_job.specs.Jobs.{Job as Copy, reads_under}
 use Rattle.searcher_switch.specs.declared.open.Open.{Open}
-use Rattle.primary_state.specs.declared.parts.Parts.{Parts as PrimaryParts}
+use Rattle.primary_state.specs.declared.parts.PrimaryParts.{PrimaryParts}
 use Rattle.primary_state.specs.declared.states.Out.{Out}
 use Rattle.primary_state.specs.States.{out_of, is_out, states_without}
 use Rattle.replica_state.specs.declared.job.PointJob.{PointJob}

@@ -21,7 +21,7 @@ use Rattle.history_rules.specs.Points.{documents_at}
 use Rattle.copy_state.specs.States.{meta_names}
 use Rattle.commit_steps.proofs.Safe.{contains_of}
 use Rattle.searcher_switch.specs.Searching.{searcher_names}
-use Rattle.primary_state.specs.declared.parts.Parts.{Parts as PrimaryParts}
+use Rattle.primary_state.specs.declared.parts.PrimaryParts.{PrimaryParts}
 use Rattle.primary_state.specs.declared.states.Out.{Out}
 use Rattle.primary_state.specs.Primary.{IsPrimary, primary_names, rest_names}
 use Rattle.primary_state.specs.Merges.{merge_names}

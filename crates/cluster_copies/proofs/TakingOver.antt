@@ -15,7 +15,7 @@ use Rattle.copy_state.specs.declared.state.CopyState.{CopyState}
 use Rattle.copy_state.specs.States.{meta_in, meta_names}
 use Rattle.copy_state.specs.Meta.{IsMetaOf}
 use Rattle.copy_state.proofs.MetaLaws.{one_meta}
-use Rattle.primary_state.specs.declared.parts.Parts.{Parts as PrimaryParts}
+use Rattle.primary_state.specs.declared.parts.PrimaryParts.{PrimaryParts}
 use Rattle.copy_job.specs.Parts.{own_names}
 use Rattle.copy_job.specs.declared.part.JobPart.{JobPart}
 use Rattle.copy_job.specs.Jobs.{Job as Copy, IsJob, is_same_meta, is_taken, taken_parts, taken_over}

@@ -22,7 +22,7 @@ use Rattle.history_tables.proofs.RowLemmas.{by_test}
 use Rattle.history_book.specs.Log.{Log, printed, shown, kept}
 use Rattle.history_book.specs.declared.inner.Inner.TheVariants.{MergeOut}
 use Rattle.merge_tasks.specs.Merging.{next_name}
-use Rattle.primary_state.specs.declared.parts.Parts.{Parts as PrimaryParts}
+use Rattle.primary_state.specs.declared.parts.PrimaryParts.{PrimaryParts}
 use Rattle.primary_state.specs.declared.states.Merging.{Merging}
 use Rattle.primary_state.specs.declared.states.Out.{Out}
 use Rattle.primary_state.specs.Merges.{merge_of}

@@ -12,7 +12,7 @@ use Rattle.file_deleter.proofs.NameLemmas.{same_self}
 use Rattle.codec_frame.specs.Bytes.{AreBytes}
 use Rattle.copy_state.specs.declared.meta.FileMetaData.{FileMetaData}
 use Rattle.copy_job.specs.Jobs.{Job}
-use Rattle.primary_state.specs.declared.parts.Parts.{Parts as PrimaryParts}
+use Rattle.primary_state.specs.declared.parts.PrimaryParts.{PrimaryParts}
 use Rattle.primary_state.specs.Primary.{loose_of}
 use Rattle.replica_state.specs.declared.parts.Parts.{Parts as ReplicaParts}
 use Rattle.replica_state.specs.Merges.{copy_at}

@@ -7,7 +7,7 @@ use Rattle.file_deleter.specs.Holdings.{count_of}
 use Rattle.file_deleter.proofs.Keeping.{known_counted}
 use Rattle.searcher_switch.specs.Appearing.{AppearsOnly}
 use Rattle.segment_infos.specs.declared.infos.Infos.{Infos}
-use Rattle.primary_state.specs.declared.parts.Parts.{Parts as PrimaryParts}
+use Rattle.primary_state.specs.declared.parts.PrimaryParts.{PrimaryParts}
 use Rattle.primary_state.specs.declared.states.Out.{Out}
 use Rattle.primary_state.specs.Held.{IsOwnFile}
 use Rattle.primary_state.specs.Primary.{IsPrimary, KeepsHeldBytes, IsUnwritten, loose_of}

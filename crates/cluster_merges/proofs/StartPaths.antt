@@ -28,7 +28,7 @@ use Rattle.history_book.specs.declared.inner.Inner.TheVariants.{MergeOut}
 use Rattle.history_book.specs.Laws.{IsFresh}
 use Rattle.history_book.specs.Turns.{AreInTurn}
 use Rattle.merge_tasks.specs.Merging.{Sheet, next_name}
-use Rattle.primary_state.specs.declared.parts.Parts.{Parts as PrimaryParts}
+use Rattle.primary_state.specs.declared.parts.PrimaryParts.{PrimaryParts}
 use Rattle.primary_state.specs.declared.parts.PublishFault.{PublishFault}
 use Rattle.primary_state.specs.declared.parts.PublishFault.TheVariants.{NamesSpent as Spent, TooManySegments}
 use Rattle.primary_state.specs.Cut.{infos_drawn}

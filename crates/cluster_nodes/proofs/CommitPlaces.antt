@@ -14,7 +14,7 @@ use Rattle.searcher_switch.specs.Appearing.{NoneAppears, AppearsOnly, IsNameInFl
 use Rattle.searcher_switch.proofs.Appearing.{only_none}
 use Rattle.searcher_switch.specs.Tickets.{ticket_names}
 use Rattle.searcher_switch.specs.Searching.{searcher_names}
-use Rattle.primary_state.specs.declared.parts.Parts.{Parts as PrimaryParts}
+use Rattle.primary_state.specs.declared.parts.PrimaryParts.{PrimaryParts}
 use Rattle.primary_state.specs.Primary.{IsPrimary, KeepsHeldBytes, primary_names, rest_names}
 use Rattle.replica_state.specs.declared.parts.Parts.{Parts as ReplicaParts}
 use Rattle.replica_state.specs.Replica.{IsWholeReplica, AreStanding}

@@ -8,7 +8,7 @@ use Rattle.nrt_base.specs.declared.numbers.NodeNo.{NodeNo}
 use Rattle.disk_model.specs.Disk.{Cells}
 use Rattle.history_rules.specs.Nodes.{is_at}
 use Rattle.copy_state.specs.declared.state.CopyState.{CopyState}
-use Rattle.primary_state.specs.declared.parts.Parts.{Parts as PrimaryParts}
+use Rattle.primary_state.specs.declared.parts.PrimaryParts.{PrimaryParts}
 use Rattle.primary_state.specs.declared.states.Out.{Out}
 use Rattle.primary_state.specs.States.{is_out, out_of, states_without}
 use Rattle.cluster_nodes.specs.declared.held.Held.{Held}

@@ -27,7 +27,7 @@ use Rattle.nrt_base.specs.declared.doc.Doc.{Doc}
 use Rattle.promotion.specs.declared.fault.PromoteFault.{PromoteFault}
 use Rattle.promotion.specs.declared.fault.PromoteFault.TheVariants.{Memory, GenNotNewer, ForceHigh}
 use Rattle.promotion.specs.Generations.{promoted_infos, IsNotNewer, IsForceHigh}
-use Rattle.primary_state.specs.declared.parts.Parts.{Parts as PrimaryParts}
+use Rattle.primary_state.specs.declared.parts.PrimaryParts.{PrimaryParts}
 use Rattle.primary_state.specs.declared.states.Out.{Out}
 use Rattle.primary_state.specs.declared.states.Merging.{Merging}
 use Rattle.primary_state.specs.States.{state_names}

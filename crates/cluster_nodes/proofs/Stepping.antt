@@ -23,7 +23,7 @@ use Rattle.copy_state.specs.States.{meta_names}
 use Rattle.copy_job.specs.declared.copying.Part.{Part}
 use Rattle.copy_job.specs.Jobs.{Job, reads_under, with_part}
 use Rattle.copy_job.proofs.Naming.{times-own_insert}
-use Rattle.primary_state.specs.declared.parts.Parts.{Parts as PrimaryParts}
+use Rattle.primary_state.specs.declared.parts.PrimaryParts.{PrimaryParts}
 use Rattle.primary_state.specs.declared.states.Out.{Out}
 use Rattle.primary_state.specs.Primary.{IsPrimary, KeepsHeldBytes, loose_of, IsUnwritten}
 use Rattle.primary_state.specs.Held.{IsUndrawn}

@@ -5,7 +5,7 @@ use Rattle.searcher_switch.specs.Appearing.{NoneAppears}
 use Rattle.replica_state.specs.declared.parts.Parts.{Parts as ReplicaParts}
 use Rattle.replica_state.specs.Sources.{KeepsSource}
 use Rattle.segment_infos.specs.declared.infos.Infos.{Infos}
-use Rattle.primary_state.specs.declared.parts.Parts.{Parts as PrimaryParts}
+use Rattle.primary_state.specs.declared.parts.PrimaryParts.{PrimaryParts}
 use Rattle.primary_state.specs.Held.{IsUndrawn}
 use Rattle.primary_state.specs.Primary.{KeepsHeldBytes, loose_of, filled_of}
 use Rattle.primary_state.specs.Calls.{HoldsNoNew}

@@ -12,7 +12,7 @@ use Rattle.history_rules.specs.Points.{operations_of_generation}
 use Rattle.history_rules.specs.Legal.{IsLegalPast}
 use Rattle.history_book.specs.Log.{Log, printed}
 use Rattle.history_book.specs.Turns.{AreInTurn}
-use Rattle.primary_state.specs.declared.parts.Parts.{Parts as PrimaryParts}
+use Rattle.primary_state.specs.declared.parts.PrimaryParts.{PrimaryParts}
 use Rattle.primary_state.specs.declared.parts.Publish.{Publish}
 use Rattle.primary_state.specs.Work.{IsWorkOf}
 use Rattle.cluster_nodes.specs.declared.held.Held.{Held}

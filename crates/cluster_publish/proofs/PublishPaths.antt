@@ -23,7 +23,7 @@ use Rattle.merge_tasks.specs.Merging.{Sheet}
 use Rattle.history_book.specs.declared.inner.Inner.TheVariants.{FlushOut}
 use Rattle.history_book.specs.Laws.{IsFresh, Flying}
 use Rattle.history_book.specs.Turns.{AreInTurn}
-use Rattle.primary_state.specs.declared.parts.Parts.{Parts as PrimaryParts}
+use Rattle.primary_state.specs.declared.parts.PrimaryParts.{PrimaryParts}
 use Rattle.primary_state.specs.Primary.{IsPrimary}
 use Rattle.primary_state.specs.Calls.{IsTaskOf, after_start, IsPublished}
 use Rattle.primary_state.specs.Work.{IsWorkOf, AreOfCut}

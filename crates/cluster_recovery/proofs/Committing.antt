@@ -18,7 +18,7 @@ use Rattle.commit_steps.specs.Book.{commit_of, book_by, is_last_step, IsBegun, H
 use Rattle.searcher_switch.specs.Appearing.{IsNameInFlight}
 use Rattle.searcher_switch.specs.declared.open.Open.{Open}
 use Rattle.searcher_switch.specs.declared.open.SearchPoint.{SearchPoint}
-use Rattle.primary_state.specs.declared.parts.Parts.{Parts as PrimaryParts}
+use Rattle.primary_state.specs.declared.parts.PrimaryParts.{PrimaryParts}
 use Rattle.primary_state.specs.declared.parts.Publish.{Publish}
 use Rattle.primary_state.specs.declared.states.Out.{Out}
 use Rattle.primary_state.specs.Held.{IsUndrawn}

@@ -25,7 +25,7 @@ use Rattle.commit_steps.specs.Book.{commit_of, shown_in, shown_by, stage_names, 
 use Rattle.commit_steps.proofs.Beside.{sound_images}
 use Rattle.commit_steps.proofs.Safe.{among_of}
 use Rattle.searcher_switch.specs.Node.{IsWholeNode}
-use Rattle.primary_state.specs.declared.parts.Parts.{Parts as PrimaryParts}
+use Rattle.primary_state.specs.declared.parts.PrimaryParts.{PrimaryParts}
 use Rattle.primary_state.specs.declared.states.Out.{Out}
 use Rattle.primary_state.specs.Primary.{primary_names}
 use Rattle.primary_state.specs.States.{is_out}

@@ -40,7 +40,7 @@ use Rattle.replica_state.specs.Replica.{IsWholeReplica}
 use Rattle.replica_state.specs.declared.merges.MergeCopies.{MergeCopies}
 use Rattle.replica_state.specs.Sources.{IsSourced, IsTakenApart}
 use Rattle.replica_state.specs.Starting.{IsJustOpened, SearchesJust}
-use Rattle.primary_state.specs.declared.parts.Parts.{Parts as PrimaryParts}
+use Rattle.primary_state.specs.declared.parts.PrimaryParts.{PrimaryParts}
 use Rattle.primary_state.specs.Primary.{IsPrimary, loose_of, publish_loose, primary_names}
 use Rattle.searcher_switch.specs.Appearing.{NoneAppears}
 use Rattle.primary_state.specs.Held.{IsHeld, AreUndrawn, AreNumbered}

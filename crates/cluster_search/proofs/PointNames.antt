@@ -15,7 +15,7 @@ use Rattle.seg_reader.specs.Stands.{IsSegmentIn}
 use Rattle.searcher_switch.specs.declared.open.Open.{Open}
 use Rattle.searcher_switch.specs.declared.open.SearchPoint.{SearchPoint}
 use Rattle.searcher_switch.specs.Tickets.{tickets_without}
-use Rattle.primary_state.specs.declared.parts.Parts.{Parts as PrimaryParts}
+use Rattle.primary_state.specs.declared.parts.PrimaryParts.{PrimaryParts}
 use Rattle.primary_state.specs.Primary.{IsPrimary, loose_of}
 use Rattle.replica_state.specs.declared.parts.Parts.{Parts as ReplicaParts}
 use Rattle.replica_state.specs.Replica.{IsWholeReplica}

@@ -26,7 +26,7 @@ use Rattle.history_book.specs.declared.inner.Inner.TheVariants.{FlushOut}
 use Rattle.nrt_base.specs.declared.numbers.SegNo.{SegNo}
 use Rattle.history_book.specs.Told.{IsSo}
 use Rattle.history_book.specs.Turns.{AreInTurn}
-use Rattle.primary_state.specs.declared.parts.Parts.{Parts as PrimaryParts}
+use Rattle.primary_state.specs.declared.parts.PrimaryParts.{PrimaryParts}
 use Rattle.primary_state.specs.declared.parts.Publish.{Publish}
 use Rattle.replica_state.specs.declared.parts.Parts.{Parts as ReplicaParts}
 use Rattle.cluster_nodes.specs.declared.held.Held.{Held}

@@ -21,7 +21,7 @@ use Rattle.searcher_switch.proofs.Appearing.{stood_or, only_none}
 use Rattle.seg_reader.specs.Shown.{Shown}
 use Rattle.searcher_switch.specs.declared.open.Open.{Open}
 use Rattle.searcher_switch.specs.Searching.{searcher_names}
-use Rattle.primary_state.specs.declared.parts.Parts.{Parts as PrimaryParts}
+use Rattle.primary_state.specs.declared.parts.PrimaryParts.{PrimaryParts}
 use Rattle.primary_state.specs.Held.{IsOwnSegment, IsOwnFile, IsDrawnRecord}
 use Rattle.primary_state.specs.Primary.{IsPrimary, loose_of, primary_names, rest_names}
 use Rattle.primary_state.proofs.NewFiles.{named_of}

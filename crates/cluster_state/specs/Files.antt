@@ -7,7 +7,7 @@ use Rattle.disk_model.specs.Disk.{Name, Content, Cells}
 use Rattle.file_names.specs.Names.{live_name_of}
 use Rattle.segment_infos.specs.declared.infos.SegRecord.{SegRecord}
 use Rattle.segment_steps.specs.Next.{live_base}
-use Rattle.primary_state.specs.declared.parts.Parts.{Parts as PrimaryParts}
+use Rattle.primary_state.specs.declared.parts.PrimaryParts.{PrimaryParts}
 use Rattle.primary_state.specs.declared.states.Out.{Out}
 use Rattle.primary_state.specs.Primary.{loose_of, IsUnwritten}
 use Rattle.primary_state.specs.Held.{IsUndrawn}

@@ -5,7 +5,7 @@ use Rattle.disk_model.specs.Disk.{Name, Content}
 use Rattle.copy_state.specs.States.{meta_names, IsCopyState}
 use Rattle.copy_job.specs.Jobs.{Job}
 use Rattle.segment_steps.specs.Given.{Merged}
-use Rattle.primary_state.specs.declared.parts.Parts.{Parts as PrimaryParts}
+use Rattle.primary_state.specs.declared.parts.PrimaryParts.{PrimaryParts}
 use Rattle.primary_state.specs.declared.states.Merging.{Merging}
 use Rattle.primary_state.specs.declared.states.Out.{Out}
 use Rattle.primary_state.specs.Merges.{merge_of}

@@ -17,7 +17,7 @@ use Rattle.history_rules.specs.Points.{documents_at, operations_of_generation, c
 use Rattle.history_rules.specs.Tickets.{open_ticket, IsTicketOf}
 use Rattle.history_rules.specs.Tasks.{merge_count}
 use Rattle.history_book.specs.Log.{Log, printed}
-use Rattle.primary_state.specs.declared.parts.Parts.{Parts as PrimaryParts}
+use Rattle.primary_state.specs.declared.parts.PrimaryParts.{PrimaryParts}
 use Rattle.primary_state.specs.declared.parts.Publish.{Publish}
 use Rattle.primary_state.specs.Primary.{IsPrimary}
 use Rattle.replica_state.specs.declared.parts.Parts.{Parts as ReplicaParts}

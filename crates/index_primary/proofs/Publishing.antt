@@ -24,7 +24,7 @@ use Rattle.searcher_switch.specs.Searching.{searcher_names}
 use Rattle.searcher_switch.specs.Node.{IsWholeNode, IsApart, HasNoPending}
 use Rattle.searcher_switch.proofs.Carry.{node_gathers, node_lets_go, node_same_names, node_same_counts, node_there, nothing_written, unheld_apart, front_counted}
 use Rattle.searcher_switch.proofs.Standing.{segments_along, standing_kept}
-use Rattle.primary_state.specs.declared.parts.Parts.{Parts}
+use Rattle.primary_state.specs.declared.parts.PrimaryParts.{PrimaryParts}
 use Rattle.primary_state.specs.declared.parts.Publish.{Publish}
 use Rattle.index_primary.specs.declared.ready.Ready.{Ready}
 use Rattle.searcher_switch.specs.Appearing.{AppearsOnly}
@@ -50,7 +50,7 @@ merging_step held infos segs loose still filled records fresh files step reads (
   merging_step held infos segs loose still filled records fresh files step reads ms within.1 all.1,
 )
 
-module _ {D : Type 0} (cells : D → Cells) (p : Parts D) (r : Ready) (is : IsPrimary cells p) (ready : IsReady p r) where
+module _ {D : Type 0} (cells : D → Cells) (p : PrimaryParts D) (r : Ready) (is : IsPrimary cells p) (ready : IsReady p r) where
   -- ---- the names that are written
   pub fresh : (q : Name) → is_among r.written q ≡ true → count_of p.files q ≡ 0
   fresh q there = is.undrawn.each q (ready.step.undrawn q (ap (λ (ns : List Name). is_among ns q) (sym ready.written) ∙ there))
@@ -156,13 +156,13 @@ module _ {D : Type 0} (cells : D → Cells) (p : Parts D) (r : Ready) (is : IsPr
       (node_same_counts (cells p.dir) (cells dir) p.files files (primary_names p) r.written p.commits is.node apart keeps same) keeps.reads same
 
 -- what was written is the writer's own
-pub written_appears : {D : Type 0} (cells : D → Cells) (p : Parts D) (r : Ready) → IsReady p r → (dir : D) (files : Holdings) → KeepsFiles r.written p.files files (cells p.dir) (cells dir)
+pub written_appears : {D : Type 0} (cells : D → Cells) (p : PrimaryParts D) (r : Ready) → IsReady p r → (dir : D) (files : Holdings) → KeepsFiles r.written p.files files (cells p.dir) (cells dir)
     → AppearsOnly (IsOwnFile p.infos (loose_of p)) (cells p.dir) (cells dir)
 written_appears cells p r ready dir files keeps = keeps_only (IsOwnFile p.infos (loose_of p)) r.written p.files files (cells p.dir) (cells dir) keeps
     (λ q there none. ready.step.own q (ap (λ (ns : List Name). is_among ns q) (sym ready.written) ∙ there))
 
 -- ---- the new point is put in place
-module _ {D : Type 0} (cells : D → Cells) (p : Parts D) (r : Ready) (h : HasWritten cells p r) (searchers : Searchers Shown)
+module _ {D : Type 0} (cells : D → Cells) (p : PrimaryParts D) (r : Ready) (h : HasWritten cells p r) (searchers : Searchers Shown)
     (point : searchers.point ≡ record { version = r.infos.version; names = r.point_names; readers = r.readers }) (tickets : searchers.tickets ≡ p.searchers.tickets) where
   -- the names that the new primary's parts name
   abbrev new_names : List Name

@@ -7,7 +7,7 @@ use Rattle.file_deleter.specs.Holdings.{count_of}
 use Rattle.searcher_switch.specs.Appearing.{NoneAppears, AppearsOnly}
 use Rattle.searcher_switch.proofs.Appearing.{only_then_none}
 use Rattle.copy_state.specs.declared.state.CopyState.{CopyState}
-use Rattle.primary_state.specs.declared.parts.Parts.{Parts as PrimaryParts}
+use Rattle.primary_state.specs.declared.parts.PrimaryParts.{PrimaryParts}
 use Rattle.primary_state.specs.declared.states.Out.{Out}
 use Rattle.primary_state.specs.Held.{IsOwnFile}
 use Rattle.primary_state.specs.States.{out_of, is_out, states_without}

@@ -7,7 +7,7 @@ use Rattle.copy_state.specs.declared.state.CopyState.{CopyState}
 use Rattle.copy_job.specs.declared.copying.Part.{Part}
 use Rattle.seg_merge.specs.declared.task.MergeTask.{MergeTask}
 use Rattle.seg_merge.specs.declared.task.Merged.{Merged}
-use Rattle.primary_state.specs.declared.parts.Parts.{Parts as PrimaryParts}
+use Rattle.primary_state.specs.declared.parts.PrimaryParts.{PrimaryParts}
 use Rattle.primary_state.specs.declared.parts.PublishFault.{PublishFault}
 use Rattle.cluster_nodes.specs.Given.{IsMadeFor}
 use Rattle.cluster_nodes.specs.declared.held.Held.{Held}

@@ -15,7 +15,7 @@ use Rattle.searcher_switch.specs.declared.searchers.Ticket.{Ticket}
 use Rattle.searcher_switch.specs.Searching.{searcher_names}
 use Rattle.searcher_switch.specs.Tickets.{ticket_at, tickets_without, ticket_names}
 use Rattle.segment_steps.specs.declared.flushing.FlushTask.{FlushTask}
-use Rattle.primary_state.specs.declared.parts.Parts.{Parts}
+use Rattle.primary_state.specs.declared.parts.PrimaryParts.{PrimaryParts}
 use Rattle.primary_state.specs.declared.states.Out.{Out}
 use Rattle.primary_state.specs.States.{out_of, same_out, is_out, states_without}
 use Rattle.primary_state.specs.Calls.{IsTaskOf, after_start}
@@ -81,34 +81,34 @@ first_back states (g ∷ gs) s is first =
 
 -- ---- publishes
 -- what a task that was given out is good for
-pub task_sound : {D : Type 0} (cells : D → Cells) (old new : Parts D) (task : FlushTask) → IsTaskOf old task → new ≡ after_start old (Some task) → IsPrimary cells new → All IsSound task.segs
-task_sound {D} cells old new task is e whole = subst (λ (segs : List Shown). All IsSound segs) (ap (λ (p : Parts D). p.segs) e ∙ sym is.segs) whole.writer.stands.stand.sound
+pub task_sound : {D : Type 0} (cells : D → Cells) (old new : PrimaryParts D) (task : FlushTask) → IsTaskOf old task → new ≡ after_start old (Some task) → IsPrimary cells new → All IsSound task.segs
+task_sound {D} cells old new task is e whole = subst (λ (segs : List Shown). All IsSound segs) (ap (λ (p : PrimaryParts D). p.segs) e ∙ sym is.segs) whole.writer.stands.stand.sound
 
 -- ---- what is seen of a primary, after a ticket or a copy state is given back
-module _ {D : Type 0} (old new : Parts D) (seen : Seen) (is : IsSeen old seen) where
+module _ {D : Type 0} (old new : PrimaryParts D) (seen : Seen) (is : IsSeen old seen) where
   pub seen_closed : (ticket : Ticket) (given : List Ticket) → Some ticket ≡ slice_get seen.tickets 0 → given ≡ remove seen.tickets 0 → new ≡ record old { dir = new.dir; files = new.files; searchers = new.searchers }
       → new.searchers.tickets ≡ tickets_without ticket.number old.searchers.tickets → IsSeen new (record seen { tickets = given })
   seen_closed ticket given first rest e closed = record {
-    accepted = ap (λ (p : Parts D). p.accepted) e ∙ is.accepted;
-    version = ap (λ (p : Parts D). p.infos.version.0) e ∙ is.version;
-    next = ap (λ (p : Parts D). p.commits.next) e ∙ is.next;
-    publish = ap (λ (p : Parts D). p.publish) e ∙ is.publish;
-    in_flight = ap (λ (p : Parts D). is_some p.commits.stage) e ∙ is.in_flight;
+    accepted = ap (λ (p : PrimaryParts D). p.accepted) e ∙ is.accepted;
+    version = ap (λ (p : PrimaryParts D). p.infos.version.0) e ∙ is.version;
+    next = ap (λ (p : PrimaryParts D). p.commits.next) e ∙ is.next;
+    publish = ap (λ (p : PrimaryParts D). p.publish) e ∙ is.publish;
+    in_flight = ap (λ (p : PrimaryParts D). is_some p.commits.stage) e ∙ is.in_flight;
     tickets = ap (λ (ts : List (Open Shown)). open_numbers ts) closed ∙ (first_closed old.searchers.tickets seen.tickets ticket is.tickets first).1 ∙ ap (λ (ts : List Ticket). ticket_numbers ts) (sym rest);
-    states = ap (λ (p : Parts D). p.states) e ∙ is.states;
-    merges = ap (λ (p : Parts D). tasks_of p.merges) e ∙ is.merges;
+    states = ap (λ (p : PrimaryParts D). p.states) e ∙ is.states;
+    merges = ap (λ (p : PrimaryParts D). tasks_of p.merges) e ∙ is.merges;
     fit = is.fit;
   }
 
   pub seen_states : (given : List CopyState) → new ≡ record old { dir = new.dir; files = new.files; states = new.states } → new.states ≡ map out_of given → IsSeen new (record seen { states = given })
   seen_states given e out = record {
-    accepted = ap (λ (p : Parts D). p.accepted) e ∙ is.accepted;
-    version = ap (λ (p : Parts D). p.infos.version.0) e ∙ is.version;
-    next = ap (λ (p : Parts D). p.commits.next) e ∙ is.next;
-    publish = ap (λ (p : Parts D). p.publish) e ∙ is.publish;
-    in_flight = ap (λ (p : Parts D). is_some p.commits.stage) e ∙ is.in_flight;
-    tickets = ap (λ (p : Parts D). open_numbers p.searchers.tickets) e ∙ is.tickets;
+    accepted = ap (λ (p : PrimaryParts D). p.accepted) e ∙ is.accepted;
+    version = ap (λ (p : PrimaryParts D). p.infos.version.0) e ∙ is.version;
+    next = ap (λ (p : PrimaryParts D). p.commits.next) e ∙ is.next;
+    publish = ap (λ (p : PrimaryParts D). p.publish) e ∙ is.publish;
+    in_flight = ap (λ (p : PrimaryParts D). is_some p.commits.stage) e ∙ is.in_flight;
+    tickets = ap (λ (p : PrimaryParts D). open_numbers p.searchers.tickets) e ∙ is.tickets;
     states = out;
-    merges = ap (λ (p : Parts D). tasks_of p.merges) e ∙ is.merges;
+    merges = ap (λ (p : PrimaryParts D). tasks_of p.merges) e ∙ is.merges;
     fit = is.fit;
   }

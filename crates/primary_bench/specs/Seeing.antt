@@ -7,7 +7,7 @@ use Rattle.searcher_switch.specs.declared.open.Open.{Open}
 use Rattle.searcher_switch.specs.declared.searchers.Ticket.{Ticket}
 use Rattle.seg_reader.specs.Shown.{Shown}
 use Rattle.seg_merge.specs.declared.task.MergeTask.{MergeTask}
-use Rattle.primary_state.specs.declared.parts.Parts.{Parts}
+use Rattle.primary_state.specs.declared.parts.PrimaryParts.{PrimaryParts}
 use Rattle.primary_state.specs.declared.states.Merging.{Merging}
 use Rattle.primary_state.specs.States.{out_of}
 use Rattle.primary_merges.specs.StartCalls.{IsFitTask}
@@ -39,7 +39,7 @@ given_tasks None tasks = unmade_tasks tasks
 given_tasks (Some task) tasks = (task, true) ∷ unmade_tasks tasks
 
 -- what is seen of a primary is so, and no publish is in flight
-pub record IsSeen {D : Type 0} (p : Parts D) (seen : Seen) : Type 0 where
+pub record IsSeen {D : Type 0} (p : PrimaryParts D) (seen : Seen) : Type 0 where
   pub accepted : p.accepted ≡ seen.accepted
   pub version : p.infos.version.0 ≡ seen.version
   pub next : p.commits.next ≡ seen.next

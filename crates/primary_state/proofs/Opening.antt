@@ -19,7 +19,7 @@ use Rattle.searcher_switch.specs.Searching.{searcher_names}
 use Rattle.searcher_switch.specs.Node.{IsWholeNode}
 use Rattle.searcher_switch.specs.Standing.{IsStanding}
 use Rattle.searcher_switch.proofs.Carry.{node_kept, node_there, nothing_written}
-use Rattle.primary_state.specs.declared.parts.Parts.{Parts}
+use Rattle.primary_state.specs.declared.parts.PrimaryParts.{PrimaryParts}
 use Rattle.primary_state.specs.declared.parts.Publish.{Publish}
 use Rattle.primary_state.specs.declared.states.Out.{Out}
 use Rattle.primary_state.specs.declared.states.Merging.{Merging}
@@ -29,7 +29,7 @@ use Rattle.primary_state.specs.Merges.{merge_names, merge_loose, merge_filled, I
 use Rattle.primary_state.specs.Primary.{rest_names, publish_loose, rest_loose, filled_of, IsPrimary, loose_in}
 use Rattle.primary_state.proofs.Holding.{undrawn_kept}
 
-module _ {D : Type 0} (cells : D → Cells) (p : Parts D) (node : IsWholeNode (cells p.dir) p.files (searcher_names p.searchers) p.commits) (held : IsHeld (reads_of (cells p.dir)) p.infos p.segs p.searchers.point.names)
+module _ {D : Type 0} (cells : D → Cells) (p : PrimaryParts D) (node : IsWholeNode (cells p.dir) p.files (searcher_names p.searchers) p.commits) (held : IsHeld (reads_of (cells p.dir)) p.infos p.segs p.searchers.point.names)
     (names : List Name) (named : AreFilesOf p.infos names) where
   same_names : (q : Name) → times names q ≡ times p.searchers.point.names q
   same_names q = ap (λ (ns : List Name). times ns q) (one_list_of p.infos names p.searchers.point.names named held.files)
