@@ -8,7 +8,7 @@ use Rattle.nrt_base.specs.declared.numbers.NodeNo.{NodeNo}
 use Rattle.nrt_base.specs.declared.numbers.Version.{Version}
 use Rattle.disk_model.specs.Disk.{Name, Content, Cells}
 use Rattle.replica_state.specs.declared.job.PointJob.{PointJob}
-use Rattle.replica_state.specs.declared.parts.Parts.{Parts as ReplicaParts}
+use Rattle.replica_state.specs.declared.parts.ReplicaParts.{ReplicaParts}
 use Rattle.replica_state.specs.Replica.{IsJobAbove}
 use Rattle.history_rules.specs.declared.entry.Event.TheVariants.{Publishing, Copying, Copied}
 use Rattle.history_rules.specs.Nodes.{Past, IsNode, IsReplica, crashes, primary_of, primary_crashes, newest_version, version_of}

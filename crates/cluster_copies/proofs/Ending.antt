@@ -21,7 +21,7 @@ use Rattle.primary_state.specs.declared.states.Out.{Out}
 use Rattle.primary_state.specs.States.{out_of, is_out, states_without}
 use Rattle.replica_state.specs.declared.job.PointJob.{PointJob}
 use Rattle.replica_state.specs.Jobs.{running_point}
-use Rattle.replica_state.specs.declared.parts.Parts.{Parts as ReplicaParts}
+use Rattle.replica_state.specs.declared.parts.ReplicaParts.{ReplicaParts}
 use Rattle.replica_state.specs.Replica.{IsJobAbove}
 use Rattle.replica_state.specs.Sources.{CopiesFrom}
 use Rattle.searcher_switch.specs.Standing.{StandsForSome}

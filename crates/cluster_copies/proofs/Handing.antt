@@ -28,7 +28,7 @@ use Rattle.primary_state.specs.Merges.{merge_names}
 use Rattle.replica_opening.specs.Known.{HasMeta}
 use Rattle.replica_state.specs.declared.job.PointJob.{PointJob}
 use Rattle.replica_state.specs.Jobs.{running_point}
-use Rattle.replica_state.specs.declared.parts.Parts.{Parts as ReplicaParts}
+use Rattle.replica_state.specs.declared.parts.ReplicaParts.{ReplicaParts}
 use Rattle.replica_state.specs.Replica.{IsJobAbove}
 use Rattle.history_rules.specs.Nodes.{IsNode, is_at, primary_of, newest_version}
 use Rattle.history_tables.specs.declared.jobs.Job.{Job}

@@ -19,7 +19,7 @@ use Rattle.segment_infos.specs.declared.infos.Infos.{Infos}
 use Rattle.replica_opening.specs.Known.{HasMeta}
 use Rattle.replica_state.specs.declared.job.PointJob.{PointJob}
 use Rattle.replica_state.specs.Jobs.{running_point}
-use Rattle.replica_state.specs.declared.parts.Parts.{Parts as ReplicaParts}
+use Rattle.replica_state.specs.declared.parts.ReplicaParts.{ReplicaParts}
 use Rattle.history_rules.specs.Nodes.{IsNode, IsReplica, version_of, generation_of}
 use Rattle.history_tables.specs.declared.jobs.Job.{Job}
 use Rattle.history_tables.specs.declared.jobs.JobRow.{JobRow}

@@ -22,7 +22,7 @@ use Rattle.copy_job.specs.Jobs.{Job as Copy, IsJob, is_same_meta, is_taken, take
 use Rattle.copy_job.proofs.Taking.{meta_self}
 use Rattle.replica_opening.specs.Known.{HasMeta}
 use Rattle.replica_state.specs.declared.job.PointJob.{PointJob}
-use Rattle.replica_state.specs.declared.parts.Parts.{Parts as ReplicaParts}
+use Rattle.replica_state.specs.declared.parts.ReplicaParts.{ReplicaParts}
 use Rattle.replica_state.specs.Jobs.{job_on, job_seen, job_taking, running_point}
 use Rattle.replica_state.specs.Replica.{IsJobAbove}
 use Rattle.replica_state.proofs.Metas.{some_meta}

@@ -11,7 +11,7 @@ use Rattle.nrt_base.specs.declared.numbers.SegNo.{SegNo}
 use Rattle.disk_model.specs.Disk.{Cells}
 use Rattle.copy_job.specs.Jobs.{Job}
 use Rattle.primary_state.specs.declared.states.Out.{Out}
-use Rattle.replica_state.specs.declared.parts.Parts.{Parts as ReplicaParts}
+use Rattle.replica_state.specs.declared.parts.ReplicaParts.{ReplicaParts}
 use Rattle.replica_state.specs.Merges.{copy_at}
 use Rattle.history_rules.specs.Nodes.{IsNode}
 use Rattle.history_tables.proofs.RowLemmas.{by_test}

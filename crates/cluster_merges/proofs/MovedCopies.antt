@@ -17,7 +17,7 @@ use Rattle.searcher_switch.specs.declared.searchers.Searchers.{Searchers}
 use Rattle.primary_state.specs.declared.states.Out.{Out}
 use Rattle.replica_state.specs.declared.job.PointJob.{PointJob}
 use Rattle.replica_state.specs.declared.merges.MergeCopies.{MergeCopies}
-use Rattle.replica_state.specs.declared.parts.Parts.{Parts as ReplicaParts}
+use Rattle.replica_state.specs.declared.parts.ReplicaParts.{ReplicaParts}
 use Rattle.replica_state.specs.Merges.{copy_at, copies_with, copies_without}
 use Rattle.replica_state.specs.Replica.{IsWholeReplica, AreStanding, IsMergeCopy}
 use Rattle.replica_state.specs.Sources.{IsSourced}

@@ -26,7 +26,7 @@ use Rattle.primary_state.specs.Primary.{publish_loose, loose_of}
 use Rattle.primary_state.proofs.MergeLists.{loose_with}
 use Rattle.primary_merges.specs.MergeCalls.{IsMadeFor}
 use Rattle.primary_merges.proofs.MergedFiles.{merged_names}
-use Rattle.replica_state.specs.declared.parts.Parts.{Parts as ReplicaParts}
+use Rattle.replica_state.specs.declared.parts.ReplicaParts.{ReplicaParts}
 use Rattle.replica_state.specs.Merges.{SharesNone}
 use Rattle.replica_state.specs.Sources.{HeldReadAs}
 use Rattle.history_rules.specs.Nodes.{IsNode, IsReplica, is_at, primary_of, generation_of}

@@ -17,7 +17,7 @@ use Rattle.searcher_switch.specs.declared.open.Open.{Open}
 use Rattle.searcher_switch.specs.declared.open.SearchPoint.{SearchPoint}
 use Rattle.primary_state.specs.declared.states.Out.{Out}
 use Rattle.replica_state.specs.declared.job.PointJob.{PointJob}
-use Rattle.replica_state.specs.declared.parts.Parts.{Parts as ReplicaParts}
+use Rattle.replica_state.specs.declared.parts.ReplicaParts.{ReplicaParts}
 use Rattle.replica_state.specs.declared.merges.MergeCopies.{MergeCopies}
 use Rattle.replica_state.specs.Merges.{copy_at, copies_seen, no_copies}
 use Rattle.replica_state.specs.Jobs.{merge_job_on}

@@ -16,7 +16,7 @@ use Rattle.searcher_switch.specs.Tickets.{ticket_names}
 use Rattle.searcher_switch.specs.Searching.{searcher_names}
 use Rattle.primary_state.specs.declared.parts.PrimaryParts.{PrimaryParts}
 use Rattle.primary_state.specs.Primary.{IsPrimary, KeepsHeldBytes, primary_names, rest_names}
-use Rattle.replica_state.specs.declared.parts.Parts.{Parts as ReplicaParts}
+use Rattle.replica_state.specs.declared.parts.ReplicaParts.{ReplicaParts}
 use Rattle.replica_state.specs.Replica.{IsWholeReplica, AreStanding}
 use Rattle.replica_state.specs.Sources.{KeepsSource}
 use Rattle.cluster_nodes.specs.declared.nodes.Node.{Node}

@@ -10,7 +10,7 @@ use Rattle.file_names.specs.Names.{temp_name_of}
 use Rattle.searcher_switch.specs.Appearing.{NoneAppears, AppearsOnly}
 use Rattle.replica_state.specs.declared.job.PointJob.{PointJob}
 use Rattle.replica_state.specs.declared.merges.MergeCopies.{MergeCopies}
-use Rattle.replica_state.specs.declared.parts.Parts.{Parts as ReplicaParts}
+use Rattle.replica_state.specs.declared.parts.ReplicaParts.{ReplicaParts}
 use Rattle.replica_state.specs.Merges.{copies_seen, no_copies}
 use Rattle.replica_state.specs.Replica.{IsWholeReplica, AreStanding}
 use Rattle.replica_state.specs.Jobs.{IsPointJob, job_on, job_taking, job_seen, running_point}

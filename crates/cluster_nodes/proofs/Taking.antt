@@ -9,7 +9,7 @@ use Rattle.primary_state.specs.Calls.{HoldsNoNew}
 use Rattle.cluster_nodes.proofs.Stepping.{alters_by, none_by}
 use Rattle.disk_model.specs.Disk.{Name, Cells}
 use Rattle.primary_state.specs.declared.parts.PrimaryParts.{PrimaryParts}
-use Rattle.replica_state.specs.declared.parts.Parts.{Parts as ReplicaParts}
+use Rattle.replica_state.specs.declared.parts.ReplicaParts.{ReplicaParts}
 use Rattle.replica_state.specs.Jobs.{running_point}
 use Rattle.cluster_nodes.specs.declared.held.Held.{Held}
 use Rattle.cluster_nodes.specs.declared.nodes.Node.TheVariants.{Primary, Replica}

@@ -2,7 +2,7 @@
 use Rattle.std.proofs.Common.{◌≡◌, ◌∙◌, ℕ, List, refl, ap, sym, subst}
 use Rattle.disk_model.specs.Disk.{Cells}
 use Rattle.searcher_switch.specs.Appearing.{NoneAppears}
-use Rattle.replica_state.specs.declared.parts.Parts.{Parts as ReplicaParts}
+use Rattle.replica_state.specs.declared.parts.ReplicaParts.{ReplicaParts}
 use Rattle.replica_state.specs.Sources.{KeepsSource}
 use Rattle.segment_infos.specs.declared.infos.Infos.{Infos}
 use Rattle.primary_state.specs.declared.parts.PrimaryParts.{PrimaryParts}

@@ -7,7 +7,7 @@ use Rattle.commit_steps.specs.declared.stage.CommitBook.{CommitBook}
 use Rattle.commit_steps.specs.Book.{book_after, is_last_step}
 use Rattle.searcher_switch.specs.Node.{HoldsNoMore}
 use Rattle.searcher_switch.specs.Appearing.{AppearsOnly, IsNameInFlight}
-use Rattle.replica_state.specs.declared.parts.Parts.{Parts as ReplicaParts}
+use Rattle.replica_state.specs.declared.parts.ReplicaParts.{ReplicaParts}
 use Rattle.replica_state.specs.Replica.{IsWholeReplica, AreStanding}
 use Rattle.replica_state.specs.Sources.{KeepsSource}
 use Rattle.primary_state.specs.declared.parts.PrimaryParts.{PrimaryParts}

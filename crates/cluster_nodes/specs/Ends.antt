@@ -8,7 +8,7 @@ use Rattle.history_rules.specs.Nodes.{is_at}
 use Rattle.primary_state.specs.declared.parts.PrimaryParts.{PrimaryParts}
 use Rattle.primary_state.specs.declared.states.Out.{Out}
 use Rattle.primary_state.specs.States.{is_out}
-use Rattle.replica_state.specs.declared.parts.Parts.{Parts as ReplicaParts}
+use Rattle.replica_state.specs.declared.parts.ReplicaParts.{ReplicaParts}
 use Rattle.replica_state.specs.Jobs.{stopped_job}
 use Rattle.cluster_nodes.specs.declared.held.Held.{Held}
 use Rattle.cluster_nodes.specs.declared.nodes.Node.{Node}

@@ -4,7 +4,7 @@ use Rattle.std.specs.Global.{Global}
 use Rattle.disk_model.specs.Disk.{Name, Cells, reads_of}
 use Rattle.file_deleter.specs.Holdings.{times}
 use Rattle.searcher_switch.specs.Standing.{StandsForSome}
-use Rattle.replica_state.specs.declared.parts.Parts.{Parts as ReplicaParts}
+use Rattle.replica_state.specs.declared.parts.ReplicaParts.{ReplicaParts}
 use Rattle.copy_state.specs.declared.meta.FileMetaData.{FileMetaData}
 use Rattle.copy_state.specs.States.{meta_in}
 use Rattle.copy_job.specs.declared.copying.Part.{Part}

@@ -10,7 +10,7 @@ use Rattle.segment_infos.specs.Files.{files_of_segment}
 use Rattle.seg_reader.specs.Stands.{StandsFor}
 use Rattle.replica_opening.specs.Opening.{FindsPoint, number_of_last}
 use Rattle.replica_opening.specs.Opened.{IsHandedBack}
-use Rattle.replica_state.specs.declared.parts.Parts.{Parts as ReplicaParts}
+use Rattle.replica_state.specs.declared.parts.ReplicaParts.{ReplicaParts}
 use Rattle.replica_state.specs.Replica.{IsWholeReplica}
 use Rattle.replica_state.specs.Sources.{IsSourced}
 use Rattle.replica_state.specs.Starting.{IsJustOpened, SearchesJust, HasJustItsFiles}

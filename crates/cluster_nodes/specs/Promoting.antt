@@ -8,7 +8,7 @@ use Rattle.searcher_switch.specs.Appearing.{NoneAppears}
 use Rattle.primary_state.specs.declared.parts.PrimaryParts.{PrimaryParts}
 use Rattle.primary_state.specs.Primary.{IsPrimary}
 use Rattle.primary_state.specs.Held.{AreUndrawn, AreNumbered}
-use Rattle.replica_state.specs.declared.parts.Parts.{Parts as ReplicaParts}
+use Rattle.replica_state.specs.declared.parts.ReplicaParts.{ReplicaParts}
 use Rattle.replica_state.specs.Replica.{IsWholeReplica, AreStanding}
 use Rattle.replica_state.specs.Sources.{HeldReadAs, IsSourced}
 use Rattle.promotion.specs.Generations.{promoted_infos}

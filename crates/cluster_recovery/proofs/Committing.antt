@@ -25,7 +25,7 @@ use Rattle.primary_state.specs.Held.{IsUndrawn}
 use Rattle.primary_state.specs.Primary.{loose_of, filled_of}
 use Rattle.replica_opening.specs.Known.{IsLasting}
 use Rattle.replica_state.specs.declared.job.PointJob.{PointJob}
-use Rattle.replica_state.specs.declared.parts.Parts.{Parts as ReplicaParts}
+use Rattle.replica_state.specs.declared.parts.ReplicaParts.{ReplicaParts}
 use Rattle.history_rules.specs.declared.entry.Event.{Event}
 use Rattle.history_rules.specs.declared.entry.Event.TheVariants.{Publishing, Committing, Committed}
 use Rattle.history_rules.specs.Nodes.{Past, IsNode, is_at, primary_of, is_running, version_of}

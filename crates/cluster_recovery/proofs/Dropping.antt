@@ -6,7 +6,7 @@ use Rattle.std.proofs.lemmas.Bool.{eqb-true}
 use Rattle.std.proofs.lemmas.Bool.Decides.{nat_tests}
 use Rattle.disk_model.specs.Disk.{Cells}
 use Rattle.copy_job.specs.Jobs.{Job}
-use Rattle.replica_state.specs.declared.parts.Parts.{Parts as ReplicaParts}
+use Rattle.replica_state.specs.declared.parts.ReplicaParts.{ReplicaParts}
 use Rattle.replica_state.specs.declared.merges.MergeCopies.{MergeCopies}
 use Rattle.replica_state.specs.Merges.{copy_at, copies_without}
 use Rattle.replica_state.specs.Replica.{IsWholeReplica}

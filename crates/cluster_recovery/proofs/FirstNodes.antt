@@ -34,7 +34,7 @@ use Rattle.commit_steps.specs.declared.stage.CommitBook.{CommitBook}
 use Rattle.commit_steps.specs.declared.stage.Stage.{Stage}
 use Rattle.replica_opening.specs.Opening.{opening_infos, FindsPoint, number_of_last}
 use Rattle.replica_opening.specs.Opened.{IsSettledAt, IsSettledOn}
-use Rattle.replica_state.specs.declared.parts.Parts.{Parts as ReplicaParts}
+use Rattle.replica_state.specs.declared.parts.ReplicaParts.{ReplicaParts}
 use Rattle.replica_state.specs.declared.taking.NodeParts.{NodeParts}
 use Rattle.replica_state.specs.Replica.{IsWholeReplica}
 use Rattle.replica_state.specs.declared.merges.MergeCopies.{MergeCopies}

@@ -9,7 +9,7 @@ use Rattle.disk_model.specs.Disk.{Cells}
 use Rattle.primary_state.specs.declared.parts.PrimaryParts.{PrimaryParts}
 use Rattle.primary_state.specs.declared.states.Out.{Out}
 use Rattle.replica_state.specs.declared.job.PointJob.{PointJob}
-use Rattle.replica_state.specs.declared.parts.Parts.{Parts as ReplicaParts}
+use Rattle.replica_state.specs.declared.parts.ReplicaParts.{ReplicaParts}
 use Rattle.replica_state.specs.Jobs.{stopped_job}
 use Rattle.history_rules.specs.Nodes.{Past, IsNode, is_at}
 use Rattle.history_tables.proofs.RowLemmas.{by_test}

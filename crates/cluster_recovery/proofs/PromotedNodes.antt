@@ -27,7 +27,7 @@ use Rattle.primary_state.specs.Merges.{merge_loose, merge_filled}
 use Rattle.primary_state.specs.Primary.{loose_of, publish_loose, filled_of}
 use Rattle.primary_state.specs.Held.{IsUndrawn}
 use Rattle.replica_state.specs.declared.job.PointJob.{PointJob}
-use Rattle.replica_state.specs.declared.parts.Parts.{Parts as ReplicaParts}
+use Rattle.replica_state.specs.declared.parts.ReplicaParts.{ReplicaParts}
 use Rattle.replica_state.specs.Replica.{replica_names}
 use Rattle.promotion.specs.Generations.{promoted_infos}
 use Rattle.history_rules.specs.declared.entry.Event.{Event}

@@ -28,7 +28,7 @@ use Rattle.replica_opening.specs.Opening.{FindsPoint, number_of_last}
 use Rattle.replica_opening.specs.Opened.{IsSettledOn}
 use Rattle.replica_opening.proofs.Clearings.{one_found}
 use Rattle.replica_state.specs.declared.job.PointJob.{PointJob}
-use Rattle.replica_state.specs.declared.parts.Parts.{Parts as ReplicaParts}
+use Rattle.replica_state.specs.declared.parts.ReplicaParts.{ReplicaParts}
 use Rattle.replica_state.specs.Starting.{SearchesJust}
 use Rattle.history_rules.specs.declared.entry.Event.{Event}
 use Rattle.history_rules.specs.declared.entry.Event.TheVariants.{Copying, Crashed, Reopened, Publishing}

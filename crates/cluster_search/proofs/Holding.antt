@@ -17,7 +17,7 @@ use Rattle.history_tables.proofs.RowLemmas.{by_test}
 use Rattle.history_book.specs.Log.{Log, printed}
 use Rattle.primary_state.specs.declared.parts.PrimaryParts.{PrimaryParts}
 use Rattle.primary_state.specs.declared.parts.Publish.{Publish}
-use Rattle.replica_state.specs.declared.parts.Parts.{Parts as ReplicaParts}
+use Rattle.replica_state.specs.declared.parts.ReplicaParts.{ReplicaParts}
 use Rattle.cluster_nodes.specs.declared.held.Held.{Held}
 use Rattle.cluster_nodes.specs.declared.held.Key.{Key}
 use Rattle.cluster_nodes.specs.declared.held.Key.TheVariants.{Search}

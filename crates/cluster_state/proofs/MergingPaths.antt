@@ -16,7 +16,7 @@ use Rattle.primary_state.specs.declared.states.Merging.{Merging}
 use Rattle.primary_state.specs.declared.states.Out.{Out}
 use Rattle.primary_state.specs.Merges.{merge_of}
 use Rattle.replica_state.specs.declared.merges.MergeCopies.{MergeCopies}
-use Rattle.replica_state.specs.declared.parts.Parts.{Parts as ReplicaParts}
+use Rattle.replica_state.specs.declared.parts.ReplicaParts.{ReplicaParts}
 use Rattle.replica_state.specs.Merges.{copy_at, copies_without, CopyApart, AreCopiesApart, no_copies}
 use Rattle.replica_state.proofs.Merging.{number_at, all_at}
 use Rattle.cluster_nodes.specs.Given.{overlaps, copies_beside}

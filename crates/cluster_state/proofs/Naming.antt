@@ -32,7 +32,7 @@ use Rattle.replica_state.specs.declared.job.PointJob.{PointJob}
 use Rattle.replica_state.specs.Jobs.{running_point}
 use Rattle.replica_state.specs.Replica.{IsJobAbove}
 use Rattle.replica_state.proofs.Metas.{some_meta}
-use Rattle.replica_state.specs.declared.parts.Parts.{Parts as ReplicaParts}
+use Rattle.replica_state.specs.declared.parts.ReplicaParts.{ReplicaParts}
 use Rattle.history_rules.specs.Nodes.{Past, generation_of}
 use Rattle.segment_steps.specs.Next.{record_generation, live_base}
 use Rattle.history_rules.specs.Points.{is_drawn, IsDrawnFile}

@@ -13,7 +13,7 @@ use Rattle.primary_state.specs.Primary.{loose_of, IsUnwritten}
 use Rattle.primary_state.specs.Held.{IsUndrawn}
 use Rattle.replica_state.specs.Given.{HasMeta, IsLasting}
 use Rattle.replica_state.specs.declared.job.PointJob.{PointJob}
-use Rattle.replica_state.specs.declared.parts.Parts.{Parts as ReplicaParts}
+use Rattle.replica_state.specs.declared.parts.ReplicaParts.{ReplicaParts}
 use Rattle.replica_state.specs.Sources.{HeldReadAs, IsSourced}
 use Rattle.history_rules.specs.Nodes.{Past, IsNode, newest_version, generation_of, version_of}
 use Rattle.history_rules.specs.Lines.{start_entry, before_start, copy_in_flight}

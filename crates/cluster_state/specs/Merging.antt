@@ -11,7 +11,7 @@ use Rattle.primary_state.specs.declared.states.Out.{Out}
 use Rattle.primary_state.specs.Merges.{merge_of}
 use Rattle.primary_state.specs.States.{out_of, IsMetaIn}
 use Rattle.primary_state.specs.Written.{names_of}
-use Rattle.replica_state.specs.declared.parts.Parts.{Parts as ReplicaParts}
+use Rattle.replica_state.specs.declared.parts.ReplicaParts.{ReplicaParts}
 use Rattle.replica_state.specs.Merges.{copy_at}
 use Rattle.history_rules.specs.Nodes.{IsNode, primary_of}
 use Rattle.history_book.specs.Log.{Log, printed}

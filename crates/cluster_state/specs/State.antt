@@ -20,7 +20,7 @@ use Rattle.history_book.specs.Log.{Log, printed}
 use Rattle.primary_state.specs.declared.parts.PrimaryParts.{PrimaryParts}
 use Rattle.primary_state.specs.declared.parts.Publish.{Publish}
 use Rattle.primary_state.specs.Primary.{IsPrimary}
-use Rattle.replica_state.specs.declared.parts.Parts.{Parts as ReplicaParts}
+use Rattle.replica_state.specs.declared.parts.ReplicaParts.{ReplicaParts}
 use Rattle.replica_state.specs.Replica.{IsWholeReplica, AreStanding}
 use Rattle.cluster_nodes.specs.declared.held.Held.{Held}
 use Rattle.cluster_nodes.specs.declared.held.Key.{Key}

@@ -18,7 +18,7 @@ use Rattle.cluster_nodes.specs.declared.held.Held.{Held}
 use Rattle.cluster_nodes.specs.declared.nodes.Node.TheVariants.{Primary, Replica}
 use Rattle.cluster_nodes.specs.declared.nodes.Place.{Place}
 use Rattle.cluster_nodes.specs.Places.{place_of, IsSlot}
-use Rattle.replica_state.specs.declared.parts.Parts.{Parts as ReplicaParts}
+use Rattle.replica_state.specs.declared.parts.ReplicaParts.{ReplicaParts}
 use Rattle.cluster_nodes.proofs.Taking.{moved_one}
 use Rattle.node_merges.specs.MergeChanges.{CutsMerge}
 use Rattle.node_merges.specs.MergePlaces.{MovesPrimary, MovesReplica}

@@ -24,7 +24,7 @@ use Rattle.copy_job.specs.Parts.{placed_to, own_names, present_names, written_na
 use Rattle.copy_job.specs.Jobs.{Job, IsJob, job_names, present_of, reads_under}
 use Rattle.replica_state.specs.Given.{KnowsHeld, IsLasting}
 use Rattle.replica_state.specs.declared.job.PointJob.{PointJob}
-use Rattle.replica_state.specs.declared.parts.Parts.{Parts}
+use Rattle.replica_state.specs.declared.parts.ReplicaParts.{ReplicaParts}
 use Rattle.replica_state.specs.Held.{LearnsSome, LearnsAll}
 use Rattle.nrt_base.specs.declared.doc.Doc.{Doc}
 use Rattle.seg_reader.specs.Stands.{StandsFor}
@@ -89,7 +89,7 @@ module _ (a c : Cells) (h0 h2 : Holdings) (j : Job) (infos : Infos) (others tick
           none q z (suc n) f = let some : 0 < times (meta_names j.want.files) q = is_wanted q (omega (arith, f)) in absurd (omega (arith, some, z))
 
 -- ---- a replica over the finish of its job
-module _ {D : Type 0} (cells : D → Cells) (p : Parts D) (is : IsWholeReplica cells p) (j : PointJob) (e : p.job ≡ Some j) (complete : IfSome p.job (λ k. k.copy.missing ≡ []))
+module _ {D : Type 0} (cells : D → Cells) (p : ReplicaParts D) (is : IsWholeReplica cells p) (j : PointJob) (e : p.job ≡ Some j) (complete : IfSome p.job (λ k. k.copy.missing ≡ []))
     (standing : IfSome p.job (λ k. StandsForSome (reads_under k.copy.parts (reads_of (cells p.dir))) k.infos)) (slice_files noted : List (Name × FileMetaData)) (slice_is : slice_files ≡ j.copy.want.files) (noted_some : LearnsSome slice_files p.known noted) where
   core : IsCore cells p
   core = core_of cells p is
@@ -354,7 +354,7 @@ module _ {D : Type 0} (cells : D → Cells) (p : Parts D) (is : IsWholeReplica c
         done_standing = standing_finished cells p core j e complete standing mid files now same parts next dropped split point adv slice gone_is dir holdings t left lets_go searched tickets ended point.segs known
 
 -- ---- where what is wanted is not noted, the job is as it was
-pub noted_still : {D : Type 0} (p : Parts D) (known : List (Name × FileMetaData)) → IfSome p.job (IsStillCopying p (record p { known = known }))
+pub noted_still : {D : Type 0} (p : ReplicaParts D) (known : List (Name × FileMetaData)) → IfSome p.job (IsStillCopying p (record p { known = known }))
 noted_still {D} p known = by p.job refl
   where
     by : (o : Option PointJob) → p.job ≡ o → IfSome o (IsStillCopying p (record p { known = known }))

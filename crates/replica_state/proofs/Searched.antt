@@ -12,14 +12,14 @@ use Rattle.searcher_switch.specs.declared.open.SearchPoint.{SearchPoint}
 use Rattle.searcher_switch.specs.declared.searchers.Searchers.{Searchers}
 use Rattle.searcher_switch.specs.Tickets.{ticket_names}
 use Rattle.searcher_switch.specs.Searching.{searcher_names}
-use Rattle.replica_state.specs.declared.parts.Parts.{Parts}
+use Rattle.replica_state.specs.declared.parts.ReplicaParts.{ReplicaParts}
 use Rattle.replica_state.specs.Replica.{IsPointOf, IsJobAbove, copying_names}
 use Rattle.std.specs.Prelude.{IfSome}
 use Rattle.file_names.specs.Names.{temp_name_of}
 use Rattle.replica_state.proofs.Along.{point_along}
 use Rattle.replica_state.proofs.Beside.{waits_on, front_no_more}
 
-pub searched : {D : Type 0} (cells : D → Cells) (p : Parts D) → IsCore cells p → (dir : D) (files : Holdings) (searchers : Searchers Shown)
+pub searched : {D : Type 0} (cells : D → Cells) (p : ReplicaParts D) → IsCore cells p → (dir : D) (files : Holdings) (searchers : Searchers Shown)
     → MovesCounts [] (searcher_names p.searchers) (searcher_names searchers) p.files files (cells p.dir) (cells dir) → AddsOnly [] (searcher_names p.searchers) (searcher_names searchers) → searchers.point ≡ p.searchers.point
     → IsCore cells (record p { dir = dir; files = files; searchers = searchers })
 searched cells p is dir files searchers moves only same =
@@ -40,7 +40,7 @@ searched cells p is dir files searchers moves only same =
           (front_no_more (cells p.dir) (cells dir) p.files files (searcher_names p.searchers) (searcher_names searchers) (copying_names p) p.commits is.node node only) is.newer is.waits;
     }
 
-pub searched_only : {D : Type 0} (cells : D → Cells) (p : Parts D) → IsCore cells p → (dir : D) (files : Holdings) (searchers : Searchers Shown)
+pub searched_only : {D : Type 0} (cells : D → Cells) (p : ReplicaParts D) → IsCore cells p → (dir : D) (files : Holdings) (searchers : Searchers Shown)
     → MovesCounts [] (searcher_names p.searchers) (searcher_names searchers) p.files files (cells p.dir) (cells dir) → AddsOnly [] (searcher_names p.searchers) (searcher_names searchers) → HoldsNoMore p.files files
 searched_only cells p is dir files searchers moves only =
     front_no_more (cells p.dir) (cells dir) p.files files (searcher_names p.searchers) (searcher_names searchers) (copying_names p) p.commits is.node

@@ -18,7 +18,7 @@ pub use ends::{end_copy, end_job, into_dir, new_point, stop_job, take_apart};
 pub use held::{held_of, note_wanted};
 pub use job::{PointJob, told};
 pub use merges::{MergeCopies, RunningCopies};
-pub use parts::Parts;
+pub use parts::ReplicaParts;
 pub use plans::{plan, stop_at};
 pub use replica_opening::{LoadFault, StartFault, open, readers_of};
 pub use taking::NodeParts;
