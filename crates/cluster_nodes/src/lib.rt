@@ -15,7 +15,7 @@ mod tickets;
 mod transfers;
 
 pub use commits::{begin_commit_in, step_commit_in};
-pub use held::Key;
+pub use held::HeldKey;
 pub use index_primary::{FlushTask, FlushWork, Primary, PublishFault};
 pub use lists::names_in;
 pub use lives::{crash_in, reopen_in};

@@ -8,7 +8,7 @@ ghost use Rattle.cluster_nodes.specs.Places.{place_of, IsSlot, searchers_of, tic
 ghost use Rattle.cluster_nodes.specs.KeptFiles.{KeepsNodeFiles};
 ghost use Rattle.cluster_nodes.specs.Changes.{KeepsNode, OpensTicket, HoldsMore, HoldsLess, HoldsTicket, IsLeaseUnder};
 
-use crate::held::{Held, Key, hold, let_go, number_held};
+use crate::held::{Held, HeldKey, hold, let_go, number_held};
 use crate::nodes::{Node, Place};
 use disk_model::Dir;
 use nrt_base::{NoMemory, NodeNo};
@@ -54,7 +54,7 @@ fn release<D: Dir + Drop>(node: &mut Node<D>, number: u64)
 pub fn hold_ticket<D: Dir + Drop>(
     alloc: Global,
     place: &mut Place<D>,
-    key: Key,
+    key: HeldKey,
 ) -> Result<(), NoMemory>
     requires { IsSome (searchers_of place.old.node) }
     ensures keeps { OnOk result (KeepsNode D.cells place.old.node place.new.node) }
@@ -84,7 +84,7 @@ fn lease_of<D: Dir + Drop>(
 }
 
 /// Gives back the ticket that is held for this, if one is.
-pub fn give_ticket_back<D: Dir + Drop>(place: &mut Place<D>, key: Key)
+pub fn give_ticket_back<D: Dir + Drop>(place: &mut Place<D>, key: HeldKey)
     requires { IfSome (held_number place.old.held.items key)
         (λ number. is_some (ticket_at number (tickets_of place.old.node)) ≡ true) }
     ensures keeps { KeepsNode D.cells place.old.node place.new.node }
@@ -102,7 +102,7 @@ pub fn give_ticket_back<D: Dir + Drop>(place: &mut Place<D>, key: Key)
 fn lease_under<D: Dir + Drop>(
     alloc: Global,
     place: &Place<D>,
-    key: Key,
+    key: HeldKey,
 ) -> Result<Lease<Segment>, NoMemory>
     requires { HoldsTicket (Some place.now) key }
     ensures { IfOk result (IsLeaseUnder (Some place.now) key) }
@@ -118,7 +118,7 @@ pub fn lease_in<D: Dir + Drop>(
     alloc: Global,
     places: &Vec<Option<Place<D>>>,
     n: NodeNo,
-    key: Key,
+    key: HeldKey,
 ) -> Result<Lease<Segment>, NoMemory>
     requires slot { IsSlot places.now.items n.0 }
     requires held { HoldsTicket (place_of places.now.items n.0) key }

@@ -20,7 +20,7 @@ use Rattle.cluster_state.specs.Run.{Rest, Run}
 use Rattle.cluster_state.specs.State.{Shows}
 use Rattle.cluster_state.specs.Files.{FilesShow}
 use Rattle.cluster_nodes.specs.KeptFiles.{KeepsNodeFiles}
-use Rattle.cluster_nodes.specs.declared.held.Key.{Key}
+use Rattle.cluster_nodes.specs.declared.held.HeldKey.{HeldKey}
 use Rattle.cluster_nodes.specs.Changes.{KeepsNode, HoldsMore}
 use Rattle.cluster_state.proofs.Frames.{PutsBack, place_at}
 use Rattle.cluster_search.proofs.PointNames.{opened_holds}
@@ -33,7 +33,7 @@ module _ {D : Type 0} (cells : D → Cells) where
       → {left : Rest} → record { ended = ended; nodes = b0.nodes; log = b0.log; rest = left } ≡ r → r.ended ≡ false → (ended ≡ false → Shows cells b0.log b0.nodes old) → (ended ≡ false → FilesShow cells b0.log b0.nodes old)
       → b1.log ≡ b0.log → b1.nodes ≡ b0.nodes → b2.log ≡ shown at (Opened n t v) ∷ b1.log → b2.nodes ≡ b1.nodes → IsLegalPast b1.nodes (printed b1.log) → AreInTurn (printed b1.log)
       → IsFresh at (printed b0.log) → KeepsRule r.nodes (printed r.log) at (Opened n t v)
-      → PutsBack cells old mid new n.0 y → place_of old n.0 ≡ Some x → KeepsNodeFiles cells x.node y.node → KeepsNode cells x.node y.node → (key : Key) → HoldsMore key x y → FilesShow cells b2.log b2.nodes new
+      → PutsBack cells old mid new n.0 y → place_of old n.0 ≡ Some x → KeepsNodeFiles cells x.node y.node → KeepsNode cells x.node y.node → (key : HeldKey) → HoldsMore key x y → FilesShow cells b2.log b2.nodes new
   opened_files r ended b0 b1 b2 old mid new at n t v x y view running shows files e1 n1 e2 n2 legal turns fresh keeps put there kept node key holds =
       files_moved cells r ended b0 b1 b2 old mid new at (Opened n t v) n.0 y x view running shows files e1 n1 e2 n2 legal turns keeps
       (fresh_turn (printed r.log) at (Opened n t v) (past_has (IsFresh at) r ended b0 view fresh) tt) (λ m. refl) (λ m. refl)

@@ -22,8 +22,8 @@ use Rattle.history_book.specs.Log.{Log, printed, shown}
 use Rattle.merge_tasks.specs.Merging.{Sheet}
 use Rattle.history_book.specs.Laws.{IsFresh}
 use Rattle.history_book.specs.Turns.{AreInTurn}
-use Rattle.cluster_nodes.specs.declared.held.Key.{Key}
-use Rattle.cluster_nodes.specs.declared.held.Key.TheVariants.{Ticket as TicketKey, Search}
+use Rattle.cluster_nodes.specs.declared.held.HeldKey.{HeldKey}
+use Rattle.cluster_nodes.specs.declared.held.HeldKey.TheVariants.{Ticket as TicketKey, Search}
 use Rattle.cluster_nodes.specs.declared.nodes.Place.{Place}
 use Rattle.cluster_nodes.specs.Held.{held_number}
 use Rattle.cluster_nodes.specs.Places.{place_of, searchers_of, tickets_of}
@@ -72,7 +72,7 @@ pub asks_at : (r : Run) (ended : Bool) (b0 b1 : Sheet) (at : At) (t : TicketNo) 
 asks_at r ended b0 b1 at t o view e1 n1 legal fresh held = rule_at r ended b0 b1 at (Asking o.node t o.version) view e1 n1 (may_ask r ended b0 at t o view legal fresh held)
 
 module _ {D : Type 0} (cells : D → Cells) where
-  opened_path : (r : Run) (ended : Bool) (b0 b1 b2 : Sheet) (old mid new : List (Option (Place D))) (at : At) (n : NodeNo) (t : TicketNo) (v : Version) (key : Key) (x y : Place D)
+  opened_path : (r : Run) (ended : Bool) (b0 b1 b2 : Sheet) (old mid new : List (Option (Place D))) (at : At) (n : NodeNo) (t : TicketNo) (v : Version) (key : HeldKey) (x y : Place D)
       → {left : Rest} → record { ended = ended; nodes = b0.nodes; log = b0.log; rest = left } ≡ r → r.ended ≡ false → (ended ≡ false → Shows cells b0.log b0.nodes old)
       → b1.log ≡ b0.log → b1.nodes ≡ b0.nodes → b2.log ≡ shown at (Opened n t v) ∷ b1.log → b2.nodes ≡ b1.nodes → IsLegalPast b1.nodes (printed b1.log) → AreInTurn (printed b1.log)
       → IsFresh at (printed b0.log) → KeepsRule r.nodes (printed r.log) at (Opened n t v)
@@ -104,7 +104,7 @@ module _ {D : Type 0} (cells : D → Cells) where
       (λ lane u w is. search_ticket (printed r.log) at n v lane u w is) (λ a w is. search_opened (printed r.log) at n v a w is) put there same more
 
   -- a ticket was given back
-  pub without_path : (r : Run) (ended : Bool) (b0 b1 b2 : Sheet) (old mid new : List (Option (Place D))) (at : At) (e : Event) (n : ℕ) (key : Key) (x y : Place D)
+  pub without_path : (r : Run) (ended : Bool) (b0 b1 b2 : Sheet) (old mid new : List (Option (Place D))) (at : At) (e : Event) (n : ℕ) (key : HeldKey) (x y : Place D)
       → {left : Rest} → record { ended = ended; nodes = b0.nodes; log = b0.log; rest = left } ≡ r → r.ended ≡ false → (ended ≡ false → Shows cells b0.log b0.nodes old)
       → b1.log ≡ b0.log → b1.nodes ≡ b0.nodes → b2.log ≡ shown at e ∷ b1.log → b2.nodes ≡ b1.nodes → IsLegalPast b1.nodes (printed b1.log) → AreInTurn (printed b1.log)
       → KeepsRule r.nodes (printed r.log) at e → start_entry at (printed r.log) ≢ Some Publishing → ((p : Option NodeNo) (m : ℕ) → moves e p m ≡ false) → ((m : ℕ) → moves_tickets e m ≡ false)
@@ -124,17 +124,17 @@ module _ {D : Type 0} (cells : D → Cells) where
       running_searches cells r.log n x.node up (place_at cells r ended size n log places x view running shows node there).node_shows
 
   -- what a node holds may be given back
-  pub gives_back_at : (r : Run) (ended : Bool) (size n : ℕ) (log : Log) (places : List (Option (Place D))) (key : Key) (x : Place D) → {left : Rest} → record { ended = ended; nodes = size; log = log; rest = left } ≡ r → r.ended ≡ false
+  pub gives_back_at : (r : Run) (ended : Bool) (size n : ℕ) (log : Log) (places : List (Option (Place D))) (key : HeldKey) (x : Place D) → {left : Rest} → record { ended = ended; nodes = size; log = log; rest = left } ≡ r → r.ended ≡ false
       → (ended ≡ false → Shows cells log size places) → IsNode r.nodes n → place_of places n ≡ Some x → IfSome (held_number x.held.items key) (λ number. is_some (ticket_at number (tickets_of x.node)) ≡ true)
   gives_back_at r ended size n log places key x view running shows node there = gives_back cells r.log n key x (place_at cells r ended size n log places x view running shows node there)
 
   -- ---- a search that starts
 
-  pub search_held : (new mid : List (Option (Place D))) (n : ℕ) (key : Key) (x y : Place D) → ((m : ℕ) → place_of new m ≡ (if n == m then Some y else place_of mid m)) → IsSome (searchers_of x.node) → HoldsMore key x y
+  pub search_held : (new mid : List (Option (Place D))) (n : ℕ) (key : HeldKey) (x y : Place D) → ((m : ℕ) → place_of new m ≡ (if n == m then Some y else place_of mid m)) → IsSome (searchers_of x.node) → HoldsMore key x y
       → HoldsTicket (place_of new n) key
   search_held new mid n key x y there runs more = subst (λ (o : Option (Place D)). HoldsTicket o key) (sym (there_now cells new mid n y there)) (opened_held cells key x y runs more)
 
-  pub search_reads : (r : Run) (ended : Bool) (size n : ℕ) (log : Log) (old mid new : List (Option (Place D))) (key : Key) (x y : Place D) (lease : Lease Shown) → {left : Rest} → record { ended = ended; nodes = size; log = log; rest = left } ≡ r → r.ended ≡ false
+  pub search_reads : (r : Run) (ended : Bool) (size n : ℕ) (log : Log) (old mid new : List (Option (Place D))) (key : HeldKey) (x y : Place D) (lease : Lease Shown) → {left : Rest} → record { ended = ended; nodes = size; log = log; rest = left } ≡ r → r.ended ≡ false
       → (ended ≡ false → Shows cells log size old) → IsNode r.nodes n → is_running n (printed r.log) ≡ true → place_of old n ≡ Some x
       → ((m : ℕ) → place_of new m ≡ (if n == m then Some y else place_of mid m)) → HoldsMore key x y → IsLeaseUnder (place_of new n) key lease → ReadsAt (printed r.log) (version_of n (printed r.log)) lease
   search_reads r ended size n log old mid new key x y lease view running shows node up here there more under =
