@@ -46,7 +46,7 @@ use Rattle.history_book.specs.declared.inner.Inner.TheVariants.{JobEnd}
 use Rattle.history_book.specs.Jobs.{job_at, last_job, StartsJob, LaneJobShows}
 use Rattle.history_book.specs.Turns.{AreInTurn}
 use Rattle.history_book.proofs.LineLaws.{without_some}
-use Rattle.cluster_nodes.specs.declared.held.Held.{Held}
+use Rattle.cluster_nodes.specs.declared.held.HeldTicket.{HeldTicket}
 use Rattle.cluster_nodes.specs.declared.nodes.Node.{Node}
 use Rattle.cluster_nodes.specs.declared.nodes.Node.TheVariants.{Primary, Replica, Down}
 use Rattle.cluster_nodes.specs.declared.nodes.Place.{Place}
@@ -108,13 +108,13 @@ not_commit past start at n v (Some (Settling w)) is started = ap is_commit_line 
 not_commit past start at n v o is started = absurd started
 
 module _ {D : Type 0} (cells : D → Cells) where
-  there_primary : (log : Log) (size p : ℕ) (places : List (Option (Place D))) (shows : Shows cells log size places) (files : FilesShow cells log size places) (q : PrimaryParts D) (held : Vec Held Global) → IsNode size p
+  there_primary : (log : Log) (size p : ℕ) (places : List (Option (Place D))) (shows : Shows cells log size places) (files : FilesShow cells log size places) (q : PrimaryParts D) (held : Vec HeldTicket Global) → IsNode size p
       → place_of places p ≡ Some (record { node = Primary q; held = held }) → PlaceShows cells log p (record { node = Primary q; held = held }) × PrimaryFiles files.source cells (printed log) (λ s. jobs_like places s size) q
   there_primary log size p places shows files q held node there =
       some_at (Both cells files.source log (λ s. jobs_like places s size) p) (place_of places p) (record { node = Primary q; held = held }) there (both_of cells log size places shows files p node)
 
   -- nothing is missing of the job
-  none_missing : (places : List (Option (Place D))) (n : ℕ) (r : ReplicaParts D) (held : Vec Held Global) (j : PointJob) → place_of places n ≡ Some (record { node = Replica r; held = held }) → running_point r.job ≡ Some j
+  none_missing : (places : List (Option (Place D))) (n : ℕ) (r : ReplicaParts D) (held : Vec HeldTicket Global) (j : PointJob) → place_of places n ≡ Some (record { node = Replica r; held = held }) → running_point r.job ≡ Some j
       → HasNextFile (place_of places n) None → j.copy.missing ≡ []
   none_missing places n r held j there runs has =
       let here : HasNextFile (Some (record { node = Replica r; held = held })) None = subst (λ (o : Option (Place D)). HasNextFile o None) there has in
@@ -188,7 +188,7 @@ module _ {D : Type 0} (cells : D → Cells) where
       (λ m. same size m (printed log) at (Copied n v) legal turns rule (λ here. not_flying size (printed log) at legal turns start) refl) (λ m. fewer (printed log) at (Copied n v) m refl) (λ a h is. is) (λ a none. shows.handed a none) shows
 
   -- the node that switched
-  switched_place : (size : ℕ) (source : Name → Content) (log : Log) (job : Job) (j : PointJob) (p q : PrimaryParts D) (r s : ReplicaParts D) (held : Vec Held Global) → SourcedStand → IsLegalPast size (printed log)
+  switched_place : (size : ℕ) (source : Name → Content) (log : Log) (job : Job) (j : PointJob) (p q : PrimaryParts D) (r s : ReplicaParts D) (held : Vec HeldTicket Global) → SourcedStand → IsLegalPast size (printed log)
       → KeepsRule size (printed log) job.at (Switched job.node job.version) → r.job ≡ Some j → CopyShows source log job.node.0 job j → j.copy.missing ≡ [] → FinishesAt cells j p q r s → ReplicaFiles source cells log job.node.0 r
       → PlaceShows cells log job.node.0 (record { node = Replica r; held = held }) → PlaceShows cells (shown job.at (Switched job.node job.version) ∷ log) job.node.0 (record { node = Replica s; held = held })
   switched_place size source log job j p q r s held stand legal rule runs shows missing f files has = record {

@@ -16,7 +16,7 @@ use Rattle.history_book.specs.Log.{Log, printed, kept}
 use Rattle.merge_tasks.specs.Merging.{Sheet}
 use Rattle.history_book.specs.declared.inner.Inner.TheVariants.{FileOut}
 use Rattle.history_book.specs.Jobs.{job_at, LaneJobShows}
-use Rattle.cluster_nodes.specs.declared.held.Held.{Held}
+use Rattle.cluster_nodes.specs.declared.held.HeldTicket.{HeldTicket}
 use Rattle.cluster_nodes.specs.declared.nodes.Node.TheVariants.{Primary}
 use Rattle.cluster_nodes.specs.declared.nodes.Place.{Place}
 use Rattle.cluster_state.specs.Run.{JobFiles, Rest, Run, files_at}
@@ -53,7 +53,7 @@ module _ {D : Type 0} (cells : D → Cells) where
 
   -- the file that is next, at the primary that is there
   to_copy : (log : Log) (size : ℕ) (places : List (Option (Place D))) (row : JobRow) (p : NodeNo) (name : Name) (meta : FileMetaData) (shows : Shows cells log size places) (files : FilesShow cells log size places) → FilesLast → JobRuns log row → LaneJobShows size (printed log) row
-      → IsReplica (printed log) row.job.node.0 → IsNode size p.0 → HasNextFile (place_of places row.job.node.0) (Some (name, meta)) → (q : PrimaryParts D) (held : Vec Held Global) → place_of places p.0 ≡ Some (record { node = Primary q; held = held })
+      → IsReplica (printed log) row.job.node.0 → IsNode size p.0 → HasNextFile (place_of places row.job.node.0) (Some (name, meta)) → (q : PrimaryParts D) (held : Vec HeldTicket Global) → place_of places p.0 ≡ Some (record { node = Primary q; held = held })
       → IsFileToCopy cells files.source q name meta
   to_copy log size places row p name meta shows files lasting runs lane replica node_p next q held there =
       let t = runs_here log size places row shows files runs lane replica in

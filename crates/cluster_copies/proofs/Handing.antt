@@ -39,7 +39,7 @@ use Rattle.history_book.specs.Log.{Log, printed, kept}
 use Rattle.history_book.specs.declared.inner.Inner.{Inner}
 use Rattle.history_book.specs.declared.inner.Inner.TheVariants.{FileOut}
 use Rattle.history_book.specs.Jobs.{last_job, job_at}
-use Rattle.cluster_nodes.specs.declared.held.Held.{Held}
+use Rattle.cluster_nodes.specs.declared.held.HeldTicket.{HeldTicket}
 use Rattle.cluster_nodes.specs.declared.nodes.Node.{Node}
 use Rattle.cluster_nodes.specs.declared.nodes.Node.TheVariants.{Primary, Replica, Down}
 use Rattle.cluster_nodes.specs.declared.nodes.Place.{Place}
@@ -67,14 +67,14 @@ use Rattle.cluster_state.proofs.Drawn.{grows_none}
 -- ---- the next file
 
 module _ {D : Type 0} where
-  pub has_job : (places : List (Option (Place D))) (n : ℕ) (r : ReplicaParts D) (held : Vec Held Global) (j : PointJob) → place_of places n ≡ Some (record { node = Replica r; held = held }) → running_point r.job ≡ Some j → HasJob (place_of places n)
+  pub has_job : (places : List (Option (Place D))) (n : ℕ) (r : ReplicaParts D) (held : Vec HeldTicket Global) (j : PointJob) → place_of places n ≡ Some (record { node = Replica r; held = held }) → running_point r.job ≡ Some j → HasJob (place_of places n)
   has_job places n r held j there runs = subst HasJob (sym there) (some (running_point r.job) runs)
     where
       some : (o : Option PointJob) → o ≡ Some j → is_some o ≡ true
       some o is = ap is_some is
 
   -- the next file is one of this job
-  pub next_is : (places : List (Option (Place D))) (n : ℕ) (r : ReplicaParts D) (held : Vec Held Global) (j : PointJob) (file : Option (Name × FileMetaData)) → place_of places n ≡ Some (record { node = Replica r; held = held }) → running_point r.job ≡ Some j
+  pub next_is : (places : List (Option (Place D))) (n : ℕ) (r : ReplicaParts D) (held : Vec HeldTicket Global) (j : PointJob) (file : Option (Name × FileMetaData)) → place_of places n ≡ Some (record { node = Replica r; held = held }) → running_point r.job ≡ Some j
       → HasNextFile (place_of places n) file → IsNextFile j file
   next_is places n r held j file there runs has =
       let here : HasNextFile (Some (record { node = Replica r; held = held })) file = subst (λ (o : Option (Place D)). HasNextFile o file) there has in

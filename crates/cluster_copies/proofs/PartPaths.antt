@@ -25,7 +25,7 @@ use Rattle.history_tables.specs.declared.jobs.Job.{Job}
 use Rattle.history_tables.specs.declared.jobs.JobRow.{JobRow}
 use Rattle.history_book.specs.Log.{Log, printed}
 use Rattle.history_book.specs.Jobs.{job_at, LaneJobShows}
-use Rattle.cluster_nodes.specs.declared.held.Held.{Held}
+use Rattle.cluster_nodes.specs.declared.held.HeldTicket.{HeldTicket}
 use Rattle.cluster_nodes.specs.declared.nodes.Node.TheVariants.{Replica}
 use Rattle.cluster_nodes.specs.declared.nodes.Place.{Place}
 use Rattle.cluster_state.specs.Run.{JobFiles, Rest, Run, files_at}
@@ -63,7 +63,7 @@ some_job (Some k) j is = refl
 
 module _ {D : Type 0} (cells : D → Cells) where
   -- a replica with its files
-  pub there_both : (log : Log) (size n : ℕ) (places : List (Option (Place D))) (shows : Shows cells log size places) (files : FilesShow cells log size places) (r : ReplicaParts D) (held : Vec Held Global) → IsNode size n
+  pub there_both : (log : Log) (size n : ℕ) (places : List (Option (Place D))) (shows : Shows cells log size places) (files : FilesShow cells log size places) (r : ReplicaParts D) (held : Vec HeldTicket Global) → IsNode size n
       → place_of places n ≡ Some (record { node = Replica r; held = held }) → PlaceShows cells log n (record { node = Replica r; held = held }) × ReplicaFiles files.source cells log n r
   there_both log size n places shows files r held node there =
       some_at (Both cells files.source log (λ s. jobs_like places s size) n) (place_of places n) (record { node = Replica r; held = held }) there (both_of cells log size places shows files n node)
@@ -99,7 +99,7 @@ module _ {D : Type 0} (cells : D → Cells) where
 
   -- ---- it was taken
 
-  place_took : (log : Log) (n : ℕ) (part : Part) (r s : ReplicaParts D) (held : Vec Held Global) → TakesPart cells part r s → PlaceShows cells log n (record { node = Replica r; held = held }) → PlaceShows cells log n (record { node = Replica s; held = held })
+  place_took : (log : Log) (n : ℕ) (part : Part) (r s : ReplicaParts D) (held : Vec HeldTicket Global) → TakesPart cells part r s → PlaceShows cells log n (record { node = Replica r; held = held }) → PlaceShows cells log n (record { node = Replica s; held = held })
   place_took log n part r s held takes shows = record {
     node_shows = record {
       running = shows.node_shows.running;

@@ -7,7 +7,7 @@ use Rattle.disk_model.specs.Disk.{Cells}
 use Rattle.history_rules.specs.Nodes.{IsNode, is_at, primary_of}
 use Rattle.history_book.specs.Log.{Log, printed}
 use Rattle.merge_tasks.specs.Merging.{Sheet}
-use Rattle.cluster_nodes.specs.declared.held.Held.{Held}
+use Rattle.cluster_nodes.specs.declared.held.HeldTicket.{HeldTicket}
 use Rattle.cluster_nodes.specs.declared.nodes.Node.{Node}
 use Rattle.cluster_nodes.specs.declared.nodes.Node.TheVariants.{Primary, Replica, Down}
 use Rattle.cluster_nodes.specs.declared.nodes.Place.{Place}
@@ -19,7 +19,7 @@ module _ {D : Type 0} (cells : D → Cells) where
   pub primary_in_place : (log : Log) (size n : ℕ) (places : List (Option (Place D))) → is_at (primary_of (printed log)) n ≡ true → IsNode size n → Shows cells log size places → HasPrimary (place_of places n)
   primary_in_place log size n places here node shows = by (place_of places n) (shows.each n node)
     where
-      of_node : (x : Node D) (held : Vec Held Global) → NodeShows cells log n x → HasPrimary (Some (record { node = x; held = held }))
+      of_node : (x : Node D) (held : Vec HeldTicket Global) → NodeShows cells log n x → HasPrimary (Some (record { node = x; held = held }))
       of_node (Primary p) held showing = tt
       of_node (Replica r) held showing = absurd (true≢false (sym here ∙ showing.other))
       of_node (Down d) held showing = absurd (true≢false (sym here ∙ showing.other))

@@ -34,7 +34,7 @@ use Rattle.merge_tasks.specs.TaskLog.{or_first, inputs_by, inputs_out, merge_tas
 use Rattle.merge_tasks.specs.Board.{Board, open_merge, spread_at, is_sent_in, posted_merge, TasksShow}
 use Rattle.merge_tasks.proofs.BoardRows.{open_end}
 use Rattle.merge_tasks.proofs.TaskFrames.{first_stays, tasks_begun}
-use Rattle.cluster_nodes.specs.declared.held.Held.{Held}
+use Rattle.cluster_nodes.specs.declared.held.HeldTicket.{HeldTicket}
 use Rattle.cluster_nodes.specs.declared.nodes.Node.{Node}
 use Rattle.cluster_nodes.specs.declared.nodes.Node.TheVariants.{Primary, Replica, Down}
 use Rattle.cluster_nodes.specs.declared.nodes.Place.{Place}
@@ -117,7 +117,7 @@ sent_beside rows row n running fresh sent = sent_still rows (rows ++ row ∷ [])
         clash : ◌≡◌ {A = Option Spread} None (Some s) → ⊥
         clash e = absurd (cc)
 
-module _ {D : Type 0} (cells : D → Cells) (size : ℕ) (log : Log) (cut : Bool) (board new_board : Board) (at : At) (seg : SegNo) (task : MergeTask) (m : Merging) (n : ℕ) (p q : PrimaryParts D) (held : Vec Held Global) (old new : List (Option (Place D)))
+module _ {D : Type 0} (cells : D → Cells) (size : ℕ) (log : Log) (cut : Bool) (board new_board : Board) (at : At) (seg : SegNo) (task : MergeTask) (m : Merging) (n : ℕ) (p q : PrimaryParts D) (held : Vec HeldTicket Global) (old new : List (Option (Place D)))
     (legal : IsLegalPast size (printed log)) (names : names_drawn (printed log) < segments_of_generation) (next : seg.0 ≡ next_name (printed log)) (of : task ≡ merge_task seg task.inputs) (task_is : m.task ≡ task) (unmade : m.merged ≡ None)
     (fit : IsFitTask task) (is : HasStarted p q) (merges : q.merges ≡ p.merges ++ m ∷ [])
     (moves : MovesOne n (record { node = Primary q; held = held }) old new) (node : IsNode size n) (there : place_of old n ≡ Some (record { node = Primary p; held = held })) (shows : Shows cells log size old)

@@ -25,7 +25,7 @@ use Rattle.merge_tasks.specs.Merging.{Sheet}
 use Rattle.merge_tasks.specs.declared.tasks.OpenMerge.{OpenMerge}
 use Rattle.merge_tasks.specs.TaskLog.{carried_out}
 use Rattle.merge_tasks.specs.Board.{Board, open_merge, spread_at, with_spread, sent_left, sent_less, post_after}
-use Rattle.cluster_nodes.specs.declared.held.Held.{Held}
+use Rattle.cluster_nodes.specs.declared.held.HeldTicket.{HeldTicket}
 use Rattle.cluster_nodes.specs.declared.nodes.Node.{Node}
 use Rattle.cluster_nodes.specs.declared.nodes.Node.TheVariants.{Primary, Replica, Down}
 use Rattle.cluster_nodes.specs.declared.nodes.Place.{Place}
@@ -114,7 +114,7 @@ module _ {D : Type 0} where
   -- a copy that runs at the node that is there
   pub record RunsThere (seg number n : ℕ) (places : List (Option (Place D))) : Type 0 where
     pub parts : ReplicaParts D
-    pub held : Vec Held Global
+    pub held : Vec HeldTicket Global
     pub there : place_of places n ≡ Some (record { node = Replica parts; held = held })
     pub copy : Job
     pub runs : copy_at number parts.copies.running ≡ Some copy
@@ -122,11 +122,11 @@ module _ {D : Type 0} where
   pub runs_there : (seg number n : ℕ) (places : List (Option (Place D))) → RunsCopyOf seg number (place_of places n) → RunsThere seg number n places
   runs_there seg number n places is = by (place_of places n) refl is
     where
-      of_copy : (r : ReplicaParts D) (held : Vec Held Global) → place_of places n ≡ Some (record { node = Replica r; held = held }) → (o : Option Job) → copy_at number r.copies.running ≡ o → IsSomeAnd o (λ c. is_copy_of seg c ≡ true) → RunsThere seg number n places
+      of_copy : (r : ReplicaParts D) (held : Vec HeldTicket Global) → place_of places n ≡ Some (record { node = Replica r; held = held }) → (o : Option Job) → copy_at number r.copies.running ≡ o → IsSomeAnd o (λ c. is_copy_of seg c ≡ true) → RunsThere seg number n places
       of_copy r held there None at none = absurd none
       of_copy r held there (Some c) at is = record { parts = r; held = held; there = there; copy = c; runs = at }
 
-      of_node : (x : Node D) (held : Vec Held Global) → place_of places n ≡ Some (record { node = x; held = held }) → RunsCopyOf seg number (Some (record { node = x; held = held })) → RunsThere seg number n places
+      of_node : (x : Node D) (held : Vec HeldTicket Global) → place_of places n ≡ Some (record { node = x; held = held }) → RunsCopyOf seg number (Some (record { node = x; held = held })) → RunsThere seg number n places
       of_node (Primary p) held there none = absurd none
       of_node (Replica r) held there is = of_copy r held there (copy_at number r.copies.running) refl is
       of_node (Down d) held there none = absurd none
@@ -135,7 +135,7 @@ module _ {D : Type 0} where
       by None there none = absurd none
       by (Some z) there is = of_node z.node z.held there is
 
-  replica_there : (places : List (Option (Place D))) (n : ℕ) (r : ReplicaParts D) (held : Vec Held Global) → place_of places n ≡ Some (record { node = Replica r; held = held }) → HasReplica (place_of places n)
+  replica_there : (places : List (Option (Place D))) (n : ℕ) (r : ReplicaParts D) (held : Vec HeldTicket Global) → place_of places n ≡ Some (record { node = Replica r; held = held }) → HasReplica (place_of places n)
   replica_there places n r held there = subst HasReplica (sym there) tt
 
 module _ {D : Type 0} (cells : D → Cells) (b : Sheet) (board : Board) (places : List (Option (Place D))) (all : AllShown cells b board places) (legal : IsLegalPast b.nodes (printed b.log)) (seg : SegNo) (n : NodeNo) (number : ℕ) (node : IsNode b.nodes n.0)
@@ -176,10 +176,10 @@ module _ {D : Type 0} (cells : D → Cells) (b : Sheet) (board : Board) (places 
         t = runs_there seg.0 number n.0 places runs
 
         -- what stands there is the replica whose copy runs
-        same_copy : (r : ReplicaParts D) (held : Vec Held Global) → place_of places n.0 ≡ Some (record { node = Replica r; held = held }) → copy_at number r.copies.running ≡ Some t.copy
+        same_copy : (r : ReplicaParts D) (held : Vec HeldTicket Global) → place_of places n.0 ≡ Some (record { node = Replica r; held = held }) → copy_at number r.copies.running ≡ Some t.copy
         same_copy r held there = at_replica (λ (q : ReplicaParts D). copy_at number q.copies.running ≡ Some t.copy) places n.0 t.parts r t.held held t.there there t.runs
 
-        wanted : (r : ReplicaParts D) (held : Vec Held Global) → place_of places n.0 ≡ Some (record { node = Replica r; held = held }) → (o : Option Job) → copy_at number r.copies.running ≡ o
+        wanted : (r : ReplicaParts D) (held : Vec HeldTicket Global) → place_of places n.0 ≡ Some (record { node = Replica r; held = held }) → (o : Option Job) → copy_at number r.copies.running ≡ o
             → IfSome o (λ c. (m : FileMetaData) → meta_in c.want.files part.name ≡ Some m → m ≡ part.meta)
         wanted r held there None at = tt
         wanted r held there (Some c) at = λ m listed.

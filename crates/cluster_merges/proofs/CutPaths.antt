@@ -29,7 +29,7 @@ use Rattle.merge_tasks.specs.declared.tasks.Sent.{Sent}
 use Rattle.merge_tasks.specs.declared.tasks.Spread.{Spread}
 use Rattle.merge_tasks.specs.Board.{Board, open_merge, spread_at, without_merge, is_none_left, is_copied, done_under, counts_one, TasksShow}
 use Rattle.merge_tasks.proofs.BoardRows.{line_told, some_open}
-use Rattle.cluster_nodes.specs.declared.held.Held.{Held}
+use Rattle.cluster_nodes.specs.declared.held.HeldTicket.{HeldTicket}
 use Rattle.cluster_nodes.specs.declared.nodes.Node.{Node}
 use Rattle.cluster_nodes.specs.declared.nodes.Node.TheVariants.{Primary, Replica, Down}
 use Rattle.cluster_nodes.specs.declared.nodes.Place.{Place}
@@ -158,13 +158,13 @@ module _ {D : Type 0} (cells : D → Cells) (r : Run) (old : List (Option (Place
     started = merge_started b0.nodes b0.log board seg.0 found.0.row found.0.there was.2.tasks
 
     -- what stands in the primary's place
-    shows_at : (q : PrimaryParts D) (held : Vec Held Global) → place_of old p.0 ≡ Some (record { node = Primary q; held = held }) → PlaceShows cells b0.log p.0 (record { node = Primary q; held = held })
+    shows_at : (q : PrimaryParts D) (held : Vec HeldTicket Global) → place_of old p.0 ≡ Some (record { node = Primary q; held = held }) → PlaceShows cells b0.log p.0 (record { node = Primary q; held = held })
     shows_at q held there = some_at (PlaceShows cells b0.log p.0) (place_of old p.0) (record { node = Primary q; held = held }) there (was.0.each p.0 node0)
 
-    merges_at : (q : PrimaryParts D) (held : Vec Held Global) → place_of old p.0 ≡ Some (record { node = Primary q; held = held }) → PrimaryMerges b0.log b0.cut (λ s. jobs_like old s b0.nodes) board.rows q
+    merges_at : (q : PrimaryParts D) (held : Vec HeldTicket Global) → place_of old p.0 ≡ Some (record { node = Primary q; held = held }) → PrimaryMerges b0.log b0.cut (λ s. jobs_like old s b0.nodes) board.rows q
     merges_at q held there = some_at (λ (z : Place D). NodeMerges b0.log b0.cut (λ s. jobs_like old s b0.nodes) board.rows p.0 z.node) (place_of old p.0) (record { node = Primary q; held = held }) there (was.2.each p.0 node0)
 
-    out_there : (q : PrimaryParts D) (held : Vec Held Global) → place_of old p.0 ≡ Some (record { node = Primary q; held = held }) → is_out (out_of spread.state) q.states ≡ true
+    out_there : (q : PrimaryParts D) (held : Vec HeldTicket Global) → place_of old p.0 ≡ Some (record { node = Primary q; held = held }) → is_out (out_of spread.state) q.states ≡ true
     out_there q held there = out_by board.rows seg.0 (jobs_like old (out_of spread.state) b0.nodes) q.states found.0.row spread found.0.there some ((merges_at q held there).outs (out_of spread.state))
 
     -- the primary may cut the merge over

@@ -39,7 +39,7 @@ use Rattle.merge_tasks.specs.TaskLog.{ended_count}
 use Rattle.merge_tasks.specs.Board.{Board, open_merge, spread_at, without_merge, is_sent_in, done_under, counts_one, due_all, IsToldTask, TasksShow}
 use Rattle.merge_tasks.proofs.BoardRows.{open_without, due_closed}
 use Rattle.merge_tasks.proofs.TaskFrames.{told_all, ends_most, tasks_closed}
-use Rattle.cluster_nodes.specs.declared.held.Held.{Held}
+use Rattle.cluster_nodes.specs.declared.held.HeldTicket.{HeldTicket}
 use Rattle.cluster_nodes.specs.declared.nodes.Node.TheVariants.{Primary}
 use Rattle.cluster_nodes.specs.Outs.{one_like, states_like}
 use Rattle.cluster_nodes.proofs.OutCounts.{states_back}
@@ -107,7 +107,7 @@ module _ {D : Type 0} (cells : D → Cells) (log : Log) (n : ℕ) (seg : SegNo) 
     flight = subst (λ (o : Option At). FlightShows log o q.publish q.segs) (sym calm) (ap (λ (z : PrimaryParts D). z.publish) cuts.others ∙ subst (λ (o : Option At). FlightShows log o p.publish p.segs) calm was.flight);
   }
 
-  pub cut_place : (held : Vec Held Global) → PlaceShows cells log n (record { node = Primary p; held = held }) → PlaceShows cells log n (record { node = Primary q; held = held })
+  pub cut_place : (held : Vec HeldTicket Global) → PlaceShows cells log n (record { node = Primary p; held = held }) → PlaceShows cells log n (record { node = Primary q; held = held })
   cut_place held was = record {
     node_shows = cut_primary was.node_shows;
     tickets = subst (λ (ts : List (Open Shown)). HoldsTickets (printed log) n ts held.items) (sym (ap (λ (z : PrimaryParts D). z.searchers.tickets) cuts.others)) was.tickets;

@@ -26,7 +26,7 @@ use Rattle.merge_tasks.specs.declared.tasks.Spread.{Spread}
 use Rattle.merge_tasks.specs.Board.{Board, open_merge, spread_at, with_spread, is_sent_in, has_copy_task, without_sent, sent_left, sent_less, post_after, done_under, due_all, IsToldTask, TasksShow}
 use Rattle.merge_tasks.proofs.BoardRows.{line_told, open_with, lines_with, due_settled}
 use Rattle.merge_tasks.proofs.TaskFrames.{tasks_ended}
-use Rattle.cluster_nodes.specs.declared.held.Held.{Held}
+use Rattle.cluster_nodes.specs.declared.held.HeldTicket.{HeldTicket}
 use Rattle.cluster_nodes.specs.declared.nodes.Node.{Node}
 use Rattle.cluster_nodes.specs.declared.nodes.Node.TheVariants.{Primary, Replica, Down}
 use Rattle.cluster_nodes.specs.declared.nodes.Place.{Place}
@@ -90,7 +90,7 @@ module _ (seg n job : ℕ) (rows : List OpenMerge) (z : IsSpreadRow seg rows) wh
 module _ {D : Type 0} (cells : D → Cells) where
   -- no copy of the merge runs at the node under the number
   abbrev pub IsCopyGone : ℕ → ℕ → ℕ → List OpenMerge → List (Option (Place D)) → Type 0
-  IsCopyGone seg n job rows places = (s : Spread) → spread_at (open_merge seg rows) ≡ Some s → (r : ReplicaParts D) (held : Vec Held Global) → place_of places n ≡ Some (record { node = Replica r; held = held })
+  IsCopyGone seg n job rows places = (s : Spread) → spread_at (open_merge seg rows) ≡ Some s → (r : ReplicaParts D) (held : Vec HeldTicket Global) → place_of places n ≡ Some (record { node = Replica r; held = held })
       → (c : Job) → copy_at job r.copies.running ≡ Some c → c.want ≡ s.state → ⊥
 
   pub end_path : (b0 b2 : Sheet) (places : List (Option (Place D))) (board new : Board) (line : LineNo) (seg : SegNo) (by : Option At) (n : NodeNo) (job : ℕ) → EndsCopyOf line seg by n job b0 b2 board new

@@ -16,7 +16,7 @@ use Rattle.replica_opening.specs.Known.{IsLasting}
 use Rattle.replica_state.specs.Sources.{HeldReadAs}
 use Rattle.history_rules.specs.Nodes.{IsNode, is_at, primary_of}
 use Rattle.history_book.specs.Log.{Log, printed}
-use Rattle.cluster_nodes.specs.declared.held.Held.{Held}
+use Rattle.cluster_nodes.specs.declared.held.HeldTicket.{HeldTicket}
 use Rattle.cluster_nodes.specs.declared.nodes.Node.TheVariants.{Primary}
 use Rattle.cluster_nodes.specs.declared.nodes.Place.{Place}
 use Rattle.cluster_nodes.specs.Places.{place_of}
@@ -71,7 +71,7 @@ module _ {D : Type 0} (cells : D → Cells) where
         ∙ ap (λ (b : Bool). if b then (cells q.dir name).now else None) (test_none (count_of q.files name) free)
 
   -- the files of a cluster whose primary wrote so
-  pub files_more : (size : ℕ) (log : Log) (old new : List (Option (Place D))) (n : ℕ) (p q : PrimaryParts D) (held : Vec Held Global) → FilesLast → WritesMore p q → HoldsFrom cells (printed log) (Primary p) (Primary q)
+  pub files_more : (size : ℕ) (log : Log) (old new : List (Option (Place D))) (n : ℕ) (p q : PrimaryParts D) (held : Vec HeldTicket Global) → FilesLast → WritesMore p q → HoldsFrom cells (printed log) (Primary p) (Primary q)
       → ((source : Name → Content) → HeldReadAs source (cells p.dir) p.files → HoldsLow source q.files (printed log)) → ((s : Out) → jobs_like old s size ≤ states_like s q.states)
       → ((m : ℕ) → (n == m) ≡ false → is_at (primary_of (printed log)) m ≡ false)
       → MovesOne n (record { node = Primary q; held = held }) old new → IsNode size n → place_of old n ≡ Some (record { node = Primary p; held = held }) → Shows cells log size old → FilesShow cells log size old → FilesShow cells log size new

@@ -43,7 +43,7 @@ use Rattle.merge_tasks.specs.declared.tasks.Spread.{Spread}
 use Rattle.merge_tasks.specs.TaskLog.{inputs_out, merge_task}
 use Rattle.merge_tasks.specs.Board.{Board, open_merge, spread_at, with_spread, is_unwritten, all_sent, sent_left, posts_of, post_after, done_under, counts_one}
 use Rattle.merge_tasks.proofs.BoardRows.{open_with, with_last}
-use Rattle.cluster_nodes.specs.declared.held.Held.{Held}
+use Rattle.cluster_nodes.specs.declared.held.HeldTicket.{HeldTicket}
 use Rattle.cluster_nodes.specs.declared.nodes.Node.{Node}
 use Rattle.cluster_nodes.specs.declared.nodes.Node.TheVariants.{Primary, Replica, Down}
 use Rattle.cluster_nodes.specs.declared.nodes.Place.{Place}
@@ -155,7 +155,7 @@ module _ {D : Type 0} (cells : D → Cells) (r : Run) (b : Sheet) (board : Board
           task : m.task ≡ merge_task seg out.inputs
           task = is.task ∙ λ i. merge_task (record { 0 = same i }) (inputs i)
 
-  merges_at : (q : PrimaryParts D) (held : Vec Held Global) → place_of old p.0 ≡ Some (record { node = Primary q; held = held }) → PrimaryMerges b.log b.cut (λ s. jobs_like old s b.nodes) board.rows q
+  merges_at : (q : PrimaryParts D) (held : Vec HeldTicket Global) → place_of old p.0 ≡ Some (record { node = Primary q; held = held }) → PrimaryMerges b.log b.cut (λ s. jobs_like old s b.nodes) board.rows q
   merges_at q held there = some_at (λ z. NodeMerges b.log b.cut (λ s. jobs_like old s b.nodes) board.rows p.0 z.node) (place_of old p.0) (record { node = Primary q; held = held }) there (all.2.each p.0 node)
 
   pub can_ready : IsPrimaryIn (λ q. IsMadeFor q merged) p.0 old
@@ -170,7 +170,7 @@ module _ {D : Type 0} (cells : D → Cells) (r : Run) (b : Sheet) (board : Board
   replica_there : (n : ℕ) → IsNode b.nodes n → IsReplica (printed b.log) n → HasReplica (place_of old n)
   replica_there n at is = by (place_of old n) (all.0.each n at)
     where
-      of_node : (x : Node D) (held : Vec Held Global) → NodeShows cells b.log n x → HasReplica (Some (record { node = x; held = held }))
+      of_node : (x : Node D) (held : Vec HeldTicket Global) → NodeShows cells b.log n x → HasReplica (Some (record { node = x; held = held }))
       of_node (Primary q) held showing = absurd (true≢false (sym showing.primary ∙ is.other))
       of_node (Replica r) held showing = tt
       of_node (Down d) held showing = absurd (true≢false (sym is.running ∙ showing.down))
@@ -216,7 +216,7 @@ module _ {D : Type 0} (cells : D → Cells) (r : Run) (b : Sheet) (board : Board
     means = merged_means cells q shows.whole merged moved.step.merges.m moved.step.merges.found made.0 made.1 all.1.source files.unwritten
 
     -- it can be sent to a replica
-    may_send : (n : ℕ) (r : ReplicaParts D) (held : Vec Held Global) → IsNode b.nodes n → place_of old n ≡ Some (record { node = Replica r; held = held }) → MaySend state r
+    may_send : (n : ℕ) (r : ReplicaParts D) (held : Vec HeldTicket Global) → IsNode b.nodes n → place_of old n ≡ Some (record { node = Replica r; held = held }) → MaySend state r
     may_send n r held at there = record {
       seen = let low = mine.seen in let is = generation in omega (arith, low, is);
       segment = record { seg = merged.files.seg; numbered = small; files = moved.step.of_merged.names_are ∙ merged_names moved.step.merges.m.task merged made.1 };

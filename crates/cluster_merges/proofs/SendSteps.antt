@@ -34,7 +34,7 @@ use Rattle.merge_tasks.specs.declared.tasks.Spread.{Spread}
 use Rattle.merge_tasks.specs.Board.{Board, open_merge, spread_at, with_spread, is_sent_in, sent_more, due_all, IsToldTask}
 use Rattle.merge_tasks.proofs.BoardRows.{line_told, open_with, lines_with, due_sent}
 use Rattle.merge_tasks.proofs.TaskFrames.{tasks_kept, tasks_on}
-use Rattle.cluster_nodes.specs.declared.held.Held.{Held}
+use Rattle.cluster_nodes.specs.declared.held.HeldTicket.{HeldTicket}
 use Rattle.cluster_nodes.specs.declared.nodes.Node.{Node}
 use Rattle.cluster_nodes.specs.declared.nodes.Node.TheVariants.{Replica}
 use Rattle.cluster_nodes.specs.declared.nodes.Place.{Place}
@@ -108,7 +108,7 @@ module _ {D : Type 0} (cells : D → Cells) where
     flight = was.flight;
   }
 
-  module _ (size : ℕ) (log : Log) (old new : List (Option (Place D))) (n number : ℕ) (state : CopyState) (r s : ReplicaParts D) (held : Vec Held Global) (moves : MovesOne n (record { node = Replica s; held = held }) old new) (node : IsNode size n)
+  module _ (size : ℕ) (log : Log) (old new : List (Option (Place D))) (n number : ℕ) (state : CopyState) (r s : ReplicaParts D) (held : Vec HeldTicket Global) (moves : MovesOne n (record { node = Replica s; held = held }) old new) (node : IsNode size n)
       (there : place_of old n ≡ Some (record { node = Replica r; held = held })) (w : SendsMerged cells state number r s) (shows : Shows cells log size old) where
     sent_shows : state.primary_gen.0 ≡ generation_of (printed log) → Shows cells log size new
     sent_shows generation = record {
@@ -157,7 +157,7 @@ module _ {D : Type 0} (cells : D → Cells) where
         }
 
   -- all of it
-  pub sent_path : (b : Sheet) (old new : List (Option (Place D))) (board after : Board) (seg : ℕ) (n : NodeNo) (number : ℕ) (state : CopyState) (r s : ReplicaParts D) (held : Vec Held Global)
+  pub sent_path : (b : Sheet) (old new : List (Option (Place D))) (board after : Board) (seg : ℕ) (n : NodeNo) (number : ℕ) (state : CopyState) (r s : ReplicaParts D) (held : Vec HeldTicket Global)
       → MovesOne n.0 (record { node = Replica s; held = held }) old new → IsNode b.nodes n.0 → place_of old n.0 ≡ Some (record { node = Replica r; held = held }) → SendsMerged cells state number r s → state.primary_gen.0 ≡ generation_of (printed b.log)
       → IsSomeAnd (spread_at (open_merge seg board.rows)) (λ z. (z.state ≡ state) × (z.all ≡ false)) → after.rows ≡ with_spread seg (sent_more n number (spread_at (open_merge seg board.rows))) board.rows → after.posted ≡ board.posted → after.counts ≡ board.counts
       → AllShown cells b board old → AllShown cells b after new

@@ -38,7 +38,7 @@ use Rattle.primary_state.specs.Primary.{loose_of}
 use Rattle.primary_merges.specs.StartCalls.{IsFitTask, merge_sizes, StartsMerge, AnswersMerge}
 use Rattle.merge_tasks.specs.TaskLog.{merge_task}
 use Rattle.merge_tasks.specs.Board.{Board, posted_merge}
-use Rattle.cluster_nodes.specs.declared.held.Held.{Held}
+use Rattle.cluster_nodes.specs.declared.held.HeldTicket.{HeldTicket}
 use Rattle.cluster_nodes.specs.declared.nodes.Node.{Node}
 use Rattle.cluster_nodes.specs.declared.nodes.Node.TheVariants.{Primary, Replica, Down}
 use Rattle.cluster_nodes.specs.declared.nodes.Place.{Place}
@@ -106,7 +106,7 @@ module _ {D : Type 0} where
       by (Replica r) showing = tt
       by (Down d) showing = tt
 
-  pub sizes_at : (cells : D → Cells) (log : Log) (size n : ℕ) (places : List (Option (Place D))) (p : PrimaryParts D) (held : Vec Held Global) → IsNode size n → place_of places n ≡ Some (record { node = Primary p; held = held })
+  pub sizes_at : (cells : D → Cells) (log : Log) (size n : ℕ) (places : List (Option (Place D))) (p : PrimaryParts D) (held : Vec HeldTicket Global) → IsNode size n → place_of places n ≡ Some (record { node = Primary p; held = held })
       → ((m : ℕ) → (n == m) ≡ false → is_at (primary_of (printed log)) m ≡ false) → Shows cells log size places → sizes_in places ≡ merge_sizes p
   sizes_at cells log size zero places p held node there others shows = absurd (omega (arith, node.0))
   sizes_at cells log size (suc k) places p held node there others shows = sizes_found places k (record { node = Primary p; held = held }) p there refl

@@ -5,7 +5,7 @@ use Rattle.std.proofs.lemmas.Bool.{eq-eqb}
 use Rattle.nrt_base.specs.declared.numbers.NodeNo.{NodeNo}
 use Rattle.disk_model.specs.Disk.{Cells, HasCrashed}
 use Rattle.history_rules.specs.Nodes.{is_at}
-use Rattle.cluster_nodes.specs.declared.held.Held.{Held}
+use Rattle.cluster_nodes.specs.declared.held.HeldTicket.{HeldTicket}
 use Rattle.cluster_nodes.specs.declared.nodes.Node.TheVariants.{Down}
 use Rattle.cluster_nodes.specs.declared.nodes.Place.{Place}
 use Rattle.cluster_nodes.specs.Places.{place_of, dir_of, IsSlot}
@@ -22,7 +22,7 @@ module _ {D : Type 0} (cells : D → Cells) where
   pub there_left : (primary : Option NodeNo) (old mid : List (Option (Place D))) (n : ℕ) → EndsWith cells primary n old mid → place_of old n ≢ None → place_of mid n ≢ None
   there_left primary old mid n ends there none = there (sym ends.here ∙ none)
 
-  pub crashed_in : {T E : Type 0} (result : Result T E) (primary : Option NodeNo) (old a b new : List (Option (Place D))) (n : ℕ) (place : Place D) (dir : D) (held : Vec Held Global) → EndsWith cells primary n old a → place_of a n ≡ Some place
+  pub crashed_in : {T E : Type 0} (result : Result T E) (primary : Option NodeNo) (old a b new : List (Option (Place D))) (n : ℕ) (place : Place D) (dir : D) (held : Vec HeldTicket Global) → EndsWith cells primary n old a → place_of a n ≡ Some place
       → held.items ≡ [] → length b ≡ length a → ((m : ℕ) → place_of b m ≡ (if n == m then None else place_of a m))
       → length new ≡ length b → ((m : ℕ) → place_of new m ≡ (if n == m then Some (record { node = Down dir; held = held }) else place_of b m))
       → OnOk result (HasCrashed (cells (dir_of place.node)) (cells dir)) → OnOk result (CrashesIn cells primary n old new)

@@ -11,7 +11,7 @@ use Rattle.copy_state.specs.declared.state.CopyState.{CopyState}
 use Rattle.primary_state.specs.declared.parts.PrimaryParts.{PrimaryParts}
 use Rattle.primary_state.specs.declared.states.Out.{Out}
 use Rattle.primary_state.specs.States.{is_out, out_of, states_without}
-use Rattle.cluster_nodes.specs.declared.held.Held.{Held}
+use Rattle.cluster_nodes.specs.declared.held.HeldTicket.{HeldTicket}
 use Rattle.cluster_nodes.specs.declared.nodes.Node.{Node}
 use Rattle.cluster_nodes.specs.declared.nodes.Node.TheVariants.{Primary, Replica, Down}
 use Rattle.cluster_nodes.specs.declared.nodes.Place.{Place}
@@ -182,7 +182,7 @@ module _ {D : Type 0} (cells : D → Cells) where
       some None is has = absurd has
       some (Some x) is has = node x x.node refl is (is_primary x x.node refl has)
 
-  pub state_back : (p n : ℕ) (old mid new : List (Option (Place D))) (q s : PrimaryParts D) (held : Vec Held Global) (state : CopyState) → IsSlot old p → place_of old p ≡ Some (record { node = Primary q; held = held })
+  pub state_back : (p n : ℕ) (old mid new : List (Option (Place D))) (q s : PrimaryParts D) (held : Vec HeldTicket Global) (state : CopyState) → IsSlot old p → place_of old p ≡ Some (record { node = Primary q; held = held })
       → length mid ≡ length old → ((m : ℕ) → place_of mid m ≡ (if p == m then None else place_of old m)) → length new ≡ length mid
       → ((m : ℕ) → place_of new m ≡ (if p == m then Some (record { node = Primary s; held = held }) else place_of mid m))
       → option_map out_of (Some state) ≡ want_at (place_of old n) → AltersStates cells q s → s.states ≡ states_without (out_of state) q.states → TakesBackIn cells p n old new
@@ -194,6 +194,6 @@ module _ {D : Type 0} (cells : D → Cells) where
   }
 
   -- what is out
-  pub state_out : (p n : ℕ) (places : List (Option (Place D))) (q : PrimaryParts D) (held : Vec Held Global) (state : CopyState) → CanTakeBack p n places → place_of places p ≡ Some (record { node = Primary q; held = held })
+  pub state_out : (p n : ℕ) (places : List (Option (Place D))) (q : PrimaryParts D) (held : Vec HeldTicket Global) (state : CopyState) → CanTakeBack p n places → place_of places p ≡ Some (record { node = Primary q; held = held })
       → option_map out_of (Some state) ≡ want_at (place_of places n) → is_out (out_of state) q.states ≡ true
   state_out p n places q held state can there want = subst (λ (o : Option Out). IfSome o (λ s. is_out s q.states ≡ true)) (sym want) (can.out q held there)

@@ -11,7 +11,7 @@ use Rattle.disk_model.specs.Disk.{Name, Cells}
 use Rattle.primary_state.specs.declared.parts.PrimaryParts.{PrimaryParts}
 use Rattle.replica_state.specs.declared.parts.ReplicaParts.{ReplicaParts}
 use Rattle.replica_state.specs.Jobs.{running_point}
-use Rattle.cluster_nodes.specs.declared.held.Held.{Held}
+use Rattle.cluster_nodes.specs.declared.held.HeldTicket.{HeldTicket}
 use Rattle.cluster_nodes.specs.declared.nodes.Node.TheVariants.{Primary, Replica}
 use Rattle.cluster_nodes.specs.declared.nodes.Place.{Place}
 use Rattle.cluster_nodes.specs.Places.{place_of, IsSlot, HasPrimary}
@@ -66,7 +66,7 @@ module _ {D : Type 0} where
       → (m : ℕ) → place_of new m ≡ (if n == m then Some y else if p == m then Some x else place_of old m)
   put_twice old mid new p n x y first second m = second m ∙ ap (λ (o : Option (Place D)). if n == m then Some y else o) (first m)
 
-  abbrev pub are_both : (old a : List (Option (Place D))) (p n : ℕ) (q : PrimaryParts D) (r : ReplicaParts D) (hq hr : Vec Held Global) → StandThere p n old → ((m : ℕ) → place_of a m ≡ (if p == m then None else place_of old m))
+  abbrev pub are_both : (old a : List (Option (Place D))) (p n : ℕ) (q : PrimaryParts D) (r : ReplicaParts D) (hq hr : Vec HeldTicket Global) → StandThere p n old → ((m : ℕ) → place_of a m ≡ (if p == m then None else place_of old m))
       → place_of old p ≡ Some (record { node = Primary q; held = hq }) → place_of a n ≡ Some (record { node = Replica r; held = hr }) → AreBoth old p n
   are_both old a p n q r hq hr stand taken there_q there_r = record {
     primary = record { slot = stand.slot_primary; parts = q; held = hq; there = there_q };
@@ -75,11 +75,11 @@ module _ {D : Type 0} where
   }
 
   -- what holds of the two that stand there
-  pub may_of : (P : PrimaryParts D → ReplicaParts D → Type 0) (old a : List (Option (Place D))) (p n : ℕ) (q : PrimaryParts D) (r : ReplicaParts D) (hq hr : Vec Held Global) → StandThere p n old
+  pub may_of : (P : PrimaryParts D → ReplicaParts D → Type 0) (old a : List (Option (Place D))) (p n : ℕ) (q : PrimaryParts D) (r : ReplicaParts D) (hq hr : Vec HeldTicket Global) → StandThere p n old
       → ((m : ℕ) → place_of a m ≡ (if p == m then None else place_of old m)) → place_of old p ≡ Some (record { node = Primary q; held = hq }) → place_of a n ≡ Some (record { node = Replica r; held = hr }) → HoldsOfBoth P p n old → P q r
   may_of P old a p n q r hq hr stand taken there_q there_r holds = holds q r hq hr there_q (sym (other_still old a p n stand.apart taken) ∙ there_r)
 
-  pub begun_in : (cells : D → Cells) (result : Result ℕ AllocError) (old a b new : List (Option (Place D))) (p n : ℕ) (q q' : PrimaryParts D) (r r' : ReplicaParts D) (hq hr : Vec Held Global) → StandThere p n old
+  pub begun_in : (cells : D → Cells) (result : Result ℕ AllocError) (old a b new : List (Option (Place D))) (p n : ℕ) (q q' : PrimaryParts D) (r r' : ReplicaParts D) (hq hr : Vec HeldTicket Global) → StandThere p n old
       → length a ≡ length old → ((m : ℕ) → place_of a m ≡ (if p == m then None else place_of old m)) → length b ≡ length a → ((m : ℕ) → place_of b m ≡ (if n == m then None else place_of a m)) → length new ≡ length b
       → ((m : ℕ) → place_of new m ≡ (if n == m then Some (record { node = Replica r'; held = hr }) else if p == m then Some (record { node = Primary q'; held = hq }) else place_of b m))
       → place_of old p ≡ Some (record { node = Primary q; held = hq }) → place_of a n ≡ Some (record { node = Replica r; held = hr })
@@ -93,7 +93,7 @@ module _ {D : Type 0} where
   }
   begun_in cells (Err fault) old a b new p n q q' r r' hq hr stand ca ta cb tb cn tn there_q there_r begins = tt
 
-  pub finished_in : (cells : D → Cells) (result : Result Unit AllocError) (old a b new : List (Option (Place D))) (p n : ℕ) (q q' : PrimaryParts D) (r r' : ReplicaParts D) (hq hr : Vec Held Global) → StandThere p n old
+  pub finished_in : (cells : D → Cells) (result : Result Unit AllocError) (old a b new : List (Option (Place D))) (p n : ℕ) (q q' : PrimaryParts D) (r r' : ReplicaParts D) (hq hr : Vec HeldTicket Global) → StandThere p n old
       → length a ≡ length old → ((m : ℕ) → place_of a m ≡ (if p == m then None else place_of old m)) → length b ≡ length a → ((m : ℕ) → place_of b m ≡ (if n == m then None else place_of a m)) → length new ≡ length b
       → ((m : ℕ) → place_of new m ≡ (if n == m then Some (record { node = Replica r'; held = hr }) else if p == m then Some (record { node = Primary q'; held = hq }) else place_of b m))
       → place_of old p ≡ Some (record { node = Primary q; held = hq }) → place_of a n ≡ Some (record { node = Replica r; held = hr })
@@ -107,7 +107,7 @@ module _ {D : Type 0} where
   }
   finished_in cells (Err fault) old a b new p n q q' r r' hq hr stand ca ta cb tb cn tn there_q there_r finishes = tt
 
-  pub taken_in : (cells : D → Cells) (result : Result Unit AllocError) (part : Part) (old mid new : List (Option (Place D))) (n : ℕ) (r r' : ReplicaParts D) (held : Vec Held Global) → IsSlot old n
+  pub taken_in : (cells : D → Cells) (result : Result Unit AllocError) (part : Part) (old mid new : List (Option (Place D))) (n : ℕ) (r r' : ReplicaParts D) (held : Vec HeldTicket Global) → IsSlot old n
       → length mid ≡ length old → ((m : ℕ) → place_of mid m ≡ (if n == m then None else place_of old m)) → length new ≡ length mid → ((m : ℕ) → place_of new m ≡ (if n == m then Some (record { node = Replica r'; held = held }) else place_of mid m))
       → place_of old n ≡ Some (record { node = Replica r; held = held }) → OnOk result (TakesPart cells part r r') → OnOk result (TakesIn cells n part old new)
   taken_in cells (Ok x) part old mid new n r r' held slot cm tm cn tn there takes = record {
@@ -118,7 +118,7 @@ module _ {D : Type 0} where
   }
   taken_in cells (Err fault) part old mid new n r r' held slot cm tm cn tn there takes = tt
 
-  pub read_at : (cells : D → Cells) (bytes : List ℕ) (name : Name) (old mid new : List (Option (Place D))) (p : ℕ) (q q' : PrimaryParts D) (held : Vec Held Global) → IsSlot old p
+  pub read_at : (cells : D → Cells) (bytes : List ℕ) (name : Name) (old mid new : List (Option (Place D))) (p : ℕ) (q q' : PrimaryParts D) (held : Vec HeldTicket Global) → IsSlot old p
       → length mid ≡ length old → ((m : ℕ) → place_of mid m ≡ (if p == m then None else place_of old m)) → length new ≡ length mid → ((m : ℕ) → place_of new m ≡ (if p == m then Some (record { node = Primary q'; held = held }) else place_of mid m))
       → place_of old p ≡ Some (record { node = Primary q; held = held }) → (cells q.dir name).now ≡ Some bytes → cells q'.dir ≡ cells q.dir → q' ≡ record q { dir = q'.dir } → HoldsNoNew q q' → IsPrimary cells q' → ReadsIn cells p name bytes old new
   read_at cells bytes name old mid new p q q' held slot cm tm cn tn there reads same is no_new whole = record {

@@ -10,7 +10,7 @@ use Rattle.primary_state.specs.declared.states.Out.{Out}
 use Rattle.primary_state.specs.States.{is_out}
 use Rattle.replica_state.specs.declared.parts.ReplicaParts.{ReplicaParts}
 use Rattle.replica_state.specs.Jobs.{stopped_job}
-use Rattle.cluster_nodes.specs.declared.held.Held.{Held}
+use Rattle.cluster_nodes.specs.declared.held.HeldTicket.{HeldTicket}
 use Rattle.cluster_nodes.specs.declared.nodes.Node.{Node}
 use Rattle.cluster_nodes.specs.declared.nodes.Node.TheVariants.{Primary, Replica, Down}
 use Rattle.cluster_nodes.specs.declared.nodes.Place.{Place}
@@ -54,7 +54,7 @@ module _ {D : Type 0} where
   pub record CanTakeBack (p n : ℕ) (places : List (Option (Place D))) : Type 0 where
     pub slot : IsSlot places p
     pub primary : HasPrimary (place_of places p)
-    pub out : (q : PrimaryParts D) (held : Vec Held Global) → place_of places p ≡ Some (record { node = Primary q; held = held }) → IfSome (want_at (place_of places n)) (λ s. is_out s q.states ≡ true)
+    pub out : (q : PrimaryParts D) (held : Vec HeldTicket Global) → place_of places p ≡ Some (record { node = Primary q; held = held }) → IfSome (want_at (place_of places n)) (λ s. is_out s q.states ≡ true)
 
   -- it took that state back
   pub record TakesBackIn (cells : D → Cells) (p n : ℕ) (old new : List (Option (Place D))) : Type 0 where

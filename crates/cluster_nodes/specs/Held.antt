@@ -1,7 +1,7 @@
 -- The tickets of a node that are held.
 use Rattle.std.specs.Prelude.{ℕ, List, [], ◌∷◌, Bool, false, ◌&&◌, ◌==◌, if◌then◌else◌, Option, Some, None}
 use Rattle.history_rules.specs.Lines.{same_at}
-use Rattle.cluster_nodes.specs.declared.held.Held.{Held}
+use Rattle.cluster_nodes.specs.declared.held.HeldTicket.{HeldTicket}
 use Rattle.cluster_nodes.specs.declared.held.HeldKey.{HeldKey}
 use Rattle.cluster_nodes.specs.declared.held.HeldKey.TheVariants.{Ticket, Search}
 
@@ -12,6 +12,6 @@ same_key (Search at) (Search b) = same_at at b
 same_key k l = false
 
 -- the number of the ticket that is held for this
-abbrev pub held_number : List Held → HeldKey → Option ℕ
+abbrev pub held_number : List HeldTicket → HeldKey → Option ℕ
 held_number [] key = None
 held_number (row ∷ rows) key = if same_key row.key key then Some row.number else held_number rows key

@@ -11,7 +11,7 @@ use Rattle.copy_job.specs.declared.copying.Part.{Part}
 use Rattle.copy_job.specs.Jobs.{reads_under}
 use Rattle.primary_state.specs.declared.parts.PrimaryParts.{PrimaryParts}
 use Rattle.primary_state.specs.States.{state_names, is_out}
-use Rattle.cluster_nodes.specs.declared.held.Held.{Held}
+use Rattle.cluster_nodes.specs.declared.held.HeldTicket.{HeldTicket}
 use Rattle.cluster_nodes.specs.declared.nodes.Node.TheVariants.{Primary, Replica}
 use Rattle.cluster_nodes.specs.declared.nodes.Place.{Place}
 use Rattle.cluster_nodes.specs.Places.{place_of, IsSlot, HasPrimary}
@@ -24,14 +24,14 @@ module _ {D : Type 0} where
   pub record IsPrimaryAt (places : List (Option (Place D))) (p : ℕ) : Type 0 where
     pub slot : IsSlot places p
     pub parts : PrimaryParts D
-    pub held : Vec Held Global
+    pub held : Vec HeldTicket Global
     pub there : place_of places p ≡ Some (record { node = Primary parts; held = held })
 
   -- a replica stands in this place
   pub record IsReplicaAt (places : List (Option (Place D))) (n : ℕ) : Type 0 where
     pub slot : IsSlot places n
     pub parts : ReplicaParts D
-    pub held : Vec Held Global
+    pub held : Vec HeldTicket Global
     pub there : place_of places n ≡ Some (record { node = Replica parts; held = held })
 
   -- the primary and a replica stand in these two
@@ -67,7 +67,7 @@ module _ {D : Type 0} where
 
   -- whatever stands there, it is so
   abbrev pub HoldsOfBoth : (PrimaryParts D → ReplicaParts D → Type 0) → ℕ → ℕ → List (Option (Place D)) → Type 0
-  HoldsOfBoth P p n places = (q : PrimaryParts D) (r : ReplicaParts D) (primary_held held : Vec Held Global)
+  HoldsOfBoth P p n places = (q : PrimaryParts D) (r : ReplicaParts D) (primary_held held : Vec HeldTicket Global)
       → place_of places p ≡ Some (record { node = Primary q; held = primary_held }) → place_of places n ≡ Some (record { node = Replica r; held = held }) → P q r
 
   -- a job can begin at a replica
@@ -107,7 +107,7 @@ module _ {D : Type 0} where
   pub record CanRead (p : ℕ) (name : Name) (places : List (Option (Place D))) : Type 0 where
     pub slot : IsSlot places p
     pub primary : HasPrimary (place_of places p)
-    pub out : (q : PrimaryParts D) (held : Vec Held Global) → place_of places p ≡ Some (record { node = Primary q; held = held }) → 0 < times (state_names q.states) name
+    pub out : (q : PrimaryParts D) (held : Vec HeldTicket Global) → place_of places p ≡ Some (record { node = Primary q; held = held }) → 0 < times (state_names q.states) name
 
   -- its bytes were read
   pub record ReadsIn (cells : D → Cells) (p : ℕ) (name : Name) (bytes : List ℕ) (old new : List (Option (Place D))) : Type 0 where
@@ -122,8 +122,8 @@ module _ {D : Type 0} where
   pub record CanTake (n : ℕ) (part : Part) (places : List (Option (Place D))) : Type 0 where
     pub slot : IsSlot places n
     pub replica : HasReplica (place_of places n)
-    pub some : (r : ReplicaParts D) (held : Vec Held Global) → place_of places n ≡ Some (record { node = Replica r; held = held }) → IsSome (running_point r.job)
-    pub wanted : (r : ReplicaParts D) (held : Vec Held Global) → place_of places n ≡ Some (record { node = Replica r; held = held })
+    pub some : (r : ReplicaParts D) (held : Vec HeldTicket Global) → place_of places n ≡ Some (record { node = Replica r; held = held }) → IsSome (running_point r.job)
+    pub wanted : (r : ReplicaParts D) (held : Vec HeldTicket Global) → place_of places n ≡ Some (record { node = Replica r; held = held })
         → IfSome (running_point r.job) (λ j. (meta : FileMetaData) → meta_in j.copy.want.files part.name ≡ Some meta → meta ≡ part.meta)
 
   -- it took it, or did not lack it

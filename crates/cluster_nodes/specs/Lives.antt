@@ -14,7 +14,7 @@ use Rattle.replica_state.specs.declared.parts.ReplicaParts.{ReplicaParts}
 use Rattle.replica_state.specs.Replica.{IsWholeReplica}
 use Rattle.replica_state.specs.Sources.{IsSourced}
 use Rattle.replica_state.specs.Starting.{IsJustOpened, SearchesJust, HasJustItsFiles}
-use Rattle.cluster_nodes.specs.declared.held.Held.{Held}
+use Rattle.cluster_nodes.specs.declared.held.HeldTicket.{HeldTicket}
 use Rattle.cluster_nodes.specs.declared.nodes.Node.TheVariants.{Replica, Down}
 use Rattle.cluster_nodes.specs.declared.nodes.Place.{Place}
 use Rattle.cluster_nodes.specs.Places.{place_of, dir_of}
@@ -28,7 +28,7 @@ module _ {D : Type 0} where
     pub place : Place D
     pub there : place_of old n ≡ Some place
     pub dir : D
-    pub held : Vec Held Global
+    pub held : Vec HeldTicket Global
     pub none : held.items ≡ []
     pub crashed : HasCrashed (cells (dir_of place.node)) (cells dir)
     pub count : length new ≡ length old

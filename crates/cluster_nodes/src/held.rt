@@ -16,7 +16,7 @@ pub enum HeldKey {
 
 /// A ticket of a node that is held, by its number there.
 #[derive(Clone, Copy, Debug, PartialEq, Eq)]
-pub struct Held {
+pub struct HeldTicket {
     pub key: HeldKey,
     pub number: u64,
 }
@@ -34,7 +34,7 @@ fn same_key(a: HeldKey, b: HeldKey) -> bool
 }
 
 /// The number of the ticket that is held for this.
-pub fn number_held(held: &[Held], key: HeldKey) -> Option<u64>
+pub fn number_held(held: &[HeldTicket], key: HeldKey) -> Option<u64>
     ensures { result ≡ held_number held.now key }
 {
     for row in held {
@@ -46,23 +46,23 @@ pub fn number_held(held: &[Held], key: HeldKey) -> Option<u64>
 }
 
 /// Holds a ticket for this.
-pub fn hold(held: &mut Vec<Held>, key: HeldKey, number: u64) -> Result<(), NoMemory>
+pub fn hold(held: &mut Vec<HeldTicket>, key: HeldKey, number: u64) -> Result<(), NoMemory>
     ensures { OnOk result ((k : _) → held_number held.new.items k
         ≡ (if same_key key k then Some number else held_number held.old.items k)) }
 {
-    held.insert(0, Held { key, number })?;
+    held.insert(0, HeldTicket { key, number })?;
     Ok(())
 }
 
 /// Holds no ticket for this any more.
-pub fn let_go(held: &mut Vec<Held>, key: HeldKey)
+pub fn let_go(held: &mut Vec<HeldTicket>, key: HeldKey)
     ensures { (k : _) → held_number held.new.items k
         ≡ (if same_key key k then None else held_number held.old.items k) }
 {
     without(held, key);
 }
 
-fn without(held: &mut Vec<Held>, key: HeldKey)
+fn without(held: &mut Vec<HeldTicket>, key: HeldKey)
     ensures { held.new.items ≡ filter (λ h. not (same_key h.key key)) held.old.items }
 {
     held.retain(|row| !same_key(row.key, key));

@@ -3,7 +3,7 @@
 ghost use Rattle.std.specs.Prelude.{ℕ, ◌≡◌, ◌≢◌, ◌==◌, if◌then◌else◌, None, Some, length};
 ghost use Rattle.cluster_nodes.specs.Places.{place_of, IsSlot, HasPrimary};
 
-use crate::held::Held;
+use crate::held::HeldTicket;
 use disk_model::Dir;
 use index_primary::Primary;
 use nrt_base::NodeNo;
@@ -22,7 +22,7 @@ pub enum Node<D: Dir> {
 #[derive(Drop)]
 pub struct Place<D: Dir> {
     pub node: Node<D>,
-    pub held: Vec<Held>,
+    pub held: Vec<HeldTicket>,
 }
 
 /// Takes a node out of its place.
@@ -49,7 +49,7 @@ pub fn put<D: Dir + Drop>(places: &mut Vec<Option<Place<D>>>, n: NodeNo, place: 
 }
 
 /// The primary that is in this place.
-pub fn primary_in<D: Dir + Drop>(place: Place<D>) -> (Primary<D>, Vec<Held>)
+pub fn primary_in<D: Dir + Drop>(place: Place<D>) -> (Primary<D>, Vec<HeldTicket>)
     requires { HasPrimary (Some place) }
     ensures { place ≡ record { node = Node.Primary result.0; held = result.1 } }
 {

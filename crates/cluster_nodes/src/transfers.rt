@@ -6,7 +6,7 @@ ghost use Rattle.cluster_nodes.specs.Places.{place_of, IsSlot, HasPrimary};
 ghost use Rattle.cluster_nodes.specs.JobChanges.{HasReplica, HasJob, HasNextFile};
 ghost use Rattle.cluster_nodes.specs.JobPlaces.{CanBegin, BeginsIn, CanFinish, FinishesIn, CanRead, ReadsIn, CanTake, TakesIn};
 
-use crate::held::Held;
+use crate::held::HeldTicket;
 use crate::jobs::{begin_job, finish_job, take_part};
 use crate::nodes::{Node, Place, primary_in, put, take};
 use crate::states::next_lacking;
@@ -21,7 +21,7 @@ use replica_node::Replica;
 use std::alloc::{AllocError, Global};
 
 // The replica that is in this place.
-fn replica_in<D: Dir + Drop>(place: Place<D>) -> (Replica<D>, Vec<Held>)
+fn replica_in<D: Dir + Drop>(place: Place<D>) -> (Replica<D>, Vec<HeldTicket>)
     requires { HasReplica (Some place) }
     ensures { place ≡ record { node = Node.Replica result.0; held = result.1 } }
 {
@@ -37,7 +37,7 @@ fn replica_in<D: Dir + Drop>(place: Place<D>) -> (Replica<D>, Vec<Held>)
 pub fn take_primary<D: Dir + Drop>(
     places: &mut Vec<Option<Place<D>>>,
     p: NodeNo,
-) -> (Primary<D>, Vec<Held>)
+) -> (Primary<D>, Vec<HeldTicket>)
     requires slot { IsSlot places.old.items p.0 }
     requires there { HasPrimary (place_of places.old.items p.0) }
     ensures place { place_of places.old.items p.0
@@ -53,7 +53,7 @@ pub fn take_primary<D: Dir + Drop>(
 pub fn take_replica<D: Dir + Drop>(
     places: &mut Vec<Option<Place<D>>>,
     n: NodeNo,
-) -> (Replica<D>, Vec<Held>)
+) -> (Replica<D>, Vec<HeldTicket>)
     requires slot { IsSlot places.old.items n.0 }
     requires there { HasReplica (place_of places.old.items n.0) }
     ensures place { place_of places.old.items n.0
@@ -89,9 +89,9 @@ fn put_both<D: Dir + Drop>(
     p: NodeNo,
     n: NodeNo,
     primary: Primary<D>,
-    primary_held: Vec<Held>,
+    primary_held: Vec<HeldTicket>,
     replica: Replica<D>,
-    held: Vec<Held>,
+    held: Vec<HeldTicket>,
 )
     requires slot_primary { IsSlot places.old.items p.0 }
     requires slot_replica { IsSlot places.old.items n.0 }

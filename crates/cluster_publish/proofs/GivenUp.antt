@@ -29,7 +29,7 @@ use Rattle.primary_state.specs.Primary.{IsPrimary, KeepsHeldBytes, loose_of, res
 use Rattle.primary_state.specs.Calls.{KeepsPoint, HasSameCounts, DrawsOnly}
 use Rattle.replica_state.specs.Given.{IsLasting}
 use Rattle.merge_tasks.specs.Board.{Board}
-use Rattle.cluster_nodes.specs.declared.held.Held.{Held}
+use Rattle.cluster_nodes.specs.declared.held.HeldTicket.{HeldTicket}
 use Rattle.cluster_nodes.specs.declared.nodes.Node.{Node}
 use Rattle.cluster_nodes.specs.declared.nodes.Node.TheVariants.{Primary}
 use Rattle.cluster_nodes.specs.declared.nodes.Place.{Place}
@@ -89,7 +89,7 @@ module _ {D : Type 0} (cells : D → Cells) where
     flight = subst (λ (o : Option At). FlightShows (shown at (Refused DiskFault) ∷ log) o None p.segs) (sym (ap (λ (o : Option At). without_at at o) flight ∙ ap (λ (b : Bool). if b then None else Some at) (same_at_self at))) refl;
   }
 
-  given_up_place : (size : ℕ) (log : Log) (at : At) (n : ℕ) (p q : PrimaryParts D) (held : Vec Held Global) → IsLegalPast size (printed log) → KeepsRule size (printed log) at (Refused DiskFault) → publish_in_flight (printed log) ≡ Some at
+  given_up_place : (size : ℕ) (log : Log) (at : At) (n : ℕ) (p q : PrimaryParts D) (held : Vec HeldTicket Global) → IsLegalPast size (printed log) → KeepsRule size (printed log) at (Refused DiskFault) → publish_in_flight (printed log) ≡ Some at
       → KeepsPoint p q → q.publish ≡ None → IsPrimary cells q → PlaceShows cells log n (record { node = Primary p; held = held }) → PlaceShows cells (shown at (Refused DiskFault) ∷ log) n (record { node = Primary q; held = held })
   given_up_place size log at n p q held legal keeps flight point none whole was = record {
     node_shows = subst (λ (z : PrimaryParts D). PrimaryShows cells (shown at (Refused DiskFault) ∷ log) n z) (sym (given_up_is p q point none))
@@ -134,7 +134,7 @@ module _ {D : Type 0} (cells : D → Cells) where
   }
 
   -- the primary gave up files of its own
-  pub files_given : (size : ℕ) (log now : Log) (old new : List (Option (Place D))) (n : ℕ) (p q : PrimaryParts D) (held : Vec Held Global) → FilesLast → Grows (printed log) (printed now) → CarriesNoMore log now
+  pub files_given : (size : ℕ) (log now : Log) (old new : List (Option (Place D))) (n : ℕ) (p q : PrimaryParts D) (held : Vec HeldTicket Global) → FilesLast → Grows (printed log) (printed now) → CarriesNoMore log now
       → HoldsFrom cells (printed now) (Primary p) (Primary q) → ((m : ℕ) → is_at (primary_of (printed log)) m ≡ false → SameJob log now m) → ((m : ℕ) → CommitsStay (printed log) (printed now) m)
       → MovesOne n (record { node = Primary q; held = held }) old new → IsNode size n → place_of old n ≡ Some (record { node = Primary p; held = held }) → GivesUpFiles cells p q → q.states ≡ p.states
       → Shows cells log size old → FilesShow cells log size old → FilesShow cells now size new
@@ -164,7 +164,7 @@ module _ {D : Type 0} (cells : D → Cells) where
 
   -- ---- in the terms of a call
 
-  module _ (r : Run) (ended : Bool) (b0 b1 b2 : Sheet) (old mid new : List (Option (Place D))) (at : At) (n : NodeNo) (x : Place D) (p q : PrimaryParts D) (held : Vec Held Global)
+  module _ (r : Run) (ended : Bool) (b0 b1 b2 : Sheet) (old mid new : List (Option (Place D))) (at : At) (n : NodeNo) (x : Place D) (p q : PrimaryParts D) (held : Vec HeldTicket Global)
       {left : Rest} (view : record { ended = ended; nodes = b0.nodes; log = b0.log; rest = left } ≡ r) (running : r.ended ≡ false)
       (e1 : b1.log ≡ b0.log) (n1 : b1.nodes ≡ b0.nodes) (e2 : b2.log ≡ shown at (Refused DiskFault) ∷ b1.log) (n2 : b2.nodes ≡ b1.nodes) (legal : IsLegalPast b1.nodes (printed b1.log)) (turns : AreInTurn (printed b1.log))
       (rule : KeepsRule r.nodes (printed r.log) at (Refused DiskFault)) (flies : Flying (printed r.log) at) (flight : publish_in_flight (printed r.log) ≡ Some at) (node : IsNode r.nodes n.0) (primary : primary_of (printed r.log) ≡ Some n)

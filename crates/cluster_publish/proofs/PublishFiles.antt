@@ -42,7 +42,7 @@ use Rattle.primary_state.specs.declared.parts.Publish.{Publish}
 use Rattle.primary_state.specs.Held.{IsOwnFile, drawn_to}
 use Rattle.primary_state.specs.Cut.{infos_drawn, noted, has_put, number_drawn}
 use Rattle.primary_state.proofs.NewFiles.{named_of}
-use Rattle.cluster_nodes.specs.declared.held.Held.{Held}
+use Rattle.cluster_nodes.specs.declared.held.HeldTicket.{HeldTicket}
 use Rattle.cluster_nodes.specs.declared.nodes.Node.TheVariants.{Primary}
 use Rattle.cluster_nodes.specs.declared.nodes.Place.{Place}
 use Rattle.cluster_nodes.specs.Places.{place_of}
@@ -193,7 +193,7 @@ module _ {D : Type 0} (cells : D → Cells) where
 
   -- ---- paths
 
-  module _ (r : Run) (ended : Bool) (b0 b1 : Sheet) (old mid new : List (Option (Place D))) (n : NodeNo) (x : Place D) (p q : PrimaryParts D) (held : Vec Held Global)
+  module _ (r : Run) (ended : Bool) (b0 b1 : Sheet) (old mid new : List (Option (Place D))) (n : NodeNo) (x : Place D) (p q : PrimaryParts D) (held : Vec HeldTicket Global)
       {left : Rest} (view : record { ended = ended; nodes = b0.nodes; log = b0.log; rest = left } ≡ r) (running : r.ended ≡ false) (shows : ended ≡ false → Shows cells b0.log b0.nodes old) (files : ended ≡ false → FilesShow cells b0.log b0.nodes old)
       (e1 : b1.log ≡ b0.log) (n1 : b1.nodes ≡ b0.nodes) (node : IsNode r.nodes n.0) (put : PutsBack cells old mid new n.0 (record { node = Primary q; held = held })) (there : place_of old n.0 ≡ Some x) (is : x ≡ record { node = Primary p; held = held }) where
     keeps_at : KeepsNodeFiles cells (Primary p) (Primary q) → KeepsNodeFiles cells x.node (Primary q)

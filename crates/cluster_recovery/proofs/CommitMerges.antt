@@ -13,7 +13,7 @@ use Rattle.history_book.specs.Log.{printed, shown}
 use Rattle.merge_tasks.specs.Merging.{Sheet}
 use Rattle.merge_tasks.specs.Board.{Board}
 use Rattle.merge_tasks.specs.TaskLog.{leaves_merges}
-use Rattle.cluster_nodes.specs.declared.held.Held.{Held}
+use Rattle.cluster_nodes.specs.declared.held.HeldTicket.{HeldTicket}
 use Rattle.cluster_nodes.specs.declared.nodes.Node.{Node}
 use Rattle.cluster_nodes.specs.declared.nodes.Node.TheVariants.{Primary, Replica, Down}
 use Rattle.cluster_nodes.specs.declared.nodes.Place.{Place}
@@ -26,7 +26,7 @@ use Rattle.cluster_state.proofs.MergingStill.{primary_keeps, replica_keeps, one_
 
 module _ {D : Type 0} (cells : D → Cells) (Step : Infos → CommitBook → CommitBook → Type 0) where
   -- a node's job is as it was
-  commit_want : (x y : Node D) (held : Vec Held Global) → AltersCommits Step cells x y → want_at (Some (record { node = y; held = held })) ≡ want_at (Some (record { node = x; held = held }))
+  commit_want : (x y : Node D) (held : Vec HeldTicket Global) → AltersCommits Step cells x y → want_at (Some (record { node = y; held = held })) ≡ want_at (Some (record { node = x; held = held }))
   commit_want (Primary p) (Primary q) held alters = refl
   commit_want (Replica r) (Replica s) held alters = ap (λ (z : ReplicaParts D). want_of z.job) alters.0.others
   commit_want (Primary p) (Replica s) held alters = absurd alters

@@ -40,7 +40,7 @@ use Rattle.merge_tasks.specs.Merging.{Sheet}
 use Rattle.history_book.specs.Jobs.{job_at}
 use Rattle.history_book.specs.Turns.{InTurn, AreInTurn}
 use Rattle.history_book.proofs.FoundLaws.{commit_found}
-use Rattle.cluster_nodes.specs.declared.held.Held.{Held}
+use Rattle.cluster_nodes.specs.declared.held.HeldTicket.{HeldTicket}
 use Rattle.cluster_nodes.specs.declared.nodes.Node.{Node}
 use Rattle.cluster_nodes.specs.declared.nodes.Node.TheVariants.{Primary, Replica, Down}
 use Rattle.cluster_nodes.specs.declared.nodes.Place.{Place}
@@ -100,11 +100,11 @@ module _ {D : Type 0} (cells : D → Cells) (Step : Infos → CommitBook → Com
   shows_alter log n (Down d) (Down e) a was = absurd a
 
   -- its tickets and its job are those that were
-  record Keeps (held : Vec Held Global) (x y : Node D) : Type 0 where
+  record Keeps (held : Vec HeldTicket Global) (x y : Node D) : Type 0 where
     tickets : tickets_of y ≡ tickets_of x
     want : want_at (Some (record { node = y; held = held })) ≡ want_at (Some (record { node = x; held = held }))
 
-  keeps_alter : (held : Vec Held Global) (x y : Node D) → AltersCommits Step cells x y → Keeps held x y
+  keeps_alter : (held : Vec HeldTicket Global) (x y : Node D) → AltersCommits Step cells x y → Keeps held x y
   keeps_alter held (Primary p) (Primary q) a = record { tickets = ap (λ (z : PrimaryParts D). z.searchers.tickets) a.0.others; want = refl }
   keeps_alter held (Replica r) (Replica s) a = record { tickets = ap (λ (z : ReplicaParts D). z.searchers.tickets) a.0.others; want = ap (λ (z : ReplicaParts D). want_of z.job) a.0.others }
   keeps_alter held (Primary p) (Replica s) a = absurd a
@@ -115,7 +115,7 @@ module _ {D : Type 0} (cells : D → Cells) (Step : Infos → CommitBook → Com
   keeps_alter held (Down d) (Replica s) a = absurd a
   keeps_alter held (Down d) (Down e) a = absurd a
 
-  place_alter : (log : Log) (n : ℕ) (held : Vec Held Global) (x y : Node D) → AltersCommits Step cells x y → PlaceShows cells log n (record { node = x; held = held }) → PlaceShows cells log n (record { node = y; held = held })
+  place_alter : (log : Log) (n : ℕ) (held : Vec HeldTicket Global) (x y : Node D) → AltersCommits Step cells x y → PlaceShows cells log n (record { node = x; held = held }) → PlaceShows cells log n (record { node = y; held = held })
   place_alter log n held x y a was = record {
     node_shows = shows_alter log n x y a was.node_shows;
     tickets = subst (λ (l : List (Open Shown)). HoldsTickets (printed log) n l held.items) (sym (keeps_alter held x y a).tickets) was.tickets;

@@ -63,7 +63,7 @@ use Rattle.history_book.specs.Turns.{AreInTurn}
 use Rattle.history_book.proofs.LineLaws.{without_some}
 use Rattle.history_book.proofs.ReignLaws.{node_crashes_rise}
 use Rattle.merge_tasks.specs.declared.tasks.OpenMerge.{OpenMerge}
-use Rattle.cluster_nodes.specs.declared.held.Held.{Held}
+use Rattle.cluster_nodes.specs.declared.held.HeldTicket.{HeldTicket}
 use Rattle.cluster_nodes.specs.declared.nodes.Node.{Node}
 use Rattle.cluster_nodes.specs.declared.nodes.Node.TheVariants.{Primary, Replica, Down}
 use Rattle.cluster_nodes.specs.declared.nodes.Place.{Place}
@@ -177,7 +177,7 @@ module _ (past : Past) (at : At) (n : NodeNo) where
       let once = crashes_once in
       omega (arith, same, rise, once)
 
-  none_held : (held : List Held) → held ≡ [] → HoldsTickets crashed n.0 [] held
+  none_held : (held : List HeldTicket) → held ≡ [] → HoldsTickets crashed n.0 [] held
   none_held held none = subst (HoldsTickets crashed n.0 []) (sym none) (record {
     each = λ key number is. absurd (none-some number is);
     apart = λ a b number is is'. absurd (none-some number is);
@@ -596,7 +596,7 @@ module _ {D : Type 0} (cells : D → Cells) where
         out = λ q held there. out here q held there (want_at (place_of places n.0)) refl;
       }
     where
-      out : (here : PrimaryHere cells files.source log (λ s. jobs_like places s size) p.0 places) (q : PrimaryParts D) (held : Vec Held Global) → place_of places p.0 ≡ Some (record { node = Primary q; held = held })
+      out : (here : PrimaryHere cells files.source log (λ s. jobs_like places s size) p.0 places) (q : PrimaryParts D) (held : Vec HeldTicket Global) → place_of places p.0 ≡ Some (record { node = Primary q; held = held })
           → (o : Option Out) → want_at (place_of places n.0) ≡ o → IfSome o (λ s. is_out s q.states ≡ true)
       out here q held there None none = tt
       out here q held there (Some s) want =

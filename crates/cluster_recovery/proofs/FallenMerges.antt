@@ -23,7 +23,7 @@ use Rattle.merge_tasks.specs.declared.tasks.Spread.{Spread}
 use Rattle.merge_tasks.specs.declared.tasks.OpenMerge.{OpenMerge}
 use Rattle.merge_tasks.specs.Board.{Board, open_merge, spread_at, is_sent_in, is_sent_to, TasksShow}
 use Rattle.merge_tasks.proofs.TaskFrames.{tasks_fallen}
-use Rattle.cluster_nodes.specs.declared.held.Held.{Held}
+use Rattle.cluster_nodes.specs.declared.held.HeldTicket.{HeldTicket}
 use Rattle.cluster_nodes.specs.declared.nodes.Node.{Node}
 use Rattle.cluster_nodes.specs.declared.nodes.Node.TheVariants.{Primary, Replica, Down}
 use Rattle.cluster_nodes.specs.declared.nodes.Place.{Place}
@@ -148,7 +148,7 @@ module _ {D : Type 0} (cells : D → Cells) (rows : List OpenMerge) where
       count = lose.count ∙ shows.count;
       each = lose_each {P = PlaceShows cells log} {Q = PlaceShows cells log} shows.each (λ m x y held lost is. record {
         node_shows = lost_shows log m x.node y.node lost is.node_shows;
-        tickets = subst (λ (z : List (Open Shown) × List Held). HoldsTickets (printed log) m z.0 z.1) (λ i. (sym (same_tickets m x.node y.node lost) i, (sym held i).items)) is.tickets;
+        tickets = subst (λ (z : List (Open Shown) × List HeldTicket). HoldsTickets (printed log) m z.0 z.1) (λ i. (sym (same_tickets m x.node y.node lost) i, (sym held i).items)) is.tickets;
       });
       handed = shows.handed;
     }

@@ -46,7 +46,7 @@ use Rattle.searcher_switch.specs.Appearing.{NoneAppears}
 use Rattle.primary_state.specs.Held.{IsHeld, AreUndrawn, AreNumbered}
 use Rattle.primary_state.specs.Calls.{IsOpenedOn}
 use Rattle.primary_state.proofs.Callers.{empty_numbered}
-use Rattle.cluster_nodes.specs.declared.held.Held.{Held}
+use Rattle.cluster_nodes.specs.declared.held.HeldTicket.{HeldTicket}
 use Rattle.cluster_nodes.specs.declared.nodes.Node.TheVariants.{Primary, Replica, Down}
 use Rattle.cluster_nodes.specs.declared.nodes.Place.{Place}
 use Rattle.cluster_nodes.specs.Places.{place_of, unwrapped, disk_at}
@@ -156,7 +156,7 @@ module _ {D : Type 0} (cells : D → Cells) where
   }
 
   -- it is the replica of a number above 1
-  pub first_replica : (n : ℕ) (r : ReplicaParts D) (held : Vec Held Global) → n ≢ 1 → held.items ≡ [] → IsOpening cells r → PlaceShows cells [] n (record { node = Replica r; held = held })
+  pub first_replica : (n : ℕ) (r : ReplicaParts D) (held : Vec HeldTicket Global) → n ≢ 1 → held.items ≡ [] → IsOpening cells r → PlaceShows cells [] n (record { node = Replica r; held = held })
   first_replica n r held other none is = record {
     node_shows = record {
       running = refl;
@@ -166,7 +166,7 @@ module _ {D : Type 0} (cells : D → Cells) where
       point = opening_point r is;
       seen = let same : r.seen.0 ≡ 1 = ap (λ (g : Gen). g.0) is.seen ∙ ap (λ (i : Infos). i.generation.0) is.infos in omega (arith, same);
     };
-    tickets = subst (λ (rows : List Held). HoldsTickets [] n r.searchers.tickets rows) (sym none) (nothing_held n r.searchers.tickets);
+    tickets = subst (λ (rows : List HeldTicket). HoldsTickets [] n r.searchers.tickets rows) (sym none) (nothing_held n r.searchers.tickets);
   }
 
   -- the opening point, where nothing has happened
@@ -307,18 +307,18 @@ module _ {D : Type 0} (cells : D → Cells) where
     dir = tt;
   }
 
-  pub first_place : (p : PrimaryParts D) (held : Vec Held Global) → held.items ≡ [] → PrimaryShows cells [] 1 p → PlaceShows cells [] 1 (record { node = Primary p; held = held })
+  pub first_place : (p : PrimaryParts D) (held : Vec HeldTicket Global) → held.items ≡ [] → PrimaryShows cells [] 1 p → PlaceShows cells [] 1 (record { node = Primary p; held = held })
   first_place p held none shows = record {
     node_shows = shows;
-    tickets = subst (λ (rows : List Held). HoldsTickets [] 1 p.searchers.tickets rows) (sym none) (nothing_held 1 p.searchers.tickets);
+    tickets = subst (λ (rows : List HeldTicket). HoldsTickets [] 1 p.searchers.tickets rows) (sym none) (nothing_held 1 p.searchers.tickets);
   }
 
-  pub opens_primary : (n : ℕ) (p : PrimaryParts D) (held : Vec Held Global) (x : Node D) → n ≡ 1 → x ≡ Primary p → held.items ≡ [] → PrimaryShows cells [] 1 p → PrimaryFiles (λ q. None) cells [] (λ s. 0) p
+  pub opens_primary : (n : ℕ) (p : PrimaryParts D) (held : Vec HeldTicket Global) (x : Node D) → n ≡ 1 → x ≡ Primary p → held.items ≡ [] → PrimaryShows cells [] 1 p → PrimaryFiles (λ q. None) cells [] (λ s. 0) p
       → NamesShow cells [] (Primary p) → IsUncommitted p.commits → OpensPlace cells n (record { node = x; held = held })
   opens_primary n p held x one is none shows files named commits =
       subst (λ (y : ℕ × Node D). OpensPlace cells y.0 (record { node = y.1; held = held })) (λ i. (sym one i, sym is i)) (record { shows = first_place p held none shows; files = files; named = named; disk = no_commits 1 p.commits commits; idle = refl; uncopied = refl })
 
-  pub opens_replica : (n : ℕ) (r : ReplicaParts D) (held : Vec Held Global) (x : Node D) → n ≢ 1 → x ≡ Replica r → held.items ≡ [] → IsOpening cells r → OpensPlace cells n (record { node = x; held = held })
+  pub opens_replica : (n : ℕ) (r : ReplicaParts D) (held : Vec HeldTicket Global) (x : Node D) → n ≢ 1 → x ≡ Replica r → held.items ≡ [] → IsOpening cells r → OpensPlace cells n (record { node = x; held = held })
   opens_replica n r held x other is none opening =
       subst (λ (y : Node D). OpensPlace cells n (record { node = y; held = held })) (sym is)
       (record { shows = first_replica n r held other none opening; files = replica_files n r opening; named = opening_names r opening; disk = no_commits n r.commits opening.commits; idle = ap want_of opening.job; uncopied = opening.copies })

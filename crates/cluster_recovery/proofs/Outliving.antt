@@ -14,7 +14,7 @@ use Rattle.replica_state.specs.Jobs.{stopped_job}
 use Rattle.history_rules.specs.Nodes.{Past, IsNode, is_at}
 use Rattle.history_tables.proofs.RowLemmas.{by_test}
 use Rattle.history_book.specs.Log.{Log}
-use Rattle.cluster_nodes.specs.declared.held.Held.{Held}
+use Rattle.cluster_nodes.specs.declared.held.HeldTicket.{HeldTicket}
 use Rattle.cluster_nodes.specs.declared.nodes.Node.{Node}
 use Rattle.cluster_nodes.specs.declared.nodes.Node.TheVariants.{Primary, Replica, Down}
 use Rattle.cluster_nodes.specs.declared.nodes.Place.{Place}
@@ -35,7 +35,7 @@ use Rattle.cluster_state.proofs.JobMoves.{primary_place, replica_place}
 module _ {D : Type 0} (cells : D → Cells) where
   -- ---- what a node is
 
-  node_outlives : (log : Log) (m : ℕ) (crashed this : Bool) (state : Option Out) (x y : Node D) (held : Vec Held Global) → NodeOutlives cells crashed this state x y
+  node_outlives : (log : Log) (m : ℕ) (crashed this : Bool) (state : Option Out) (x y : Node D) (held : Vec HeldTicket Global) → NodeOutlives cells crashed this state x y
       → PlaceShows cells log m (record { node = x; held = held }) → PlaceShows cells log m (record { node = y; held = held })
   node_outlives log m true this state (Replica r) (Replica s) held out was =
       let same : s.seen.0 ≡ r.seen.0 = ap (λ (g : Gen). g.0) out.seen in
@@ -54,7 +54,7 @@ module _ {D : Type 0} (cells : D → Cells) where
 
   pub place_outlives : (log : Log) (m : ℕ) (crashed this : Bool) (state : Option Out) (x y : Place D) → Outlives cells crashed this state x y → PlaceShows cells log m x → PlaceShows cells log m y
   place_outlives log m crashed this state x y out was =
-      node_outlives log m crashed this state x.node y.node y.held out.node (subst (λ (h : Vec Held Global). PlaceShows cells log m (record { node = x.node; held = h })) (sym out.held) was)
+      node_outlives log m crashed this state x.node y.node y.held out.node (subst (λ (h : Vec HeldTicket Global). PlaceShows cells log m (record { node = x.node; held = h })) (sym out.held) was)
 
   -- ---- its commits and its names
 
@@ -86,14 +86,14 @@ module _ {D : Type 0} (cells : D → Cells) where
 
   -- ---- its job
 
-  want_ends : (this : Bool) (state : Option Out) (x y : Node D) (held : Vec Held Global) → NodeOutlives cells true this state x y → want_at (Some (record { node = y; held = held })) ≡ None
+  want_ends : (this : Bool) (state : Option Out) (x y : Node D) (held : Vec HeldTicket Global) → NodeOutlives cells true this state x y → want_at (Some (record { node = y; held = held })) ≡ None
   want_ends this state (Replica r) (Replica s) held out = ap want_of out.stops ∙ stopped_want r.job
   want_ends this state (Replica r) (Primary q) held out = refl
   want_ends this state (Replica r) (Down e) held out = refl
   want_ends this state (Primary p) y held out = ap (λ (z : Node D). want_at (Some (record { node = z; held = held }))) out
   want_ends this state (Down d) y held out = ap (λ (z : Node D). want_at (Some (record { node = z; held = held }))) out
 
-  want_stays : (this : Bool) (state : Option Out) (x y : Node D) (one two : Vec Held Global) → NodeOutlives cells false this state x y → want_at (Some (record { node = y; held = two })) ≡ want_at (Some (record { node = x; held = one }))
+  want_stays : (this : Bool) (state : Option Out) (x y : Node D) (one two : Vec HeldTicket Global) → NodeOutlives cells false this state x y → want_at (Some (record { node = y; held = two })) ≡ want_at (Some (record { node = x; held = one }))
   want_stays true state (Primary p) (Primary q) one two out = refl
   want_stays true state (Primary p) (Replica s) one two out = absurd out
   want_stays true state (Primary p) (Down e) one two out = absurd out

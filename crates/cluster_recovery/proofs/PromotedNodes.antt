@@ -48,7 +48,7 @@ use Rattle.history_book.specs.Jobs.{last_job, job_at}
 use Rattle.history_book.specs.Turns.{AreInTurn}
 use Rattle.history_book.proofs.LineLaws.{flying}
 use Rattle.script_serving.specs.Refusals.{put_publishes}
-use Rattle.cluster_nodes.specs.declared.held.Held.{Held}
+use Rattle.cluster_nodes.specs.declared.held.HeldTicket.{HeldTicket}
 use Rattle.cluster_nodes.specs.declared.nodes.Node.{Node}
 use Rattle.cluster_nodes.specs.declared.nodes.Node.TheVariants.{Primary, Replica, Down}
 use Rattle.cluster_nodes.specs.declared.nodes.Place.{Place}
@@ -119,7 +119,7 @@ module _ {D : Type 0} (cells : D → Cells) where
       here : ReplicaHere cells files.source log n.0 places
       here = replica_here cells log size n.0 places shows files node (record { running = up; other = ap (λ (o : Option NodeNo). is_at o n.0) vacant })
 
-      able : {held : Vec Held Global} (r : ReplicaParts D) → Both cells files.source log (λ s. jobs_like places s size) n.0 (record { node = Replica r; held = held }) → CanPromote cells g forced r
+      able : {held : Vec HeldTicket Global} (r : ReplicaParts D) → Both cells files.source log (λ s. jobs_like places s size) n.0 (record { node = Replica r; held = held }) → CanPromote cells g forced r
       able r both =
           let point = both.1.point in
           let newer : r.infos.generation.0 < g.0 = (let old = point.generation in omega (arith, old, next)) in

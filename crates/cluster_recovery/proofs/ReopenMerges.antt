@@ -13,7 +13,7 @@ use Rattle.history_rules.specs.Nodes.{IsNode, is_running}
 use Rattle.history_book.specs.Log.{Log, printed, shown}
 use Rattle.merge_tasks.specs.Merging.{Sheet}
 use Rattle.merge_tasks.specs.Board.{Board}
-use Rattle.cluster_nodes.specs.declared.held.Held.{Held}
+use Rattle.cluster_nodes.specs.declared.held.HeldTicket.{HeldTicket}
 use Rattle.cluster_nodes.specs.declared.nodes.Node.{Node}
 use Rattle.cluster_nodes.specs.declared.nodes.Node.TheVariants.{Primary, Replica, Down}
 use Rattle.cluster_nodes.specs.declared.nodes.Place.{Place}
@@ -29,7 +29,7 @@ use Rattle.cluster_state.proofs.MergingStill.{one_keeps, stand_shown}
 
 module _ {D : Type 0} (cells : D → Cells) (log : Log) (n : ℕ) (s : ReplicaParts D) (down : is_running n (printed log) ≡ false) where
   -- neither it nor the node that was down has a job
-  reopened_want : (x : Node D) (held : Vec Held Global) → NodeShows cells log n x → s.job ≡ None → want_at (Some (record { node = Replica s; held = held })) ≡ want_at (Some (record { node = x; held = held }))
+  reopened_want : (x : Node D) (held : Vec HeldTicket Global) → NodeShows cells log n x → s.job ≡ None → want_at (Some (record { node = Replica s; held = held })) ≡ want_at (Some (record { node = x; held = held }))
   reopened_want (Primary p) held shows none = absurd (true≢false (sym shows.running ∙ down))
   reopened_want (Replica r) held shows none = absurd (true≢false (sym shows.running ∙ down))
   reopened_want (Down d) held shows none = ap want_of none

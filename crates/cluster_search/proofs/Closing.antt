@@ -8,7 +8,7 @@ use Rattle.history_rules.specs.Nodes.{Past, primary_of}
 use Rattle.history_rules.specs.Tickets.{open_ticket, IsTicketOf}
 use Rattle.nrt_base.specs.declared.numbers.At.{At}
 use Rattle.history_tables.proofs.RowLemmas.{by_test}
-use Rattle.cluster_nodes.specs.declared.held.Held.{Held}
+use Rattle.cluster_nodes.specs.declared.held.HeldTicket.{HeldTicket}
 use Rattle.cluster_nodes.specs.declared.held.HeldKey.{HeldKey}
 use Rattle.cluster_nodes.specs.declared.held.HeldKey.TheVariants.{Search}
 use Rattle.cluster_nodes.specs.Held.{same_key, held_number}
@@ -44,7 +44,7 @@ left_by P None m tickets after closed other is = subst (λ (ts : List (Open Show
 left_by P (Some number) m tickets after closed other is =
     subst (λ (ts : List (Open Shown)). IsSomeAnd (ticket_at m ts) P) (sym closed) (ticket_left P m number tickets (λ same. other (ap Some (sym same))) is)
 
-module _ (past now : Past) (n : ℕ) (key : HeldKey) (tickets after : List (Open Shown)) (held rows : List Held)
+module _ (past now : Past) (n : ℕ) (key : HeldKey) (tickets after : List (Open Shown)) (held rows : List HeldTicket)
     (closed : AreClosed (held_number held key) tickets after) (less : (k : HeldKey) → held_number rows k ≡ (if same_key key k then None else held_number held k)) where
   row_left : (k : HeldKey) → same_key key k ≡ false → held_number rows k ≡ held_number held k
   row_left k apart = less k ∙ ap (λ (b : Bool). if b then None else held_number held k) apart

@@ -18,7 +18,7 @@ use Rattle.history_book.specs.Log.{Log, printed}
 use Rattle.primary_state.specs.declared.parts.PrimaryParts.{PrimaryParts}
 use Rattle.primary_state.specs.declared.parts.Publish.{Publish}
 use Rattle.replica_state.specs.declared.parts.ReplicaParts.{ReplicaParts}
-use Rattle.cluster_nodes.specs.declared.held.Held.{Held}
+use Rattle.cluster_nodes.specs.declared.held.HeldTicket.{HeldTicket}
 use Rattle.cluster_nodes.specs.declared.held.HeldKey.{HeldKey}
 use Rattle.cluster_nodes.specs.declared.held.HeldKey.TheVariants.{Search}
 use Rattle.cluster_nodes.specs.declared.nodes.Node.{Node}
@@ -78,7 +78,7 @@ ticket_left P number gone (t ∷ ts) apart is =
 abbrev pub IsNewOr : Bool → ℕ → ℕ → Type 0 → Type 0
 IsNewOr same v w before = ((same ≡ true) × (w ≡ v)) ⊎ ((same ≡ false) × before)
 
-module _ (past now : Past) (n number v : ℕ) (key : HeldKey) (point : SearchPoint Shown) (tickets after : List (Open Shown)) (held rows : List Held)
+module _ (past now : Past) (n number v : ℕ) (key : HeldKey) (point : SearchPoint Shown) (tickets after : List (Open Shown)) (held rows : List HeldTicket)
     (fresh : is_some (ticket_at number tickets) ≡ false) (more : after ≡ tickets ++ record { number = number; point = point } ∷ [])
     (holds : (k : HeldKey) → held_number rows k ≡ (if same_key key k then Some number else held_number held k)) where
   new_there : (P : Open Shown → Type 0) → P (record { number = number; point = point }) → IsSomeAnd (ticket_at number after) P

@@ -16,7 +16,7 @@ use Rattle.history_rules.specs.Legal.{IsLegalPast}
 use Rattle.history_book.proofs.LineLaws.{opened_node}
 use Rattle.disk_model.specs.Disk.{Cells}
 use Rattle.history_book.specs.Log.{Log, printed}
-use Rattle.cluster_nodes.specs.declared.held.Held.{Held}
+use Rattle.cluster_nodes.specs.declared.held.HeldTicket.{HeldTicket}
 use Rattle.cluster_nodes.specs.declared.held.HeldKey.{HeldKey}
 use Rattle.cluster_nodes.specs.declared.nodes.Node.{Node}
 use Rattle.cluster_nodes.specs.declared.nodes.Node.TheVariants.{Primary, Replica, Down}
@@ -50,7 +50,7 @@ read_open past v lease (Some t) at stands is = record {
     moved : {v w : ℕ} {a b : List Shown} → v ≡ w → a ≡ b → StandForVersion past w b → StandForVersion past v a
     moved e f was = subst (λ (x : ℕ × List Shown). StandForVersion past x.0 x.1) (λ i. (sym e i, sym f i)) was
 
-read_held : (past : Past) (n v : ℕ) (key : HeldKey) (tickets : List (Open Shown)) (held : List Held) (lease : Lease Shown) (o : Option ℕ) → held_number held key ≡ o → HoldsTickets past n tickets held
+read_held : (past : Past) (n v : ℕ) (key : HeldKey) (tickets : List (Open Shown)) (held : List HeldTicket) (lease : Lease Shown) (o : Option ℕ) → held_number held key ≡ o → HoldsTickets past n tickets held
     → IsSomeAnd o (λ number. IsSomeAnd (ticket_at number tickets) (λ t. t.point.version.0 ≡ v)) → IsSomeAnd o (λ number. IfSome (ticket_at number tickets) (IsLeaseOf lease)) → ReadsAt past v lease
 read_held past n v key tickets held lease None is holds at under = absurd at
 read_held past n v key tickets held lease (Some number) is holds at under = read_open past v lease (ticket_at number tickets) at (holds.each key number is) under

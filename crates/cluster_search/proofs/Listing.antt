@@ -44,7 +44,7 @@ use Rattle.history_rules.specs.Legal.{KeepsRule}
 use Rattle.history_book.specs.Log.{Log, printed}
 use Rattle.merge_tasks.specs.Merging.{Sheet}
 use Rattle.history_book.specs.Laws.{IsFresh}
-use Rattle.cluster_nodes.specs.declared.held.Held.{Held}
+use Rattle.cluster_nodes.specs.declared.held.HeldTicket.{HeldTicket}
 use Rattle.cluster_nodes.specs.declared.nodes.Node.{Node}
 use Rattle.cluster_nodes.specs.declared.nodes.Node.TheVariants.{Primary, Replica, Down}
 use Rattle.cluster_nodes.specs.declared.nodes.Place.{Place}
@@ -137,7 +137,7 @@ module _ (past : Past) (cells : Cells) (names : List Name) (told : AreNamesOf ce
       let f = found is_documents_name point.names (named (some_segments (documents_at past v) point.readers stands.documents docs)) in
       listed is_documents_name names f.0 (told.told f.0 ∙ stand f.0 (among_times point.names f.0 (among_of point.names f.0 f.2))) f.1
 
-  may_list : (size : ℕ) (at : At) (n : NodeNo) (s : Searchers Shown) (held : List Held) (loose : List ℕ) → IsNode size n.0 → is_running n.0 past ≡ true → AreNamesShown past cells s.tickets loose → NamesDocuments s.point
+  may_list : (size : ℕ) (at : At) (n : NodeNo) (s : Searchers Shown) (held : List HeldTicket) (loose : List ℕ) → IsNode size n.0 → is_running n.0 past ≡ true → AreNamesShown past cells s.tickets loose → NamesDocuments s.point
       → IsPointAt past (version_of n.0 past) s.point → HoldsTickets past n.0 s.tickets held → ((q : Name) → 0 < times (searcher_names s) q → IsThere cells q)
       → (has_committed n.0 past ≡ true → (q : Name) × (is_commit_name q ≡ true) × IsThere cells q) → has_met_fault at past ≡ false → MayListFiles size past at n names
   may_list size at n s held loose node running shown point here holds stand made spared = record {
@@ -192,7 +192,7 @@ commit_there cells holdings others book node some = by book.last refl node.sound
     by (Some c) is stays some = (own_name c, own_is c stays.commit, node.whole.names (own_name c) ∙ known_counted holdings (own_name c) (held c is stays))
 
 module _ {D : Type 0} (cells : D → Cells) where
-  node_lists : (source : Name → Content) (size : ℕ) (log : Log) (at : At) (n : NodeNo) (x : Node D) (held : List Held) (names : List Name) → IsNode size n.0 → is_running n.0 (printed log) ≡ true → NodeShows cells log n.0 x → HoldsTickets (printed log) n.0 (tickets_of x) held
+  node_lists : (source : Name → Content) (size : ℕ) (log : Log) (at : At) (n : NodeNo) (x : Node D) (held : List HeldTicket) (names : List Name) → IsNode size n.0 → is_running n.0 (printed log) ≡ true → NodeShows cells log n.0 x → HoldsTickets (printed log) n.0 (tickets_of x) held
       → NamesShow cells (printed log) x → DiskShows source cells (printed log) n.0 (disk_of x) → AreNamesOf (cells (dir_of x)) names → has_met_fault at (printed log) ≡ false → MayListFiles size (printed log) at n names
   node_lists source size log at n (Primary p) held names node running shows holds shown disk told spared =
       may_list (printed log) (cells p.dir) names told size at n p.searchers held (loose_of p) node running shown (primary_named cells p shows.whole) shows.point holds

@@ -17,7 +17,7 @@ use Rattle.history_rules.specs.Tickets.{open_ticket, IsTicketOf}
 use Rattle.history_rules.specs.Legal.{KeepsRule, IsLegalPast}
 use Rattle.history_book.specs.Log.{Log, printed, shown}
 use Rattle.history_book.specs.Turns.{AreInTurn}
-use Rattle.cluster_nodes.specs.declared.held.Held.{Held}
+use Rattle.cluster_nodes.specs.declared.held.HeldTicket.{HeldTicket}
 use Rattle.cluster_nodes.specs.declared.held.HeldKey.{HeldKey}
 use Rattle.cluster_nodes.specs.declared.held.HeldKey.TheVariants.{Search}
 use Rattle.cluster_nodes.specs.declared.nodes.Node.{Node}
@@ -40,7 +40,7 @@ abbrev pub SearchesAfter : Past → Past → ℕ → HeldKey → ℕ → Type 0
 SearchesAfter past now n key v = (a : At) (w : ℕ) → IsSearching now a n w → IsNewOr (same_key key (Search a)) v w (IsSearching past a n w)
 
 module _ {D : Type 0} (cells : D → Cells) where
-  opened_on : (size : ℕ) (log : Log) (at : At) (n : NodeNo) (t : TicketNo) (v : Version) (key : HeldKey) (s : Searchers Shown) (after : List (Open Shown)) (held rows : List Held) (number : ℕ)
+  opened_on : (size : ℕ) (log : Log) (at : At) (n : NodeNo) (t : TicketNo) (v : Version) (key : HeldKey) (s : Searchers Shown) (after : List (Open Shown)) (held rows : List HeldTicket) (number : ℕ)
       → IsLegalPast size (printed log) → KeepsRule size (printed log) at (Opened n t v) → v.0 ≡ version_of n.0 (printed log)
       → is_some (ticket_at number s.tickets) ≡ false → after ≡ s.tickets ++ record { number = number; point = s.point } ∷ []
       → ((k : HeldKey) → held_number rows k ≡ (if same_key key k then Some number else held_number held k))
@@ -56,7 +56,7 @@ module _ {D : Type 0} (cells : D → Cells) where
       })
       opened searched was
 
-  opened_tickets : (size : ℕ) (log : Log) (at : At) (n : NodeNo) (t : TicketNo) (v : Version) (key : HeldKey) (x : Node D) (after : List (Open Shown)) (held rows : List Held) (number : ℕ)
+  opened_tickets : (size : ℕ) (log : Log) (at : At) (n : NodeNo) (t : TicketNo) (v : Version) (key : HeldKey) (x : Node D) (after : List (Open Shown)) (held rows : List HeldTicket) (number : ℕ)
       → IsLegalPast size (printed log) → KeepsRule size (printed log) at (Opened n t v) → v.0 ≡ version_of n.0 (printed log)
       → is_some (ticket_at number (tickets_of x)) ≡ false → IfSome (searchers_of x) (λ s. after ≡ s.tickets ++ record { number = number; point = s.point } ∷ [])
       → ((k : HeldKey) → held_number rows k ≡ (if same_key key k then Some number else held_number held k))

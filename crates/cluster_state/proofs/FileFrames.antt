@@ -32,7 +32,7 @@ use Rattle.history_book.specs.declared.inner.Inner.TheVariants.{FlushOut}
 use Rattle.history_book.specs.Jobs.{job_at}
 use Rattle.history_book.specs.Turns.{InTurn, AreInTurn}
 use Rattle.merge_tasks.specs.TaskLog.{carried_out}
-use Rattle.cluster_nodes.specs.declared.held.Held.{Held}
+use Rattle.cluster_nodes.specs.declared.held.HeldTicket.{HeldTicket}
 use Rattle.cluster_nodes.specs.declared.nodes.Node.{Node}
 use Rattle.cluster_nodes.specs.declared.nodes.Node.TheVariants.{Primary, Replica, Down}
 use Rattle.cluster_nodes.specs.declared.nodes.Place.{Place}
@@ -304,7 +304,7 @@ module _ {D : Type 0} (cells : D → Cells) where
       (live_low q.infos whole.numbered.generation whole.numbered.counter r live_gen small fits name refl (reads_of (cells q.dir)) q.infos.segs q.segs whole.numbered.segs whole.writer.stands.each (fills.named name uncounted some))
 
   -- the primary filled files which were not written yet
-  pub files_filled : (size : ℕ) (log now : Log) (old new : List (Option (Place D))) (n : ℕ) (p q : PrimaryParts D) (held : Vec Held Global) → FilesLast → Grows (printed log) (printed now) → CarriesNoMore log now
+  pub files_filled : (size : ℕ) (log now : Log) (old new : List (Option (Place D))) (n : ℕ) (p q : PrimaryParts D) (held : Vec HeldTicket Global) → FilesLast → Grows (printed log) (printed now) → CarriesNoMore log now
       → HoldsFrom cells (printed now) (Primary p) (Primary q) → ((m : ℕ) → is_at (primary_of (printed log)) m ≡ false → SameJob log now m)
       → ((m : ℕ) → CommitsStay (printed log) (printed now) m) → ((m : ℕ) → (n == m) ≡ false → is_at (primary_of (printed log)) m ≡ false)
       → MovesOne n (record { node = Primary q; held = held }) old new → IsNode size n → place_of old n ≡ Some (record { node = Primary p; held = held }) → FillsPrimaryFiles cells p q → PrimaryShows cells now n q
@@ -413,7 +413,7 @@ module _ {D : Type 0} (cells : D → Cells) where
       (was cells r ended b0.nodes b0.log old view running shows) (files_was r ended b0.nodes b0.log old view running files))
 
   -- the end of a publish, which wrote files
-  pub files_published : (r : Run) (ended : Bool) (b0 b1 b2 : Sheet) (old mid new : List (Option (Place D))) (at : At) (g : Gen) (v : Version) (n : NodeNo) (p q : PrimaryParts D) (held : Vec Held Global)
+  pub files_published : (r : Run) (ended : Bool) (b0 b1 b2 : Sheet) (old mid new : List (Option (Place D))) (at : At) (g : Gen) (v : Version) (n : NodeNo) (p q : PrimaryParts D) (held : Vec HeldTicket Global)
       → {left : Rest} → record { ended = ended; nodes = b0.nodes; log = b0.log; rest = left } ≡ r → r.ended ≡ false → (ended ≡ false → Shows cells b0.log b0.nodes old) → (ended ≡ false → FilesShow cells b0.log b0.nodes old)
       → b1.log ≡ b0.log → b1.nodes ≡ b0.nodes → b2.log ≡ shown at (Published g v) ∷ b1.log → b2.nodes ≡ b1.nodes → IsLegalPast b1.nodes (printed b1.log) → AreInTurn (printed b1.log)
       → KeepsRule r.nodes (printed r.log) at (Published g v) → InTurn (printed r.log) at (Published g v) → primary_of (printed r.log) ≡ Some n

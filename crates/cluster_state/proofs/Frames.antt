@@ -29,7 +29,7 @@ use Rattle.history_book.specs.Turns.{AreInTurn}
 use Rattle.primary_state.specs.declared.parts.PrimaryParts.{PrimaryParts}
 use Rattle.primary_state.specs.declared.parts.Publish.{Publish}
 use Rattle.replica_state.specs.declared.parts.ReplicaParts.{ReplicaParts}
-use Rattle.cluster_nodes.specs.declared.held.Held.{Held}
+use Rattle.cluster_nodes.specs.declared.held.HeldTicket.{HeldTicket}
 use Rattle.cluster_nodes.specs.declared.nodes.Node.{Node}
 use Rattle.cluster_nodes.specs.declared.nodes.Node.TheVariants.{Primary, Replica, Down}
 use Rattle.cluster_nodes.specs.declared.nodes.Place.{Place}
@@ -62,7 +62,7 @@ start_back at e past none = go (is_start e.event && same_at e.at at) none
 point_more : (past now : Past) (v w : ℕ) (p : SearchPoint Shown) → Lasts past now → w ≡ v → IsPointAt past v p → IsPointAt now w p
 point_more past now v w p g same was = record { version = was.version ∙ sym same; stands = subst (λ (k : ℕ). StandForVersion now k p.readers) (sym same) (g.stands v p.readers was.stands) }
 
-pub holds_same : (past now : Past) (n : ℕ) (tickets : List (Open Shown)) (held : List Held) → Lasts past now → Fewer past now n → HoldsTickets past n tickets held → HoldsTickets now n tickets held
+pub holds_same : (past now : Past) (n : ℕ) (tickets : List (Open Shown)) (held : List HeldTicket) → Lasts past now → Fewer past now n → HoldsTickets past n tickets held → HoldsTickets now n tickets held
 holds_same past now n tickets held g f was = record {
   each = λ key number is. some_then (ticket_at number tickets) (was.each key number is) (λ o stands. g.stands o.point.version.0 o.point.readers stands);
   apart = was.apart;

@@ -8,7 +8,7 @@ use Rattle.history_rules.specs.Nodes.{Past, generation_of, version_of}
 use Rattle.history_rules.specs.Lines.{publish_in_flight}
 use Rattle.history_book.specs.Log.{Log, printed, kept}
 use Rattle.history_book.specs.declared.inner.Inner.{Inner}
-use Rattle.cluster_nodes.specs.declared.held.Held.{Held}
+use Rattle.cluster_nodes.specs.declared.held.HeldTicket.{HeldTicket}
 use Rattle.cluster_nodes.specs.declared.nodes.Node.TheVariants.{Primary, Replica}
 use Rattle.cluster_nodes.specs.declared.nodes.Place.{Place}
 use Rattle.cluster_state.specs.Lookups.{Handed, handed_by, or_older, flush_out}
@@ -64,14 +64,14 @@ module _ {D : Type 0} (cells : D → Cells) where
     flight = subst (λ (x : PrimaryParts D). FlightShows log (publish_in_flight (printed log)) x.publish x.segs) (sym alters.others) was.flight;
   }
 
-  pub primary_place : (log : Log) (n : ℕ) (p q : PrimaryParts D) (held : Vec Held Global) → AltersStates cells p q → PlaceShows cells log n (record { node = Primary p; held = held }) → PlaceShows cells log n (record { node = Primary q; held = held })
+  pub primary_place : (log : Log) (n : ℕ) (p q : PrimaryParts D) (held : Vec HeldTicket Global) → AltersStates cells p q → PlaceShows cells log n (record { node = Primary p; held = held }) → PlaceShows cells log n (record { node = Primary q; held = held })
   primary_place log n p q held alters was = record {
     node_shows = primary_altered log n p q alters was.node_shows;
     tickets = subst (λ (x : PrimaryParts D). HoldsTickets (printed log) n x.searchers.tickets held.items) (sym alters.others) was.tickets;
   }
 
   -- a replica that has seen no later generation than the present one
-  pub replica_place : (log : Log) (n : ℕ) (r s : ReplicaParts D) (held : Vec Held Global) → AltersJob cells r s → s.seen.0 ≤ generation_of (printed log) → PlaceShows cells log n (record { node = Replica r; held = held })
+  pub replica_place : (log : Log) (n : ℕ) (r s : ReplicaParts D) (held : Vec HeldTicket Global) → AltersJob cells r s → s.seen.0 ≤ generation_of (printed log) → PlaceShows cells log n (record { node = Replica r; held = held })
       → PlaceShows cells log n (record { node = Replica s; held = held })
   replica_place log n r s held alters seen was = record {
     node_shows = record {

@@ -29,7 +29,7 @@ use Rattle.merge_tasks.specs.declared.tasks.OpenMerge.{OpenMerge}
 use Rattle.merge_tasks.specs.TaskLog.{inputs_out, leaves_merges, is_drained}
 use Rattle.merge_tasks.specs.Board.{Board, open_merge, TasksShow}
 use Rattle.merge_tasks.proofs.TaskFrames.{tasks_still}
-use Rattle.cluster_nodes.specs.declared.held.Held.{Held}
+use Rattle.cluster_nodes.specs.declared.held.HeldTicket.{HeldTicket}
 use Rattle.cluster_nodes.specs.declared.nodes.Node.{Node}
 use Rattle.cluster_nodes.specs.declared.nodes.Node.TheVariants.{Primary, Replica, Down}
 use Rattle.cluster_nodes.specs.declared.nodes.Place.{Place}
@@ -205,7 +205,7 @@ module _ {D : Type 0} (cells : D → Cells) where
 
   -- ---- publishes and promotions
 
-  module _ (size : ℕ) (log : Log) (cut : Bool) (board : Board) (old new : List (Option (Place D))) (n : ℕ) (q : PrimaryParts D) (held : Vec Held Global) (moves_one : MovesOne n (record { node = Primary q; held = held }) old new) (node : IsNode size n)
+  module _ (size : ℕ) (log : Log) (cut : Bool) (board : Board) (old new : List (Option (Place D))) (n : ℕ) (q : PrimaryParts D) (held : Vec HeldTicket Global) (moves_one : MovesOne n (record { node = Primary q; held = held }) old new) (node : IsNode size n)
       (shows : Shows cells log size old) (was : MergesStand log cut size board old) where
     abbrev jobs_was : Out → ℕ
     jobs_was s = jobs_like old s size
@@ -226,7 +226,7 @@ module _ {D : Type 0} (cells : D → Cells) where
         (λ m z at apart both. others_stand now after m z.node (away m apart) both.0.node_shows both.1) mine
 
     -- a publish has ended: what was cut over is in the point
-    pub stand_published : (at : At) (g : Gen) (v : Version) (p : PrimaryParts D) (before : Vec Held Global) → place_of old n ≡ Some (record { node = Primary p; held = before }) → is_at (primary_of (printed log)) n ≡ true
+    pub stand_published : (at : At) (g : Gen) (v : Version) (p : PrimaryParts D) (before : Vec HeldTicket Global) → place_of old n ≡ Some (record { node = Primary p; held = before }) → is_at (primary_of (printed log)) n ≡ true
         → q.has_cut_over ≡ false → q.merges ≡ p.merges → q.states ≡ p.states → MergesStand (shown at (Published g v) ∷ log) false size board new
     stand_published at g v p before there primary uncut merges states = record {
       tasks = tasks_still size log board at (Published g v) refl was.tasks;
@@ -280,7 +280,7 @@ module _ {D : Type 0} (cells : D → Cells) where
         }
 
   -- the same of a publish in the terms of a call
-  pub put_published : (board : Board) (r : Run) (ended : Bool) (b0 b1 b2 : Sheet) (old mid new : List (Option (Place D))) (n : NodeNo) (p q : PrimaryParts D) (held : Vec Held Global) (at : At) (g : Gen) (v : Version) {rest : Rest}
+  pub put_published : (board : Board) (r : Run) (ended : Bool) (b0 b1 b2 : Sheet) (old mid new : List (Option (Place D))) (n : NodeNo) (p q : PrimaryParts D) (held : Vec HeldTicket Global) (at : At) (g : Gen) (v : Version) {rest : Rest}
       → record { ended = ended; nodes = b0.nodes; log = b0.log; rest = rest } ≡ r → r.ended ≡ false → (ended ≡ false → Shows cells b0.log b0.nodes old) → b1.log ≡ b0.log → b1.nodes ≡ b0.nodes
       → b2.log ≡ shown at (Published g v) ∷ b1.log → b2.nodes ≡ b1.nodes → b2.cut ≡ false → IsNode r.nodes n.0 → primary_of (printed r.log) ≡ Some n → PutsBack cells old mid new n.0 (record { node = Primary q; held = held })
       → place_of old n.0 ≡ Some (record { node = Primary p; held = held }) → q.has_cut_over ≡ false → q.merges ≡ p.merges → q.states ≡ p.states → MergesStand b0.log b0.cut b0.nodes board old → MergesStand b2.log b2.cut b2.nodes board new

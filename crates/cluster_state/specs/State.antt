@@ -22,7 +22,7 @@ use Rattle.primary_state.specs.declared.parts.Publish.{Publish}
 use Rattle.primary_state.specs.Primary.{IsPrimary}
 use Rattle.replica_state.specs.declared.parts.ReplicaParts.{ReplicaParts}
 use Rattle.replica_state.specs.Replica.{IsWholeReplica, AreStanding}
-use Rattle.cluster_nodes.specs.declared.held.Held.{Held}
+use Rattle.cluster_nodes.specs.declared.held.HeldTicket.{HeldTicket}
 use Rattle.cluster_nodes.specs.declared.held.HeldKey.{HeldKey}
 use Rattle.cluster_nodes.specs.declared.held.HeldKey.TheVariants.{Ticket, Search}
 use Rattle.cluster_nodes.specs.declared.nodes.Node.{Node}
@@ -53,7 +53,7 @@ IsOpenOn past tickets number =
     IsSomeAnd (ticket_at number tickets) (λ o. StandForVersion past o.point.version.0 o.point.readers)
 
 -- a ticket is held for this, on the point of this version
-abbrev pub HoldsAt : List (Open Shown) → List Held → HeldKey → ℕ → Type 0
+abbrev pub HoldsAt : List (Open Shown) → List HeldTicket → HeldKey → ℕ → Type 0
 HoldsAt tickets held key v =
     IsSomeAnd (held_number held key) (λ number. IsSomeAnd (ticket_at number tickets) (λ o. o.point.version.0 ≡ v))
 
@@ -63,7 +63,7 @@ ticket_key lane t = Ticket (record { 0 = lane }) (record { 0 = t })
 
 -- Each ticket that is held is open at the node, and no two are one; those that lanes have at the node are held, and so is one
 -- for each search of it.
-pub record HoldsTickets (past : Past) (n : ℕ) (tickets : List (Open Shown)) (held : List Held) : Type 0 where
+pub record HoldsTickets (past : Past) (n : ℕ) (tickets : List (Open Shown)) (held : List HeldTicket) : Type 0 where
   pub each : (key : HeldKey) (number : ℕ) → held_number held key ≡ Some number → IsOpenOn past tickets number
   pub apart : (a b : HeldKey) (number : ℕ) → held_number held a ≡ Some number → held_number held b ≡ Some number → same_key a b ≡ true
   pub opened : (lane t v : ℕ) → IsTicketOf n v (open_ticket lane t past) → HoldsAt tickets held (ticket_key lane t) v

@@ -10,7 +10,7 @@ use Rattle.seg_merge.specs.declared.task.Merged.{Merged}
 use Rattle.primary_state.specs.declared.parts.PrimaryParts.{PrimaryParts}
 use Rattle.primary_state.specs.declared.parts.PublishFault.{PublishFault}
 use Rattle.cluster_nodes.specs.Given.{IsMadeFor}
-use Rattle.cluster_nodes.specs.declared.held.Held.{Held}
+use Rattle.cluster_nodes.specs.declared.held.HeldTicket.{HeldTicket}
 use Rattle.cluster_nodes.specs.declared.nodes.Node.TheVariants.{Primary, Replica, Down}
 use Rattle.cluster_nodes.specs.declared.nodes.Place.{Place}
 use Rattle.cluster_nodes.specs.Places.{place_of, IsSlot, HasPrimary}
@@ -27,13 +27,13 @@ module _ {D : Type 0} where
   pub record IsPrimaryIn (P : PrimaryParts D → Type 0) (p : ℕ) (places : List (Option (Place D))) : Type 0 where
     pub slot : IsSlot places p
     pub primary : HasPrimary (place_of places p)
-    pub may : (q : PrimaryParts D) (held : Vec Held Global) → place_of places p ≡ Some (record { node = Primary q; held = held }) → P q
+    pub may : (q : PrimaryParts D) (held : Vec HeldTicket Global) → place_of places p ≡ Some (record { node = Primary q; held = held }) → P q
 
   -- the same of a replica
   pub record IsReplicaIn (P : ReplicaParts D → Type 0) (n : ℕ) (places : List (Option (Place D))) : Type 0 where
     pub slot : IsSlot places n
     pub replica : HasReplica (place_of places n)
-    pub may : (r : ReplicaParts D) (held : Vec Held Global) → place_of places n ≡ Some (record { node = Replica r; held = held }) → P r
+    pub may : (r : ReplicaParts D) (held : Vec HeldTicket Global) → place_of places n ≡ Some (record { node = Replica r; held = held }) → P r
 
   -- the primary in this place moved so, and no other node did
   pub record MovesPrimary (Step : PrimaryParts D → PrimaryParts D → Type 0) (p : ℕ) (old new : List (Option (Place D))) : Type 0 where
