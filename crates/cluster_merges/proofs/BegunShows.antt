@@ -37,7 +37,7 @@ use Rattle.primary_state.specs.Calls.{DrawsOnly, HoldsNoNew}
 use Rattle.primary_state.proofs.MergeLists.{loose_behind}
 use Rattle.cluster_nodes.specs.declared.held.HeldTicket.{HeldTicket}
 use Rattle.cluster_nodes.specs.declared.nodes.Node.TheVariants.{Primary}
-use Rattle.cluster_nodes.specs.declared.nodes.Place.{Place}
+use Rattle.cluster_nodes.specs.declared.nodes.NodePlace.{NodePlace}
 use Rattle.cluster_nodes.specs.Places.{place_of}
 use Rattle.cluster_nodes.specs.JobPlaces.{MovesOne}
 use Rattle.cluster_nodes.specs.KeptFiles.{KeepsNodeFiles}
@@ -118,7 +118,7 @@ module _ {D : Type 0} (cells : D → Cells) (size : ℕ) (log : Log) (at : At) (
           (holds_same (printed log) (printed (shown at (MergingEvent seg) ∷ log)) n p.searchers.tickets held.items (lasts size (printed log) at (MergingEvent seg) legal rule) (fewer (printed log) at (MergingEvent seg) n refl) was.tickets);
     }
 
-    module _ (held : Vec HeldTicket Global) (old new : List (Option (Place D))) (moves : MovesOne n (record { node = Primary q; held = held }) old new) (node : IsNode size n) (there : place_of old n ≡ Some (record { node = Primary p; held = held }))
+    module _ (held : Vec HeldTicket Global) (old new : List (Option (NodePlace D))) (moves : MovesOne n (record { node = Primary q; held = held }) old new) (node : IsNode size n) (there : place_of old n ≡ Some (record { node = Primary p; held = held }))
         (shows : Shows cells log size old) where
       shown_shows : ((m : ℕ) → (n == m) ≡ false → is_at (primary_of (printed log)) m ≡ false) → Shows cells (shown at (MergingEvent seg) ∷ log) size new
       shown_shows others = record {

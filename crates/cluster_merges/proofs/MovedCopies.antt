@@ -31,7 +31,7 @@ use Rattle.merge_tasks.specs.Merging.{Sheet}
 use Rattle.merge_tasks.specs.Board.{Board}
 use Rattle.cluster_nodes.specs.declared.held.HeldTicket.{HeldTicket}
 use Rattle.cluster_nodes.specs.declared.nodes.Node.TheVariants.{Replica}
-use Rattle.cluster_nodes.specs.declared.nodes.Place.{Place}
+use Rattle.cluster_nodes.specs.declared.nodes.NodePlace.{NodePlace}
 use Rattle.cluster_nodes.specs.Places.{place_of}
 use Rattle.cluster_nodes.specs.Outs.{want_of, jobs_like}
 use Rattle.cluster_nodes.specs.JobPlaces.{MovesOne}
@@ -68,7 +68,7 @@ module _ {D : Type 0} (cells : D → Cells) where
     pub appears : AppearsOnly (MayHaveName past) (cells r.dir) (cells s.dir)
     pub runs : RunsNoOther r.copies.running s.copies.running
 
-  module _ (size : ℕ) (log : Log) (old new : List (Option (Place D))) (n : ℕ) (r s : ReplicaParts D) (held : Vec HeldTicket Global) (moves : MovesOne n (record { node = Replica s; held = held }) old new) (node : IsNode size n)
+  module _ (size : ℕ) (log : Log) (old new : List (Option (NodePlace D))) (n : ℕ) (r s : ReplicaParts D) (held : Vec HeldTicket Global) (moves : MovesOne n (record { node = Replica s; held = held }) old new) (node : IsNode size n)
       (there : place_of old n ≡ Some (record { node = Replica r; held = held })) (shows : Shows cells log size old) (files : FilesShow cells log size old) (w : MovesCopies files.source (printed log) r s) where
     place_moved : PlaceShows cells log n (record { node = Replica r; held = held }) → PlaceShows cells log n (record { node = Replica s; held = held })
     place_moved was = record {
@@ -99,10 +99,10 @@ module _ {D : Type 0} (cells : D → Cells) where
       carried = files.carried;
     }
       where
-        x : Place D
+        x : NodePlace D
         x = record { node = Replica s; held = held }
 
-        y : Place D
+        y : NodePlace D
         y = record { node = Replica r; held = held }
 
         jobs : Out → ℕ
@@ -133,7 +133,7 @@ module _ {D : Type 0} (cells : D → Cells) where
         }
 
   -- all of it
-  pub copies_path : (b : Sheet) (board : Board) (old new : List (Option (Place D))) (n : ℕ) (r s : ReplicaParts D) (held : Vec HeldTicket Global) → MovesOne n (record { node = Replica s; held = held }) old new → IsNode b.nodes n
+  pub copies_path : (b : Sheet) (board : Board) (old new : List (Option (NodePlace D))) (n : ℕ) (r s : ReplicaParts D) (held : Vec HeldTicket Global) → MovesOne n (record { node = Replica s; held = held }) old new → IsNode b.nodes n
       → place_of old n ≡ Some (record { node = Replica r; held = held }) → (all : AllShown cells b board old) → MovesCopies all.1.source (printed b.log) r s → AllShown cells b board new
   copies_path b board old new n r s held moves node there all w = (
     moved_shows b.nodes b.log old new n r s held moves node there all.0 all.1 w,

@@ -33,7 +33,7 @@ use Rattle.history_rules.specs.Lines.{publish_in_flight}
 use Rattle.history_book.specs.Log.{Log, printed}
 use Rattle.cluster_nodes.specs.declared.held.HeldTicket.{HeldTicket}
 use Rattle.cluster_nodes.specs.declared.nodes.Node.TheVariants.{Primary}
-use Rattle.cluster_nodes.specs.declared.nodes.Place.{Place}
+use Rattle.cluster_nodes.specs.declared.nodes.NodePlace.{NodePlace}
 use Rattle.cluster_nodes.specs.Places.{place_of}
 use Rattle.cluster_nodes.specs.Outs.{states_like}
 use Rattle.cluster_nodes.specs.JobPlaces.{MovesOne}
@@ -130,7 +130,7 @@ module _ {D : Type 0} (cells : D → Cells) where
       no_merge : None ≡ Some w.merges.m → ⊥
       no_merge e = absurd (cc)
 
-  pub shows_written : (size : ℕ) (log : Log) (old new : List (Option (Place D))) (n : ℕ) (merged : Merged) (state : CopyState) (p q : PrimaryParts D) (held : Vec HeldTicket Global)
+  pub shows_written : (size : ℕ) (log : Log) (old new : List (Option (NodePlace D))) (n : ℕ) (merged : Merged) (state : CopyState) (p q : PrimaryParts D) (held : Vec HeldTicket Global)
       → MovesOne n (record { node = Primary q; held = held }) old new → IsNode size n → place_of old n ≡ Some (record { node = Primary p; held = held }) → ReadiesMerge cells merged state p q → Shows cells log size old → Shows cells log size new
   shows_written size log old new n merged state p q held moves node there w was = record {
     some = was.some;

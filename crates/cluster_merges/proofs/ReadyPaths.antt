@@ -46,7 +46,7 @@ use Rattle.merge_tasks.proofs.BoardRows.{open_with, with_last}
 use Rattle.cluster_nodes.specs.declared.held.HeldTicket.{HeldTicket}
 use Rattle.cluster_nodes.specs.declared.nodes.Node.{Node}
 use Rattle.cluster_nodes.specs.declared.nodes.Node.TheVariants.{Primary, Replica, Down}
-use Rattle.cluster_nodes.specs.declared.nodes.Place.{Place}
+use Rattle.cluster_nodes.specs.declared.nodes.NodePlace.{NodePlace}
 use Rattle.cluster_nodes.specs.Places.{place_of}
 use Rattle.cluster_nodes.specs.JobChanges.{HasReplica}
 use Rattle.cluster_nodes.specs.Outs.{states_like, jobs_like}
@@ -101,7 +101,7 @@ unwritten_row seg rows is = by (open_merge seg rows) refl is
     by None e is = absurd (true≢false (sym is))
     by (Some r) e is = of_row r e r.spread refl is
 
-module _ {D : Type 0} (cells : D → Cells) (r : Run) (b : Sheet) (board : Board) (old : List (Option (Place D))) (p : NodeNo) (seg : SegNo) (merged : Merged) {was cut : Bool} {calls : List ℕ} {sizes : List (Option ℕ)} {copies : List (List MergedCopy)} {jobs : List JobFiles} {plans : List Plans}
+module _ {D : Type 0} (cells : D → Cells) (r : Run) (b : Sheet) (board : Board) (old : List (Option (NodePlace D))) (p : NodeNo) (seg : SegNo) (merged : Merged) {was cut : Bool} {calls : List ℕ} {sizes : List (Option ℕ)} {copies : List (List MergedCopy)} {jobs : List JobFiles} {plans : List Plans}
     (view : record { ended = was; nodes = b.nodes; log = b.log; rest = record { calls_left = calls; cut = cut; sizes = sizes; jobs = jobs; copies = copies; tasks = board; plans = plans } } ≡ r) (running : r.ended ≡ false) (invariant : was ≡ false → AllShown cells b board old)
     (asked_node : IsNode r.nodes p.0) (asked_primary : primary_of (printed r.log) ≡ Some p) (asked_row : is_unwritten (open_merge seg.0 r.rest.tasks.rows) ≡ true) (asked_merged : IsMergedOut r.log seg merged) where
   all : AllShown cells b board old
@@ -175,7 +175,7 @@ module _ {D : Type 0} (cells : D → Cells) (r : Run) (b : Sheet) (board : Board
       of_node (Replica r) held showing = tt
       of_node (Down d) held showing = absurd (true≢false (sym is.running ∙ showing.down))
 
-      by : (o : Option (Place D)) → IsSomeAnd o (PlaceShows cells b.log n) → HasReplica o
+      by : (o : Option (NodePlace D)) → IsSomeAnd o (PlaceShows cells b.log n) → HasReplica o
       by None none = absurd none
       by (Some z) shown = of_node z.node z.held shown.node_shows
 
@@ -184,7 +184,7 @@ module _ {D : Type 0} (cells : D → Cells) (r : Run) (b : Sheet) (board : Board
 
   -- ---- once the files are written
 
-  module _ (state : CopyState) (new : List (Option (Place D))) (moved : MovesPrimary (ReadiesMerge cells merged state) p.0 old new) where
+  module _ (state : CopyState) (new : List (Option (NodePlace D))) (moved : MovesPrimary (ReadiesMerge cells merged state) p.0 old new) where
     abbrev q : PrimaryParts D
     q = moved.at.parts
 
@@ -254,7 +254,7 @@ module _ {D : Type 0} (cells : D → Cells) (r : Run) (b : Sheet) (board : Board
           may_one : (n : NodeNo) → IsNode b.nodes n.0 × IsReplica (printed b.log) n.0 → IsReplicaIn (MaySend state) n.0 new
           may_one n is = record {
             slot = (is.0.0, subst (λ (k : ℕ). n.0 ≤ k) (sym (moved.moves.count ∙ all.0.count)) is.0.1);
-            replica = subst (λ (o : Option (Place D)). HasReplica o) (sym same) (replica_there n.0 is.0 is.1);
+            replica = subst (λ (o : Option (NodePlace D)). HasReplica o) (sym same) (replica_there n.0 is.0 is.1);
             may = λ r held there. may_send n.0 r held is.0 (sym same ∙ there);
           }
             where
@@ -286,7 +286,7 @@ module _ {D : Type 0} (cells : D → Cells) (r : Run) (b : Sheet) (board : Board
             outs : (o : Out) → jobs_like old o b.nodes ≤ states_like o s.states
             outs o = let least = files.outs o in let more = written_outs cells merged state q s moved.step o in omega (arith, least, more)
 
-        module _ (sent : List Sent) (last : Board) (places : List (Option (Place D))) (sends : SendsAll cells seg.0 copy nodes sent after last new places) where
+        module _ (sent : List Sent) (last : Board) (places : List (Option (NodePlace D))) (sends : SendsAll cells seg.0 copy nodes sent after last new places) where
           -- the row has the copies
           sent_at : spread_at (open_merge seg.0 last.rows) ≡ Some (spread_to copy sent)
           sent_at = spread_with after.rows last.rows seg.0 (spread_to copy []) (spread_to copy sent) written_at sends.rows

@@ -9,7 +9,7 @@ ghost use Rattle.cluster_nodes.specs.KeptFiles.{KeepsNodeFiles};
 ghost use Rattle.cluster_nodes.specs.Changes.{KeepsNode, OpensTicket, HoldsMore, HoldsLess, HoldsTicket, IsLeaseUnder};
 
 use crate::held::{HeldTicket, HeldKey, hold, let_go, number_held};
-use crate::nodes::{Node, Place};
+use crate::nodes::{Node, NodePlace};
 use disk_model::Dir;
 use nrt_base::{NoMemory, NodeNo};
 use primary_state::{Lease, Ticket};
@@ -53,7 +53,7 @@ fn release<D: Dir + Drop>(node: &mut Node<D>, number: u64)
 /// Holds a ticket of a running node for this.
 pub fn hold_ticket<D: Dir + Drop>(
     alloc: Global,
-    place: &mut Place<D>,
+    place: &mut NodePlace<D>,
     key: HeldKey,
 ) -> Result<(), NoMemory>
     requires { IsSome (searchers_of place.old.node) }
@@ -84,7 +84,7 @@ fn lease_of<D: Dir + Drop>(
 }
 
 /// Gives back the ticket that is held for this, if one is.
-pub fn give_ticket_back<D: Dir + Drop>(place: &mut Place<D>, key: HeldKey)
+pub fn give_ticket_back<D: Dir + Drop>(place: &mut NodePlace<D>, key: HeldKey)
     requires { IfSome (held_number place.old.held.items key)
         (λ number. is_some (ticket_at number (tickets_of place.old.node)) ≡ true) }
     ensures keeps { KeepsNode D.cells place.old.node place.new.node }
@@ -101,7 +101,7 @@ pub fn give_ticket_back<D: Dir + Drop>(place: &mut Place<D>, key: HeldKey)
 // What a search reads under the ticket that a node holds for this.
 fn lease_under<D: Dir + Drop>(
     alloc: Global,
-    place: &Place<D>,
+    place: &NodePlace<D>,
     key: HeldKey,
 ) -> Result<Lease<Segment>, NoMemory>
     requires { HoldsTicket (Some place.now) key }
@@ -116,7 +116,7 @@ fn lease_under<D: Dir + Drop>(
 /// What a search reads under the ticket that the node in this place holds for this.
 pub fn lease_in<D: Dir + Drop>(
     alloc: Global,
-    places: &Vec<Option<Place<D>>>,
+    places: &Vec<Option<NodePlace<D>>>,
     n: NodeNo,
     key: HeldKey,
 ) -> Result<Lease<Segment>, NoMemory>

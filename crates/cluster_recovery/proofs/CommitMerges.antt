@@ -16,7 +16,7 @@ use Rattle.merge_tasks.specs.TaskLog.{leaves_merges}
 use Rattle.cluster_nodes.specs.declared.held.HeldTicket.{HeldTicket}
 use Rattle.cluster_nodes.specs.declared.nodes.Node.{Node}
 use Rattle.cluster_nodes.specs.declared.nodes.Node.TheVariants.{Primary, Replica, Down}
-use Rattle.cluster_nodes.specs.declared.nodes.Place.{Place}
+use Rattle.cluster_nodes.specs.declared.nodes.NodePlace.{NodePlace}
 use Rattle.cluster_nodes.specs.Outs.{want_of, want_at}
 use Rattle.cluster_nodes.specs.Commits.{AltersCommits, CommitsIn}
 use Rattle.cluster_state.specs.Run.{Run, Rest}
@@ -46,7 +46,7 @@ module _ {D : Type 0} (cells : D → Cells) (Step : Infos → CommitBook → Com
   commit_leaves (Replica r) (Down e) alters jobs count low = absurd alters
   commit_leaves (Down d) y alters jobs count low = absurd alters
 
-  module _ (r : Run) (ended : Bool) (b0 b1 : Sheet) (board : Board) (old new : List (Option (Place D))) (n : ℕ) {rest : Rest} (view : record { ended = ended; nodes = b0.nodes; log = b0.log; rest = rest } ≡ r)
+  module _ (r : Run) (ended : Bool) (b0 b1 : Sheet) (board : Board) (old new : List (Option (NodePlace D))) (n : ℕ) {rest : Rest} (view : record { ended = ended; nodes = b0.nodes; log = b0.log; rest = rest } ≡ r)
       (e1 : b1.log ≡ b0.log) (n1 : b1.nodes ≡ b0.nodes) (c1 : b1.cut ≡ b0.cut) (node : IsNode r.nodes n) (commits : CommitsIn Step cells n old new) (was : MergesStand b0.log b0.cut b0.nodes board old) where
     all_leave : KeepAllMerges b0.nodes old new
     all_leave = one_keeps b0.nodes board b0.log b0.cut old new n (record { node = commits.node; held = commits.place.held }) commits.place commits.moves (asked_size (λ (k : ℕ). IsNode k n) view refl node) commits.there

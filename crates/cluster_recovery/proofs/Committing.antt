@@ -43,7 +43,7 @@ use Rattle.history_book.proofs.FoundLaws.{commit_found}
 use Rattle.cluster_nodes.specs.declared.held.HeldTicket.{HeldTicket}
 use Rattle.cluster_nodes.specs.declared.nodes.Node.{Node}
 use Rattle.cluster_nodes.specs.declared.nodes.Node.TheVariants.{Primary, Replica, Down}
-use Rattle.cluster_nodes.specs.declared.nodes.Place.{Place}
+use Rattle.cluster_nodes.specs.declared.nodes.NodePlace.{NodePlace}
 use Rattle.cluster_nodes.specs.Places.{Disk, place_of, disk_of, disk_at, tickets_of}
 use Rattle.cluster_nodes.specs.Outs.{want_of, want_at, jobs_like, states_like}
 use Rattle.cluster_nodes.specs.Commits.{HasStageAt, StepsBook, AltersCommits, CommitsIn}
@@ -308,17 +308,17 @@ module _ (source : Name → Content) (size : ℕ) (past : Past) (at : At) (n : N
 -- ---- all nodes
 
 module _ {D : Type 0} (cells : D → Cells) where
-  disk_some : (P : Disk D → Type 0) (o : Option (Place D)) → IsSomeAnd (disk_at o) P → IsSomeAnd o (λ z. P (disk_of z.node))
+  disk_some : (P : Disk D → Type 0) (o : Option (NodePlace D)) → IsSomeAnd (disk_at o) P → IsSomeAnd o (λ z. P (disk_of z.node))
   disk_some P None is = is
   disk_some P (Some z) is = is
 
-  some_disk : (P : Disk D → Type 0) (o : Option (Place D)) → IsSomeAnd o (λ z. P (disk_of z.node)) → IsSomeAnd (disk_at o) P
+  some_disk : (P : Disk D → Type 0) (o : Option (NodePlace D)) → IsSomeAnd o (λ z. P (disk_of z.node)) → IsSomeAnd (disk_at o) P
   some_disk P None is = is
   some_disk P (Some z) is = is
 
-  module _ (Step : Infos → CommitBook → CommitBook → Type 0) (size : ℕ) (log now : Log) (old new : List (Option (Place D))) (n : ℕ) (b : CommitsIn Step cells n old new) (node : IsNode size n)
+  module _ (Step : Infos → CommitBook → CommitBook → Type 0) (size : ℕ) (log now : Log) (old new : List (Option (NodePlace D))) (n : ℕ) (b : CommitsIn Step cells n old new) (node : IsNode size n)
       (shows : Shows cells log size old) (files : FilesShow cells log size old) (grows : Grows (printed log) (printed now)) (same_job : (m : ℕ) → is_at (primary_of (printed log)) m ≡ false → SameJob log now m)
-      (points : PointsStay (printed log) (printed now)) (stay : (m : ℕ) → (n == m) ≡ false → CommitsStay (printed log) (printed now) m) (places : (m : ℕ) (z : Place D) → PlaceShows cells log m z → PlaceShows cells now m z)
+      (points : PointsStay (printed log) (printed now)) (stay : (m : ℕ) → (n == m) ≡ false → CommitsStay (printed log) (printed now) m) (places : (m : ℕ) (z : NodePlace D) → PlaceShows cells log m z → PlaceShows cells now m z)
       (handed : (a : At) → start_entry a (printed now) ≡ None → flush_out a now ≡ None)
       (book : (infos : Infos) (c d : CommitBook) → IsPastPoint files.source (printed log) infos → infos.version.0 ≡ version_of n (printed log) → Step infos c d → BookShows files.source (printed log) n c → BookShows files.source (printed now) n d) where
     abbrev jobs : Out → ℕ
@@ -327,7 +327,7 @@ module _ {D : Type 0} (cells : D → Cells) where
     abbrev count : Out → ℕ
     count s = jobs_like new s size
 
-    abbrev here : Place D
+    abbrev here : NodePlace D
     here = record { node = b.node; held = b.place.held }
 
     both : Both cells files.source log jobs n b.place
@@ -370,7 +370,7 @@ module _ {D : Type 0} (cells : D → Cells) where
   -- ---- the commit in flight
 
   stage_there : (source : Name → Content) (P : Option Stage → Type 0) (log : Log) (n : ℕ) (a : Option At) → commit_in_flight n (printed log) ≡ a → ((s : Option Stage) → StageShows source (printed log) n a s → P s) → is_running n (printed log) ≡ true
-      → (o : Option (Place D)) → IsSomeAnd o (PlaceShows cells log n) → IsSomeAnd (disk_at o) (DiskShows source cells (printed log) n) → HasStageAt P o
+      → (o : Option (NodePlace D)) → IsSomeAnd o (PlaceShows cells log n) → IsSomeAnd (disk_at o) (DiskShows source cells (printed log) n) → HasStageAt P o
   stage_there source P log n a is has up None shows disk = absurd shows
   stage_there source P log n a is has up (Some z) shows disk = node z.node shows.node_shows disk
     where
@@ -403,7 +403,7 @@ may_at r ended b0 at n v view may = subst (λ (x : Run). MayCommit x.nodes (prin
 pub turn_at : (r : Run) (ended : Bool) (b0 b1 : Sheet) (at : At) (n : NodeNo) (v : Version) → {left : Rest} → record { ended = ended; nodes = b0.nodes; log = b0.log; rest = left } ≡ r → b1.log ≡ b0.log → commit_in_flight n.0 (printed r.log) ≡ Some at → InTurn (printed b1.log) at (Committed n v)
 turn_at r ended b0 b1 at n v view e1 flight = record { once = tt; flight = ap (λ (l : Log). commit_in_flight n.0 (printed l)) (e1 ∙ ap (λ (x : Run). x.log) view) ∙ flight }
 
-module _ {D : Type 0} (cells : D → Cells) (r : Run) (ended : Bool) (b0 : Sheet) (old : List (Option (Place D))) (at : At) (n : NodeNo)
+module _ {D : Type 0} (cells : D → Cells) (r : Run) (ended : Bool) (b0 : Sheet) (old : List (Option (NodePlace D))) (at : At) (n : NodeNo)
     {left : Rest} (view : record { ended = ended; nodes = b0.nodes; log = b0.log; rest = left } ≡ r) (running : r.ended ≡ false) (pair : ended ≡ false → Shows cells b0.log b0.nodes old × FilesShow cells b0.log b0.nodes old)
     (node : IsNode r.nodes n.0) (up : is_running n.0 (printed r.log) ≡ true) where
   shows : Shows cells r.log r.nodes old
@@ -435,14 +435,14 @@ module _ {D : Type 0} (cells : D → Cells) (r : Run) (ended : Bool) (b0 : Sheet
     pub may_begin_commit : IsFresh at (printed b0.log) → v.0 ≡ version_of n.0 (printed r.log) → commit_in_flight n.0 (printed r.log) ≡ None → KeepsRule r.nodes (printed r.log) at (Committing n v)
     may_begin_commit fresh version none = record { node = node; running = up; searched = version; alone = rw none refl; spared = (past_has (IsFresh at) r ended b0 view fresh).spared }
 
-    pub begin_commit_path : (new : List (Option (Place D))) → CommitsIn HasBegun cells n.0 old new → (b1 b2 : Sheet) → b1.log ≡ b0.log → b1.nodes ≡ b0.nodes → b2.log ≡ shown at (Committing n v) ∷ b1.log → b2.nodes ≡ b1.nodes
+    pub begin_commit_path : (new : List (Option (NodePlace D))) → CommitsIn HasBegun cells n.0 old new → (b1 b2 : Sheet) → b1.log ≡ b0.log → b1.nodes ≡ b0.nodes → b2.log ≡ shown at (Committing n v) ∷ b1.log → b2.nodes ≡ b1.nodes
         → IsFresh at (printed b0.log) → v.0 ≡ version_of n.0 (printed r.log) → commit_in_flight n.0 (printed r.log) ≡ None → Shows cells b2.log b2.nodes new × FilesShow cells b2.log b2.nodes new
     begin_commit_path new b b1 b2 e1 n1 e2 n2 fresh version none =
         let rule = may_begin_commit fresh version none in
         let fresh_now : IsFresh at (printed r.log) = past_has (IsFresh at) r ended b0 view fresh in
         let turn : InTurn (printed r.log) at (Committing n v) = fresh_turn (printed r.log) at (Committing n v) fresh_now tt in
         let now : Log = shown at (Committing n v) ∷ r.log in
-        let places = λ (m : ℕ) (z : Place D) (has : PlaceShows cells r.log m z). place_same cells r.log (shown at (Committing n v) ∷ r.log) m z
+        let places = λ (m : ℕ) (z : NodePlace D) (has : PlaceShows cells r.log m z). place_same cells r.log (shown at (Committing n v) ∷ r.log) m z
         (same r.nodes m (printed r.log) at (Committing n v) legal_now turns_now rule (λ here. not_flying r.nodes (printed r.log) at legal_now turns_now (unstarted fresh_now)) refl)
         (fewer (printed r.log) at (Committing n v) m refl) (λ a h is. is) has in
         let stay = λ (m : ℕ) (apart : (n.0 == m) ≡ false). commits_shown (printed r.log) at m r.nodes (Committing n v) legal_now turns_now rule turn (ap not apart) (fresh_flights r.nodes (printed r.log) at legal_now turns_now fresh_now.begun m) in
@@ -461,13 +461,13 @@ module _ {D : Type 0} (cells : D → Cells) (r : Run) (ended : Bool) (b0 : Sheet
         unstarted fresh is = absurd (let both : None ≡ Some Publishing = sym fresh.begun ∙ is in cc)
 
     -- a call that is not the last
-    go_path : (new : List (Option (Place D))) → CommitsIn (StepsBook false) cells n.0 old new → (b1 : Sheet) → b1.log ≡ b0.log → b1.nodes ≡ b0.nodes → Shows cells b1.log b1.nodes new × FilesShow cells b1.log b1.nodes new
+    go_path : (new : List (Option (NodePlace D))) → CommitsIn (StepsBook false) cells n.0 old new → (b1 : Sheet) → b1.log ≡ b0.log → b1.nodes ≡ b0.nodes → Shows cells b1.log b1.nodes new × FilesShow cells b1.log b1.nodes new
     go_path new b b1 e1 n1 =
         let log : b1.log ≡ r.log = e1 ∙ ap (λ (x : Run). x.log) view in
         let size : b1.nodes ≡ r.nodes = n1 ∙ ap (λ (x : Run). x.nodes) view in
         let book = λ (infos : Infos) (c d : CommitBook) (point : IsPastPoint files.source (printed r.log) infos) (is : infos.version.0 ≡ version_of n.0 (printed r.log)) (steps : StepsBook false infos c d) (has : BookShows files.source (printed r.log) n.0 c).
         book_goes files.source r.nodes (printed r.log) at n v legal_now infos c d steps has in
-        let places = λ (m : ℕ) (z : Place D) (has : PlaceShows cells r.log m z). has in
+        let places = λ (m : ℕ) (z : NodePlace D) (has : PlaceShows cells r.log m z). has in
         let stay = λ (m : ℕ) (apart : (n.0 == m) ≡ false). commits_alone (printed r.log) m in
         let jobs = λ (m : ℕ) (other : is_at (primary_of (printed r.log)) m ≡ false). job_stays r.log m in (
           now_is cells r.log b1.log r.nodes b1.nodes new log size
@@ -476,17 +476,17 @@ module _ {D : Type 0} (cells : D → Cells) (r : Run) (ended : Bool) (b0 : Sheet
               (commit_files cells (StepsBook false) r.nodes r.log r.log old new n.0 b node shows files (grows_none (printed r.log)) jobs (points_alone (printed r.log)) stay places (λ a none. shows.handed a none) book (λ q bytes out. out)),
         )
 
-    pub go_commit_path : (done : Bool) → done ≡ false → (new : List (Option (Place D))) → CommitsIn (StepsBook done) cells n.0 old new → (b1 : Sheet) → b1.log ≡ b0.log → b1.nodes ≡ b0.nodes → Shows cells b1.log b1.nodes new × FilesShow cells b1.log b1.nodes new
+    pub go_commit_path : (done : Bool) → done ≡ false → (new : List (Option (NodePlace D))) → CommitsIn (StepsBook done) cells n.0 old new → (b1 : Sheet) → b1.log ≡ b0.log → b1.nodes ≡ b0.nodes → Shows cells b1.log b1.nodes new × FilesShow cells b1.log b1.nodes new
     go_commit_path true is new b b1 e1 n1 = absurd (true≢false is)
     go_commit_path false is new b b1 e1 n1 = go_path new b b1 e1 n1
 
     -- the last call
-    end_path : (new : List (Option (Place D))) → CommitsIn (StepsBook true) cells n.0 old new → (b1 b2 : Sheet) → b1.log ≡ b0.log → b1.nodes ≡ b0.nodes → b2.log ≡ shown at (Committed n v) ∷ b1.log → b2.nodes ≡ b1.nodes
+    end_path : (new : List (Option (NodePlace D))) → CommitsIn (StepsBook true) cells n.0 old new → (b1 b2 : Sheet) → b1.log ≡ b0.log → b1.nodes ≡ b0.nodes → b2.log ≡ shown at (Committed n v) ∷ b1.log → b2.nodes ≡ b1.nodes
         → MayCommit b0.nodes (printed b0.log) at n v → commit_in_flight n.0 (printed r.log) ≡ Some at → start_entry at (printed r.log) ≡ Some (Committing n v) → Shows cells b2.log b2.nodes new × FilesShow cells b2.log b2.nodes new
     end_path new b b1 b2 e1 n1 e2 n2 may flight started =
         let rule : KeepsRule r.nodes (printed r.log) at (Committed n v) = subst (λ (x : Run). MayCommit x.nodes (printed x.log) at n v) view may in
         let turn : InTurn (printed r.log) at (Committed n v) = record { once = tt; flight = flight } in
-        let places = λ (m : ℕ) (z : Place D) (has : PlaceShows cells r.log m z). place_same cells r.log (shown at (Committed n v) ∷ r.log) m z
+        let places = λ (m : ℕ) (z : NodePlace D) (has : PlaceShows cells r.log m z). place_same cells r.log (shown at (Committed n v) ∷ r.log) m z
         (same r.nodes m (printed r.log) at (Committed n v) legal_now turns_now rule (λ here. not_flying r.nodes (printed r.log) at legal_now turns_now (commits started)) refl)
         (fewer (printed r.log) at (Committed n v) m refl) (λ a h is. is) has in
         let stay = λ (m : ℕ) (apart : (n.0 == m) ≡ false). commits_shown (printed r.log) at m r.nodes (Committed n v) legal_now turns_now rule turn (ap not apart) (elsewhere m apart started) in
@@ -513,7 +513,7 @@ module _ {D : Type 0} (cells : D → Cells) (r : Run) (ended : Bool) (b0 : Sheet
             let both : Some (Committing n v) ≡ Some (Committing (record { 0 = m }) found.version) = sym started ∙ found.entry in
             absurd (true≢false (sym (eq-eqb n.0 m (at_node m found.version both)) ∙ apart))
 
-    pub end_commit_path : (done : Bool) → done ≡ true → (new : List (Option (Place D))) → CommitsIn (StepsBook done) cells n.0 old new → (b1 b2 : Sheet) → b1.log ≡ b0.log → b1.nodes ≡ b0.nodes → b2.log ≡ shown at (Committed n v) ∷ b1.log → b2.nodes ≡ b1.nodes
+    pub end_commit_path : (done : Bool) → done ≡ true → (new : List (Option (NodePlace D))) → CommitsIn (StepsBook done) cells n.0 old new → (b1 b2 : Sheet) → b1.log ≡ b0.log → b1.nodes ≡ b0.nodes → b2.log ≡ shown at (Committed n v) ∷ b1.log → b2.nodes ≡ b1.nodes
         → MayCommit b0.nodes (printed b0.log) at n v → commit_in_flight n.0 (printed r.log) ≡ Some at → start_entry at (printed r.log) ≡ Some (Committing n v) → Shows cells b2.log b2.nodes new × FilesShow cells b2.log b2.nodes new
     end_commit_path true is new b b1 b2 e1 n1 e2 n2 may flight started = end_path new b b1 b2 e1 n1 e2 n2 may flight started
     end_commit_path false is new b b1 b2 e1 n1 e2 n2 may flight started = absurd (true≢false (sym is))

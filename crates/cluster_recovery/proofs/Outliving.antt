@@ -17,7 +17,7 @@ use Rattle.history_book.specs.Log.{Log}
 use Rattle.cluster_nodes.specs.declared.held.HeldTicket.{HeldTicket}
 use Rattle.cluster_nodes.specs.declared.nodes.Node.{Node}
 use Rattle.cluster_nodes.specs.declared.nodes.Node.TheVariants.{Primary, Replica, Down}
-use Rattle.cluster_nodes.specs.declared.nodes.Place.{Place}
+use Rattle.cluster_nodes.specs.declared.nodes.NodePlace.{NodePlace}
 use Rattle.cluster_nodes.specs.Places.{place_of, disk_of}
 use Rattle.cluster_nodes.specs.Outs.{want_of, want_at}
 use Rattle.cluster_state.proofs.FileJobs.{stopped_want}
@@ -52,7 +52,7 @@ module _ {D : Type 0} (cells : D → Cells) where
   node_outlives log m false true state (Down d) y held out was = absurd out
   node_outlives log m false false state x y held out was = subst (λ (z : Node D). PlaceShows cells log m (record { node = z; held = held })) (sym out) was
 
-  pub place_outlives : (log : Log) (m : ℕ) (crashed this : Bool) (state : Option Out) (x y : Place D) → Outlives cells crashed this state x y → PlaceShows cells log m x → PlaceShows cells log m y
+  pub place_outlives : (log : Log) (m : ℕ) (crashed this : Bool) (state : Option Out) (x y : NodePlace D) → Outlives cells crashed this state x y → PlaceShows cells log m x → PlaceShows cells log m y
   place_outlives log m crashed this state x y out was =
       node_outlives log m crashed this state x.node y.node y.held out.node (subst (λ (h : Vec HeldTicket Global). PlaceShows cells log m (record { node = x.node; held = h })) (sym out.held) was)
 
@@ -102,36 +102,36 @@ module _ {D : Type 0} (cells : D → Cells) where
   want_stays false state x y one two out = ap (λ (z : Node D). want_at (Some (record { node = z; held = two }))) out
 
   -- no job is left where the primary crashed
-  pub wants_end : (this : Bool) (state : Option Out) (o new : Option (Place D)) → PlaceOutlives cells true this state o new → want_at new ≡ None
+  pub wants_end : (this : Bool) (state : Option Out) (o new : Option (NodePlace D)) → PlaceOutlives cells true this state o new → want_at new ≡ None
   wants_end this state None new is = ap want_at is
   wants_end this state (Some x) None is = absurd is
   wants_end this state (Some x) (Some y) is = want_ends this state x.node y.node y.held is.node
 
   -- each has its job where another crashed
-  pub wants_stay : (this : Bool) (state : Option Out) (o new : Option (Place D)) → PlaceOutlives cells false this state o new → want_at new ≡ want_at o
+  pub wants_stay : (this : Bool) (state : Option Out) (o new : Option (NodePlace D)) → PlaceOutlives cells false this state o new → want_at new ≡ want_at o
   wants_stay this state None new is = ap want_at is
   wants_stay this state (Some x) None is = absurd is
   wants_stay this state (Some x) (Some y) is = want_stays this state x.node y.node x.held y.held is.node
 
   -- ---- all of them
 
-  pub each_outlives : {P Q : ℕ → Place D → Type 0} (size : ℕ) (primary : Option NodeNo) (n : ℕ) (left : Place D) (old new : List (Option (Place D))) → place_of new n ≡ Some left → OthersOutlive cells primary n old new
+  pub each_outlives : {P Q : ℕ → NodePlace D → Type 0} (size : ℕ) (primary : Option NodeNo) (n : ℕ) (left : NodePlace D) (old new : List (Option (NodePlace D))) → place_of new n ≡ Some left → OthersOutlive cells primary n old new
       → ((m : ℕ) → IsNode size m → IsSomeAnd (place_of old m) (P m))
-      → ((m : ℕ) (x y : Place D) → IsNode size m → (n == m) ≡ false → Outlives cells (is_at primary n) (is_at primary m) (want_at (place_of old n)) x y → P m x → Q m y)
+      → ((m : ℕ) (x y : NodePlace D) → IsNode size m → (n == m) ≡ false → Outlives cells (is_at primary n) (is_at primary m) (want_at (place_of old n)) x y → P m x → Q m y)
       → Q n left → (m : ℕ) → IsNode size m → IsSomeAnd (place_of new m) (Q m)
   each_outlives {P = P} {Q = Q} size primary n left old new here others was step mine m node =
       by_test (n == m) (λ b. (n == m) ≡ b → IsSomeAnd (place_of new m) (Q m))
-      (λ same q. subst (λ (k : ℕ). IsSomeAnd (place_of new k) (Q k)) (eqb-true n m same) (subst (λ (o : Option (Place D)). IsSomeAnd o (Q n)) (sym here) mine))
+      (λ same q. subst (λ (k : ℕ). IsSomeAnd (place_of new k) (Q k)) (eqb-true n m same) (subst (λ (o : Option (NodePlace D)). IsSomeAnd o (Q n)) (sym here) mine))
       (λ apart q. found (place_of old m) apart (was m node) (others m apart))
       refl
     where
-      found : (o : Option (Place D)) → (n == m) ≡ false → IsSomeAnd o (P m) → PlaceOutlives cells (is_at primary n) (is_at primary m) (want_at (place_of old n)) o (place_of new m) → IsSomeAnd (place_of new m) (Q m)
+      found : (o : Option (NodePlace D)) → (n == m) ≡ false → IsSomeAnd o (P m) → PlaceOutlives cells (is_at primary n) (is_at primary m) (want_at (place_of old n)) o (place_of new m) → IsSomeAnd (place_of new m) (Q m)
       found None apart has out = absurd has
       found (Some x) apart has out = some_then (place_of new m) out (λ y lives. step m x y node apart lives has)
 
   -- ---- what is seen of jobs
 
-  files_outlive : (crashed this : Bool) (state : Option Out) (x y : Place D) → NodeOutlives cells crashed this state x.node y.node → place_files (Some y) ≡ place_files (Some x)
+  files_outlive : (crashed this : Bool) (state : Option Out) (x y : NodePlace D) → NodeOutlives cells crashed this state x.node y.node → place_files (Some y) ≡ place_files (Some x)
   files_outlive crashed this state x y = by crashed this x.node y.node
     where
       seen : Node D → JobFiles
@@ -158,7 +158,7 @@ module _ {D : Type 0} (cells : D → Cells) where
       by false false u v out = ap seen out
 
   -- what another node's job lacks and has is as before
-  pub jobs_outlive : (crashed this : Bool) (state : Option Out) (o new : Option (Place D)) → PlaceOutlives cells crashed this state o new → place_files new ≡ place_files o
+  pub jobs_outlive : (crashed this : Bool) (state : Option Out) (o new : Option (NodePlace D)) → PlaceOutlives cells crashed this state o new → place_files new ≡ place_files o
   jobs_outlive crashed this state None new is = ap place_files is
   jobs_outlive crashed this state (Some x) None is = absurd is
   jobs_outlive crashed this state (Some x) (Some y) is = files_outlive crashed this state x y is.node

@@ -22,7 +22,7 @@ use Rattle.history_rules.specs.Legal.{KeepsRule, IsLegalPast}
 use Rattle.history_book.specs.Log.{Log, printed, shown}
 use Rattle.history_book.specs.Turns.{AreInTurn}
 use Rattle.cluster_nodes.specs.declared.nodes.Node.{Node}
-use Rattle.cluster_nodes.specs.declared.nodes.Place.{Place}
+use Rattle.cluster_nodes.specs.declared.nodes.NodePlace.{NodePlace}
 use Rattle.cluster_nodes.specs.Places.{tickets_of}
 use Rattle.cluster_nodes.specs.Changes.{KeepsNode, ClosesTicket, HoldsLess}
 use Rattle.cluster_state.specs.Moves.{moves, EndsKey}
@@ -82,7 +82,7 @@ module _ {D : Type 0} (cells : D → Cells) where
   closes (Some number) x y closed = closed
 
   -- a node of which a ticket was given back
-  pub closed_place : (size : ℕ) (log : Log) (at : At) (e : Event) (n : ℕ) (key : HeldKey) (old new : Place D) → IsLegalPast size (printed log) → AreInTurn (printed log)
+  pub closed_place : (size : ℕ) (log : Log) (at : At) (e : Event) (n : ℕ) (key : HeldKey) (old new : NodePlace D) → IsLegalPast size (printed log) → AreInTurn (printed log)
       → KeepsRule size (printed log) at e → start_entry at (printed log) ≢ Some Publishing → moves e (primary_of (printed log)) n ≡ false
       → KeepsNode cells old.node new.node → HoldsLess key old new → EndsKey (printed log) (printed (shown at e ∷ log)) n key
       → PlaceShows cells log n old → PlaceShows cells (shown at e ∷ log) n new

@@ -47,7 +47,7 @@ use Rattle.history_book.specs.Laws.{IsFresh}
 use Rattle.cluster_nodes.specs.declared.held.HeldTicket.{HeldTicket}
 use Rattle.cluster_nodes.specs.declared.nodes.Node.{Node}
 use Rattle.cluster_nodes.specs.declared.nodes.Node.TheVariants.{Primary, Replica, Down}
-use Rattle.cluster_nodes.specs.declared.nodes.Place.{Place}
+use Rattle.cluster_nodes.specs.declared.nodes.NodePlace.{NodePlace}
 use Rattle.cluster_nodes.specs.Held.{held_number}
 use Rattle.cluster_nodes.specs.Places.{place_of, tickets_of, disk_of, disk_at, HasRunning}
 use Rattle.cluster_nodes.specs.Listed.{dir_of, AreNamesOf, AreNamesAt}
@@ -206,12 +206,12 @@ module _ {D : Type 0} (cells : D → Cells) where
       (λ is. commit_there (cells r.dir) r.files (replica_names r) r.commits shows.whole.node (disk.book.has is)) spared
   node_lists source size log at n (Down d) held names node running shows holds shown disk told spared = absurd (true≢false (sym running ∙ shows.down))
 
-  place_lists : (source : Name → Content) (size : ℕ) (log : Log) (at : At) (n : NodeNo) (o : Option (Place D)) (names : List Name) → IsNode size n.0 → is_running n.0 (printed log) ≡ true → IsSomeAnd o (PlaceShows cells log n.0)
+  place_lists : (source : Name → Content) (size : ℕ) (log : Log) (at : At) (n : NodeNo) (o : Option (NodePlace D)) (names : List Name) → IsNode size n.0 → is_running n.0 (printed log) ≡ true → IsSomeAnd o (PlaceShows cells log n.0)
       → IsSomeAnd o (λ z. NamesShow cells (printed log) z.node) → IsSomeAnd (disk_at o) (DiskShows source cells (printed log) n.0) → AreNamesAt cells o names → has_met_fault at (printed log) ≡ false → MayListFiles size (printed log) at n names
   place_lists source size log at n None names node running shows shown disk told spared = absurd shows
   place_lists source size log at n (Some x) names node running shows shown disk told spared = node_lists source size log at n x.node x.held.items names node running shows.node_shows shows.tickets shown disk told spared
 
-  running_place : (log : Log) (n : ℕ) (o : Option (Place D)) → is_running n (printed log) ≡ true → IsSomeAnd o (PlaceShows cells log n) → HasRunning o
+  running_place : (log : Log) (n : ℕ) (o : Option (NodePlace D)) → is_running n (printed log) ≡ true → IsSomeAnd o (PlaceShows cells log n) → HasRunning o
   running_place log n None running shows = absurd shows
   running_place log n (Some x) running shows = by x.node shows.node_shows
     where
@@ -222,11 +222,11 @@ module _ {D : Type 0} (cells : D → Cells) where
 
   -- ---- in the terms of a call
 
-  pub running_there : (r : Run) (ended : Bool) (size n : ℕ) (log : Log) (places : List (Option (Place D))) → {left : Rest} → record { ended = ended; nodes = size; log = log; rest = left } ≡ r → r.ended ≡ false
+  pub running_there : (r : Run) (ended : Bool) (size n : ℕ) (log : Log) (places : List (Option (NodePlace D))) → {left : Rest} → record { ended = ended; nodes = size; log = log; rest = left } ≡ r → r.ended ≡ false
       → (ended ≡ false → Shows cells log size places) → IsNode r.nodes n → is_running n (printed r.log) ≡ true → HasRunning (place_of places n)
   running_there r ended size n log places view running shows node up = running_place r.log n (place_of places n) up ((was cells r ended size log places view running shows).each n node)
 
-  pub may_tell : (r : Run) (ended : Bool) (b : Sheet) (places : List (Option (Place D))) (at : At) (n : NodeNo) (names : List Name) → {left : Rest} → record { ended = ended; nodes = b.nodes; log = b.log; rest = left } ≡ r → r.ended ≡ false
+  pub may_tell : (r : Run) (ended : Bool) (b : Sheet) (places : List (Option (NodePlace D))) (at : At) (n : NodeNo) (names : List Name) → {left : Rest} → record { ended = ended; nodes = b.nodes; log = b.log; rest = left } ≡ r → r.ended ≡ false
       → (ended ≡ false → Shows cells b.log b.nodes places × FilesShow cells b.log b.nodes places) → IsFresh at (printed b.log) → IsNode r.nodes n.0 → is_running n.0 (printed r.log) ≡ true → AreNamesAt cells (place_of places n.0) names
       → KeepsRule r.nodes (printed r.log) at (Files n names)
   may_tell r ended b places at n names view running pair fresh node up told =

@@ -22,7 +22,7 @@ use Rattle.cluster_nodes.specs.declared.held.HeldKey.{HeldKey}
 use Rattle.cluster_nodes.specs.declared.held.HeldKey.TheVariants.{Search}
 use Rattle.cluster_nodes.specs.declared.nodes.Node.{Node}
 use Rattle.cluster_nodes.specs.declared.nodes.Node.TheVariants.{Primary, Replica, Down}
-use Rattle.cluster_nodes.specs.declared.nodes.Place.{Place}
+use Rattle.cluster_nodes.specs.declared.nodes.NodePlace.{NodePlace}
 use Rattle.cluster_nodes.specs.Held.{same_key, held_number}
 use Rattle.cluster_state.specs.Lookups.{IsSearching}
 use Rattle.cluster_nodes.specs.Places.{searchers_of, tickets_of}
@@ -69,7 +69,7 @@ module _ {D : Type 0} (cells : D → Cells) where
   opened_tickets size log at n t v key (Down d) after held rows number legal keeps version fresh more holds opened searched shows was =
       absurd (true≢false (sym keeps.running ∙ shows.down))
 
-  pub opened_place : (size : ℕ) (log : Log) (at : At) (n : NodeNo) (t : TicketNo) (v : Version) (key : HeldKey) (old new : Place D)
+  pub opened_place : (size : ℕ) (log : Log) (at : At) (n : NodeNo) (t : TicketNo) (v : Version) (key : HeldKey) (old new : NodePlace D)
       → IsLegalPast size (printed log) → AreInTurn (printed log) → KeepsRule size (printed log) at (Opened n t v) → start_entry at (printed log) ≢ Some Publishing → v.0 ≡ version_of n.0 (printed log)
       → KeepsNode cells old.node new.node → HoldsMore key old new
       → TicketsAfter (printed log) (printed (shown at (Opened n t v) ∷ log)) n.0 key v.0 → SearchesAfter (printed log) (printed (shown at (Opened n t v) ∷ log)) n.0 key v.0

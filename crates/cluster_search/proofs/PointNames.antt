@@ -24,7 +24,7 @@ use Rattle.history_book.specs.Log.{Log}
 use Rattle.cluster_nodes.specs.declared.held.HeldKey.{HeldKey}
 use Rattle.cluster_nodes.specs.declared.nodes.Node.{Node}
 use Rattle.cluster_nodes.specs.declared.nodes.Node.TheVariants.{Primary, Replica, Down}
-use Rattle.cluster_nodes.specs.declared.nodes.Place.{Place}
+use Rattle.cluster_nodes.specs.declared.nodes.NodePlace.{NodePlace}
 use Rattle.cluster_nodes.specs.Held.{held_number}
 use Rattle.cluster_nodes.specs.Places.{tickets_of}
 use Rattle.cluster_nodes.specs.Changes.{KeepsNode, OpensTicket, HoldsMore, ClosesTicket, HoldsLess}
@@ -88,7 +88,7 @@ module _ {D : Type 0} (cells : D → Cells) where
       ]
 
   -- a ticket that is opened is on the point that is searched
-  pub opened_holds : (now : Past) (log : Log) (n : ℕ) (key : HeldKey) (x y : Place D) → NodeShows cells log n x.node → KeepsNode cells x.node y.node → HoldsMore key x y → HoldsFrom cells now x.node y.node
+  pub opened_holds : (now : Past) (log : Log) (n : ℕ) (key : HeldKey) (x y : NodePlace D) → NodeShows cells log n x.node → KeepsNode cells x.node y.node → HoldsMore key x y → HoldsFrom cells now x.node y.node
   opened_holds now log n key x y shows keeps holds = record {
     tickets = by x.node y.node holds.number holds.opens shows keeps;
     loose = λ seg held. inl (subst (λ (ns : List ℕ). Contains ns seg) (loose_kept x.node y.node keeps) held);
@@ -120,7 +120,7 @@ module _ {D : Type 0} (cells : D → Cells) where
       by true held rest = after held
       by false held rest = front held.0 held.1 held.2 rest
 
-  pub closed_holds : (now : Past) (key : HeldKey) (x y : Place D) → KeepsNode cells x.node y.node → HoldsLess key x y → HoldsFrom cells now x.node y.node
+  pub closed_holds : (now : Past) (key : HeldKey) (x y : NodePlace D) → KeepsNode cells x.node y.node → HoldsLess key x y → HoldsFrom cells now x.node y.node
   closed_holds now key x y keeps less = record {
     tickets = λ o held. inl (by (held_number x.held.items key) less.closed o held);
     loose = λ seg held. inl (subst (λ (ns : List ℕ). Contains ns seg) (loose_kept x.node y.node keeps) held);

@@ -14,7 +14,7 @@ use Rattle.history_book.specs.Log.{printed, shown}
 use Rattle.merge_tasks.specs.Merging.{Sheet}
 use Rattle.history_book.specs.Laws.{IsFresh}
 use Rattle.history_book.specs.Turns.{AreInTurn}
-use Rattle.cluster_nodes.specs.declared.nodes.Place.{Place}
+use Rattle.cluster_nodes.specs.declared.nodes.NodePlace.{NodePlace}
 use Rattle.cluster_nodes.specs.Places.{place_of}
 use Rattle.cluster_state.specs.Run.{Rest, Run}
 use Rattle.cluster_state.specs.State.{Shows}
@@ -29,7 +29,7 @@ use Rattle.cluster_search.proofs.TicketPaths.{may_ask}
 use Rattle.cluster_state.proofs.Turning.{fresh_turn, past_has}
 
 module _ {D : Type 0} (cells : D → Cells) where
-  pub opened_files : (r : Run) (ended : Bool) (b0 b1 b2 : Sheet) (old mid new : List (Option (Place D))) (at : At) (n : NodeNo) (t : TicketNo) (v : Version) (x y : Place D)
+  pub opened_files : (r : Run) (ended : Bool) (b0 b1 b2 : Sheet) (old mid new : List (Option (NodePlace D))) (at : At) (n : NodeNo) (t : TicketNo) (v : Version) (x y : NodePlace D)
       → {left : Rest} → record { ended = ended; nodes = b0.nodes; log = b0.log; rest = left } ≡ r → r.ended ≡ false → (ended ≡ false → Shows cells b0.log b0.nodes old) → (ended ≡ false → FilesShow cells b0.log b0.nodes old)
       → b1.log ≡ b0.log → b1.nodes ≡ b0.nodes → b2.log ≡ shown at (Opened n t v) ∷ b1.log → b2.nodes ≡ b1.nodes → IsLegalPast b1.nodes (printed b1.log) → AreInTurn (printed b1.log)
       → IsFresh at (printed b0.log) → KeepsRule r.nodes (printed r.log) at (Opened n t v)
@@ -40,7 +40,7 @@ module _ {D : Type 0} (cells : D → Cells) where
       (flights_of cells r ended b0 b1 at view e1 n1 legal turns (past_has (IsFresh at) r ended b0 view fresh).begun) put keeps.node there kept
       (opened_holds cells (printed (shown at (Opened n t v) ∷ r.log)) r.log n.0 key x y (place_at cells r ended b0.nodes n.0 b0.log old x view running shows keeps.node there).node_shows node holds)
 
-  pub ask_files : (r : Run) (ended : Bool) (b0 b1 b2 : Sheet) (places : List (Option (Place D))) (at : At) (t : TicketNo) (o : Opening)
+  pub ask_files : (r : Run) (ended : Bool) (b0 b1 b2 : Sheet) (places : List (Option (NodePlace D))) (at : At) (t : TicketNo) (o : Opening)
       → {left : Rest} → record { ended = ended; nodes = b0.nodes; log = b0.log; rest = left } ≡ r → r.ended ≡ false → (ended ≡ false → Shows cells b0.log b0.nodes places) → (ended ≡ false → FilesShow cells b0.log b0.nodes places)
       → b1.log ≡ b0.log → b1.nodes ≡ b0.nodes → b2.log ≡ shown at (Asking o.node t o.version) ∷ b1.log → b2.nodes ≡ b1.nodes → IsLegalPast b0.nodes (printed b0.log)
       → IsLegalPast b1.nodes (printed b1.log) → AreInTurn (printed b1.log) → IsFresh at (printed b0.log) → open_ticket at.lane.0 t.0 (printed r.log) ≡ Some (ticket_of o) → FilesShow cells b2.log b2.nodes places

@@ -10,7 +10,7 @@ use Rattle.history_book.specs.Log.{Log, printed, kept}
 use Rattle.history_book.specs.declared.inner.Inner.{Inner}
 use Rattle.cluster_nodes.specs.declared.held.HeldTicket.{HeldTicket}
 use Rattle.cluster_nodes.specs.declared.nodes.Node.TheVariants.{Primary, Replica}
-use Rattle.cluster_nodes.specs.declared.nodes.Place.{Place}
+use Rattle.cluster_nodes.specs.declared.nodes.NodePlace.{NodePlace}
 use Rattle.cluster_state.specs.Lookups.{Handed, handed_by, or_older, flush_out}
 use Rattle.cluster_state.specs.State.{IsPointAt, WritesAt, FlightShows, HoldsTickets, PrimaryShows, PlaceShows, Shows}
 use Rattle.cluster_state.specs.Moves.{Fewer, Same}
@@ -39,7 +39,7 @@ IsOfJob i = (at : At) → handed_by at i ≡ None
 
 module _ {D : Type 0} (cells : D → Cells) where
   -- an inner entry of a job
-  pub shows_kept : (size : ℕ) (log : Log) (i : Inner) (places : List (Option (Place D))) → IsOfJob i → Shows cells log size places → Shows cells (kept i ∷ log) size places
+  pub shows_kept : (size : ℕ) (log : Log) (i : Inner) (places : List (Option (NodePlace D))) → IsOfJob i → Shows cells log size places → Shows cells (kept i ∷ log) size places
   shows_kept size log i places of_job was =
       shows_still cells size log (kept i ∷ log) places (λ m. same_none (printed log) m) (λ m. fewer_none (printed log) m)
       (λ at h is. out at (flush_out at log) (Some h) is) (λ at none. out at (flush_out at log) None (was.handed at none)) was
@@ -87,7 +87,7 @@ module _ {D : Type 0} (cells : D → Cells) where
 
   -- ---- all of them
 
-  pub shows_put : (size : ℕ) (log : Log) (old new : List (Option (Place D))) (n : ℕ) (x : Place D) → MovesOne n x old new → PlaceShows cells log n x → Shows cells log size old → Shows cells log size new
+  pub shows_put : (size : ℕ) (log : Log) (old new : List (Option (NodePlace D))) (n : ℕ) (x : NodePlace D) → MovesOne n x old new → PlaceShows cells log n x → Shows cells log size old → Shows cells log size new
   shows_put size log old new n x moves mine was = record {
     some = was.some;
     count = moves.count ∙ was.count;
@@ -95,7 +95,7 @@ module _ {D : Type 0} (cells : D → Cells) where
     handed = was.handed;
   }
 
-  pub shows_both : (size : ℕ) (log : Log) (old new : List (Option (Place D))) (p n : ℕ) (x y : Place D) → MovesBoth p n x y old new → PlaceShows cells log p x → PlaceShows cells log n y → Shows cells log size old → Shows cells log size new
+  pub shows_both : (size : ℕ) (log : Log) (old new : List (Option (NodePlace D))) (p n : ℕ) (x y : NodePlace D) → MovesBoth p n x y old new → PlaceShows cells log p x → PlaceShows cells log n y → Shows cells log size old → Shows cells log size new
   shows_both size log old new p n x y moves first second was = record {
     some = was.some;
     count = moves.count ∙ was.count;

@@ -27,7 +27,7 @@ use Rattle.cluster_nodes.specs.declared.held.HeldKey.{HeldKey}
 use Rattle.cluster_nodes.specs.declared.held.HeldKey.TheVariants.{Ticket, Search}
 use Rattle.cluster_nodes.specs.declared.nodes.Node.{Node}
 use Rattle.cluster_nodes.specs.declared.nodes.Node.TheVariants.{Primary, Replica, Down}
-use Rattle.cluster_nodes.specs.declared.nodes.Place.{Place}
+use Rattle.cluster_nodes.specs.declared.nodes.NodePlace.{NodePlace}
 use Rattle.cluster_nodes.specs.Held.{same_key, held_number}
 use Rattle.cluster_state.specs.Lookups.{flush_out, IsSearching}
 use Rattle.cluster_nodes.specs.Places.{place_of, tickets_of}
@@ -123,12 +123,12 @@ module _ {D : Type 0} where
   NodeShows cells log n (Down d) = DownShows (printed log) n
 
   -- a node is what the log shows, and holds the tickets that it shows
-  pub record PlaceShows (cells : D → Cells) (log : Log) (n : ℕ) (place : Place D) : Type 0 where
+  pub record PlaceShows (cells : D → Cells) (log : Log) (n : ℕ) (place : NodePlace D) : Type 0 where
     pub node_shows : NodeShows cells log n place.node
     pub tickets : HoldsTickets (printed log) n (tickets_of place.node) place.held.items
 
   -- a cluster that has not ended: it has a node, each is in its place and is what the log shows, and only lines that started have work out
-  pub record Shows (cells : D → Cells) (log : Log) (size : ℕ) (places : List (Option (Place D))) : Type 0 where
+  pub record Shows (cells : D → Cells) (log : Log) (size : ℕ) (places : List (Option (NodePlace D))) : Type 0 where
     pub some : 1 ≤ size
     pub count : length places ≡ size
     pub each : (n : ℕ) → IsNode size n → IsSomeAnd (place_of places n) (PlaceShows cells log n)

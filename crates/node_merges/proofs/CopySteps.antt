@@ -25,7 +25,7 @@ use Rattle.replica_state.specs.Sources.{IsSourced, KeepsSource}
 use Rattle.cluster_nodes.specs.Given.{running_job, with_job, without_job}
 use Rattle.cluster_nodes.specs.declared.nodes.Node.{Node}
 use Rattle.cluster_nodes.specs.declared.nodes.Node.TheVariants.{Primary, Replica, Down}
-use Rattle.cluster_nodes.specs.declared.nodes.Place.{Place}
+use Rattle.cluster_nodes.specs.declared.nodes.NodePlace.{NodePlace}
 use Rattle.cluster_nodes.specs.JobChanges.{IsNextToFetch}
 use Rattle.history_tables.proofs.RowLemmas.{by_test}
 use Rattle.cluster_nodes.proofs.JobFiles.{wanted_meta}
@@ -161,15 +161,15 @@ CopyLaw D = (cells : D → Cells) (number : ℕ) (p : ReplicaParts D) (c : Job) 
 
 module _ {D : Type 0} where
   -- what is next to do at the node that is there
-  pub step_there : {E : Type 0} (result : Result CopyStep E) (seg number : ℕ) (o : Option (Place D)) (place : Place D) (r : ReplicaParts D) → o ≡ Some place → place.node ≡ Replica r
+  pub step_there : {E : Type 0} (result : Result CopyStep E) (seg number : ℕ) (o : Option (NodePlace D)) (place : NodePlace D) (r : ReplicaParts D) → o ≡ Some place → place.node ≡ Replica r
       → IfOk result (IsStepOf seg number r) → IfOk result (IsStepAt seg number o)
-  step_there result seg number o place r is there step = subst (λ (x : Option (Place D)). IfOk result (IsStepAt seg number x)) (sym (is ∙ ap (λ (z : Node D). Some (record place { node = z })) there)) step
+  step_there result seg number o place r is there step = subst (λ (x : Option (NodePlace D)). IfOk result (IsStepAt seg number x)) (sym (is ∙ ap (λ (z : Node D). Some (record place { node = z })) there)) step
 
-  pub gone_primary : (seg number : ℕ) (o : Option (Place D)) (place : Place D) (p : PrimaryParts D) → o ≡ Some place → place.node ≡ Primary p → IsStepAt seg number o Gone
-  gone_primary seg number o place p is there = subst (λ (x : Option (Place D)). IsStepAt seg number x Gone) (sym (is ∙ ap (λ (z : Node D). Some (record place { node = z })) there)) refl
+  pub gone_primary : (seg number : ℕ) (o : Option (NodePlace D)) (place : NodePlace D) (p : PrimaryParts D) → o ≡ Some place → place.node ≡ Primary p → IsStepAt seg number o Gone
+  gone_primary seg number o place p is there = subst (λ (x : Option (NodePlace D)). IsStepAt seg number x Gone) (sym (is ∙ ap (λ (z : Node D). Some (record place { node = z })) there)) refl
 
-  pub gone_down : (seg number : ℕ) (o : Option (Place D)) (place : Place D) (d : D) → o ≡ Some place → place.node ≡ Down d → IsStepAt seg number o Gone
-  gone_down seg number o place d is there = subst (λ (x : Option (Place D)). IsStepAt seg number x Gone) (sym (is ∙ ap (λ (z : Node D). Some (record place { node = z })) there)) refl
+  pub gone_down : (seg number : ℕ) (o : Option (NodePlace D)) (place : NodePlace D) (d : D) → o ≡ Some place → place.node ≡ Down d → IsStepAt seg number o Gone
+  gone_down seg number o place d is there = subst (λ (x : Option (NodePlace D)). IsStepAt seg number x Gone) (sym (is ∙ ap (λ (z : Node D). Some (record place { node = z })) there)) refl
 
 module _ {D : Type 0} (cells : D → Cells) where
   -- a copy that lacks the part, of the metadata that is wanted
