@@ -16,7 +16,7 @@ use crate::runner::ClusterLines;
 use cluster_nodes::Place;
 use cluster_state::ClusterState;
 use disk_memory::MemDir;
-use lane_lines::{Cluster, Gate};
+use lane_sections::{Cluster, Gate};
 use merge_tasks::{Ledger, Tasks};
 use nrt_base::NoMemory;
 use script_serving::Script;

@@ -1,3 +1,5 @@
+//! The whole program: what its arguments ask for, and the answer to it.
+
 ghost use Rattle.std.specs.Prelude.{◌≡◌, ◌≤◌, length, ◌<◌, ◌-◌, ◌^◌, ◌↔◌, ◌≢◌, ℕ, [], ◌∷◌, None, IsTrue, IsSomeAnd, IfOk, IfErr};
 ghost use Rattle.nrt_base.specs.Causes.{Rose};
 ghost use Rattle.script_serving.specs.Form.{IsInForm};
