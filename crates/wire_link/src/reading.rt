@@ -79,12 +79,7 @@ fn only_part(alloc: Global, name: FileName, at: u64, message: &Message) -> Resul
 }
 
 // The bytes of all chunks, joined.
-fn joined(
-    alloc: Global,
-    name: FileName,
-    at: u64,
-    messages: &[Message],
-) -> Result<Vec<u8>, NoMemory>
+fn joined(alloc: Global, name: FileName, at: u64, messages: &[Message]) -> Result<Vec<u8>, NoMemory>
     requires { (bytes : List ℕ) × BringsFrom name at bytes messages.now }
     ensures { IfOk result (λ file. (bytes : List ℕ)
         → BringsFrom name at bytes messages.now → file.items ≡ bytes) }
