@@ -67,7 +67,7 @@ impl<L: Link> Link for WireLink<L> {
         let bytes = self.link.fetch(at, len)?;
         match sent(self.alloc, self.name, at, &bytes) {
             Ok(read) => Ok(read),
-            Err(_) => {
+            Err(AllocError) => {
                 // A damage that was counted is handed out.
                 if self.link.damages() == before {
                     Err(LinkFault::Memory)
