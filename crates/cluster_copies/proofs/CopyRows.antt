@@ -14,7 +14,7 @@ use Rattle.history_rules.specs.Lines.{same_at, is_start, start_entry, before_sta
 use Rattle.history_rules.specs.Points.{operations_of_generation}
 use Rattle.history_rules.specs.Legal.{KeepsRule, IsLegalPast}
 use Rattle.history_tables.specs.declared.lines.Start.TheVariants.{Searching as SearchStart}
-use Rattle.history_tables.specs.Begins.{begin, begun_by, event_of, open_line}
+use Rattle.history_tables.specs.Begins.{begin, begun_by, open_line}
 use Rattle.history_tables.specs.declared.jobs.Job.{Job}
 use Rattle.history_tables.specs.declared.jobs.JobRow.{JobRow}
 use Rattle.history_book.specs.Jobs.{job_of, StartsJob, IsCancelled, IsOlder}
@@ -22,9 +22,6 @@ use Rattle.history_book.specs.Steps.{last_by, highest_by}
 use Rattle.history_tables.proofs.RowLemmas.{same_at_is}
 use Rattle.history_rules.specs.Rules.{StartedCopy, MayRefuseLine}
 use Rattle.history_rules.specs.Started.{is_copy, is_lost}
-use Rattle.history_tables.specs.declared.lines.Start.{Start}
-use Rattle.history_tables.specs.declared.lines.Begun.{Begun}
-use Rattle.history_book.proofs.LineLaws.{open_started}
 use Rattle.history_rules.specs.declared.cause.Cause.{Cause}
 use Rattle.history_rules.specs.declared.cause.Cause.TheVariants.{Lost, Cancelled}
 use Rattle.history_rules.proofs.NodeLemmas.{version_low}
@@ -125,15 +122,6 @@ newer_by None v is older = is
 newer_by (Some job) v is older = omega (arith, is, older)
 
 -- ---- where a line stands
-
-pub starts_by : (at : At) (past : Past) (o : Option Begun) (b : Begun) (start : Start) (begun : Event) → o ≡ open_line at past → o ≡ Some b → b.start ≡ start → start_entry at past ≡ Some begun
-    → is_copy (event_of start) ≡ is_copy begun
-starts_by at past o b start begun line found is entry =
-    let same : ◌≡◌ {A = Option Event} (Some (event_of b.start)) (Some begun) = sym (open_started at past b (sym line ∙ found)).entry ∙ entry in
-    ap (λ (x : Start). is_copy (event_of x)) (sym is) ∙ copy_same (event_of b.start) begun same
-  where
-    copy_same : (x y : Event) → ◌≡◌ {A = Option Event} (Some x) (Some y) → is_copy x ≡ is_copy y
-    copy_same x y same = let e : x ≡ y = cc in ap is_copy e
 
 or_none : (x y : Bool) → y ≡ false → x ≡ (x || y)
 or_none true y none = refl

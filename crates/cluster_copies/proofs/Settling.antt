@@ -1,10 +1,8 @@
--- The replicas of a past in their order, and what is left of a settle.
+-- What is left of a settle.
 use Rattle.std.proofs.Common.{◌≡◌, ◌≢◌, ◌≤◌, ◌<◌, ◌+◌, ◌==◌, ◌⊎◌, ⊎_elim, inl, inr, ℕ, zero, suc, Bool, true, false, true≢false, List, [], ◌∷◌, ◌++◌, Some, None, Option, refl, ap, ◌∙◌, sym, subst, arith, if◌then◌else◌, length, drop}
 use Rattle.std.specs.List.{All, AllPairs, Contains, slice_get}
 use Rattle.std.proofs.lemmas.Bool.{eqb-true, eq-eqb}
-use Rattle.std.proofs.lemmas.Bool.Decides.{nat_tests}
-use Rattle.std.proofs.lemmas.List.Elements.{All-push, All-rest, Contains-append_left, Contains-append_right}
-use Rattle.std.proofs.lemmas.List.Quantifiers.{all_pairs_push}
+use Rattle.std.proofs.lemmas.List.Elements.{All-rest}
 use Rattle.nrt_base.specs.declared.numbers.At.{At}
 use Rattle.nrt_base.specs.declared.numbers.NodeNo.{NodeNo}
 use Rattle.nrt_base.specs.declared.numbers.Version.{Version}
@@ -12,11 +10,11 @@ use Rattle.history_rules.specs.declared.entry.Event.TheVariants.{Settling}
 use Rattle.history_rules.specs.Nodes.{Past, IsNode, IsReplica, is_at, is_running, crashes, version_of}
 use Rattle.history_rules.specs.Lines.{same_at, start_entry, before_start, highest_switched, NodeSurvives, SourceSurvives}
 use Rattle.history_rules.specs.Points.{operations_of_generation}
-use Rattle.history_rules.specs.Rules.{IsWhole, MaySettle}
+use Rattle.history_rules.specs.Rules.{IsLineWhole, MaySettle}
 use Rattle.history_rules.specs.Legal.{IsLegalPast}
 use Rattle.history_rules.proofs.NodeLemmas.{runs_through}
 use Rattle.history_tables.specs.Begins.{begun_by, open_line}
-use Rattle.history_tables.proofs.RowLemmas.{by_test, same_at_self}
+use Rattle.history_tables.proofs.RowLemmas.{same_at_self}
 use Rattle.history_book.specs.Log.{Log, printed, shown}
 use Rattle.merge_tasks.specs.Merging.{Sheet}
 use Rattle.history_book.proofs.ReignLaws.{since_start, reigns_on, start_kept}
@@ -24,53 +22,6 @@ use Rattle.cluster_nodes.specs.declared.tasks.SettleTask.{SettleTask}
 use Rattle.cluster_state.specs.Run.{Rest, Run, IsNow}
 use Rattle.cluster_state.proofs.Turning.{past_has}
 use Rattle.cluster_state.specs.Settles.{AreReplicas, IsLeft, IsSettling, WaitsFor}
-
--- ---- the replicas
-
--- the replicas below a number, ascending
-pub record AreReplicasTo (size : ℕ) (past : Past) (k : ℕ) (nodes : List NodeNo) : Type 0 where
-  pub each : All (λ n. IsNode size n.0 × IsReplica past n.0) nodes
-  pub below : All (λ n. n.0 < k) nodes
-  pub ascending : AllPairs (λ m n. m.0 < n.0) nodes
-  pub all : (n : NodeNo) → IsNode size n.0 → n.0 < k → IsReplica past n.0 → Contains nodes n
-
-pub none_to : (size : ℕ) (past : Past) → AreReplicasTo size past 1 []
-none_to size past = record {
-  each = λ i d h. absurd (omega arith);
-  below = λ i d h. absurd (omega arith);
-  ascending = λ i j d l h. absurd (omega arith);
-  all = λ n node low replica. absurd (let one : 1 ≤ n.0 = node.0 in omega arith);
-}
-
--- a node below the next number is the last one, or below that
-below_next : (n k : ℕ) → n < k + 1 → (n ≡ k) ⊎ (n < k)
-below_next n k low =
-    by_test (n == k) (λ b. (n == k) ≡ b → (n ≡ k) ⊎ (n < k)) (λ same q. inl (eqb-true n k same)) (λ apart q. inr (grind (arith, nat_tests))) refl
-
-pub one_more : (size : ℕ) (past : Past) (k : ℕ) (nodes : List NodeNo) → IsNode size k → IsReplica past k → AreReplicasTo size past k nodes → AreReplicasTo size past (k + 1) (nodes ++ record { 0 = k } ∷ [])
-one_more size past k nodes node replica was = record {
-  each = All-push (λ (n : NodeNo). IsNode size n.0 × IsReplica past n.0) nodes (record { 0 = k }) was.each (node, replica);
-  below = All-push (λ (n : NodeNo). n.0 < k + 1) nodes (record { 0 = k }) (λ i d h. let low = was.below i d h in omega arith) (omega arith);
-  ascending = all_pairs_push (λ (m n : NodeNo). m.0 < n.0) nodes (record { 0 = k }) was.ascending (λ i d h. was.below i d h);
-  all = λ n node low is. ⊎_elim
-      (λ (same : n.0 ≡ k). Contains-append_right nodes (record { 0 = k } ∷ []) n (0, omega arith, ap (λ (j : ℕ). record { 0 = j }) (sym same)))
-      (λ (lower : n.0 < k). Contains-append_left nodes (record { 0 = k } ∷ []) n (was.all n node lower is)) (below_next n.0 k low);
-}
-
-pub none_more : (size : ℕ) (past : Past) (k : ℕ) (nodes : List NodeNo) → (IsReplica past k → ⊥) → AreReplicasTo size past k nodes → AreReplicasTo size past (k + 1) nodes
-none_more size past k nodes other was = record {
-  each = was.each;
-  below = λ i d h. let low = was.below i d h in omega arith;
-  ascending = was.ascending;
-  all = λ n node low is. ⊎_elim (λ (same : n.0 ≡ k). absurd (other (subst (IsReplica past) same is))) (λ (lower : n.0 < k). was.all n node lower is) (below_next n.0 k low);
-}
-
-pub replicas_all : (size : ℕ) (past : Past) (nodes : List NodeNo) → AreReplicasTo size past (size + 1) nodes → AreReplicas size past nodes
-replicas_all size past nodes was = record {
-  each = was.each;
-  ascending = was.ascending;
-  all = λ n node is. was.all n node (let high : n.0 ≤ size = node.1 in omega arith) is;
-}
 
 -- ---- a node since the start of a line
 
@@ -138,7 +89,7 @@ one_passed size past at task now n rest is left same passed s = record {
         (subst (λ (k : NodeNo). task.version.0 ≤ version_of k.0 past) first (passed (subst (λ (k : NodeNo). NodeSurvives past at k.0) (sym first) survives)))
 
 -- where none is left the settle may end
-pub none_left : (size : ℕ) (past : Past) (at : At) (task : SettleTask) → SourceSurvives past at → task.left.items ≡ [] → IsWhole size past at → IsSettling size past at task → MaySettle size past at task.version
+pub none_left : (size : ℕ) (past : Past) (at : At) (task : SettleTask) → SourceSurvives past at → task.left.items ≡ [] → IsLineWhole size past at → IsSettling size past at task → MaySettle size past at task.version
 none_left size past at task source is whole s = record {
   started = s.started;
   source = source;

@@ -9,7 +9,7 @@ use Rattle.nrt_base.specs.declared.numbers.NodeNo.{NodeNo}
 use Rattle.disk_model.specs.Disk.{Name, Content, Cells, same, is_among}
 use Rattle.disk_model.proofs.CellLemmas.{same_true}
 use Rattle.file_deleter.specs.Holdings.{Holdings}
-use Rattle.file_deleter.proofs.NameLemmas.{among_times, same_self}
+use Rattle.file_deleter.proofs.NameLemmas.{among_times}
 use Rattle.copy_state.specs.declared.meta.FileMetaData.{FileMetaData}
 use Rattle.copy_state.specs.declared.state.CopyState.{CopyState}
 use Rattle.copy_state.specs.States.{meta_in, meta_names}
@@ -19,6 +19,7 @@ use Rattle.primary_state.specs.declared.parts.Parts.{Parts as PrimaryParts}
 use Rattle.copy_job.specs.Parts.{own_names}
 use Rattle.copy_job.specs.declared.part.JobPart.{JobPart}
 use Rattle.copy_job.specs.Jobs.{Job as Copy, IsJob, is_same_meta, is_taken, taken_parts, taken_over}
+use Rattle.copy_job.proofs.Taking.{meta_self}
 use Rattle.replica_opening.specs.Known.{HasMeta}
 use Rattle.replica_state.specs.declared.job.PointJob.{PointJob}
 use Rattle.replica_state.specs.declared.parts.Parts.{Parts as ReplicaParts}
@@ -88,9 +89,6 @@ same_bytes a b e = cc
 
 -- ---- the job
 
-same_meta : (m : FileMetaData) → is_same_meta (Some m) (Some m) ≡ true
-same_meta m = rw (same_self m.header, same_self m.footer, eq-eqb m.length m.length refl, eq-eqb m.checksum m.checksum refl) refl
-
 -- what the older job brought over is missing no more, where the files of both have their metadata at one source
 pub nothing_twice : (source : Name → Content) (number : ℕ) (state : CopyState) (held : Holdings) (old : Copy) → IsJob old → All (λ f. HasMeta source f.0 f.1) old.want.files → All (λ f. HasMeta source f.0 f.1) state.files
     → (q : Name) → is_among (own_names old.parts) q ≡ true → is_among (taken_over (job_on number state held) old).missing q ≡ false
@@ -127,7 +125,7 @@ nothing_twice source number state held old is had wanted q brought = tests (is_a
             one_meta a.bytes ours.0 theirs.0 a.meta_is (subst (λ (bytes : List ℕ). IsMetaOf bytes theirs.0) (same_bytes b.bytes a.bytes (sym b.there ∙ a.there)) b.meta_is)
 
         here : (is_among j.missing q && is_same_meta (meta_in old.want.files q) (meta_in state.files q)) ≡ true
-        here = rw (lacks, ours.1, theirs.1, one) (same_meta theirs.0)
+        here = rw (lacks, ours.1, theirs.1, one) (meta_self theirs.0)
 
         taken : (p : JobPart) → p.own ≡ q → is_taken j old p ≡ true
         taken p own = subst (λ (n : Name). (is_among j.missing n && is_same_meta (meta_in old.want.files n) (meta_in state.files n)) ≡ true) (sym own) here

@@ -9,4 +9,3 @@ mod transfers;
 
 pub use line_copies::{copy_arrived, copy_next, copy_start};
 pub use line_settles::{settle_next, settle_start};
-pub use settles::replicas;

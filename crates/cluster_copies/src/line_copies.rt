@@ -21,12 +21,12 @@ ghost use Rattle.cluster_state.specs.Calls.{LineRefused};
 ghost use Rattle.cluster_state.specs.CopyCalls.{IsBeingCopied, IsNotBeingCopied, CopyStarts, CopyStartsWhen, IsSourceFor, IsOpenJob, standing_of, MayEnd, TellsEnd, stopped_log, Stops, RunsOn, JobGoesOn, JobSteps, JobHasPart, PartArrives};
 
 use crate::copies::{begin_copy, note_copied};
-use crate::transfers::{go_on, take_part};
+use crate::transfers::{go_on, starts_as_copy, take_part};
 use cluster_nodes::{CopyTask, FileTask};
 use cluster_state::{ClusterState, Standing, Turn, refuse_turn};
 use copy_job::Part;
 use disk_model::FaultDir;
-use history_book::{Book, JobRow, Start};
+use history_book::{Book, JobRow};
 use history_rules::{Cause, Event};
 use nrt_base::{At, NoMemory, NodeNo};
 use std::alloc::Global;
@@ -109,24 +109,6 @@ pub fn copy_start<D: FaultDir + Drop>(
     Ok(Turn::Work(task))
 }
 
-// Whether the line has started as a copy.
-fn starts_copy(book: &Book, at: At) -> bool
-    ensures { (begun : Event) → start_entry at (printed book.now.log) ≡ Some begun
-        → open_line at (printed book.now.log) ≢ None → result ≡ is_copy begun }
-{
-    match book.line(at) {
-        None => false,
-        Some(begun) => match begun.start {
-            Start::Copying { .. } => true,
-            Start::Publishing => false,
-            Start::Settling { .. } => false,
-            Start::Searching { .. } => false,
-            Start::Asking { .. } => false,
-            Start::Committing { .. } => false,
-        },
-    }
-}
-
 // Whether the line of a job is lost: its source has crashed, or where it is a copy its node.
 fn is_line_lost(book: &Book, row: JobRow) -> bool
     requires row { job_of row.job.at.lane.0 book.now.log ≡ Some row }
@@ -138,7 +120,7 @@ fn is_line_lost(book: &Book, row: JobRow) -> bool
     book.job_shows(row);
     let at = row.job.at;
     if book.source_survives(at) {
-        starts_copy(book, at) && !book.node_survives(at, row.job.node)
+        starts_as_copy(book, at) && !book.node_survives(at, row.job.node)
     } else {
         true
     }

@@ -1,47 +1,21 @@
-//! Settles: the replicas that are copied to, in ascending order.
+//! Settles: how one begins, and the replica that it copies to next.
 
 ghost use Rattle.std.specs.Prelude.{◌≡◌, ◌≢◌, ◌≤◌, ◌∷◌, [], false, None, IfOk, OnOk, OnErr, IfSome};
 ghost use Rattle.std.specs.List.{All};
-ghost use Rattle.history_rules.specs.Nodes.{is_at, primary_of};
+ghost use Rattle.history_rules.specs.Nodes.{primary_of};
 ghost use Rattle.history_rules.specs.Lines.{entries_of_line, SourceSurvives};
-ghost use Rattle.history_rules.specs.Rules.{IsWhole, MaySettle};
+ghost use Rattle.history_rules.specs.Rules.{IsLineWhole, MaySettle};
 ghost use Rattle.history_book.specs.Log.{printed, shown};
-ghost use Rattle.cluster_state.specs.Settles.{AreReplicas, IsSettling, WaitsFor};
+ghost use Rattle.cluster_state.specs.Settles.{IsSettling, WaitsFor};
 ghost use Rattle.cluster_state.specs.Run.{IsNow, IsEnded};
 ghost use Rattle.cluster_state.specs.Copies.{newest_of};
 
 use cluster_nodes::SettleTask;
-use cluster_state::ClusterState;
+use cluster_state::{ClusterState, replicas};
 use disk_model::FaultDir;
-use history_book::Book;
 use history_rules::Event;
 use nrt_base::{At, NoMemory, NodeNo, Version};
 use std::alloc::Global;
-
-// Whether the node is the one.
-fn is_node(primary: Option<NodeNo>, n: NodeNo) -> bool
-    ensures { result ≡ is_at primary n.0 }
-{
-    match primary {
-        Some(p) => p.0 == n.0,
-        None => false,
-    }
-}
-
-/// The replicas that run, ascending.
-pub fn replicas(alloc: Global, book: &Book) -> Result<Vec<NodeNo>, NoMemory>
-    ensures { IfOk result (λ left. AreReplicas book.now.nodes (printed book.now.log) left.items) }
-{
-    let primary = book.primary();
-    let mut left = Vec::new(alloc);
-    for k in 0..book.node_count() {
-        let n = NodeNo(k + 1);
-        if book.runs(n) && !is_node(primary, n) {
-            left.push(n)?;
-        }
-    }
-    Ok(left)
-}
 
 /// Starts a settle at the newest version, of all replicas that run.
 pub fn begin_settle<D: FaultDir + Drop>(
@@ -87,7 +61,7 @@ pub fn next_left<D: FaultDir + Drop>(
     ensures first { IfSome result (λ n. All (λ m. n.0 ≤ m.0) task.new.left.items) }
     ensures waits { IfSome result
         (WaitsFor cluster.now.nodes (printed cluster.now.log) at task.new.version.0) }
-    ensures done { result ≡ None → IsWhole cluster.now.nodes (printed cluster.now.log) at
+    ensures done { result ≡ None → IsLineWhole cluster.now.nodes (printed cluster.now.log) at
         → MaySettle cluster.now.nodes (printed cluster.now.log) at task.new.version }
 {
     let book = cluster.ledger.book();

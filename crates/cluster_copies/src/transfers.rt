@@ -1,12 +1,11 @@
 //! Jobs that copy the primary's newest point to replicas: how they go on, file by file, and end.
 
 ghost use Rattle.std.specs.Prelude.{◌≡◌, ◌≢◌, ◌≤◌, ◌<◌, false, None, Some, OnOk, OnErr, IfOk};
-ghost use Rattle.codec_frame.specs.Bytes.{AreBytes};
 ghost use Rattle.copy_state.specs.Meta.{IsMetaOf};
 ghost use Rattle.history_rules.specs.Nodes.{version_of, newest_version, IsNode, primary_of};
 ghost use Rattle.history_rules.specs.Lines.{start_entry, before_start, highest_switched};
 ghost use Rattle.history_rules.specs.Commits.{is_passed};
-ghost use Rattle.history_rules.specs.Rules.{IsWhole};
+ghost use Rattle.history_rules.specs.Rules.{IsLineWhole};
 ghost use Rattle.history_tables.specs.Begins.{open_line};
 ghost use Rattle.history_book.specs.Log.{printed};
 ghost use Rattle.cluster_state.specs.Copies.{is_copy_start, BringsFile, JobRuns, ended_log, GoesOn};
@@ -14,7 +13,7 @@ ghost use Rattle.cluster_state.specs.Run.{files_at, IsNow, IsEnded};
 ghost use Rattle.cluster_state.specs.FilesOut.{file_out};
 
 use cluster_nodes::{FileTask, files_last, finish_in, next_in, read_in, sourced_stands, take_in};
-use cluster_state::ClusterState;
+use cluster_state::{ClusterState, are_bytes};
 use copy_job::Part;
 use disk_model::FaultDir;
 use history_book::{Book, Inner, Job, JobRow, Start};
@@ -23,15 +22,8 @@ use merge_tasks::Ledger;
 use nrt_base::{At, NoMemory, NodeNo, Share};
 use std::alloc::{AllocError, Global};
 
-// Each is a byte. A law.
-fn are_bytes(bytes: &[u8])
-    ensures { AreBytes bytes.now }
-{
-    let _bytes = bytes;
-}
-
 // Whether an open line started as a copy.
-fn starts_as_copy(book: &Book, at: At) -> bool
+pub(crate) fn starts_as_copy(book: &Book, at: At) -> bool
     requires { open_line at (printed book.now.log) ≢ None }
     ensures { result ≡ is_copy_start (start_entry at (printed book.now.log)) }
 {
@@ -57,7 +49,7 @@ fn show_end(ledger: &mut Ledger, row: JobRow)
     requires below { version_of row.job.node.0 (printed ledger.old.log)
         < newest_version (before_start row.job.at (printed ledger.old.log)) }
     requires latest { is_passed row.job.node.0 row.job.version.0 (printed ledger.old.log) ≡ false }
-    requires whole { IsWhole ledger.old.nodes (printed ledger.old.log) row.job.at }
+    requires whole { IsLineWhole ledger.old.nodes (printed ledger.old.log) row.job.at }
     requires ordered { highest_switched row.job.at (printed ledger.old.log) < row.job.node.0 }
     ensures log { ledger.new.log
         ≡ ended_log row.job (start_entry row.job.at (printed ledger.old.log)) ledger.old.log }
@@ -87,7 +79,7 @@ fn show_end(ledger: &mut Ledger, row: JobRow)
 // An open line met no fault in a file. It never did so where its lane waits for each file, as the next one is not handed out then.
 fn must_be_whole(book: &Book, at: At) -> Result<(), NoMemory>
     requires { open_line at (printed book.now.log) ≢ None }
-    ensures { OnOk result (IsWhole book.now.nodes (printed book.now.log) at) }
+    ensures { OnOk result (IsLineWhole book.now.nodes (printed book.now.log) at) }
 {
     if book.is_whole(at) {
         Ok(())

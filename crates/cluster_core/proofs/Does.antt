@@ -45,7 +45,7 @@ use Rattle.lane_threads.specs.Owes.{AddsEntries, SuitsOrFault}
 use Rattle.cluster_core.specs.Doing.{Does, IsReplied, IsBegunBy, IsRepliedAtDone, IsBegunAtWork, writing_command, AsksFor}
 use Rattle.cluster_state.specs.Calls.{by_refusal, LineRefused, IsRefusedFor, publish_refusal, PublishRefused, PublishStarts, open_event, ListsFiles, SearchStarts, AsksTicket, AskStarts, asked_event, close_by, ScansAt, answer_event, AnswerEnds}
 use Rattle.cluster_state.specs.GivesUp.{publish_reply, met_log, PublishEndsBy, EndsPublish}
-use Rattle.cluster_state.specs.Met.{kinds_of, fault_by}
+use Rattle.cluster_state.specs.Met.{failures_by_plan, fault_by}
 use Rattle.cluster_state.proofs.Faulted.{met_has}
 use Rattle.cluster_state.proofs.Rows.{up_unrefused}
 
@@ -362,7 +362,7 @@ meets_one command at base last n kind log m = record {
 met_does : (at : At) (old new : Run) (e : Event) → last_of_line at (printed old.log) ≡ Some Publishing → is_answered at (printed old.log) ≡ false → IsNow old new (shown at e ∷ met_log at old new) → Follows Publish Publishing e
     → ((past : Past) → Suits Publish at past (last_of_line at past) e → SuitsOrFault Publish at past e) → Does Publish at old new
 met_does at old new e last unanswered now follows lift =
-    let m = met_has (Meets Publish at old.log (Some Publishing)) false at (λ n kind log is. meets_one Publish at old.log (Some Publishing) n kind log is) 1 (map kinds_of old.rest.plans) (map kinds_of new.rest.plans) old.log
+    let m = met_has (Meets Publish at old.log (Some Publishing)) false at (λ n kind log is. meets_one Publish at old.log (Some Publishing) n kind log is) 1 (map failures_by_plan old.rest.plans) (map failures_by_plan new.rest.plans) old.log
     (record { more = []; log_is = refl; adds = tt; unanswered = unanswered; newest = last }) in
     record {
       running = now.running;

@@ -35,6 +35,7 @@ impl<D: FaultDir + Drop> Cluster<D> {
     ghost use Rattle.history_rules.specs.Legal.{IsLegal, IsLegalPast};
     ghost use Rattle.history_book.specs.Log.{printed, FaultsFollow};
     ghost use Rattle.history_book.specs.Turns.{AreInTurn};
+    ghost use Rattle.history_book.specs.Told.{IsTold};
     ghost use Rattle.cluster_state.specs.Starting.{IsEmptyDir};
 
     /// A cluster over these empty directories. Node 1 is the primary, and the others are replicas.
@@ -56,6 +57,7 @@ impl<D: FaultDir + Drop> Cluster<D> {
         ensures legal { IsLegalPast self.now.nodes (printed self.now.log) }
         ensures turns { AreInTurn (printed self.now.log) }
         ensures faults { FaultsFollow self.now.log }
+        ensures told { IsTold self.now.log }
     {
         self.state.book().is_legal();
         self.state.has_ended()

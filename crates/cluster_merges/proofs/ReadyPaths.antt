@@ -35,7 +35,7 @@ use Rattle.history_book.specs.Jobs.{job_at}
 use Rattle.history_book.specs.declared.inner.Inner.TheVariants.{TaskEnd}
 use Rattle.history_book.specs.declared.inner.Step.TheVariants.{Merge as MergeStep}
 use Rattle.merge_tasks.specs.Merging.{Sheet}
-use Rattle.merge_tasks.specs.declared.drains.Counted.{Counted}
+use Rattle.merge_tasks.specs.declared.drains.DrainCount.{DrainCount}
 use Rattle.merge_tasks.specs.declared.tasks.OpenMerge.{OpenMerge}
 use Rattle.merge_tasks.specs.declared.tasks.Posted.{Posted}
 use Rattle.merge_tasks.specs.declared.tasks.Sent.{Sent}
@@ -304,7 +304,7 @@ module _ {D : Type 0} (cells : D → Cells) (r : Run) (b : Sheet) (board : Board
             pub ready_all : FilesLast → AllShown cells b3 ended places
             ready_all lasting = post_path cells b2 b3 places last ended line seg by e3 n3 c3
                 (subst (λ (o : Option Spread). IsSomeAnd o (λ z. (z.all ≡ false) × (length z.left < b2.nodes))) (sym sent_at) (refl, few)) (ended_rows ∙ done_rows) (ended_posted ∙ done_posted)
-                (λ x. ended_counts x ∙ ap (λ (l : List Counted). done_under x l + counts_one x by) done_counts)
+                (λ x. ended_counts x ∙ ap (λ (l : List DrainCount). done_under x l + counts_one x by) done_counts)
                 (begun_all cells b b2 places last line sent (e2 ∙ ap (λ (l : Log). begun_log line sent l) e1) (n2 ∙ n1) (c2 ∙ c1) (sends.shown b (ap (λ (c : CopyState). c.primary_gen.0) copied ∙ generation) (λ k d within. (are.each k d within).0) (written_all lasting)))
               where
                 few : length sent < b2.nodes

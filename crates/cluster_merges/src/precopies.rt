@@ -1,7 +1,6 @@
 //! Copies of merged segments to replicas.
 
 ghost use Rattle.std.specs.Prelude.{◌≡◌, ◌≤◌, true, false, Some, IsSome, IfOk, OnOk, OnErr};
-ghost use Rattle.codec_frame.specs.Bytes.{AreBytes};
 ghost use Rattle.copy_state.specs.Meta.{IsMetaOf};
 ghost use Rattle.history_rules.specs.Nodes.{IsNode, primary_of};
 ghost use Rattle.history_book.specs.Jobs.{job_at};
@@ -18,7 +17,7 @@ ghost use Rattle.cluster_merges.specs.MergePaths.{IsAsBefore};
 ghost use Rattle.cluster_merges.specs.CopyTurns.{IsTurnWhere, EndsCopyOf, SettlesCopyOf, StepsCopyTo, TurnsCopy};
 
 use cluster_nodes::{FileTask, Place};
-use cluster_state::ClusterState;
+use cluster_state::{ClusterState, are_bytes};
 use copy_job::Part;
 use disk_model::FaultDir;
 use history_book::{Inner, Step};
@@ -36,13 +35,6 @@ pub enum CopyTurn {
     Hands(FileTask),
     /// Its task has ended.
     Ends,
-}
-
-// Each is a byte. A law.
-fn are_bytes(bytes: &[u8])
-    ensures { AreBytes bytes.now }
-{
-    let _bytes = bytes;
 }
 
 // The task of a copy has ended: the copy is among those that are left no more, and where none is left the task to cut over is posted.

@@ -11,9 +11,8 @@ ghost use Rattle.cluster_state.specs.Run.{IsEnded};
 ghost use Rattle.cluster_merges.specs.MergePaths.{IsMergedOut, WritesMerge, begun_log};
 ghost use Rattle.cluster_merges.specs.Sending.{spread_to, SendsOne, MaySendAll, SendsAll};
 
-use cluster_copies::replicas;
 use cluster_nodes::{Place, files_last};
-use cluster_state::ClusterState;
+use cluster_state::{ClusterState, replicas};
 use copy_state::CopyState;
 use disk_model::FaultDir;
 use history_book::{Inner, Step};

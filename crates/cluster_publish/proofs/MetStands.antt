@@ -15,7 +15,7 @@ use Rattle.merge_tasks.specs.Merging.{Sheet}
 use Rattle.merge_tasks.specs.Board.{Board}
 use Rattle.cluster_nodes.specs.declared.nodes.Place.{Place}
 use Rattle.cluster_state.specs.Run.{Rest, Run, IsNow}
-use Rattle.cluster_state.specs.Met.{kinds_of, met_in, with_met, Stands}
+use Rattle.cluster_state.specs.Met.{failures_by_plan, met_in, with_met, ClusterStands}
 use Rattle.cluster_state.specs.GivesUp.{publish_reply, PublishEnds}
 use Rattle.cluster_state.proofs.Faulted.{faulted}
 
@@ -28,18 +28,18 @@ abbrev pub run_behind : At → List (ℕ × ℕ) → List (ℕ × ℕ) → Sheet
 run_behind at olds news b r = record { ended = r.ended; nodes = b.nodes; log = with_met false at 1 olds news b.log; rest = r.rest }
 
 module _ {D : Type 0} (cells : D → Cells) (r : Run) (ended : Bool) (b0 b1 : Sheet) (old : List (Option (Place D))) (board : Board) {left : Rest} (view : record { ended = ended; nodes = b0.nodes; log = b0.log; rest = left } ≡ r) (running : r.ended ≡ false)
-    (all : ended ≡ false → Stands cells b0.nodes old b0.cut board b0.log) where
+    (all : ended ≡ false → ClusterStands cells b0.nodes old b0.cut board b0.log) where
   -- there are as many places as nodes
   pub counted : b1.nodes ≡ b0.nodes → length old ≡ b1.nodes
   counted n1 = (all (ap (λ (x : Run). x.ended) view ∙ running)).0.count ∙ sym n1
 
-  pub stands_behind : (at : At) (olds news : List (ℕ × ℕ)) → b1.log ≡ b0.log → b1.nodes ≡ b0.nodes → b1.cut ≡ b0.cut → Stands cells b1.nodes old b1.cut board (with_met false at 1 olds news b1.log)
+  pub stands_behind : (at : At) (olds news : List (ℕ × ℕ)) → b1.log ≡ b0.log → b1.nodes ≡ b0.nodes → b1.cut ≡ b0.cut → ClusterStands cells b1.nodes old b1.cut board (with_met false at 1 olds news b1.log)
   stands_behind at olds news e1 n1 c1 =
       faulted cells b1.nodes old b1.cut board false at 1 olds news b1.log
-      (subst (λ (z : ℕ × (Bool × Log)). Stands cells z.0 old z.1.0 board z.1.1) (λ i. (sym n1 i, (sym c1 i, sym e1 i))) (all (ap (λ (x : Run). x.ended) view ∙ running)))
+      (subst (λ (z : ℕ × (Bool × Log)). ClusterStands cells z.0 old z.1.0 board z.1.1) (λ i. (sym n1 i, (sym c1 i, sym e1 i))) (all (ap (λ (x : Run). x.ended) view ∙ running)))
 
 -- what disks have met, by their plans
-pub met_plans : {D : Type 0} (planned : D → Plans) (places : List (Option (Place D))) → map (met_in planned) places ≡ map kinds_of (plans_in planned places)
+pub met_plans : {D : Type 0} (planned : D → Plans) (places : List (Option (Place D))) → map (met_in planned) places ≡ map failures_by_plan (plans_in planned places)
 met_plans planned [] = refl
 met_plans planned (None ∷ places) = ap (λ (l : List (ℕ × ℕ)). (0, 0) ∷ l) (met_plans planned places)
 met_plans planned (Some place ∷ places) = ap (λ (l : List (ℕ × ℕ)). met_in planned (Some place) ∷ l) (met_plans planned places)
@@ -51,8 +51,8 @@ pub ends_behind : {D : Type 0} (planned : D → Plans) (old new : List (Option (
     → PublishEnds at r (record { ended = false; nodes = b2.nodes; log = b2.log; rest = now }) published
 ends_behind planned old new r {now = now} ended b0 b1 b2 at published olds news reply {left = left} view e1 n1 e2 n2 is was_met was is_met are =
     let log : b0.log ≡ r.log = ap (λ (x : Run). x.log) view in
-    let first : olds ≡ map kinds_of r.rest.plans = was_met ∙ (met_plans planned old ∙ (ap (λ (l : List Plans). map kinds_of l) (sym was) ∙ ap (λ (x : Run). map kinds_of x.rest.plans) view)) in
-    let second : news ≡ map kinds_of now.plans = is_met ∙ (met_plans planned new ∙ ap (λ (l : List Plans). map kinds_of l) (sym are)) in
+    let first : olds ≡ map failures_by_plan r.rest.plans = was_met ∙ (met_plans planned old ∙ (ap (λ (l : List Plans). map failures_by_plan l) (sym was) ∙ ap (λ (x : Run). map failures_by_plan x.rest.plans) view)) in
+    let second : news ≡ map failures_by_plan now.plans = is_met ∙ (met_plans planned new ∙ ap (λ (l : List Plans). map failures_by_plan l) (sym are)) in
     record {
       now = record {
         running = refl;

@@ -163,7 +163,8 @@ fn note_published<D: FaultDir + Drop>(
     requires count { length before.now ≡ ledger.old.nodes }
     requires places { length places.now.items ≡ ledger.old.nodes }
     requires few { length before.now ≤ 255 }
-    requires planned { ArePlanned 1 before.now (map (met_in D.planned) places.now.items) (printed ledger.old.log) }
+    requires planned { ArePlanned 1 before.now (map (met_in D.planned) places.now.items)
+        (printed ledger.old.log) }
     requires unanswered { is_answered at (printed ledger.old.log) ≡ false }
     requires flight { publish_in_flight (printed ledger.old.log) ≡ Some at }
     requires present { generation.0 ≡ generation_of (printed ledger.old.log) }
@@ -195,7 +196,8 @@ fn note_given_up<D: FaultDir + Drop>(
     requires count { length before.now ≡ ledger.old.nodes }
     requires places { length places.now.items ≡ ledger.old.nodes }
     requires few { length before.now ≤ 255 }
-    requires planned { ArePlanned 1 before.now (map (met_in D.planned) places.now.items) (printed ledger.old.log) }
+    requires planned { ArePlanned 1 before.now (map (met_in D.planned) places.now.items)
+        (printed ledger.old.log) }
     requires risen { has_risen_at p.0 1 before.now (map (met_in D.planned) places.now.items) ≡ true }
     requires unanswered { is_answered at (printed ledger.old.log) ≡ false }
     requires flight { publish_in_flight (printed ledger.old.log) ≡ Some at }

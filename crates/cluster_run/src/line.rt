@@ -12,9 +12,9 @@ use documents::Op;
 use hist_lock::{HistLock, LaneSeat};
 use lane_copies::{copy, drain, merge, settle};
 use lane_lines::{
-    Cluster, Gate, ask, close, commit, crash, list_files, open, promote, publish, reopen, search,
-    write,
+    ask, close, commit, crash, list_files, open, promote, publish, reopen, search, write,
 };
+use lane_sections::{Cluster, Gate};
 use lane_threads::Halt;
 use nrt_base::{NoMemory, Share};
 use script_serving::{Line, LineCommand};

@@ -8,7 +8,7 @@ use crate::line::do_line;
 use disk_model::FaultDir;
 use hist_lock::{HistLock, LaneSeat};
 use lane_copies::do_posted;
-use lane_lines::{Cluster, Gate};
+use lane_sections::{Cluster, Gate};
 use lane_threads::{Halt, Lane, RunsLines};
 use nrt_base::NoMemory;
 use script_serving::Line;

@@ -3,6 +3,7 @@
 ghost use Rattle.std.specs.Prelude.{◌≡◌, ◌≤◌, false, IfOk, OnOk, length};
 ghost use Rattle.std.specs.List.{All};
 ghost use Rattle.history_rules.specs.Legal.{IsLegal};
+ghost use Rattle.history_book.specs.Told.{IsTold};
 ghost use Rattle.script_serving.specs.Form.{IsInForm};
 ghost use Rattle.script_serving.specs.Serves.{Serves};
 ghost use Rattle.disk_memory.specs.Memory.{cells_in};
@@ -15,7 +16,7 @@ use crate::runner::ClusterLines;
 use cluster_nodes::Place;
 use cluster_state::ClusterState;
 use disk_memory::MemDir;
-use lane_lines::{Cluster, Gate};
+use lane_sections::{Cluster, Gate};
 use merge_tasks::{Ledger, Tasks};
 use nrt_base::NoMemory;
 use script_serving::Script;
@@ -45,7 +46,8 @@ fn empty_dirs(alloc: Global, count: u8) -> Result<Vec<MemDir>, NoMemory>
 /// Runs a script on a new cluster, its lanes in threads of their own, and answers the cluster as the script leaves it. `Err` is want of
 /// memory alone.
 ///
-/// Whatever the lanes' threads do in between, the history is legal and serves the script.
+/// Whatever the lanes' threads do in between, the history is legal and serves the script, and each printed entry tells what is so of
+/// inner work.
 pub fn run_script<R: Threads + Wait + Sync, G: Gate + Sync>(
     rt: &R,
     alloc: Global,
@@ -57,6 +59,7 @@ pub fn run_script<R: Threads + Wait + Sync, G: Gate + Sync>(
     ensures running { IfOk result (λ c. c.ended ≡ false) }
     ensures legal { IfOk result (λ c. IsLegal (history_of c)) }
     ensures serves { IfOk result (λ c. Serves script.now (history_of c)) }
+    ensures told { IfOk result (λ c. IsTold c.log) }
 {
     book_crosses();
     sent::<Ledger>();

@@ -9,6 +9,7 @@ use Rattle.nrt_base.specs.SegNumbers.{segment_generation, segment_place}
 use Rattle.history_rules.specs.Nodes.{Past, generation_of}
 use Rattle.history_rules.specs.Points.{names_drawn, names_drawn_in}
 use Rattle.history_rules.specs.Commits.{is_passed}
+use Rattle.history_rules.proofs.FaultLaws.{both}
 use Rattle.history_rules.proofs.PassedLaws.{stays_unpassed}
 use Rattle.history_book.specs.Log.{Log, printed, shown, mark_for}
 use Rattle.cluster_nodes.specs.declared.nodes.Place.{Place}
@@ -25,7 +26,7 @@ use Rattle.cluster_state.proofs.Growing.{fewer}
 use Rattle.cluster_state.proofs.Frames.{shows_still}
 use Rattle.cluster_state.proofs.FileFrames.{files_still}
 use Rattle.cluster_state.proofs.MergingStill.{stand_moved, all_keep}
-use Rattle.cluster_state.specs.Met.{fault_by, fault_on, fault_if, with_met, Stands}
+use Rattle.cluster_state.specs.Met.{fault_by, fault_on, fault_if, with_met, ClusterStands}
 
 -- ---- the words of one fault
 
@@ -97,10 +98,6 @@ fault_tasks true size log board at n kind s = tasks_faulted size log board at (r
 fault_tasks false size log board at n kind s = tasks_still size log board at (Fault (record { 0 = n }) kind) refl s
 
 -- names are drawn as before
-both : {X : Type 0} → (b : Bool) (x : X) → (if b then x else x) ≡ x
-both true x = refl
-both false x = refl
-
 names_over : (g : ℕ) (past : Past) (at : At) (n : ℕ) (kind : FaultKind) → names_drawn_in g (record { at = at; event = Fault (record { 0 = n }) kind } ∷ past) ≡ names_drawn_in g past
 names_over g [] at n kind = both (1 == g) 0
 names_over g (e ∷ past) at n kind = cases (generation_of (e ∷ past) == g) (names_drawn (e ∷ past)) (names_drawn_in g past)
@@ -155,6 +152,6 @@ met_has P task at step n (o ∷ olds) (w ∷ news) log was =
 
 -- all that is true of a cluster that runs, behind the faults that rose
 module _ {D : Type 0} (cells : D → Cells) (size : ℕ) (places : List (Option (Place D))) (cut : Bool) (board : Board) where
-  pub faulted : (task : Bool) (at : At) (n : ℕ) (olds news : List (ℕ × ℕ)) (log : Log) → Stands cells size places cut board log → Stands cells size places cut board (with_met task at n olds news log)
+  pub faulted : (task : Bool) (at : At) (n : ℕ) (olds news : List (ℕ × ℕ)) (log : Log) → ClusterStands cells size places cut board log → ClusterStands cells size places cut board (with_met task at n olds news log)
   faulted task at n olds news log was =
-      met_has (Stands cells size places cut board) task at (λ m kind l s. (fault_shows cells size places task l at m kind s.0, fault_files cells size places task l at m kind s.0 s.1, fault_merges cells size places task cut board l at m kind s.2)) n olds news log was
+      met_has (ClusterStands cells size places cut board) task at (λ m kind l s. (fault_shows cells size places task l at m kind s.0, fault_files cells size places task l at m kind s.0 s.1, fault_merges cells size places task cut board l at m kind s.2)) n olds news log was

@@ -23,6 +23,7 @@ pub mod Planned
 pub mod PointStands
 pub mod Points
 pub mod Reigning
+mod ReplicaLists
 pub mod Rows
 pub mod Turning
 pub mod Wider

@@ -7,12 +7,13 @@ use Rattle.segment_infos.specs.declared.infos.Infos.{Infos}
 use Rattle.seg_reader.specs.Stands.{StandsFor}
 use Rattle.primary_state.specs.Held.{AreNumbered}
 use Rattle.history_rules.specs.declared.entry.Event.{Event}
-use Rattle.history_rules.specs.declared.entry.Event.TheVariants.{Published, Merging, Promoted}
-use Rattle.history_rules.specs.Nodes.{Past, newest_version}
+use Rattle.history_rules.specs.declared.entry.Event.TheVariants.{Published, Merging}
+use Rattle.history_rules.specs.Nodes.{Past}
 use Rattle.history_rules.specs.Lines.{before_start}
 use Rattle.history_rules.specs.Points.{cut_has_put}
 use Rattle.history_rules.specs.Tasks.{merge_count}
 use Rattle.history_rules.specs.Legal.{KeepsRule, IsLegalPast}
+use Rattle.history_rules.proofs.PassedLaws.{newest_more}
 use Rattle.history_rules.proofs.PointLemmas.{documents_stay_lem}
 use Rattle.script_serving.specs.Refusals.{put_publishes}
 use Rattle.cluster_state.specs.Disks.{IsWritable, IsPastPoint, PointsStay}
@@ -34,11 +35,6 @@ points_then past mid now a b = record {
   merges = omega (arith, a.merges, b.merges);
   documents = λ v low. b.documents v (omega (arith, low, a.newest)) ∙ a.documents v low;
 }
-
-newest_more : (past : Past) (at : At) (e : Event) → newest_version past ≤ newest_version (record { at = at; event = e } ∷ past)
-newest_more past at (Published g w) = omega arith
-newest_more past at (Promoted m g f w) = omega arith
-newest_more past at e = omega arith
 
 puts_more : (past : Past) (at : At) (e : Event) → put_publishes past ≤ put_publishes (record { at = at; event = e } ∷ past)
 puts_more past at (Published g w) = put_more (cut_has_put (before_start at past)) (put_publishes past)

@@ -11,6 +11,7 @@ use Rattle.history_rules.specs.declared.entry.Event.{Event}
 use Rattle.history_rules.specs.declared.entry.Event.TheVariants.{Copying, Switched, Copied}
 use Rattle.history_rules.specs.Nodes.{Past, generation_of, newest_version}
 use Rattle.history_rules.specs.Lines.{start_entry, highest_switched, NodeSurvives, SourceSurvives}
+use Rattle.history_rules.specs.Started.{is_copy}
 use Rattle.history_tables.specs.declared.jobs.JobRow.{JobRow}
 use Rattle.history_tables.specs.declared.jobs.Job.{Job}
 use Rattle.history_tables.specs.Begins.{open_line}
@@ -84,8 +85,8 @@ pub record BringsFile (name : Name) (old new : JobFiles) : Type 0 where
 
 -- the line started as a copy
 abbrev pub is_copy_start : Option Event → Bool
-is_copy_start (Some (Copying n v)) = true
-is_copy_start begun = false
+is_copy_start None = false
+is_copy_start (Some begun) = is_copy begun
 
 -- the node switched to the job's version, and the job has ended; where its line is a copy, that has its reply
 abbrev pub ended_log : Job → Option Event → Log → Log

@@ -16,7 +16,7 @@ use Rattle.history_rules.specs.Started.{is_lost}
 use Rattle.history_book.specs.Log.{Log, printed, shown}
 use Rattle.cluster_state.specs.Run.{Run, IsNow}
 use Rattle.cluster_state.specs.Calls.{LineRefused}
-use Rattle.cluster_state.specs.Met.{kinds_of, with_met}
+use Rattle.cluster_state.specs.Met.{failures_by_plan, with_met}
 
 -- The primary gave up what it was writing: it holds nothing more, and what came to stand has names of its own segments.
 pub record GivesUpFiles {D : Type 0} (cells : D → Cells) (old new : PrimaryParts D) : Type 0 where
@@ -35,7 +35,7 @@ publish_reply false past = Refused DiskFault
 
 -- the log with the faults of disks in front that rose from the one to the other
 abbrev pub met_log : At → Run → Run → Log
-met_log at old new = with_met false at 1 (map kinds_of old.rest.plans) (map kinds_of new.rest.plans) old.log
+met_log at old new = with_met false at 1 (map failures_by_plan old.rest.plans) (map failures_by_plan new.rest.plans) old.log
 
 -- a publish has ended, with its point or given up, behind the faults of disks that it met
 pub record PublishEnds (at : At) (old new : Run) (published : Bool) : Type 0 where

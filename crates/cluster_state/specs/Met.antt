@@ -18,8 +18,8 @@ use Rattle.cluster_nodes.specs.declared.nodes.Place.{Place}
 use Rattle.cluster_nodes.specs.Places.{dir_of}
 
 -- how often a disk has failed by a plan of one call, and how often by a stop
-abbrev pub kinds_of : Plans → ℕ × ℕ
-kinds_of p = (p.met_once, p.met_stop)
+abbrev pub failures_by_plan : Plans → ℕ × ℕ
+failures_by_plan p = (p.met_once, p.met_stop)
 
 -- a fault of a disk, of the line or of a task of its merge
 abbrev pub fault_by : Bool → At → ℕ → FaultKind → Mark
@@ -60,8 +60,8 @@ module _ {D : Type 0} (planned : D → Plans) where
   -- what the disk of the node in a place has met
   abbrev pub met_in : Option (Place D) → ℕ × ℕ
   met_in None = (0, 0)
-  met_in (Some place) = kinds_of (planned (dir_of place.node))
+  met_in (Some place) = failures_by_plan (planned (dir_of place.node))
 
 -- all that is true of a cluster that runs, of its nodes in their places
-abbrev pub Stands : {D : Type 0} → (D → Cells) → ℕ → List (Option (Place D)) → Bool → Board → Log → Type 0
-Stands cells size places cut board log = Shows cells log size places × FilesShow cells log size places × MergesStand log cut size board places
+abbrev pub ClusterStands : {D : Type 0} → (D → Cells) → ℕ → List (Option (Place D)) → Bool → Board → Log → Type 0
+ClusterStands cells size places cut board log = Shows cells log size places × FilesShow cells log size places × MergesStand log cut size board places

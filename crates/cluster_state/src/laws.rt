@@ -1,8 +1,17 @@
 //! What holds of a cluster between two calls, for the calls of lines.
 
+ghost use Rattle.codec_frame.specs.Bytes.{AreBytes};
+
 use crate::cluster::ClusterState;
 use disk_model::FaultDir;
 use nrt_base::NodeNo;
+
+/// Each is a byte. A law.
+pub fn are_bytes(bytes: &[u8])
+    ensures { AreBytes bytes.now }
+{
+    let _bytes = bytes;
+}
 
 impl<D: FaultDir + Drop> ClusterState<D> {
     ghost use Rattle.std.specs.Prelude.{◌≡◌, ◌≤◌, false, IfSome};

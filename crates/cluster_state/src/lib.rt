@@ -4,6 +4,7 @@
 mod cluster;
 mod laws;
 mod met;
+mod receivers;
 mod refusals;
 mod standing;
 mod turn;
@@ -12,7 +13,9 @@ pub use cluster::ClusterState;
 pub use cluster_nodes::{
     CommitTask, CopyTask, FileTask, Node, Place, Replica, SettleTask, files_last,
 };
+pub use laws::are_bytes;
 pub use met::{are_planned, has_risen, kinds_in, show_met};
+pub use receivers::replicas;
 pub use refusals::{refuse, refuse_turn};
 pub use standing::Standing;
 pub use turn::Turn;

@@ -5,7 +5,7 @@ ghost use Rattle.history_rules.specs.Nodes.{IsNode};
 ghost use Rattle.history_rules.specs.Lines.{is_answered};
 ghost use Rattle.history_rules.specs.Faults.{is_of_disk};
 ghost use Rattle.history_book.specs.Log.{Log, printed};
-ghost use Rattle.cluster_state.specs.Met.{met_in, with_met, fault_if, IsPlannedIf, ArePlanned, has_risen as has_risen_at, Stands};
+ghost use Rattle.cluster_state.specs.Met.{met_in, with_met, fault_if, IsPlannedIf, ArePlanned, has_risen as has_risen_at, ClusterStands};
 
 use cluster_nodes::{Node, Place};
 use disk_model::FaultDir;
@@ -143,7 +143,8 @@ pub fn show_met<D: FaultDir + Drop>(
     requires count { length before.now ≡ ledger.old.nodes }
     requires places { length places.now.items ≡ ledger.old.nodes }
     requires few { length before.now ≤ 255 }
-    requires planned { ArePlanned 1 before.now (map (met_in D.planned) places.now.items) (printed ledger.old.log) }
+    requires planned { ArePlanned 1 before.now (map (met_in D.planned) places.now.items)
+        (printed ledger.old.log) }
     requires unanswered { is_answered at (printed ledger.old.log) ≡ false }
     ensures log { ledger.new.log
         ≡ with_met false at 1 before.now (map (met_in D.planned) places.now.items) ledger.old.log }
@@ -170,7 +171,8 @@ pub fn stands_behind<D: FaultDir + Drop>(
     at: At,
     before: &[(u64, u64)],
 )
-    ensures { (log : Log) → Stands D.cells ledger.now.nodes places.now.items ledger.now.cut tasks.now log
-        → Stands D.cells ledger.now.nodes places.now.items ledger.now.cut tasks.now
+    ensures { (log : Log)
+        → ClusterStands D.cells ledger.now.nodes places.now.items ledger.now.cut tasks.now log
+        → ClusterStands D.cells ledger.now.nodes places.now.items ledger.now.cut tasks.now
         (with_met false at 1 before.now (map (met_in D.planned) places.now.items) log) }
 {}

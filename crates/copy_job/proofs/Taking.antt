@@ -5,15 +5,14 @@ use Rattle.std.specs.List.Sorted.{IsStrictlySortedBy}
 use Rattle.std.specs.Ordering.{nat_cmp}
 use Rattle.std.specs.Cmp.Lexicographic.{slice_cmp}
 use Rattle.std.proofs.lemmas.List.Kept.{IsStrictlySortedBy-filter}
-use Rattle.std.proofs.lemmas.Bool.{and_parts, and_from, eqb-true}
-use Rattle.std.proofs.lemmas.Bool.Decides.{nat_tests}
+use Rattle.std.proofs.lemmas.Bool.{and_parts, and_from, eqb-true, eq-eqb}
 use Rattle.std.proofs.lemmas.List.{take-append-drop, take_more, take_more_set}
 use Rattle.std.proofs.lemmas.List.Elements.{filter-append}
 use Rattle.disk_model.specs.Disk.{Name, Cells, same, is_among}
 use Rattle.disk_model.proofs.CellLemmas.{same_true}
 use Rattle.file_deleter.specs.Holdings.{Holdings, count_of, times, AreCounted}
 use Rattle.file_deleter.specs.Moves.{LetsGo, MovesCounts}
-use Rattle.file_deleter.proofs.NameLemmas.{same_self, times-cons, times-append, among_times, not_among_times, once as once_name}
+use Rattle.file_deleter.proofs.NameLemmas.{same_self, same_turned, times-cons, times-append, among_times, not_among_times, once as once_name}
 use Rattle.copy_state.specs.declared.meta.FileMetaData.{FileMetaData}
 use Rattle.copy_state.specs.States.{meta_names, meta_in}
 use Rattle.copy_job.specs.declared.part.JobPart.{JobPart}
@@ -36,12 +35,9 @@ one_meta a b e =
     let s : a.checksum ≡ b.checksum = eqb-true a.checksum b.checksum r.1 in
     λ i. record { header = h i; footer = f i; length = l i; checksum = s i }
 
-eqb_self : (n : ℕ) → (n == n) ≡ true
-eqb_self n = grind (arith, nat_tests)
-
-meta_self : (a : FileMetaData) → is_same_meta (Some a) (Some a) ≡ true
+pub meta_self : (a : FileMetaData) → is_same_meta (Some a) (Some a) ≡ true
 meta_self a = and_from (same a.header a.header) (same a.footer a.footer && ((a.length == a.length) && (a.checksum == a.checksum))) (same_self a.header)
-    (and_from (same a.footer a.footer) ((a.length == a.length) && (a.checksum == a.checksum)) (same_self a.footer) (and_from (a.length == a.length) (a.checksum == a.checksum) (eqb_self a.length) (eqb_self a.checksum)))
+    (and_from (same a.footer a.footer) ((a.length == a.length) && (a.checksum == a.checksum)) (same_self a.footer) (and_from (a.length == a.length) (a.checksum == a.checksum) (eq-eqb a.length a.length refl) (eq-eqb a.checksum a.checksum refl)))
 
 -- the test answers whether both are one
 pub tested_meta : (a b : FileMetaData) (r : Bool) → (r ≡ true → a ≡ b) → (a ≡ b → r ≡ true) → r ≡ is_same_meta (Some a) (Some b)
@@ -53,14 +49,6 @@ tested_meta a b false one back = by (is_same_meta (Some a) (Some b)) refl
     by false e = sym e
 
 -- ---- a walk over files
-same_turned : (a b : Name) → same a b ≡ same b a
-same_turned a b = by (same a b) (same b a) refl refl
-  where
-    by : (s t : Bool) → same a b ≡ s → same b a ≡ t → same a b ≡ same b a
-    by true t e f = e ∙ sym (ap (λ (n : Name). same b n) (same_true a b e) ∙ same_self b)
-    by false true e f = ap (λ (n : Name). same n b) (sym (same_true b a f)) ∙ same_self b ∙ sym f
-    by false false e f = e ∙ sym f
-
 -- ---- names that are left out
 times-filter : (test : Name → Bool) (ys : List Name) (q : Name) → times (filter test ys) q ≡ cond (test q) (times ys q) 0
 times-filter test [] q = by (test q)

@@ -7,6 +7,7 @@ ghost use Rattle.link_model.specs.Carrying.{CountsLinkFaults, carried_by};
 ghost use Rattle.copy_job.specs.Copying.{HasReceived, IsDifference, IsPartOf, HasCopyCause, TellsDifference, ArrivesByFate};
 
 use crate::fault::JobFault;
+use byteorder::{BigEndian, ByteOrder};
 use bytes::Bytes;
 use codec_frame::crc32;
 use copy_state::FileMetaData;
@@ -72,10 +73,7 @@ fn field_of(bytes: &[u8]) -> u64
     requires { 8 ≤ length bytes.now }
     ensures { result ≡ be64_at bytes.now (length bytes.now - 8) }
 {
-    match bytes[bytes.len() - 8..].first_chunk::<8>() {
-        Some(field) => u64::from_be_bytes(*field),
-        None => unreachable!(),
-    }
+    BigEndian::read_u64(&bytes[bytes.len() - 8..])
 }
 
 // How many bytes there are.

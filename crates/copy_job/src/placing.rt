@@ -66,10 +66,10 @@ pub(crate) fn place<D: Dir>(
     requires names { length parts.old.items ≤ length names.old.items }
     requires placeable { ArePlaceable files.old parts.old.items }
     requires whole { IsWhole (D.cells dir.old) files.old }
-    ensures ok { OnOk result (Places (length parts.old.items) parts.old.items parts.new.items files.old files.new
-        (D.cells dir.old) (D.cells dir.new)) }
-    ensures err { OnErr result ((count : ℕ) × Places count parts.old.items parts.new.items files.old files.new
-        (D.cells dir.old) (D.cells dir.new)) }
+    ensures ok { OnOk result (Places (length parts.old.items) parts.old.items parts.new.items
+        files.old files.new (D.cells dir.old) (D.cells dir.new)) }
+    ensures err { OnErr result ((count : ℕ) × Places count parts.old.items parts.new.items
+        files.old files.new (D.cells dir.old) (D.cells dir.new)) }
     ensures names { KeepsNames parts.old.items names.old.items parts.new.items names.new.items }
     ensures long { length names.new.items ≡ length names.old.items }
     ensures parts_capacity { vec_capacity parts.new ≡ vec_capacity parts.old }

@@ -10,6 +10,3 @@ pub use meta::{FileMetaData, MetaFault, same};
 pub use reading::read_meta;
 pub use segment_infos::{Infos, encode};
 pub use state::CopyState;
-
-#[cfg(test)]
-mod tests;

@@ -1,5 +1,5 @@
--- Each name that has a past is noted, and a sync of the names settles those that are.
-use Rattle.std.proofs.Common.{◌≡◌, ◌≢◌, ℕ, Bool, true, false, ◌||◌, cond, is_some, List, [], ◌∷◌, ◌++◌, Option, Some, None, Result, Ok, Err, refl, sym, ap, subst, ◌∙◌, true≢false}
+-- A name is settled or forgotten, and each name that has a past stays noted.
+use Rattle.std.proofs.Common.{◌≡◌, Bool, true, false, ◌||◌, cond, is_some, List, [], ◌∷◌, ◌++◌, Option, None, Result, Ok, Err, refl, sym, ap, subst, ◌∙◌, true≢false}
 use Rattle.std.specs.Prelude.{OnOk, OnErr}
 use Rattle.std.proofs.Math.Bool.{or-true}
 use Rattle.std.proofs.lemmas.Cmp.{nat_list_eq_equiv}
@@ -12,9 +12,8 @@ use Rattle.disk_model.specs.Disk.{Name, same, put, is_among}
 use Rattle.disk_model.proofs.CellLemmas.{same_true, put_here}
 use Rattle.disk_memory.specs.declared.changed.Changed.{Changed}
 use Rattle.disk_memory.specs.Changed.{has_changed, AreAllNoted}
-use Rattle.disk_memory.specs.Held.{Held, untouched, content_of, held_flushed, held_settled}
+use Rattle.disk_memory.specs.Held.{Held, untouched, content_of, held_settled}
 use Rattle.disk_memory.specs.Table.{Table, held_at, held_in}
-use Rattle.disk_memory.specs.Crash.{started}
 use Rattle.disk_memory.proofs.TableLemmas.{Slots}
 use Rattle.disk_memory.proofs.WalkLemmas.{settled_gone}
 
@@ -46,14 +45,6 @@ pub added_here : (all : Bool) (old new : List Name) (x : Name) → new ≡ old +
 added_here true old new x e = refl
 added_here false old new x e =
     ap (λ ns. is_among ns x) e ∙ list_any-append (λ y. same y x) old (x ∷ []) ∙ ap (λ t. is_among old x || (t || false)) (nat_list_eq_equiv.refl x) ∙ or-true (is_among old x)
-
--- a name that has a past is noted already
-pub noted_already : (c : Changed) (entries : List (Name × Held)) (name : Name) → AreAllNoted c entries → (held_in entries name).past ≢ [] → has_changed c name ≡ true
-noted_already c entries name noted some = by (has_changed c name) refl
-  where
-    by : (t : Bool) → has_changed c name ≡ t → t ≡ true
-    by true e = refl
-    by false e = absurd (some (noted name e))
 
 not_before : (c d : Changed) (q : Name) → (has_changed c q ≡ true → has_changed d q ≡ true) → has_changed d q ≡ false → has_changed c q ≡ false
 not_before c d q kept off = by (has_changed c q) refl
@@ -92,35 +83,3 @@ module _ (c d : Changed) (old new : List (Name × Held)) (noted : AreAllNoted c 
   pub noted_on_both : {T E : Type 0} (r : Result T E) (from to : Name) (h k : Held) → has_changed d from ≡ true → has_changed d to ≡ true → OnOk r (held_in new ≡ put (put (held_in old) to h) from k) → OnErr r (held_in new ≡ held_in old) → AreAllNoted d new
   noted_on_both (Ok x) from to h k first second ok err = noted_changes from to h k first second ok
   noted_on_both (Err e) from to h k first second ok err = noted_still err
-
--- a sync of bytes leaves the past
-pub noted_flush : (c : Changed) (old new : List (Name × Held)) (names : List Name) → AreAllNoted c old → ((q : Name) → held_in new q ≡ cond (is_among names q) (held_flushed (held_in old q)) (held_in old q)) → AreAllNoted c new
-noted_flush c old new names noted is q off = ap (λ (h : Held). h.past) (is q) ∙ by (is_among names q) (held_in old q) ∙ noted q off
-  where
-    by : (t : Bool) (h : Held) → (cond t (held_flushed h) h).past ≡ h.past
-    by true h = refl
-    by false h = refl
-
--- a name without a past is settled
-settled_already : (h : Held) → h.past ≡ [] → h ≡ held_settled h
-settled_already h e = λ i. record { state = h.state; past = e i }
-
--- who settles the names that are noted settles all
-pub settled_all : (c : Changed) (old new : List (Name × Held)) → AreAllNoted c old → c.all ≡ false → ((q : Name) → held_in new q ≡ cond (is_among c.names.items q) (held_settled (held_in old q)) (held_in old q))
-    → (q : Name) → held_in new q ≡ held_settled (held_in old q)
-settled_all c old new noted some is q = is q ∙ by (is_among c.names.items q) refl
-  where
-    by : (t : Bool) → is_among c.names.items q ≡ t → cond t (held_settled (held_in old q)) (held_in old q) ≡ held_settled (held_in old q)
-    by true e = refl
-    by false e = settled_already (held_in old q) (noted q (ap (λ (b : Bool). b || is_among c.names.items q) some ∙ e))
-
--- what is settled, or starts from a content, has no past
-pub noted_settled : (d : Changed) (old new : List (Name × Held)) → ((q : Name) → held_in new q ≡ held_settled (held_in old q)) → AreAllNoted d new
-noted_settled d old new is q off = ap (λ (h : Held). h.past) (is q)
-
-pub noted_started : (d : Changed) (new : List (Name × Held)) (left : Name → Option (List ℕ)) → ((q : Name) → held_in new q ≡ started (left q)) → AreAllNoted d new
-noted_started d new left is q off = ap (λ (h : Held). h.past) (is q) ∙ by (left q)
-  where
-    by : (o : Option (List ℕ)) → (started o).past ≡ []
-    by None = refl
-    by (Some bytes) = refl

@@ -112,7 +112,8 @@ fn half_set_in_slot(
 ) -> Result<(), NoMemory>
     requires there { is_some (get_by (slice_cmp nat_cmp name.now) slots.old) ≡ true }
     requires absent { reads_in slots.old.entries name.now ≡ None }
-    ensures ok { OnOk result (ChangesAt slots.old.entries slots.new.entries name.now (with_outcome (outcome_of state))) }
+    ensures ok { OnOk result (ChangesAt slots.old.entries slots.new.entries name.now
+        (with_outcome (outcome_of state))) }
     ensures err { OnErr result (IsUnchanged slots.old.entries slots.new.entries) }
 {
     match slots.get_mut(name) {
@@ -141,7 +142,8 @@ pub fn half_set(
     state: State,
 ) -> Result<(), NoMemory>
     requires { reads_in slots.old.entries name.now ≡ None }
-    ensures ok { OnOk result (ChangesAt slots.old.entries slots.new.entries name.now (with_outcome (outcome_of state))) }
+    ensures ok { OnOk result (ChangesAt slots.old.entries slots.new.entries name.now
+        (with_outcome (outcome_of state))) }
     ensures err { OnErr result (IsUnchanged slots.old.entries slots.new.entries) }
 {
     if slots.contains_key(name) {

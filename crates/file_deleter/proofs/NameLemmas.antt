@@ -237,8 +237,8 @@ pub dedup_ascends : (xs : List Name) → IsSorted (slice_cmp nat_cmp) xs → IsS
 dedup_ascends xs sorted = IsStrictlySortedBy-dedup nat_list_cmp_total (λ a b. sym (is_eq-slice_cmp a b)) xs sorted
 
 -- ---- the names of a table
-turned : (a b : Name) → same a b ≡ same b a
-turned a b = by (same a b) (same b a) refl refl
+pub same_turned : (a b : Name) → same a b ≡ same b a
+same_turned a b = by (same a b) (same b a) refl refl
   where
     by : (s t : Bool) → same a b ≡ s → same b a ≡ t → same a b ≡ same b a
     by true t e f = e ∙ sym (same_self b) ∙ ap (λ (n : Name). same b n) (sym (same_true a b e))
@@ -247,7 +247,7 @@ turned a b = by (same a b) (same b a) refl refl
 
 pub among-keys : {X : Type 0} (entries : List (Name × X)) (q : Name) → is_among (keys_of entries) q ≡ is_some (lookup (same q) entries)
 among-keys [] q = refl
-among-keys {X} (e ∷ es) q = ap (λ b. b || is_among (keys_of es) q) (turned e.0 q) ∙ by (same q e.0) (among-keys es q)
+among-keys {X} (e ∷ es) q = ap (λ b. b || is_among (keys_of es) q) (same_turned e.0 q) ∙ by (same q e.0) (among-keys es q)
   where
     by : (b : Bool) → is_among (keys_of es) q ≡ is_some (lookup (same q) es) → (b || is_among (keys_of es) q) ≡ is_some (cond b (Some e.1) (lookup (same q) es))
     by true rest = refl

@@ -7,6 +7,3 @@ mod removals;
 mod tally;
 
 pub use deleter::{FileDeleter, HoldFault};
-
-#[cfg(test)]
-mod tests;

@@ -1,3 +1,5 @@
+//! The names that an index gives its files: parts of segments, live rows, commits and temporary files.
+
 ghost use Rattle.std.specs.Prelude.{◌≡◌, ◌+◌, ◌≤◌, ◌<◌, ◌^◌, ◌++◌, [], length, IsTrue};
 ghost use Rattle.file_names.specs.Names.{is_file_name};
 ghost use Rattle.file_names.specs.Names.{part_ending, part_name_of, live_name_of, commit_name_of, commit_number, is_commit_name, pending_name_of, pending_number, is_pending_name, temp_name_of};

@@ -1,3 +1,5 @@
+//! A file's name, and why bytes are none.
+
 ghost use Rattle.std.specs.Prelude.{◌≡◌, ◌-◌, ◌≤◌, ◌<◌, ◌↔◌, ℕ, [], ◌++◌, length, replicate, position, not, IfOk, IsErrOf, IsTrue, nat_eq};
 ghost use Rattle.std.proofs.Common.{rules, refl, sym};
 ghost use Rattle.std.specs.Cmp.{partial_equiv_from_equiv, partial_order_from_total, partial_order_from_own_ties};

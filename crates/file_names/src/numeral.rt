@@ -1,3 +1,5 @@
+//! A number in base 36, as its digits.
+
 ghost use Rattle.std.specs.Prelude.{◌≡◌, ◌<◌, IsTrue};
 ghost use Rattle.file_names.specs.Base36.{digit_of, is_base36, base36_of};
 

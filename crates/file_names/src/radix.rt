@@ -1,3 +1,5 @@
+//! Numbers in base 36, written as digits and read back.
+
 ghost use Rattle.std.specs.Prelude.{◌≡◌, ◌^◌, ◌<◌, ◌↔◌, ℕ, [], position, IsErrOf, IsTrue, SomeIff};
 ghost use Rattle.std.specs.List.{list_all};
 ghost use Rattle.file_names.specs.Base36.{is_base36_digit, digit_value, base36_value, has_leading_zero, first_not_digit, base36_of, SpellsBase36, IsLedByZero, SpellsTooLarge};
@@ -34,7 +36,8 @@ pub fn base36(n: u64) -> Base36
 pub fn read_base36(bytes: &[u8]) -> Result<u64, Base36Fault>
     ensures number { (n : ℕ) → (result ≡ Ok n) ↔ (SpellsBase36 bytes.now n × (n < 2 ^ 64)) }
     ensures empty { IsErrOf result Base36Fault.Empty ↔ (bytes.now ≡ []) }
-    ensures digit { (at : ℕ) → IsErrOf result (Base36Fault.Digit at) ↔ (first_not_digit bytes.now ≡ Some at) }
+    ensures digit { (at : ℕ)
+        → IsErrOf result (Base36Fault.Digit at) ↔ (first_not_digit bytes.now ≡ Some at) }
     ensures leading { IsErrOf result Base36Fault.LeadingZero ↔ IsLedByZero bytes.now }
     ensures large { IsErrOf result Base36Fault.TooLarge ↔ SpellsTooLarge bytes.now }
 {

@@ -76,7 +76,8 @@ fn last_mark(bytes: &[u8]) -> Option<usize>
 
 // The front and the number of what is `front_N` and this ending.
 fn numbered<'a>(name: &'a [u8], ending: &[u8]) -> Option<(&'a [u8], u64)>
-    ensures some { IfSome result (λ p. (p.1 < 2 ^ 64) × (name.now ≡ numbered_name p.0.now p.1 ending.now)) }
+    ensures some { IfSome result
+        (λ p. (p.1 < 2 ^ 64) × (name.now ≡ numbered_name p.0.now p.1 ending.now)) }
     ensures all { (front : List ℕ) (n : ℕ) → n < 2 ^ 64 → name.now ≡ numbered_name front n ending.now
         → IsSomeAnd result (λ p. (p.0.now ≡ front) × (p.1 ≡ n)) }
 {

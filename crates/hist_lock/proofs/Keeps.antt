@@ -10,8 +10,8 @@ use lib.Seq.{set-get_or}
 use lib.ListN.{get_elem?}
 use Rattle.atomic_table.specs.Table.{rest, State, Me, step, Act, Valid, carried_after, keeps, takes, gives, stepped, Allows, Splits, Joins, opening, Final, Seen}
 use Rattle.atomic_table.proofs.Lists.{at_set, at_snoc, one_turn, set_else, set_again}
-use Rattle.hist_lock.specs.declared.view.Turn.{Turn}
-use Rattle.hist_lock.specs.declared.view.Turn.TheVariants.{Idle, Waiting, Inside}
+use Rattle.hist_lock.specs.declared.view.SeatTurn.{SeatTurn}
+use Rattle.hist_lock.specs.declared.view.SeatTurn.TheVariants.{Idle, Waiting, Inside}
 use Rattle.hist_lock.specs.declared.view.JoinedSeat.{JoinedSeat}
 use Rattle.hist_lock.specs.declared.view.View.{View}
 use Rattle.hist_lock.specs.History.{Each, longer_of, shorter_of, entries_by, MayAppend, Extends, HasJust, Continues}
@@ -56,7 +56,7 @@ module _ {T E : Type 0} (history : T → List E) (names : E → ℕ) where
   K = IsKept history names
 
   -- a turn reads these of the desk alone
-  same_turn : (d d' : Desk E) → d'.log ≡ d.log → d'.drawn ≡ d.drawn → d'.served ≡ d.served → d'.next ≡ d.next → d'.holder ≡ d.holder → (j : ℕ) (seen : List E) (turn : Turn) → HoldsTicket names d j seen turn → HoldsTicket names d' j seen turn
+  same_turn : (d d' : Desk E) → d'.log ≡ d.log → d'.drawn ≡ d.drawn → d'.served ≡ d.served → d'.next ≡ d.next → d'.holder ≡ d.holder → (j : ℕ) (seen : List E) (turn : SeatTurn) → HoldsTicket names d j seen turn → HoldsTicket names d' j seen turn
   same_turn d d' log drawn served next holder j seen Idle h = tt
   same_turn d d' log drawn served next holder j seen (Waiting t) h = let a = h.0 in let b = h.1 in (omega arith, omega arith, ap (λ (f : ℕ → ℕ). f t) holder ∙ h.2)
   same_turn d d' log drawn served next holder j seen (Inside t) h = let a = h.0 in let b = h.1 in (omega arith, omega arith, ap (λ (f : ℕ → ℕ). f t) holder ∙ h.2, h.3 ∙ sym log)
@@ -80,7 +80,7 @@ module _ {T E : Type 0} (history : T → List E) (names : E → ℕ) where
     seats = k.seats;
   }
 
-  draw_turn : (d : Desk E) (id j : ℕ) (seen : List E) (turn : Turn) → HoldsTicket names d j seen turn → HoldsTicket names (record d { drawn = d.drawn + 1; holder = but d.holder d.drawn id }) j seen turn
+  draw_turn : (d : Desk E) (id j : ℕ) (seen : List E) (turn : SeatTurn) → HoldsTicket names d j seen turn → HoldsTicket names (record d { drawn = d.drawn + 1; holder = but d.holder d.drawn id }) j seen turn
   draw_turn d id j seen Idle h = tt
   draw_turn d id j seen (Waiting t) h = (h.0, (let a = h.1 in omega arith), but_else d.holder d.drawn id t (let a = h.1 in λ e. omega arith) ∙ h.2)
   draw_turn d id j seen (Inside t) h = (h.0, (let a = h.1 in omega arith), but_else d.holder d.drawn id t (let a = h.1 in λ e. omega arith) ∙ h.2, h.3)
@@ -118,7 +118,7 @@ module _ {T E : Type 0} (history : T → List E) (names : E → ℕ) where
   knows s k id v log same at = let f = k.seats id v at in subst (λ (l : List E). Continues names v l) (sym same)
       record { seen = f.seen; own = λ h. (f.own h).3; joined = each_map (AnswersFor names k.desk id v.number) (HasJust names k.desk.log) (λ (x : JoinedSeat E) h p. (h p).0.3) v.joined f.joined; others = λ h n above. let e = (f.is_first h).1 in k.fresh n (omega arith) }
 
-  let_in : (d : Desk E) (id t j : ℕ) (seen : List E) → t ≡ d.served → d.next ≡ d.served → d.holder t ≡ id → j ≢ id → (turn : Turn) → HoldsTicket names d j seen turn → HoldsTicket names (record d { next = d.served + 1 }) j seen turn
+  let_in : (d : Desk E) (id t j : ℕ) (seen : List E) → t ≡ d.served → d.next ≡ d.served → d.holder t ≡ id → j ≢ id → (turn : SeatTurn) → HoldsTicket names d j seen turn → HoldsTicket names (record d { next = d.served + 1 }) j seen turn
   let_in d id t j seen here next mine other Idle h = tt
   let_in d id t j seen here next mine other (Waiting x) h =
       let a = h.0 in
@@ -188,7 +188,7 @@ module _ {T E : Type 0} (history : T → List E) (names : E → ℕ) where
       (λ hit. let e = enters s k id (turn_ticket v.turn) v at is' hit in (inside_view v (turn_ticket v.turn) (history e.0), takes 0 (Some e.0), e.1, e.2, ((λ _. (e.0, refl, e.3)), (λ miss. absurd (miss hit)))))
       (λ miss. (v, keeps, tt, unmoved s k 1 id v at, ((λ hit. absurd (miss hit)), (λ _. refl)))))
 
-  serve : (d : Desk E) (log : List E) (id t j : ℕ) (seen : List E) → t ≡ d.served → d.served ≤ d.next → d.holder t ≡ id → j ≢ id → (turn : Turn) → HoldsTicket names d j seen turn
+  serve : (d : Desk E) (log : List E) (id t j : ℕ) (seen : List E) → t ≡ d.served → d.served ≤ d.next → d.holder t ≡ id → j ≢ id → (turn : SeatTurn) → HoldsTicket names d j seen turn
       → HoldsTicket names (record d { log = log; served = d.served + 1; next = d.served + 1 }) j seen turn
   serve d log id t j seen here le mine other Idle h = tt
   serve d log id t j seen here le mine other (Waiting x) h =

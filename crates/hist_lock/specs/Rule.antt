@@ -4,8 +4,8 @@ use mathlib.Core.Option.{some, none}
 use mathlib.Core.List.{IsPrefix}
 use lib.ListN.{get_elem?}
 use Rattle.atomic_table.specs.Table.{State}
-use Rattle.hist_lock.specs.declared.view.Turn.{Turn}
-use Rattle.hist_lock.specs.declared.view.Turn.TheVariants.{Idle, Waiting, Inside}
+use Rattle.hist_lock.specs.declared.view.SeatTurn.{SeatTurn}
+use Rattle.hist_lock.specs.declared.view.SeatTurn.TheVariants.{Idle, Waiting, Inside}
 use Rattle.hist_lock.specs.declared.view.JoinedSeat.{JoinedSeat}
 use Rattle.hist_lock.specs.declared.view.View.{View}
 use Rattle.hist_lock.specs.History.{Each, entries_by}
@@ -44,7 +44,7 @@ module _ {E : Type 0} (names : E → ℕ) where
   AnswersFor d at n j = 0 < j.number → Owns d at j.number j.own × (j.number ≢ n)
 
   -- a ticket that waits is the seat's own and was not served yet; the seat that is inside has the ticket being served, and has seen all
-  abbrev pub HoldsTicket : Desk E → ℕ → List E → Turn → Type 0
+  abbrev pub HoldsTicket : Desk E → ℕ → List E → SeatTurn → Type 0
   HoldsTicket d at seen Idle = Unit {0}
   HoldsTicket d at seen (Waiting t) = (d.next ≤ t) × (t < d.drawn) × (d.holder t ≡ at)
   HoldsTicket d at seen (Inside t) = (t ≡ d.served) × (t < d.drawn) × (d.holder t ≡ at) × (seen ≡ d.log)

@@ -1,6 +1,6 @@
 -- What contracts say of a seat.
 use Rattle.std.specs.Prelude.{◌≡◌, ℕ, ◌+◌, ◌<◌, ◌≤◌, List, [], ◌∷◌, ◌++◌, true, None}
-use Rattle.hist_lock.specs.declared.view.Turn.TheVariants.{Idle, Inside}
+use Rattle.hist_lock.specs.declared.view.SeatTurn.TheVariants.{Idle, Inside}
 use Rattle.hist_lock.specs.declared.view.JoinedSeat.{JoinedSeat}
 use Rattle.hist_lock.specs.declared.view.View.{View}
 use Rattle.hist_lock.specs.declared.grows.Grows.{Ghosts}

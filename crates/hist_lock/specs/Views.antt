@@ -1,7 +1,7 @@
 -- What seats know, at first and after each kind of step.
 use Rattle.std.specs.Prelude.{ℕ, ◌+◌, ◌-◌, List, [], ◌∷◌, ◌++◌, true, false}
-use Rattle.hist_lock.specs.declared.view.Turn.{Turn}
-use Rattle.hist_lock.specs.declared.view.Turn.TheVariants.{Idle, Waiting, Inside}
+use Rattle.hist_lock.specs.declared.view.SeatTurn.{SeatTurn}
+use Rattle.hist_lock.specs.declared.view.SeatTurn.TheVariants.{Idle, Waiting, Inside}
 use Rattle.hist_lock.specs.declared.view.JoinedSeat.{JoinedSeat}
 use Rattle.hist_lock.specs.declared.view.View.{View}
 use Rattle.hist_lock.specs.History.{longer_of, shorter_of, entries_by}
@@ -11,7 +11,7 @@ abbrev pub all_room : ℕ
 all_room = 4294967295
 
 -- the ticket of a seat that waits or is inside
-abbrev pub turn_ticket : Turn → ℕ
+abbrev pub turn_ticket : SeatTurn → ℕ
 turn_ticket (Waiting t) = t
 turn_ticket (Inside t) = t
 turn_ticket Idle = 0

@@ -162,7 +162,7 @@ pub fn append_in_two_threads<R: Threads + Wait + Sync>(
 
 /// What two threads leave behind.
 #[derive(Drop)]
-pub struct Left {
+pub struct LeftByTwo {
     pub pairs: Pairs,
     /// What the first thread had seen at its end.
     pub one: Vec<(u64, u64)>,
@@ -175,7 +175,7 @@ pub fn list_of_two_threads<R: Threads + Wait + Sync>(
     rt: &R,
     alloc: Global,
     count: u64,
-) -> Result<Left, AllocError>
+) -> Result<LeftByTwo, AllocError>
     ensures one { IfOk result (λ l. filter (λ e. e.0 == 1) l.pairs ≡ pairs_below 1 count) }
     ensures two { IfOk result (λ l. filter (λ e. e.0 == 2) l.pairs ≡ pairs_below 2 count) }
     ensures seen { IfOk result (λ l. IsPrefix l.one.items l.pairs × IsPrefix l.two.items l.pairs) }
@@ -187,7 +187,7 @@ pub fn list_of_two_threads<R: Threads + Wait + Sync>(
     lock.join(&mut first, one.0);
     lock.join(&mut first, two.0);
     let pairs = lock.close(first);
-    Ok(Left {
+    Ok(LeftByTwo {
         pairs,
         one: one.1?,
         two: two.1?,

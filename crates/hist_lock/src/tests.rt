@@ -1,12 +1,14 @@
 //! Two threads append to one list under the lock, and a seat is told what another has seen.
 
 use crate::lock::HistLock;
-use crate::pairs::{Left, Pairs, append_in_two_threads, list_of_two_threads, lock_after_telling};
+use crate::pairs::{
+    LeftByTwo, Pairs, append_in_two_threads, list_of_two_threads, lock_after_telling,
+};
 use std::test::Fail;
 
 #[test]
 fn two_threads_append_a_thousand_each(rt: HostRuntime) -> Result<(), Fail> {
-    let Left { pairs, one, two } = list_of_two_threads(&rt, rt.alloc(), 1000)?;
+    let LeftByTwo { pairs, one, two } = list_of_two_threads(&rt, rt.alloc(), 1000)?;
     let mut next = [0u64, 0];
     let mut ordered = true;
     for &(by, number) in pairs.as_slice() {

@@ -2,7 +2,7 @@
 use std::collections::LinkedList;
 
 /// Where a seat stands, with its ticket.
-pub enum Turn {
+pub enum SeatTurn {
     /// It holds nothing.
     Idle,
     /// It waits until its ticket is served.
@@ -36,5 +36,5 @@ pub struct View<E> {
     pub splits: u64,
     /// How many tickets it, the seats that were joined to it and those that it may still split off could draw at once.
     pub room: u64,
-    pub turn: Turn,
+    pub turn: SeatTurn,
 }

@@ -14,7 +14,7 @@ use Rattle.history_rules.specs.declared.entry.Event.TheVariants.{Published, Copy
 use Rattle.history_rules.specs.Nodes.{Past, primary_by, version_of, IsNode, IsReplica, is_at, primary_of, primary_crashes, is_running, crashes, newest_version, is_point, is_made_in_generation}
 use Rattle.history_rules.specs.Commits.{is_passed}
 use Rattle.history_rules.specs.Lines.{highest_switched, same_at, is_start, is_reply, is_answered, start_entry, before_start, NodeSurvives, SourceSurvives}
-use Rattle.history_rules.specs.Rules.{StartedCopy, MaySwitch, MayCancel, IsWhole}
+use Rattle.history_rules.specs.Rules.{StartedCopy, MaySwitch, MayCancel, IsLineWhole}
 use Rattle.history_rules.specs.Started.{is_node_of, is_copied_beside, is_settled_beside}
 use Rattle.history_rules.specs.Legal.{KeepsRule, IsLegalPast}
 use Rattle.history_rules.proofs.PastLemmas.{point_stays, newest_made}
@@ -36,6 +36,7 @@ use Rattle.history_book.specs.Log.{Log, printed}
 use Rattle.history_book.specs.Turns.{StartsOnce, InTurn, AreInTurn}
 use Rattle.history_tables.proofs.RowLemmas.{same_at_is}
 use Rattle.history_book.proofs.FreshLaws.{open_unanswered}
+use Rattle.history_book.proofs.ToldLaws.{passes_old}
 use Rattle.history_book.proofs.ReignLaws.{since_start, reigns_on, start_kept, start_short, node_alive, source_alive, node_crashes_rise, source_crashes_rise, primary_crashes_rise}
 
 going_if : (b : Bool) (r : JobRow) (v : Version) → is_going (if b then record r { later = Some v } else r) ≡ true → b ≡ false
@@ -460,10 +461,6 @@ module _ (size : ℕ) (log : Log) (job : Job) (r : JobRow) (legal : IsLegalPast 
   cancels : IsCancelled size (printed log) r.job.at job.version (start_entry r.job.at (printed log))
   cancels = cancelled_by (start_entry r.job.at (printed log)) refl s.started
 
-passes_old : (o : Option JobRow) (row : JobRow) → row_if_some Passes o ≡ Some row → o ≡ Some row
-passes_old None row is = absurd (cc)
-passes_old (Some r) row is = is
-
 kept_step : (size lane : ℕ) (log : Log) (i : Inner) → IsLegalPast size (printed log) → AreInTurn (printed log) → IsInside size log i
     → ((r : JobRow) → job_of lane log ≡ Some r → LaneJobShows size (printed log) r)
     → (row : JobRow) → last_job_by true lane (job_step i) (length (printed log)) (last_job true lane log) ≡ Some row → LaneJobShows size (printed log) row
@@ -551,7 +548,7 @@ point_positive size (e ∷ past) v legal is = step e.event legal.0 is (point_pos
 
 -- the node of a job that is below the version of the line's start may switch to the job's
 pub job_switches : (size : ℕ) (past : Past) (row : JobRow) → IsLegalPast size past → LaneJobShows size past row → NodeSurvives past row.job.at row.job.node.0 → SourceSurvives past row.job.at
-    → version_of row.job.node.0 past < newest_version (before_start row.job.at past) → is_passed row.job.node.0 row.job.version.0 past ≡ false → IsWhole size past row.job.at → highest_switched row.job.at past < row.job.node.0
+    → version_of row.job.node.0 past < newest_version (before_start row.job.at past) → is_passed row.job.node.0 row.job.version.0 past ≡ false → IsLineWhole size past row.job.at → highest_switched row.job.at past < row.job.node.0
     → MaySwitch size past row.job.at row.job.node row.job.version
 job_switches size past row legal s alive source below latest whole ordered =
     let high = s.newest in

@@ -47,7 +47,8 @@ so_unstarted log at cause none = tt
 pub so_cancelled : (log : Log) (row : JobRow) (v : Version) → job_of row.job.at.lane.0 log ≡ Some row → row.later ≡ Some v → IsSo log row.job.at (Refused (Cancelled v))
 so_cancelled log row v there later = λ started. record { job = subst (λ (o : Option JobRow). IsSomeAnd o (λ (r : JobRow). (r.job.at ≡ row.job.at) × (r.later ≡ Some v))) (sym there) (refl, later) }
 
-passes_old : (o : Option JobRow) (row : JobRow) → row_if_some Passes o ≡ Some row → o ≡ Some row
+-- a row that an entry passes stays as it was
+pub passes_old : (o : Option JobRow) (row : JobRow) → row_if_some Passes o ≡ Some row → o ≡ Some row
 passes_old None row is = absurd (cc)
 passes_old (Some r) row is = is
 

@@ -31,11 +31,11 @@ abbrev pub counted_for : At → Log → ℕ
 counted_for at log = counted_by (λ b. same_at b at) log
 
 -- whether a cut-over is one since the last point still, after this event: one that makes a point, or ends a reign, ends that
-abbrev pub cut_by : Event → Option NodeNo → Bool → Bool
-cut_by (Published g v) p old = false
-cut_by (Promoted n g f v) p old = false
-cut_by (Crashed n) p old = if is_at p n.0 then false else old
-cut_by e p old = old
+abbrev pub stays_cut : Event → Option NodeNo → Bool → Bool
+stays_cut (Published g v) p old = false
+stays_cut (Promoted n g f v) p old = false
+stays_cut (Crashed n) p old = if is_at p n.0 then false else old
+stays_cut e p old = old
 
 -- the entry cuts a merge over
 abbrev pub cuts_over : Inner → Bool
@@ -45,7 +45,7 @@ cuts_over i = false
 -- a merge was cut over since the last point, under the primary that runs
 abbrev pub cut_since : Log → Bool
 cut_since [] = false
-cut_since (Shown e ∷ log) = cut_by e.event (primary_of (printed log)) (cut_since log)
+cut_since (Shown e ∷ log) = stays_cut e.event (primary_of (printed log)) (cut_since log)
 cut_since (TaskFault e ∷ log) = cut_since log
 cut_since (Kept i ∷ log) = if cuts_over i then true else cut_since log
 

@@ -16,14 +16,14 @@ abbrev pub ReadsTold : Type 0
 ReadsTold = (newer older : Log) (at : At) (e : Event) → IsTold (newer ++ shown at e ∷ older) → IsSo older at e
 
 -- the entry begins a job for this version at this node
-abbrev pub BeginsJob : ℕ → Version → Inner → Type 0
-BeginsJob n v (JobBegun line m number (Some w) (Some by)) = (m.0 ≡ n) × (w ≡ v)
-BeginsJob n v i = ⊥
+abbrev pub BeginsJobFor : ℕ → Version → Inner → Type 0
+BeginsJobFor n v (JobBegun line m number (Some w) (Some by)) = (m.0 ≡ n) × (w ≡ v)
+BeginsJobFor n v i = ⊥
 
 -- such an entry stands there
 abbrev pub HasJob : ℕ → Version → Log → Type 0
 HasJob n v [] = ⊥
-HasJob n v (Kept i ∷ log) = BeginsJob n v i ⊎ HasJob n v log
+HasJob n v (Kept i ∷ log) = BeginsJobFor n v i ⊎ HasJob n v log
 HasJob n v (m ∷ log) = HasJob n v log
 
 -- where the last job of a lane was overtaken, a job for that version began at its node

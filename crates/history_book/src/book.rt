@@ -90,7 +90,7 @@ impl Book {
     ghost use Rattle.history_rules.specs.Lines.{SourceSurvives, NodeSurvives, is_start, is_answered, entries_of_line, last_of_line, start_entry, before_start, publish_in_flight, commit_in_flight, copy_in_flight, highest_switched, has_switched};
     ghost use Rattle.history_rules.specs.Points.{operations_of_generation, accepted_at_start, published_in_generation, names_drawn, merges_started, idle_publishes, cut_of, cut_has_put};
     ghost use Rattle.history_rules.specs.Commits.{has_committed, is_stuck, starts_commit, is_passed};
-    ghost use Rattle.history_rules.specs.Rules.{MaySwitch, MayCommit, IsWhole};
+    ghost use Rattle.history_rules.specs.Rules.{MaySwitch, MayCommit, IsLineWhole};
     ghost use Rattle.history_rules.specs.Tasks.{merge_count, drained_count};
     ghost use Rattle.history_rules.specs.Legal.{KeepsRule, IsLegalPast};
     ghost use Rattle.history_rules.specs.Tickets.{open_ticket, last_opened};
@@ -726,7 +726,7 @@ impl Book {
             < newest_version (before_start row.job.at (printed self.now.log)) }
         requires latest { is_passed row.job.node.0 row.job.version.0 (printed self.now.log)
             ≡ false }
-        requires whole { IsWhole self.now.nodes (printed self.now.log) row.job.at }
+        requires whole { IsLineWhole self.now.nodes (printed self.now.log) row.job.at }
         requires ordered { highest_switched row.job.at (printed self.now.log) < row.job.node.0 }
         ensures { MaySwitch self.now.nodes (printed self.now.log) row.job.at row.job.node
             row.job.version }

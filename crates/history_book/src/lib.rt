@@ -9,6 +9,3 @@ mod whole;
 pub use book::Book;
 pub use history_tables::{Job, JobRow, Opening, Start};
 pub use inner::{Inner, Mark, Step, Stop};
-
-#[cfg(test)]
-mod tests;

@@ -20,7 +20,7 @@ impl Book {
     ghost use Rattle.history_rules.specs.Nodes.{IsNode};
     ghost use Rattle.history_rules.specs.Lines.{NodeSurvives};
     ghost use Rattle.history_rules.specs.Faults.{has_file_fault};
-    ghost use Rattle.history_rules.specs.Rules.{IsWhole};
+    ghost use Rattle.history_rules.specs.Rules.{IsLineWhole};
     ghost use Rattle.history_tables.specs.Begins.{open_line};
     ghost use Rattle.history_book.specs.Log.{printed};
 
@@ -48,7 +48,7 @@ impl Book {
     /// Whether an open line is whole.
     pub fn is_whole(&self, at: At) -> bool
         requires { open_line at (printed self.now.log) ≢ None }
-        ensures { IsTrue result ↔ IsWhole self.now.nodes (printed self.now.log) at }
+        ensures { IsTrue result ↔ IsLineWhole self.now.nodes (printed self.now.log) at }
     {
         if !has_met_fault(at, self.since(at)) {
             return true;

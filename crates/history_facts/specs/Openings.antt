@@ -6,10 +6,10 @@ use Rattle.history_rules.specs.declared.entry.Event.TheVariants.{Opened}
 use Rattle.history_rules.specs.Nodes.{Past, crashes}
 use Rattle.history_rules.specs.Tickets.{Ticket, is_ticket, open_ticket, IsTicketOf}
 use Rattle.history_rules.specs.Points.{has_documents}
-use Rattle.history_facts.specs.declared.tickets.Opening.{Opening}
+use Rattle.history_facts.specs.declared.tickets.TicketOpening.{TicketOpening}
 
 -- the ticket of an opening: its node and version, and how often the node had crashed before it
-abbrev pub opening_of : Opening → Ticket
+abbrev pub opening_of : TicketOpening → Ticket
 opening_of k = record { node = k.n.0; version = k.v.0; life = crashes k.n.0 (reverse k.before.now) }
 
 abbrev pub opens_by : ℕ → ℕ → At → Event → Bool

@@ -1,3 +1,5 @@
+//! What a history shows of faults, planned and met.
+
 ghost use Rattle.std.specs.Prelude.{◌≡◌, reverse};
 ghost use Rattle.history_rules.specs.Faults.{kind_of, same_kind, is_of_disk, is_planned, has_met_fault, has_file_fault, has_just_failed, fails_now};
 

@@ -1,3 +1,5 @@
+//! What a history shows of the present generation: its operations, and what a publish would add.
+
 ghost use Rattle.std.specs.Prelude.{◌≡◌, ◌≤◌, ◌<◌, ◌+◌, ◌^◌, ◌↔◌, ◌⊎◌, ◌∷◌, [], IsTrue, if◌then◌else◌, reverse, length};
 ghost use Rattle.nrt_base.specs.SegNumbers.{segment_number};
 ghost use Rattle.nrt_base.specs.declared.numbers.Version.{Version};

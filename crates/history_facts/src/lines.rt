@@ -1,3 +1,5 @@
+//! What a history shows of one line of the script: its start, its reply, and what happened between them.
+
 ghost use Rattle.std.specs.Prelude.{◌≡◌, ◌↔◌, ◌≤◌, reverse, length, IsTrue};
 ghost use Rattle.std.specs.Option.{option_copied};
 ghost use Rattle.history_rules.specs.Lines.{same_at, is_start, is_reply, is_answered, start_entry, before_start, last_of_line, without_at, publish_in_flight, commit_in_flight, copy_in_flight, is_free_for, has_switched, has_just_switched, highest_switched, NodeSurvives, SourceSurvives};

@@ -1,3 +1,5 @@
+//! What a history shows of the nodes: which is the primary, which run, and what each searches.
+
 ghost use Rattle.std.specs.Prelude.{◌≡◌, ◌↔◌, ◌≤◌, reverse, length, IsTrue, []};
 ghost use Rattle.history_rules.specs.Nodes.{IsNode, IsReplica, is_at, primary_by, primary_of, primary_crashes, is_running, crashes, version_of, newest_version, is_made_in_generation, is_point, accepted_count};
 ghost use Rattle.history_rules.specs.Steps.{version_by};
@@ -24,12 +26,12 @@ pub fn is_node(nodes: u8, n: NodeNo) -> bool
 
 /// The running primary, and how often a running primary has crashed.
 #[derive(Drop)]
-pub struct Primary {
+pub struct RunningPrimary {
     pub node: Option<NodeNo>,
     pub crashes: usize,
 }
 
-pub fn primary_of(entries: &[Entry]) -> Primary
+pub fn primary_of(entries: &[Entry]) -> RunningPrimary
     ensures node { result.node ≡ primary_of (reverse entries.now) }
     ensures crashes { result.crashes ≡ primary_crashes (reverse entries.now) }
 {
@@ -47,7 +49,7 @@ pub fn primary_of(entries: &[Entry]) -> Primary
             _ => {}
         }
     }
-    Primary { node, crashes }
+    RunningPrimary { node, crashes }
 }
 
 /// Whether a node runs.

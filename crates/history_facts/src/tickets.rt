@@ -1,3 +1,5 @@
+//! What a history shows of tickets: which are open, and at which node and version.
+
 ghost use Rattle.std.specs.Prelude.{◌≡◌, ◌↔◌, reverse, IsTrue, IsSomeAnd, MatchOption};
 ghost use Rattle.history_facts.specs.Openings.{opening_of};
 ghost use Rattle.history_rules.specs.Tickets.{last_opened, open_ticket, has_ticket, IsTicketOf};
@@ -8,7 +10,7 @@ use nrt_base::{At, LaneNo, NodeNo, TicketNo, Version};
 
 /// An opening of a ticket.
 #[derive(Drop)]
-pub struct Opening<'a> {
+pub struct TicketOpening<'a> {
     pub n: NodeNo,
     pub v: Version,
     /// The entries before it.
@@ -22,7 +24,7 @@ fn is_ticket(at: At, u: TicketNo, lane: LaneNo, t: TicketNo) -> bool
 }
 
 /// The last opening of a ticket of a lane, unless it was closed since.
-fn last_opened<'a>(lane: LaneNo, t: TicketNo, entries: &'a [Entry]) -> Option<Opening<'a>>
+fn last_opened<'a>(lane: LaneNo, t: TicketNo, entries: &'a [Entry]) -> Option<TicketOpening<'a>>
     ensures { MatchOption result (last_opened lane.0 t.0 (reverse entries.now) ≡ None) (λ k.
         last_opened lane.0 t.0 (reverse entries.now) ≡ Some (opening_of k)) }
 {
@@ -31,7 +33,7 @@ fn last_opened<'a>(lane: LaneNo, t: TicketNo, entries: &'a [Entry]) -> Option<Op
         match &entry.event {
             Event::Opened { n, t: u, v } => {
                 if u.0 != 0 && is_ticket(entry.at, *u, lane, t) {
-                    last = Some(Opening {
+                    last = Some(TicketOpening {
                         n: *n,
                         v: *v,
                         before: &entries[..i],
@@ -50,7 +52,7 @@ fn last_opened<'a>(lane: LaneNo, t: TicketNo, entries: &'a [Entry]) -> Option<Op
 }
 
 /// The opening of an open ticket of a lane: neither was it closed nor has its node crashed since.
-pub fn open_ticket<'a>(lane: LaneNo, t: TicketNo, entries: &'a [Entry]) -> Option<Opening<'a>>
+pub fn open_ticket<'a>(lane: LaneNo, t: TicketNo, entries: &'a [Entry]) -> Option<TicketOpening<'a>>
     ensures { MatchOption result (open_ticket lane.0 t.0 (reverse entries.now) ≡ None) (λ k.
         open_ticket lane.0 t.0 (reverse entries.now) ≡ Some (opening_of k)) }
 {

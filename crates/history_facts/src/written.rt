@@ -1,3 +1,5 @@
+//! What a history shows of the operations and documents of the point of each version.
+
 ghost use Rattle.std.specs.Prelude.{◌≡◌, ◌≤◌, ◌+◌, ◌∷◌, ◌++◌, reverse, length, IfOk, OnOk};
 ghost use Rattle.history_rules.specs.Nodes.{accepted_count};
 ghost use Rattle.history_rules.specs.Points.{operations_written, operations_at, operations_of_generation, documents_at};

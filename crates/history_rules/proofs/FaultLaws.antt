@@ -24,7 +24,8 @@ use Rattle.history_rules.specs.Started.{is_node_of, is_lost, is_copy}
 use Rattle.history_rules.proofs.AnyLemmas.{any_more}
 use Rattle.history_rules.specs.FaultLaws.{faulted, KeepsOver}
 
-both : {X : Type 0} → (b : Bool) (x : X) → (if b then x else x) ≡ x
+-- either way it is one
+pub both : {X : Type 0} → (b : Bool) (x : X) → (if b then x else x) ≡ x
 both true x = refl
 both false x = refl
 

@@ -25,9 +25,6 @@ gone true true c is = refl
 gone false true c is = refl
 gone b false c is = absurd (true≢false (sym is))
 
-same_self : (at : At) → same_at at at ≡ true
-same_self at = rw (eq-eqb at.lane.0 at.lane.0 refl, eq-eqb at.line.0 at.line.0 refl) refl
-
 pub stays_unpassed : StaysUnpassed
 stays_unpassed n v past e other none = or_from
     (starts_above n v e.event && not (is_refused_by_disk e.at (e ∷ past))) (passes n v (e ∷ past) past)
@@ -43,15 +40,16 @@ above_none size n v past at (Copying m w) keeps high = let is : w.0 ≡ newest_v
     low false is = refl
 above_none size n v past at e keeps high = refl
 
-rises : (past : Past) (at : At) (e : Event) → newest_version past ≤ newest_version (record { at = at; event = e } ∷ past)
-rises past at (Published g w) = omega arith
-rises past at (Promoted m g f w) = omega arith
-rises past at e = omega arith
+-- no entry lowers the newest version
+pub newest_more : (past : Past) (at : At) (e : Event) → newest_version past ≤ newest_version (record { at = at; event = e } ∷ past)
+newest_more past at (Published g w) = omega arith
+newest_more past at (Promoted m g f w) = omega arith
+newest_more past at e = omega arith
 
 low_none : (size n v : ℕ) (all past : Past) → IsLegalPast size past → newest_version past ≤ v → passes n v all past ≡ false
 low_none size n v all [] legal high = refl
 low_none size n v all (e ∷ past) legal high =
-    let before : newest_version past ≤ v = let up = rises past e.at e.event in omega (arith, up, high) in
+    let before : newest_version past ≤ v = let up = newest_more past e.at e.event in omega (arith, up, high) in
     or_from (starts_above n v e.event && not (is_refused_by_disk e.at all)) (passes n v all past)
     (and_left (starts_above n v e.event) (not (is_refused_by_disk e.at all)) (above_none size n v past e.at e.event legal.0 before))
     (low_none size n v all past legal.1 before)
@@ -62,7 +60,8 @@ newest_is_unpassed size n v past legal high = low_none size n v past past legal 
 pub refused_at_once : RefusedAtOnce
 refused_at_once n v past at m w none =
     let all : Past = record { at = at; event = Refused DiskFault } ∷ record { at = at; event = Copying m w } ∷ past in
+    let itself : same_at at at ≡ true = rw (eq-eqb at.lane.0 at.lane.0 refl, eq-eqb at.line.0 at.line.0 refl) refl in
     or_from (((m.0 == n) && nat_lt v w.0) && not (same_at at at || is_refused_by_disk at past)) (passes n v all past)
-    (gone ((m.0 == n) && nat_lt v w.0) (same_at at at) (is_refused_by_disk at past) (same_self at))
+    (gone ((m.0 == n) && nat_lt v w.0) (same_at at at) (is_refused_by_disk at past) itself)
     (none_more (λ x. starts_above n v x.event && not (is_refused_by_disk x.at past)) (λ x. starts_above n v x.event && not (is_refused_by_disk x.at all))
     (λ x so. weaker (starts_above n v x.event) (same_at at x.at) (is_refused_by_disk x.at past) so) past none)

@@ -63,8 +63,8 @@ StartedCopy past start n v (Some (Settling w)) = (w.0 ≤ v) × (version_of n pa
 StartedCopy past start n v e = ⊥
 
 -- at each node that has not crashed since its start the line met no fault in a file
-abbrev pub IsWhole : ℕ → Past → At → Type 0
-IsWhole size past at = (n : ℕ) → IsNode size n → NodeSurvives past at n → has_file_fault n at past ≡ false
+abbrev pub IsLineWhole : ℕ → Past → At → Type 0
+IsLineWhole size past at = (n : ℕ) → IsNode size n → NodeSurvives past at n → has_file_fault n at past ≡ false
 
 -- a running replica switches to a later point of the generation, for a line that neither it nor the primary crashed under; the version
 -- is no lower than that of any copy to it that started and no fault of a disk refused; the line has switched no node as high, and is
@@ -77,7 +77,7 @@ pub record MaySwitch (size : ℕ) (past : Past) (at : At) (n : NodeNo) (v : Vers
   pub latest : is_passed n.0 v.0 past ≡ false
   pub ordered : highest_switched at past < n.0
   pub started : StartedCopy past (before_start at past) n.0 v.0 (start_entry at past)
-  pub whole : IsWhole size past at
+  pub whole : IsLineWhole size past at
   pub survives : NodeSurvives past at n.0
   pub source : SourceSurvives past at
 
@@ -101,7 +101,7 @@ pub record MaySettle (size : ℕ) (past : Past) (at : At) (v : Version) : Type 0
   pub started : start_entry at past ≡ Some (Settling v)
   pub source : SourceSurvives past at
   pub reached : (n : ℕ) → IsNode size n → IsReplica (before_start at past) n → NodeSurvives past at n → v.0 ≤ version_of n past
-  pub whole : IsWhole size past at
+  pub whole : IsLineWhole size past at
 
 -- a ticket is opened, or a search starts, at the version that the running node searches; the lane has no such ticket, the line met no fault
 pub record MayOpen (size : ℕ) (past : Past) (at : At) (n : NodeNo) (t : TicketNo) (v : Version) : Type 0 where

@@ -1,3 +1,5 @@
+//! Why a line of a script is refused, and the kinds of faults.
+
 use file_names::FileName;
 use nrt_base::Version;
 

@@ -1,3 +1,5 @@
+//! A history: what happened in a run, entry by entry.
+
 use crate::cause::{Cause, FaultKind, FaultPlan};
 use documents::{Answer, Op, Query};
 use file_names::FileName;

@@ -1,3 +1,5 @@
+//! A point of a history, and the verdict on a history.
+
 use nrt_base::{Doc, Gen, List, Version};
 
 /// A point: the documents that were published as a version.

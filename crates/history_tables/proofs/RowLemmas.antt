@@ -15,7 +15,7 @@ use Rattle.history_rules.specs.Lines.{same_at}
 use Rattle.history_tables.specs.declared.lines.Begun.{Begun}
 use Rattle.history_tables.specs.declared.lines.LineRow.{LineRow}
 use Rattle.history_tables.specs.Begins.{begun_under, open_line}
-use Rattle.history_tables.specs.Openings.{TicketRow, ticket_of, is_key, opened_of}
+use Rattle.history_tables.specs.Openings.{TicketRow, ticket_of, is_ticket_key, opened_of}
 
 -- a fact by which way a test went
 pub by_test : (b : Bool) (P : Bool → Type 0) → (b ≡ true → P true) → (b ≡ false → P false) → P b
@@ -63,7 +63,7 @@ when_ok (Err e) ok so = absurd (true≢false (sym ok))
 
 -- what a table of tickets says after one of them is opened or closed
 pub opened_by : (b : Bool) (one : Option Opening) (old new : List TicketRow) (l t : ℕ)
-    → lookup (is_key l t) new ≡ (if b then one else lookup (is_key l t) old)
+    → lookup (is_ticket_key l t) new ≡ (if b then one else lookup (is_ticket_key l t) old)
     → opened_of new l t ≡ (if b then option_map ticket_of one else opened_of old l t)
 opened_by true one old new l t is = ap (option_map ticket_of) is
 opened_by false one old new l t is = ap (option_map ticket_of) is

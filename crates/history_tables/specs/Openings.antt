@@ -23,12 +23,12 @@ abbrev pub ticket_of : Opening → Ticket
 ticket_of o = record { node = o.node.0; version = o.version.0; life = o.life }
 
 -- the ticket of this number of the lane
-abbrev pub is_key : ℕ → ℕ → TicketKey → Bool
-is_key lane t key = (lane == key.lane.0) && (t == key.number.0)
+abbrev pub is_ticket_key : ℕ → ℕ → TicketKey → Bool
+is_ticket_key lane t key = (lane == key.lane.0) && (t == key.number.0)
 
 -- what the rows say of a ticket of a lane
 abbrev pub opened_of : List TicketRow → ℕ → ℕ → Option Ticket
-opened_of rows lane t = option_map ticket_of (lookup (is_key lane t) rows)
+opened_of rows lane t = option_map ticket_of (lookup (is_ticket_key lane t) rows)
 
 -- the event opens a ticket
 abbrev pub opens_ticket : Event → Bool

@@ -7,8 +7,6 @@ pub mod numbers;
 pub mod plans;
 pub mod rows;
 pub mod states;
-#[cfg(test)]
-mod tests;
 pub mod tickets;
 pub mod work;
 

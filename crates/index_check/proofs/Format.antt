@@ -17,7 +17,7 @@ use Rattle.body_forms.proofs.Formats.{AreBytes-drop, bind_some, passed, not_stop
 use Rattle.body_forms.proofs.NumberLaws.{u32_format}
 use Rattle.body_forms.proofs.Numerals.{string_format}
 use Rattle.index_check.specs.Images.{NamedFile, sized, file_bytes, image_bytes, FileFits, IsImageOf, IsNoImage}
-use Rattle.index_check.specs.Reading.{sized_at, may_follow, image_file_at, files_at, whole_of, image_in}
+use Rattle.index_check.specs.Reading.{sized_at, may_follow, image_file_at, image_files_at, whole_of, held_image}
 
 -- ---- bytes behind their length
 abbrev text_from : ℕ × List ℕ → Read (List ℕ)
@@ -77,8 +77,8 @@ files_bytes before files = chain (λ _ f. file_bytes f) (λ f. f.0) before files
 abbrev AllFollow : List ℕ → List NamedFile → Type 0
 AllFollow before files = ChainFits (λ k f. Follows k f × PartsFit f) (λ f. f.0) before files
 
-counted_files : IsFormat (λ files. u32_bytes (length files) ++ files_bytes [] files) (λ files. (length files < 2 ^ 32) × AllFollow [] files) (counted_at u32_at files_at)
-unfolding files_at
+counted_files : IsFormat (λ files. u32_bytes (length files) ++ files_bytes [] files) (λ files. (length files < 2 ^ 32) × AllFollow [] files) (counted_at u32_at image_files_at)
+unfolding image_files_at
 counted_files =
     counted_format u32_bytes (λ n. n < 2 ^ 32) u32_at (files_bytes []) (AllFollow []) (λ n bytes. chain_at image_file_at (λ f. f.0) n [] bytes) u32_format
     (λ n _. chain_format (λ _ f. file_bytes f) (λ k f. Follows k f × PartsFit f) image_file_at (λ f. f.0) file_format n [])
@@ -148,13 +148,13 @@ ends x files e =
     none_left (b ∷ rest) h = absurd (omega arith)
 
 -- what is read is what the bytes are the image of
-pub read_image : (bytes : List ℕ) (files : List NamedFile) → AreBytes bytes → image_in bytes ≡ Some files → IsImageOf bytes files
-unfolding image_in
+pub read_image : (bytes : List ℕ) (files : List NamedFile) → AreBytes bytes → held_image bytes ≡ Some files → IsImageOf bytes files
+unfolding held_image
 read_image bytes files fits e =
-    let a = bind_some (u32_at bytes) (λ n. files_at n.0 n.1 >>= whole_of) files e in
-    let b = bind_some (files_at a.0.0 a.0.1) whole_of files a.2 in
+    let a = bind_some (u32_at bytes) (λ n. image_files_at n.0 n.1 >>= whole_of) files e in
+    let b = bind_some (image_files_at a.0.0 a.0.1) whole_of files a.2 in
     let c = ends b.0 files b.2 in
-    let read : counted_at u32_at files_at bytes ≡ Some b.0 = ap (λ (r : Read ℕ). r >>= λ n. files_at n.0 n.1) a.1 ∙ b.1 in
+    let read : counted_at u32_at image_files_at bytes ≡ Some b.0 = ap (λ (r : Read ℕ). r >>= λ n. image_files_at n.0 n.1) a.1 ∙ b.1 in
     let t = counted_files.takes bytes b.0.0 b.0.1 fits read in
     let own : AllFollow [] files = subst (AllFollow []) c.0 t.1.1 in
     let may = follow [] files own in
@@ -167,22 +167,22 @@ read_image bytes files fits e =
     }
 
 -- and the image of files is read as these
-pub image_again : (bytes : List ℕ) (files : List NamedFile) → IsImageOf bytes files → image_in bytes ≡ Some files
-unfolding image_in
+pub image_again : (bytes : List ℕ) (files : List NamedFile) → IsImageOf bytes files → held_image bytes ≡ Some files
+unfolding held_image
 image_again bytes files is =
     let own : AllFollow [] files = all_follow [] files (record { fit = is.fit; ascending = from_first files is.fit is.ascending }) in
-    let read : counted_at u32_at files_at ((u32_bytes (length files) ++ files_bytes [] files) ++ []) ≡ Some (files, []) = counted_files.again files [] (is.few, own) in
+    let read : counted_at u32_at image_files_at ((u32_bytes (length files) ++ files_bytes [] files) ++ []) ≡ Some (files, []) = counted_files.again files [] (is.few, own) in
     let same : bytes ≡ (u32_bytes (length files) ++ files_bytes [] files) ++ [] = is.whole ∙ sym (image_bytes-is files) ∙ sym (append-nil (u32_bytes (length files) ++ files_bytes [] files)) in
-    regrouped (u32_at bytes) ∙ ap (λ (r : Read (List NamedFile)). r >>= whole_of) (ap (counted_at u32_at files_at) same ∙ read)
+    regrouped (u32_at bytes) ∙ ap (λ (r : Read (List NamedFile)). r >>= whole_of) (ap (counted_at u32_at image_files_at) same ∙ read)
   where
-    regrouped : (r : Read ℕ) → (r >>= λ n. files_at n.0 n.1 >>= whole_of) ≡ ((r >>= λ n. files_at n.0 n.1) >>= whole_of)
+    regrouped : (r : Read ℕ) → (r >>= λ n. image_files_at n.0 n.1 >>= whole_of) ≡ ((r >>= λ n. image_files_at n.0 n.1) >>= whole_of)
     regrouped (Some n) = refl
     regrouped None = refl
 
-pub no_image : (bytes : List ℕ) → image_in bytes ≡ None → IsNoImage bytes
+pub no_image : (bytes : List ℕ) → held_image bytes ≡ None → IsNoImage bytes
 no_image bytes e files is = none-some files (sym e ∙ image_again bytes files is)
 
-pub one_image : (bytes : List ℕ) (a b : List NamedFile) → image_in bytes ≡ Some a → IsImageOf bytes b → a ≡ b
+pub one_image : (bytes : List ℕ) (a b : List NamedFile) → held_image bytes ≡ Some a → IsImageOf bytes b → a ≡ b
 one_image bytes a b e is = same_Some a b (sym e ∙ image_again bytes b is)
 
 -- ---- writing

@@ -5,14 +5,14 @@ use Rattle.std.proofs.lemmas.List.{append-nil}
 use Rattle.body_forms.specs.Format.{Read, ◌>>=◌, chain_at}
 use Rattle.body_forms.proofs.Loops.{with_front}
 use Rattle.index_check.specs.Images.{NamedFile}
-use Rattle.index_check.specs.Reading.{image_file_at, files_at}
+use Rattle.index_check.specs.Reading.{image_file_at, image_files_at}
 
 abbrev from_here : ℕ → List ℕ → List ℕ → Read (List NamedFile)
 from_here count before bytes = chain_at image_file_at (λ f. f.0) count before bytes
 
 -- of `count` files, n have been taken from the front of the bytes; the last has this name, and they are followed by `rest`
 pub record HasTaken (count : ℕ) (bytes : List ℕ) (n : ℕ) (before : Option (List ℕ)) (taken : List NamedFile) (rest : List ℕ) : Type 0 where
-  pub so_far : with_front taken (chain_at image_file_at (λ f. f.0) (count - n) (unwrap_or before []) rest) ≡ files_at count bytes
+  pub so_far : with_front taken (chain_at image_file_at (λ f. f.0) (count - n) (unwrap_or before []) rest) ≡ image_files_at count bytes
 
 nothing_before : (read : Read (List NamedFile)) → with_front [] read ≡ read
 nothing_before (Some x) = refl
@@ -24,7 +24,7 @@ regroup front f None = refl
 
 module _ (count : ℕ) (bytes : List ℕ) where
   pub taken_start : (before : Option (List ℕ)) (taken : List NamedFile) → before ≡ None → taken ≡ [] → HasTaken count bytes 0 before taken bytes
-  unfolding files_at
+  unfolding image_files_at
   taken_start before taken b z =
       let e : count - 0 ≡ count = omega arith in
       record {
@@ -46,7 +46,7 @@ module _ (count : ℕ) (bytes : List ℕ) where
       record { so_far = ap (λ (t : List NamedFile). with_front t (from_here (count - (n + 1)) name after)) same ∙ sym one ∙ h.so_far }
 
   pub taken_no_more : (n : ℕ) (before : Option (List ℕ)) (taken : List NamedFile) (rest : List ℕ)
-      → n < count → ◌≡◌ {A = Read NamedFile} None (image_file_at (unwrap_or before []) rest) → HasTaken count bytes n before taken rest → ◌≡◌ {A = Read (List NamedFile)} None (files_at count bytes)
+      → n < count → ◌≡◌ {A = Read NamedFile} None (image_file_at (unwrap_or before []) rest) → HasTaken count bytes n before taken rest → ◌≡◌ {A = Read (List NamedFile)} None (image_files_at count bytes)
   taken_no_more n before taken rest lt e h =
       let m : count - n ≡ suc (count - (n + 1)) = omega arith in
       let read : from_here (suc (count - (n + 1))) (unwrap_or before []) rest ≡ None =
@@ -55,7 +55,7 @@ module _ (count : ℕ) (bytes : List ℕ) where
       sym one ∙ h.so_far
 
   pub taken_all : (n : ℕ) (before : Option (List ℕ)) (taken : List NamedFile) (rest : List ℕ)
-      → count ≤ n → HasTaken count bytes n before taken rest → ◌≡◌ {A = Read (List NamedFile)} (Some (taken, rest)) (files_at count bytes)
+      → count ≤ n → HasTaken count bytes n before taken rest → ◌≡◌ {A = Read (List NamedFile)} (Some (taken, rest)) (image_files_at count bytes)
   taken_all n before taken rest le h =
       let m : count - n ≡ 0 = omega arith in
       let one : with_front taken (from_here (count - n) (unwrap_or before []) rest) ≡ Some (taken, rest) =

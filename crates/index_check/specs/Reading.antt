@@ -20,13 +20,13 @@ unfoldable pub image_file_at : List ℕ → List ℕ → Read NamedFile
 image_file_at before bytes = then_at string_at (λ _. sized_at) bytes >>= λ x. if may_follow before x.0 then Some x else None
 
 -- so many files, the first of which comes first of all
-unfoldable pub files_at : ℕ → List ℕ → Read (List NamedFile)
-files_at count bytes = chain_at image_file_at (λ f. f.0) count [] bytes
+unfoldable pub image_files_at : ℕ → List ℕ → Read (List NamedFile)
+image_files_at count bytes = chain_at image_file_at (λ f. f.0) count [] bytes
 
 -- what was read, where nothing follows it
 abbrev pub whole_of : {X : Type 0} → X × List ℕ → Option X
 whole_of x = if length x.1 == 0 then Some x.0 else None
 
 -- the files whose image the bytes are
-unfoldable pub image_in : List ℕ → Option (List NamedFile)
-image_in bytes = u32_at bytes >>= λ n. files_at n.0 n.1 >>= whole_of
+unfoldable pub held_image : List ℕ → Option (List NamedFile)
+held_image bytes = u32_at bytes >>= λ n. image_files_at n.0 n.1 >>= whole_of

@@ -6,7 +6,7 @@ ghost use Rattle.std.specs.Ordering.{nat_cmp};
 ghost use Rattle.std.specs.Cmp.Lexicographic.{slice_cmp};
 ghost use Rattle.file_names.specs.Names.{is_file_name, is_less};
 ghost use Rattle.index_check.specs.Images.{NamedFile, IsImageOf, IsNoImage};
-ghost use Rattle.index_check.specs.Reading.{sized_at, image_file_at, files_at, image_in};
+ghost use Rattle.index_check.specs.Reading.{sized_at, image_file_at, image_files_at, held_image};
 
 use body_forms::{string_of, u32_of};
 use bytes::Bytes;
@@ -103,7 +103,7 @@ fn take_files<'a>(
 ) -> Result<Option<&'a [u8]>, NoMemory>
     requires { files.old.items ≡ [] }
     ensures { IfOk result (λ rest. option_map (λ r. (files.new.items, r.now)) rest
-        ≡ files_at count bytes.now) }
+        ≡ image_files_at count bytes.now) }
 {
     let mut rest = bytes;
     let mut before = None;
@@ -119,9 +119,9 @@ fn take_files<'a>(
 }
 
 // The files whose image the bytes are.
-#[tactic(auto, unfolding(crate::specs::Reading::image_in))]
+#[tactic(auto, unfolding(crate::specs::Reading::held_image))]
 fn files_in(alloc: Global, bytes: &[u8]) -> Result<Option<Vec<(FileName, Bytes)>>, NoMemory>
-    ensures { IfOk result (λ files. option_map (λ v. v.items) files ≡ image_in bytes.now) }
+    ensures { IfOk result (λ files. option_map (λ v. v.items) files ≡ held_image bytes.now) }
 {
     let Some((count, rest)) = u32_of(bytes) else {
         return Ok(None);

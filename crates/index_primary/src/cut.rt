@@ -1,4 +1,5 @@
-// The operations that wait for a publish.
+//! The operations that wait for a publish, and those that one takes.
+
 ghost use Rattle.std.specs.Prelude.{◌≡◌, ◌≤◌, None, length, IfSome};
 ghost use Rattle.documents.specs.Documents.{is_put};
 ghost use Rattle.primary_state.specs.Cut.{has_put, after_cut};

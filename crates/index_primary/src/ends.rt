@@ -1,4 +1,5 @@
-// A publish that ends: all memory, then the writes, then the new point.
+//! A publish that ends: all memory, then the writes, then the new point.
+
 ghost use Rattle.std.specs.Prelude.{◌≡◌, ◌+◌, ◌<◌, ◌≤◌, ◌^◌, List, None, false, OnOk, OnErr, IfOk, IfErr, IsErrOf, Ok, Err, ◌⊎◌};
 ghost use Rattle.nrt_base.specs.Causes.{Rose};
 ghost use Rattle.disk_model.specs.Faults.{IsMemoryOrFailed};

@@ -1,4 +1,5 @@
-// The primary, whole by its type.
+//! The primary, whole by its type.
+
 ghost use Rattle.std.specs.Prelude.{◌≡◌, ◌+◌, ◌<◌, ◌≤◌, ◌^◌, ℕ, List, [], ◌∷◌, ◌++◌, Some, None, true, false, is_some, OnOk, OnErr, IfOk, IfSome, IsSome, IsErrOf, Ok, Err, ◌⊎◌, ◌↔◌};
 ghost use Rattle.std.specs.List.{All};
 ghost use Rattle.std.specs.Cmp.Lexicographic.{slice_cmp};

@@ -1,4 +1,5 @@
-// All that a publish needs memory for.
+//! All that a publish needs memory for.
+
 use bytes::Bytes;
 use file_names::FileName;
 use nrt_base::List;

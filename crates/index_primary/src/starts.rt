@@ -1,4 +1,5 @@
-// A publish that starts.
+//! A publish that starts.
+
 ghost use Rattle.std.specs.Prelude.{◌≡◌, ◌+◌, ◌<◌, ◌≤◌, Some, None, true, false, length, OnErr, IfOk, IfSome, IsErrOf, Ok, Err, ◌↔◌};
 ghost use Rattle.nrt_base.specs.SegNumbers.{segments_of_generation};
 ghost use Rattle.primary_state.specs.Cut.{has_put, IsIdle, AreSpent, AreTooMany};

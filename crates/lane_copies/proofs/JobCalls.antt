@@ -42,8 +42,8 @@ use Rattle.cluster_state.specs.declared.standing.Standing.TheVariants.{Runs, Pas
 use Rattle.cluster_state.specs.declared.turn.Turn.{Turn}
 use Rattle.cluster_state.specs.declared.turn.Turn.TheVariants.{Work, Done, Busy}
 use Rattle.cluster_state.specs.CopyCalls.{is_node_lost, overtaken, standing_of, log_after, stopped_log, StopsTurn, JobGoesOn, JobHasPart, AreFrom, CopyStarts, SettleStarts, SettleGoesOn, SettlesOn}
-use Rattle.lane_lines.specs.Given.{Does, IsReplied, IsRepliedAtDone, IsBegunAtWork}
-use Rattle.lane_lines.specs.Turns.{IsUnbegunIn, NeverWaits, TurnShows}
+use Rattle.lane_sections.specs.Given.{Does, IsReplied, IsRepliedAtDone, IsBegunAtWork}
+use Rattle.lane_sections.specs.Turns.{IsUnbegunIn, NeverWaits, TurnShows}
 use Rattle.lane_copies.specs.Jobs.{IsJobStart, IsCopyStart, IsCopyingBy, HasFileOut, IsCopyReplied, BeginsCopy, BeginsNextJob, HasBegunToSettle, IsSettlingOn, LeavesJob, LeavesJobAt}
 
 -- ---- the job has no end

@@ -26,8 +26,8 @@ use Rattle.cluster_merges.specs.MergePaths.{TakesTask}
 use Rattle.cluster_state.specs.declared.turn.Turn.{Turn}
 use Rattle.cluster_state.specs.declared.turn.Turn.TheVariants.{Work, Done, Busy}
 use Rattle.cluster_merges.specs.TaskCalls.{PrecopyTurns}
-use Rattle.lane_lines.specs.Given.{Does, DoesTask}
-use Rattle.lane_lines.proofs.Sections.{IsLeft, call_extends}
+use Rattle.lane_sections.specs.Given.{Does, DoesTask}
+use Rattle.lane_sections.proofs.Sections.{IsLeft, call_extends}
 use Rattle.lane_copies.specs.Taken.{IsTakerAt, GrowsSilently, WorksOn, TakesOn, HandsOn}
 use Rattle.lane_copies.proofs.Silence.{silent_first, silent_then, section_silent}
 

@@ -8,15 +8,15 @@ ghost use Rattle.history_book.specs.Log.{printed};
 ghost use Rattle.script_serving.specs.declared.script.LineCommand.{LineCommand};
 ghost use Rattle.script_serving.specs.declared.script.LineCommand.TheVariants.{Settle};
 ghost use Rattle.cluster_state.specs.FilesOut.{file_out};
-ghost use Rattle.lane_lines.specs.Given.{Does};
+ghost use Rattle.lane_sections.specs.Given.{Does};
 ghost use Rattle.cluster_state.specs.CopyCalls.{CopiesFor};
-ghost use Rattle.lane_lines.specs.Turns.{TurnShows};
+ghost use Rattle.lane_sections.specs.Turns.{TurnShows};
 ghost use Rattle.lane_copies.specs.Jobs.{IsCopyingBy, HasFileOut, LeavesJobAt, IsStillSettling, HasBegunToSettle, BeginsNextJob, IsSettlingOn};
 
 use cluster_nodes::{CopyTask, FileTask, SettleTask};
 use copy_job::Part;
 use disk_model::FaultDir;
-use lane_lines::{Cluster, Turn};
+use lane_sections::{Cluster, Turn};
 use nrt_base::{At, NoMemory};
 use std::alloc::{AllocError, Global};
 

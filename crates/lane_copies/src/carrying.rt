@@ -9,7 +9,7 @@ use bytes::Bytes;
 use cluster_nodes::FileTask;
 use copy_job::{Part, copy_file};
 use file_names::FileName;
-use lane_lines::{Gate, Place};
+use lane_sections::{Gate, Place};
 use link_model::{Link, LinkFault, MemLink};
 use nrt_base::{At, LineNo, NoMemory, NodeNo};
 use std::alloc::{AllocError, Global};

@@ -4,15 +4,15 @@ ghost use Rattle.std.specs.Prelude.{◌≡◌, [], false, Some, IfOk, OnOk, OnEr
 ghost use Rattle.history_rules.specs.Lines.{entries_of_line};
 ghost use Rattle.history_book.specs.Log.{printed};
 ghost use Rattle.script_serving.specs.declared.script.LineCommand.TheVariants.{Drain};
-ghost use Rattle.lane_lines.specs.Given.{Does};
-ghost use Rattle.lane_lines.specs.Turns.{IsUnbegunIn, NeverWaits, TurnShows, TurnsLine};
+ghost use Rattle.lane_sections.specs.Given.{Does};
+ghost use Rattle.lane_sections.specs.Turns.{IsUnbegunIn, NeverWaits, TurnShows, TurnsLine};
 ghost use Rattle.lane_threads.specs.Seats.{log_seen, IsLaneSeat, EndsItsLine};
 ghost use Rattle.lane_copies.specs.Taken.{WorksOn};
 
 use crate::tasks::do_first;
 use disk_model::FaultDir;
 use hist_lock::{HistLock, LaneSeat};
-use lane_lines::{Cluster, Gate, Turn, enter_cluster, give_way};
+use lane_sections::{Cluster, Gate, Turn, enter_cluster, give_way};
 use lane_threads::{Halt, leave};
 use nrt_base::{At, NoMemory};
 use std::alloc::{AllocError, Global};

@@ -12,7 +12,7 @@ use cluster_nodes::{CopyTask, FileTask};
 use copy_job::Part;
 use disk_model::FaultDir;
 use hist_lock::{HistLock, LaneSeat};
-use lane_lines::{Cluster, Gate, Turn, enter_cluster};
+use lane_sections::{Cluster, Gate, Turn, enter_cluster};
 use lane_threads::leave;
 use nrt_base::{At, NoMemory};
 use std::alloc::Global;

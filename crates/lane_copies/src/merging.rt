@@ -8,7 +8,7 @@ ghost use Rattle.lane_threads.specs.Seats.{log_seen, IsLaneSeat, EndsItsLine};
 
 use disk_model::FaultDir;
 use hist_lock::{HistLock, LaneSeat};
-use lane_lines::{Cluster, enter_cluster};
+use lane_sections::{Cluster, enter_cluster};
 use lane_threads::{Halt, leave};
 use nrt_base::{At, NoMemory};
 use std::alloc::Global;

@@ -12,7 +12,7 @@ use cluster_nodes::FileTask;
 use copy_job::Part;
 use disk_model::FaultDir;
 use hist_lock::{HistLock, LaneSeat};
-use lane_lines::{Cluster, Gate, Turn, enter_cluster, give_way};
+use lane_sections::{Cluster, Gate, Turn, enter_cluster, give_way};
 use lane_threads::{Halt, leave};
 use merge_tasks::{Sent, Task};
 use nrt_base::{At, NoMemory};

@@ -5,7 +5,7 @@ ghost use Rattle.history_rules.specs.Lines.{entries_of_line};
 ghost use Rattle.history_book.specs.Log.{printed};
 ghost use Rattle.script_serving.specs.declared.script.LineCommand.TheVariants.{Settle};
 ghost use Rattle.lane_threads.specs.Seats.{log_seen, IsLaneSeat, EndsItsLine};
-ghost use Rattle.lane_lines.specs.Turns.{NeverWaits, TurnsLine};
+ghost use Rattle.lane_sections.specs.Turns.{NeverWaits, TurnsLine};
 ghost use Rattle.lane_copies.specs.Jobs.{HasBegunToSettle, IsStillSettling, BeginsNextJob, IsSettlingOn};
 
 use crate::calls::next_job;
@@ -13,7 +13,7 @@ use crate::jobs::bring_over;
 use cluster_nodes::{CopyTask, SettleTask};
 use disk_model::FaultDir;
 use hist_lock::{HistLock, LaneSeat};
-use lane_lines::{Cluster, Gate, Turn, enter_cluster, give_way};
+use lane_sections::{Cluster, Gate, Turn, enter_cluster, give_way};
 use lane_threads::{Halt, leave};
 use nrt_base::{At, NoMemory};
 use std::alloc::Global;

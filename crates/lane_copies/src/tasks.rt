@@ -10,7 +10,7 @@ use crate::precopying::copy_over;
 use disk_model::FaultDir;
 use hist_lock::{HistLock, LaneSeat};
 use history_facts::is_node;
-use lane_lines::{Cluster, Gate, Place, Turn, enter_cluster, give_way};
+use lane_sections::{Cluster, Gate, Place, Turn, enter_cluster, give_way};
 use lane_threads::{Halt, Lane, leave};
 use merge_tasks::{Sent, Task, TaskKind};
 use nrt_base::{At, LineNo, NoMemory};

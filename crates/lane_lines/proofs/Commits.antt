@@ -18,7 +18,7 @@ use Rattle.cluster_state.specs.declared.turn.Turn.{Turn}
 use Rattle.cluster_state.specs.declared.turn.Turn.TheVariants.{Work, Done, Busy}
 use Rattle.cluster_state.specs.LifeCalls.{CommitStarts, CommitSteps}
 use Rattle.cluster_core.specs.Doing.{IsRepliedAtDone, IsBegunAtWork}
-use Rattle.lane_lines.specs.Turns.{IsUnbegunIn, NeverWaits, TurnShows}
+use Rattle.lane_sections.specs.Turns.{IsUnbegunIn, NeverWaits, TurnShows}
 use Rattle.lane_lines.specs.Commits.{HasBegunCommit, IsCommitting}
 
 pub commit_shows : (at : At) (n : NodeNo) (old new : Run) (turn : Turn CommitTask) → entries_of_line at (printed old.log) ≡ [] → CommitStarts at n old new turn → IsRepliedAtDone at new turn

@@ -1,4 +1,3 @@
 mod Commits
 mod Publishes
 mod Searches
-pub mod Sections

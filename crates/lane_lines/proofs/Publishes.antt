@@ -22,7 +22,7 @@ use Rattle.cluster_state.specs.declared.turn.Turn.{Turn}
 use Rattle.cluster_state.specs.declared.turn.Turn.TheVariants.{Work, Done, Busy}
 use Rattle.cluster_state.specs.Calls.{PublishStarts}
 use Rattle.cluster_core.specs.Doing.{IsRepliedAtDone, IsBegunAtWork}
-use Rattle.lane_lines.specs.Turns.{IsUnbegunIn, TurnShows}
+use Rattle.lane_sections.specs.Turns.{IsUnbegunIn, TurnShows}
 use Rattle.lane_lines.specs.Flushes.{IsFlushing}
 
 -- what the start of a publish shows

@@ -8,11 +8,10 @@ ghost use Rattle.cluster_core.specs.Doing.{AsksFor};
 ghost use Rattle.lane_threads.specs.Seats.{log_seen, IsLaneSeat, EndsItsLine};
 ghost use Rattle.lane_lines.specs.Reads.{IsEvaluated};
 
-use crate::section::enter_cluster;
-use cluster_core::Cluster;
 use disk_model::FaultDir;
 use documents::{Answer, Query};
 use hist_lock::{HistLock, LaneSeat};
+use lane_sections::{Cluster, enter_cluster};
 use lane_threads::leave;
 use nrt_base::{At, NoMemory};
 use std::alloc::Global;

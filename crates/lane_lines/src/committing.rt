@@ -6,15 +6,13 @@ ghost use Rattle.history_rules.specs.Lines.{entries_of_line};
 ghost use Rattle.history_book.specs.Log.{printed};
 ghost use Rattle.script_serving.specs.declared.script.LineCommand.TheVariants.{Commit};
 ghost use Rattle.lane_threads.specs.Seats.{log_seen, IsLaneSeat, EndsItsLine};
-ghost use Rattle.lane_lines.specs.Turns.{IsUnbegunIn, NeverWaits, TurnsLine};
+ghost use Rattle.lane_sections.specs.Turns.{IsUnbegunIn, NeverWaits, TurnsLine};
 ghost use Rattle.lane_lines.specs.Commits.{HasBegunCommit, IsCommitting};
 
-use crate::section::enter_cluster;
-use crate::waiting::give_way;
-use cluster_core::{Cluster, Turn};
 use cluster_nodes::CommitTask;
 use disk_model::FaultDir;
 use hist_lock::{HistLock, LaneSeat};
+use lane_sections::{Cluster, Turn, enter_cluster, give_way};
 use lane_threads::{Halt, leave};
 use nrt_base::{At, NoMemory, NodeNo};
 use std::alloc::Global;

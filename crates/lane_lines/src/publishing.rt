@@ -7,15 +7,12 @@ ghost use Rattle.history_book.specs.Log.{printed};
 ghost use Rattle.script_serving.specs.declared.script.LineCommand.TheVariants.{Publish};
 ghost use Rattle.cluster_state.specs.Writes.{IsFlushed};
 ghost use Rattle.lane_threads.specs.Seats.{log_seen, IsLaneSeat, EndsItsLine};
-ghost use Rattle.lane_lines.specs.Turns.{IsUnbegunIn, TurnsLine};
+ghost use Rattle.lane_sections.specs.Turns.{IsUnbegunIn, TurnsLine};
 ghost use Rattle.lane_lines.specs.Flushes.{IsFlushing};
 
-use crate::gate::{Gate, Place};
-use crate::section::enter_cluster;
-use crate::waiting::give_way;
-use cluster_core::{Cluster, Turn};
 use disk_model::FaultDir;
 use hist_lock::{HistLock, LaneSeat};
+use lane_sections::{Cluster, Gate, Place, Turn, enter_cluster, give_way};
 use lane_threads::{Halt, leave};
 use nrt_base::{At, NoMemory};
 use segment_steps::{FlushTask, FlushWork, flush};

@@ -7,10 +7,9 @@ ghost use Rattle.history_book.specs.Log.{printed};
 ghost use Rattle.script_serving.specs.declared.script.LineCommand.TheVariants.{Open, Close, Files};
 ghost use Rattle.lane_threads.specs.Seats.{log_seen, IsLaneSeat, EndsItsLine};
 
-use crate::section::enter_cluster;
-use cluster_core::Cluster;
 use disk_model::FaultDir;
 use hist_lock::{HistLock, LaneSeat};
+use lane_sections::{Cluster, enter_cluster};
 use lane_threads::leave;
 use nrt_base::{At, NoMemory, NodeNo, TicketNo};
 use std::alloc::Global;

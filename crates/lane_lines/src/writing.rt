@@ -6,11 +6,10 @@ ghost use Rattle.history_book.specs.Log.{printed};
 ghost use Rattle.cluster_core.specs.Doing.{writing_command};
 ghost use Rattle.lane_threads.specs.Seats.{log_seen, IsLaneSeat, EndsItsLine};
 
-use crate::section::enter_cluster;
-use cluster_core::Cluster;
 use disk_model::FaultDir;
 use documents::Op;
 use hist_lock::{HistLock, LaneSeat};
+use lane_sections::{Cluster, enter_cluster};
 use lane_threads::leave;
 use nrt_base::{At, NoMemory};
 use std::alloc::Global;

@@ -19,8 +19,3 @@ pub use lane::{Lane, RunsLines};
 pub use run::{LaneRun, Setup};
 pub use script::run_script;
 pub use section::{enter, leave};
-
-#[cfg(test)]
-mod crew_tests;
-#[cfg(test)]
-mod crossing_tests;

@@ -8,6 +8,3 @@ mod memory;
 pub use fate::Fate;
 pub use link::{Link, LinkFault};
 pub use memory::MemLink;
-
-#[cfg(test)]
-mod tests;

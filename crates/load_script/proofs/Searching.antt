@@ -24,7 +24,7 @@ use Rattle.history_rules.specs.declared.entry.History.{History}
 use Rattle.history_rules.specs.Nodes.{Past, IsReplica, is_at, primary_crashes, crashes, version_of, newest_version}
 use Rattle.history_rules.specs.Lines.{same_at, is_start, is_reply, is_answered, last_of_line, start_entry, before_start, NodeSurvives}
 use Rattle.history_rules.specs.Points.{operations_written, operations_at_start, operations_at, documents_at, cut_of, cut_has_put}
-use Rattle.history_rules.specs.Faults.{same_kind, is_of_disk}
+use Rattle.history_rules.specs.Faults.{same_kind, is_of_disk, has_fault}
 use Rattle.history_rules.specs.Rules.{MayRefuse, MayRefuseLine, MayCancel}
 use Rattle.history_rules.specs.Started.{is_lost, is_above, is_node_of, is_source_of, StartedSearch}
 use Rattle.history_rules.specs.Legal.{IsLegalPast, IsLegal}
@@ -78,9 +78,10 @@ late_cause at past start begun (Cancelled v) calm quiet keeps = tt
 late_cause at past start begun LinkFault calm quiet keeps =
     absurd (true≢false (sym (keeps.met refl) ∙ calm_fault (is_node_of 3 start begun) (same_kind Link) at past calm))
 late_cause at past start begun (Damaged name) calm quiet keeps =
-    absurd (true≢false (sym (keeps.met refl).0 ∙ calm_fault (is_node_of 3 start begun) (same_kind Damage) at past calm))
+    absurd (true≢false (sym (keeps.met refl).0
+    ∙ calm_fault (λ m. is_node_of 3 start begun m && not (has_fault (λ k. k == m) (same_kind Link) at past)) (same_kind Damage) at past calm))
 late_cause at past start begun DiskFault calm quiet keeps =
-    absurd (true≢false (sym (keeps.met refl) ∙ calm_fault (λ n. is_node_of 3 start begun n || is_source_of start begun n) is_of_disk at past calm))
+    absurd (true≢false (sym (keeps.met refl).0 ∙ calm_fault (λ n. is_node_of 3 start begun n || is_source_of start begun n) is_of_disk at past calm))
 late_cause at past start begun cause calm quiet keeps = absurd (keeps.met refl)
 
 calm_start : (n : ℕ) (at : At) (past : Past) → Known n past → IsCalm (before_start at past)

@@ -9,6 +9,3 @@ mod whole;
 
 pub use found::summary;
 pub use whole::generated;
-
-#[cfg(test)]
-mod tests;

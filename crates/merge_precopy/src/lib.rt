@@ -5,6 +5,3 @@ mod pending;
 mod table;
 
 pub use pending::Precopies;
-
-#[cfg(test)]
-mod tests;

@@ -13,7 +13,7 @@ use Rattle.history_book.specs.Log.{Log, printed}
 use Rattle.history_book.specs.declared.inner.Step.{Step}
 use Rattle.history_book.specs.declared.inner.Step.TheVariants.{Merge as MergeStep, PreCopy as PreCopyStep, Cut as CutStep}
 use Rattle.merge_tasks.specs.Merging.{merge_on}
-use Rattle.merge_tasks.specs.declared.drains.Counted.{Counted}
+use Rattle.merge_tasks.specs.declared.drains.DrainCount.{DrainCount}
 use Rattle.merge_tasks.specs.declared.tasks.TaskKind.{TaskKind}
 use Rattle.merge_tasks.specs.declared.tasks.TaskKind.TheVariants.{Merge, PreCopy, Cut}
 use Rattle.merge_tasks.specs.declared.tasks.Posted.{Posted}
@@ -27,10 +27,10 @@ use Rattle.history_book.specs.Told.{counted_by, counted_for}
 pub record Board : Type 0 where
   pub posted : List Posted
   pub rows : List OpenMerge
-  pub counts : List Counted
+  pub counts : List DrainCount
 
 -- how many tasks count for a line
-abbrev pub done_under : At → List Counted → ℕ
+abbrev pub done_under : At → List DrainCount → ℕ
 done_under at [] = 0
 done_under at (r ∷ counts) = if same_at r.at at then r.done else done_under at counts
 
@@ -40,7 +40,7 @@ counts_one at None = 0
 counts_one at (Some by) = if same_at by at then 1 else 0
 
 -- none for a line any more
-abbrev pub without_count : At → List Counted → List Counted
+abbrev pub without_count : At → List DrainCount → List DrainCount
 without_count at counts = filter (λ r. not (same_at r.at at)) counts
 
 -- the merge in flight into a segment

@@ -4,7 +4,7 @@ ghost use Rattle.std.specs.Prelude.{◌≡◌, ◌≢◌, ◌+◌, ◌∷◌, �
 ghost use Rattle.std.specs.Option.{option_map};
 ghost use Rattle.merge_tasks.specs.Board.{open_merge, spread_at, with_spread, without_merge, has_copy_task, is_unwritten, is_copied, sent_left, sent_more, all_sent, sent_less, posts_of, post_after, posted_merge, done_under, counts_one, without_count};
 
-use crate::drains::{Counted, count_one, done_in, forget};
+use crate::drains::{DrainCount, count_one, done_in, forget};
 use crate::rows::{is_among, leave_out, leave_sent, merge_in, set_spread, take_spread};
 use crate::tasks::{OpenMerge, Posted, Sent, Spread, TaskKind};
 use copy_state::CopyState;
@@ -18,7 +18,7 @@ use std::marker::Model;
 pub struct Tasks {
     posted: Vec<Posted>,
     rows: Vec<OpenMerge>,
-    counts: Vec<Counted>,
+    counts: Vec<DrainCount>,
 }
 
 impl Model for Tasks {

@@ -11,13 +11,13 @@ use std::alloc::AllocError;
 
 /// How many tasks count for a drain line.
 #[derive(Clone, Copy, Debug, PartialEq, Eq)]
-pub struct Counted {
+pub struct DrainCount {
     pub at: At,
     pub done: u32,
 }
 
 /// How many tasks count for a line.
-pub(crate) fn done_in(counts: &[Counted], at: At) -> u32
+pub(crate) fn done_in(counts: &[DrainCount], at: At) -> u32
     ensures { result ≡ done_under at counts.now }
 {
     for row in counts {
@@ -29,7 +29,7 @@ pub(crate) fn done_in(counts: &[Counted], at: At) -> u32
 }
 
 /// Counts no task for a line any more.
-pub(crate) fn forget(counts: &mut Vec<Counted>, at: At)
+pub(crate) fn forget(counts: &mut Vec<DrainCount>, at: At)
     ensures { counts.new.items ≡ filter (λ r. not (same_at r.at at)) counts.old.items }
 {
     counts.retain(|row| !same_at(row.at, at));
@@ -37,7 +37,7 @@ pub(crate) fn forget(counts: &mut Vec<Counted>, at: At)
 
 /// Counts one task more for a line. `Err` is want of memory, or of a number below 2^32.
 #[tactic(auto, using(crate::proofs::Counts::one_more))]
-pub(crate) fn count_one(counts: &mut Vec<Counted>, at: At) -> Result<(), NoMemory>
+pub(crate) fn count_one(counts: &mut Vec<DrainCount>, at: At) -> Result<(), NoMemory>
     ensures { OnOk result ((x : _) → done_under x counts.new.items
         ≡ (if same_at at x then done_under at counts.old.items + 1 else done_under x counts.old.items)) }
 {
@@ -45,6 +45,6 @@ pub(crate) fn count_one(counts: &mut Vec<Counted>, at: At) -> Result<(), NoMemor
     if done == u32::MAX {
         return Err(AllocError);
     }
-    counts.insert(0, Counted { at, done: done + 1 })?;
+    counts.insert(0, DrainCount { at, done: done + 1 })?;
     Ok(())
 }

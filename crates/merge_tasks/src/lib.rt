@@ -11,6 +11,3 @@ mod tasks;
 pub use board::Tasks;
 pub use ledger::Ledger;
 pub use tasks::{OpenMerge, Posted, Sent, Spread, Task, TaskKind, step_of};
-
-#[cfg(test)]
-mod tests;

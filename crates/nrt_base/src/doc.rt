@@ -1,3 +1,5 @@
+//! A document: a text under a key.
+
 use crate::NoMemory;
 use crate::key::Key;
 use crate::share::Share;

@@ -1,3 +1,5 @@
+//! The key of a document.
+
 ghost use Rattle.std.specs.Prelude.{◌≡◌, IfOk, IsTrue, Some, nat_eq};
 ghost use Rattle.std.proofs.Common.{rules, refl, sym};
 ghost use Rattle.std.specs.Cmp.{partial_equiv_from_equiv, partial_order_from_total, partial_order_from_own_ties};

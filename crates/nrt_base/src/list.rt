@@ -1,3 +1,5 @@
+//! A vector that contracts see as the list of its items.
+
 ghost use Rattle.std.specs.Prelude.{◌≡◌, ◌<◌, ◌≤◌, ◌-◌, ◌++◌, ◌∷◌, [], Some, length, take, drop, slice_get, slice_set, OnOk, OnErr};
 ghost use Rattle.std.specs.List.{remove};
 

@@ -1,3 +1,5 @@
+//! Second values that contracts see as equal to the first.
+
 ghost use Rattle.std.specs.Prelude.{◌≡◌, IfOk};
 
 use crate::NoMemory;

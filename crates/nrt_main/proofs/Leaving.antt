@@ -6,6 +6,7 @@ use Rattle.std.proofs.lemmas.List.{reverse-reverse}
 use Rattle.history_rules.specs.declared.entry.Entry.{Entry}
 use Rattle.history_rules.specs.Legal.{IsLegal}
 use Rattle.history_book.specs.Log.{printed}
+use Rattle.history_book.specs.Told.{IsTold}
 use Rattle.report_text.specs.Texts.{text_of_entry, text_of}
 use Rattle.script_serving.specs.declared.script.Script.{Script}
 use Rattle.script_serving.specs.Serves.{Serves}
@@ -15,15 +16,15 @@ use Rattle.nrt_main.specs.Headline.{IsRunnable, HasRun, ReadWhole, Answers, Answ
 use Rattle.nrt_main.specs.TopCalls.{IsReport, LeavesText, LeavesFront}
 
 -- the text of the entries of a cluster is that of its history
-pub report_is : (script : Script) (r : Run) (entries : List Entry) (text : List ℕ) → r.ended ≡ false → IsLegal (history_of r) → Serves script (history_of r) → reverse entries ≡ printed r.log
-    → text ≡ flat_map text_of_entry entries → IsReport script r text
-report_is script r entries text running legal serves is spelled =
+pub report_is : (script : Script) (r : Run) (entries : List Entry) (text : List ℕ) → r.ended ≡ false → IsLegal (history_of r) → Serves script (history_of r) → IsTold r.log
+    → reverse entries ≡ printed r.log → text ≡ flat_map text_of_entry entries → IsReport script r text
+report_is script r entries text running legal serves told is spelled =
     let same : entries ≡ reverse (printed r.log) = sym (reverse-reverse entries) ∙ ap (λ (es : List Entry). reverse es) is in
-    record { running = running; legal = legal; serves = serves; is = spelled ∙ ap (flat_map text_of_entry) same }
+    record { running = running; legal = legal; serves = serves; told = told; is = spelled ∙ ap (flat_map text_of_entry) same }
 
 module _ (bytes : List ℕ) (script : Script) (r : Run) (text : List ℕ) (before after : Option (List ℕ)) (runnable : IsRunnable bytes script) (report : IsReport script r text) where
   has_run : HasRun bytes r
-  has_run = record { script = script; runnable = runnable; running = report.running; legal = report.legal; serves = report.serves }
+  has_run = record { script = script; runnable = runnable; running = report.running; legal = report.legal; serves = report.serves; told = report.told }
 
   pub leaves_text : Appends before after text → LeavesText bytes before after r
   leaves_text written = record { ran = has_run; written = subst (Appends before after) report.is written }

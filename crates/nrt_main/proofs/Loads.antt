@@ -13,6 +13,7 @@ use Rattle.nrt_base.specs.Bytes.{is_between}
 use Rattle.history_rules.specs.declared.entry.Entry.{Entry}
 use Rattle.history_rules.specs.Legal.{IsLegal}
 use Rattle.history_book.specs.Log.{printed}
+use Rattle.history_book.specs.Told.{IsTold}
 use Rattle.script_text.specs.Reading.{number_within}
 use Rattle.script_text.proofs.NumberLemmas.{number_case}
 use Rattle.script_text.proofs.NumberLaws.{number_in}
@@ -119,12 +120,12 @@ plain_of n script is = subst IsPlainScript (sym is) (record { log = refl; comman
 -- ---- the summary
 
 pub summary_is : (n : ℕ) (script : Script) (r : Run) (entries : List Entry) (text : List ℕ) → n ≤ 10000 → script ≡ generated_script n → r.ended ≡ false → IsLegal (history_of r)
-    → Serves script (history_of r) → reverse entries ≡ printed r.log → text ≡ summary_text n (totals_in n (reverse entries)) → IsSummary n r text
-summary_is n script r entries text few is running legal serves told spelled =
+    → Serves script (history_of r) → IsTold r.log → reverse entries ≡ printed r.log → text ≡ summary_text n (totals_in n (reverse entries)) → IsSummary n r text
+summary_is n script r entries text few is running legal serves told listed spelled =
     let served : Serves (generated_script n) (history_of r) = subst (λ (s : Script). Serves s (history_of r)) is serves in
-    let whole : reverse entries ≡ reverse (history_of r).entries = told ∙ sym (reverse-reverse (printed r.log)) in
+    let whole : reverse entries ≡ reverse (history_of r).entries = listed ∙ sym (reverse-reverse (printed r.log)) in
     record {
-      ran = record { running = running; legal = legal; serves = served };
+      ran = record { running = running; legal = legal; serves = served; told = told };
       is = spelled ∙ ap (summary_text n) (ap (totals_in n) whole ∙ totals_are n (history_of r) few legal served);
     }
 

@@ -4,6 +4,7 @@ use Rattle.std.specs.Io.KnownBytes.{Consumes, IsAtEnd, Appends}
 use Rattle.nrt_base.specs.declared.numbers.LineNo.{LineNo}
 use Rattle.history_rules.specs.declared.entry.History.{History}
 use Rattle.history_rules.specs.Legal.{IsLegal}
+use Rattle.history_book.specs.Told.{IsTold}
 use Rattle.report_text.specs.Texts.{text_of}
 use Rattle.script_text.specs.declared.fault.LineFault.{LineFault}
 use Rattle.script_text.specs.declared.fault.LineFault.TheVariants.{NotBuilt}
@@ -39,13 +40,15 @@ pub record Answers (bytes : List ℕ) (before after : Option (List ℕ)) : Type 
   pub serves : Serves script history
   pub written : Appends before after (text_of history)
 
--- the cluster has run the script that the bytes are: it has not ended, and its history is legal and serves the script
+-- the cluster has run the script that the bytes are: it has not ended, its history is legal and serves the script, and each printed
+-- entry tells what is so of inner work
 pub record HasRun (bytes : List ℕ) (r : Run) : Type 0 where
   pub script : Script
   pub runnable : IsRunnable bytes script
   pub running : r.ended ≡ false
   pub legal : IsLegal (history_of r)
   pub serves : Serves script (history_of r)
+  pub told : IsTold r.log
 
 -- the source was read to its end, and gave these bytes
 pub record ReadWhole (before after : Option (List ℕ)) (bytes : List ℕ) : Type 0 where

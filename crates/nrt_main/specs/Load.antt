@@ -3,6 +3,7 @@ use Rattle.std.specs.Prelude.{ℕ, ◌≡◌, ◌≤◌, ◌⊎◌, List, [], �
 use Rattle.std.specs.Fmt.{decimal}
 use Rattle.std.specs.Io.KnownBytes.{Appends}
 use Rattle.history_rules.specs.Legal.{IsLegal}
+use Rattle.history_book.specs.Told.{IsTold}
 use Rattle.script_serving.specs.Serves.{Serves}
 use Rattle.load_script.specs.Generated.{generated_script}
 use Rattle.load_script.specs.Totals.{totals_of, summary_text}
@@ -21,11 +22,13 @@ pub record IsLoadOf (words : List (List ℕ)) (n : ℕ) : Type 0 where
 abbrev pub IsLoad : List (List ℕ) → Type 0
 IsLoad words = (n : ℕ) × IsLoadOf words n
 
--- the cluster has run the script of n documents: it has not ended, and its history is legal and serves the script
+-- the cluster has run the script of n documents: it has not ended, its history is legal and serves the script, and each printed entry
+-- tells what is so of inner work
 pub record HasLoaded (n : ℕ) (r : Run) : Type 0 where
   pub running : r.ended ≡ false
   pub legal : IsLegal (history_of r)
   pub serves : Serves (generated_script n) (history_of r)
+  pub told : IsTold r.log
 
 -- the cluster has run the script of n documents, and the text is its summary
 pub record IsSummary (n : ℕ) (r : Run) (text : List ℕ) : Type 0 where

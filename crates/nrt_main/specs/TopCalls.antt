@@ -2,6 +2,7 @@
 use Rattle.std.specs.Prelude.{ℕ, ◌≡◌, List, take, false, Option, ⊤}
 use Rattle.std.specs.Io.KnownBytes.{Appends}
 use Rattle.history_rules.specs.Legal.{IsLegal}
+use Rattle.history_book.specs.Told.{IsTold}
 use Rattle.report_text.specs.Texts.{text_of}
 use Rattle.script_serving.specs.declared.script.Script.{Script}
 use Rattle.script_serving.specs.Serves.{Serves}
@@ -22,6 +23,7 @@ pub record IsReport (script : Script) (r : Run) (text : List ℕ) : Type 0 where
   pub running : r.ended ≡ false
   pub legal : IsLegal (history_of r)
   pub serves : Serves script (history_of r)
+  pub told : IsTold r.log
   pub is : text ≡ text_of (history_of r)
 
 -- the cluster has run the script that the bytes are, and the sink gained the text of its history

@@ -1,3 +1,5 @@
+//! Tests of the sentences that the program prints when it fails.
+
 use crate::message::stream_fault;
 use crate::status::Status;
 use nrt_base::LineNo;

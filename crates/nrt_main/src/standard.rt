@@ -1,3 +1,5 @@
+//! The readers and writers of the system, as sources and sinks.
+
 ghost use Rattle.std.specs.Prelude.{◌≡◌, None};
 
 use nrt_streams::{Failed, Sink, Source};

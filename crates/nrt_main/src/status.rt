@@ -1,3 +1,5 @@
+//! What the program answers: its exit status, and the sentence that goes with it.
+
 ghost use Rattle.std.specs.Prelude.{◌≡◌};
 ghost use Rattle.nrt_main.specs.Statuses.{exit_status};
 

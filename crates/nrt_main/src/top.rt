@@ -1,3 +1,5 @@
+//! The whole program: what its arguments ask for, and the answer to it.
+
 ghost use Rattle.std.specs.Prelude.{◌≡◌, ◌≤◌, length, ◌<◌, ◌-◌, ◌^◌, ◌↔◌, ◌≢◌, ℕ, [], ◌∷◌, None, IsTrue, IsSomeAnd, IfOk, IfErr};
 ghost use Rattle.nrt_base.specs.Causes.{Rose};
 ghost use Rattle.script_serving.specs.Form.{IsInForm};
@@ -210,9 +212,9 @@ fn frames_source<S: Source, K: Sink>(alloc: Global, source: &mut S, sink: &mut K
 ///
 /// `run`: it reads a script from the source, runs it, and writes its report to the sink. Where it is done, the source
 /// was read to its end, its bytes are a script that the program runs, and the sink gained the text of a legal history
-/// that serves that script. Then, and where the sink failed, `kept` has the cluster that ran it: it has not ended, and the text is
-/// that of its history. `BadScript` names the first line that is refused, and why; for the cause `NotBuilt` the
-/// bytes are a script, and it is the first line that the program does not run yet.
+/// that serves that script. Then, and where the sink failed, `kept` has the cluster that ran it: it has not ended, the text is that of
+/// its history, and each printed entry tells what is so of inner work. `BadScript` names the first line that is refused,
+/// and why; for the cause `NotBuilt` the bytes are a script, and it is the first line that the program does not run yet.
 ///
 /// `frames`: it reads a stream of frames from the source, and writes a line for each message to the sink. Where it is
 /// done, the source was read to its end, and the sink gained the lines of the messages of its bytes, and nothing else.

@@ -1,3 +1,5 @@
+//! Bytes, written to a sink.
+
 ghost use Rattle.std.specs.Prelude.{◌≡◌, ◌≤◌, OnOk, OnErr, ℕ, length, take};
 ghost use Rattle.std.specs.Io.KnownBytes.{Appends};
 ghost use Rattle.nrt_base.specs.Causes.{HasCause};

@@ -1,3 +1,5 @@
+//! Sources and sinks in memory, for tests: they move few bytes at a time, and fail where they are told to.
+
 ghost use Rattle.std.specs.Prelude.{◌≡◌, ◌≤◌, ◌<◌, ◌+◌, ◌↔◌, ℕ, List, [], ◌++◌, length, min, take, drop, Some, Option, IfOk, OnErr, IsErr, IsTrue};
 ghost use Rattle.std.specs.Io.{ReadsAtMost, WritesAtMost};
 ghost use Rattle.std.specs.Io.KnownBytes.{ReadConsumes, WriteAppends};

@@ -1,3 +1,5 @@
+//! The rule of a search's answer: the hits that the documents of its point give.
+
 ghost use Rattle.std.specs.Prelude.{◌≡◌, ◌<◌, ◌^◌, ◌↔◌, reverse, IfOk, IsTrue};
 ghost use Rattle.documents.specs.Ranking.{first_rank, scan_of};
 ghost use Rattle.history_rules.specs.Nodes.{accepted_count};

@@ -1,3 +1,5 @@
+//! Whether a history is legal, and which entry is the first that breaks a rule.
+
 ghost use Rattle.std.specs.Prelude.{◌≡◌, ◌<◌, ◌+◌, ◌^◌, ◌∷◌, ◌↔◌, reverse, length, IfOk, IsTrue};
 ghost use Rattle.history_rules.specs.Nodes.{accepted_count};
 ghost use Rattle.history_facts.specs.Generations.{ShowsGeneration, ShowsDrawn};

@@ -1,3 +1,5 @@
+//! The points of a legal history, each with its documents.
+
 ghost use Rattle.std.specs.Prelude.{◌≡◌, ◌==◌, ◌<◌, ◌+◌, ◌∷◌, ◌++◌, ℕ, [], if◌then◌else◌, map, IfOk, OnOk, Some, None, length, reverse, take};
 ghost use Rattle.std.specs.BTreeMap.{IsOrdered};
 ghost use Rattle.nrt_base.specs.declared.numbers.At.{At};

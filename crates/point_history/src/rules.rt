@@ -1,10 +1,12 @@
+//! The rules of entries: what may happen over the entries before.
+
 ghost use Rattle.std.specs.Prelude.{◌≡◌, ◌≤◌, ◌<◌, ◌+◌, ◌^◌, ◌↔◌, ◌⊎◌, ℕ, reverse, length, IsTrue, true, false};
 ghost use Rattle.history_rules.specs.Nodes.{IsNode, IsReplica, version_of, accepted_count};
 ghost use Rattle.history_rules.specs.Lines.{start_entry, before_start, has_just_switched, NodeSurvives};
 ghost use Rattle.history_rules.specs.Commits.{starts_commit};
 ghost use Rattle.history_rules.specs.Faults.{has_met_fault, has_file_fault};
 ghost use Rattle.history_facts.specs.Generations.{ShowsGeneration};
-ghost use Rattle.history_rules.specs.Rules.{MayAccept, MayStartPublish, MayPublish, MayStartCopy, MaySwitch, MayFinishCopy, MayStartSettle, MaySettle, MayOpen, MayAsk, MayClose, MayStartCommit, MayCommit, MayCrash, MayReopen, MayPromote, MayStartMerge, MayDrain, StartedCopy, IsWhole};
+ghost use Rattle.history_rules.specs.Rules.{MayAccept, MayStartPublish, MayPublish, MayStartCopy, MaySwitch, MayFinishCopy, MayStartSettle, MaySettle, MayOpen, MayAsk, MayClose, MayStartCommit, MayCommit, MayCrash, MayReopen, MayPromote, MayStartMerge, MayDrain, StartedCopy, IsLineWhole};
 
 use history_facts::{
     Generation, accepted_count, before_start, commit_in_flight, copy_in_flight, drained_count,
@@ -166,7 +168,7 @@ fn is_whole(n: NodeNo, at: At, entries: &[Entry]) -> bool
 }
 
 fn all_whole(nodes: u8, at: At, entries: &[Entry]) -> bool
-    ensures { IsTrue result ↔ IsWhole nodes (reverse entries.now) at }
+    ensures { IsTrue result ↔ IsLineWhole nodes (reverse entries.now) at }
 {
     for below in 0..nodes {
         if !is_whole(NodeNo(below + 1), at, entries) {

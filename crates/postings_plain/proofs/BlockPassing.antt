@@ -14,7 +14,8 @@ use Rattle.postings_plain.specs.Blocks.{IsBlockStart, IsAhead, IsReached}
 use Rattle.postings_plain.proofs.HitLaws.{rows_format, hits_from-append, fits_parts, all_below}
 use Rattle.postings_plain.proofs.BlockLaws.{block_rows-is, block_count-more, skip_count-blocks, length-block, above_end, term_takes}
 use Rattle.postings_plain.proofs.CountedHits.{next_skip}
-use Rattle.postings_plain.proofs.Passing.{rows_at, was_read, is_read, Head, head_of, none_left, from_row-below, from_row-at, rows_ascend, all_from}
+use Rattle.postings_plain.proofs.KeptHits.{from_row-zero}
+use Rattle.postings_plain.proofs.Passing.{rows_at, was_read, is_read, Head, head_of, none_left, from_row-below, rows_ascend, all_from}
 
 -- ---- the block after a block
 
@@ -242,10 +243,6 @@ runs_out field count least rest row whole next z p =
     }
 
 -- ---- the first hit is taken
-
-from_row-zero : (hs : List Hit) → from_row 0 hs ≡ hs
-from_row-zero [] = refl
-from_row-zero (h ∷ hs) = from_row-at 0 h hs (omega arith)
 
 -- the hits left are those after the first, whose row and number of positions these are
 pub record TakesFirst (field count least : ℕ) (rest : List ℕ) (row times : ℕ) (whole : List Hit) (next : BlockStart) : Type 0 where

@@ -75,9 +75,9 @@ CountsPositions None read = read ≡ None
 CountsPositions (Some found) read = (positions : List ℕ) × (read ≡ Some (positions, found.1)) × (length positions ≡ found.0)
 
 -- a hit is read past, and its row and how many positions are in it are known
-abbrev pub CountsHit : Option (ℕ × (ℕ × List ℕ)) → Read Hit → Type 0
-CountsHit None read = read ≡ None
-CountsHit (Some found) read =
+abbrev pub CountsHitPositions : Option (ℕ × (ℕ × List ℕ)) → Read Hit → Type 0
+CountsHitPositions None read = read ≡ None
+CountsHitPositions (Some found) read =
     (positions : List ℕ) × (read ≡ Some ((found.0, positions), found.1.1)) × (length positions ≡ found.1.0)
 
 -- the hits are read past, whose rows are k or above, and the least row that may come after them is known

@@ -4,7 +4,7 @@ ghost use Rattle.std.specs.Prelude.{◌≡◌, ◌<◌, ◌≤◌, ◌^◌, ℕ,
 ghost use Rattle.std.specs.Option.{option_map};
 ghost use Rattle.body_forms.specs.Format.{Skips};
 ghost use Rattle.postings_plain.specs.Postings.{Skip};
-ghost use Rattle.postings_plain.specs.Reading.{SkipsHit, CountsPositions, CountsHit, SkipsHits, SkipsEntry, counted_from_at, field_at, term_at, positions_at, hit_at, skips_at, blocks_at, rows_of_term_at, hits_at, entry_at};
+ghost use Rattle.postings_plain.specs.Reading.{SkipsHit, CountsPositions, CountsHitPositions, SkipsHits, SkipsEntry, counted_from_at, field_at, term_at, positions_at, hit_at, skips_at, blocks_at, rows_of_term_at, hits_at, entry_at};
 
 use crate::blocks::{first_block, skip_of, skip_skips, skips_of_rows};
 use crate::format::Format;
@@ -78,7 +78,7 @@ fn count_positions(field: u8, bytes: &[u8]) -> Option<(u32, &[u8])>
 /// Reads past a hit, and says which row it is of and how many positions are in it.
 pub fn count_hit(field: u8, least: u64, bytes: &[u8]) -> Option<(u32, u32, &[u8])>
     requires { least ≤ 2 ^ 32 }
-    ensures value { CountsHit (option_map (λ x. (x.0, (x.1, x.2.now))) result)
+    ensures value { CountsHitPositions (option_map (λ x. (x.0, (x.1, x.2.now))) result)
         (hit_at field least bytes.now) }
     ensures below { IfSome result (λ x. x.0 < 2 ^ 32) }
 {

@@ -5,8 +5,8 @@ ghost use Rattle.nrt_base.specs.SegNumbers.{segments_of_generation};
 ghost use Rattle.primary_bench.specs.Seeing.{IsSeen, IsEmpty};
 
 use crate::Seen;
-use crate::calls::{self, Outcome, Turn};
-use crate::plain::{Plain, PlainPoint, Step};
+use crate::calls::{self, CallOutcome, CommitTurn};
+use crate::plain::{PlainOp, PlainPoint, PlainPrimary};
 use crate::reading::{are_due, documents_in, documents_of};
 use commit_steps::recover;
 use disk_model::{Dir, FaultDir};
@@ -30,7 +30,7 @@ pub struct PlainCommit {
 /// What a plain primary has: its documents, the points that tickets and copy states hold, the oldest first, and commits.
 #[derive(Drop)]
 pub struct Shelf {
-    pub plain: Plain,
+    pub plain: PlainPrimary,
     pub tickets: Vec<PlainPoint>,
     pub states: Vec<PlainPoint>,
     pub last: Option<PlainCommit>,
@@ -51,13 +51,13 @@ pub enum MergeStep {
 /// A call of a bench.
 #[derive(Clone, Copy)]
 pub enum Call {
-    Accept(Step),
+    Accept(PlainOp),
     /// A publish, whatever it leads to.
     Publish,
     /// A publish that leads to this.
-    PublishTo(Outcome),
+    PublishTo(CallOutcome),
     /// A call of a merge that leads to this.
-    MergeTo(MergeStep, Outcome),
+    MergeTo(MergeStep, CallOutcome),
     /// The next call of merges of so many neighbours, whatever it leads to.
     Merge(u32),
     Acquire,
@@ -99,21 +99,21 @@ fn letter_of(word: u8) -> u8
     b'x' + word % 3
 }
 
-fn op_of(alloc: Global, step: Step) -> Result<Op, NoMemory> {
+fn op_of(alloc: Global, step: PlainOp) -> Result<Op, NoMemory> {
     Ok(match step {
-        Step::Put(key, word) => Op::Put(Doc {
+        PlainOp::Put(key, word) => Op::Put(Doc {
             key: key_at(alloc, key)?,
             text: Text::new(alloc, &[letter_of(word)])?,
         }),
-        Step::Delete(key) => Op::Delete(key_at(alloc, key)?),
-        Step::Drop(word) => Op::Drop(Word::new(alloc, &[letter_of(word)])?),
+        PlainOp::Delete(key) => Op::Delete(key_at(alloc, key)?),
+        PlainOp::Drop(word) => Op::Drop(Word::new(alloc, &[letter_of(word)])?),
     })
 }
 
 impl Shelf {
     fn new(alloc: Global, drawn: u64) -> Shelf {
         Shelf {
-            plain: Plain::new(alloc, drawn),
+            plain: PlainPrimary::new(alloc, drawn),
             tickets: Vec::new(alloc),
             states: Vec::new(alloc),
             last: None,
@@ -150,13 +150,13 @@ impl Shelf {
     }
 
     // A call for the commit in flight was made.
-    fn count_call(&mut self, turn: Turn) {
+    fn count_call(&mut self, turn: CommitTurn) {
         if let Some(commit) = &mut self.flight {
-            if turn != Turn::Failed {
+            if turn != CommitTurn::Failed {
                 commit.calls = commit.calls.wrapping_add(1);
             }
         }
-        if turn == Turn::Made {
+        if turn == CommitTurn::Made {
             self.last = self.flight.take();
         }
     }
@@ -190,7 +190,7 @@ impl<D: Dir> Bench<D> {
     }
 
     /// Accepts an operation.
-    pub fn accept(&mut self, alloc: Global, step: Step) -> Result<(), Fail>
+    pub fn accept(&mut self, alloc: Global, step: PlainOp) -> Result<(), Fail>
         requires { IsSeen self.old.primary self.old.seen }
         ensures { OnOk result (IsSeen self.new.primary self.new.seen) }
     {
@@ -200,29 +200,29 @@ impl<D: Dir> Bench<D> {
     }
 
     /// Publishes what waits.
-    pub fn publish(&mut self, alloc: Global) -> Result<Outcome, Fail>
+    pub fn publish(&mut self, alloc: Global) -> Result<CallOutcome, Fail>
         requires { IsSeen self.old.primary self.old.seen }
         ensures { OnOk result (IsSeen self.new.primary self.new.seen) }
     {
         let is_idle = self.shelf.plain.is_idle();
         let outcome = calls::publish(alloc, &mut self.primary, &mut self.seen)?;
         check(
-            is_idle == (outcome == Outcome::Nothing),
+            is_idle == (outcome == CallOutcome::Nothing),
             "what waits is published",
         )?;
         match outcome {
-            Outcome::Point => {
+            CallOutcome::Point => {
                 self.shelf.plain.draw();
                 self.shelf.plain.publish(alloc)?;
             }
-            Outcome::Failed => self.shelf.plain.draw(),
+            CallOutcome::Failed => self.shelf.plain.draw(),
             _ => {}
         }
         Ok(outcome)
     }
 
     /// Starts a merge, where some neighbours can be merged.
-    pub fn merge_start(&mut self, alloc: Global, factor: u32) -> Result<Outcome, Fail>
+    pub fn merge_start(&mut self, alloc: Global, factor: u32) -> Result<CallOutcome, Fail>
         requires seen { IsSeen self.old.primary self.old.seen }
         requires factor { 2 ≤ factor }
         ensures { OnOk result (IsSeen self.new.primary self.new.seen) }
@@ -230,22 +230,22 @@ impl<D: Dir> Bench<D> {
         let can_merge = self.shelf.plain.can_merge(alloc, factor)?;
         let outcome = calls::merge_start(alloc, &mut self.primary, &mut self.seen, factor)?;
         check(
-            can_merge == (outcome != Outcome::Nothing),
+            can_merge == (outcome != CallOutcome::Nothing),
             "what can be merged is merged",
         )?;
-        if outcome == Outcome::Started {
+        if outcome == CallOutcome::Started {
             self.shelf.plain.merge_start(alloc, factor)?;
         }
         Ok(outcome)
     }
 
     /// Makes the oldest merge, and writes its files.
-    pub fn merge_ready(&mut self, alloc: Global) -> Result<Outcome, Fail>
+    pub fn merge_ready(&mut self, alloc: Global) -> Result<CallOutcome, Fail>
         requires { IsSeen self.old.primary self.old.seen }
         ensures { OnOk result (IsSeen self.new.primary self.new.seen) }
     {
         let outcome = calls::merge_ready(alloc, &mut self.primary, &mut self.seen)?;
-        if outcome == Outcome::Ready {
+        if outcome == CallOutcome::Ready {
             let point = self.shelf.plain.merge_ready(alloc, self.seen.version)?;
             self.shelf.states.push(point)?;
         } else {
@@ -255,12 +255,12 @@ impl<D: Dir> Bench<D> {
     }
 
     /// Cuts over to the merge whose files are written.
-    pub fn merge_cut(&mut self, alloc: Global) -> Result<Outcome, Fail>
+    pub fn merge_cut(&mut self, alloc: Global) -> Result<CallOutcome, Fail>
         requires { IsSeen self.old.primary self.old.seen }
         ensures { OnOk result (IsSeen self.new.primary self.new.seen) }
     {
         let outcome = calls::merge_cut(alloc, &mut self.primary, &mut self.seen)?;
-        if outcome == Outcome::CutOver {
+        if outcome == CallOutcome::CutOver {
             self.shelf.plain.cut_over(alloc)?;
         } else {
             self.shelf.plain.cut_fails();
@@ -318,7 +318,7 @@ impl<D: Dir> Bench<D> {
     }
 
     /// Begins a commit, or makes the next call of the one in flight.
-    pub fn commit(&mut self, alloc: Global) -> Result<Turn, Fail>
+    pub fn commit(&mut self, alloc: Global) -> Result<CommitTurn, Fail>
         requires { IsSeen self.old.primary self.old.seen }
         ensures { OnOk result (IsSeen self.new.primary self.new.seen) }
     {
@@ -329,7 +329,7 @@ impl<D: Dir> Bench<D> {
         };
         let turn = calls::commit(alloc, &mut self.primary, &mut self.seen)?;
         match turn {
-            Turn::Begun => self.shelf.flight = Some(commit),
+            CommitTurn::Begun => self.shelf.flight = Some(commit),
             _ => self.shelf.count_call(turn),
         }
         Ok(turn)
@@ -359,7 +359,7 @@ impl<D: FaultDir> Bench<D> {
         Ok(())
     }
 
-    fn merge_to(&mut self, alloc: Global, step: MergeStep) -> Result<Outcome, Fail>
+    fn merge_to(&mut self, alloc: Global, step: MergeStep) -> Result<CallOutcome, Fail>
         requires { IsSeen self.old.primary self.old.seen }
         ensures { OnOk result (IsSeen self.new.primary self.new.seen) }
     {
@@ -388,7 +388,7 @@ impl<D: FaultDir> Bench<D> {
             return self.merge_ready(alloc).map(|_| ());
         }
         let outcome = self.merge_to(alloc, MergeStep::Start(factor))?;
-        if outcome == Outcome::Nothing && !self.seen.merges.as_slice().is_empty() {
+        if outcome == CallOutcome::Nothing && !self.seen.merges.as_slice().is_empty() {
             return self.merge_ready(alloc).map(|_| ());
         }
         Ok(())

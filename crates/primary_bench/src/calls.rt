@@ -24,7 +24,7 @@ const MANY: u64 = 1_000_000;
 
 /// What a publish, or a call of a merge, leads to.
 #[derive(Clone, Copy, PartialEq, Eq)]
-pub enum Outcome {
+pub enum CallOutcome {
     Nothing,
     NamesSpent,
     TooManySegments,
@@ -37,7 +37,7 @@ pub enum Outcome {
 
 /// What a call of a commit leads to.
 #[derive(Clone, Copy, PartialEq, Eq)]
-pub enum Turn {
+pub enum CommitTurn {
     Begun,
     Failed,
     Going,
@@ -94,7 +94,7 @@ pub fn publish<D: Dir>(
     alloc: Global,
     primary: &mut Primary<D>,
     seen: &mut Seen,
-) -> Result<Outcome, Fail>
+) -> Result<CallOutcome, Fail>
     requires { IsSeen primary.old seen.old }
     ensures { OnOk result (IsSeen primary.new seen.new) }
 {
@@ -103,18 +103,18 @@ pub fn publish<D: Dir>(
     }
     let task = match primary.publish_start(alloc) {
         Ok(Some(task)) => task,
-        Ok(None) => return Ok(Outcome::Nothing),
-        Err(PublishFault::NamesSpent) => return Ok(Outcome::NamesSpent),
-        Err(PublishFault::TooManySegments) => return Ok(Outcome::TooManySegments),
+        Ok(None) => return Ok(CallOutcome::Nothing),
+        Err(PublishFault::NamesSpent) => return Ok(CallOutcome::NamesSpent),
+        Err(PublishFault::TooManySegments) => return Ok(CallOutcome::TooManySegments),
         Err(PublishFault::Memory) => return Err(Fail::new("out of memory")),
     };
     let work = flush(alloc, &task)?;
     match primary.publish_end(alloc, work) {
         Ok(version) => {
             seen.version = version.0;
-            Ok(Outcome::Point)
+            Ok(CallOutcome::Point)
         }
-        Err(PrimaryFault::Failed) => Ok(Outcome::Failed),
+        Err(PrimaryFault::Failed) => Ok(CallOutcome::Failed),
         Err(PrimaryFault::Memory) => Err(Fail::new("out of memory")),
     }
 }
@@ -190,7 +190,7 @@ pub fn merge_start<D: Dir>(
     primary: &mut Primary<D>,
     seen: &mut Seen,
     factor: u32,
-) -> Result<Outcome, Fail>
+) -> Result<CallOutcome, Fail>
     requires seen { IsSeen primary.old seen.old }
     requires factor { 2 ≤ factor }
     ensures { OnOk result (IsSeen primary.new seen.new) }
@@ -198,11 +198,11 @@ pub fn merge_start<D: Dir>(
     match primary.merge_start(alloc, factor) {
         Ok(Some(task)) => {
             seen.merges.push(task)?;
-            Ok(Outcome::Started)
+            Ok(CallOutcome::Started)
         }
-        Ok(None) => Ok(Outcome::Nothing),
-        Err(PublishFault::NamesSpent) => Ok(Outcome::NamesSpent),
-        Err(PublishFault::TooManySegments) => Ok(Outcome::TooManySegments),
+        Ok(None) => Ok(CallOutcome::Nothing),
+        Err(PublishFault::NamesSpent) => Ok(CallOutcome::NamesSpent),
+        Err(PublishFault::TooManySegments) => Ok(CallOutcome::TooManySegments),
         Err(PublishFault::Memory) => Err(Fail::new("out of memory")),
     }
 }
@@ -212,7 +212,7 @@ pub fn merge_ready<D: Dir>(
     alloc: Global,
     primary: &mut Primary<D>,
     seen: &mut Seen,
-) -> Result<Outcome, Fail>
+) -> Result<CallOutcome, Fail>
     requires { IsSeen primary.old seen.old }
     ensures { OnOk result (IsSeen primary.new seen.new) }
 {
@@ -225,9 +225,9 @@ pub fn merge_ready<D: Dir>(
         Ok(state) => {
             seen.states.push(state)?;
             seen.ready = Some(task);
-            Ok(Outcome::Ready)
+            Ok(CallOutcome::Ready)
         }
-        Err(PrimaryFault::Failed) => Ok(Outcome::Failed),
+        Err(PrimaryFault::Failed) => Ok(CallOutcome::Failed),
         Err(PrimaryFault::Memory) => Err(Fail::new("out of memory")),
     }
 }
@@ -237,7 +237,7 @@ pub fn merge_cut<D: Dir>(
     alloc: Global,
     primary: &mut Primary<D>,
     seen: &mut Seen,
-) -> Result<Outcome, Fail>
+) -> Result<CallOutcome, Fail>
     requires { IsSeen primary.old seen.old }
     ensures { OnOk result (IsSeen primary.new seen.new) }
 {
@@ -245,8 +245,8 @@ pub fn merge_cut<D: Dir>(
         return Err(Fail::new("no merge is ready"));
     };
     match primary.merge_cut(alloc, task.seg) {
-        Ok(()) => Ok(Outcome::CutOver),
-        Err(PrimaryFault::Failed) => Ok(Outcome::Failed),
+        Ok(()) => Ok(CallOutcome::CutOver),
+        Err(PrimaryFault::Failed) => Ok(CallOutcome::Failed),
         Err(PrimaryFault::Memory) => Err(Fail::new("out of memory")),
     }
 }
@@ -256,7 +256,7 @@ pub fn commit<D: Dir>(
     alloc: Global,
     primary: &mut Primary<D>,
     seen: &mut Seen,
-) -> Result<Turn, Fail>
+) -> Result<CommitTurn, Fail>
     requires { IsSeen primary.old seen.old }
     ensures { OnOk result (IsSeen primary.new seen.new) }
 {
@@ -267,15 +267,15 @@ pub fn commit<D: Dir>(
         primary.commit_begin(alloc)?;
         seen.in_flight = true;
         seen.next += 1;
-        return Ok(Turn::Begun);
+        return Ok(CommitTurn::Begun);
     }
     match primary.commit_step(alloc) {
         Ok(true) => {
             seen.in_flight = false;
-            Ok(Turn::Made)
+            Ok(CommitTurn::Made)
         }
-        Ok(false) => Ok(Turn::Going),
-        Err(CommitFault::Failed) => Ok(Turn::Failed),
+        Ok(false) => Ok(CommitTurn::Going),
+        Err(CommitFault::Failed) => Ok(CommitTurn::Failed),
         Err(fault) => Err(Fail::from(fault)),
     }
 }

@@ -8,6 +8,6 @@ mod reading;
 mod seen;
 
 pub use bench::{Call, MergeStep, run};
-pub use calls::Outcome;
-pub use plain::Step;
+pub use calls::CallOutcome;
+pub use plain::PlainOp;
 pub use seen::Seen;

@@ -12,7 +12,7 @@ const FIRST: u64 = 1_679_616;
 
 /// An operation on keys and words by their numbers.
 #[derive(Clone, Copy)]
-pub enum Step {
+pub enum PlainOp {
     Put(u8, u8),
     Delete(u8),
     Drop(u8),
@@ -53,11 +53,11 @@ struct PlainMerge {
 /// The present documents, the segments of the writer and those that are searched, the steps that wait, and how many names are drawn.
 /// Merges in flight, the oldest first, and the one before them whose files are written.
 #[derive(Drop)]
-pub struct Plain {
+pub struct PlainPrimary {
     docs: Vec<Row>,
     segs: Vec<PlainSeg>,
     searched: Vec<PlainSeg>,
-    waiting: Vec<Step>,
+    waiting: Vec<PlainOp>,
     drawn: u64,
     has_cut_over: bool,
     merges: Vec<PlainMerge>,
@@ -69,15 +69,15 @@ pub fn document(key: u8, word: u8) -> u16 {
     u16::from_be_bytes([key, word])
 }
 
-fn is_put(step: &Step) -> bool {
-    matches!(step, Step::Put(..))
+fn is_put(step: &PlainOp) -> bool {
+    matches!(step, PlainOp::Put(..))
 }
 
 // Whether the step takes the row away.
-fn takes(step: Step, row: &Row) -> bool {
+fn takes(step: PlainOp, row: &Row) -> bool {
     match step {
-        Step::Put(key, _) | Step::Delete(key) => row.key == key,
-        Step::Drop(word) => row.word == word,
+        PlainOp::Put(key, _) | PlainOp::Delete(key) => row.key == key,
+        PlainOp::Drop(word) => row.word == word,
     }
 }
 
@@ -85,7 +85,7 @@ fn takes(step: Step, row: &Row) -> bool {
 fn apply(
     docs: &mut Vec<Row>,
     touched: &mut Vec<u64>,
-    step: Step,
+    step: PlainOp,
     seg: u64,
 ) -> Result<(), NoMemory> {
     for row in docs.iter() {
@@ -94,7 +94,7 @@ fn apply(
         }
     }
     docs.retain(|row| !takes(step, row));
-    if let Step::Put(key, word) = step {
+    if let PlainOp::Put(key, word) = step {
         docs.push(Row { key, word, seg })?;
     }
     Ok(())
@@ -133,9 +133,9 @@ fn add_names(names: &mut Vec<FileName>, seg: &PlainSeg) -> Result<(), NoMemory> 
     Ok(())
 }
 
-impl Plain {
-    pub fn new(alloc: Global, drawn: u64) -> Plain {
-        Plain {
+impl PlainPrimary {
+    pub fn new(alloc: Global, drawn: u64) -> PlainPrimary {
+        PlainPrimary {
             docs: Vec::new(alloc),
             segs: Vec::new(alloc),
             searched: Vec::new(alloc),
@@ -147,7 +147,7 @@ impl Plain {
         }
     }
 
-    pub fn accept(&mut self, step: Step) -> Result<(), NoMemory> {
+    pub fn accept(&mut self, step: PlainOp) -> Result<(), NoMemory> {
         self.waiting.push(step)?;
         Ok(())
     }

@@ -1,4 +1,5 @@
-// The cut-over of a merge.
+//! The cut-over of a merge: the merged segment takes the place of its inputs.
+
 ghost use Rattle.std.specs.Prelude.{◌≡◌, ◌≤◌, List, Some, None, true, OnOk, OnErr, IfOk, IfErr, IsErrOf, IsSome};
 ghost use Rattle.nrt_base.specs.Causes.{Rose};
 ghost use Rattle.disk_model.specs.Faults.{IsMemoryOrFailed};

@@ -1,4 +1,5 @@
-// A merge in flight, by its number; and the end of one that is given up.
+//! A merge in flight, by its number; and the end of one that is given up.
+
 ghost use Rattle.std.specs.Prelude.{◌≡◌, ◌≤◌, Some, true, is_some};
 ghost use Rattle.searcher_switch.specs.Appearing.{NoneAppears};
 ghost use Rattle.primary_state.specs.Merges.{merge_of, merge_place, merges_without};

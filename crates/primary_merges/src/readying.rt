@@ -1,4 +1,5 @@
-// A merge whose files are written.
+//! A merge whose files are written.
+
 ghost use Rattle.std.specs.Prelude.{◌≡◌, ◌+◌, ◌≤◌, ◌++◌, ◌∷◌, [], List, Some, true, is_some, OnOk, OnErr, IfOk, IsErrOf};
 ghost use Rattle.std.specs.List.{All};
 ghost use Rattle.nrt_base.specs.Causes.{Rose};

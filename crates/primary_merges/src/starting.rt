@@ -1,4 +1,5 @@
-// A merge that starts.
+//! A merge that starts.
+
 ghost use Rattle.std.specs.Prelude.{◌≡◌, ◌≤◌, ◌<◌, ◌++◌, ◌∷◌, [], ◌==◌, OnOk, OnErr, IfOk, IfSome, MatchOption};
 ghost use Rattle.std.specs.List.{list_any};
 ghost use Rattle.nrt_base.specs.SegNumbers.{segments_of_generation};

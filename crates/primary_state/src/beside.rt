@@ -1,4 +1,5 @@
-// Operations that a primary accepts, the names of its files, and planned faults.
+//! Operations that a primary accepts, the names of its files, and planned faults.
+
 ghost use Rattle.std.specs.Prelude.{◌≡◌, ◌+◌, ◌<◌, ◌^◌, ℕ, List, [], ◌∷◌, ◌++◌, is_some, OnOk, OnErr, IfOk, Ok};
 ghost use Rattle.std.specs.Cmp.Lexicographic.{slice_cmp};
 ghost use Rattle.std.specs.List.Sorted.{IsStrictlySortedBy};

@@ -1,4 +1,5 @@
-// Commits of a primary.
+//! Commits of a primary.
+
 ghost use Rattle.std.specs.Prelude.{◌≡◌, ◌<◌, ◌≤◌, ◌^◌, None, true, OnOk, OnErr, IfOk, IfSome, IsSome, IsErrOf, Ok, Err};
 ghost use Rattle.nrt_base.specs.Causes.{Rose};
 ghost use Rattle.commit_steps.specs.Commits.{ImagesHave};

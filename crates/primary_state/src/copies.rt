@@ -1,4 +1,5 @@
-// Copy states of a primary.
+//! Copy states of a primary.
+
 ghost use Rattle.std.specs.Prelude.{◌≡◌, ◌+◌, ◌<◌, ◌≤◌, [], ◌∷◌, ◌++◌, Some, true, OnErr, IfOk, IsErrOf, Ok, Err};
 ghost use Rattle.nrt_base.specs.Causes.{Rose};
 ghost use Rattle.disk_model.specs.Disk.{reads_of};

@@ -1,4 +1,5 @@
-// A primary opens on its parts, and gives its directory up.
+//! A primary opens on its parts, and gives its directory up.
+
 ghost use Rattle.std.specs.Prelude.{◌≡◌, drop, ◌<◌, List, [], None, false, OnOk, IfOk, Ok, Err};
 ghost use Rattle.disk_model.specs.Disk.{reads_of};
 ghost use Rattle.copy_state.specs.States.{AreShortNames};

@@ -1,4 +1,5 @@
-// A primary's parts.
+//! What a primary is made of, and why its calls are refused.
+
 ghost use Rattle.std.specs.Prelude.{◌≡◌};
 
 use crate::states::{Merging, Out};

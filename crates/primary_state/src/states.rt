@@ -1,4 +1,5 @@
-// Copy states that are out.
+//! Copy states that are out, and merges in flight.
+
 ghost use Rattle.std.specs.Prelude.{◌≡◌, ◌+◌, ◌<◌, ◌≤◌, List, [], ◌∷◌, ◌++◌, true, IfOk, IfErr, OnOk, OnErr, IsErrOf};
 ghost use Rattle.std.specs.List.{All};
 ghost use Rattle.nrt_base.specs.Causes.{Rose};

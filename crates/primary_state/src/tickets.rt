@@ -1,4 +1,5 @@
-// Tickets of a primary.
+//! Tickets of a primary.
+
 ghost use Rattle.std.specs.Prelude.{◌≡◌, ◌+◌, ◌<◌, ◌≤◌, [], ◌∷◌, ◌++◌, true, false, is_some, OnErr, IfOk, IfSome};
 ghost use Rattle.searcher_switch.specs.Tickets.{ticket_at, tickets_without};
 ghost use Rattle.searcher_switch.specs.Appearing.{NoneAppears};

@@ -1,4 +1,5 @@
-// Writes of new files.
+//! Writes of new files.
+
 ghost use Rattle.std.specs.Prelude.{◌≡◌, ◌+◌, ◌<◌, ◌≤◌, ℕ, List, ◌++◌, true, OnOk, OnErr, IfErr, IfOk, IsErrOf};
 ghost use Rattle.std.specs.List.{All};
 ghost use Rattle.nrt_base.specs.Causes.{Rose};

@@ -6,25 +6,25 @@ use primary_bench::Call::{
     PublishTo, Release, StopAt, TakeState,
 };
 use primary_bench::MergeStep::{Cut, Ready, Start};
-use primary_bench::Step::{Delete, Drop, Put};
-use primary_bench::{Outcome, run};
+use primary_bench::PlainOp::{Delete, Drop, Put};
+use primary_bench::{CallOutcome, run};
 use std::alloc::Global;
 use std::test::Fail;
 
 // Two segments of a row each.
 const TWO: [Call; 4] = [
     Accept(Put(0, 0)),
-    PublishTo(Outcome::Point),
+    PublishTo(CallOutcome::Point),
     Accept(Put(1, 1)),
-    PublishTo(Outcome::Point),
+    PublishTo(CallOutcome::Point),
 ];
 
 // A publish that has nothing but a cut-over, and a commit of its point.
 const AFTER_A_CUT: [Call; 19] = [
     HasDueNames(true),
-    PublishTo(Outcome::Point),
+    PublishTo(CallOutcome::Point),
     HasDueNames(true),
-    PublishTo(Outcome::Nothing),
+    PublishTo(CallOutcome::Nothing),
     GiveBack,
     HasDueNames(true),
     Acquire,
@@ -45,10 +45,10 @@ const AFTER_A_CUT: [Call; 19] = [
 // What is found after a merge, where these calls are made between its start and its end.
 fn merged_beside(alloc: Global, beside: &[Call]) -> Result<Option<u64>, Fail> {
     let mut calls = Vec::from_slice(alloc, &TWO)?;
-    calls.push(MergeTo(Start(2), Outcome::Started))?;
+    calls.push(MergeTo(Start(2), CallOutcome::Started))?;
     calls.extend_from_slice(beside)?;
-    calls.extend_from_slice(&[HasDueNames(true), MergeTo(Ready, Outcome::Ready)])?;
-    calls.extend_from_slice(&[HasDueNames(true), MergeTo(Cut, Outcome::CutOver)])?;
+    calls.extend_from_slice(&[HasDueNames(true), MergeTo(Ready, CallOutcome::Ready)])?;
+    calls.extend_from_slice(&[HasDueNames(true), MergeTo(Cut, CallOutcome::CutOver)])?;
     calls.extend_from_slice(&AFTER_A_CUT)?;
     run(alloc, empty_dir(alloc)?, 0, calls.as_slice(), 0)
 }
@@ -86,27 +86,27 @@ fn a_merge_takes_no_inputs_of_another(rt: HostRuntime) -> Result<(), Fail> {
     let alloc = rt.alloc();
     let mut calls = Vec::from_slice(alloc, &TWO)?;
     calls.extend_from_slice(&[
-        MergeTo(Start(3), Outcome::Nothing),
-        MergeTo(Start(2), Outcome::Started),
-        MergeTo(Start(2), Outcome::Nothing),
+        MergeTo(Start(3), CallOutcome::Nothing),
+        MergeTo(Start(2), CallOutcome::Started),
+        MergeTo(Start(2), CallOutcome::Nothing),
         Accept(Put(2, 0)),
         Publish,
-        MergeTo(Start(2), Outcome::Nothing),
+        MergeTo(Start(2), CallOutcome::Nothing),
         Accept(Put(3, 1)),
         Publish,
-        MergeTo(Start(2), Outcome::Started),
-        MergeTo(Start(2), Outcome::Nothing),
+        MergeTo(Start(2), CallOutcome::Started),
+        MergeTo(Start(2), CallOutcome::Nothing),
         HasDueNames(true),
-        MergeTo(Ready, Outcome::Ready),
-        MergeTo(Cut, Outcome::CutOver),
-        MergeTo(Start(2), Outcome::Nothing),
-        MergeTo(Ready, Outcome::Ready),
-        MergeTo(Cut, Outcome::CutOver),
-        MergeTo(Start(2), Outcome::Started),
-        MergeTo(Ready, Outcome::Ready),
-        MergeTo(Cut, Outcome::CutOver),
+        MergeTo(Ready, CallOutcome::Ready),
+        MergeTo(Cut, CallOutcome::CutOver),
+        MergeTo(Start(2), CallOutcome::Nothing),
+        MergeTo(Ready, CallOutcome::Ready),
+        MergeTo(Cut, CallOutcome::CutOver),
+        MergeTo(Start(2), CallOutcome::Started),
+        MergeTo(Ready, CallOutcome::Ready),
+        MergeTo(Cut, CallOutcome::CutOver),
         HasDueNames(true),
-        PublishTo(Outcome::Point),
+        PublishTo(CallOutcome::Point),
         GiveBack,
         GiveBack,
         GiveBack,
@@ -123,11 +123,11 @@ const AGAIN: [Call; 11] = [
     StopAt(FAR),
     Acquire,
     Release,
-    MergeTo(Start(2), Outcome::Started),
-    MergeTo(Ready, Outcome::Ready),
+    MergeTo(Start(2), CallOutcome::Started),
+    MergeTo(Ready, CallOutcome::Ready),
     GiveBack,
-    MergeTo(Cut, Outcome::CutOver),
-    PublishTo(Outcome::Point),
+    MergeTo(Cut, CallOutcome::CutOver),
+    PublishTo(CallOutcome::Point),
     HasDueNames(true),
     Acquire,
 ];
@@ -145,8 +145,8 @@ fn a_stopped_merge_is_made_again(rt: HostRuntime) -> Result<(), Fail> {
         (StopAt(3), false, 0, 5),
     ] {
         let mut calls = Vec::from_slice(alloc, &TWO)?;
-        calls.extend_from_slice(&[MergeTo(Start(2), Outcome::Started), call])?;
-        calls.extend_from_slice(&[MergeTo(Ready, Outcome::Failed), HasMet(once, stop)])?;
+        calls.extend_from_slice(&[MergeTo(Start(2), CallOutcome::Started), call])?;
+        calls.extend_from_slice(&[MergeTo(Ready, CallOutcome::Failed), HasMet(once, stop)])?;
         calls.push(HasDueNames(has_due_names))?;
         calls.extend_from_slice(&AGAIN)?;
         run(alloc, empty_dir(alloc)?, 0, calls.as_slice(), 0)?;
@@ -159,13 +159,13 @@ const BEFORE_A_CUT: [Call; 12] = [
     Accept(Put(0, 0)),
     Accept(Put(1, 1)),
     Accept(Put(2, 2)),
-    PublishTo(Outcome::Point),
+    PublishTo(CallOutcome::Point),
     Accept(Put(3, 0)),
     Accept(Put(4, 1)),
     Accept(Delete(0)),
-    PublishTo(Outcome::Point),
-    MergeTo(Start(2), Outcome::Started),
-    MergeTo(Ready, Outcome::Ready),
+    PublishTo(CallOutcome::Point),
+    MergeTo(Start(2), CallOutcome::Started),
+    MergeTo(Ready, CallOutcome::Ready),
     GiveBack,
     Accept(Delete(1)),
 ];
@@ -175,9 +175,9 @@ fn a_stopped_cut_over_ends_the_merge(rt: HostRuntime) -> Result<(), Fail> {
     let alloc = rt.alloc();
     for (call, has_due_names, once, stop) in [(Plan(1), true, 1, 0), (StopAt(1), false, 0, 5)] {
         let mut calls = Vec::from_slice(alloc, &BEFORE_A_CUT)?;
-        calls.extend_from_slice(&[PublishTo(Outcome::Point), Acquire, call])?;
-        calls.extend_from_slice(&[MergeTo(Cut, Outcome::Failed), HasMet(once, stop)])?;
-        calls.extend_from_slice(&[HasDueNames(has_due_names), PublishTo(Outcome::Nothing)])?;
+        calls.extend_from_slice(&[PublishTo(CallOutcome::Point), Acquire, call])?;
+        calls.extend_from_slice(&[MergeTo(Cut, CallOutcome::Failed), HasMet(once, stop)])?;
+        calls.extend_from_slice(&[HasDueNames(has_due_names), PublishTo(CallOutcome::Nothing)])?;
         calls.extend_from_slice(&[Plan(FAR), StopAt(FAR), Release, Acquire])?;
         run(alloc, empty_dir(alloc)?, 0, calls.as_slice(), 0)?;
     }
@@ -188,10 +188,10 @@ fn a_stopped_cut_over_ends_the_merge(rt: HostRuntime) -> Result<(), Fail> {
         (StopAt(3), true, 0, 0),
     ] {
         let mut calls = Vec::from_slice(alloc, &BEFORE_A_CUT)?;
-        calls.extend_from_slice(&[PublishTo(Outcome::Point), Acquire, call])?;
-        calls.extend_from_slice(&[MergeTo(Cut, Outcome::CutOver), HasMet(once, stop)])?;
+        calls.extend_from_slice(&[PublishTo(CallOutcome::Point), Acquire, call])?;
+        calls.extend_from_slice(&[MergeTo(Cut, CallOutcome::CutOver), HasMet(once, stop)])?;
         calls.extend_from_slice(&[HasDueNames(has_due_names), Plan(FAR), StopAt(FAR)])?;
-        calls.extend_from_slice(&[PublishTo(Outcome::Point), Release, HasDueNames(true)])?;
+        calls.extend_from_slice(&[PublishTo(CallOutcome::Point), Release, HasDueNames(true)])?;
         run(alloc, empty_dir(alloc)?, 0, calls.as_slice(), 0)?;
     }
     Ok(())
@@ -203,23 +203,23 @@ fn names_are_spent_for_merges(rt: HostRuntime) -> Result<(), Fail> {
     let alloc = rt.alloc();
     let mut calls = Vec::from_slice(alloc, &TWO)?;
     calls.extend_from_slice(&[
-        MergeTo(Start(3), Outcome::Nothing),
-        MergeTo(Start(2), Outcome::NamesSpent),
+        MergeTo(Start(3), CallOutcome::Nothing),
+        MergeTo(Start(2), CallOutcome::NamesSpent),
         HasDueNames(true),
         Accept(Delete(0)),
         Publish,
-        MergeTo(Start(2), Outcome::Nothing),
+        MergeTo(Start(2), CallOutcome::Nothing),
     ])?;
     run(alloc, empty_dir(alloc)?, 1_679_614, calls.as_slice(), 0)?;
     let mut last = Vec::from_slice(alloc, &TWO)?;
     last.extend_from_slice(&[
-        MergeTo(Start(2), Outcome::Started),
-        MergeTo(Ready, Outcome::Ready),
-        MergeTo(Cut, Outcome::CutOver),
-        PublishTo(Outcome::Point),
+        MergeTo(Start(2), CallOutcome::Started),
+        MergeTo(Ready, CallOutcome::Ready),
+        MergeTo(Cut, CallOutcome::CutOver),
+        PublishTo(CallOutcome::Point),
         HasDueNames(true),
         Accept(Put(2, 2)),
-        PublishTo(Outcome::NamesSpent),
+        PublishTo(CallOutcome::NamesSpent),
     ])?;
     run(alloc, empty_dir(alloc)?, 1_679_613, last.as_slice(), 0)?;
     Ok(())
@@ -231,16 +231,16 @@ fn a_merge_makes_room_among_256_segments(rt: HostRuntime) -> Result<(), Fail> {
     let alloc = rt.alloc();
     let mut calls = Vec::new(alloc);
     for key in 0..=255 {
-        calls.extend_from_slice(&[Accept(Put(key, key % 3)), PublishTo(Outcome::Point)])?;
+        calls.extend_from_slice(&[Accept(Put(key, key % 3)), PublishTo(CallOutcome::Point)])?;
     }
     calls.extend_from_slice(&[
         Accept(Put(9, 0)),
-        PublishTo(Outcome::TooManySegments),
-        MergeTo(Start(2), Outcome::Started),
-        MergeTo(Ready, Outcome::Ready),
-        PublishTo(Outcome::TooManySegments),
-        MergeTo(Cut, Outcome::CutOver),
-        PublishTo(Outcome::Point),
+        PublishTo(CallOutcome::TooManySegments),
+        MergeTo(Start(2), CallOutcome::Started),
+        MergeTo(Ready, CallOutcome::Ready),
+        PublishTo(CallOutcome::TooManySegments),
+        MergeTo(Cut, CallOutcome::CutOver),
+        PublishTo(CallOutcome::Point),
         HasDueNames(true),
         Acquire,
     ])?;

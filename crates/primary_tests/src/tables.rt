@@ -10,8 +10,8 @@ use primary_bench::Call::{
     self, Accept, Acquire, Commit, GiveBack, HasDueNames, HasMet, Plan, Publish, PublishTo,
     Release, StopAt, TakeState,
 };
-use primary_bench::Step::{self, Delete, Drop, Put};
-use primary_bench::{Outcome, run};
+use primary_bench::PlainOp::{self, Delete, Drop, Put};
+use primary_bench::{CallOutcome, run};
 use std::alloc::Global;
 use std::test::Fail;
 
@@ -47,7 +47,7 @@ const AFTER_A_STOP: [Call; 9] = [
     Acquire,
     Release,
     Release,
-    PublishTo(Outcome::Nothing),
+    PublishTo(CallOutcome::Nothing),
     HasDueNames(true),
 ];
 
@@ -55,18 +55,18 @@ const AFTER_A_STOP: [Call; 9] = [
 fn a_stopped_publish_is_made_again(rt: HostRuntime) -> Result<(), Fail> {
     let alloc = rt.alloc();
     for (call, outcome, has_due_names, once, stop) in [
-        (Plan(1), Outcome::Failed, true, 1, 0),
-        (Plan(2), Outcome::Failed, true, 1, 0),
-        (Plan(3), Outcome::Failed, true, 1, 0),
-        (Plan(4), Outcome::Failed, true, 1, 0),
-        (Plan(5), Outcome::Point, false, 1, 0),
-        (Plan(6), Outcome::Point, true, 0, 0),
-        (StopAt(1), Outcome::Failed, true, 0, 1),
-        (StopAt(2), Outcome::Failed, false, 0, 2),
-        (StopAt(3), Outcome::Failed, false, 0, 3),
-        (StopAt(4), Outcome::Failed, false, 0, 4),
-        (StopAt(5), Outcome::Point, false, 0, 1),
-        (StopAt(6), Outcome::Point, true, 0, 0),
+        (Plan(1), CallOutcome::Failed, true, 1, 0),
+        (Plan(2), CallOutcome::Failed, true, 1, 0),
+        (Plan(3), CallOutcome::Failed, true, 1, 0),
+        (Plan(4), CallOutcome::Failed, true, 1, 0),
+        (Plan(5), CallOutcome::Point, false, 1, 0),
+        (Plan(6), CallOutcome::Point, true, 0, 0),
+        (StopAt(1), CallOutcome::Failed, true, 0, 1),
+        (StopAt(2), CallOutcome::Failed, false, 0, 2),
+        (StopAt(3), CallOutcome::Failed, false, 0, 3),
+        (StopAt(4), CallOutcome::Failed, false, 0, 4),
+        (StopAt(5), CallOutcome::Point, false, 0, 1),
+        (StopAt(6), CallOutcome::Point, true, 0, 0),
     ] {
         let mut calls = Vec::from_slice(alloc, &BEFORE_A_STOP)?;
         calls.extend_from_slice(&[call, PublishTo(outcome), HasMet(once, stop)])?;
@@ -147,7 +147,7 @@ fn tickets_over_ten_points(rt: HostRuntime) -> Result<(), Fail> {
             Accept(Put(i % 4, i % 3)),
             Accept(Put(i / 3, i % 2)),
             Accept(Delete(i / 2)),
-            PublishTo(Outcome::Point),
+            PublishTo(CallOutcome::Point),
             Acquire,
             HasDueNames(true),
         ])?;
@@ -166,24 +166,24 @@ fn names_are_spent_for_puts_alone(rt: HostRuntime) -> Result<(), Fail> {
     let last = [
         Accept(Put(0, 0)),
         Accept(Put(1, 1)),
-        PublishTo(Outcome::Point),
+        PublishTo(CallOutcome::Point),
         Accept(Delete(0)),
-        PublishTo(Outcome::Point),
+        PublishTo(CallOutcome::Point),
         HasDueNames(true),
         Acquire,
         Accept(Put(2, 2)),
-        PublishTo(Outcome::NamesSpent),
+        PublishTo(CallOutcome::NamesSpent),
         Accept(Delete(1)),
-        PublishTo(Outcome::NamesSpent),
+        PublishTo(CallOutcome::NamesSpent),
         Release,
         HasDueNames(true),
     ];
     run(alloc, empty_dir(alloc)?, 1_679_615, &last, 0)?;
     let none = [
         Accept(Delete(0)),
-        PublishTo(Outcome::Point),
+        PublishTo(CallOutcome::Point),
         Accept(Put(0, 0)),
-        PublishTo(Outcome::NamesSpent),
+        PublishTo(CallOutcome::NamesSpent),
     ];
     run(alloc, empty_dir(alloc)?, 1_679_616, &none, 0)?;
     Ok(())
@@ -194,17 +194,17 @@ fn a_put_wants_a_place_among_256_segments(rt: HostRuntime) -> Result<(), Fail> {
     let alloc = rt.alloc();
     let mut calls = Vec::new(alloc);
     for key in 0..=255 {
-        calls.extend_from_slice(&[Accept(Put(key, key % 3)), PublishTo(Outcome::Point)])?;
+        calls.extend_from_slice(&[Accept(Put(key, key % 3)), PublishTo(CallOutcome::Point)])?;
     }
     calls.extend_from_slice(&[
         Accept(Delete(7)),
-        PublishTo(Outcome::Point),
+        PublishTo(CallOutcome::Point),
         Accept(Put(7, 0)),
-        PublishTo(Outcome::Point),
+        PublishTo(CallOutcome::Point),
         Accept(Put(8, 0)),
-        PublishTo(Outcome::TooManySegments),
+        PublishTo(CallOutcome::TooManySegments),
         Accept(Delete(9)),
-        PublishTo(Outcome::TooManySegments),
+        PublishTo(CallOutcome::TooManySegments),
         HasDueNames(true),
         Acquire,
     ])?;

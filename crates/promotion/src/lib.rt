@@ -6,6 +6,3 @@ mod generation;
 
 pub use fault::PromoteFault;
 pub use generation::open_generation;
-
-#[cfg(test)]
-mod tests;

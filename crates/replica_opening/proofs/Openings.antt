@@ -39,7 +39,7 @@ use Rattle.searcher_switch.specs.declared.open.Open.{Open}
 use Rattle.searcher_switch.specs.declared.searchers.Searchers.{Searchers}
 use Rattle.searcher_switch.specs.Tickets.{ticket_names}
 use Rattle.searcher_switch.specs.Searching.{searcher_names}
-use Rattle.replica_opening.specs.declared.opening.Counted.{Counted}
+use Rattle.replica_opening.specs.declared.opening.FilesAndCommits.{FilesAndCommits}
 use Rattle.replica_opening.specs.declared.opening.Found.{Found}
 use Rattle.replica_opening.specs.Readers.{AreReaders}
 use Rattle.replica_opening.specs.declared.opening.PointRead.{PointRead}
@@ -164,7 +164,7 @@ counted cells h0 h1 h2 h3 listed found book next counts0 pending0 holds1 pending
   free = subst (λ n. AreFree cells n) (sym at) (free cells listed next listed_is is);
 }
 
-pub taken : (cells : Cells) (found : Found) (listed slice : List Name) (t : Counted) (s : Searchers Shown) → slice ≡ listed → ((q : Name) → is_among listed q ≡ is_some (cells q).now) → IsFoundPoint (reads_of cells) found → IsCounted cells found slice t
+pub taken : (cells : Cells) (found : Found) (listed slice : List Name) (t : FilesAndCommits) (s : Searchers Shown) → slice ≡ listed → ((q : Name) → is_among listed q ≡ is_some (cells q).now) → IsFoundPoint (reads_of cells) found → IsCounted cells found slice t
     → s.point ≡ record { version = found.infos.version; names = found.names; readers = found.read.segs } → s.tickets ≡ []
     → IsTaken cells (record { opened = record { files = t.files; searchers = s; commits = t.commits; infos = found.infos; segs = found.read.segs; known = found.read.known }; listed = listed })
 taken cells found listed slice t s same listed_is f is point tickets =

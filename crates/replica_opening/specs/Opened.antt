@@ -11,7 +11,7 @@ use Rattle.commit_steps.specs.Commits.{HasFilesOf, ImagesShowNothing, ImagesShow
 use Rattle.commit_steps.specs.Book.{book_names, IsBookSound}
 use Rattle.searcher_switch.specs.Node.{HasNoPending, AreFree}
 use Rattle.searcher_switch.specs.Searching.{searcher_names}
-use Rattle.replica_opening.specs.declared.opening.Counted.{Counted}
+use Rattle.replica_opening.specs.declared.opening.FilesAndCommits.{FilesAndCommits}
 use Rattle.replica_opening.specs.declared.opening.Found.{Found}
 use Rattle.replica_opening.specs.declared.opening.Opened.{Opened}
 use Rattle.replica_opening.specs.declared.opening.Taken.{Taken}
@@ -59,7 +59,7 @@ pub record IsNodeOpened (reads : Image) (o : Opened) : Type 0 where
   pub tickets : o.searchers.tickets ≡ []
 
 -- each file of the directory is counted, those of the point and of the commit that was found once more, and nothing is in flight
-pub record IsCounted (cells : Cells) (f : Found) (listed : List Name) (t : Counted) : Type 0 where
+pub record IsCounted (cells : Cells) (f : Found) (listed : List Name) (t : FilesAndCommits) : Type 0 where
   pub counts : (q : Name) → count_of t.files q ≡ times listed q + (times f.names q + times (book_names t.commits) q)
   pub whole : IsWhole cells t.files
   pub none : t.files.due ≡ []

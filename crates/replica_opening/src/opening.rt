@@ -298,7 +298,7 @@ pub struct Taken {
 
 /// The counts of a node's files, and its commits.
 #[derive(Drop)]
-pub struct Counted {
+pub struct FilesAndCommits {
     pub files: FileDeleter,
     pub commits: CommitBook,
 }
@@ -309,7 +309,7 @@ fn count_found<D: Dir>(
     found: &Found,
     listed: &[FileName],
     dir: &D,
-) -> Result<Counted, NoMemory>
+) -> Result<FilesAndCommits, NoMemory>
     requires found { IsFoundPoint (reads_of (D.cells dir.now)) found.now }
     requires listed { (q : List ℕ) → is_among listed.now q ≡ is_some (D.cells dir.now q).now }
     ensures { IfOk result (IsCounted (D.cells dir.now) found.now listed.now) }
@@ -319,7 +319,7 @@ fn count_found<D: Dir>(
     files.hold_there(found.names.as_slice(), dir)?;
     let next = next_commit(listed);
     let commits = open_book(alloc, found.number, &found.infos, next, &mut files, dir)?;
-    Ok(Counted { files, commits })
+    Ok(FilesAndCommits { files, commits })
 }
 
 // Searchers of the point that was found.
@@ -352,7 +352,7 @@ fn hold_found<D: Dir>(
 {
     let counted = count_found(alloc, &found, listed.as_slice(), dir)?;
     let searchers = searchers_of(alloc, &found)?;
-    let Counted { files, commits } = counted;
+    let FilesAndCommits { files, commits } = counted;
     let Found {
         number: _,
         infos,

@@ -1,6 +1,5 @@
 -- The next part of a job.
-use Rattle.std.proofs.Common.{◌≡◌, ℕ, suc, ◌+◌, ◌<◌, ◌≤◌, true, false, List, [], ◌∷◌, length, drop, get_or, slice_get, Option, Some, None, is_some, cond, sym, ap, subst, ◌∙◌, arith, true≢false, drop-cons, add-one}
-use Rattle.std.specs.Prelude.{IfSome}
+use Rattle.std.proofs.Common.{◌≡◌, ℕ, suc, ◌+◌, ◌<◌, true, false, List, [], ◌∷◌, length, drop, get_or, slice_get, Option, Some, is_some, cond, sym, ap, subst, ◌∙◌, arith, true≢false, drop-cons, add-one}
 use Rattle.disk_model.specs.Disk.{Name, same}
 use Rattle.file_deleter.specs.Holdings.{times}
 use Rattle.file_deleter.proofs.NameLemmas.{same_self, times-cons}
@@ -25,17 +24,3 @@ looked_on files i d q lt other =
 -- this file is the one that is looked for
 pub looked_up : (files : List File) (i : ℕ) (d : File) (q : Name) → i < length files → same q (get_or files i d).0 ≡ true → Some (get_or files i d).1 ≡ meta_in (drop i files) q
 looked_up files i d q lt here = sym (ap (λ (fs : List File). meta_in fs q) (drop-cons files i d lt) ∙ ap (λ b. cond b (Some (get_or files i d).1) (meta_in (drop (suc i) files) q)) here)
-
--- a claim of what is seen of an option, where there is one
-pub of_seen : {A B : Type 0} (P : A → Type 0) (f : B → A) (job : Option B) (seen : A) → is_some job ≡ true → IfSome job (λ j. seen ≡ f j) → P seen → IfSome job (λ j. P (f j))
-of_seen P f None seen some is h = absurd (true≢false (sym some))
-of_seen P f (Some j) seen some is h = subst P is h
-
--- three files by their names
-pub three_named : (files : List File) (a b c : File) (x y z : Name) → 3 ≤ length files → length files < 4 → a ≡ get_or files 0 a → b ≡ get_or files 1 b → c ≡ get_or files 2 c → a.0 ≡ x → b.0 ≡ y → c.0 ≡ z → meta_names files ≡ x ∷ y ∷ z ∷ []
-three_named [] a b c x y z long short ea eb ec ex ey ez = absurd (omega (arith, long))
-three_named (p ∷ []) a b c x y z long short ea eb ec ex ey ez = absurd (omega (arith, long))
-three_named (p ∷ q ∷ []) a b c x y z long short ea eb ec ex ey ez = absurd (omega (arith, long))
-three_named (p ∷ q ∷ r ∷ []) a b c x y z long short ea eb ec ex ey ez =
-    λ i. (sym (ap (λ (f : File). f.0) ea) ∙ ex) i ∷ (sym (ap (λ (f : File). f.0) eb) ∙ ey) i ∷ (sym (ap (λ (f : File). f.0) ec) ∙ ez) i ∷ []
-three_named (p ∷ q ∷ r ∷ s ∷ rest) a b c x y z long short ea eb ec ex ey ez = absurd (omega (arith, short))

@@ -1,6 +1,4 @@
 mod Due
-mod Emptiness
 mod Listing
-mod Noticing
 mod Running
 mod Sources

@@ -1,33 +1,18 @@
 -- The states that tests make.
-use Rattle.std.specs.Prelude.{◌≡◌, ◌<◌, ◌≤◌, List, [], Some, length}
+use Rattle.std.specs.Prelude.{◌≡◌, ◌<◌, ◌≤◌, List, Some, length}
 use Rattle.std.specs.List.{All}
 use Rattle.disk_model.specs.Disk.{Name}
 use Rattle.copy_state.specs.declared.meta.FileMetaData.{FileMetaData}
-use Rattle.copy_state.specs.declared.state.CopyState.{CopyState}
 use Rattle.file_deleter.specs.Holdings.{times}
 use Rattle.copy_state.specs.Meta.{IsMetaOf}
-use Rattle.copy_state.specs.States.{meta_names, meta_in, IsCopyState}
+use Rattle.copy_state.specs.States.{meta_names, meta_in}
 use Rattle.copy_job.specs.declared.copying.Part.{Part}
 use Rattle.copy_job.specs.Jobs.{Job}
-use Rattle.nrt_base.specs.declared.numbers.Gen.{Gen}
-use Rattle.nrt_base.specs.declared.numbers.Version.{Version}
-use Rattle.segment_infos.specs.declared.infos.Infos.{Infos}
-use Rattle.replica_state.specs.Replica.{IsPointState}
 
 -- the files have these names, which are short
 pub record HaveShortNames (names : List Name) (files : List (Name × FileMetaData)) : Type 0 where
   pub names_are : meta_names files ≡ names
   pub short : All (λ q. length q ≤ 46) names
-
--- a state of a point without a segment, of this generation and version
-pub record IsEmptyState (generation : Gen) (version : Version) (state : CopyState) : Type 0 where
-  pub copy : IsCopyState state
-  pub infos : Infos
-  pub none : infos.segs ≡ []
-  pub point : IsPointState state infos
-  pub files : state.files ≡ []
-  pub generation_is : state.primary_gen ≡ generation
-  pub version_is : state.version ≡ version
 
 -- the job lacks the part, and wants the metadata that its bytes have
 pub record IsDuePart (j : Job) (part : Part) : Type 0 where

@@ -2,10 +2,6 @@
 #![tactic(auto)]
 
 #[cfg(test)]
-mod bench;
-#[cfg(test)]
-mod calls;
-#[cfg(test)]
 mod files;
 #[cfg(test)]
 mod finishing;
@@ -13,8 +9,3 @@ mod finishing;
 mod jobs;
 #[cfg(test)]
 mod openings;
-#[cfg(test)]
-mod precopies;
-mod seen;
-
-pub use seen::Seen;

@@ -1,3 +1,5 @@
+//! A script: phases of lines, and what each line asks for.
+
 use documents::Query;
 use history_rules::FaultPlan;
 use nrt_base::{At, Doc, Key, LaneNo, List, NodeNo, TicketNo, Word};

@@ -48,9 +48,9 @@ abbrev pub is_line_feed : ℕ → Bool
 is_line_feed b = b == 10
 
 -- the fault of a script whose line of this number is refused so
-abbrev pub fault_on : ℕ → Refusal → ScriptFault
-fault_on n refusal.Memory = script_fault.Memory
-fault_on n (refusal.Cause cause) = script_fault.BadScript (record { 0 = n }) cause
+abbrev pub fault_at_line : ℕ → Refusal → ScriptFault
+fault_at_line n refusal.Memory = script_fault.Memory
+fault_at_line n (refusal.Cause cause) = script_fault.BadScript (record { 0 = n }) cause
 
 -- the statement at the front of a text, its line, and the rest of the text: a text whose first line has the number `from` goes on at the next line
 pub record IsNextStatement (from : ℕ) (bytes : List ℕ) (n : ℕ) (line rest : List ℕ) : Type 0 where

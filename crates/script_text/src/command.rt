@@ -1,3 +1,5 @@
+//! The command of a line, read from its words.
+
 ghost use Rattle.std.specs.Prelude.{◌≡◌, ◌++◌, length, drop, IsTrue, false};
 ghost use Rattle.std.specs.List.{list_all};
 ghost use Rattle.script_text.specs.Grammar.{words_in};

@@ -1,7 +1,9 @@
+//! Why bytes are no script: the line that is refused, and the cause.
+
 ghost use Rattle.std.specs.Prelude.{◌≡◌};
 ghost use Rattle.script_text.specs.declared.fault.ScriptFault.TheVariants.{Memory};
 ghost use Rattle.script_text.specs.declared.fault.Refusal.TheVariants.{Memory as NotRead};
-ghost use Rattle.script_text.specs.Reading.{fault_on};
+ghost use Rattle.script_text.specs.Reading.{fault_at_line};
 
 use nrt_base::{LineNo, NoMemory};
 use text_query::QueryFault;
@@ -75,7 +77,7 @@ impl From<NoMemory> for Refusal {
 impl Refusal {
     /// The fault of a script whose line of this number is refused so.
     pub fn on_line(self, number: u32) -> ScriptFault
-        ensures { result ≡ fault_on number self }
+        ensures { result ≡ fault_at_line number self }
     {
         match self {
             Refusal::Memory => ScriptFault::Memory,

@@ -1,3 +1,5 @@
+//! Laws of the grammar: bytes spell one script at most, or have one first refused line.
+
 ghost use Rattle.script_text.specs.Exact.{NeverBoth, OneScript, OneRefusal};
 
 /// No bytes both spell a script and have a line that is refused.

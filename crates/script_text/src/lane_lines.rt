@@ -1,3 +1,5 @@
+//! Statements behind the headers: lines of lanes, and ends of phases.
+
 ghost use Rattle.std.specs.Prelude.{◌≡◌, ◌∷◌, IsTrue, true, false, codes, bytes_eq};
 ghost use Rattle.script_text.specs.Grammar.{words_in};
 ghost use Rattle.script_text.specs.Refused.{is_digits as is_digits_lem, is_printable as is_printable_lem};

@@ -11,8 +11,6 @@ mod numbers;
 mod parse;
 mod phases;
 mod shapes;
-#[cfg(test)]
-mod tests;
 mod words;
 
 pub use fault::{LineFault, ScriptFault};

@@ -1,3 +1,5 @@
+//! A text, cut into lines, and the statements among them.
+
 ghost use Rattle.std.specs.Prelude.{◌≡◌, ◌<◌, ◌≤◌, ◌+◌, ◌^◌, ⊤, [], ◌∷◌, length, take_while, not, MatchOption};
 ghost use Rattle.script_text.specs.Grammar.{lines_of_text, statements_from, is_statement as is_statement_lem};
 ghost use Rattle.script_text.specs.Reading.{IsNextStatement, is_line_feed};

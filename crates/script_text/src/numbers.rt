@@ -1,3 +1,5 @@
+//! Numbers in a script, read from their decimal digits.
+
 ghost use Rattle.std.specs.Prelude.{◌≡◌, ◌≤◌, ◌^◌, ℕ, IsTrue, MatchOption};
 ghost use Rattle.std.specs.List.{list_all};
 ghost use Rattle.script_text.specs.Refused.{is_digit as is_digit_lem, is_digits as is_digits_lem, is_number as is_number_lem, value_of};

@@ -1,3 +1,5 @@
+//! A script, read from its bytes.
+
 ghost use Rattle.std.specs.Prelude.{◌≡◌, ◌≤◌, ◌<◌, ◌+◌, ◌^◌, ◌↔◌, ◌⊎◌, ◌∷◌, codes, length, IfOk, IsErrOf, MatchOption};
 ghost use Rattle.script_text.specs.Grammar.{SpellsScript, statements_from, lines_of_text, words_in};
 ghost use Rattle.script_text.specs.Refused.{IsFirstRefused};

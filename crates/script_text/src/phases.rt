@@ -1,3 +1,5 @@
+//! The phases of a script, put together from its statements.
+
 ghost use Rattle.std.specs.Prelude.{◌≡◌, ◌≤◌, ◌<◌, ◌+◌, ◌^◌, ◌==◌, ◌++◌, ◌∷◌, [], not, length, filter, IfOk, OnOk};
 ghost use Rattle.script_text.specs.Grammar.{of_lane, lane_entry, phase_of as phase_of_lem, statements_from, lines_of_text};
 ghost use Rattle.script_text.specs.Reading.{ArePhasesRead, TakesLater};

@@ -1,3 +1,5 @@
+//! Which command a line names, and which words stand behind the name.
+
 ghost use Rattle.std.specs.Prelude.{◌≡◌, ◌∷◌, [], None, MatchOption, codes, length};
 ghost use Rattle.script_text.specs.Grammar.{words_in};
 ghost use Rattle.script_text.specs.Refused.{asked as asked_lem, fault_asked as fault_asked_lem, is_too_few_or_many, command_shapes, fault_shapes, shape_named, plain_shape, shape_of};

@@ -1,3 +1,5 @@
+//! The words of a line.
+
 ghost use Rattle.text_query.specs.Tokens.{is_space};
 ghost use Rattle.std.specs.Prelude.{◌≡◌, ◌<◌, ⊤, ℕ, [], ◌∷◌, length, take_while, not, drop, MatchOption, bytes_eq};
 ghost use Rattle.std.specs.List.{list_all};

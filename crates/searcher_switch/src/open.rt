@@ -1,4 +1,5 @@
-// Points, and the tickets on them.
+//! Points, and the tickets on them.
+
 ghost use Rattle.std.specs.Prelude.{◌≡◌, ◌<◌, ℕ, List, [], ◌∷◌, ◌++◌, Some, is_some, true, length, drop, OnOk, OnErr, IfOk};
 ghost use Rattle.file_deleter.specs.Holdings.{AreThere};
 ghost use Rattle.file_deleter.specs.Moves.{HoldsFiles};

@@ -1,4 +1,5 @@
-// The searcher and its tickets.
+//! The searcher and its tickets.
+
 ghost use Rattle.std.specs.Prelude.{◌≡◌, ◌<◌, ◌≤◌, ℕ, List, [], ◌∷◌, ◌++◌, Some, true, false, is_some, IfOk, IfSome, OnOk, OnErr};
 ghost use Rattle.file_deleter.specs.Holdings.{AreThere, AreCounted};
 ghost use Rattle.file_deleter.specs.Moves.{MovesCounts};

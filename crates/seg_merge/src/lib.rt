@@ -10,6 +10,3 @@ pub use carrying::carry;
 pub use merging::merge;
 pub use seg_build::{Prepared, SegFiles, Segment, build, first_record, read_back, segment_id};
 pub use task::{MergeTask, Merged, RowFrom};
-
-#[cfg(test)]
-mod tests;

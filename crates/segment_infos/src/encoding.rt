@@ -7,6 +7,7 @@ ghost use Rattle.segment_infos.specs.Infos.{record_bytes, RecordFits, user_data,
 
 use crate::infos::{Infos, SegRecord};
 use body_forms::{push_string, push_u32, push_u64, write_footer, write_index_header};
+use byteorder::{BigEndian, ByteOrder};
 use bytes::Bytes;
 use file_names::{Gen, NoMemory, Version};
 use std::alloc::Global;
@@ -22,8 +23,8 @@ pub(crate) fn id_of(generation: Gen, version: Version) -> [u8; 16]
     ensures { result ≡ u64_bytes generation.0 ++ u64_bytes version.0 }
 {
     let mut id = [0; 16];
-    id[..8].copy_from_slice(&generation.0.to_be_bytes());
-    id[8..].copy_from_slice(&version.0.to_be_bytes());
+    BigEndian::write_u64(&mut id, generation.0);
+    BigEndian::write_u64(&mut id[8..], version.0);
     id
 }
 

@@ -4,7 +4,7 @@ use Rattle.std.specs.Prelude.{◌&&◌}
 use Rattle.std.specs.List.{list_all, count_by}
 use Rattle.std.proofs.lemmas.Bool.{false≢true}
 use Rattle.std.proofs.lemmas.List.{append-nil, map-append}
-use Rattle.text_query.specs.declared.syntax.State.{State}
+use Rattle.text_query.specs.declared.syntax.SyntaxState.{SyntaxState}
 use Rattle.documents.specs.declared.query.Query.{Query}
 use Rattle.documents.specs.Matching.{depth_of, leaves_of, is_well_formed}
 use Rattle.text_query.specs.declared.fault.QueryFault.{QueryFault}
@@ -69,7 +69,7 @@ blank_tokens at (b ∷ text) e =
 not_at_start : Some (state true zero) ≡ Some (state false zero) → ⊥
 not_at_start e = false≢true (sym (ap expects_in e))
   where
-    expects_in : Option State → Bool
+    expects_in : Option SyntaxState → Bool
     expects_in None = false
     expects_in (Some s) = s.expects_operand
 

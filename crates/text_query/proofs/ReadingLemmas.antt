@@ -9,7 +9,7 @@ use Rattle.text_query.specs.declared.token.Token.{Token}
 use Rattle.text_query.specs.declared.token.Token.TheVariants as token
 use Rattle.text_query.specs.Grammar.{QueryReading, ConjReading, UnaryReading, last_conj, conj_or, last_unary, unary_and, not_unary, word, phrase, parenthesised, query_tokens, conj_tokens, unary_tokens, query_parts, conj_parts, unary_tree, query_tree, all_of, any_of, ReadsAs}
 use Rattle.text_query.specs.Syntax.{IsQuery}
-use Rattle.text_query.specs.declared.syntax.State.{State}
+use Rattle.text_query.specs.declared.syntax.SyntaxState.{SyntaxState}
 use Rattle.std.specs.Prelude.{option_and_then}
 use Rattle.text_query.proofs.SyntaxLemmas.{state_from_query}
 use Rattle.text_query.specs.declared.build.Join.TheVariants as join
@@ -149,7 +149,7 @@ depth_grows (token.Not ∷ ts) false n levels pending e = no_state zero e
 depth_grows (token.Stray ∷ ts) expects n levels pending e = no_state zero e
 
 -- the same behind one token
-abbrev IsPendingIn : Option State → ℕ → Type 0
+abbrev IsPendingIn : Option SyntaxState → ℕ → Type 0
 IsPendingIn None n = Unit {0}
 IsPendingIn (Some s) n = IsPending s.expects_operand n
 
@@ -173,14 +173,14 @@ pending_behind token.Not false n levels p = tt
 pending_behind token.Stray expects n levels p = tt
 
 -- the tokens that end a query from a state go on from what they were read to
-grows_from : (before rest : List Token) (s : State) (levels : Levels) → IsPending s.expects_operand levels.0.nots
+grows_from : (before rest : List Token) (s : SyntaxState) (levels : Levels) → IsPending s.expects_operand levels.0.nots
     → state_after s (before ++ rest) ≡ Some (state false zero) → levels_depth (levels_after levels before) ≤ levels_depth (levels_after levels (before ++ rest))
 grows_from [] rest s levels p e = depth_grows rest s.expects_operand s.opened levels p e
 grows_from (token ∷ before) rest s levels p e =
     grows_step (state_behind s token) (pending_behind token s.expects_operand s.opened levels p) e (λ r. grows_from before rest r (levels_behind levels token))
   where
-    grows_step : (o : Option State) → IsPendingIn o (levels_behind levels token).0.nots → option_and_then (λ r. state_after r (before ++ rest)) o ≡ Some (state false zero)
-        → ((r : State) → IsPending r.expects_operand (levels_behind levels token).0.nots → state_after r (before ++ rest) ≡ Some (state false zero)
+    grows_step : (o : Option SyntaxState) → IsPendingIn o (levels_behind levels token).0.nots → option_and_then (λ r. state_after r (before ++ rest)) o ≡ Some (state false zero)
+        → ((r : SyntaxState) → IsPending r.expects_operand (levels_behind levels token).0.nots → state_after r (before ++ rest) ≡ Some (state false zero)
         → levels_depth (levels_after (levels_behind levels token) before) ≤ levels_depth (levels_after (levels_behind levels token) (before ++ rest)))
         → levels_depth (levels_after (levels_behind levels token) before) ≤ levels_depth (levels_after (levels_behind levels token) (before ++ rest))
     grows_step None q h each = no_state zero h

@@ -2,7 +2,7 @@
 use Rattle.std.proofs.Common.{◌≡◌, ℕ, zero, suc, List, [], ◌∷◌, ◌++◌, Bool, true, false, Option, Some, None, refl, ap, sym, ◌∙◌, subst, append_assoc}
 use Rattle.std.proofs.lemmas.List.{append-nil}
 use Rattle.std.proofs.lemmas.Bool.{false≢true}
-use Rattle.text_query.specs.declared.syntax.State.{State}
+use Rattle.text_query.specs.declared.syntax.SyntaxState.{SyntaxState}
 use Rattle.text_query.specs.declared.token.Token.{Token}
 use Rattle.text_query.specs.declared.token.Token.TheVariants.{Word, Phrase, Open, Close, And, Or, Not, Stray}
 use Rattle.text_query.specs.Grammar.{QueryReading, ConjReading, UnaryReading, last_conj, conj_or, last_unary, unary_and, not_unary, word, phrase, parenthesised, query_tokens, conj_tokens, unary_tokens}
@@ -77,12 +77,12 @@ abbrev From : Bool → ℕ → List Token → Type 0
 From true n tokens = FromOperand n tokens
 From false n tokens = FromOperator n tokens
 
-abbrev expects_in : Option State → Bool
+abbrev expects_in : Option SyntaxState → Bool
 expects_in None = false
 expects_in (Some s) = s.expects_operand
 
 -- how many parentheses are open in a state
-abbrev opened_in : Option State → ℕ
+abbrev opened_in : Option SyntaxState → ℕ
 opened_in None = zero
 opened_in (Some s) = s.opened
 

@@ -5,7 +5,7 @@ use Rattle.std.proofs.lemmas.List.{append-nil, take_more, map-append}
 use Rattle.std.proofs.lemmas.Option.{none-some}
 use Rattle.text_query.specs.declared.token.Placed.{Placed}
 use Rattle.text_query.specs.Tokens.{kinds_of}
-use Rattle.text_query.specs.declared.syntax.State.{State}
+use Rattle.text_query.specs.declared.syntax.SyntaxState.{SyntaxState}
 use Rattle.text_query.specs.declared.token.Token.{Token}
 use Rattle.text_query.specs.declared.token.Token.TheVariants.{Word, Phrase, Open, Close, And, Or, Not, Stray}
 use Rattle.text_query.specs.Grammar.{QueryReading, ConjReading, UnaryReading, last_conj, conj_or, last_unary, unary_and, not_unary, word, phrase, parenthesised, query_tokens, conj_tokens, unary_tokens}
@@ -29,11 +29,11 @@ mutual
   unary_state (phrase words) n rest = refl
   unary_state (parenthesised q) n rest = rw (append_assoc (query_tokens q) (Close ∷ []) rest) (query_state q (suc n) (Close ∷ rest))
 
-state_after-append : (s : State) (tokens more : List Token) → state_after s (tokens ++ more) ≡ option_and_then (λ r. state_after r more) (state_after s tokens)
+state_after-append : (s : SyntaxState) (tokens more : List Token) → state_after s (tokens ++ more) ≡ option_and_then (λ r. state_after r more) (state_after s tokens)
 state_after-append s [] more = refl
 state_after-append s (token ∷ tokens) more = append_step (state_behind s token) tokens more (λ r. state_after-append r tokens more)
   where
-    append_step : (o : Option State) (tokens more : List Token) → ((r : State) → state_after r (tokens ++ more) ≡ option_and_then (λ q. state_after q more) (state_after r tokens))
+    append_step : (o : Option SyntaxState) (tokens more : List Token) → ((r : SyntaxState) → state_after r (tokens ++ more) ≡ option_and_then (λ q. state_after q more) (state_after r tokens))
         → option_and_then (λ r. state_after r (tokens ++ more)) o ≡ option_and_then (λ r. state_after r more) (option_and_then (λ r. state_after r tokens) o)
     append_step None tokens more each = refl
     append_step (Some r) tokens more each = each r
@@ -59,7 +59,7 @@ state-ending true n = state-closing n
 state-ending false n = state-closing n
 
 -- where there is a state, a query goes on
-pub goes_on_from_state : (tokens : List Token) (s : State) → state_after (state true zero) tokens ≡ Some s → BeginsQuery tokens
+pub goes_on_from_state : (tokens : List Token) (s : SyntaxState) → state_after (state true zero) tokens ≡ Some s → BeginsQuery tokens
 goes_on_from_state tokens s e =
     let more = ending s.expects_operand s.opened in (
       more,
@@ -77,19 +77,19 @@ stops_from_state tokens e (more, q) =
     none-some (state false zero) (ap (option_and_then (λ r. state_after r more)) (sym e) ∙ (sym (state_after-append (state true zero) tokens more) ∙ state_from_query (tokens ++ more) q))
 
 -- one token more
-state_after-last : (s : State) (tokens : List Token) (token : Token) → state_after s (tokens ++ token ∷ []) ≡ option_and_then (λ r. state_behind r token) (state_after s tokens)
+state_after-last : (s : SyntaxState) (tokens : List Token) (token : Token) → state_after s (tokens ++ token ∷ []) ≡ option_and_then (λ r. state_behind r token) (state_after s tokens)
 state_after-last s tokens token = state_after-append s tokens (token ∷ []) ∙ last_step (state_after s tokens) token
   where
-    one_step : (o : Option State) → option_and_then Some o ≡ o
+    one_step : (o : Option SyntaxState) → option_and_then Some o ≡ o
     one_step None = refl
     one_step (Some r) = refl
 
-    last_step : (o : Option State) (token : Token) → option_and_then (λ r. option_and_then Some (state_behind r token)) o ≡ option_and_then (λ r. state_behind r token) o
+    last_step : (o : Option SyntaxState) (token : Token) → option_and_then (λ r. option_and_then Some (state_behind r token)) o ≡ option_and_then (λ r. state_behind r token) o
     last_step None token = refl
     last_step (Some r) token = one_step (state_behind r token)
 
 -- the state behind one token more of a text
-pub state_after-more : (s : State) (tokens : List Placed) (i : ℕ) (placed : Placed) → i < length tokens → placed ≡ get_or tokens i placed
+pub state_after-more : (s : SyntaxState) (tokens : List Placed) (i : ℕ) (placed : Placed) → i < length tokens → placed ≡ get_or tokens i placed
     → state_after s (kinds_of (take (i + 1) tokens)) ≡ option_and_then (λ r. state_behind r placed.token) (state_after s (kinds_of (take i tokens)))
 state_after-more s tokens i placed some here =
     ap (λ (ts : List Placed). state_after s (kinds_of ts)) (take_more tokens i placed some ∙ ap (λ (p : Placed). take i tokens ++ p ∷ []) (sym here))
@@ -97,7 +97,7 @@ state_after-more s tokens i placed some here =
     ∙ state_after-last s (kinds_of (take i tokens)) placed.token)
 
 -- how many parentheses are open in a state
-abbrev opened_in : Option State → ℕ
+abbrev opened_in : Option SyntaxState → ℕ
 opened_in None = zero
 opened_in (Some s) = s.opened
 
@@ -120,5 +120,5 @@ opened_step false n Not = omega arith
 opened_step expects n Stray = omega arith
 
 -- a token opens one parenthesis at most
-pub opened_behind : (s r : State) (token : Token) → state_behind s token ≡ Some r → r.opened ≤ s.opened + 1
+pub opened_behind : (s r : SyntaxState) (token : Token) → state_behind s token ≡ Some r → r.opened ≤ s.opened + 1
 opened_behind s r token e = omega (arith, opened_step s.expects_operand s.opened token, ap opened_in e)

@@ -10,7 +10,7 @@ use crate::token::{Placed, Token};
 
 /// What may follow the tokens that were read.
 #[derive(Clone, Copy)]
-pub struct State {
+pub struct SyntaxState {
     /// A word, a phrase, `NOT` or `(` follows, and else `AND`, `OR`, `)` or the end.
     pub expects_operand: bool,
     /// How many parentheses are open.
@@ -18,29 +18,29 @@ pub struct State {
 }
 
 /// The state behind a token, or none where no query goes on with it.
-fn state_behind(state: State, token: &Token) -> Option<State>
+fn state_behind(state: SyntaxState, token: &Token) -> Option<SyntaxState>
     requires { state.opened + 1 < 2 ^ 64 }
     ensures { result ≡ state_behind_lem state token.now }
 {
-    let State {
+    let SyntaxState {
         expects_operand,
         opened,
     } = state;
     match token {
-        Token::Word(_) | Token::Phrase(_) if expects_operand => Some(State {
+        Token::Word(_) | Token::Phrase(_) if expects_operand => Some(SyntaxState {
             expects_operand: false,
             opened,
         }),
         Token::Not if expects_operand => Some(state),
-        Token::Open if expects_operand => Some(State {
+        Token::Open if expects_operand => Some(SyntaxState {
             expects_operand: true,
             opened: opened + 1,
         }),
-        Token::And | Token::Or if !expects_operand => Some(State {
+        Token::And | Token::Or if !expects_operand => Some(SyntaxState {
             expects_operand: true,
             opened,
         }),
-        Token::Close if !expects_operand && opened > 0 => Some(State {
+        Token::Close if !expects_operand && opened > 0 => Some(SyntaxState {
             expects_operand: false,
             opened: opened - 1,
         }),
@@ -54,7 +54,7 @@ pub fn check_syntax(tokens: &[Placed], end: usize) -> Result<(), usize>
     ensures query { OnOk result (IsQuery (kinds_of tokens.now)) }
     ensures fault { IfErr result (IsFirstBadPlace tokens.now end) }
 {
-    let mut state = State {
+    let mut state = SyntaxState {
         expects_operand: true,
         opened: 0,
     };

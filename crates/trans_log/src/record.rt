@@ -9,6 +9,7 @@ ghost use Rattle.trans_log.specs.Reading.{op_of};
 
 use crate::parts::{OpParts, fields_of};
 use body_forms::{ReadFault, push_string, push_u32, push_u64};
+use byteorder::{BigEndian, ByteOrder};
 use bytes::Bytes;
 use codec_frame::{FileFault, FrameFault, Framed, Want, check, write_footer, write_index_header};
 use documents::Op;
@@ -44,8 +45,8 @@ fn id_of(number: u32) -> [u8; 16]
     ensures { result ≡ log_file_id number }
 {
     let mut id = [0; 16];
-    id[..8].copy_from_slice(&u64::from(number).to_be_bytes());
-    id[8..].copy_from_slice(&0u64.to_be_bytes());
+    BigEndian::write_u64(&mut id, u64::from(number));
+    BigEndian::write_u64(&mut id[8..], 0);
     id
 }
 

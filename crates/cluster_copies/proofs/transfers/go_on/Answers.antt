@@ -10,7 +10,7 @@ use Rattle.cluster_copies.proofs.Ending.{can_finish, copy_here, finish_path}
 use Rattle.cluster_state.proofs.Ledgers.{lane_of, legal_of, replica_of, turns_of, asked_of}
 use Rattle.history_book.specs.Jobs.{job_of}
 use Rattle.history_rules.specs.Lines.{start_entry, NodeSurvives, SourceSurvives}
-use Rattle.history_rules.specs.Rules.{IsWhole}
+use Rattle.history_rules.specs.Rules.{IsLineWhole}
 use Rattle.history_tables.specs.Begins.{open_line}
 use Rattle.cluster_state.proofs.MergingPaths.{two_parts, three_parts, third_at}
 use Rattle.cluster_state.proofs.MergingStill.{stand_same, stand_kept, all_keep}
@@ -65,7 +65,7 @@ pub must_be_whole-requires : goal.must_be_whole-requires
 must_be_whole-requires g c = asked_of (λ (l : Log). open_line c.args.row.job.at (printed l) ≢ None) c.cluster.view_is (c.book-whole.ensures.log ∙ c.in_ok-reserve.ensures.log) c.requires.line
 
 pub show_end-requires-clause-whole : goal.show_end-requires-clause-whole
-show_end-requires-clause-whole g c = subst (λ (x : ℕ × Log). IsWhole x.0 (printed x.1) c.args.row.job.at) (λ i. (c.book-whole.ensures.nodes i, c.book-whole.ensures.log i)) c.in_ok-must_be_whole-in-None.ensures
+show_end-requires-clause-whole g c = subst (λ (x : ℕ × Log). IsLineWhole x.0 (printed x.1) c.args.row.job.at) (λ i. (c.book-whole.ensures.nodes i, c.book-whole.ensures.log i)) c.in_ok-must_be_whole-in-None.ensures
 
 pub show_end-requires-clause-latest : goal.show_end-requires-clause-latest
 show_end-requires-clause-latest g c = (copy_here g.D.Dir.cells c.args.cluster.now _ c.cluster.inside.ledger c.reserve.new.self _ c.args.row c.cluster.view_is c.requires.running (two_parts c.cluster.invariant) c.in_ok-reserve.ensures.log c.requires.runs (lane_of c.book-book.ensures.nodes c.book-book.ensures.log c.job_shows.ensures) (replica_of c.book-book.ensures.log c.job_replica.ensures)).1

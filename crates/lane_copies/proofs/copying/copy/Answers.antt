@@ -3,8 +3,8 @@ use Rattle.script_serving.specs.declared.script.LineCommand.TheVariants.{Copy}
 use Rattle.cluster_nodes.specs.declared.tasks.CopyTask.{CopyTask}
 use Rattle.cluster_state.specs.declared.turn.Turn.{Turn}
 use Rattle.cluster_state.specs.declared.turn.Turn.TheVariants.{Work, Done, Busy}
-use Rattle.lane_lines.specs.Turns.{IsUnbegunIn, TurnsLine}
-use Rattle.lane_lines.proofs.Sections.{takes_first, takes_then, takes_ends, on_takes_ends}
+use Rattle.lane_sections.specs.Turns.{IsUnbegunIn, TurnsLine}
+use Rattle.lane_sections.proofs.Sections.{takes_first, takes_then, takes_ends, on_takes_ends}
 use Rattle.lane_copies.specs.Jobs.{BeginsCopy}
 use Rattle.lane_copies.proofs.Steps.{on_copy_ended}
 use Rattle.lane_copies.proofs.copying.copy.Goals as goal

@@ -5,7 +5,7 @@ use Rattle.history_rules.specs.Lines.{last_of_line}
 use Rattle.history_book.specs.Log.{printed}
 use Rattle.cluster_core.specs.Doing.{AsksFor}
 use Rattle.lane_threads.specs.Seats.{log_seen}
-use Rattle.lane_lines.proofs.Sections.{found_entered, found_legal, call_extends, on_call_ends}
+use Rattle.lane_sections.proofs.Sections.{found_entered, found_legal, call_extends, on_call_ends}
 use Rattle.lane_lines.proofs.Searches.{evaluated_stays, some_command}
 use Rattle.lane_lines.proofs.answering.answer_line.Goals as goal
 

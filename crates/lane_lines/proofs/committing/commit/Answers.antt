@@ -3,8 +3,8 @@ use Rattle.script_serving.specs.declared.script.LineCommand.TheVariants.{Commit}
 use Rattle.cluster_nodes.specs.declared.tasks.CommitTask.{CommitTask}
 use Rattle.cluster_state.specs.declared.turn.Turn.{Turn}
 use Rattle.cluster_state.specs.declared.turn.Turn.TheVariants.{Work, Done, Busy}
-use Rattle.lane_lines.specs.Turns.{IsUnbegunIn, TurnsLine}
-use Rattle.lane_lines.proofs.Sections.{takes_first, takes_then, takes_ends, on_takes_ends}
+use Rattle.lane_sections.specs.Turns.{IsUnbegunIn, TurnsLine}
+use Rattle.lane_sections.proofs.Sections.{takes_first, takes_then, takes_ends, on_takes_ends}
 use Rattle.lane_lines.specs.Commits.{IsCommitting}
 use Rattle.lane_lines.proofs.Commits.{on_node}
 use Rattle.lane_lines.proofs.committing.commit.Goals as goal

@@ -1,6 +1,6 @@
 use Rattle.script_serving.specs.declared.script.LineCommand.TheVariants.{Commit}
-use Rattle.lane_lines.specs.Turns.{IsUnbegunIn}
-use Rattle.lane_lines.proofs.Sections.{found_entered, if_ok_three, call_extends, on_call_turns}
+use Rattle.lane_sections.specs.Turns.{IsUnbegunIn}
+use Rattle.lane_sections.proofs.Sections.{found_entered, if_ok_three, call_extends, on_call_turns}
 use Rattle.lane_lines.specs.Commits.{IsCommitting}
 use Rattle.lane_lines.proofs.Commits.{commit_shows}
 use Rattle.lane_lines.proofs.committing.start.Goals as goal

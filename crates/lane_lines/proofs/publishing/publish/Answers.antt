@@ -3,8 +3,8 @@ use Rattle.segment_steps.specs.declared.flushing.FlushTask.{FlushTask}
 use Rattle.script_serving.specs.declared.script.LineCommand.TheVariants.{Publish}
 use Rattle.cluster_state.specs.declared.turn.Turn.{Turn}
 use Rattle.cluster_state.specs.declared.turn.Turn.TheVariants.{Work, Done, Busy}
-use Rattle.lane_lines.specs.Turns.{IsUnbegunIn, TurnsLine}
-use Rattle.lane_lines.proofs.Sections.{takes_first, takes_then, takes_ends, on_takes_ends}
+use Rattle.lane_sections.specs.Turns.{IsUnbegunIn, TurnsLine}
+use Rattle.lane_sections.proofs.Sections.{takes_first, takes_then, takes_ends, on_takes_ends}
 use Rattle.lane_lines.specs.Flushes.{IsFlushing}
 use Rattle.lane_lines.proofs.publishing.publish.Goals as goal
 

@@ -1,6 +1,6 @@
 use Rattle.script_serving.specs.declared.script.LineCommand.TheVariants.{Publish}
-use Rattle.lane_lines.specs.Turns.{IsUnbegunIn}
-use Rattle.lane_lines.proofs.Sections.{found_entered, if_ok_three, call_extends, on_call_turns}
+use Rattle.lane_sections.specs.Turns.{IsUnbegunIn}
+use Rattle.lane_sections.proofs.Sections.{found_entered, if_ok_three, call_extends, on_call_turns}
 use Rattle.lane_lines.specs.Flushes.{IsFlushing}
 use Rattle.lane_lines.proofs.Publishes.{publish_shows}
 use Rattle.lane_lines.proofs.publishing.start.Goals as goal

@@ -7,4 +7,4 @@ run_script-requires-clause-built g c κs within = plain_of c.args.n c.in_ok-scri
 pub returns : goal.returns
 returns g c =
     summary_is c.args.n c.in_ok-script.script c.in_ok-cluster.cluster c.entries.result.now c.in_ok-text.text.items c.requires.most c.in_ok-script.ensures.script
-    c.in_ok-cluster.ensures.running c.in_ok-cluster.ensures.legal c.in_ok-cluster.ensures.serves c.entries.ensures c.in_ok-text.ensures
+    c.in_ok-cluster.ensures.running c.in_ok-cluster.ensures.legal c.in_ok-cluster.ensures.serves c.in_ok-cluster.ensures.told c.entries.ensures c.in_ok-text.ensures

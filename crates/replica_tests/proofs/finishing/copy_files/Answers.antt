@@ -1,6 +1,5 @@
-use Rattle.std.proofs.Common.{subst, sym, ap, ◌∙◌}
+use Rattle.std.proofs.Common.{subst, sym}
 use Rattle.disk_model.specs.Disk.{Cells, reads_of}
-use Rattle.commit_steps.specs.declared.stage.CommitBook.{CommitBook}
 use Rattle.replica_state.specs.Sources.{IsSourced}
 use Rattle.replica_tests.proofs.Running.{just_sourced}
 use Rattle.replica_tests.proofs.finishing.copy_files.Goals as goal
@@ -12,5 +11,4 @@ returns g c =
       sourced =
           subst (λ (x : Cells). IsSourced (reads_of x) g.D.Dir.cells c.fetch_files.new.replica) (sym c.fetch_files.ensures.cells)
           (c.in_ok-fetch_files.ensures.sourced (c.begin_files.ensures.sourced source (just_sourced g.D.Dir.cells c.args.replica.now c.requires source (c.in_ok-check_empty.ensures source))));
-      none = ap (λ (b : CommitBook). b.stage) (c.in_ok-fetch_files.ensures.commits ∙ c.begin_files.ensures.commits) ∙ c.requires.stage;
     }

@@ -1,9 +1,9 @@
-use Rattle.std.proofs.Common.{◌≡◌, ◌<◌, sym, Some, refl}
+use Rattle.std.proofs.Common.{◌≡◌, ◌<◌, sym, Some}
 use Rattle.file_deleter.specs.Holdings.{times}
 use Rattle.copy_state.specs.States.{meta_in}
 use Rattle.disk_model.specs.Disk.{reads_of}
 use Rattle.replica_tests.proofs.Sources.{on_ok, part_reads}
-use Rattle.replica_tests.proofs.Running.{seen_runs, seen_commits, of_running, some_runs, arrival_keeps}
+use Rattle.replica_tests.proofs.Running.{seen_runs, of_running, some_runs}
 use Rattle.replica_tests.proofs.finishing.fetch.Goals as goal
 
 pub returns-clause-sourced : goal.returns-clause-sourced
@@ -20,8 +20,3 @@ arrived-requires-clause-missing g c = of_running (λ j. 0 < times j.missing c.in
 
 pub arrived-requires-clause-wanted : goal.arrived-requires-clause-wanted
 arrived-requires-clause-wanted g c = of_running (λ j. meta_in j.want.files c.in_ok-part.part.name ≡ Some c.in_ok-part.part.meta) c.args.replica.now c.number-number.result c.in-Some.job.now (seen_runs c.args.replica.now c.number-number.result c.in-Some.job.now (λ j e going n. let law = c.point_runs.ensures c.number-number.result c.args.replica.now j e going n in (law.0, law.1)) c.in-Some.ensures c.number-number.ensures) c.in_ok-part.ensures.due.wanted
-
-pub returns-clause-commits : goal.returns-clause-commits
-returns-clause-commits g c = on_ok c.match-arrived.result _ (arrival_keeps (λ p. p.commits) c.args.replica.now c.arrived.new.self c.number-number.result c.in_ok-part.part.name c.in-Some.job.now (seen_runs c.args.replica.now c.number-number.result c.in-Some.job.now (λ j e going n. let law = c.point_runs.ensures c.number-number.result c.args.replica.now j e going n in (law.0, law.1)) c.in-Some.ensures c.number-number.ensures)
-    (seen_commits c.args.replica.now c.number-number.result c.in-Some.job.now (λ j e going n. let law = c.point_runs.ensures c.number-number.result c.args.replica.now j e going n in (law.0, law.1)) c.in-Some.ensures c.number-number.ensures _)
-    refl c.arrived.result c.arrived.ensures.ok c.arrived.ensures.err)

@@ -1,0 +1,12 @@
+//! The section of the lock that each line of a lane runs in, the gate that a line passes before it works outside the lock, and how
+//! it waits for another lane's.
+#![tactic(auto)]
+
+mod gate;
+mod section;
+mod waiting;
+
+pub use cluster_core::{Cluster, Turn};
+pub use gate::{Gate, Place};
+pub use section::enter_cluster;
+pub use waiting::give_way;
