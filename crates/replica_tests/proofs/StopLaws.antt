@@ -24,7 +24,7 @@ use Rattle.replica_opening.specs.Opening.{FindsPoint, number_of_last, opening_in
 use Rattle.replica_opening.specs.Opened.{IsSettledOn}
 use Rattle.replica_opening.proofs.Clearings.{one_found}
 use Rattle.replica_opening.proofs.Settled.{restarted_settled}
-use Rattle.replica_state.specs.declared.parts.Parts.{Parts}
+use Rattle.replica_state.specs.declared.parts.ReplicaParts.{ReplicaParts}
 use Rattle.replica_tests.specs.Stops.{IsFoundAs, in_flight, IsStillInFlight, GoesOn, FindsCommit, OpensAt, StandsAt, StandsAgain, HasInfosAgain}
 
 -- ---- a crash
@@ -89,7 +89,7 @@ pub sound_flight : (cells : Cells) (last flight : Option Commit) → IsSafe cell
 sound_flight cells last None safe = tt
 sound_flight cells last (Some c) safe = safe.in_flight.commit
 
-module _ {D : Type 0} (was : Parts D) (before after : Cells) (crash : HasCrashed before after) (stand : ImagesStand before was.commits.last (shown_by was.commits.stage)) where
+module _ {D : Type 0} (was : ReplicaParts D) (before after : Cells) (crash : HasCrashed before after) (stand : ImagesStand before was.commits.last (shown_by was.commits.stage)) where
   image : Image
   image = crash.0
 
@@ -145,7 +145,7 @@ module _ {D : Type 0} (was : Parts D) (before after : Cells) (crash : HasCrashed
 
   -- ---- what is opened
 
-  module _ (cells : D → Cells) (here : before ≡ cells was.dir) (dir : D) (there : after ≡ cells dir) (now : Parts D) (opens : OpensAt cells dir now) where
+  module _ (cells : D → Cells) (here : before ≡ cells was.dir) (dir : D) (there : after ≡ cells dir) (now : ReplicaParts D) (opens : OpensAt cells dir now) where
     finds_here : FindsPoint image (number_of_last now.commits.last) now.infos
     finds_here = subst (λ (i : Image). FindsPoint i (number_of_last now.commits.last) now.infos) (sym (ap reads_of there) ∙ same_reads) opens.point
 
@@ -235,7 +235,7 @@ each_some : (o : Option Commit) (P Q : Commit → Type 0) → ((c : Commit) → 
 each_some None P Q more has = absurd has
 each_some (Some c) P Q more has = more c has
 
-module _ {D : Type 0} (cells : D → Cells) (was stopped now : Parts D) (in_one : IsSome was.commits.stage) (goes : GoesOn was.commits stopped.commits) where
+module _ {D : Type 0} (cells : D → Cells) (was stopped now : ReplicaParts D) (in_one : IsSome was.commits.stage) (goes : GoesOn was.commits stopped.commits) where
   abbrev HasInfos : Commit → Type 0
   HasInfos c = now.infos ≡ c.infos
 
