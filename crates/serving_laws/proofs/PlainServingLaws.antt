@@ -164,25 +164,25 @@ first size log command at past x None same right fresh is h = begins size log co
 
 follows : (log : Bool) (command : LineCommand) (at : At) (past : Past) (last x : Event) → same_at at at ≡ true → is_answered at past ≡ false → IsAtWork command at past
     → (is_copy last ≡ true → HasStarted command at past) → Follows command last x → Stands log command at (add at x past)
-follows log command at past last (Refused cause) same open work begun h =
+follows log command at past last (Refused cause) same waits work begun h =
     ended_by log command at past (Refused cause) same (rw same refl) (rw same refl) (inr (h, work))
-follows log Publish at past last (Published g v) same open work begun h =
+follows log Publish at past last (Published g v) same waits work begun h =
     ended_by log Publish at past (Published g v) same (rw same refl) (rw same refl) (inr (tt, work))
-follows log (Copy n) at past (Copying k w) (Switched m v) same open work begun h =
-    inr (inl (record { newest = Switched m v; last = rw same refl; answered = open; work = rw same (h, begun refl); begun = λ copies. absurd (false≢true copies) }))
-follows log (Copy n) at past last (Copied m v) same open work begun h =
+follows log (Copy n) at past (Copying k w) (Switched m v) same waits work begun h =
+    inr (inl (record { newest = Switched m v; last = rw same refl; answered = waits; work = rw same (h, begun refl); begun = λ copies. absurd (false≢true copies) }))
+follows log (Copy n) at past last (Copied m v) same waits work begun h =
     ended_by log (Copy n) at past (Copied m v) same (rw same refl) (rw same refl) (inr (h, work))
-follows log Settle at past last (Switched m v) same open work begun h =
-    inr (inl (record { newest = Switched m v; last = rw same refl; answered = open; work = rw same work; begun = λ copies. absurd (false≢true copies) }))
-follows log Settle at past last (Settled v) same open work begun h =
+follows log Settle at past last (Switched m v) same waits work begun h =
+    inr (inl (record { newest = Switched m v; last = rw same refl; answered = waits; work = rw same work; begun = λ copies. absurd (false≢true copies) }))
+follows log Settle at past last (Settled v) same waits work begun h =
     ended_by log Settle at past (Settled v) same (rw same refl) (rw same refl) (inr (tt, work))
-follows log (Search n query) at past last (Answered m t v q answer) same open work begun h =
+follows log (Search n query) at past last (Answered m t v q answer) same waits work begun h =
     ended_by log (Search n query) at past (Answered m t v q answer) same (rw same refl) (rw same refl) (inr (h, work))
-follows log (Ask t query) at past last (Answered m u v q answer) same open work begun h =
+follows log (Ask t query) at past last (Answered m u v q answer) same waits work begun h =
     ended_by log (Ask t query) at past (Answered m u v q answer) same (rw same refl) (rw same refl) (inr (h, work))
-follows log (Commit n) at past last (Committed m v) same open work begun h =
+follows log (Commit n) at past last (Committed m v) same waits work begun h =
     ended_by log (Commit n) at past (Committed m v) same (rw same refl) (rw same refl) (inr (h, work))
-follows log command at past last x same open work begun h = absurd h
+follows log command at past last x same waits work begun h = absurd h
 
 -- ---- a fault
 
