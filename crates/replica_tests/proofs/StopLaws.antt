@@ -1,6 +1,6 @@
 -- What a crash leaves of a replica's commits is found, and opened.
 use Rattle.std.proofs.Common.{◌≡◌, ◌⊎◌, ℕ, ◌||◌, Bool, true, false, true≢false, not, List, [], ◌∷◌, Option, Some, None, Result, Ok, Err, is_some, refl, sym, ap, subst, ◌∙◌, inl, inr}
-use Rattle.std.specs.Prelude.{cond, Contains, IfOk, IfErr, IfSome, IsSome, IsSomeAnd}
+use Rattle.std.specs.Prelude.{cond, IfOk, IfErr, IfSome, IsSome, IsSomeAnd}
 use Rattle.std.proofs.lemmas.Bool.{or_right}
 use Rattle.nrt_base.proofs.Plain.{ok_never_err, same_ok, same_err}
 use Rattle.disk_model.specs.Disk.{Name, Cells, Image, HasCrashed, restarted, reads_of, first_missing, is_among}
@@ -12,7 +12,6 @@ use Rattle.commit_steps.specs.declared.stage.Stage.{Stage}
 use Rattle.commit_steps.specs.declared.stage.Stage.TheVariants.{Begun, Synced, Written, Pending, Named, Renamed}
 use Rattle.commit_steps.specs.declared.stage.CommitBook.{CommitBook}
 use Rattle.commit_steps.specs.declared.recovery.RecoverFault.{RecoverFault}
-use Rattle.commit_steps.specs.declared.recovery.RecoverFault.TheVariants.{Memory, Failed}
 use Rattle.commit_steps.specs.Flights.{IsCommit}
 use Rattle.commit_steps.specs.Found.{ShowsNothing}
 use Rattle.commit_steps.specs.Commits.{IsSafe, HasCommit}
@@ -20,6 +19,7 @@ use Rattle.commit_steps.specs.Book.{shown_by, book_by, book_after, is_last_step}
 use Rattle.commit_steps.specs.Recovery.{IsWholeCommit, IsCutOff, IsAnswered}
 use Rattle.commit_steps.proofs.Safe.{contains_of}
 use Rattle.searcher_switch.specs.Standing.{HasStanding, ImagesStand}
+use Rattle.replica_opening.specs.declared.fault.StartFault.{StartFault}
 use Rattle.replica_opening.specs.Opening.{FindsPoint, number_of_last, opening_infos}
 use Rattle.replica_opening.specs.Opened.{IsSettledOn}
 use Rattle.replica_opening.proofs.Clearings.{one_found}
@@ -145,13 +145,13 @@ module _ {D : Type 0} (was : ReplicaParts D) (before after : Cells) (crash : Has
 
   -- ---- what is opened
 
-  module _ (cells : D → Cells) (here : before ≡ cells was.dir) (dir : D) (there : after ≡ cells dir) (now : ReplicaParts D) (opens : OpensAt cells dir now) where
-    finds_here : FindsPoint image (number_of_last now.commits.last) now.infos
-    finds_here = subst (λ (i : Image). FindsPoint i (number_of_last now.commits.last) now.infos) (sym (ap reads_of there) ∙ same_reads) opens.point
+  module _ (cells : D → Cells) (here : before ≡ cells was.dir) (dir : D) (there : after ≡ cells dir) where
+    finds_here : (now : ReplicaParts D) → OpensAt cells dir now → FindsPoint image (number_of_last now.commits.last) now.infos
+    finds_here now opens = subst (λ (i : Image). FindsPoint i (number_of_last now.commits.last) now.infos) (sym (ap reads_of there) ∙ same_reads) opens.point
 
-    stands_at : (c : Commit) → HasStanding before image c → StandsAt cells was now c
-    stands_at c has =
-        let infos : now.infos ≡ c.infos = (one_found image (number_of_last now.commits.last) (Some c.number) now.infos c.infos finds_here has.has.shown).1 in
+    stands_at : (now : ReplicaParts D) → OpensAt cells dir now → (c : Commit) → HasStanding before image c → StandsAt cells was now c
+    stands_at now opens c has =
+        let infos : now.infos ≡ c.infos = (one_found image (number_of_last now.commits.last) (Some c.number) now.infos c.infos (finds_here now opens) has.has.shown).1 in
         record {
           infos = infos;
           docs = has.docs;
@@ -160,17 +160,21 @@ module _ {D : Type 0} (was : ReplicaParts D) (before after : Cells) (crash : Has
               (subst (λ (i : Image). StandsFor i now.infos has.docs) (sym same_reads ∙ ap reads_of there) (subst (λ (x : Infos). StandsFor image x has.docs) (sym infos) has.image_stands));
         }
 
-    pub stands_again : StandsAgain cells was now
-    stands_again = by (stand.each image crash.1)
+    stands_again : (now : ReplicaParts D) → OpensAt cells dir now → StandsAgain cells was now
+    stands_again now opens = by (stand.each image crash.1)
       where
         by : (ShowsNothing image × (was.commits.last ≡ None)) ⊎ (IsSomeAnd was.commits.last (HasStanding before image) ⊎ IsSomeAnd (shown_by was.commits.stage) (HasStanding before image)) → StandsAgain cells was now
-        by (inl nothing) = inl (nothing.1, (one_found image (number_of_last now.commits.last) None now.infos opening_infos finds_here (nothing.0, refl)).1)
+        by (inl nothing) = inl (nothing.1, (one_found image (number_of_last now.commits.last) None now.infos opening_infos (finds_here now opens) (nothing.0, refl)).1)
         by (inr (inl has)) =
             let c = chosen was.commits.last (HasStanding before image) has in
-            inr (inl (some_and was.commits.last (StandsAt cells was now) c.commit c.is (stands_at c.commit c.has)))
+            inr (inl (some_and was.commits.last (StandsAt cells was now) c.commit c.is (stands_at now opens c.commit c.has)))
         by (inr (inr has)) =
             let c = chosen (shown_by was.commits.stage) (HasStanding before image) has in
-            inr (inr (some_and (shown_by was.commits.stage) (StandsAt cells was now) c.commit c.is (stands_at c.commit c.has)))
+            inr (inr (some_and (shown_by was.commits.stage) (StandsAt cells was now) c.commit c.is (stands_at now opens c.commit c.has)))
+
+    pub reopened : (result : Result (ReplicaParts D) StartFault) → IfOk result (OpensAt cells dir) → IfOk result (StandsAgain cells was)
+    reopened (Ok now) opens = stands_again now opens
+    reopened (Err fault) opens = tt
 
 -- ---- a commit that is carried on
 
@@ -235,17 +239,17 @@ each_some : (o : Option Commit) (P Q : Commit → Type 0) → ((c : Commit) → 
 each_some None P Q more has = absurd has
 each_some (Some c) P Q more has = more c has
 
-module _ {D : Type 0} (cells : D → Cells) (was stopped now : ReplicaParts D) (in_one : IsSome was.commits.stage) (goes : GoesOn was.commits stopped.commits) where
-  abbrev HasInfos : Commit → Type 0
-  HasInfos c = now.infos ≡ c.infos
-
+module _ {D : Type 0} (cells : D → Cells) (was stopped : ReplicaParts D) (in_one : IsSome was.commits.stage) (goes : GoesOn was.commits stopped.commits) where
   made_some : (o : Option Stage) → IsSome o → in_flight o ≡ None → ⊥
   made_some None some none = true≢false (sym some)
   made_some (Some s) some none = cc
 
-  pub infos_again : StandsAgain cells stopped now → HasInfosAgain was now
-  infos_again again = by goes again
+  infos_again : (now : ReplicaParts D) → StandsAgain cells stopped now → HasInfosAgain was now
+  infos_again now again = by goes again
     where
+      HasInfos : Commit → Type 0
+      HasInfos c = now.infos ≡ c.infos
+
       by : GoesOn was.commits stopped.commits → StandsAgain cells stopped now → HasInfosAgain was now
       by (inl still) (inl none) = inl (sym still.last ∙ none.0, none.1)
       by (inl still) (inr (inl last)) =
@@ -258,3 +262,7 @@ module _ {D : Type 0} (cells : D → Cells) (was stopped now : ReplicaParts D) (
           inr (inr (subst (λ (o : Option Commit). IsSomeAnd o HasInfos) made.0 (each_some stopped.commits.last (StandsAt cells stopped now) HasInfos (λ c at. at.infos) last)))
       by (inr made) (inr (inr flight)) =
           absurd (subst (λ (o : Option Stage). IsSomeAnd (shown_by o) (StandsAt cells stopped now)) made.1 flight)
+
+  pub reopened_behind : (result : Result (ReplicaParts D) StartFault) → IfOk result (StandsAgain cells stopped) → IfOk result (HasInfosAgain was)
+  reopened_behind (Ok now) again = infos_again now again
+  reopened_behind (Err fault) again = tt

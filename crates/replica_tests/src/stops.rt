@@ -24,7 +24,7 @@ fn left_by_crash<D: FaultDir + Drop>(dir: D, pick: u64) -> Result<D, NoMemory>
 }
 
 // A replica on a directory, and what it stands at.
-fn open<D: FaultDir + Drop>(alloc: Global, dir: D) -> Result<Replica<D>, StartFault>
+fn opens_on<D: FaultDir + Drop>(alloc: Global, dir: D) -> Result<Replica<D>, StartFault>
     requires { IsSettledOn (D.cells dir) }
     ensures { IfOk result (OpensAt D.cells dir) }
 {
@@ -67,7 +67,7 @@ pub fn reopens<D: FaultDir + Drop>(
 {
     replica.images();
     match left_by_crash(replica.into_dir(), pick) {
-        Ok(dir) => open(alloc, dir),
+        Ok(dir) => opens_on(alloc, dir),
         Err(_) => Err(StartFault::Memory),
     }
 }
