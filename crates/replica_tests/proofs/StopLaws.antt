@@ -3,7 +3,7 @@ use Rattle.std.proofs.Common.{◌≡◌, ◌⊎◌, ℕ, ◌||◌, Bool, true, f
 use Rattle.std.specs.Prelude.{cond, IfOk, IfErr, IfSome, IsSome, IsSomeAnd}
 use Rattle.std.proofs.lemmas.Bool.{or_right}
 use Rattle.nrt_base.proofs.Plain.{ok_never_err, same_ok, same_err}
-use Rattle.disk_model.specs.Disk.{Name, Cells, Image, HasCrashed, restarted, reads_of, first_missing, is_among}
+use Rattle.disk_model.specs.Disk.{Name, Cells, Image, HasCrashed, reads_of, first_missing, is_among}
 use Rattle.file_deleter.proofs.NameLemmas.{same_self}
 use Rattle.segment_infos.specs.declared.infos.Infos.{Infos}
 use Rattle.seg_reader.specs.Stands.{StandsFor}

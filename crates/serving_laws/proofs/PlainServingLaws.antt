@@ -29,9 +29,9 @@ use Rattle.script_serving.specs.declared.script.LineCommand.TheVariants.{Put, De
 use Rattle.script_serving.specs.declared.script.Phase.{Phase}
 use Rattle.script_serving.specs.declared.script.Script.{Script}
 use Rattle.script_serving.specs.Form.{is_command, IsInForm}
-use Rattle.script_serving.specs.Lines.{lines_of, lines_of_phase, lines_under, lines_of_lane, command_at, earlier_answered}
+use Rattle.script_serving.specs.Lines.{lines_of_phase, lines_under, lines_of_lane, command_at, earlier_answered}
 use Rattle.script_serving.specs.Refusals.{refusal, put_publishes, may_be_full, may_be_refused}
-use Rattle.script_serving.specs.Replays.{replay_due, due}
+use Rattle.script_serving.specs.Replays.{due}
 use Rattle.script_serving.specs.Serves.{Begins, First, Follows, Suits, SuitsFault, FitsTurn, FitsReplay, Fits, is_newest_at, is_merge_fault, ServesLanes, Serves}
 use Rattle.script_serving.proofs.ServingLemmas.{known_line}
 use Rattle.serving_laws.specs.PlainServing.{StartsBy, HasStarted, WorksBy, IsAtWork, EndsBy, HasEnded, published_count, is_left_open, KeepsLanes, PlainlyServes}
