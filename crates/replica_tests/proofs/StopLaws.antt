@@ -178,6 +178,10 @@ module _ {D : Type 0} (was : ReplicaParts D) (before after : Cells) (crash : Has
 
 -- ---- a commit that is carried on
 
+pub is_made : (made : Bool) → not made ≡ true → made ≡ false
+is_made true more = absurd (true≢false (sym more))
+is_made false more = refl
+
 -- the calls of a commit lead on
 stage_step : (book : CommitBook) (s : Stage) → book.stage ≡ Some s → is_last_step (Some s) ≡ false → IsStillInFlight book (book_by book (Some s))
 stage_step book (Begun s) is more = record { last = refl; flight = sym (ap in_flight is); some = refl }
