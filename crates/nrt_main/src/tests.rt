@@ -688,12 +688,12 @@ impl Gate for Overtakes {
 
 /// Holds the evaluation of line 6 until line 5 came to its first chunk, and that chunk until line 8 came to its evaluation.
 #[derive(Drop)]
-struct Crashes {
+struct CrashesNode {
     first: Meeting,
     second: Meeting,
 }
 
-impl Gate for Crashes {
+impl Gate for CrashesNode {
     fn pass(&self, place: Place) {
         match place {
             Place::Chunk(..) => {
@@ -742,7 +742,7 @@ fn copy_overtaken(rt: HostRuntime) -> Result<(), Fail> {
 
 #[test]
 fn copy_whose_node_crashes(rt: HostRuntime) -> Result<(), Fail> {
-    let gate = Crashes {
+    let gate = CrashesNode {
         first: Meeting::new(),
         second: Meeting::new(),
     };
