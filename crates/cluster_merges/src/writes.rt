@@ -11,7 +11,7 @@ ghost use Rattle.cluster_state.specs.Run.{IsEnded};
 ghost use Rattle.cluster_merges.specs.MergePaths.{IsMergedOut, WritesMerge, begun_log};
 ghost use Rattle.cluster_merges.specs.Sending.{spread_to, SendsOne, MaySendAll, SendsAll};
 
-use cluster_nodes::{Place, files_last};
+use cluster_nodes::{NodePlace, files_last};
 use cluster_state::{ClusterState, replicas};
 use copy_state::CopyState;
 use disk_model::FaultDir;
@@ -26,7 +26,7 @@ use std::alloc::Global;
 fn send_one<D: FaultDir + Drop>(
     alloc: Global,
     tasks: &mut Tasks,
-    places: &mut Vec<Option<Place<D>>>,
+    places: &mut Vec<Option<NodePlace<D>>>,
     seg: SegNo,
     state: &CopyState,
     n: NodeNo,
@@ -46,7 +46,7 @@ fn send_one<D: FaultDir + Drop>(
 fn send_all<D: FaultDir + Drop>(
     alloc: Global,
     tasks: &mut Tasks,
-    places: &mut Vec<Option<Place<D>>>,
+    places: &mut Vec<Option<NodePlace<D>>>,
     seg: SegNo,
     state: &CopyState,
     nodes: &[NodeNo],

@@ -5,7 +5,7 @@ ghost use Rattle.commit_steps.specs.Book.{HasBegun};
 ghost use Rattle.cluster_nodes.specs.Places.{place_of, disk_of, IsSlot};
 ghost use Rattle.cluster_nodes.specs.Commits.{HasStage, HasStageAt, StepsBook, AltersCommits, CommitsIn};
 
-use crate::nodes::{Node, Place, put, take};
+use crate::nodes::{Node, NodePlace, put, take};
 use disk_model::Dir;
 use nrt_base::{NoMemory, NodeNo};
 use searcher_switch::laws::holds_no_more;
@@ -63,7 +63,7 @@ fn step_at<D: Dir + Drop>(alloc: Global, node: &mut Node<D>) -> Result<bool, NoM
 /// Begins a commit of the point that the node in a place searches. It fails when out of memory, or out of numbers below 2^62.
 pub fn begin_commit_in<D: Dir + Drop>(
     alloc: Global,
-    places: &mut Vec<Option<Place<D>>>,
+    places: &mut Vec<Option<NodePlace<D>>>,
     n: NodeNo,
 ) -> Result<(), NoMemory>
     requires slot { IsSlot places.old.items n.0 }
@@ -81,7 +81,7 @@ pub fn begin_commit_in<D: Dir + Drop>(
 /// It fails when out of memory or when the disk fails.
 pub fn step_commit_in<D: Dir + Drop>(
     alloc: Global,
-    places: &mut Vec<Option<Place<D>>>,
+    places: &mut Vec<Option<NodePlace<D>>>,
     n: NodeNo,
 ) -> Result<bool, NoMemory>
     requires slot { IsSlot places.old.items n.0 }

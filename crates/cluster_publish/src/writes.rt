@@ -15,7 +15,7 @@ ghost use Rattle.cluster_state.specs.Writes.{StartsPublish, IsFlushed};
 ghost use Rattle.cluster_state.specs.GivesUp.{PublishEnds};
 
 use cluster_nodes::{
-    FlushTask, FlushWork, Node, Place, PublishFault, files_last, primary_in, put, take,
+    FlushTask, FlushWork, Node, NodePlace, PublishFault, files_last, primary_in, put, take,
 };
 use cluster_state::{ClusterState, are_planned, has_risen, kinds_in, show_met};
 use disk_model::FaultDir;
@@ -80,7 +80,7 @@ pub fn accept_at<D: FaultDir + Drop>(
     let (mut primary, held) = primary_in(take(&mut cluster.places, p));
     let place = primary.accept(copy);
     let node = Node::Primary(primary);
-    put(&mut cluster.places, p, Place { node, held });
+    put(&mut cluster.places, p, NodePlace { node, held });
     place?;
     cluster.ledger.show(at, Event::Accepted { seq, op });
     cluster.ended = false;
@@ -115,7 +115,7 @@ pub fn start_publish<D: FaultDir + Drop>(
     let (mut primary, held) = primary_in(take(&mut cluster.places, p));
     let started = primary.publish_start(alloc);
     let node = Node::Primary(primary);
-    put(&mut cluster.places, p, Place { node, held });
+    put(&mut cluster.places, p, NodePlace { node, held });
     let task = match started {
         Ok(Some(task)) => task,
         Ok(None) => unreachable!(),
@@ -157,7 +157,7 @@ fn note_published<D: FaultDir + Drop>(
     generation: Gen,
     v: Version,
     before: &[(u64, u64)],
-    places: &Vec<Option<Place<D>>>,
+    places: &Vec<Option<NodePlace<D>>>,
 )
     requires room { 2 * length before.now + 1 ≤ ledger.old.room }
     requires count { length before.now ≡ ledger.old.nodes }
@@ -190,7 +190,7 @@ fn note_given_up<D: FaultDir + Drop>(
     at: At,
     p: NodeNo,
     before: &[(u64, u64)],
-    places: &Vec<Option<Place<D>>>,
+    places: &Vec<Option<NodePlace<D>>>,
 )
     requires room { 2 * length before.now + 1 ≤ ledger.old.room }
     requires count { length before.now ≡ ledger.old.nodes }
@@ -261,7 +261,7 @@ pub fn end_publish<D: FaultDir + Drop>(
     let (mut primary, held) = primary_in(take(&mut cluster.places, p));
     let ended = primary.publish_end(alloc, work);
     let node = Node::Primary(primary);
-    put(&mut cluster.places, p, Place { node, held });
+    put(&mut cluster.places, p, NodePlace { node, held });
     if !are_planned(cluster.ledger.book(), before.as_slice(), &cluster.places) {
         return Err(AllocError);
     }

@@ -16,7 +16,7 @@ ghost use Rattle.cluster_state.specs.Moves.{moves, moves_tickets, EndsKey};
 ghost use Rattle.cluster_state.specs.FileChanges.{keeps_jobs, keeps_commits};
 ghost use Rattle.merge_tasks.specs.TaskLog.{is_drained};
 
-use cluster_nodes::{Key, give_ticket_back, hold_ticket, lease_in, put, take};
+use cluster_nodes::{HeldKey, give_ticket_back, hold_ticket, lease_in, put, take};
 use cluster_state::ClusterState;
 use disk_model::FaultDir;
 use history_book::Opening;
@@ -51,7 +51,7 @@ pub fn open_ticket<D: FaultDir + Drop>(
     let v = Version(book.version(n));
     cluster.ended = true;
     cluster.ledger.reserve(1)?;
-    let key = Key::Ticket { lane: at.lane, t };
+    let key = HeldKey::Ticket { lane: at.lane, t };
     let mut place = take(&mut cluster.places, n);
     let holding = hold_ticket(alloc, &mut place, key);
     put(&mut cluster.places, n, place);
@@ -84,7 +84,7 @@ pub fn open_search<D: FaultDir + Drop>(
     let book = cluster.ledger.book();
     book.is_fresh(at);
     let v = Version(book.version(n));
-    let key = Key::Search { at };
+    let key = HeldKey::Search { at };
     cluster.ended = true;
     cluster.ledger.reserve(1)?;
     let mut place = take(&mut cluster.places, n);
@@ -124,7 +124,7 @@ pub fn ask_ticket<D: FaultDir + Drop>(
         version: v,
         ..
     } = opening;
-    let key = Key::Ticket { lane: at.lane, t };
+    let key = HeldKey::Ticket { lane: at.lane, t };
     cluster.ended = true;
     cluster.ledger.reserve(1)?;
     let lease = lease_in(alloc, &cluster.places, n, key)?;
@@ -140,7 +140,7 @@ pub fn note_without<D: FaultDir + Drop>(
     cluster: &mut ClusterState<D>,
     at: At,
     n: NodeNo,
-    key: Key,
+    key: HeldKey,
     event: Event,
 ) -> Result<(), NoMemory>
     requires running { cluster.old.ended ≡ false }

@@ -1,6 +1,6 @@
 //! The cluster.
 
-use cluster_nodes::Place;
+use cluster_nodes::NodePlace;
 use disk_model::FaultDir;
 use history_book::Book;
 use history_rules::Event;
@@ -13,7 +13,7 @@ use std::marker::Model;
 pub struct ClusterState<D: FaultDir> {
     pub ledger: Ledger,
     pub tasks: Tasks,
-    pub places: Vec<Option<Place<D>>>,
+    pub places: Vec<Option<NodePlace<D>>>,
     pub ended: bool,
 }
 

@@ -24,6 +24,7 @@ const CASES: &str = "\
 2 start: 1 2 crashed 1; 1 3 publishing
 2 published: 1 4 accepted 2 put_b; 1 5 planned disk 1 1; 1 6 fault 1 disk; 1 6 publishing
 2 published: 1 4 accepted 2 put_b; 1 5 planned stop 1 1; 1 6 fault 1 stop; 1 6 publishing
+2 published: 1 4 accepted 2 put_b; 1 5 planned disk 2 1; 1 6 fault 2 disk; 1 6 publishing
 3 start: 1 2 accepted 1 put_a; 1 3 published 1 2
 3 start: 1 2 accepted 1 put_a; 1 3 publishing; 1 3 published 1 3
 3 start: 1 2 accepted 1 put_a; 1 3 publishing; 1 3 published 2 2
@@ -82,8 +83,10 @@ const CASES: &str = "\
 7 copied: 1 5 settling 2; 1 5 settled 1
 7 published: 1 4 planned disk 1 1; 1 5 fault 1 disk; 1 5 settling 2
 7 published: 1 4 planned stop 1 1; 1 5 fault 1 stop; 1 5 settling 2
+7 published: 1 4 planned disk 2 1; 1 5 fault 2 disk; 1 5 settling 2
 7 published: 1 4 planned link 3 1; 1 5 settling 2; 1 5 fault 3 link; 2 6 copying 2 2; 2 6 switched 2 2; 2 6 copied 2 2; 2 7 copying 3 2; 2 7 switched 3 2; 2 7 copied 3 2; 1 5 settled 2
 7 published: 1 4 planned damage 2 1 0; 1 5 settling 2; 1 5 fault 2 damage; 2 6 copying 2 2; 2 6 switched 2 2; 2 6 copied 2 2; 2 7 copying 3 2; 2 7 switched 3 2; 2 7 copied 3 2; 1 5 settled 2
+7 copied: 1 5 planned damage 3 1 0; 1 6 settling 2; 1 6 fault 3 damage; 2 7 copying 3 2; 2 7 switched 3 2; 2 7 copied 3 2; 1 6 settled 2
 8 copied: 1 5 opened 2 7 1
 8 down: 1 6 opened 2 7 2
 8 opened: 1 6 opened 3 7 1
@@ -98,6 +101,7 @@ const CASES: &str = "\
 9 opened: 1 6 crashed 2; 1 7 asking 2 7 2
 9 opened: 1 6 planned disk 2 1; 1 7 fault 2 disk; 1 7 asking 2 7 2
 9 opened: 1 6 planned stop 2 1; 1 7 fault 2 stop; 1 7 asking 2 7 2
+9 opened: 1 6 planned stop 3 1; 1 7 fault 3 stop; 1 7 asking 2 7 2
 10 copied: 1 5 opened 2 0 2; 1 5 answer 2 0 2 0
 10 copied: 1 5 opened 2 0 2; 1 5 answer 2 0 2 1 1:b
 10 copied: 1 5 answer 2 0 2 1 1:a
@@ -114,6 +118,7 @@ const CASES: &str = "\
 12 copied: 1 5 committing 2 2; 2 6 committing 2 2
 12 copied: 1 5 planned disk 2 1; 1 6 fault 2 disk; 1 6 committing 2 2
 12 copied: 1 5 planned stop 2 1; 1 6 fault 2 stop; 1 6 committing 2 2
+12 copied: 1 5 planned disk 1 1; 1 6 fault 1 disk; 1 6 committing 2 2
 13 copied: 1 5 committed 2 2
 13 copied: 1 5 committing 2 2; 1 5 committed 2 1
 13 copied: 1 5 committing 2 2; 2 6 crashed 2; 1 5 committed 2 2
@@ -177,6 +182,7 @@ const CASES: &str = "\
 19 two: 1 7 planned link 1 1; 1 8 merging 1679618; 1 8 fault 1 link
 19 down: 1 6 planned disk 2 1; 1 7 opened 1 0 2; 1 7 fault 2 disk
 19 down: 1 6 planned stop 2 1; 1 7 opened 1 0 2; 1 7 fault 2 stop
+19 down: 1 6 planned disk 2 1; 1 7 copying 3 2; 1 7 fault 2 disk
 20 published: 1 4 copying 2 2; 1 4 refused lost
 20 published: 1 4 planned link 2 1; 1 5 copying 2 2; 1 5 fault 2 link; 2 6 crashed 2; 1 5 refused link-fault
 20 published: 1 4 copying 2 2; 1 4 refused link-fault
@@ -202,6 +208,7 @@ const CASES: &str = "\
 20 published: 1 4 planned link 2 1; 1 5 planned damage 2 1 0; 1 6 copying 2 2; 1 6 fault 2 link; 1 6 fault 2 damage; 1 6 refused damaged _10000.docs
 20 copied: 1 5 planned disk 2 1; 1 6 committing 2 2; 1 6 fault 2 disk; 2 7 accepted 2 put_b; 1 6 refused disk-fault
 20 published: 1 4 planned link 2 1; 1 5 planned damage 2 1 0; 1 6 settling 2; 1 6 fault 2 link; 1 6 fault 2 damage; 1 6 refused damaged _10000.docs
+20 published: 1 4 planned link 3 1; 1 5 planned damage 3 1 0; 1 6 settling 2; 1 6 switched 2 2; 1 6 fault 3 link; 1 6 fault 3 damage; 1 6 refused damaged _10000.docs
 20 published: 1 4 planned disk 2 1; 1 5 copying 2 2; 1 5 fault 2 disk; 2 6 accepted 2 put_b; 1 5 refused disk-fault
 20 published: 1 4 planned disk 2 1; 1 5 fault 2 disk; 2 6 accepted 2 put_b; 1 5 copying 2 2; 1 5 refused disk-fault
 21 start: 1 2 drained 1 9

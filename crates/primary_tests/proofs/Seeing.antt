@@ -11,7 +11,7 @@ use Rattle.searcher_switch.specs.declared.searchers.Searchers.{Searchers}
 use Rattle.searcher_switch.specs.Searching.{searcher_names}
 use Rattle.searcher_switch.specs.Tickets.{ticket_names}
 use Rattle.segment_steps.specs.declared.flushing.FlushTask.{FlushTask}
-use Rattle.primary_state.specs.declared.parts.Parts.{Parts}
+use Rattle.primary_state.specs.declared.parts.PrimaryParts.{PrimaryParts}
 use Rattle.primary_state.specs.Calls.{IsTaskOf, after_start}
 use Rattle.primary_state.specs.Primary.{IsPrimary}
 
@@ -32,5 +32,5 @@ empty_spelled infos generation version none =
 
 -- ---- publishes
 -- what a task that was given out is good for
-pub task_sound : {D : Type 0} (cells : D → Cells) (old new : Parts D) (task : FlushTask) → IsTaskOf old task → new ≡ after_start old (Some task) → IsPrimary cells new → All IsSound task.segs
-task_sound {D} cells old new task is e whole = subst (λ (segs : List Shown). All IsSound segs) (ap (λ (p : Parts D). p.segs) e ∙ sym is.segs) whole.writer.stands.stand.sound
+pub task_sound : {D : Type 0} (cells : D → Cells) (old new : PrimaryParts D) (task : FlushTask) → IsTaskOf old task → new ≡ after_start old (Some task) → IsPrimary cells new → All IsSound task.segs
+task_sound {D} cells old new task is e whole = subst (λ (segs : List Shown). All IsSound segs) (ap (λ (p : PrimaryParts D). p.segs) e ∙ sym is.segs) whole.writer.stands.stand.sound

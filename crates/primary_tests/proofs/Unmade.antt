@@ -11,7 +11,7 @@ use Rattle.disk_model.specs.Disk.{Name}
 use Rattle.seg_merge.specs.declared.task.MergeTask.{MergeTask}
 use Rattle.seg_merge.specs.declared.task.Merged.{Merged}
 use Rattle.seg_merge.specs.Merging.{IsMergedOf}
-use Rattle.primary_state.specs.declared.parts.Parts.{Parts}
+use Rattle.primary_state.specs.declared.parts.PrimaryParts.{PrimaryParts}
 use Rattle.primary_state.specs.declared.states.Merging.{Merging}
 use Rattle.primary_state.specs.Written.{names_of}
 use Rattle.primary_state.specs.Merges.{merge_of, merges_with, merges_without}
@@ -86,13 +86,13 @@ with_first m rest merged names number = by (m.task.seg.0 == merged.files.seg.0) 
     by false e = absurd (true≢false (sym e))
 
 -- ---- what is seen of a primary
-module _ {D : Type 0} (old new : Parts D) (seen : Seen) (is : IsSeen old seen) where
+module _ {D : Type 0} (old new : PrimaryParts D) (seen : Seen) (is : IsSeen old seen) where
   pub seen_started : (factor : ℕ) (task : MergeTask) (given : List MergeTask) → StartsMerge factor old task new → IsFitTask task → given ≡ seen.merges ++ task ∷ [] → IsSeen new (record seen { merges = given })
   seen_started factor task given starts fit pushed = record {
-    accepted = ap (λ (p : Parts D). p.accepted) starts.next ∙ is.accepted;
-    version = ap (λ (p : Parts D). p.infos.version.0) starts.next ∙ is.version;
-    publish = ap (λ (p : Parts D). p.publish) starts.next ∙ is.publish;
-    merges = ap (λ (p : Parts D). tasks_of p.merges) starts.next
+    accepted = ap (λ (p : PrimaryParts D). p.accepted) starts.next ∙ is.accepted;
+    version = ap (λ (p : PrimaryParts D). p.infos.version.0) starts.next ∙ is.version;
+    publish = ap (λ (p : PrimaryParts D). p.publish) starts.next ∙ is.publish;
+    merges = ap (λ (p : PrimaryParts D). tasks_of p.merges) starts.next
         ∙ map-append (λ (m : Merging). (m.task, is_some m.merged)) old.merges (starts.merging ∷ [])
         ∙ ap (λ (l : List (MergeTask × Bool)). l ++ (starts.merging.task, is_some starts.merging.merged) ∷ []) is.merges
         ∙ ap (λ (t : MergeTask). given_tasks seen.ready seen.merges ++ (t, is_some starts.merging.merged) ∷ []) starts.task_is
@@ -156,9 +156,9 @@ module _ {D : Type 0} (old new : Parts D) (seen : Seen) (is : IsSeen old seen) w
       → new ≡ record old { dir = new.dir; files = new.files; states = new.states; merges = new.merges } → IsReadied merged old new
       → IsSeen new (record seen { ready = Some task; merges = rest })
   seen_readied task merged rest none first rest_is of e readied = record {
-    accepted = ap (λ (p : Parts D). p.accepted) e ∙ is.accepted;
-    version = ap (λ (p : Parts D). p.infos.version.0) e ∙ is.version;
-    publish = ap (λ (p : Parts D). p.publish) e ∙ is.publish;
+    accepted = ap (λ (p : PrimaryParts D). p.accepted) e ∙ is.accepted;
+    version = ap (λ (p : PrimaryParts D). p.infos.version.0) e ∙ is.version;
+    publish = ap (λ (p : PrimaryParts D). p.publish) e ∙ is.publish;
     merges = tasks_readied task merged none first of readied ∙ ap (λ (l : List MergeTask). given_tasks (Some task) l) (sym rest_is);
     fit = subst (λ (l : List MergeTask). All IsFitTask l) (sym rest_is) (fit_split seen.merges task is.fit first).1;
   }
@@ -167,9 +167,9 @@ module _ {D : Type 0} (old new : Parts D) (seen : Seen) (is : IsSeen old seen) w
   pub seen_ended : (task : MergeTask) (merged : Merged) (rest : List MergeTask) → seen.ready ≡ None → Some task ≡ slice_get seen.merges 0 → rest ≡ remove seen.merges 0 → IsMergedOf task merged
       → new ≡ record old { dir = new.dir; files = new.files; states = new.states; merges = new.merges } → new.merges ≡ merges_without merged.files.seg.0 old.merges → IsSeen new (record seen { merges = rest })
   seen_ended task merged rest none first rest_is of e gone = record {
-    accepted = ap (λ (p : Parts D). p.accepted) e ∙ is.accepted;
-    version = ap (λ (p : Parts D). p.infos.version.0) e ∙ is.version;
-    publish = ap (λ (p : Parts D). p.publish) e ∙ is.publish;
+    accepted = ap (λ (p : PrimaryParts D). p.accepted) e ∙ is.accepted;
+    version = ap (λ (p : PrimaryParts D). p.infos.version.0) e ∙ is.version;
+    publish = ap (λ (p : PrimaryParts D). p.publish) e ∙ is.publish;
     merges = tasks_ended task merged.files.seg.0 none first (ap (λ (seg : SegNo). seg.0) (sym of.number)) gone ∙ ap (λ (l : List MergeTask). given_tasks None l) (sym rest_is) ∙ ap (λ (o : Option MergeTask). given_tasks o rest) (sym none);
     fit = subst (λ (l : List MergeTask). All IsFitTask l) (sym rest_is) (fit_split seen.merges task is.fit first).1;
   }
@@ -179,9 +179,9 @@ module _ {D : Type 0} (old new : Parts D) (seen : Seen) (is : IsSeen old seen) w
       → new ≡ record old { dir = new.dir; files = new.files; infos = new.infos; segs = new.segs; names = new.names; merges = new.merges; has_cut_over = new.has_cut_over; completed = new.completed }
       → new.merges ≡ merges_without task.seg.0 old.merges → IsSeen new (record seen { ready = left })
   seen_cut task left ready none same e gone = record {
-    accepted = ap (λ (p : Parts D). p.accepted) e ∙ is.accepted;
+    accepted = ap (λ (p : PrimaryParts D). p.accepted) e ∙ is.accepted;
     version = ap (λ (v : Version). v.0) same ∙ is.version;
-    publish = ap (λ (p : Parts D). p.publish) e ∙ is.publish;
+    publish = ap (λ (p : PrimaryParts D). p.publish) e ∙ is.publish;
     merges = tasks_cut task ready gone ∙ ap (λ (o : Option MergeTask). given_tasks o seen.merges) (sym none);
     fit = is.fit;
   }

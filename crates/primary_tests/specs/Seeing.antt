@@ -4,7 +4,7 @@ use Rattle.std.specs.List.{All}
 use Rattle.disk_model.specs.Disk.{Name, Cells}
 use Rattle.commit_steps.specs.Commits.{ImagesShowNothing}
 use Rattle.seg_merge.specs.declared.task.MergeTask.{MergeTask}
-use Rattle.primary_state.specs.declared.parts.Parts.{Parts}
+use Rattle.primary_state.specs.declared.parts.PrimaryParts.{PrimaryParts}
 use Rattle.primary_state.specs.declared.states.Merging.{Merging}
 use Rattle.primary_merges.specs.StartCalls.{IsFitTask}
 use Rattle.primary_tests.specs.declared.seen.Seen.{Seen}
@@ -27,7 +27,7 @@ given_tasks None tasks = unmade_tasks tasks
 given_tasks (Some task) tasks = (task, true) ∷ unmade_tasks tasks
 
 -- what is seen of a primary is so, and no publish is in flight
-pub record IsSeen {D : Type 0} (p : Parts D) (seen : Seen) : Type 0 where
+pub record IsSeen {D : Type 0} (p : PrimaryParts D) (seen : Seen) : Type 0 where
   pub accepted : p.accepted ≡ seen.accepted
   pub version : p.infos.version.0 ≡ seen.version
   pub publish : p.publish ≡ None

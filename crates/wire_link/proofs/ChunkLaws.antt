@@ -134,14 +134,17 @@ module _ (name : List ℕ) (at : ℕ) (bytes : List ℕ) where
       let nothing : brought.rest ≡ [] = subst (BringsFrom name (at + length file) brought.rest) none brought.brings in
       sym (brought.parts ∙ ap (λ (r : List ℕ). file ++ r) nothing ∙ append-nil file)
 
-  -- the messages that a stream is read as bring what it was made of
-  pub stream_whole : (stream seen : List ℕ) → IsStreamOf name at bytes stream → seen ≡ stream → (messages : List Message) × BeginsWith seen messages []
-  stream_whole stream seen s is = (s.messages, subst (λ (x : List ℕ). BeginsWith x s.messages []) (sym is) s.whole)
+  stream_begins : (stream seen : List ℕ) (s : IsStreamOf name at bytes stream) → seen ≡ stream → BeginsWith seen s.messages []
+  stream_begins stream seen s is = subst (λ (x : List ℕ). BeginsWith x s.messages []) (sym is) s.whole
 
-  pub stream_brings : (stream seen : List ℕ) (read : List Message) → IsStreamOf name at bytes stream → seen ≡ stream → ((messages : List Message) → BeginsWith seen messages [] → read ≡ messages)
-      → BringsFrom name at bytes read
-  stream_brings stream seen read s is all =
-      subst (BringsFrom name at bytes) (sym (all s.messages (subst (λ (x : List ℕ). BeginsWith x s.messages []) (sym is) s.whole))) s.brings
+  -- a stream of the file is whole messages
+  pub stream_whole : (stream seen : List ℕ) → IsStreamOf name at bytes stream → seen ≡ stream → (messages : List Message) × BeginsWith seen messages []
+  stream_whole stream seen s is = (s.messages, stream_begins stream seen s is)
+
+  -- what it is read as brings the file
+  pub stream_brings : (stream seen : List ℕ) (read lent : List Message) → IsStreamOf name at bytes stream → seen ≡ stream
+      → ((messages : List Message) → BeginsWith seen messages [] → read ≡ messages) → lent ≡ read → BringsFrom name at bytes lent
+  stream_brings stream seen read lent s is all same = subst (BringsFrom name at bytes) (sym (same ∙ all s.messages (stream_begins stream seen s is))) s.brings
 
   -- where there is one message, its bytes are all
   pub only_chunk : (messages : List Message) (d : Message) → length messages ≡ 1 → BringsFrom name at bytes messages → IsChunkAt name (at + 0) (slice_index_or messages 0 d)

@@ -22,12 +22,12 @@ pub record IsStreamOf (name : List ℕ) (at : ℕ) (bytes stream : List ℕ) : T
   pub whole : BeginsWith stream messages []
   pub brings : BringsFrom name at bytes messages
 
--- Of these bytes so many were sent: behind them every messages that bring the others make a stream of all.
+-- Of these bytes so many were sent: with any messages behind it that bring the others, the stream brings all.
 pub record HasSent (name : List ℕ) (at : ℕ) (bytes : List ℕ) (done : ℕ) (stream : List ℕ) : Type 0 where
   pub within : done ≤ length bytes
   pub goes_on : (messages : List Message) → All IsFramable messages → BringsFrom name (at + done) (drop done bytes) messages → IsStreamOf name at bytes (stream ++ flat_map wire_of messages)
 
--- of these bytes so many were brought, and the messages bring the others
+-- of these bytes the first were brought, and the messages bring the others
 pub record HasBrought (name : List ℕ) (at : ℕ) (bytes file : List ℕ) (messages : List Message) : Type 0 where
   pub rest : List ℕ
   pub parts : bytes ≡ file ++ rest

@@ -1,4 +1,4 @@
-//! The link.
+//! A link over another one.
 
 ghost use Rattle.std.specs.Prelude.{◌≡◌, ◌+◌, ◌<◌, ◌^◌, true, IfOk};
 
@@ -30,7 +30,7 @@ fn sent(alloc: Global, name: FileName, at: usize, bytes: &Bytes) -> Result<Bytes
     bytes_of(alloc, name, at as u64, messages.as_slice())
 }
 
-/// A link that hands on what the one that it wraps hands out, by way of the frames that a peer would read. It is else that link.
+/// A link that hands on, by way of the frames that a peer would read, what the link that it wraps hands out. It is else that link.
 #[derive(Drop)]
 pub struct WireLink<L: Link> {
     alloc: Global,
@@ -67,7 +67,7 @@ impl<L: Link> Link for WireLink<L> {
         let bytes = self.link.fetch(at, len)?;
         match sent(self.alloc, self.name, at, &bytes) {
             Ok(read) => Ok(read),
-            Err(_) => {
+            Err(AllocError) => {
                 // A damage that was counted is handed out.
                 if self.link.damages() == before {
                     Err(LinkFault::Memory)

@@ -1,5 +1,6 @@
-use Rattle.std.proofs.Common.{rules}
-use Rattle.wire_link.proofs.ChunkLaws.{only_chunk}
+use Rattle.std.proofs.Common.{◌∙◌, rules}
+use Rattle.std.proofs.lemmas.Result.{IfOk-weaker}
+use Rattle.wire_link.proofs.ChunkLaws.{only_chunk, only_bytes}
 use Rattle.wire_link.proofs.reading.bytes_of.Goals as goal
 
 pub only_part-requires : goal.only_part-requires
