@@ -1,4 +1,4 @@
-use Rattle.std.proofs.Common.{◌≡◌, ◌∷◌, [], ◌∙◌, ℕ, List, ap, arith, length, take}
+use Rattle.std.proofs.Common.{◌∷◌, [], ◌∙◌, ℕ, ap, arith}
 use Rattle.std.specs.Prelude.{map}
 use Rattle.std.proofs.lemmas.List.{take_all}
 use Rattle.copy_state.specs.States.{meta_names}

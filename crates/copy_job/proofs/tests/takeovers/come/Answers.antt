@@ -1,7 +1,5 @@
-use Rattle.std.proofs.Common.{◌∙◌, ◌<◌, ap}
-use Rattle.file_deleter.specs.Holdings.{times}
+use Rattle.std.proofs.Common.{◌∙◌, ap}
 use Rattle.copy_state.specs.declared.state.CopyState.{CopyState}
-use Rattle.copy_job.specs.Jobs.{job_names}
 use Rattle.copy_job.proofs.Kept.{short_missing}
 use Rattle.copy_job.proofs.TestLaws.{first_lacking, wanted_ascend, wanted_meta, counted_moved}
 use Rattle.copy_job.proofs.tests.takeovers.come.Goals as goal
