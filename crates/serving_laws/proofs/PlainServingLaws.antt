@@ -370,11 +370,16 @@ earlier_more (line ∷ lines) at e past h = by (earlier_more lines at e past) (s
 or_so : (b c : Bool) → c ≡ true → (b || c) ≡ true
 or_so b c h = ap (λ (x : Bool). b || x) h ∙ or-true b
 
+order_of : (lines : List Line) (past : Past) (at : At) (command : LineCommand) (x : Event) → FitsTurn lines past at (Some command) x
+    → (is_merge_fault (Some command) x || earlier_answered lines at past) ≡ true
+order_of lines past at (Merge factor) (Met n kind) h = refl
+order_of lines past at command (Met n kind) h = or_so (is_merge_fault (Some command) (Met n kind)) (earlier_answered lines at past) h.1
+order_of lines past at command x h = or_so (is_merge_fault (Some command) x) (earlier_answered lines at past) h.1
+
 turn_order : (lines : List Line) (past : Past) (at : At) (command : Option LineCommand) (x : Event) → FitsTurn lines past at command x
     → (is_merge_fault command x || earlier_answered lines at past) ≡ true
 turn_order lines past at None x h = absurd h
-turn_order lines past at (Some (Merge factor)) (Met n kind) h = refl
-turn_order lines past at (Some command) x h = or_so (is_merge_fault (Some command) x) (earlier_answered lines at past) h.1
+turn_order lines past at (Some command) x h = order_of lines past at command x h
 
 promotes : (op : Op) (past : Past) (at : At) (command : Option LineCommand) (x y : Event) → FitsReplay op past at command x → is_merge_fault command y ≡ false
 promotes op past at (Some (Promote n force)) (Accepted seq again) y h = refl
