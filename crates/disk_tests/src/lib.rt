@@ -1,8 +1,10 @@
-//! Tests of what a crash leaves of files and of commits, over a directory in memory.
+//! Tests of what a crash leaves of files, of commits and of a log, over a directory in memory.
 #![tactic(auto)]
 
 #[cfg(test)]
 mod commits;
+#[cfg(test)]
+mod logs;
 #[cfg(test)]
 mod picks;
 #[cfg(test)]

@@ -1,4 +1,4 @@
-//! Tests of the rules of histories, and of lines of reports, which need nothing private.
+//! Tests of the rules of histories, of lines of reports, and of replays, which need nothing private.
 #![tactic(auto)]
 
 #[cfg(test)]
@@ -7,3 +7,5 @@ mod legal_cases;
 mod lines;
 #[cfg(test)]
 mod points;
+#[cfg(test)]
+mod replays;

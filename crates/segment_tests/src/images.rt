@@ -89,12 +89,14 @@ fn each_front_and_each_byte(rt: HostRuntime) -> Result<(), Fail> {
         assert_eq!(rt; front.err(), Some(ImageFault::Body));
     }
     for at in 0..good.len() {
-        match check_image(alloc, &with_flip(alloc, &good, at, 1)?) {
-            Ok(checked) => {
-                let is_none = checked.line.as_slice() == b"check none\n".as_slice();
-                assert!(rt; checked.fault.is_some() || is_none);
+        for flip in [0x01, 0x80] {
+            match check_image(alloc, &with_flip(alloc, &good, at, flip)?) {
+                Ok(checked) => {
+                    let is_none = checked.line.as_slice() == b"check none\n".as_slice();
+                    assert!(rt; checked.fault.is_some() || is_none);
+                }
+                Err(fault) => assert_eq!(rt; fault, ImageFault::Body),
             }
-            Err(fault) => assert_eq!(rt; fault, ImageFault::Body),
         }
     }
     Ok(())

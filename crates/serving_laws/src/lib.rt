@@ -6,5 +6,5 @@ mod printable;
 mod replay;
 mod replay_laws;
 mod report_laws;
-#[cfg(test)]
-mod tests;
+
+pub use replay::begins_with_replay;

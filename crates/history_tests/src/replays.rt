@@ -1,9 +1,9 @@
 //! Replays that are right, and such as leave out the last record, repeat one, or have another line's entry between.
 
-use crate::replay::begins_with_replay;
 use documents::Op;
 use history_rules::{Entry, Event};
 use nrt_base::{At, Key, LaneNo, LineNo, NoMemory};
+use serving_laws::begins_with_replay;
 use std::alloc::Global;
 
 fn place(line: u32) -> At {
