@@ -60,7 +60,10 @@ fn stop_jobs<D: Dir + Drop>(places: &mut Vec<Option<NodePlace<D>>>)
 }
 
 // A second value of the copy state that the job of the node that is there was begun with, where one runs.
-fn state_at<D: Dir + Drop>(alloc: Global, place: &NodePlace<D>) -> Result<Option<CopyState>, NoMemory>
+fn state_at<D: Dir + Drop>(
+    alloc: Global,
+    place: &NodePlace<D>,
+) -> Result<Option<CopyState>, NoMemory>
     ensures { IfOk result (λ state. option_map out_of state ≡ want_at (Some place.now)) }
 {
     match &place.node {

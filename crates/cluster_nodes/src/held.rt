@@ -26,7 +26,8 @@ fn same_key(a: HeldKey, b: HeldKey) -> bool
     ensures { result ≡ same_key a b }
 {
     match (a, b) {
-        (HeldKey::Ticket { lane, t }, HeldKey::Ticket { lane: l, t: u }) => lane.0 == l.0 && t.0 == u.0,
+        (HeldKey::Ticket { lane, t }, HeldKey::Ticket { lane: l, t: u }) => lane.0 == l.0
+            && t.0 == u.0,
         (HeldKey::Search { at }, HeldKey::Search { at: b }) => same_at(at, b),
         (HeldKey::Ticket { .. }, HeldKey::Search { .. }) => false,
         (HeldKey::Search { .. }, HeldKey::Ticket { .. }) => false,

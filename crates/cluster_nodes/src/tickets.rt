@@ -8,7 +8,7 @@ ghost use Rattle.cluster_nodes.specs.Places.{place_of, IsSlot, searchers_of, tic
 ghost use Rattle.cluster_nodes.specs.KeptFiles.{KeepsNodeFiles};
 ghost use Rattle.cluster_nodes.specs.Changes.{KeepsNode, OpensTicket, HoldsMore, HoldsLess, HoldsTicket, IsLeaseUnder};
 
-use crate::held::{HeldTicket, HeldKey, hold, let_go, number_held};
+use crate::held::{HeldKey, HeldTicket, hold, let_go, number_held};
 use crate::nodes::{Node, NodePlace};
 use disk_model::Dir;
 use nrt_base::{NoMemory, NodeNo};

@@ -16,13 +16,17 @@ use crate::cut::end_cut;
 use crate::ready::Ready;
 use disk_model::{Dir, DirFault};
 use nrt_base::{List, NoMemory, Share, Version};
-use primary_state::{PrimaryParts, PrimaryFault, inputs_of, joined, names_in, write_all};
+use primary_state::{PrimaryFault, PrimaryParts, inputs_of, joined, names_in, write_all};
 use segment_infos::{Infos, files_of};
 use segment_steps::{FlushWork, NextSegments, next_segments};
 use std::alloc::Global;
 
 // All that a publish needs memory for.
-fn prepare<D: Dir>(alloc: Global, parts: &PrimaryParts<D>, made: NextSegments) -> Result<Ready, NoMemory>
+fn prepare<D: Dir>(
+    alloc: Global,
+    parts: &PrimaryParts<D>,
+    made: NextSegments,
+) -> Result<Ready, NoMemory>
     requires step { IsStepOf parts.now made.records made.segs made.files }
     requires below { parts.now.infos.version.0 + 1 < 2 ^ 63 }
     ensures ready { IfOk result (IsReady parts.now) }

@@ -27,7 +27,7 @@ use file_deleter::FileDeleter;
 use file_names::FileName;
 use nrt_base::{List, NoMemory, SegNo, Version};
 use primary_merges::{
-    FlushTask, FlushWork, MergeTask, Merged, PrimaryParts, PrimaryFault, PublishFault, Segment,
+    FlushTask, FlushWork, MergeTask, Merged, PrimaryFault, PrimaryParts, PublishFault, Segment,
 };
 use primary_state::{Lease, Searchers, Ticket};
 use segment_infos::Infos;

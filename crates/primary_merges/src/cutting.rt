@@ -16,7 +16,7 @@ use bytes::Bytes;
 use disk_model::{Dir, DirFault};
 use file_names::FileName;
 use nrt_base::{List, NoMemory, SegNo};
-use primary_state::{Merging, PrimaryParts, PrimaryFault, joined, names_in, write_all};
+use primary_state::{Merging, PrimaryFault, PrimaryParts, joined, names_in, write_all};
 use seg_reader::Segment;
 use segment_infos::{Infos, files_of};
 use segment_steps::{NextSegments, cut_over};

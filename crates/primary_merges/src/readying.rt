@@ -22,7 +22,7 @@ use disk_model::{Dir, DirFault};
 use file_names::FileName;
 use nrt_base::{List, NoMemory, Share};
 use primary_state::{
-    Merging, Out, PrimaryParts, PrimaryFault, joined, lend, meta_told, names_in, write_all,
+    Merging, Out, PrimaryFault, PrimaryParts, joined, lend, meta_told, names_in, write_all,
 };
 use seg_merge::Merged;
 use segment_infos::encode;
@@ -71,7 +71,11 @@ pub struct StateReady {
 }
 
 // All that memory is needed for.
-fn prepare<D: Dir>(alloc: Global, parts: &PrimaryParts<D>, merged: &Merged) -> Result<StateReady, NoMemory>
+fn prepare<D: Dir>(
+    alloc: Global,
+    parts: &PrimaryParts<D>,
+    merged: &Merged,
+) -> Result<StateReady, NoMemory>
     requires whole { IsPrimary D.cells parts.now }
     requires made { IsMadeFor parts.now merged.now }
     ensures { IfOk result (IsStateReady parts.now merged.now) }

@@ -15,7 +15,9 @@ use disk_model::Dir;
 use file_deleter::FileDeleter;
 use file_names::FileName;
 use nrt_base::{List, NoMemory, SegNo, Share};
-use primary_state::{MergeStart, MergeTask, Merging, PrimaryParts, PublishFault, inputs_of, start_merge};
+use primary_state::{
+    MergeStart, MergeTask, Merging, PrimaryParts, PublishFault, inputs_of, start_merge,
+};
 use segment_infos::{Infos, SegRecord, files_of};
 use std::alloc::Global;
 

@@ -11,7 +11,7 @@ ghost use Rattle.primary_state.specs.Cut.{last_number};
 ghost use Rattle.primary_state.specs.Primary.{IsPrimary, KeepsHeldBytes};
 ghost use Rattle.primary_state.specs.Calls.{HoldsNoNew};
 
-use crate::parts::{PrimaryParts, PrimaryFault};
+use crate::parts::{PrimaryFault, PrimaryParts};
 use crate::states::{Out, lend, metas_of, take_back};
 use bytes::Bytes;
 use copy_state::CopyState;
@@ -22,7 +22,10 @@ use segment_infos::encode;
 use std::alloc::Global;
 
 /// The copy state of the point that is searched.
-pub fn take_state<D: Dir>(alloc: Global, parts: &mut PrimaryParts<D>) -> Result<CopyState, PrimaryFault>
+pub fn take_state<D: Dir>(
+    alloc: Global,
+    parts: &mut PrimaryParts<D>,
+) -> Result<CopyState, PrimaryFault>
     requires { IsPrimary D.cells parts.old }
     ensures state { IfOk result (IsStateOf (reads_of (D.cells parts.old.dir)) parts.old.point_infos
         parts.old.searchers.point.names (last_number parts.old.commits) parts.old.completed) }

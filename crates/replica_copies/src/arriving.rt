@@ -16,7 +16,7 @@ ghost use Rattle.replica_state.specs.Sources.{IsSourced, HoldsOnly};
 
 use copy_job::{JobFault, Part};
 use disk_model::Dir;
-use replica_state::{ReplicaParts, PointJob, told};
+use replica_state::{PointJob, ReplicaParts, told};
 
 /// Writes a part of the job under its temporary name. After a refusal it is still missing.
 pub fn arrived<D: Dir>(parts: &mut ReplicaParts<D>, job: u64, part: Part) -> Result<(), JobFault>

@@ -22,7 +22,7 @@ use copy_state::CopyState;
 use disk_model::Dir;
 use file_deleter::FileDeleter;
 use nrt_base::NoMemory;
-use replica_state::{ReplicaParts, PointJob, held_of, told};
+use replica_state::{PointJob, ReplicaParts, held_of, told};
 use segment_infos::{Infos, decode};
 use std::alloc::{AllocError, Global};
 

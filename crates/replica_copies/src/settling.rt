@@ -178,7 +178,11 @@ fn give_up<D: Dir>(parts: &mut ReplicaParts<D>, job: u64, fault: JobFault) -> Jo
 
 /// The files of a copy of a merged segment, of which nothing is missing, get their own names and are pending from now on. Where
 /// the disk fails the copy has ended, and its parts were given back; out of memory, it runs on with what it has.
-pub fn finish_precopy<D: Dir>(alloc: Global, parts: &mut ReplicaParts<D>, job: u64) -> Result<(), JobFault>
+pub fn finish_precopy<D: Dir>(
+    alloc: Global,
+    parts: &mut ReplicaParts<D>,
+    job: u64,
+) -> Result<(), JobFault>
     requires whole { IsWholeReplica D.cells parts.old }
     requires runs { is_some (copy_at job parts.old.copies.running) ≡ true }
     requires complete { IfSome (copy_at job parts.old.copies.running) (λ c. c.missing ≡ []) }

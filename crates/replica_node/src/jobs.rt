@@ -20,7 +20,7 @@ ghost use Rattle.replica_node.specs.Running.{is_job_number, running_job, with_jo
 use copy_job::{CopyJob, JobFault, Part};
 use disk_model::Dir;
 use replica_copies::{arrived, arrived_precopy, end_copy, stop_job};
-use replica_state::{ReplicaParts, PointJob};
+use replica_state::{PointJob, ReplicaParts};
 
 // The copy of a job of a newer point, where it runs.
 fn copy_of(point: &PointJob) -> Option<&CopyJob>

@@ -31,7 +31,9 @@ use replica_copies::{
     Lease, Ticket, acquire, commit_begin, commit_step, finish, finish_precopy, into_dir,
     launch_precopy, lease, new_point, plan, release, start_job, stop_at, take_apart,
 };
-use replica_state::{MergeCopies, NodeParts, ReplicaParts, PointAnswer, RunningCopies, StartFault, open};
+use replica_state::{
+    MergeCopies, NodeParts, PointAnswer, ReplicaParts, RunningCopies, StartFault, open,
+};
 use seg_reader::Segment;
 use std::alloc::Global;
 use std::marker::Model;

@@ -195,7 +195,11 @@ fn enter<D: Dir>(parts: &mut ReplicaParts<D>, generation: Gen)
 
 /// What to do with a point of this generation and version. On a higher generation than was seen a stopped job and each copy of a
 /// merged segment end, and every pending file is given back. Takes no memory.
-pub fn new_point<D: Dir>(parts: &mut ReplicaParts<D>, generation: Gen, version: Version) -> PointAnswer
+pub fn new_point<D: Dir>(
+    parts: &mut ReplicaParts<D>,
+    generation: Gen,
+    version: Version,
+) -> PointAnswer
     requires whole { IsWholeReplica D.cells parts.old }
     ensures whole { IsWholeReplica D.cells parts.new }
     ensures answer { result ≡ point_answer parts.old.seen.0 parts.old.searchers.point.version.0

@@ -131,7 +131,12 @@ impl<R: Share + Drop> Searchers<R> {
 
     /// Searches another point from now on, and hands the former one over. No count changes: the caller has counted the
     /// new point's files, and gives back the former one's.
-    pub fn replace(&mut self, version: Version, names: List<FileName>, readers: List<R>) -> SearchPoint<R>
+    pub fn replace(
+        &mut self,
+        version: Version,
+        names: List<FileName>,
+        readers: List<R>,
+    ) -> SearchPoint<R>
         ensures old { result ≡ self.old.point }
         ensures point { self.new.point
             ≡ record { version = version; names = names; readers = readers } }

@@ -1,6 +1,6 @@
 -- A history that serves a script serves it plainly.
-use Rattle.std.proofs.Common.{◌≡◌, ◌≤◌, ◌+◌, ◌||◌, ◌&&◌, ◌==◌, ℕ, Bool, true, false, true≢false, not, List, [], ◌∷◌, ◌++◌, reverse, Option, Some, None, if◌then◌else◌, refl, sym, ap, subst, ◌∙◌, arith}
-use Rattle.std.specs.Prelude.{◌⊎◌, nat_le, length}
+use Rattle.std.proofs.Common.{◌≡◌, ◌≤◌, ◌+◌, ◌||◌, ◌&&◌, ◌==◌, ℕ, Bool, true, false, true≢false, not, List, [], ◌∷◌, ◌++◌, reverse, Option, Some, None, if◌then◌else◌, refl, sym, ap, subst, ◌∙◌, arith, inl, inr}
+use Rattle.std.specs.Prelude.{◌⊎◌, nat_le}
 use Rattle.std.specs.List.{list_all, flat_map}
 use Rattle.std.proofs.Math.Bool.{or-true}
 use Rattle.std.proofs.lemmas.Bool.{false≢true, and_from, and_parts, or_right, eq-eqb}
@@ -19,7 +19,7 @@ use Rattle.history_rules.specs.declared.entry.Event.TheVariants.{Accepted, Publi
 use Rattle.history_rules.specs.declared.entry.Entry.{Entry}
 use Rattle.history_rules.specs.declared.entry.History.{History}
 use Rattle.history_rules.specs.Nodes.{Past}
-use Rattle.history_rules.specs.Lines.{same_at, is_reply, is_answered, last_of_line}
+use Rattle.history_rules.specs.Lines.{same_at, is_reply, is_answered, last_of_line, before_start}
 use Rattle.history_rules.specs.Points.{cut_has_put}
 use Rattle.history_rules.specs.Started.{is_copy}
 use Rattle.history_tables.proofs.RowLemmas.{same_at_is}
@@ -29,9 +29,9 @@ use Rattle.script_serving.specs.declared.script.LineCommand.TheVariants.{Put, De
 use Rattle.script_serving.specs.declared.script.Phase.{Phase}
 use Rattle.script_serving.specs.declared.script.Script.{Script}
 use Rattle.script_serving.specs.Form.{is_command, IsInForm}
-use Rattle.script_serving.specs.Lines.{lines_of, lines_of_phase, lines_under, lines_of_lane, command_at, earlier_answered}
-use Rattle.script_serving.specs.Refusals.{refusal, put_publishes, may_be_full, may_be_refused, is_late_cause}
-use Rattle.script_serving.specs.Replays.{replay_due, due}
+use Rattle.script_serving.specs.Lines.{lines_of_phase, lines_under, lines_of_lane, command_at, earlier_answered}
+use Rattle.script_serving.specs.Refusals.{refusal, put_publishes, may_be_full, may_be_refused}
+use Rattle.script_serving.specs.Replays.{due}
 use Rattle.script_serving.specs.Serves.{Begins, First, Follows, Suits, SuitsFault, FitsTurn, FitsReplay, Fits, is_newest_at, is_merge_fault, ServesLanes, Serves}
 use Rattle.script_serving.proofs.ServingLemmas.{known_line}
 use Rattle.serving_laws.specs.PlainServing.{StartsBy, HasStarted, WorksBy, IsAtWork, EndsBy, HasEnded, published_count, is_left_open, KeepsLanes, PlainlyServes}
@@ -134,7 +134,7 @@ puts_step has_put x k l few = few
 -- no more publishes had a put than there were
 puts_few : (past : Past) → put_publishes past ≤ published_count past
 puts_few [] = omega arith
-puts_few (e ∷ past) = puts_step _ e.event (put_publishes past) (published_count past) (puts_few past)
+puts_few (e ∷ past) = puts_step (cut_has_put (before_start e.at past)) e.event (put_publishes past) (published_count past) (puts_few past)
 
 full : (past : Past) → (cut_has_put past && may_be_full past) ≡ true → (cut_has_put past && nat_le 256 (published_count past)) ≡ true
 full past h =
@@ -164,25 +164,25 @@ first size log command at past x None same right fresh is h = begins size log co
 
 follows : (log : Bool) (command : LineCommand) (at : At) (past : Past) (last x : Event) → same_at at at ≡ true → is_answered at past ≡ false → IsAtWork command at past
     → (is_copy last ≡ true → HasStarted command at past) → Follows command last x → Stands log command at (add at x past)
-follows log command at past last (Refused cause) same open work begun h =
+follows log command at past last (Refused cause) same waits work begun h =
     ended_by log command at past (Refused cause) same (rw same refl) (rw same refl) (inr (h, work))
-follows log Publish at past last (Published g v) same open work begun h =
+follows log Publish at past last (Published g v) same waits work begun h =
     ended_by log Publish at past (Published g v) same (rw same refl) (rw same refl) (inr (tt, work))
-follows log (Copy n) at past (Copying k w) (Switched m v) same open work begun h =
-    inr (inl (record { newest = Switched m v; last = rw same refl; answered = open; work = rw same (h, begun refl); begun = λ copies. absurd (false≢true copies) }))
-follows log (Copy n) at past last (Copied m v) same open work begun h =
+follows log (Copy n) at past (Copying k w) (Switched m v) same waits work begun h =
+    inr (inl (record { newest = Switched m v; last = rw same refl; answered = waits; work = rw same (h, begun refl); begun = λ copies. absurd (false≢true copies) }))
+follows log (Copy n) at past last (Copied m v) same waits work begun h =
     ended_by log (Copy n) at past (Copied m v) same (rw same refl) (rw same refl) (inr (h, work))
-follows log Settle at past last (Switched m v) same open work begun h =
-    inr (inl (record { newest = Switched m v; last = rw same refl; answered = open; work = rw same work; begun = λ copies. absurd (false≢true copies) }))
-follows log Settle at past last (Settled v) same open work begun h =
+follows log Settle at past last (Switched m v) same waits work begun h =
+    inr (inl (record { newest = Switched m v; last = rw same refl; answered = waits; work = rw same work; begun = λ copies. absurd (false≢true copies) }))
+follows log Settle at past last (Settled v) same waits work begun h =
     ended_by log Settle at past (Settled v) same (rw same refl) (rw same refl) (inr (tt, work))
-follows log (Search n query) at past last (Answered m t v q answer) same open work begun h =
+follows log (Search n query) at past last (Answered m t v q answer) same waits work begun h =
     ended_by log (Search n query) at past (Answered m t v q answer) same (rw same refl) (rw same refl) (inr (h, work))
-follows log (Ask t query) at past last (Answered m u v q answer) same open work begun h =
+follows log (Ask t query) at past last (Answered m u v q answer) same waits work begun h =
     ended_by log (Ask t query) at past (Answered m u v q answer) same (rw same refl) (rw same refl) (inr (h, work))
-follows log (Commit n) at past last (Committed m v) same open work begun h =
+follows log (Commit n) at past last (Committed m v) same waits work begun h =
     ended_by log (Commit n) at past (Committed m v) same (rw same refl) (rw same refl) (inr (h, work))
-follows log command at past last x same open work begun h = absurd h
+follows log command at past last x same waits work begun h = absurd h
 
 -- ---- a fault
 
@@ -251,17 +251,17 @@ elsewhere log command at past e other (inr (inr o)) =
 -- ---- while operations are due the newest entry is a reply
 
 replies_due : (log : Bool) (past : Past) (at : At) (x : Event) (op : Op) (ops : List Op) → (due log past ≡ op ∷ ops → is_reply x ≡ true) → due log (add at x past) ≡ op ∷ ops → is_reply x ≡ true
-replies_due log past at (Accepted seq again) op ops else is = refl
-replies_due log past at (Promoted m g f v) op ops else is = refl
-replies_due log past at x op ops else is = else is
+replies_due log past at (Accepted seq again) op ops before is = refl
+replies_due log past at (Promoted m g f v) op ops before is = refl
+replies_due log past at x op ops before is = before is
 
 newest_answered : (script : Script) (past : Past) (op : Op) (ops : List Op) → ServesLanes script past → due script.log past ≡ op ∷ ops → (x : At) → is_newest_at x past ≡ true → is_answered x past ≡ true
 newest_answered script [] op ops serves is x here = absurd (false≢true here)
 newest_answered script (e ∷ past) op ops serves is x here =
-    rw (replies_due script.log past e.at e.event op ops else is, here) refl
+    rw (replies_due script.log past e.at e.event op ops before is, here) refl
   where
-    else : due script.log past ≡ op ∷ ops → is_reply e.event ≡ true
-    else left =
+    before : due script.log past ≡ op ∷ ops → is_reply e.event ≡ true
+    before left =
         let lines = lines_of_lane e.at.lane.0 script in
         let fits : FitsReplay op past e.at (command_at lines e.at) e.event = subst (λ (o : List Op). Fits o lines past e.at (command_at lines e.at) e.event) left serves.0 in
         ap is_reply (told op past e.at (command_at lines e.at) e.event fits).1
@@ -349,14 +349,15 @@ answered_more a e past h = or_right (is_reply e.event && same_at e.at a) (is_ans
 
 earlier_more : (lines : List Line) (at : At) (e : Entry) (past : Past) → earlier_answered lines at past ≡ true → earlier_answered lines at (e ∷ past) ≡ true
 earlier_more [] at e past h = refl
-earlier_more (line ∷ lines) at e past h = by (same_at line.at at) h
+earlier_more (line ∷ lines) at e past h = by (earlier_more lines at e past) (same_at line.at at) h
   where
-    by : (b : Bool) → (if b then true else is_answered line.at past && earlier_answered lines at past) ≡ true
+    by : (earlier_answered lines at past ≡ true → earlier_answered lines at (e ∷ past) ≡ true) → (b : Bool)
+        → (if b then true else is_answered line.at past && earlier_answered lines at past) ≡ true
         → (if b then true else is_answered line.at (e ∷ past) && earlier_answered lines at (e ∷ past)) ≡ true
-    by true h = refl
-    by false h =
+    by more true h = refl
+    by more false h =
         let both = and_parts (is_answered line.at past) (earlier_answered lines at past) h in
-        and_from (is_answered line.at (e ∷ past)) (earlier_answered lines at (e ∷ past)) (answered_more line.at e past both.0) (earlier_more lines at e past both.1)
+        and_from (is_answered line.at (e ∷ past)) (earlier_answered lines at (e ∷ past)) (answered_more line.at e past both.0) (more both.1)
 
 or_so : (b c : Bool) → c ≡ true → (b || c) ≡ true
 or_so b c h = ap (λ (x : Bool). b || x) h ∙ or-true b

@@ -1,5 +1,5 @@
 -- Plain serving: what a history of a script must do, and no more. Each line has its entries, and lines, phases and replays come in their order.
-use Rattle.std.specs.Prelude.{ℕ, ◌≡◌, ◌≤◌, ◌+◌, ◌⊎◌, List, [], ◌∷◌, reverse, Bool, true, false, ◌&&◌, ◌||◌, ◌==◌, nat_le, length, ⊤, Option, Some, None, if◌then◌else◌}
+use Rattle.std.specs.Prelude.{ℕ, ◌≡◌, ◌≤◌, ◌+◌, ◌⊎◌, [], ◌∷◌, reverse, Bool, true, false, ◌&&◌, ◌||◌, ◌==◌, nat_le, length, ⊤, Some, None, if◌then◌else◌}
 use Rattle.nrt_base.specs.declared.numbers.At.{At}
 use Rattle.documents.specs.declared.operation.Op.TheVariants.{Put as PutOp, Delete as DeleteOp, Drop as DropOp}
 use Rattle.history_rules.specs.declared.cause.Cause.{Cause}
