@@ -90,7 +90,7 @@ sound_flight cells last None safe = tt
 sound_flight cells last (Some c) safe = safe.in_flight.commit
 
 module _ {D : Type 0} (was : ReplicaParts D) (before after : Cells) (crash : HasCrashed before after) (stand : ImagesStand before was.commits.last (shown_by was.commits.stage)) where
-  image : Image
+  abbrev image : Image
   image = crash.0
 
   same_reads : reads_of after ≡ image
